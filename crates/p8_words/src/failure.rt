@@ -52,3 +52,14 @@ impl Display for NoMemory {
 }
 
 impl Error for NoMemory {}
+
+impl<T: Display> Display for Fail<T> {
+    fn fmt<W: Write>(&self, f: &mut Formatter<W>) -> Result<(), fmt::Error> {
+        match self {
+            Fail::Refused(fault) => fault.fmt(f),
+            Fail::NoMemory => f.write_str("out of memory"),
+        }
+    }
+}
+
+impl<T: Error> Error for Fail<T> {}
