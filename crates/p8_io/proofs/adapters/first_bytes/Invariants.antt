@@ -1,0 +1,12 @@
+use Rattle.std.proofs.Common.{◌≤◌, ◌-◌, vec_len}
+use Rattle.std.specs.Io.KnownBytes.{Consumes}
+use Rattle.p8_io.proofs.adapters.first_bytes.Given as goal
+
+abbrev pub invariant-turns : goal.invariant-turns
+invariant-turns g l = record {
+  limited : vec_len l.bytes ≤ l.limit;
+  consumed : Consumes (g.F.Read.remaining l.initial.file) (g.F.Read.remaining l.file) l.bytes.items;
+}
+
+abbrev pub decreases-turns : goal.decreases-turns
+decreases-turns g l = l.limit - vec_len l.bytes

@@ -1,0 +1,28 @@
+-- internal
+-- The files of a shelf in memory, from the entries of the map that holds them, and how contracts store
+-- what they see of the shelf.
+use Rattle.std.specs.Prelude.{ℕ, List, map, string_bytes, refl}
+use Rattle.std.specs.declared.alloc.Global.{Global}
+use Rattle.std.specs.declared.string.String.{String}
+use Rattle.std.specs.declared.vec.Vec.{Vec}
+use Rattle.std.specs.Ordering.{nat_cmp}
+use Rattle.std.specs.Cmp.Lexicographic.{slice_cmp}
+use Rattle.std.specs.FinMap.{FinMap, from_entries, code}
+use Rattle.std.specs.Coded.{Coded, code_by, coded×, coded_ℕ, coded_list}
+use Rattle.p8_io.specs.Memory.{MemoryShelf}
+
+-- a name and its file as lists of bytes
+abbrev pub bytes_of : String Global × Vec ℕ Global → List ℕ × List ℕ
+bytes_of entry = (string_bytes entry.0, entry.1.items)
+
+abbrev pub files_of : List (String Global × Vec ℕ Global) → FinMap (slice_cmp nat_cmp) (List ℕ)
+files_of entries = from_entries (map bytes_of entries)
+
+-- a shelf is stored as its fields, one in the next
+abbrev pub memory_shelf_code : Coded MemoryShelf
+memory_shelf_code =
+    code_by (FinMap (slice_cmp nat_cmp) (List ℕ) × (ℕ × (ℕ × List ℕ)))
+    (coded× (code (coded_list coded_ℕ) (coded_list coded_ℕ)) (coded× coded_ℕ (coded× coded_ℕ (coded_list coded_ℕ))))
+    (λ s. (s.files, (s.faults, (s.calls, s.fails))))
+    (λ p. record { files = p.0; faults = p.1.0; calls = p.1.1.0; fails = p.1.1.1 })
+    (λ _. refl)
