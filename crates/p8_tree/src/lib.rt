@@ -1,0 +1,19 @@
+//! The trees of a source: what every part of the compiler after the lexer speaks of.
+#![tactic(auto)]
+
+mod expressions;
+mod places;
+mod sequences;
+mod sources;
+mod statements;
+
+pub use expressions::{Call, Expr, ExprKind, Item, Target};
+pub use places::Place;
+pub use sequences::{List, Text};
+pub use sources::{
+    Block, ConItem, DatBody, DatItem, DatLine, InstrLine, Method, ObjItem, SourceFile, VarItem,
+};
+pub use statements::{Arm, Loop, Stmt, StmtKind};
+
+#[cfg(test)]
+mod tests;
