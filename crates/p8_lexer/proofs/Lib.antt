@@ -1,0 +1,11 @@
+pub mod Units
+pub mod Symbols
+pub mod Searches
+pub mod PlaceLemmas
+pub mod RunLemmas
+pub mod NumberLemmas
+pub mod Pieces
+pub mod CommentLemmas
+pub mod Cuts
+pub mod PieceKinds
+pub mod Files

@@ -1,0 +1,9 @@
+-- What public contracts cite.
+pub mod Characters
+pub mod Places
+pub mod Refusals
+pub mod Words
+pub mod Lexing
+-- What only proofs need.
+pub mod WordIndex
+pub mod Cutting

@@ -1,0 +1,102 @@
+// From a file to its tokens.
+
+ghost use Rattle.std.specs.Prelude.{◌≡◌, ◌+◌, ◌*◌, ◌<◌, ◌≤◌, ◌^◌, ◌++◌, ℕ, List, if◌then◌else◌, length, IfOk, IfErr, OnOk};
+ghost use Rattle.p8_lexer.specs.declared.token.Token as token;
+ghost use Rattle.p8_lexer.specs.declared.token.LexFault as lex_fault;
+ghost use Rattle.p8_lexer.specs.Lexing.{AreTokens, IsFault, IfRefused};
+ghost use Rattle.p8_lexer.specs.Cutting.{piece_tokens, fault_of};
+
+use crate::characters::{Characters, ends_in_half, is_utf16};
+use crate::cut::first_cut;
+use crate::piece::{Cut, PieceKind};
+use crate::place::{Place, START, place_at};
+use crate::refusal::Refusal;
+use crate::token::{LexFault, Token, Tokens};
+use p8_words::Fail;
+use std::alloc::{AllocError, Global};
+
+// The bytes that a source may have.
+const LONGEST_FILE: usize = 1_048_576;
+
+/// Cuts a Spin source into tokens: gives them in their order, or the first refusal and where it stands.
+///
+/// A file has either tokens or a refusal, and only one answer of its kind. The refusals are those of the numbers 1
+/// to 5, each at the first place of the text where no good piece can be cut off, and 30 for a file of more than
+/// 1,048,576 bytes.
+pub fn lex(alloc: Global, bytes: &[u8]) -> Result<Tokens, Fail<LexFault>>
+    ensures tokens { IfOk result (AreTokens bytes.now) }
+    ensures accepted { OnOk result ((fault : lex_fault.LexFault) → ¬ IsFault bytes.now fault) }
+    ensures refused { IfErr result (IfRefused (IsFault bytes.now)) }
+{
+    if bytes.len() > LONGEST_FILE {
+        return Err(Fail::Refused(fault(Refusal::FileTooLong, START)));
+    }
+    let text = Characters::of_file(bytes);
+    let utf16 = is_utf16(bytes);
+    let mut tokens = Vec::new(alloc);
+    let mut at = 0;
+    let mut place = START;
+    'pieces: while at < text.len() {
+        match first_cut(&text.skip(at)) {
+            Ok(cut) => {
+                add(&mut tokens, utf16, at, place, cut)?;
+                place = place_at(&text, at, at + cut.length, place);
+                at += cut.length;
+            }
+            Err(refusal) => return Err(Fail::Refused(fault(refusal, place))),
+        }
+    }
+    if ends_in_half(bytes) {
+        return Err(Fail::Refused(fault(Refusal::BadByte, place)));
+    }
+    Ok(Tokens::new(tokens))
+}
+
+fn fault(refusal: Refusal, place: Place) -> LexFault
+    ensures { result ≡ fault_of refusal place }
+{
+    LexFault {
+        number: refusal.number(),
+        place,
+    }
+}
+
+// Adds the token that a piece is, unless it's a blank or a comment.
+fn add(
+    tokens: &mut Vec<Token>,
+    utf16: bool,
+    at: usize,
+    place: Place,
+    cut: Cut,
+) -> Result<(), AllocError>
+    requires { at + cut.length ≤ 2 ^ 20 }
+    ensures { OnOk result (tokens.new.items ≡ tokens.old.items ++ piece_tokens utf16 at place cut) }
+{
+    if let PieceKind::Token(kind) = cut.kind {
+        tokens.push(Token {
+            place,
+            kind,
+            begin: offset(utf16, at),
+            end: offset(utf16, at + cut.length),
+        })?;
+    }
+    Ok(())
+}
+
+// Where in a file a character begins.
+fn offset(utf16: bool, at: usize) -> usize
+    requires { at ≤ 2 ^ 20 }
+    ensures { result ≡ if utf16 then 2 * at + 2 else at }
+{
+    if utf16 { 2 * at + 2 } else { at }
+}
+
+/// A file never has both tokens and a refusal, nor two lists of tokens, nor two refusals.
+pub fn one_answer()
+    ensures never_both { (bytes : List ℕ) (tokens : List token.Token) (fault : lex_fault.LexFault)
+        → AreTokens bytes tokens → ¬ IsFault bytes fault }
+    ensures one_list { (bytes : List ℕ) (some others : List token.Token)
+        → AreTokens bytes some → AreTokens bytes others → some ≡ others }
+    ensures one_fault { (bytes : List ℕ) (one another : lex_fault.LexFault)
+        → IsFault bytes one → IsFault bytes another → one ≡ another }
+{}
