@@ -1,0 +1,3 @@
+pub mod Packing
+pub mod Naming
+pub mod Entries

@@ -1,0 +1,4 @@
+-- What the public contracts cite.
+pub mod Instruction
+pub mod Conditions
+pub mod Mnemonics
