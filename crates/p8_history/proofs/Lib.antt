@@ -1,0 +1,4 @@
+pub mod Nexts
+pub mod Rising
+pub mod OneHistory
+pub mod Changes

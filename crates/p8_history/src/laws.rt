@@ -1,0 +1,17 @@
+// Laws of histories. The functions do nothing: their contracts are the laws.
+ghost use Rattle.std.specs.Prelude.{◌≡◌, List};
+ghost use Rattle.p8_access.specs.declared.order.Turn.{Turn};
+ghost use Rattle.p8_history.specs.Worlds.{World};
+ghost use Rattle.p8_history.specs.Histories.{Legal, Ended, Rises};
+
+use p8_access::Life;
+
+/// A world has one ended history, whatever kind of life runs in its cogs.
+pub fn one_history<L: Life>()
+    ensures { (w : World) (h k : List Turn) → Ended L.asked w h → Ended L.asked w k → h ≡ k }
+{}
+
+/// The keys of a legal history rise strictly.
+pub fn keys_rise<L: Life>()
+    ensures { (w : World) (h : List Turn) → Legal L.asked w h → Rises h }
+{}
