@@ -1,0 +1,5 @@
+pub mod Rising
+pub mod Levels
+pub mod Walks
+pub mod Texts
+pub mod Scripting
