@@ -1,0 +1,15 @@
+//! A cog that runs Propeller Assembly (PASM), instruction by instruction, as a life of the machine's
+//! history. What its life is stands in specs/.
+#![tactic(auto)]
+
+mod hub;
+mod instructions;
+mod kind;
+mod pasm;
+mod progress;
+mod registers;
+mod state;
+#[cfg(test)]
+mod tests;
+
+pub use pasm::Cog;

@@ -1,0 +1,189 @@
+// A cog between two instructions.
+ghost use Rattle.std.specs.Prelude.{◌≡◌, ◌<◌, ◌≤◌, ◌^◌, length, if◌then◌else◌, IfOk};
+ghost use Rattle.p8_instr.specs.Instruction.{FitsFields};
+ghost use Rattle.p8_cog.specs.Replay.{at_hand, register_value, source_value, destination_value, next_of, effect, fetched_before, fetched_after, passed, first_with};
+ghost use Rattle.p8_cog.specs.Stops.{left_with};
+
+use crate::kind::{INB, PAR};
+use crate::registers::Registers;
+use p8_alu::{Effect, execute};
+use p8_instr::Instr;
+use p8_words::NoMemory;
+use std::alloc::Global;
+
+/// What stands in a cog where an instruction begins.
+#[derive(Drop)]
+pub struct State {
+    pub registers: Registers,
+    /// The value of PAR as a source.
+    pub par: u16,
+    /// The address of the long that is executed next, below 512.
+    pub at: u16,
+    /// That long, as it stood there when it was fetched.
+    pub long: u32,
+    /// The clock at which it begins.
+    pub clock: u64,
+    /// The flag C.
+    pub c: bool,
+    /// The flag Z.
+    pub z: bool,
+}
+
+/// The one or the other.
+#[inline]
+fn flag_of(writes: bool, new: bool, old: bool) -> bool
+    ensures { result ≡ (if writes then new else old) }
+{
+    if writes { new } else { old }
+}
+
+impl State {
+    /// What stands in a cog that took these longs and this value of PAR, where its first instruction
+    /// begins.
+    pub fn first(alloc: Global, longs: &[u32], par: u16, begin: u64) -> Result<State, NoMemory>
+        requires { length longs.now ≡ 496 }
+        ensures { IfOk result (λ s. s ≡ first_with longs.now par begin) }
+    {
+        Ok(State {
+            registers: Registers::new(alloc, longs)?,
+            par,
+            at: 0,
+            long: longs[0],
+            clock: begin,
+            c: false,
+            z: false,
+        })
+    }
+
+    /// Makes it what `first` gives, in the memory that it has.
+    pub fn load(&mut self, longs: &[u32], par: u16, begin: u64)
+        requires { length longs.now ≡ 496 }
+        ensures { self.new ≡ first_with longs.now par begin }
+    {
+        self.registers.load(longs);
+        self.par = par;
+        self.at = 0;
+        self.long = longs[0];
+        self.clock = begin;
+        self.c = false;
+        self.z = false;
+    }
+
+    /// The value of a special register in the source field.
+    fn special_value(&self, register: u16) -> u32
+        requires { register < 512 }
+        ensures { result ≡ register_value self.now register }
+    {
+        if register == PAR {
+            u32::from(self.par)
+        } else if register == INB {
+            0
+        } else {
+            self.registers.get(register)
+        }
+    }
+
+    /// The value of the source.
+    #[inline]
+    pub fn source_value(&self, i: Instr) -> u32
+        requires decoded { i ≡ at_hand self.now }
+        requires fits { FitsFields i }
+        ensures { result ≡ source_value self.now }
+    {
+        if i.is_immediate() {
+            u32::from(i.source)
+        } else if i.source < PAR {
+            self.registers.get(i.source)
+        } else {
+            self.special_value(i.source)
+        }
+    }
+
+    /// The value of the destination.
+    #[inline]
+    pub fn destination_value(&self, i: Instr) -> u32
+        requires decoded { i ≡ at_hand self.now }
+        requires fits { FitsFields i }
+        ensures { result ≡ destination_value self.now }
+    {
+        self.registers.get(i.dest)
+    }
+
+    /// The next address.
+    #[inline]
+    pub fn next(&self) -> u16
+        requires { self.now.at < 512 }
+        ensures next { result ≡ next_of self.now }
+        ensures below { result < 512 }
+    {
+        (self.at + 1) & 511
+    }
+
+    /// The result and the flags that are computed.
+    #[inline]
+    pub fn effect(&self, i: Instr, source: u32) -> Effect
+        requires decoded { i ≡ at_hand self.now }
+        requires fits { FitsFields i }
+        requires source { source ≡ source_value self.now }
+        requires first { 8 ≤ i.opcode }
+        requires last { i.opcode ≤ 59 }
+        requires at { self.now.at < 512 }
+        ensures { result ≡ effect self.now }
+    {
+        let destination = self.destination_value(i);
+        execute(i, destination, source, self.c, self.z, self.next())
+    }
+
+    /// Goes on at an address and a clock with the long that was fetched, when the result is written.
+    #[inline]
+    fn go_on(&mut self, i: Instr, effect: Effect, at: u16, long: u32, clock: u64)
+        ensures { self.new ≡ left_with self.old i effect at long clock }
+    {
+        self.at = at;
+        self.long = long;
+        self.clock = clock;
+        self.c = flag_of(i.writes_c(), effect.c, self.c);
+        self.z = flag_of(i.writes_z(), effect.z, self.z);
+    }
+
+    /// Writes, and goes on with the long that stood at an address before.
+    #[inline]
+    pub fn fetch_and_write(&mut self, i: Instr, effect: Effect, at: u16, clock: u64)
+        requires decoded { i ≡ at_hand self.old }
+        requires fits { FitsFields i }
+        requires at { at < 512 }
+        ensures { self.new ≡ fetched_before self.old effect at clock }
+    {
+        let long = self.registers.get(at);
+        self.registers
+            .set_where(i.writes_result(), i.dest, effect.result);
+        self.go_on(i, effect, at, long, clock);
+    }
+
+    /// Writes, and goes on with the long that stands at an address then.
+    #[inline]
+    pub fn write_and_fetch(&mut self, i: Instr, effect: Effect, at: u16, clock: u64)
+        requires decoded { i ≡ at_hand self.old }
+        requires fits { FitsFields i }
+        requires at { at < 512 }
+        ensures { self.new ≡ fetched_after self.old effect at clock }
+    {
+        self.registers
+            .set_where(i.writes_result(), i.dest, effect.result);
+        let long = self.registers.get(at);
+        self.go_on(i, effect, at, long, clock);
+    }
+
+    /// Passes over an instruction.
+    #[inline]
+    pub fn pass(&mut self)
+        requires at { self.old.at < 512 }
+        requires clock { self.old.clock < 2 ^ 62 }
+        ensures passed { self.new ≡ passed self.old }
+    {
+        let at = self.next();
+        self.long = self.registers.get(at);
+        self.at = at;
+        self.clock += 4;
+    }
+}
