@@ -1,0 +1,4 @@
+-- What public contracts cite.
+pub mod Standing
+-- What private contracts cite.
+pub mod Parts
