@@ -1,0 +1,7 @@
+pub mod Waits
+pub mod Seating
+pub mod Choosing
+pub mod Settling
+pub mod Taking
+pub mod Stepping
+pub mod Rows

@@ -1,0 +1,132 @@
+-- What one turn leaves of what a seat has to do with the history.
+use Rattle.std.proofs.Common.{◌≡◌, ◌∙◌, sym, subst, refl, ℕ, ◌<◌, ◌≤◌, ◌==◌, ◌&&◌, Bool, true, false, List, [], ◌∷◌, ◌++◌, Option, Some, None, arith}
+use Rattle.p8_access.specs.declared.kinds.Origin.TheVariants.{Pasm, Spin}
+use Rattle.p8_access.specs.declared.kinds.Access.{Access}
+use Rattle.p8_access.specs.declared.kinds.Access.TheVariants.{Begin, Load, Read, Write, CogId, CogInit, CogStop, LockNew, LockRet, LockSet, LockClr, ClkSet, PinsIn, OutSet, DirSet, Wait, Clock, Halt}
+use Rattle.p8_access.specs.declared.kinds.Answer.{Answer}
+use Rattle.p8_access.specs.declared.order.Turn.{Turn}
+use Rattle.p8_access.specs.Lives.{Begun, SpinBegun, IsMade}
+use Rattle.p8_history.specs.declared.states.CogState.{CogState}
+use Rattle.p8_history.specs.declared.states.CogState.TheVariants.{Stopped, Starting, Running}
+use Rattle.p8_history.specs.Worlds.{World}
+use Rattle.p8_history.specs.Hub.{Change, Starts, Runs, Stops, change_by, change_of, changed, cog_state}
+use Rattle.p8_history.specs.Histories.{begins_life, since_begin, IsNext, IsNextIn, IsNextRunning}
+use Rattle.p8_history.proofs.Nexts.{due-late, some-injective}
+use Rattle.p8_cog.specs.Replay.{IsAsked}
+use Rattle.p8_machine.specs.Pending.{Pends}
+use Rattle.p8_machine.specs.Seats.{Sits, RunsSpin, SitsIn}
+use Rattle.p8_cog.specs.Replaying.{never-waits}
+use Rattle.p8_machine.proofs.Waits.{due-now}
+use Rattle.p8_history.proofs.Changes.{none-begins, runs-begins, begun-same, since_begin-own, since_begin-other, other-test, own-test, other-begins}
+
+absurd-begins : {A : Type 0} → (b : Bool) → b ≡ false → b ≡ true → A
+absurd-begins true p q = absurd cc
+absurd-begins false p q = absurd cc
+
+module _ (stands : Begun → List Turn → Type 0) (next : Option (ℕ × Access)) (w : World) (past : List Turn) (turn : Turn) (n : ℕ) where
+  sits-other : begins_life n turn ≡ false → (turn.key.cog == n) ≡ false → Sits IsAsked stands next w past n → Sits IsAsked stands next w (turn ∷ past) n
+  sits-other begins other sits =
+      let since = since_begin-other w past turn n begins other in
+      record {
+        life = sits.life;
+        began = begun-same w past turn n begins ∙ sits.began;
+        stood = subst (λ (ts : List Turn). stands sits.life ts) (sym since) sits.stood;
+        pends = subst (λ (ts : List Turn). Pends (IsAsked sits.life ts) w.clocks next) (sym since) sits.pends;
+      }
+
+  spin-same : begins_life n turn ≡ false → RunsSpin IsAsked stands next w past n → RunsSpin IsAsked stands next w (turn ∷ past) n
+  spin-same begins runs = record { life = runs.life; began = begun-same w past turn n begins ∙ runs.began }
+
+  other-by : (state : CogState) (change : Option Change) → change_of n turn ≡ change → (turn.key.cog ≡ n → ⊥) → SitsIn IsAsked stands next w past n state → SitsIn IsAsked stands next w (turn ∷ past) n (changed state change)
+  other-by Stopped None e differ sits = tt
+  other-by (Starting since origin) None e differ sits = tt
+  other-by (Running (Pasm code par)) None e differ sits = sits-other (other-begins turn n differ) (other-test turn.key.cog n differ) sits
+  other-by (Running (Spin entry pbase vbase frame size)) None e differ sits = spin-same (other-begins turn n differ) sits
+  other-by state (Some (Starts since origin)) e differ sits = tt
+  other-by state (Some Stops) e differ sits = tt
+  other-by state (Some Runs) e differ sits =
+      absurd-begins (begins_life n turn) (other-begins turn n differ) (runs-begins n turn.key.clock turn.key.cog turn.access turn.answer e)
+
+  -- a turn of another cog
+  pub other-sits : (turn.key.cog ≡ n → ⊥) → SitsIn IsAsked stands next w past n (cog_state w past n) → SitsIn IsAsked stands next w (turn ∷ past) n (cog_state w (turn ∷ past) n)
+  other-sits differ sits = other-by (cog_state w past n) (change_of n turn) refl differ sits
+
+module _ (stands : Begun → List Turn → Type 0) (next : Option (ℕ × Access)) (w : World) (past : List Turn) (n : ℕ) where
+  -- what a seat has as its next access is the cog's
+  pub next-sits : (code par : ℕ) → cog_state w past n ≡ Running (Pasm code par) → (clock : ℕ) (access : Access) → next ≡ Some (clock, access) → SitsIn IsAsked stands next w past n (cog_state w past n) → IsNext IsAsked w past n clock access
+  next-sits code par is clock access some sits =
+      let own : Sits IsAsked stands next w past n = subst (λ (s : CogState). SitsIn IsAsked stands next w past n s) is sits in
+      let pends = subst (λ (o : Option (ℕ × Access)). Pends (IsAsked own.life (since_begin past n)) w.clocks o) some own.pends in
+      let due = due-now w past n clock access (never-waits own.life (since_begin past n) clock access pends.0) in
+      let running : IsNextRunning IsAsked w past n clock access = record { life = own.life; began = own.began; earliest = clock; asks = pends.0; due = due } in
+      record { next = subst (λ (s : CogState). IsNextIn IsAsked w past n s clock access) (sym is) running; below = pends.1 }
+
+  -- where it has none, none comes
+  pub quiet-sits : (code par : ℕ) → cog_state w past n ≡ Running (Pasm code par) → next ≡ None → SitsIn IsAsked stands next w past n (cog_state w past n) → (clock : ℕ) (access : Access) → IsNext IsAsked w past n clock access → ⊥
+  quiet-sits code par is none sits clock access comes =
+      let own : Sits IsAsked stands next w past n = subst (λ (s : CogState). SitsIn IsAsked stands next w past n s) is sits in
+      let pends = subst (λ (o : Option (ℕ × Access)). Pends (IsAsked own.life (since_begin past n)) w.clocks o) none own.pends in
+      let running : IsNextRunning IsAsked w past n clock access = subst (λ (s : CogState). IsNextIn IsAsked w past n s clock access) is comes.next in
+      let life : running.life ≡ own.life = some-injective _ _ (sym running.began ∙ own.began) in
+      let late : w.clocks ≤ running.earliest = pends running.earliest access (subst (λ (b : Begun). IsAsked b (since_begin past n) running.earliest access) life running.asks) in
+      let due : running.earliest ≤ clock = due-late w past n access running.earliest clock running.due in
+      let below : clock < w.clocks = comes.below in
+      omega arith
+
+  -- a Spin cog asks nothing here
+  pub spin-quiet : (entry pbase vbase frame size : ℕ) → cog_state w past n ≡ Running (Spin entry pbase vbase frame size) → SitsIn IsAsked stands next w past n (cog_state w past n) → (clock : ℕ) (access : Access) → IsNext IsAsked w past n clock access → ⊥
+  spin-quiet entry pbase vbase frame size is sits clock access comes =
+      let own : RunsSpin IsAsked stands next w past n = subst (λ (s : CogState). SitsIn IsAsked stands next w past n s) is sits in
+      let running : IsNextRunning IsAsked w past n clock access = subst (λ (s : CogState). IsNextIn IsAsked w past n s clock access) is comes.next in
+      let life : running.life ≡ SpinBegun own.life = some-injective _ _ (sym running.began ∙ own.began) in
+      subst (λ (b : Begun). IsAsked b (since_begin past n) running.earliest access) life running.asks
+
+and-no : (b : Bool) → (b && false) ≡ false
+and-no true = refl
+and-no false = refl
+
+-- an access that a life makes begins none
+made-begins : (n clock cog : ℕ) (access : Access) (answer : Answer) → IsMade access → change_by n clock cog access answer ≡ Some Runs → ⊥
+made-begins n clock cog Begin answer made e = made
+made-begins n clock cog Load answer made e = made
+made-begins n clock cog (Read width address) answer made e = absurd-begins _ (and-no (cog == n)) (runs-begins n clock cog (Read width address) answer e)
+made-begins n clock cog (Write width address value) answer made e = absurd-begins _ (and-no (cog == n)) (runs-begins n clock cog (Write width address value) answer e)
+made-begins n clock cog CogId answer made e = absurd-begins _ (and-no (cog == n)) (runs-begins n clock cog CogId answer e)
+made-begins n clock cog (CogInit target origin) answer made e = absurd-begins _ (and-no (cog == n)) (runs-begins n clock cog (CogInit target origin) answer e)
+made-begins n clock cog (CogStop target) answer made e = absurd-begins _ (and-no (cog == n)) (runs-begins n clock cog (CogStop target) answer e)
+made-begins n clock cog LockNew answer made e = absurd-begins _ (and-no (cog == n)) (runs-begins n clock cog LockNew answer e)
+made-begins n clock cog (LockRet lock) answer made e = absurd-begins _ (and-no (cog == n)) (runs-begins n clock cog (LockRet lock) answer e)
+made-begins n clock cog (LockSet lock) answer made e = absurd-begins _ (and-no (cog == n)) (runs-begins n clock cog (LockSet lock) answer e)
+made-begins n clock cog (LockClr lock) answer made e = absurd-begins _ (and-no (cog == n)) (runs-begins n clock cog (LockClr lock) answer e)
+made-begins n clock cog (ClkSet mode) answer made e = absurd-begins _ (and-no (cog == n)) (runs-begins n clock cog (ClkSet mode) answer e)
+made-begins n clock cog PinsIn answer made e = absurd-begins _ (and-no (cog == n)) (runs-begins n clock cog PinsIn answer e)
+made-begins n clock cog (OutSet value) answer made e = absurd-begins _ (and-no (cog == n)) (runs-begins n clock cog (OutSet value) answer e)
+made-begins n clock cog (DirSet value) answer made e = absurd-begins _ (and-no (cog == n)) (runs-begins n clock cog (DirSet value) answer e)
+made-begins n clock cog (Wait test) answer made e = absurd-begins _ (and-no (cog == n)) (runs-begins n clock cog (Wait test) answer e)
+made-begins n clock cog Clock answer made e = absurd-begins _ (and-no (cog == n)) (runs-begins n clock cog Clock answer e)
+made-begins n clock cog (Halt reason) answer made e = absurd-begins _ (and-no (cog == n)) (runs-begins n clock cog (Halt reason) answer e)
+
+module _ (stands stands' : Begun → List Turn → Type 0) (next next' : Option (ℕ × Access)) (w : World) (past : List Turn) (turn : Turn) (n : ℕ) (own : turn.key.cog ≡ n) where
+  sits-own : begins_life n turn ≡ false → ((b : Begun) (ts : List Turn) → stands b ts → stands' b (ts ++ turn ∷ [])) → ((b : Begun) (ts : List Turn) → stands b ts → Pends (IsAsked b (ts ++ turn ∷ [])) w.clocks next') → Sits IsAsked stands next w past n → Sits IsAsked stands' next' w (turn ∷ past) n
+  sits-own begins keeps pends sits =
+      let since = since_begin-own w past turn n begins (own-test turn.key.cog n own) in
+      record {
+        life = sits.life;
+        began = begun-same w past turn n begins ∙ sits.began;
+        stood = subst (λ (ts : List Turn). stands' sits.life ts) (sym since) (keeps sits.life _ sits.stood);
+        pends = subst (λ (ts : List Turn). Pends (IsAsked sits.life ts) w.clocks next') (sym since) (pends sits.life _ sits.stood);
+      }
+
+  own-by : (state : CogState) (change : Option Change) → change_of n turn ≡ change → IsMade turn.access → ((entry pbase vbase frame size : ℕ) → state ≡ Running (Spin entry pbase vbase frame size) → ⊥) → ((b : Begun) (ts : List Turn) → stands b ts → stands' b (ts ++ turn ∷ [])) → ((b : Begun) (ts : List Turn) → stands b ts → Pends (IsAsked b (ts ++ turn ∷ [])) w.clocks next') → SitsIn IsAsked stands next w past n state → SitsIn IsAsked stands' next' w (turn ∷ past) n (changed state change)
+  own-by Stopped None e made pasm keeps pends sits = tt
+  own-by (Starting since origin) None e made pasm keeps pends sits = tt
+  own-by (Running (Pasm code par)) None e made pasm keeps pends sits =
+      sits-own (none-begins n turn.key.clock turn.key.cog turn.access turn.answer e) keeps pends sits
+  own-by (Running (Spin entry pbase vbase frame size)) None e made pasm keeps pends sits = absurd (pasm entry pbase vbase frame size refl)
+  own-by state (Some (Starts since origin)) e made pasm keeps pends sits = tt
+  own-by state (Some Stops) e made pasm keeps pends sits = tt
+  own-by state (Some Runs) e made pasm keeps pends sits = absurd (made-begins n turn.key.clock turn.key.cog turn.access turn.answer made e)
+
+  -- a turn of its own that its life takes
+  pub own-sits : IsMade turn.access → ((entry pbase vbase frame size : ℕ) → cog_state w past n ≡ Running (Spin entry pbase vbase frame size) → ⊥) → ((b : Begun) (ts : List Turn) → stands b ts → stands' b (ts ++ turn ∷ [])) → ((b : Begun) (ts : List Turn) → stands b ts → Pends (IsAsked b (ts ++ turn ∷ [])) w.clocks next') → SitsIn IsAsked stands next w past n (cog_state w past n) → SitsIn IsAsked stands' next' w (turn ∷ past) n (cog_state w (turn ∷ past) n)
+  own-sits made pasm keeps pends sits = own-by (cog_state w past n) (change_of n turn) refl made pasm keeps pends sits

@@ -1,0 +1,52 @@
+-- internal
+-- What a life has said of its next access.
+use Rattle.std.specs.Prelude.{ℕ, ◌<◌, ◌≤◌, Option, Some, None}
+use Rattle.std.proofs.Props.{props}
+use Rattle.p8_access.specs.declared.kinds.Origin.{Origin}
+use Rattle.p8_access.specs.declared.kinds.Origin.TheVariants.{Pasm, Spin}
+use Rattle.p8_access.specs.declared.kinds.Access.{Access}
+use Rattle.p8_access.specs.declared.kinds.Access.TheVariants.{Begin, Load, Read, Write, CogId, CogInit, CogStop, LockNew, LockRet, LockSet, LockClr, ClkSet, PinsIn, OutSet, DirSet, Wait, Clock, Halt}
+use Rattle.p8_access.specs.Lives.{IsMade}
+use Rattle.p8_access.specs.Proper.{IsNumber, IsProperOrigin}
+
+-- this access is asked, from this clock on, which is below the limit; or none is asked below it
+abbrev pub Pends : (ℕ → Access → Type 0) → ℕ → Option (ℕ × Access) → Type 0
+Pends Asked until (Some next) = Asked next.0 next.1 × (next.0 < until)
+Pends Asked until None = (clock : ℕ) (access : Access) → Asked clock access → until ≤ clock
+
+abbrev pub IsMadeIf : Option (ℕ × Access) → Type 0
+IsMadeIf None = Unit {0}
+IsMadeIf (Some next) = IsMade next.1
+
+is_prop-IsNumber : (n : Option ℕ) → IsProp (IsNumber n)
+is_prop-IsNumber None = hlevel props
+is_prop-IsNumber (Some n) = hlevel props
+
+is_prop-IsProperOrigin : (origin : Origin) → IsProp (IsProperOrigin origin)
+is_prop-IsProperOrigin (Pasm code par) = hlevel props
+is_prop-IsProperOrigin (Spin entry pbase vbase frame size) = hlevel props
+
+-- such a fact has one proof
+is_prop-IsMade : (access : Access) → IsProp (IsMade access)
+is_prop-IsMade Begin = hlevel props
+is_prop-IsMade Load = hlevel props
+is_prop-IsMade (Read width address) = hlevel props
+is_prop-IsMade (Write width address value) = hlevel props
+is_prop-IsMade CogId = hlevel props
+is_prop-IsMade (CogInit target origin) = hlevel (props, is_prop-IsNumber target, is_prop-IsProperOrigin origin)
+is_prop-IsMade (CogStop cog) = hlevel props
+is_prop-IsMade LockNew = hlevel props
+is_prop-IsMade (LockRet lock) = hlevel props
+is_prop-IsMade (LockSet lock) = hlevel props
+is_prop-IsMade (LockClr lock) = hlevel props
+is_prop-IsMade (ClkSet mode) = hlevel props
+is_prop-IsMade PinsIn = hlevel props
+is_prop-IsMade (OutSet value) = hlevel props
+is_prop-IsMade (DirSet value) = hlevel props
+is_prop-IsMade (Wait test) = hlevel props
+is_prop-IsMade Clock = hlevel props
+is_prop-IsMade (Halt reason) = hlevel props
+
+pub is_prop-IsMadeIf : (next : Option (ℕ × Access)) → IsProp (IsMadeIf next)
+is_prop-IsMadeIf None = hlevel props
+is_prop-IsMadeIf (Some next) = is_prop-IsMade next.1

@@ -1,0 +1,77 @@
+// The turn that a cog has next.
+ghost use Rattle.std.specs.Prelude.{◌≡◌, ◌<◌, ◌≤◌, ◌+◌, ◌^◌};
+ghost use Rattle.p8_access.specs.Windows.{window_of};
+ghost use Rattle.p8_access.specs.Proper.{IsProper};
+ghost use Rattle.p8_history.specs.Histories.{first_access as first_access_of};
+ghost use Rattle.p8_machine.specs.Dues.{Picks, IsFirst};
+
+use p8_access::{Access, Key, Origin, Reason, key_before, window};
+
+/// The next turn of a cog but for its answer, and whether the cog is running; else it is starting.
+#[derive(Clone, Copy, Debug, PartialEq, Eq)]
+pub struct Due {
+    pub key: Key,
+    pub access: Access,
+    pub running: bool,
+}
+
+/// The greatest address at which the 496 longs of a cog stand below $8000.
+pub const LAST_CODE: u16 = 0x8000 - 4 * 496;
+
+/// The first access of a cog that was started.
+pub fn first_access(origin: Origin) -> Access
+    ensures access { result ≡ first_access_of origin }
+    ensures proper { IsProper result }
+{
+    match origin {
+        Origin::Pasm { code, .. } => {
+            if code <= LAST_CODE {
+                Access::Load
+            } else {
+                Access::Halt {
+                    reason: Reason::Rom(0x8000),
+                }
+            }
+        }
+        Origin::Spin { .. } => Access::Begin,
+    }
+}
+
+/// The first turn of a cog that is starting, where it comes below a clock.
+pub fn first_due(cog: u8, since: u64, origin: Origin, until: u64) -> Option<Due>
+    requires cog { cog < 8 }
+    requires until { until < 2 ^ 61 }
+    ensures { IsFirst cog since origin until result }
+{
+    if since >= until {
+        return None;
+    }
+    let clock = window(cog, since + 1);
+    if clock >= until {
+        return None;
+    }
+    Some(Due {
+        key: Key { clock, cog },
+        access: first_access(origin),
+        running: false,
+    })
+}
+
+/// The one of two turns that comes first.
+pub fn earlier(best: Option<Due>, due: Option<Due>) -> Option<Due>
+    ensures { Picks best due result }
+{
+    match best {
+        None => due,
+        Some(first) => match due {
+            None => Some(first),
+            Some(second) => {
+                if key_before(second.key, first.key) {
+                    Some(second)
+                } else {
+                    Some(first)
+                }
+            }
+        },
+    }
+}

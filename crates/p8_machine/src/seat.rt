@@ -1,0 +1,88 @@
+// One cog of the machine: its life, and what that has said.
+ghost use Rattle.std.specs.Prelude.{◌≡◌, ◌<◌, ◌≤◌, ◌^◌, ◌∷◌, ◌++◌, [], ℕ, List, Option, Some, None, length, IfOk, IfSome};
+ghost use Rattle.p8_access.specs.declared.order.Turn.{Turn};
+ghost use Rattle.p8_access.specs.declared.kinds.Access.{Access};
+ghost use Rattle.p8_access.specs.Lives.{Begun, PasmBegun, IsMade, IsAnnounced};
+ghost use Rattle.p8_access.specs.Proper.{Fits};
+ghost use Rattle.p8_machine.specs.Pending.{Pends, IsMadeIf, is_prop-IsMadeIf};
+ghost use Rattle.std.proofs.Props.{props};
+
+use p8_access::{Access, Life, Next, Turn};
+use p8_cog::Cog;
+use p8_words::NoMemory;
+use std::alloc::Global;
+
+/// A cog's place in the machine. Its memory is taken before the run and serves one life after another.
+#[derive(Drop)]
+pub struct Seat {
+    pub life: Cog,
+    /// The next access of the life and its earliest clock, where there is one below the limit.
+    pub next: Option<(u64, Access)>,
+    ghost announced: { ⟦<Cog as Life>⟧.announced life ≡ next },
+    ghost made: { IsMadeIf next } by { is_prop-IsMadeIf next },
+    ghost below: { IfSome next (λ first. first.0 < 2 ^ 61) } by { Prim.hlevel props },
+}
+
+/// The next access of a life below a clock.
+fn next_of<L: Life>(life: &mut L, until: u64) -> Option<(u64, Access)>
+    requires { until < 2 ^ 61 }
+    ensures keeps { (b : Begun) (ts : List Turn) → L.stands life.old b ts → L.stands life.new b ts }
+    ensures pends { (b : Begun) (ts : List Turn) → L.stands life.old b ts → Pends (L.asked b ts) until result }
+    ensures announced { L.announced life.new ≡ result }
+    ensures made { IsMadeIf result }
+    ensures below { IfSome result (λ next. next.0 < until) }
+    ensures cog { L.cog life.new ≡ L.cog life.old }
+{
+    'asks: loop {
+        match life.run_to_access(until, u32::MAX) {
+            Next::At { clock, access } => return Some((clock, access)),
+            Next::Quiet => return None,
+            Next::More { .. } => {}
+        }
+    }
+}
+
+impl Seat {
+    /// The place of a cog that nothing has begun in.
+    pub fn new(alloc: Global, longs: &[u32], cog: u8) -> Result<Seat, NoMemory>
+        requires longs { length longs.now ≡ 496 }
+        requires cog { cog < 8 }
+        ensures cog { IfOk result (λ seat. ⟦<Cog as Life>⟧.cog seat.life ≡ cog) }
+    {
+        Ok(Seat {
+            life: Cog::start(alloc, longs, 0, cog, 0)?,
+            next: None,
+        })
+    }
+
+    /// A new life begins with these longs and this value of PAR. Its first instruction comes at the
+    /// clock `begin`, and it is asked for its first access below the clock `until`.
+    pub fn begin(&mut self, longs: &[u32], par: u16, cog: u8, begin: u64, until: u64)
+        requires longs { length longs.now ≡ 496 }
+        requires cog { cog < 8 }
+        requires begin { begin < 2 ^ 62 }
+        requires until { until < 2 ^ 61 }
+        ensures stands { ⟦<Cog as Life>⟧.stands self.new.life (PasmBegun (record { longs = longs.now; par = par; cog = cog; begin = begin })) [] }
+        ensures pends { Pends (⟦<Cog as Life>⟧.asked (PasmBegun (record { longs = longs.now; par = par; cog = cog; begin = begin })) []) until self.new.next }
+        ensures cog { ⟦<Cog as Life>⟧.cog self.new.life ≡ cog }
+    {
+        self.life.restart(longs, par, cog, begin);
+        self.next = next_of(&mut self.life, until);
+    }
+
+    /// The life takes the turn of its next access, and is asked for the one after it below the clock
+    /// `until`.
+    pub fn take(&mut self, turn: &Turn, until: u64)
+        requires next { IsAnnounced self.old.next turn.now }
+        requires own { turn.now.key.cog ≡ ⟦<Cog as Life>⟧.cog self.old.life }
+        requires clock { turn.now.key.clock < 2 ^ 62 }
+        requires fits { Fits turn.now.access turn.now.answer }
+        requires until { until < 2 ^ 61 }
+        ensures stands { (b : Begun) (ts : List Turn) → ⟦<Cog as Life>⟧.stands self.old.life b ts → ⟦<Cog as Life>⟧.stands self.new.life b (ts ++ turn.now ∷ []) }
+        ensures pends { (b : Begun) (ts : List Turn) → ⟦<Cog as Life>⟧.stands self.old.life b ts → Pends (⟦<Cog as Life>⟧.asked b (ts ++ turn.now ∷ [])) until self.new.next }
+        ensures cog { ⟦<Cog as Life>⟧.cog self.new.life ≡ ⟦<Cog as Life>⟧.cog self.old.life }
+    {
+        self.life.take_answer(turn);
+        self.next = next_of(&mut self.life, until);
+    }
+}
