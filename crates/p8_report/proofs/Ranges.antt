@@ -1,0 +1,28 @@
+-- Texts that are made number by number.
+use Rattle.std.proofs.Common.{◌≡◌, ℕ, ◌+◌, ◌<◌, List, [], ◌∷◌, ◌++◌, map, sym, ap, ◌∙◌, append_assoc, nat_lt, if◌then◌else◌, arith}
+use Rattle.std.specs.List.{range_with_len, flat_map}
+use Rattle.std.proofs.lemmas.List.{map-id, append-nil}
+use Rattle.std.proofs.lemmas.List.Concat.{flat_map-append}
+use Rattle.std.proofs.lemmas.List.FromFn.{map-range_with_len_more}
+use Rattle.std.proofs.lemmas.Bool.Decides.{nat_tests}
+
+-- the numbers below n + 1
+range_more : (n : ℕ) → range_with_len 0 (n + 1) ≡ range_with_len 0 n ++ n ∷ []
+range_more n =
+    sym (map-id (range_with_len 0 (n + 1))) ∙ map-range_with_len_more (λ (k : ℕ). k) 0 n n (omega arith) ∙ ap (λ (xs : List ℕ). xs ++ n ∷ []) (map-id (range_with_len 0 n))
+
+-- one more number's text
+pub flat_map_step : (f : ℕ → List ℕ) (n : ℕ) (old before after : List ℕ) → before ≡ old ++ flat_map f (range_with_len 0 n) → after ≡ before ++ f n → after ≡ old ++ flat_map f (range_with_len 0 (n + 1))
+flat_map_step f n old before after so_far more =
+    let all : flat_map f (range_with_len 0 (n + 1)) ≡ flat_map f (range_with_len 0 n) ++ f n =
+    ap (flat_map f) (range_more n) ∙ flat_map-append f (range_with_len 0 n) (n ∷ []) ∙ ap (λ (xs : List ℕ). flat_map f (range_with_len 0 n) ++ xs) (append-nil (f n)) in
+    more ∙ ap (λ (xs : List ℕ). xs ++ f n) so_far ∙ append_assoc old (flat_map f (range_with_len 0 n)) (f n) ∙ ap (λ (xs : List ℕ). old ++ xs) (sym all)
+
+-- one more number's letter
+pub map_step : (f : ℕ → ℕ) (n : ℕ) (old before after : List ℕ) → before ≡ old ++ map f (range_with_len 0 n) → after ≡ before ++ f n ∷ [] → after ≡ old ++ map f (range_with_len 0 (n + 1))
+map_step f n old before after so_far more =
+    more ∙ ap (λ (xs : List ℕ). xs ++ f n ∷ []) so_far ∙ append_assoc old (map f (range_with_len 0 n)) (f n ∷ []) ∙ ap (λ (xs : List ℕ). old ++ xs) (sym (map-range_with_len_more f 0 n n (omega arith)))
+
+-- the byte at an address in RAM
+pub in_ram : (address x y : ℕ) → address < 32768 → x ≡ (if nat_lt address 32768 then y else 0) → x ≡ y
+in_ram address x y below e = grind (arith, nat_tests)

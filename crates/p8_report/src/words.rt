@@ -1,0 +1,74 @@
+// What the texts of accesses are made of.
+ghost use Rattle.std.specs.Prelude.{◌≡◌, ◌≤◌};
+ghost use Rattle.p8_report.specs.Text.{value_of, width_text, digits_of, code_of, parameter_of, kind_text};
+
+use p8_access::{Answer, Origin, Width};
+
+/// The value in an answer, or 0 where it has none.
+#[inline]
+pub fn value_in(answer: Answer) -> u32
+    ensures { result ≡ value_of answer }
+{
+    match answer {
+        Answer::Value(value) => value,
+        Answer::Done | Answer::Number(_) | Answer::Was(_) => 0,
+    }
+}
+
+/// The name of a width.
+#[inline]
+pub fn width_name(width: Width) -> &'static [u8]
+    ensures { result.now ≡ width_text width }
+{
+    match width {
+        Width::Byte => b"byte",
+        Width::Word => b"word",
+        Width::Long => b"long",
+    }
+}
+
+/// How many hexadecimal digits a value of a width has.
+#[inline]
+pub fn digit_count(width: Width) -> usize
+    ensures exact { result ≡ digits_of width }
+    ensures few { result ≤ 8 }
+{
+    match width {
+        Width::Byte => 2,
+        Width::Word => 4,
+        Width::Long => 8,
+    }
+}
+
+/// What kind of code a cog is started with.
+#[inline]
+pub fn kind_name(origin: &Origin) -> &'static [u8]
+    ensures { result.now ≡ kind_text origin.now }
+{
+    match origin {
+        Origin::Pasm { .. } => b"pasm",
+        Origin::Spin { .. } => b"spin",
+    }
+}
+
+/// The address of the code that a cog is started with.
+#[inline]
+pub fn code_in(origin: &Origin) -> u16
+    ensures { result ≡ code_of origin.now }
+{
+    match origin {
+        Origin::Pasm { code, .. } => *code,
+        Origin::Spin { entry, .. } => *entry,
+    }
+}
+
+/// The value of PAR, or the frame.
+#[inline]
+pub fn parameter_in(origin: &Origin) -> u16
+    ensures { result ≡ parameter_of origin.now }
+{
+    match origin {
+        Origin::Pasm { par, .. } => *par,
+        Origin::Spin { frame, .. } => *frame,
+    }
+}
