@@ -1,0 +1,85 @@
+-- The words of the command line (this project's profile). Each word is a list of bytes.
+use Rattle.std.specs.Prelude.{ℕ, ◌+◌, ◌-◌, ◌*◌, nat_le, nat_eq, if◌then◌else◌, ◌&&◌, ◌||◌, ◌==◌, Bool, List, [], ◌∷◌, Option, Some, None, codes, length}
+use Rattle.std.specs.List.{list_all}
+use Rattle.std.specs.Cmp.Lexicographic.{pointwise}
+
+-- a decimal digit
+abbrev pub is_digit : ℕ → Bool
+is_digit code = nat_le 48 code && nat_le code 57
+
+-- the number that these digits go on to
+abbrev pub value_from : ℕ → List ℕ → ℕ
+value_from number [] = number
+value_from number (digit ∷ digits) = value_from (10 * number + (digit - 48)) digits
+
+-- the number of decimal digits, where it is at most a limit
+abbrev pub value_within : ℕ → List ℕ → Option ℕ
+value_within limit text =
+    if list_all is_digit text && nat_le (value_from 0 text) limit then Some (value_from 0 text) else None
+
+-- the number of one to ten decimal digits, where it is at most a limit
+abbrev pub number_of : ℕ → List ℕ → Option ℕ
+number_of limit text =
+    if nat_le 1 (length text) && nat_le (length text) 10 then value_within limit text else None
+
+-- the greatest number of clocks of a run
+abbrev pub most_clocks : ℕ
+most_clocks = 100000000
+
+-- a hexadecimal digit, in capitals or small letters
+abbrev pub is_hexadecimal : ℕ → Bool
+is_hexadecimal code = is_digit code || (nat_le 65 code && nat_le code 70) || (nat_le 97 code && nat_le code 102)
+
+abbrev pub hexadecimal_value : ℕ → ℕ
+hexadecimal_value code = if nat_le code 57 then code - 48 else (if nat_le code 70 then code - 55 else code - 87)
+
+abbrev pub hexadecimal_digit : ℕ → Option ℕ
+hexadecimal_digit code = if is_hexadecimal code then Some (hexadecimal_value code) else None
+
+-- a number of four hexadecimal digits
+abbrev pub address_by : Option ℕ → Option ℕ → Option ℕ → Option ℕ → Option ℕ
+address_by (Some a) (Some b) (Some c) (Some d) = Some (4096 * a + 256 * b + 16 * c + d)
+address_by _ _ _ _ = None
+
+-- a number of one to five decimal digits
+abbrev pub count_of : List ℕ → Option ℕ
+count_of text = if nat_le 1 (length text) && nat_le (length text) 5 then value_within 99999 text else None
+
+-- a range of hub RAM that isn't empty: an address and how many bytes
+abbrev pub range_by : Option ℕ → Option ℕ → Option (ℕ × ℕ)
+range_by (Some address) (Some count) =
+    if nat_le 1 count && nat_le (address + count) 32768 then Some (address, count) else None
+range_by _ _ = None
+
+-- the range that `A:N` says
+abbrev pub range_of : List ℕ → Option (ℕ × ℕ)
+range_of (a ∷ b ∷ c ∷ d ∷ colon ∷ count) =
+    if colon == 58
+    then range_by (address_by (hexadecimal_digit a) (hexadecimal_digit b) (hexadecimal_digit c) (hexadecimal_digit d)) (count_of count)
+    else None
+range_of _ = None
+
+-- a command: to run a file as hub memory up to a clock, and to dump a range of it in the end
+pub data Command : Type 0 where
+  Raw : (file : List ℕ) (clocks : ℕ) (dump : Option (ℕ × ℕ)) → Command
+
+abbrev pub raw_command : List ℕ → Option ℕ → Option Command
+raw_command file None = None
+raw_command file (Some clocks) = Some (Raw file clocks None)
+
+abbrev pub dump_command : List ℕ → Option ℕ → Option (ℕ × ℕ) → Option Command
+dump_command file (Some clocks) (Some range) = Some (Raw file clocks (Some range))
+dump_command file _ _ = None
+
+-- `raw FILE CLOCKS --dump A:N`
+abbrev pub long_command : List (List ℕ) → Option Command
+long_command (verb ∷ file ∷ clocks ∷ option ∷ range ∷ []) =
+    if pointwise nat_eq verb (codes "raw") && pointwise nat_eq option (codes "--dump")
+    then dump_command file (number_of most_clocks clocks) (range_of range) else None
+long_command _ = None
+
+-- the command that the words say: `raw FILE CLOCKS`, or that with a dump
+abbrev pub command_of : List (List ℕ) → Option Command
+command_of (verb ∷ file ∷ clocks ∷ []) =
+    if pointwise nat_eq verb (codes "raw") then raw_command file (number_of most_clocks clocks) else None
+command_of words = long_command words

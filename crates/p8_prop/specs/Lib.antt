@@ -1,0 +1,7 @@
+-- What public contracts cite.
+pub mod Codes
+pub mod Commands
+pub mod Verdicts
+-- Machinery that only proofs need.
+pub mod Outcomes
+pub mod Seen

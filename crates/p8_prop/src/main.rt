@@ -1,0 +1,49 @@
+//! `prop`: runs images of the Parallax Propeller P8X32A and prints the history of the eight cogs.
+#![tactic(auto)]
+
+mod outcome;
+mod raw;
+mod status;
+#[cfg(test)]
+mod tests;
+mod top;
+mod words;
+
+use p8_io::{FileShelf, StdSink};
+use status::Status;
+use std::env;
+use std::io::ErrorKind;
+use std::process::ExitCode;
+use top::prop_alone;
+
+/// The words after the program's name. Where one of them isn't UTF-8 they are no command, as no words
+/// at all are none.
+fn words_of(rt: &HostRuntime) -> Result<Vec<String>, Status> {
+    let mut words = Vec::new(rt.alloc());
+    match env::args(rt) {
+        Ok(args) => {
+            for word in args.skip(1) {
+                match words.push(word) {
+                    Ok(()) => {}
+                    Err(_) => return Err(Status::NoMemory),
+                }
+            }
+            Ok(words)
+        }
+        Err(error) => match error.kind() {
+            ErrorKind::OutOfMemory => Err(Status::NoMemory),
+            _ => Ok(words),
+        },
+    }
+}
+
+fn main(rt: HostRuntime) -> ExitCode {
+    let mut shelf = FileShelf::new(&rt);
+    let mut out = StdSink::new(rt.stdout());
+    let mut faults = StdSink::new(rt.stderr());
+    let status = match words_of(&rt) {
+        Ok(words) => prop_alone(rt.alloc(), &words, &mut shelf, &mut out, &mut faults),
+        Err(status) => status,
+    };
+    ExitCode::from(status.code())
+}
