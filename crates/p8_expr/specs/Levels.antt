@@ -1,0 +1,24 @@
+-- internal: what the reader's stack and answers in the code stand for.
+use Rattle.std.specs.Prelude.{◌≡◌, min, Option, Some, None, List, [], ◌∷◌}
+use Rattle.p8_expr.specs.Machine as machine
+use Rattle.p8_expr.specs.Machine.{State, state, accept}
+use Rattle.p8_expr.specs.Least.{depth, base, least}
+use Rattle.p8_expr.specs.Views.{setting_of, shape_of, frame_of}
+use Rattle.p8_expr.specs.declared.stack.Level as level
+use Rattle.p8_expr.specs.declared.reader.Taken as taken
+use Rattle.p8_expr.specs.declared.reader.Taken.TheVariants as taken_case
+
+-- the frames of a stack's levels, the last first
+abbrev pub frames_in : List level.Level → List machine.Frame
+frames_in [] = []
+frames_in (x ∷ xs) = frame_of x.frame ∷ frames_in xs
+
+-- each level keeps what its frames do to the height of what comes next, counted up to 65
+abbrev pub IsMeasured : List level.Level → Type 0
+IsMeasured [] = Unit {0}
+IsMeasured (x ∷ xs) = (x.base ≡ min 65 (base (frames_in (x ∷ xs)))) × (x.depth ≡ min 65 (depth (frames_in (x ∷ xs)))) × IsMeasured xs
+
+-- a word was taken, or can't be, and then the state is as good as before
+abbrev pub Takes : Option State → State → taken.Taken → List machine.Frame → Type 0
+Takes o st (taken_case.On s x) k = o ≡ Some (state (setting_of s) (shape_of x) k)
+Takes o st (taken_case.Dead s x) k = (o ≡ None) × (accept (state (setting_of s) (shape_of x) k) ≡ accept st) × (least (state (setting_of s) (shape_of x) k) ≡ least st)
