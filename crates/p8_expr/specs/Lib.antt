@@ -1,9 +1,0 @@
--- What public contracts cite.
-pub mod Lexemes
-pub mod Grammar
-pub mod Heights
--- internal: the reader of the proofs and the code.
-pub mod Machine
-pub mod Least
-pub mod Views
-pub mod Levels

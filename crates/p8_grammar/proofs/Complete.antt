@@ -1,0 +1,133 @@
+-- The reader reads what the grammar spells.
+use Rattle.std.proofs.Common.{◌≡◌, ℕ, suc, ◌+◌, ◌*◌, ◌<◌, ◌≤◌, List, [], ◌∷◌, ◌++◌, Option, Some, None, refl, ap, ◌∙◌, arith}
+use Rattle.std.specs.Prelude.{option_and_then}
+use Rattle.std.proofs.lemmas.Bool.{lt-ltb}
+use Rattle.p8_tree.specs.declared.places.Place.{Place}
+use Rattle.p8_tree.specs.Expressions.{Tree, Variable}
+use Rattle.p8_grammar.specs.Lexemes.{Setting, inside, Mark, left_parenthesis, right_parenthesis, left_bracket, right_bracket, comma, colon, dot, dot_dot, hash, backslash, Lexeme, mark, prefix_word, infix_word, sign, assigns, object_address, Token, token}
+use Rattle.p8_grammar.specs.Grammar.{word, upto, Row, Prefix, rank, prefix_of, infix_of, Reads, operand, before, between, assigned, Spells, nothing, a_word, an_expression}
+use Rattle.p8_grammar.specs.Machine.{reading, Shape, using, string_read, Hole, Next, stays, opens, tree, target, on_close, close, fresh, Frame, prefix_frame, infix_frame, assign_frame, inside_frame, bar_of, reduce, State, state, entered, entered_all, shut, prefixed, operate, assign, beyond, go_on, step, walk, all_of, accepted, accept, start}
+use Rattle.p8_grammar.proofs.Walks.{goes_on, one_step, steps_on, kept, wraps}
+use Rattle.p8_grammar.proofs.FormsRead.{fed, run, variables_run, forms_run, written_target}
+
+-- the walk has read an operand, and has what it would have with e
+pub record Arrives (s : Setting) (l : ℕ) (e : Tree) (k : List Frame) (o : Option State) : Type 0 where
+  pub sh : Shape
+  pub frames : List Frame
+  pub top : Tree
+  pub is : o ≡ Some (state s sh frames)
+  pub whole : tree sh ≡ Some top
+  pub same : (j : ℕ) → l ≤ 2 * j → reduce (2 * j) top frames ≡ reduce (2 * j) e k
+
+pub prefix_step : (s : Setting) (k : List Frame) (p : Place) (x : Lexeme) (o : Prefix) → prefix_of x ≡ Some o → 2 * rank o + 1 < bar_of k → step (state s fresh k) (token p x) ≡ Some (state s fresh (prefix_frame o p ∷ k))
+prefix_step s k p x o h lt = first x h ∙ rw (lt-ltb (2 * rank o + 1) (bar_of k) lt) refl
+  where
+    first : (x : Lexeme) → prefix_of x ≡ Some o → step (state s fresh k) (token p x) ≡ prefixed s (Some o) p k
+    first (prefix_word r c) h = ap (λ o. prefixed s o p k) h
+    first (sign c j) h = ap (λ o. prefixed s o p k) h
+    first object_address h = ap (λ o. prefixed s o p k) h
+    first x h = absurd cc
+
+pub infix_step : (s : Setting) (sh : Shape) (k : List Frame) (p : Place) (x : Lexeme) (top : Tree) (r c : ℕ) → infix_of x ≡ Some (suc r, c) → tree sh ≡ Some top → step (state s sh k) (token p x) ≡ operate s (Some (suc r, c)) p top k
+infix_step s sh k p (infix_word r' c') top r c h t = ap (λ o. beyond o s sh k p (infix_word r' c')) t ∙ ap (λ o. operate s o p top k) h
+infix_step s sh k p (sign c' j) top r c h t = ap (λ o. beyond o s sh k p (sign c' j)) t ∙ ap (λ o. operate s o p top k) h
+infix_step s sh k p x top r c h t = absurd cc
+
+pub operates : (s : Setting) (p : Place) (e : Tree) (k : List Frame) (r c : ℕ) → r < 11 → operate s (Some (suc r, c)) p e k ≡ Some (state s fresh (infix_frame r c p (reduce (2 * suc r) e k).0 ∷ (reduce (2 * suc r) e k).1))
+operates s p e k r c lt = rw (lt-ltb r 11 lt) refl
+
+-- no form goes on where an expression ends
+on_close_none : (sh : Shape) (top : Tree) → tree sh ≡ Some top → on_close sh ≡ None
+on_close_none (string_read q t) top h = absurd cc
+on_close_none sh top h = refl
+
+pub mark_step : (s s' : Setting) (sh : Shape) (k : List Frame) (p : Place) (m : Mark) (h : Hole) (e top : Tree) (n : Next) → tree sh ≡ Some top → close m h e ≡ Some n → step (state s sh k) (token p (mark m)) ≡ shut m (reduce 22 top k).0 (reduce 22 top k).1
+mark_step s s' sh k p right_parenthesis h e top n t c =
+    ap (λ o. go_on o s sh k p (mark right_parenthesis)) (on_close_none sh top t) ∙ ap (λ o. beyond o s sh k p (mark right_parenthesis)) t
+mark_step s s' sh k p right_bracket h e top n t c = ap (λ o. beyond o s sh k p (mark right_bracket)) t
+mark_step s s' sh k p comma h e top n t c = ap (λ o. beyond o s sh k p (mark comma)) t
+mark_step s s' (using u) k p colon h e top n t c = absurd cc
+mark_step s s' sh k p colon h e top n t c = ap (λ o. beyond o s sh k p (mark colon)) t
+mark_step s s' sh k p dot_dot h e top n t c = ap (λ o. beyond o s sh k p (mark dot_dot)) t
+mark_step s s' sh k p left_parenthesis h e top n t c = absurd cc
+mark_step s s' sh k p left_bracket h e top n t c = absurd cc
+mark_step s s' sh k p dot h e top n t c = absurd cc
+mark_step s s' sh k p hash h e top n t c = absurd cc
+mark_step s s' sh k p backslash h e top n t c = absurd cc
+
+pub assign_step : (s : Setting) (sh : Shape) (k : List Frame) (p : Place) (o : Option ℕ) (top : Tree) (v : Variable) → tree sh ≡ Some top → target sh ≡ Some v → 21 < bar_of k → step (state s sh k) (token p (assigns o)) ≡ Some (state s fresh (assign_frame o p v ∷ k))
+assign_step s sh k p o top v t w lt =
+    ap (λ x. beyond x s sh k p (assigns o)) t ∙ ap (λ x. assign s x o p k) w ∙ rw (lt-ltb 21 (bar_of k) lt) refl
+
+same_next : {n n' : Next} → Some n ≡ Some n' → n ≡ n'
+same_next h = cc
+
+mutual
+  pub arrives : {s : Setting} {l : ℕ} {e : Tree} {ts : List Token} → Reads s l e ts → l ≤ 22 → (k : List Frame) → l < bar_of k → Arrives s l e k (walk (state s fresh k) ts)
+  arrives {e = e} (operand f sp) small k lt =
+      let r = forms_run f in
+      record { sh = r.sh; frames = k; top = e; is = spelled sp (stays r.sh) r.is k; whole = r.whole; same = λ j h. refl }
+  arrives {s = s} (before {x = x} {o = o} {p = p} {e = e} {ts = ts} h le r) small k lt =
+      let a = arrives r (omega arith) (prefix_frame o p ∷ k) (omega arith) in
+      record {
+        sh = a.sh;
+        frames = a.frames;
+        top = a.top;
+        is = steps_on (state s fresh k) (state s fresh (prefix_frame o p ∷ k)) (token p x) ts (prefix_step s k p x o h (omega arith)) ∙ a.is;
+        whole = a.whole;
+        same = λ j hj. a.same j (omega arith) ∙ wraps (2 * j) e (prefix_frame o p) k (omega arith);
+      }
+  arrives {s = s} (between {r = r} {k = c} {p = p} {a = a} {b = b} {ts = ts} {us = us} x h le ra rb) small k lt =
+      let y = arrives ra (omega arith) k (omega arith) in
+      let z = arrives rb (omega arith) (infix_frame r c p a ∷ k) (omega arith) in
+      record {
+        sh = z.sh;
+        frames = z.frames;
+        top = z.top;
+        is = goes_on (state s fresh k) (state s y.sh y.frames) ts (token p x ∷ us) y.is
+            ∙ steps_on (state s y.sh y.frames) (state s fresh (infix_frame r c p a ∷ k)) (token p x) us (infix_step s y.sh y.frames p x y.top r c h y.whole ∙ operates s p y.top y.frames r c (omega arith) ∙ ap (λ q. Some (state s fresh (infix_frame r c p q.0 ∷ q.1))) (y.same (suc r) (omega arith) ∙ kept (2 * suc r) a k (omega arith)))
+            ∙ z.is;
+        whole = z.whole;
+        same = λ i hi. z.same i (omega arith) ∙ wraps (2 * i) b (infix_frame r c p a) k (omega arith);
+      }
+  arrives {s = s} (assigned {o = o} {p = p} {v = v} {e = e} {ts = ts} {us = us} x le w y sp r) small k lt =
+      let z = variables_run y reading refl refl in
+      let a = arrives r (omega arith) (assign_frame o p v ∷ k) (omega arith) in
+      record {
+        sh = a.sh;
+        frames = a.frames;
+        top = a.top;
+        is = goes_on (state s fresh k) (state s z.sh k) ts (token p (assigns o) ∷ us) (spelled sp (stays z.sh) z.is k)
+            ∙ steps_on (state s z.sh k) (state s fresh (assign_frame o p v ∷ k)) (token p (assigns o)) us (assign_step s z.sh k p o _ v z.whole (written_target x v z.sh w z.written) (omega arith))
+            ∙ a.is;
+        whole = a.whole;
+        same = λ i hi. a.same i (omega arith) ∙ wraps (2 * i) e (assign_frame o p v) k (omega arith);
+      }
+
+  pub spelled : {s : Setting} {row : Row} {ts : List Token} → Spells s row ts → (n : Next) → run s row ≡ Some n → (k : List Frame) → walk (state s fresh k) ts ≡ Some (entered s k n)
+  spelled {s = s} nothing n h k = ap (λ n. Some (entered s k n)) (same_next h)
+  spelled {s = s} (a_word {row = row} {p = p} {x = x} {ts = ts} sp) n h k = go (λ n' h'. spelled sp n' h' k) (run s row) refl h
+    where
+      go : ((n' : Next) → run s row ≡ Some n' → walk (state s fresh k) ts ≡ Some (entered s k n')) → (o : Option Next) → run s row ≡ o → option_and_then (λ n. fed s (word p x) n) o ≡ Some n → walk (state s fresh k) (ts ++ token p x ∷ []) ≡ Some (entered s k n)
+      go ih None e f = absurd cc
+      go ih (Some (opens hole)) e f = absurd cc
+      go ih (Some (stays sh)) e f =
+          goes_on (state s fresh k) (state s sh k) ts (token p x ∷ []) (ih (stays sh) e)
+          ∙ one_step (state s sh k) (entered s k n) (token p x) (ap (λ o. go_on o s sh k p x) f)
+  spelled {s = s} (an_expression {row = row} {e = e} {m = m} {ts = ts} {us = us} p sp r) n h k = go (λ n' h'. spelled sp n' h' k) (λ hole. arrives r (omega arith) (inside_frame s hole ∷ k) (omega arith)) (run s row) refl h
+    where
+      go : ((n' : Next) → run s row ≡ Some n' → walk (state s fresh k) ts ≡ Some (entered s k n')) → ((hole : Hole) → Arrives (inside s) 22 e (inside_frame s hole ∷ k) (walk (state (inside s) fresh (inside_frame s hole ∷ k)) us)) → (o : Option Next) → run s row ≡ o → option_and_then (λ n. fed s (upto e m) n) o ≡ Some n → walk (state s fresh k) (ts ++ (us ++ token p (mark m) ∷ [])) ≡ Some (entered s k n)
+      go ih arr None eq f = absurd cc
+      go ih arr (Some (stays sh)) eq f = absurd cc
+      go ih arr (Some (opens hole)) eq f =
+          let a = arr hole in
+          let st = state (inside s) fresh (inside_frame s hole ∷ k) in
+          goes_on (state s fresh k) st ts (us ++ token p (mark m) ∷ []) (ih (opens hole) eq)
+          ∙ goes_on st (state (inside s) a.sh a.frames) us (token p (mark m) ∷ []) a.is
+          ∙ one_step (state (inside s) a.sh a.frames) (entered s k n) (token p (mark m)) (mark_step (inside s) s a.sh a.frames p m hole e a.top n a.whole f ∙ ap (λ q. shut m q.0 q.1) (a.same 11 (omega arith)) ∙ ap (λ o. entered_all s k o) f)
+
+-- the tokens of an expression are read whole
+pub complete : (s : Setting) {e : Tree} {ts : List Token} → Reads s 22 e ts → (st : State) × (walk (start s) ts ≡ Some st) × (accept st ≡ Some e)
+complete s r =
+    let a = arrives r (omega arith) [] (omega arith) in
+    (state s a.sh a.frames, a.is, ap (λ o. accepted o a.frames) a.whole ∙ ap (λ q. all_of q.0 q.1) (a.same 11 (omega arith)))

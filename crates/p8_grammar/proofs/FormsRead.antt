@@ -1,0 +1,222 @@
+-- Each form is read as it stands in the grammar.
+use Rattle.std.proofs.Common.{◌≡◌, ℕ, List, ◌∷◌, Option, Some, None, Bool, true, false, refl, ap, ◌∙◌}
+use Rattle.std.specs.Prelude.{option_and_then, IsTrue, if◌then◌else◌, ◌&&◌}
+use Rattle.p8_tree.specs.declared.places.Place.{Place}
+use Rattle.p8_tree.specs.Expressions.{Tree, node, Str, Number, Here, ObjConst, Built, Look, Change, Call, Variable, Named, Part, Memory, Register, no_index, index, bits, single, range, Trees, no_trees, ◌▷◌, Items, no_items, ◌▸◌}
+use Rattle.p8_grammar.specs.Lexemes.{Setting, allows_index, is_dat, Access, memory, is_written, has_bits, is_in, left_parenthesis, right_parenthesis, left_bracket, right_bracket, comma, colon, dot, dot_dot, backslash, name, method_result, mark, changes, size, register}
+use Rattle.p8_grammar.specs.Grammar.{Piece, word, upto, Row, begin, ◌▹◌, Names, plain_name, result_word, local_label, Variables, named, indexed, part, part_indexed, memory_at, memory_indexed, register_whole, register_bit, register_bits, Head, calls, built, applied, Heads, trapped, of_object, of_element, of_built_in, Arguments, no_arguments, argument, Choices, no_choices, value_choice, range_choice, Forms, a_number, a_character, the_place, parentheses, variable, changed_before, changed_after, address_of, plain_call, bare_call, full_call, object_constant, a_value, a_string, a_constant, look_value, look_range}
+use Rattle.p8_grammar.specs.Machine.{Use, reading, addressing, changing, used, takes, Shape, using, indexed_name, dotted, coloned, sized, parted, memory_word, register_word, ready, trapped_name, trapped_element, object_dot, headed, done, Hole, argument_of, choice_of, choice_to, name_index, part_index, memory_address, memory_index, first_bit, last_bit, Next, stays, opens, only_if, tree, if_reading, target, grow, close, named_element, fresh, on_parenthesis, changed}
+use Rattle.p8_grammar.specs.Machine as machine
+use Rattle.p8_grammar.proofs.Walks.{only, both}
+
+abbrev pub fed : Setting → Piece → Next → Option Next
+fed s (word p x) (stays sh) = grow s sh p x
+fed s (word p x) (opens h) = None
+fed s (upto e m) (stays sh) = None
+fed s (upto e m) (opens h) = close m h e
+
+-- what the reader makes of a row
+abbrev pub run : Setting → Row → Option Next
+run s begin = Some (stays fresh)
+run s (row ▹ x) = option_and_then (λ n. fed s x n) (run s row)
+
+-- one piece more
+pub fed_on : (s : Setting) (row : Row) (x : Piece) (n n' : Next) → run s row ≡ Some n → fed s x n ≡ Some n' → run s (row ▹ x) ≡ Some n'
+fed_on s row x n n' h e = ap (λ o. option_and_then (λ n. fed s x n) o) h ∙ e
+
+names_run : {s : Setting} {before row : Row} {n : List ℕ} {p : Place} → Names s before n p row → (u : Use) → run s before ≡ Some (stays (using u)) → (b : Bool) × (run s row ≡ Some (stays (machine.named u b p n)))
+names_run {s = s} {before = before} (plain_name {n = n} {p = p}) u h = (true, fed_on s before (word p (name n)) _ _ h refl)
+names_run {s = s} {before = before} (result_word {p = p}) u h = (false, fed_on s before (word p method_result) _ _ h refl)
+names_run {s = s} {before = before} (local_label {n = n} {p = p} {q = q} d) u h =
+    (false, fed_on s (before ▹ word p (mark colon)) (word q (name n)) (stays (coloned u p)) _ (fed_on s before (word p (mark colon)) (stays (using u)) _ h (only (is_dat s) _ d)) refl)
+
+-- a variable that has been read for some use
+pub record ReadFor (s : Setting) (u : Use) (x : Access) (v : Variable) (row : Row) : Type 0 where
+  pub sh : Shape
+  pub is : run s row ≡ Some (stays sh)
+  pub whole : tree sh ≡ Some (used u v)
+  pub written : target sh ≡ if_reading u (is_written x) v
+
+element : (u : Use) (b : Bool) (p : Place) (n : List ℕ) (e : Tree) → (sh : Shape) × (named_element u b p n e ≡ stays sh) × (tree sh ≡ Some (used u (Named n (index e) p))) × (target sh ≡ if_reading u true (Named n (index e) p))
+element reading true p n e = (indexed_name p n e, refl, refl, refl)
+element reading false p n e = (ready reading (Named n (index e) p) memory, refl, refl, refl)
+element (addressing q) b p n e = (ready (addressing q) (Named n (index e) p) memory, refl, refl, refl)
+element (changing q c) b p n e = (ready (changing q c) (Named n (index e) p) memory, refl, refl, refl)
+
+pub variables_run : {s : Setting} {before row : Row} {x : Access} {v : Variable} → Variables s before x v row → (u : Use) → IsTrue (takes u x) → run s before ≡ Some (stays (using u)) → ReadFor s u x v row
+variables_run (named {n = n} {p = p} a) u t h =
+    let r = names_run a u h in
+    record { sh = machine.named u r.0 p n; is = r.1; whole = refl; written = refl }
+variables_run {s = s} (indexed {n = n} {p = p} {q = q} {e = e} {row = row} i a) u t h =
+    let r = names_run a u h in
+    let x = element u r.0 p n e in
+    record {
+      sh = x.0;
+      is = fed_on s (row ▹ word q (mark left_bracket)) (upto e right_bracket) (opens (name_index u r.0 p n)) _ (fed_on s row (word q (mark left_bracket)) _ _ r.1 (only (allows_index s) _ i)) (ap (λ n. Some n) x.1);
+      whole = x.2;
+      written = x.3;
+    }
+variables_run {s = s} (part {n = n} {p = p} {q = q} {r = r} {z = z} {row = row} a) u t h =
+    let y = names_run a u h in
+    record {
+      sh = parted u p n z;
+      is = fed_on s (row ▹ word q (mark dot)) (word r (size z)) (stays (dotted u y.0 p n)) _ (fed_on s row (word q (mark dot)) _ _ y.1 refl) refl;
+      whole = refl;
+      written = refl;
+    }
+variables_run {s = s} (part_indexed {n = n} {p = p} {q = q} {r = r} {o = o} {z = z} {e = e} {row = row} i a) u t h =
+    let y = names_run a u h in
+    let row1 : Row = row ▹ word q (mark dot) in
+    let row2 : Row = row1 ▹ word r (size z) in
+    let row3 : Row = row2 ▹ word o (mark left_bracket) in
+    record {
+      sh = ready u (Part n z (index e) p) memory;
+      is = fed_on s row3 (upto e right_bracket) (opens (part_index u p n z)) _ (fed_on s row2 (word o (mark left_bracket)) (stays (parted u p n z)) _ (fed_on s row1 (word r (size z)) (stays (dotted u y.0 p n)) _ (fed_on s row (word q (mark dot)) _ _ y.1 refl) refl) (only (allows_index s) _ i)) refl;
+      whole = refl;
+      written = refl;
+    }
+variables_run {s = s} {before = before} (memory_at {p = p} {q = q} {z = z} {e = e} i) u t h =
+    let row1 : Row = before ▹ word p (size z) in
+    let row2 : Row = row1 ▹ word q (mark left_bracket) in
+    record {
+      sh = memory_word u p z e;
+      is = fed_on s row2 (upto e right_bracket) (opens (memory_address u p z)) _ (fed_on s row1 (word q (mark left_bracket)) (stays (sized u p z)) _ (fed_on s before (word p (size z)) _ _ h (only (allows_index s) _ i)) (only (allows_index s) _ i)) refl;
+      whole = refl;
+      written = refl;
+    }
+variables_run {s = s} {before = before} (memory_indexed {p = p} {q = q} {r = r} {z = z} {e = e} {i = i} a) u t h =
+    let row1 : Row = before ▹ word p (size z) in
+    let row2 : Row = row1 ▹ word q (mark left_bracket) in
+    let row3 : Row = row2 ▹ upto e right_bracket in
+    let row4 : Row = row3 ▹ word r (mark left_bracket) in
+    record {
+      sh = ready u (Memory z e (index i) p) memory;
+      is = fed_on s row4 (upto i right_bracket) (opens (memory_index u p z e)) _ (fed_on s row3 (word r (mark left_bracket)) (stays (memory_word u p z e)) _ (fed_on s row2 (upto e right_bracket) (opens (memory_address u p z)) _ (fed_on s row1 (word q (mark left_bracket)) (stays (sized u p z)) _ (fed_on s before (word p (size z)) _ _ h (only (allows_index s) _ a)) (only (allows_index s) _ a)) refl) (only (allows_index s) _ a)) refl;
+      whole = refl;
+      written = refl;
+    }
+variables_run {s = s} {before = before} (register_whole {a = a} {x = x} {p = p} i) u t h =
+    record { sh = register_word u p a x; is = fed_on s before (word p (register a x)) _ _ h (only (is_in s x && takes u x) _ (both _ _ i t)); whole = refl; written = refl }
+variables_run {s = s} {before = before} (register_bit {a = a} {x = x} {p = p} {q = q} {e = e} b i c) u t h =
+    let row1 : Row = before ▹ word p (register a x) in
+    let row2 : Row = row1 ▹ word q (mark left_bracket) in
+    record {
+      sh = ready u (Register a (bits (single e)) p) x;
+      is = fed_on s row2 (upto e right_bracket) (opens (first_bit u p a x)) _ (fed_on s row1 (word q (mark left_bracket)) (stays (register_word u p a x)) _ (fed_on s before (word p (register a x)) _ _ h (only (is_in s x && takes u x) _ (both _ _ i t))) (only (allows_index s && has_bits x) _ (both _ _ b c))) refl;
+      whole = refl;
+      written = refl;
+    }
+variables_run {s = s} {before = before} (register_bits {a = a} {x = x} {p = p} {q = q} {low = low} {high = high} b i c) u t h =
+    let row1 : Row = before ▹ word p (register a x) in
+    let row2 : Row = row1 ▹ word q (mark left_bracket) in
+    let row3 : Row = row2 ▹ upto low dot_dot in
+    record {
+      sh = ready u (Register a (bits (range low high)) p) x;
+      is = fed_on s row3 (upto high right_bracket) (opens (last_bit u p a x low)) _ (fed_on s row2 (upto low dot_dot) (opens (first_bit u p a x)) _ (fed_on s row1 (word q (mark left_bracket)) (stays (register_word u p a x)) _ (fed_on s before (word p (register a x)) _ _ h (only (is_in s x && takes u x) _ (both _ _ i t))) (only (allows_index s && has_bits x) _ (both _ _ b c))) refl) refl;
+      whole = refl;
+      written = refl;
+    }
+
+-- a head that has been read
+record HeadRead (s : Setting) (h : Head) (row : Row) : Type 0 where
+  sh : Shape
+  is : run s row ≡ Some (stays sh)
+  whole : tree sh ≡ Some (applied h no_trees)
+  more : on_parenthesis sh ≡ Some (opens (argument_of h no_trees))
+
+heads_run : {s : Setting} {h : Head} {row : Row} → Heads s h row → HeadRead s h row
+heads_run (trapped {n = n} {p = p} o) = record { sh = trapped_name p n; is = refl; whole = refl; more = refl }
+heads_run (of_object {trap = true} {n = n} {m = m} {p = p} {q = q} o) = record { sh = headed (calls true (Some n) no_index m q p); is = refl; whole = refl; more = refl }
+heads_run (of_object {trap = false} {n = n} {m = m} {p = p} {q = q} o) = record { sh = headed (calls false (Some n) no_index m q p); is = refl; whole = refl; more = refl }
+heads_run {s = s} (of_element {trap = true} {n = n} {m = m} {p = p} {q = q} {r = r} {u = u} {e = e} o i) =
+    let row1 : Row = begin ▹ word o (mark backslash) ▹ word p (name n) in
+    let row2 : Row = row1 ▹ word u (mark left_bracket) in
+    let row3 : Row = row2 ▹ upto e right_bracket in
+    let row4 : Row = row3 ▹ word r (mark dot) in
+    record {
+      sh = headed (calls true (Some n) (index e) m q p);
+      is = fed_on s row4 (word q (name m)) (stays (object_dot true p n (index e))) _ (fed_on s row3 (word r (mark dot)) (stays (trapped_element p n e)) _ (fed_on s row2 (upto e right_bracket) (opens (machine.trapped_index p n)) _ (fed_on s row1 (word u (mark left_bracket)) (stays (trapped_name p n)) _ refl (only (allows_index s) _ i)) refl) refl) refl;
+      whole = refl;
+      more = refl;
+    }
+heads_run {s = s} (of_element {trap = false} {n = n} {m = m} {p = p} {q = q} {r = r} {u = u} {e = e} o i) =
+    let row1 : Row = begin ▹ word p (name n) in
+    let row2 : Row = row1 ▹ word u (mark left_bracket) in
+    let row3 : Row = row2 ▹ upto e right_bracket in
+    let row4 : Row = row3 ▹ word r (mark dot) in
+    record {
+      sh = headed (calls false (Some n) (index e) m q p);
+      is = fed_on s row4 (word q (name m)) (stays (object_dot false p n (index e))) _ (fed_on s row3 (word r (mark dot)) (stays (indexed_name p n e)) _ (fed_on s row2 (upto e right_bracket) (opens (name_index reading true p n)) _ (fed_on s row1 (word u (mark left_bracket)) (stays (machine.named reading true p n)) _ refl (only (allows_index s) _ i)) refl) refl) refl;
+      whole = refl;
+      more = refl;
+    }
+heads_run (of_built_in {k = k} {p = p}) = record { sh = headed (built k p); is = refl; whole = refl; more = refl }
+
+arguments_run : (s : Setting) {before row : Row} {es : Trees} → Arguments before es row → (h : Head) → run s before ≡ Some (opens (argument_of h no_trees)) → run s row ≡ Some (opens (argument_of h es))
+arguments_run s no_arguments h e = e
+arguments_run s (argument {es = es} {e = x} {row = row} a) h e = fed_on s row (upto x comma) (opens (argument_of h es)) _ (arguments_run s a h e) refl
+
+choices_run : (s : Setting) {before row : Row} {xs : Items} → Choices before xs row → (p : Place) (k : ℕ) (x : Tree) → run s before ≡ Some (opens (choice_of p k x no_items)) → run s row ≡ Some (opens (choice_of p k x xs))
+choices_run s no_choices p k x h = h
+choices_run s (value_choice {xs = xs} {e = e} {row = row} c) p k x h = fed_on s row (upto e comma) (opens (choice_of p k x xs)) _ (choices_run s c p k x h) refl
+choices_run s (range_choice {xs = xs} {low = low} {high = high} {row = row} c) p k x h =
+    fed_on s (row ▹ upto low dot_dot) (upto high comma) (opens (choice_to p k x xs low)) _ (fed_on s row (upto low dot_dot) (opens (choice_of p k x xs)) _ (choices_run s c p k x h) refl) refl
+
+-- a form that has been read
+pub record FormRead (s : Setting) (e : Tree) (row : Row) : Type 0 where
+  pub sh : Shape
+  pub is : run s row ≡ Some (stays sh)
+  pub whole : tree sh ≡ Some e
+
+only_here : (s : Setting) (n : Next) → IsTrue (is_dat s) → (if is_dat s then Some n else None) ≡ Some n
+only_here s n h = go (is_dat s) h
+  where
+    go : (b : Bool) → IsTrue b → (if b then Some n else None) ≡ Some n
+    go true h = refl
+    go false h = absurd cc
+
+pub written_target : (x : Access) (v : Variable) (sh : Shape) → IsTrue (is_written x) → target sh ≡ if_reading reading (is_written x) v → target sh ≡ Some v
+written_target x v sh w h = h ∙ go (is_written x) w
+  where
+    go : (b : Bool) → IsTrue b → if_reading reading b v ≡ Some v
+    go true w = refl
+    go false w = absurd cc
+
+-- a change after a whole variable
+pub changes_after : (s : Setting) (sh : Shape) (p : Place) (b a : ℕ) (v : Variable) → target sh ≡ Some v → grow s sh p (changes b a) ≡ Some (stays (done (node p (Change v a))))
+changes_after s (using u) p b a v h = absurd cc
+changes_after s sh p b a v h = ap (λ o. changed o p a) h
+
+pub forms_run : {s : Setting} {e : Tree} {row : Row} → Forms s e row → FormRead s e row
+forms_run (a_number {n = n} {p = p}) = record { sh = done (node p (Number n)); is = refl; whole = refl }
+forms_run (a_character {c = c} {p = p}) = record { sh = done (node p (Number c)); is = refl; whole = refl }
+forms_run {s = s} (the_place {p = p} d) = record { sh = done (node p Here); is = only_here s _ d; whole = refl }
+forms_run (parentheses {e = e}) = record { sh = done e; is = refl; whole = refl }
+forms_run (variable {x = x} {v = v} w) = let r = variables_run w reading refl refl in record { sh = r.sh; is = r.is; whole = r.whole }
+forms_run {s = s} (changed_before {x = x} {v = v} {p = p} {b = b} {a = a} w y) = let r = variables_run y (changing p b) w refl in record { sh = r.sh; is = r.is; whole = r.whole }
+forms_run {s = s} (changed_after {x = x} {v = v} {p = p} {b = b} {a = a} {row = row} w y) =
+    let r = variables_run y reading refl refl in
+    record { sh = done (node p (Change v a)); is = fed_on s row (word p (changes b a)) (stays r.sh) _ r.is (changes_after s r.sh p b a v (written_target x v r.sh w r.written)); whole = refl }
+forms_run (address_of {v = v} {p = p} y) = let r = variables_run y (addressing p) refl refl in record { sh = r.sh; is = r.is; whole = r.whole }
+forms_run {s = s} (plain_call {n = n} {p = p} {q = q} {es = es} {e = e} {row = row} a) =
+    record {
+      sh = done (node p (Call false None no_index n p (es ▷ e)));
+      is = fed_on s row (upto e right_parenthesis) (opens (argument_of (calls false None no_index n p p) es)) _ (arguments_run s a (calls false None no_index n p p) refl) refl;
+      whole = refl;
+    }
+forms_run (bare_call h) = let r = heads_run h in record { sh = r.sh; is = r.is; whole = r.whole }
+forms_run {s = s} (full_call {h = h} {q = q} {es = es} {e = e} {row = row} {row' = row'} y a) =
+    let r = heads_run y in
+    record {
+      sh = done (applied h (es ▷ e));
+      is = fed_on s row' (upto e right_parenthesis) (opens (argument_of h es)) _ (arguments_run s a h (fed_on s row (word q (mark left_parenthesis)) (stays r.sh) _ r.is r.more)) refl;
+      whole = refl;
+    }
+forms_run (object_constant {n = n} {m = m} {p = p} {q = q}) = record { sh = done (node p (ObjConst n m q)); is = refl; whole = refl }
+forms_run (a_value {k = k} {p = p}) = record { sh = done (node p (Built k no_trees)); is = refl; whole = refl }
+forms_run (a_string {c = c} {t = t} {p = p}) = record { sh = done (node p (Str (c ∷ t))); is = refl; whole = refl }
+forms_run (a_constant {p = p} {e = e}) = record { sh = done (node p (Built 0 (no_trees ▷ e))); is = refl; whole = refl }
+forms_run {s = s} (look_value {k = k} {p = p} {x = x} {e = e} {xs = xs} {row = row} c) =
+    record { sh = done (node p (Look k x (xs ▸ single e))); is = fed_on s row (upto e right_parenthesis) (opens (choice_of p k x xs)) _ (choices_run s c p k x refl) refl; whole = refl }
+forms_run {s = s} (look_range {k = k} {p = p} {x = x} {low = low} {high = high} {xs = xs} {row = row} c) =
+    record { sh = done (node p (Look k x (xs ▸ range low high))); is = fed_on s (row ▹ upto low dot_dot) (upto high right_parenthesis) (opens (choice_to p k x xs low)) _ (fed_on s row (upto low dot_dot) (opens (choice_of p k x xs)) _ (choices_run s c p k x refl) refl) refl; whole = refl }

@@ -1,0 +1,346 @@
+-- What the reader keeps of a form stands for a row of the grammar.
+use Rattle.std.proofs.Common.{◌≡◌, ℕ, List, [], ◌∷◌, Option, Some, None, Bool, true, false, refl, subst}
+use Rattle.std.specs.Prelude.{IsTrue, if◌then◌else◌, ◌&&◌}
+use Rattle.p8_tree.specs.declared.places.Place.{Place}
+use Rattle.p8_tree.specs.Expressions.{Tree, node, Number, Here, Built, Variable, Index, Trees, no_trees, ◌▷◌, Items}
+use Rattle.p8_grammar.specs.Lexemes.{Setting, allows_index, is_dat, Access, memory, pins, input_pins, input, assembly, is_written, has_bits, is_in, Mark, left_parenthesis, right_parenthesis, left_bracket, right_bracket, comma, colon, dot, dot_dot, hash, backslash, Lexeme, number, name, method_result, string, mark, prefix_word, infix_word, sign, assigns, changes, address, object_address, size, register, here, string_word, constant_word, look, value, built_in, other}
+use Rattle.p8_grammar.specs.Grammar.{word, upto, Row, begin, ◌▹◌, Names, plain_name, result_word, local_label, Variables, named, indexed, part, part_indexed, memory_at, memory_indexed, register_whole, register_bit, register_bits, Head, calls, built, applied, Heads, trapped, of_object, of_element, of_built_in, Arguments, no_arguments, argument, Choices, no_choices, value_choice, range_choice, Forms, a_number, a_character, the_place, parentheses, variable, changed_before, changed_after, address_of, plain_call, bare_call, full_call, object_constant, a_value, a_string, a_constant, look_value, look_range}
+use Rattle.p8_grammar.specs.Machine as machine
+use Rattle.p8_grammar.specs.Machine.{Use, reading, addressing, changing, used, takes, Shape, using, coloned, sized, indexed_name, dotted, parted, memory_word, register_word, ready, trapping, trapped_name, trapped_element, object_dot, headed, hashed, string_begun, string_opened, string_read, constant_begun, look_begun, done, Hole, parenthesis, name_index, part_index, memory_address, memory_index, first_bit, last_bit, trapped_index, argument_of, constant_of, look_for, choice_of, choice_to, Next, stays, opens, only_if, tree, if_reading, target, at_fresh, begins, on_name, on_result, on_character, on_text, on_string, on_size, on_register, changed, on_change, on_parenthesis, on_bracket, on_dot, on_hash, on_colon, on_close, on_mark, grow, at_right_bracket, at_right_parenthesis, at_comma, at_colon, at_range, close}
+
+-- what stands before a variable
+pub data UseRow : Use → Row → Type 0 where
+  at_reading : UseRow reading begin
+  at_address : {p : Place} → UseRow (addressing p) (begin ▹ word p address)
+  at_change : {p : Place} {b a : ℕ} → UseRow (changing p b) (begin ▹ word p (changes b a))
+
+pub data ShapeStands (s : Setting) : Shape → Row → Type 0 where
+  is_using : {u : Use} {before : Row} → UseRow u before → ShapeStands s (using u) before
+  is_coloned : {u : Use} {before : Row} {p : Place} → UseRow u before → IsTrue (is_dat s) → ShapeStands s (coloned u p) (before ▹ word p (mark colon))
+  is_sized : {u : Use} {before : Row} {p : Place} {z : ℕ} → UseRow u before → IsTrue (allows_index s) → ShapeStands s (sized u p z) (before ▹ word p (size z))
+  is_plain : {u : Use} {before : Row} {p : Place} {n : List ℕ} → UseRow u before → ShapeStands s (machine.named u true p n) (before ▹ word p (name n))
+  is_named : {u : Use} {before row : Row} {p : Place} {n : List ℕ} → UseRow u before → Names s before n p row → ShapeStands s (machine.named u false p n) row
+  is_element : {p q : Place} {n : List ℕ} {e : Tree} → IsTrue (allows_index s) → ShapeStands s (indexed_name p n e) (begin ▹ word p (name n) ▹ word q (mark left_bracket) ▹ upto e right_bracket)
+  is_plain_dot : {u : Use} {before : Row} {p q : Place} {n : List ℕ} → UseRow u before → ShapeStands s (dotted u true p n) (before ▹ word p (name n) ▹ word q (mark dot))
+  is_dotted : {u : Use} {before row : Row} {p q : Place} {n : List ℕ} → UseRow u before → Names s before n p row → ShapeStands s (dotted u false p n) (row ▹ word q (mark dot))
+  is_parted : {u : Use} {before row : Row} {p q r : Place} {n : List ℕ} {z : ℕ} → UseRow u before → Names s before n p row → ShapeStands s (parted u p n z) (row ▹ word q (mark dot) ▹ word r (size z))
+  is_memory : {u : Use} {before : Row} {p q : Place} {z : ℕ} {e : Tree} → UseRow u before → IsTrue (allows_index s) → ShapeStands s (memory_word u p z e) (before ▹ word p (size z) ▹ word q (mark left_bracket) ▹ upto e right_bracket)
+  is_register : {u : Use} {before : Row} {p : Place} {a : ℕ} {x : Access} → UseRow u before → IsTrue (is_in s x) → IsTrue (takes u x) → ShapeStands s (register_word u p a x) (before ▹ word p (register a x))
+  is_ready : {u : Use} {before row : Row} {v : Variable} {x : Access} → UseRow u before → IsTrue (takes u x) → Variables s before x v row → ShapeStands s (ready u v x) row
+  is_trapping : {o : Place} → ShapeStands s trapping (begin ▹ word o (mark backslash))
+  is_trapped_name : {o p : Place} {n : List ℕ} → ShapeStands s (trapped_name p n) (begin ▹ word o (mark backslash) ▹ word p (name n))
+  is_trapped_element : {o p q : Place} {n : List ℕ} {e : Tree} → IsTrue (allows_index s) → ShapeStands s (trapped_element p n e) (begin ▹ word o (mark backslash) ▹ word p (name n) ▹ word q (mark left_bracket) ▹ upto e right_bracket)
+  is_object_dot : {t : Bool} {p : Place} {n : List ℕ} {i : Index} {row : Row} → ((m : List ℕ) (q : Place) → Heads s (calls t (Some n) i m q p) (row ▹ word q (name m))) → ShapeStands s (object_dot t p n i) row
+  is_headed : {h : Head} {row : Row} → Heads s h row → ShapeStands s (headed h) row
+  is_hashed : {p r : Place} {n : List ℕ} → ShapeStands s (hashed p n) (begin ▹ word p (name n) ▹ word r (mark hash))
+  is_string_begun : {p : Place} → ShapeStands s (string_begun p) (begin ▹ word p string_word)
+  is_string_opened : {p q : Place} → ShapeStands s (string_opened p) (begin ▹ word p string_word ▹ word q (mark left_parenthesis))
+  is_string_read : {p q r : Place} {c : ℕ} {t : List ℕ} → ShapeStands s (string_read p (c ∷ t)) (begin ▹ word p string_word ▹ word q (mark left_parenthesis) ▹ word r (string (c ∷ t)))
+  is_constant_begun : {p : Place} → ShapeStands s (constant_begun p) (begin ▹ word p constant_word)
+  is_look_begun : {p : Place} {k : ℕ} → ShapeStands s (look_begun p k) (begin ▹ word p (look k))
+  is_done : {e : Tree} {row : Row} → Forms s e row → ShapeStands s (done e) row
+
+pub data HoleStands (s : Setting) : Hole → Row → Type 0 where
+  is_parenthesis : {q : Place} → HoleStands s parenthesis (begin ▹ word q (mark left_parenthesis))
+  is_plain_index : {u : Use} {before : Row} {p q : Place} {n : List ℕ} → UseRow u before → IsTrue (allows_index s) → HoleStands s (name_index u true p n) (before ▹ word p (name n) ▹ word q (mark left_bracket))
+  is_name_index : {u : Use} {before row : Row} {p q : Place} {n : List ℕ} → UseRow u before → IsTrue (allows_index s) → Names s before n p row → HoleStands s (name_index u false p n) (row ▹ word q (mark left_bracket))
+  is_part_index : {u : Use} {before row : Row} {p q r o : Place} {n : List ℕ} {z : ℕ} → UseRow u before → IsTrue (allows_index s) → Names s before n p row → HoleStands s (part_index u p n z) (row ▹ word q (mark dot) ▹ word r (size z) ▹ word o (mark left_bracket))
+  is_memory_address : {u : Use} {before : Row} {p q : Place} {z : ℕ} → UseRow u before → IsTrue (allows_index s) → HoleStands s (memory_address u p z) (before ▹ word p (size z) ▹ word q (mark left_bracket))
+  is_memory_index : {u : Use} {before : Row} {p q r : Place} {z : ℕ} {e : Tree} → UseRow u before → IsTrue (allows_index s) → HoleStands s (memory_index u p z e) (before ▹ word p (size z) ▹ word q (mark left_bracket) ▹ upto e right_bracket ▹ word r (mark left_bracket))
+  is_first_bit : {u : Use} {before : Row} {p q : Place} {a : ℕ} {x : Access} → UseRow u before → IsTrue (allows_index s) → IsTrue (is_in s x) → IsTrue (has_bits x) → IsTrue (takes u x) → HoleStands s (first_bit u p a x) (before ▹ word p (register a x) ▹ word q (mark left_bracket))
+  is_last_bit : {u : Use} {before : Row} {p q : Place} {a : ℕ} {x : Access} {low : Tree} → UseRow u before → IsTrue (allows_index s) → IsTrue (is_in s x) → IsTrue (has_bits x) → IsTrue (takes u x) → HoleStands s (last_bit u p a x low) (before ▹ word p (register a x) ▹ word q (mark left_bracket) ▹ upto low dot_dot)
+  is_trapped_index : {o p q : Place} {n : List ℕ} → IsTrue (allows_index s) → HoleStands s (trapped_index p n) (begin ▹ word o (mark backslash) ▹ word p (name n) ▹ word q (mark left_bracket))
+  is_argument : {h : Head} {es : Trees} {before row : Row} → ((es : Trees) (e : Tree) (row : Row) → Arguments before es row → Forms s (applied h (es ▷ e)) (row ▹ upto e right_parenthesis)) → Arguments before es row → HoleStands s (argument_of h es) row
+  is_constant : {p q : Place} → HoleStands s (constant_of p) (begin ▹ word p constant_word ▹ word q (mark left_parenthesis))
+  is_look_for : {p q : Place} {k : ℕ} → HoleStands s (look_for p k) (begin ▹ word p (look k) ▹ word q (mark left_parenthesis))
+  is_choice : {p q : Place} {k : ℕ} {x : Tree} {xs : Items} {row : Row} → Choices (begin ▹ word p (look k) ▹ word q (mark left_parenthesis) ▹ upto x colon) xs row → HoleStands s (choice_of p k x xs) row
+  is_choice_to : {p q : Place} {k : ℕ} {x low : Tree} {xs : Items} {row : Row} → Choices (begin ▹ word p (look k) ▹ word q (mark left_parenthesis) ▹ upto x colon) xs row → HoleStands s (choice_to p k x xs low) (row ▹ upto low dot_dot)
+
+abbrev pub NextStands : Setting → Next → Row → Type 0
+NextStands s (stays sh) row = ShapeStands s sh row
+NextStands s (opens h) row = HoleStands s h row
+
+landed : (s : Setting) (row : Row) (n n' : Next) → Some n ≡ Some n' → NextStands s n row → NextStands s n' row
+landed s row n n' h st = subst (λ n. NextStands s n row) (same n n' h) st
+  where
+    same : (n n' : Next) → Some n ≡ Some n' → n ≡ n'
+    same n n' h = cc
+
+-- what follows where a test lets a form go on
+allowed : (s : Setting) (row : Row) (b : Bool) (n n' : Next) → only_if b n ≡ Some n' → (IsTrue b → NextStands s n row) → NextStands s n' row
+allowed s row true n n' h st = landed s row n n' h (st refl)
+allowed s row false n n' h st = absurd cc
+
+first_of_both : (a b : Bool) → IsTrue (a && b) → IsTrue a
+first_of_both true b h = refl
+first_of_both false b h = absurd cc
+
+second_of_both : (a b : Bool) → IsTrue (a && b) → IsTrue b
+second_of_both true b h = h
+second_of_both false b h = absurd cc
+
+-- the form of a variable in its use
+use_form : {s : Setting} {u : Use} {before row : Row} {x : Access} {v : Variable} → UseRow u before → IsTrue (takes u x) → Variables s before x v row → Forms s (used u v) row
+use_form at_reading t v = variable v
+use_form at_change t v = changed_before t v
+use_form {x = memory} at_address t v = address_of v
+use_form {x = pins} at_address t v = absurd cc
+use_form {x = input_pins} at_address t v = absurd cc
+use_form {x = input} at_address t v = absurd cc
+use_form {x = assembly} at_address t v = absurd cc
+
+takes_memory : {u : Use} {before : Row} → UseRow u before → IsTrue (takes u memory)
+takes_memory at_reading = refl
+takes_memory at_address = refl
+takes_memory at_change = refl
+
+same_tree : {x y : Tree} → Some x ≡ Some y → x ≡ y
+same_tree h = cc
+
+is_tree : (s : Setting) (row : Row) (x y : Tree) → Some x ≡ Some y → Forms s x row → Forms s y row
+is_tree s row x y h f = subst (λ e. Forms s e row) (same_tree h) f
+
+-- a whole form
+pub tree_stands : {s : Setting} {sh : Shape} {row : Row} → ShapeStands s sh row → (e : Tree) → tree sh ≡ Some e → Forms s e row
+tree_stands (is_plain u) e h = is_tree _ _ _ _ h (use_form u (takes_memory u) (named plain_name))
+tree_stands (is_named u n) e h = is_tree _ _ _ _ h (use_form u (takes_memory u) (named n))
+tree_stands (is_element i) e h = is_tree _ _ _ _ h (variable (indexed i plain_name))
+tree_stands (is_parted u n) e h = is_tree _ _ _ _ h (use_form u (takes_memory u) (part n))
+tree_stands (is_memory u i) e h = is_tree _ _ _ _ h (use_form u (takes_memory u) (memory_at i))
+tree_stands (is_register u i t) e h = is_tree _ _ _ _ h (use_form u t (register_whole i))
+tree_stands (is_ready u t v) e h = is_tree _ _ _ _ h (use_form u t v)
+tree_stands (is_trapped_name {o = o}) e h = is_tree _ _ _ _ h (bare_call (trapped o))
+tree_stands (is_headed y) e h = is_tree _ _ _ _ h (bare_call y)
+tree_stands (is_done f) e h = is_tree _ _ _ _ h f
+tree_stands st e h = absurd cc
+
+-- a variable that may be written
+pub record Written (s : Setting) (v : Variable) (row : Row) : Type 0 where
+  pub x : Access
+  pub written : IsTrue (is_written x)
+  pub variable : Variables s begin x v row
+
+read_variable : {s : Setting} {u : Use} {before row : Row} {v v' : Variable} → UseRow u before → (x : Access) → if_reading u (is_written x) v ≡ Some v' → Variables s before x v row → Written s v' row
+read_variable at_address x h v = absurd cc
+read_variable at_change x h v = absurd cc
+read_variable {s = s} {row = row} {v = w} {v' = w'} at_reading x h v = go (is_written x) refl h
+  where
+    same : Some w ≡ Some w' → w ≡ w'
+    same h = cc
+
+    go : (b : Bool) → is_written x ≡ b → (if b then Some w else None) ≡ Some w' → Written s w' row
+    go true e h = record { x = x; written = e; variable = subst (λ v. Variables s begin x v row) (same h) v }
+    go false e h = absurd cc
+
+pub target_stands : {s : Setting} {sh : Shape} {row : Row} → ShapeStands s sh row → (v : Variable) → target sh ≡ Some v → Written s v row
+target_stands (is_plain u) v h = read_variable u memory h (named plain_name)
+target_stands (is_named u n) v h = read_variable u memory h (named n)
+target_stands (is_element i) v h = read_variable at_reading memory h (indexed i plain_name)
+target_stands (is_parted u n) v h = read_variable u memory h (part n)
+target_stands (is_memory u i) v h = read_variable u memory h (memory_at i)
+target_stands (is_register {x = x} u i t) v h = read_variable u x h (register_whole i)
+target_stands (is_ready {x = x} u t w) v h = read_variable u x h w
+target_stands st v h = absurd cc
+
+begins_stands : {s : Setting} {sh : Shape} {row : Row} → ShapeStands s sh row → (x : Lexeme) (p : Place) (n n' : Next) → begins sh n ≡ Some n' → NextStands s n (begin ▹ word p x) → NextStands s n' (row ▹ word p x)
+begins_stands {s = s} (is_using at_reading) x p n n' h st = landed s (begin ▹ word p x) n n' h st
+begins_stands (is_using at_address) x p n n' h st = absurd cc
+begins_stands (is_using at_change) x p n n' h st = absurd cc
+begins_stands t x p n n' h st = absurd cc
+
+name_stands : {s : Setting} {sh : Shape} {row : Row} → ShapeStands s sh row → (p : Place) (n : List ℕ) (n' : Next) → on_name p n sh ≡ Some n' → NextStands s n' (row ▹ word p (name n))
+name_stands (is_using u) p n n' h = landed _ _ _ _ h (is_plain u)
+name_stands (is_coloned u d) p n n' h = landed _ _ _ _ h (is_named u (local_label d))
+name_stands (is_plain_dot {p = q} at_reading) p n n' h = landed _ _ _ _ h (is_headed (of_object {trap = false} q))
+name_stands (is_plain_dot at_address) p n n' h = absurd cc
+name_stands (is_plain_dot at_change) p n n' h = absurd cc
+name_stands (is_dotted at_reading y) p n n' h = absurd cc
+name_stands (is_dotted at_address y) p n n' h = absurd cc
+name_stands (is_dotted at_change y) p n n' h = absurd cc
+name_stands (is_object_dot f) p n n' h = landed _ _ _ _ h (is_headed (f n p))
+name_stands is_trapping p n n' h = landed _ _ _ _ h is_trapped_name
+name_stands is_hashed p n n' h = landed _ _ _ _ h (is_done object_constant)
+name_stands st p n n' h = absurd cc
+
+result_stands : {s : Setting} {sh : Shape} {row : Row} → ShapeStands s sh row → (p : Place) (n' : Next) → on_result p sh ≡ Some n' → NextStands s n' (row ▹ word p method_result)
+result_stands (is_using u) p n' h = landed _ _ _ _ h (is_named u result_word)
+result_stands st p n' h = absurd cc
+
+string_stands : {s : Setting} {sh : Shape} {row : Row} → ShapeStands s sh row → (p : Place) (t : List ℕ) (n' : Next) → on_string p t sh ≡ Some n' → NextStands s n' (row ▹ word p (string t))
+string_stands (is_using at_reading) p (c ∷ []) n' h = landed _ _ _ _ h (is_done a_character)
+string_stands (is_using at_reading) p [] n' h = absurd cc
+string_stands (is_using at_reading) p (c ∷ d ∷ t) n' h = absurd cc
+string_stands (is_using at_address) p (c ∷ []) n' h = absurd cc
+string_stands (is_using at_address) p [] n' h = absurd cc
+string_stands (is_using at_address) p (c ∷ d ∷ t) n' h = absurd cc
+string_stands (is_using at_change) p (c ∷ []) n' h = absurd cc
+string_stands (is_using at_change) p [] n' h = absurd cc
+string_stands (is_using at_change) p (c ∷ d ∷ t) n' h = absurd cc
+string_stands is_string_opened p [] n' h = absurd cc
+string_stands is_string_opened p (c ∷ t) n' h = landed _ _ _ _ h is_string_read
+string_stands st p t n' h = absurd cc
+
+size_stands : {s : Setting} {sh : Shape} {row : Row} → ShapeStands s sh row → (p : Place) (z : ℕ) (n' : Next) → on_size s p z sh ≡ Some n' → NextStands s n' (row ▹ word p (size z))
+size_stands (is_using u) p z n' h = allowed _ _ _ _ _ h (λ b. is_sized u b)
+size_stands (is_plain_dot u) p z n' h = landed _ _ _ _ h (is_parted u plain_name)
+size_stands (is_dotted u y) p z n' h = landed _ _ _ _ h (is_parted u y)
+size_stands st p z n' h = absurd cc
+
+register_stands : {s : Setting} {sh : Shape} {row : Row} → ShapeStands s sh row → (p : Place) (a : ℕ) (x : Access) (n' : Next) → on_register s p a x sh ≡ Some n' → NextStands s n' (row ▹ word p (register a x))
+register_stands {s = s} (is_using {u = u'} u) p a x n' h = allowed _ _ _ _ _ h (λ b. is_register u (first_of_both (is_in s x) (takes u' x) b) (second_of_both (is_in s x) (takes u' x) b))
+register_stands st p a x n' h = absurd cc
+
+changed_stands : {s : Setting} {sh : Shape} {row : Row} → ShapeStands s sh row → (p : Place) (b a : ℕ) (n' : Next) → changed (target sh) p a ≡ Some n' → NextStands s n' (row ▹ word p (changes b a))
+changed_stands {s = s} {sh = sh} {row = row} st p b a n' h = go (target sh) refl h
+  where
+    go : (o : Option Variable) → target sh ≡ o → changed o p a ≡ Some n' → NextStands s n' (row ▹ word p (changes b a))
+    go None e h = absurd cc
+    go (Some v) e h = let w = target_stands st v e in landed s (row ▹ word p (changes b a)) _ _ h (is_done (changed_after w.written w.variable))
+
+change_stands : {s : Setting} {sh : Shape} {row : Row} → ShapeStands s sh row → (p : Place) (b a : ℕ) (n' : Next) → on_change p b a sh ≡ Some n' → NextStands s n' (row ▹ word p (changes b a))
+change_stands (is_using at_reading) p b a n' h = landed _ _ _ _ h (is_using at_change)
+change_stands (is_using at_address) p b a n' h = absurd cc
+change_stands (is_using at_change) p b a n' h = absurd cc
+change_stands st p b a n' h = changed_stands st p b a n' h
+
+parenthesis_stands : {s : Setting} {sh : Shape} {row : Row} → ShapeStands s sh row → (p : Place) (n' : Next) → on_parenthesis sh ≡ Some n' → NextStands s n' (row ▹ word p (mark left_parenthesis))
+parenthesis_stands (is_using at_reading) p n' h = landed _ _ _ _ h is_parenthesis
+parenthesis_stands (is_using at_address) p n' h = absurd cc
+parenthesis_stands (is_using at_change) p n' h = absurd cc
+parenthesis_stands (is_plain at_reading) p n' h = landed _ _ _ _ h (is_argument (λ es e row a. plain_call a) no_arguments)
+parenthesis_stands (is_plain at_address) p n' h = absurd cc
+parenthesis_stands (is_plain at_change) p n' h = absurd cc
+parenthesis_stands (is_named at_reading y) p n' h = absurd cc
+parenthesis_stands (is_named at_address y) p n' h = absurd cc
+parenthesis_stands (is_named at_change y) p n' h = absurd cc
+parenthesis_stands (is_trapped_name {o = o}) p n' h = landed _ _ _ _ h (is_argument (λ es e row a. full_call (trapped o) a) no_arguments)
+parenthesis_stands (is_headed y) p n' h = landed _ _ _ _ h (is_argument (λ es e row a. full_call y a) no_arguments)
+parenthesis_stands is_string_begun p n' h = landed _ _ _ _ h is_string_opened
+parenthesis_stands is_constant_begun p n' h = landed _ _ _ _ h is_constant
+parenthesis_stands is_look_begun p n' h = landed _ _ _ _ h is_look_for
+parenthesis_stands st p n' h = absurd cc
+
+bracket_stands : {s : Setting} {sh : Shape} {row : Row} → ShapeStands s sh row → (p : Place) (n' : Next) → on_bracket s sh ≡ Some n' → NextStands s n' (row ▹ word p (mark left_bracket))
+bracket_stands (is_plain u) p n' h = allowed _ _ _ _ _ h (λ b. is_plain_index u b)
+bracket_stands (is_named u y) p n' h = allowed _ _ _ _ _ h (λ b. is_name_index u b y)
+bracket_stands (is_parted u y) p n' h = allowed _ _ _ _ _ h (λ b. is_part_index u b y)
+bracket_stands (is_sized u i) p n' h = allowed _ _ _ _ _ h (λ b. is_memory_address u b)
+bracket_stands (is_memory u i) p n' h = allowed _ _ _ _ _ h (λ b. is_memory_index u b)
+bracket_stands {s = s} (is_register {x = x} u i t) p n' h = allowed _ _ _ _ _ h (λ b. is_first_bit u (first_of_both (allows_index s) (has_bits x) b) i (second_of_both (allows_index s) (has_bits x) b) t)
+bracket_stands is_trapped_name p n' h = allowed _ _ _ _ _ h (λ b. is_trapped_index b)
+bracket_stands st p n' h = absurd cc
+
+dot_stands : {s : Setting} {sh : Shape} {row : Row} → ShapeStands s sh row → (p : Place) (n' : Next) → on_dot sh ≡ Some n' → NextStands s n' (row ▹ word p (mark dot))
+dot_stands (is_plain u) p n' h = landed _ _ _ _ h (is_plain_dot u)
+dot_stands (is_named u y) p n' h = landed _ _ _ _ h (is_dotted u y)
+dot_stands (is_element i) p n' h = landed _ _ _ _ h (is_object_dot (λ m q. of_element {trap = false} p i))
+dot_stands (is_trapped_name {o = o}) p n' h = landed _ _ _ _ h (is_object_dot (λ m q. of_object {trap = true} o))
+dot_stands (is_trapped_element {o = o} i) p n' h = landed _ _ _ _ h (is_object_dot (λ m q. of_element {trap = true} o i))
+dot_stands st p n' h = absurd cc
+
+hash_stands : {s : Setting} {sh : Shape} {row : Row} → ShapeStands s sh row → (p : Place) (n' : Next) → on_hash sh ≡ Some n' → NextStands s n' (row ▹ word p (mark hash))
+hash_stands (is_plain at_reading) p n' h = landed _ _ _ _ h is_hashed
+hash_stands (is_plain at_address) p n' h = absurd cc
+hash_stands (is_plain at_change) p n' h = absurd cc
+hash_stands (is_named at_reading y) p n' h = absurd cc
+hash_stands (is_named at_address y) p n' h = absurd cc
+hash_stands (is_named at_change y) p n' h = absurd cc
+hash_stands st p n' h = absurd cc
+
+colon_stands : {s : Setting} {sh : Shape} {row : Row} → ShapeStands s sh row → (p : Place) (n' : Next) → on_colon s p sh ≡ Some n' → NextStands s n' (row ▹ word p (mark colon))
+colon_stands (is_using u) p n' h = allowed _ _ _ _ _ h (λ b. is_coloned u b)
+colon_stands st p n' h = absurd cc
+
+close_word_stands : {s : Setting} {sh : Shape} {row : Row} → ShapeStands s sh row → (p : Place) (n' : Next) → on_close sh ≡ Some n' → NextStands s n' (row ▹ word p (mark right_parenthesis))
+close_word_stands is_string_read p n' h = landed _ _ _ _ h (is_done a_string)
+close_word_stands st p n' h = absurd cc
+
+mark_stands : {s : Setting} {sh : Shape} {row : Row} → ShapeStands s sh row → (p : Place) (m : Mark) (n' : Next) → on_mark s p m sh ≡ Some n' → NextStands s n' (row ▹ word p (mark m))
+mark_stands st p left_parenthesis n' h = parenthesis_stands st p n' h
+mark_stands st p right_parenthesis n' h = close_word_stands st p n' h
+mark_stands st p left_bracket n' h = bracket_stands st p n' h
+mark_stands st p right_bracket n' h = absurd cc
+mark_stands st p comma n' h = absurd cc
+mark_stands st p colon n' h = colon_stands st p n' h
+mark_stands st p dot n' h = dot_stands st p n' h
+mark_stands st p dot_dot n' h = absurd cc
+mark_stands st p hash n' h = hash_stands st p n' h
+mark_stands st p backslash n' h = begins_stands st (mark backslash) p (stays trapping) n' h is_trapping
+
+here_stands : {s : Setting} {sh : Shape} {row : Row} → ShapeStands s sh row → (p : Place) (n' : Next) → (if is_dat s then begins sh (stays (done (node p Here))) else None) ≡ Some n' → NextStands s n' (row ▹ word p here)
+here_stands {s = s} {sh = sh} {row = row} st p n' h = go (is_dat s) refl h
+  where
+    go : (b : Bool) → is_dat s ≡ b → (if b then begins sh (stays (done (node p Here))) else None) ≡ Some n' → NextStands s n' (row ▹ word p here)
+    go true e h = begins_stands st here p (stays (done (node p Here))) n' h (is_done (the_place e))
+    go false e h = absurd cc
+
+-- one word more
+pub grow_stands : {s : Setting} {sh : Shape} {row : Row} → ShapeStands s sh row → (p : Place) (x : Lexeme) (n' : Next) → grow s sh p x ≡ Some n' → NextStands s n' (row ▹ word p x)
+grow_stands st p (number n) n' h = begins_stands st (number n) p (stays (done (node p (Number n)))) n' h (is_done a_number)
+grow_stands st p (name n) n' h = name_stands st p n n' h
+grow_stands st p method_result n' h = result_stands st p n' h
+grow_stands st p (string t) n' h = string_stands st p t n' h
+grow_stands st p (mark m) n' h = mark_stands st p m n' h
+grow_stands st p (prefix_word r k) n' h = absurd cc
+grow_stands st p (infix_word r k) n' h = absurd cc
+grow_stands st p (sign k j) n' h = absurd cc
+grow_stands st p (assigns o) n' h = absurd cc
+grow_stands st p (changes b a) n' h = change_stands st p b a n' h
+grow_stands st p address n' h = begins_stands st address p (stays (using (addressing p))) n' h (is_using at_address)
+grow_stands st p object_address n' h = absurd cc
+grow_stands st p (size z) n' h = size_stands st p z n' h
+grow_stands st p (register a x) n' h = register_stands st p a x n' h
+grow_stands st p here n' h = here_stands st p n' h
+grow_stands st p string_word n' h = begins_stands st string_word p (stays (string_begun p)) n' h is_string_begun
+grow_stands st p constant_word n' h = begins_stands st constant_word p (stays (constant_begun p)) n' h is_constant_begun
+grow_stands st p (look k) n' h = begins_stands st (look k) p (stays (look_begun p k)) n' h is_look_begun
+grow_stands st p (value k) n' h = begins_stands st (value k) p (stays (done (node p (Built k no_trees)))) n' h (is_done a_value)
+grow_stands st p (built_in k) n' h = begins_stands st (built_in k) p (stays (headed (built k p))) n' h (is_headed of_built_in)
+grow_stands st p other n' h = absurd cc
+
+right_bracket_stands : {s : Setting} {hole : Hole} {row : Row} → HoleStands s hole row → (e : Tree) (n' : Next) → at_right_bracket hole e ≡ Some n' → NextStands s n' (row ▹ upto e right_bracket)
+right_bracket_stands (is_plain_index at_reading i) e n' h = landed _ _ _ _ h (is_element i)
+right_bracket_stands (is_plain_index at_address i) e n' h = landed _ _ _ _ h (is_ready at_address refl (indexed i plain_name))
+right_bracket_stands (is_plain_index at_change i) e n' h = landed _ _ _ _ h (is_ready at_change refl (indexed i plain_name))
+right_bracket_stands (is_name_index at_reading i y) e n' h = landed _ _ _ _ h (is_ready at_reading refl (indexed i y))
+right_bracket_stands (is_name_index at_address i y) e n' h = landed _ _ _ _ h (is_ready at_address refl (indexed i y))
+right_bracket_stands (is_name_index at_change i y) e n' h = landed _ _ _ _ h (is_ready at_change refl (indexed i y))
+right_bracket_stands (is_part_index u i y) e n' h = landed _ _ _ _ h (is_ready u (takes_memory u) (part_indexed i y))
+right_bracket_stands (is_memory_address u i) e n' h = landed _ _ _ _ h (is_memory u i)
+right_bracket_stands (is_memory_index u i) e n' h = landed _ _ _ _ h (is_ready u (takes_memory u) (memory_indexed i))
+right_bracket_stands (is_first_bit u i y b t) e n' h = landed _ _ _ _ h (is_ready u t (register_bit i y b))
+right_bracket_stands (is_last_bit u i y b t) e n' h = landed _ _ _ _ h (is_ready u t (register_bits i y b))
+right_bracket_stands (is_trapped_index i) e n' h = landed _ _ _ _ h (is_trapped_element i)
+right_bracket_stands st e n' h = absurd cc
+
+right_parenthesis_stands : {s : Setting} {hole : Hole} {row : Row} → HoleStands s hole row → (e : Tree) (n' : Next) → at_right_parenthesis hole e ≡ Some n' → NextStands s n' (row ▹ upto e right_parenthesis)
+right_parenthesis_stands is_parenthesis e n' h = landed _ _ _ _ h (is_done parentheses)
+right_parenthesis_stands (is_argument f a) e n' h = landed _ _ _ _ h (is_done (f _ e _ a))
+right_parenthesis_stands is_constant e n' h = landed _ _ _ _ h (is_done a_constant)
+right_parenthesis_stands (is_choice c) e n' h = landed _ _ _ _ h (is_done (look_value c))
+right_parenthesis_stands (is_choice_to c) e n' h = landed _ _ _ _ h (is_done (look_range c))
+right_parenthesis_stands st e n' h = absurd cc
+
+comma_stands : {s : Setting} {hole : Hole} {row : Row} → HoleStands s hole row → (e : Tree) (n' : Next) → at_comma hole e ≡ Some n' → NextStands s n' (row ▹ upto e comma)
+comma_stands (is_argument f a) e n' h = landed _ _ _ _ h (is_argument f (argument a))
+comma_stands (is_choice c) e n' h = landed _ _ _ _ h (is_choice (value_choice c))
+comma_stands (is_choice_to c) e n' h = landed _ _ _ _ h (is_choice (range_choice c))
+comma_stands st e n' h = absurd cc
+
+at_colon_stands : {s : Setting} {hole : Hole} {row : Row} → HoleStands s hole row → (e : Tree) (n' : Next) → at_colon hole e ≡ Some n' → NextStands s n' (row ▹ upto e colon)
+at_colon_stands is_look_for e n' h = landed _ _ _ _ h (is_choice no_choices)
+at_colon_stands st e n' h = absurd cc
+
+range_stands : {s : Setting} {hole : Hole} {row : Row} → HoleStands s hole row → (e : Tree) (n' : Next) → at_range hole e ≡ Some n' → NextStands s n' (row ▹ upto e dot_dot)
+range_stands (is_first_bit u i y b t) e n' h = landed _ _ _ _ h (is_last_bit u i y b t)
+range_stands (is_choice c) e n' h = landed _ _ _ _ h (is_choice_to c)
+range_stands st e n' h = absurd cc
+
+-- an expression more, up to the mark that ends it
+pub close_stands : {s : Setting} {hole : Hole} {row : Row} → HoleStands s hole row → (m : Mark) (e : Tree) (n' : Next) → close m hole e ≡ Some n' → NextStands s n' (row ▹ upto e m)
+close_stands st right_parenthesis e n' h = right_parenthesis_stands st e n' h
+close_stands st right_bracket e n' h = right_bracket_stands st e n' h
+close_stands st comma e n' h = comma_stands st e n' h
+close_stands st colon e n' h = at_colon_stands st e n' h
+close_stands st dot_dot e n' h = range_stands st e n' h
+close_stands st m e n' h = absurd cc

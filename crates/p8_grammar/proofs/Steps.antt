@@ -1,0 +1,138 @@
+-- One word more, by what the word is.
+use Rattle.std.proofs.Common.{◌≡◌, ℕ, ◌≤◌, List, [], ◌∷◌, Option, Some, None, refl, sym, ap, ◌∙◌, subst, arith}
+use Rattle.std.specs.Prelude.{option_and_then, IfOk}
+use Rattle.std.specs.declared.result.Result.{Result}
+use Rattle.std.specs.declared.alloc.AllocError.{AllocError}
+use Rattle.std.proofs.lemmas.Bool.{le-ltb}
+use Rattle.p8_tree.specs.declared.places.Place.{Place}
+use Rattle.p8_tree.specs.Expressions.{Tree, Variable}
+use Rattle.p8_grammar.specs.Lexemes.{Setting, inside, Mark, Lexeme, mark, prefix_word, infix_word, sign, assigns, object_address, token}
+use Rattle.p8_grammar.specs.Grammar.{at_object, unary}
+use Rattle.p8_grammar.specs.Machine.{reading, addressing, changing, Shape, using, Hole, Next, stays, opens, inside_frame, tree, target, grow, on_mark, fresh, Frame, bar, bar_of, wrap, reduce, State, state, entered, shut, if_fresh, operate, assign, beyond, go_on, step, all_of, accepted, accept}
+use Rattle.p8_grammar.specs.declared.lexemes.Term as term
+use Rattle.p8_grammar.specs.declared.lexemes.Term.TheVariants as term_case
+use Rattle.p8_grammar.specs.declared.taking.Taken as taken
+use Rattle.p8_grammar.specs.declared.shapes.Shape as shape
+use Rattle.p8_grammar.specs.declared.shapes.Hole as hole
+use Rattle.p8_grammar.specs.declared.forms.Finished as finished
+use Rattle.p8_grammar.specs.declared.forms.Finished.TheVariants as finished_case
+use Rattle.p8_grammar.specs.declared.shapes.Grown as grown
+use Rattle.p8_grammar.specs.declared.shapes.Grown.TheVariants as grown_case
+use Rattle.p8_grammar.specs.Views.{term_of, shape_of, hole_of, tree_in, Grows, IsWhole}
+use Rattle.p8_grammar.specs.Levels.{Takes}
+use Rattle.p8_grammar.proofs.Walks.{wraps}
+
+no_prefix : (s : Setting) (sh : Shape) (p : Place) (k : List Frame) → if_fresh s sh None p k ≡ None
+no_prefix s (using reading) p k = refl
+no_prefix s (using (addressing q)) p k = refl
+no_prefix s (using (changing q b)) p k = refl
+no_prefix s sh p k = refl
+
+pub unary_step : (s : Setting) (sh : Shape) (k : List Frame) (p : Place) (r c : ℕ) → step (state s sh k) (token p (prefix_word r c)) ≡ if_fresh s sh (Some (unary r c)) p k
+unary_step s (using u) k p r c = refl
+unary_step s sh k p r c = refl
+
+pub object_step : (s : Setting) (sh : Shape) (k : List Frame) (p : Place) → step (state s sh k) (token p object_address) ≡ if_fresh s sh (Some at_object) p k
+object_step s (using u) k p = refl
+object_step s sh k p = refl
+
+pub infix_word_step : (s : Setting) (sh : Shape) (k : List Frame) (p : Place) (r c : ℕ) → step (state s sh k) (token p (infix_word r c)) ≡ option_and_then (λ e. operate s (Some (r, c)) p e k) (tree sh)
+infix_word_step s (using u) k p r c = no_prefix s (using u) p k
+infix_word_step s sh k p r c = refl
+
+pub sign_before : (s : Setting) (sh : Shape) (k : List Frame) (p : Place) (b c : ℕ) → sh ≡ fresh → step (state s sh k) (token p (sign b c)) ≡ if_fresh s sh (Some (unary 1 b)) p k
+sign_before s (using u) k p b c h = refl
+sign_before s sh k p b c h = absurd cc
+
+pub sign_between : (s : Setting) (sh : Shape) (k : List Frame) (p : Place) (b c : ℕ) → (sh ≡ fresh → ⊥) → step (state s sh k) (token p (sign b c)) ≡ option_and_then (λ e. operate s (Some (6, c)) p e k) (tree sh)
+sign_between s (using reading) k p b c h = absurd (h refl)
+sign_between s (using (addressing q)) k p b c h = refl
+sign_between s (using (changing q d)) k p b c h = refl
+sign_between s sh k p b c h = refl
+
+pub assigns_step : (s : Setting) (sh : Shape) (k : List Frame) (p : Place) (o : Option ℕ) → step (state s sh k) (token p (assigns o)) ≡ assign s (target sh) o p k
+assigns_step s (using u) k p o = no_prefix s (using u) p k
+assigns_step s sh k p o = refl
+
+pub mark_step_none : (s : Setting) (sh : Shape) (k : List Frame) (p : Place) (m : Mark) → on_mark s p m sh ≡ None → step (state s sh k) (token p (mark m)) ≡ option_and_then (λ e. shut m (reduce 22 e k).0 (reduce 22 e k).1) (tree sh)
+mark_step_none s sh k p m h = ap (λ o. go_on o s sh k p (mark m)) h ∙ go (tree sh)
+  where
+    go : (o : Option Tree) → beyond o s sh k p (mark m) ≡ option_and_then (λ e. shut m (reduce 22 e k).0 (reduce 22 e k).1) o
+    go None = no_prefix s sh p k
+    go (Some e) = refl
+
+pub grown_step : (s : Setting) (sh : Shape) (k : List Frame) (p : Place) (x : Lexeme) (n : Next) → grow s sh p x ≡ Some n → step (state s sh k) (token p x) ≡ Some (entered s k n)
+grown_step s sh k p x n h = ap (λ o. go_on o s sh k p x) h
+
+pub term_step_none : (s : Setting) (sh : Shape) (k : List Frame) (p : Place) (t : term.Term) → grow s sh p (term_of t) ≡ None → step (state s sh k) (token p (term_of t)) ≡ None
+term_step_none s sh k p t h = ap (λ o. go_on o s sh k p (term_of t)) h ∙ go t (tree sh)
+  where
+    go : (t : term.Term) (o : Option Tree) → beyond o s sh k p (term_of t) ≡ None
+    go (term_case.Number n) None = no_prefix s sh p k
+    go (term_case.Number n) (Some e) = refl
+    go t None = no_prefix s sh p k
+    go t (Some e) = refl
+
+-- an assignment inside a tighter operator
+pub assign_low : (s : Setting) (t : Option Variable) (o : Option ℕ) (p : Place) (k : List Frame) → bar_of k ≤ 21 → assign s t o p k ≡ None
+assign_low s None o p k le = refl
+assign_low s (Some v) o p k le = rw (le-ltb 21 (bar_of k) le) refl
+
+-- the same answer, in other words
+pub takes_too : (r : Result taken.Taken AllocError) (o o' : Option State) (st st' : State) (k : List Frame) → o ≡ o' → st ≡ st' → IfOk r (λ t. Takes o st t k) → IfOk r (λ t. Takes o' st' t k)
+takes_too r o o' st st' k eo es h = subst (λ st. IfOk r (λ t. Takes o' st t k)) es (subst (λ o. IfOk r (λ t. Takes o st t k)) eo h)
+
+pub reduce-pop : (m : ℕ) (ks gs : List Frame) (f : Frame) (e e' : Tree) (b : ℕ) → ks ≡ f ∷ gs → b ≡ bar_of ks → b ≤ m → e' ≡ wrap f e → reduce m e ks ≡ reduce m e' gs
+reduce-pop m ks gs f e e' b same bar_is le wrap_is =
+    let bars : bar_of ks ≡ bar f = ap bar_of same in
+    ap (λ l. reduce m e l) same ∙ wraps m e f gs (omega arith) ∙ ap (λ e. reduce m e gs) (sym wrap_is)
+
+-- a form that an expression comes next in
+pub opened_step : (s s' : Setting) (sh : Shape) (k k' : List Frame) (p : Place) (x : Lexeme) (h : Hole) → grow s sh p x ≡ Some (opens h) → k' ≡ inside_frame s h ∷ k → s' ≡ inside s → step (state s sh k) (token p x) ≡ Some (state s' fresh k')
+opened_step s s' sh k k' p x h e ek es = grown_step s sh k p x (opens h) e ∙ ap (λ k. Some (state (inside s) fresh k)) (sym ek) ∙ ap (λ s. Some (state s fresh k')) (sym es)
+
+-- a mark that doesn't belong to the form
+pub mark_same : (s : Setting) (sh sh' : Shape) (k kk : List Frame) (p : Place) (m : Mark) (r : Result taken.Taken AllocError) → on_mark s p m sh ≡ None → sh' ≡ sh → IfOk r (λ t. Takes (option_and_then (λ e. shut m (reduce 22 e k).0 (reduce 22 e k).1) (tree sh')) (state s sh' k) t kk) → IfOk r (λ t. Takes (step (state s sh k) (token p (mark m))) (state s sh k) t kk)
+mark_same s sh sh' k kk p m r none same h =
+    takes_too r (option_and_then (λ e. shut m (reduce 22 e k).0 (reduce 22 e k).1) (tree sh')) _ (state s sh' k) (state s sh k) kk
+    (ap (λ x. option_and_then (λ e. shut m (reduce 22 e k).0 (reduce 22 e k).1) (tree x)) same ∙ sym (mark_step_none s sh k p m none))
+    (ap (λ x. state s x k) same) h
+
+-- a word that doesn't belong to the form
+pub term_same : (s : Setting) (sh sh' : Shape) (k : List Frame) (p : Place) (t : term.Term) → grow s sh p (term_of t) ≡ None → sh' ≡ sh → (step (state s sh k) (token p (term_of t)) ≡ None) × ((sh' ≡ sh) × (k ≡ k))
+term_same s sh sh' k p t none same = (term_step_none s sh k p t none, (same, refl))
+
+-- what a grown form says, by what it is
+pub grows_stays : (o : Option Next) (sh : Shape) (g : grown.Grown) (x : shape.Shape) → Grows o sh g → g ≡ grown_case.Stays x → o ≡ Some (stays (shape_of x))
+grows_stays o sh g x h is = subst (λ g. Grows o sh g) is h
+
+pub grows_opens : (o : Option Next) (sh : Shape) (g : grown.Grown) (x : hole.Hole) → Grows o sh g → g ≡ grown_case.Opens x → o ≡ Some (opens (hole_of x))
+grows_opens o sh g x h is = subst (λ g. Grows o sh g) is h
+
+pub grows_same : (o : Option Next) (sh : Shape) (g : grown.Grown) (x : shape.Shape) → Grows o sh g → g ≡ grown_case.Same x → (o ≡ None) × (shape_of x ≡ sh)
+grows_same o sh g x h is = subst (λ g. Grows o sh g) is h
+
+pub whole_not : (sh : Shape) (w : finished.Finished) (x : shape.Shape) → IsWhole sh w → w ≡ finished_case.Not x → (tree sh ≡ None) × (shape_of x ≡ sh)
+whole_not sh w x h is = subst (λ w. IsWhole sh w) is h
+
+-- a form that isn't whole takes no operator and no mark
+pub not_whole : (sh : Shape) (f : Tree → Option State) → tree sh ≡ None → option_and_then f (tree sh) ≡ None
+not_whole sh f none = ap (λ o. option_and_then f o) none
+
+-- what is read whole
+pub finish_not : (s : Setting) (sh : Shape) (k : List Frame) → tree sh ≡ None → None ≡ accept (state s sh k)
+finish_not s sh k h = sym (ap (λ o. accepted o k) h)
+
+pub finish_whole : (s : Setting) (sh : Shape) (e e' : Tree) (k k' : List Frame) → tree sh ≡ Some e → reduce 22 e k ≡ (e', k') → all_of e' k' ≡ accept (state s sh k)
+finish_whole s sh e e' k k' h r = sym (ap (λ o. accepted o k) h ∙ ap (λ p. all_of p.0 p.1) r)
+
+pub not_all : (e : Tree) (k : List Frame) → (k ≡ [] → ⊥) → None ≡ all_of e k
+not_all e [] h = absurd (h refl)
+not_all e (f ∷ k) h = refl
+
+pub all : (e : Tree) (k : List Frame) → k ≡ [] → Some e ≡ all_of e k
+all e k h = sym (ap (λ k. all_of e k) h)
+
+pub whole_is : (sh : Shape) (w : finished.Finished) → IsWhole sh w → tree sh ≡ tree_in w
+whole_is sh (finished_case.Tree t) h = h
+whole_is sh (finished_case.Not x) h = h.0

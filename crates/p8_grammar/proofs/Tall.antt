@@ -1,0 +1,422 @@
+-- Reading on never lowers the least height.
+use Rattle.std.proofs.Common.{◌≡◌, ℕ, zero, suc, ◌+◌, ◌*◌, ◌<◌, ◌≤◌, max, List, [], ◌∷◌, Option, Some, None, Bool, true, false, refl, sym, ap, ◌∙◌, subst, arith}
+use Rattle.std.specs.Prelude.{option_and_then, nat_le, nat_lt, if◌then◌else◌, ◌&&◌}
+use Rattle.std.proofs.lemmas.Bool.{leb-true, ltb-true}
+use Rattle.p8_tree.specs.declared.places.Place.{Place}
+use Rattle.p8_tree.specs.Expressions.{Tree, node, Here, Variable, Memory, Register, no_index, whole, no_trees, ◌▷◌}
+use Rattle.p8_grammar.specs.Lexemes.{Setting, allows_index, is_dat, is_in, has_bits, Access, is_written, Mark, left_parenthesis, right_parenthesis, left_bracket, right_bracket, comma, colon, dot, dot_dot, hash, backslash, Lexeme, number, name, method_result, string, mark, prefix_word, infix_word, sign, assigns, changes, address, object_address, size, register, here, string_word, constant_word, look, value, built_in, other, Token, token}
+use Rattle.p8_grammar.specs.Grammar.{Head, calls, built, applied, Prefix, at_object, unary, rank, with_prefix, prefix_of, infix_of}
+use Rattle.p8_grammar.specs.Heights.{height, height_in_variable, height_of_trees, IsTooHigh}
+use Rattle.p8_grammar.specs.Machine.{Use, reading, addressing, changing, used, takes, Shape, using, coloned, sized, named, indexed_name, dotted, parted, memory_word, register_word, ready, trapping, trapped_name, trapped_element, object_dot, headed, hashed, string_begun, string_opened, string_read, constant_begun, look_begun, done, Hole, parenthesis, name_index, part_index, memory_address, memory_index, first_bit, last_bit, trapped_index, argument_of, constant_of, look_for, choice_of, choice_to, Next, stays, opens, only_if, tree, if_reading, target, begins, on_name, on_result, on_string, on_size, on_register, changed, on_change, on_parenthesis, on_bracket, on_dot, on_hash, on_colon, on_close, on_mark, grow, at_right_bracket, at_right_parenthesis, at_comma, at_colon, at_range, close, fresh, Frame, prefix_frame, infix_frame, assign_frame, inside_frame, bar, bar_of, wrap, reduce, State, state, entered, entered_all, shut, prefixed, if_fresh, operate, assign, after, beyond, go_on, step, walk, all_of, accepted, accept, start}
+use Rattle.p8_grammar.specs.Least.{height_in_head, shape_least, filled, need, next_least, least}
+use Rattle.p8_grammar.proofs.Walks.{goes_on}
+use Rattle.p8_grammar.proofs.Complete.{complete}
+
+used_height : (u : Use) (v : Variable) → height (used u v) ≡ suc (height_in_variable v)
+used_height reading v = refl
+used_height (addressing p) v = refl
+used_height (changing p b) v = refl
+
+applied_height : (h : Head) → height (applied h no_trees) ≡ suc (height_in_head h)
+applied_height (calls t o i n q p) = omega arith
+applied_height (built k p) = refl
+
+at_height : (x y : Tree) (n : ℕ) → Some x ≡ Some y → n ≡ height x → n ≡ height y
+at_height x y n h e = e ∙ ap height (same h)
+  where
+    same : Some x ≡ Some y → x ≡ y
+    same h = cc
+
+same_variable : (w v : Variable) {n : ℕ} → Some w ≡ Some v → n ≡ suc (height_in_variable w) → n ≡ suc (height_in_variable v)
+same_variable w v h e = e ∙ ap (λ v. suc (height_in_variable v)) (same h)
+  where
+    same : Some w ≡ Some v → w ≡ v
+    same h = cc
+
+-- the height of a whole form
+pub tree_least : (sh : Shape) (e : Tree) → tree sh ≡ Some e → shape_least sh ≡ height e
+tree_least (named u b p n) e h = at_height _ e _ h (sym (used_height u _))
+tree_least (indexed_name p n x) e h = at_height _ e _ h refl
+tree_least (parted u p n z) e h = at_height _ e _ h (sym (used_height u _))
+tree_least (memory_word u p z x) e h = at_height _ e _ h (omega (arith, used_height u (Memory z x no_index p)))
+tree_least (register_word u p a x) e h = at_height _ e _ h (sym (used_height u _))
+tree_least (ready u v x) e h = at_height _ e _ h (sym (used_height u v))
+tree_least (trapped_name p n) e h = at_height _ e _ h refl
+tree_least (headed y) e h = at_height _ e _ h (sym (applied_height y))
+tree_least (done x) e h = at_height _ e _ h refl
+tree_least sh e h = absurd cc
+
+-- the least height may only grow where a form goes on
+abbrev AtLeast : ℕ → Option Next → Type 0
+AtLeast l None = Unit {0}
+AtLeast l (Some n) = l ≤ next_least n
+
+at_least : (l : ℕ) (o : Option Next) (n : Next) → o ≡ Some n → AtLeast l o → l ≤ next_least n
+at_least l o n h a = subst (AtLeast l) h a
+
+only_least : (l : ℕ) (b : Bool) (n : Next) → l ≤ next_least n → AtLeast l (only_if b n)
+only_least l true n le = le
+only_least l false n le = tt
+
+begins_least : (sh : Shape) (n : Next) → 1 ≤ next_least n → AtLeast (shape_least sh) (begins sh n)
+begins_least (using reading) n le = le
+begins_least (using (addressing p)) n le = tt
+begins_least (using (changing p b)) n le = tt
+begins_least sh n le = tt
+
+name_least : (p : Place) (n : List ℕ) (sh : Shape) → AtLeast (shape_least sh) (on_name p n sh)
+name_least p n (using u) = omega arith
+name_least p n (coloned u q) = omega arith
+name_least p n (dotted reading true q m) = omega arith
+name_least p n (dotted reading false q m) = tt
+name_least p n (dotted (addressing r) b q m) = tt
+name_least p n (dotted (changing r c) b q m) = tt
+name_least p n (object_dot t q m i) = omega arith
+name_least p n trapping = omega arith
+name_least p n (hashed q m) = omega arith
+name_least p n sh = tt
+
+result_least : (p : Place) (sh : Shape) → AtLeast (shape_least sh) (on_result p sh)
+result_least p (using u) = omega arith
+result_least p sh = tt
+
+string_least : (p : Place) (t : List ℕ) (sh : Shape) → AtLeast (shape_least sh) (on_string p t sh)
+string_least p (c ∷ []) (using reading) = omega arith
+string_least p (c ∷ []) (using (addressing q)) = tt
+string_least p (c ∷ []) (using (changing q b)) = tt
+string_least p [] (using u) = tt
+string_least p (c ∷ d ∷ t) (using u) = tt
+string_least p [] (string_opened q) = tt
+string_least p (c ∷ t) (string_opened q) = omega arith
+string_least p t sh = tt
+
+size_least : (s : Setting) (p : Place) (z : ℕ) (sh : Shape) → AtLeast (shape_least sh) (on_size s p z sh)
+size_least s p z (using u) = only_least 1 (allows_index s) _ (omega arith)
+size_least s p z (dotted u b q m) = omega arith
+size_least s p z sh = tt
+
+register_least : (s : Setting) (p : Place) (a : ℕ) (x : Access) (sh : Shape) → AtLeast (shape_least sh) (on_register s p a x sh)
+register_least s p a x (using u) = only_least 1 (is_in s x && takes u x) _ (omega arith)
+register_least s p a x sh = tt
+
+-- a variable that may be written is as high as its form
+target_least : (sh : Shape) (v : Variable) → target sh ≡ Some v → shape_least sh ≡ suc (height_in_variable v)
+target_least (named reading b p n) v h = same_variable _ v h refl
+target_least (named (addressing q) b p n) v h = absurd cc
+target_least (named (changing q c) b p n) v h = absurd cc
+target_least (indexed_name p n e) v h = same_variable _ v h refl
+target_least (parted reading p n z) v h = same_variable _ v h refl
+target_least (parted (addressing q) p n z) v h = absurd cc
+target_least (parted (changing q c) p n z) v h = absurd cc
+target_least (memory_word reading p z e) v h = same_variable _ v h (omega arith)
+target_least (memory_word (addressing q) p z e) v h = absurd cc
+target_least (memory_word (changing q c) p z e) v h = absurd cc
+target_least (register_word reading p a x) v h = go (is_written x) h
+  where
+    go : (b : Bool) → if_reading reading b (Register a whole p) ≡ Some v → 1 ≡ suc (height_in_variable v)
+    go true h = same_variable _ v h refl
+    go false h = absurd cc
+target_least (register_word (addressing q) p a x) v h = absurd cc
+target_least (register_word (changing q c) p a x) v h = absurd cc
+target_least (ready reading w x) v h = go (is_written x) h
+  where
+    go : (b : Bool) → if_reading reading b w ≡ Some v → suc (height_in_variable w) ≡ suc (height_in_variable v)
+    go true h = same_variable w v h refl
+    go false h = absurd cc
+target_least (ready (addressing q) w x) v h = absurd cc
+target_least (ready (changing q c) w x) v h = absurd cc
+target_least sh v h = absurd cc
+
+changed_least : (sh : Shape) (p : Place) (a : ℕ) → AtLeast (shape_least sh) (changed (target sh) p a)
+changed_least sh p a = go (target sh) refl
+  where
+    go : (o : Option Variable) → target sh ≡ o → AtLeast (shape_least sh) (changed o p a)
+    go None h = tt
+    go (Some v) h = omega (arith, target_least sh v h)
+
+change_least : (p : Place) (b a : ℕ) (sh : Shape) → AtLeast (shape_least sh) (on_change p b a sh)
+change_least p b a (using reading) = omega arith
+change_least p b a (using (addressing q)) = tt
+change_least p b a (using (changing q c)) = tt
+change_least p b a sh = changed_least sh p a
+
+parenthesis_least : (sh : Shape) → AtLeast (shape_least sh) (on_parenthesis sh)
+parenthesis_least (using reading) = omega arith
+parenthesis_least (using (addressing p)) = tt
+parenthesis_least (using (changing p b)) = tt
+parenthesis_least (named reading true q n) = omega arith
+parenthesis_least (named reading false q n) = tt
+parenthesis_least (named (addressing p) b q n) = tt
+parenthesis_least (named (changing p c) b q n) = tt
+parenthesis_least (trapped_name q n) = omega arith
+parenthesis_least (headed h) = omega arith
+parenthesis_least (string_begun q) = omega arith
+parenthesis_least (constant_begun q) = omega arith
+parenthesis_least (look_begun q k) = omega arith
+parenthesis_least sh = tt
+
+bracket_least : (s : Setting) (sh : Shape) → AtLeast (shape_least sh) (on_bracket s sh)
+bracket_least s (named u b q n) = only_least _ (allows_index s) _ (omega arith)
+bracket_least s (parted u q n z) = only_least _ (allows_index s) _ (omega arith)
+bracket_least s (sized u q z) = only_least _ (allows_index s) _ (omega arith)
+bracket_least s (memory_word u q z e) = only_least _ (allows_index s) _ (omega arith)
+bracket_least s (register_word u q a x) = only_least _ (allows_index s && has_bits x) _ (omega arith)
+bracket_least s (trapped_name q n) = only_least _ (allows_index s) _ (omega arith)
+bracket_least s sh = tt
+
+dot_least : (sh : Shape) → AtLeast (shape_least sh) (on_dot sh)
+dot_least (named u b q n) = omega arith
+dot_least (indexed_name q n e) = omega arith
+dot_least (trapped_name q n) = omega arith
+dot_least (trapped_element q n e) = omega arith
+dot_least sh = tt
+
+hash_least : (sh : Shape) → AtLeast (shape_least sh) (on_hash sh)
+hash_least (named reading true q n) = omega arith
+hash_least (named reading false q n) = tt
+hash_least (named (addressing p) b q n) = tt
+hash_least (named (changing p c) b q n) = tt
+hash_least sh = tt
+
+colon_least : (s : Setting) (p : Place) (sh : Shape) → AtLeast (shape_least sh) (on_colon s p sh)
+colon_least s p (using u) = only_least 1 (is_dat s) _ (omega arith)
+colon_least s p sh = tt
+
+close_word_least : (sh : Shape) → AtLeast (shape_least sh) (on_close sh)
+close_word_least (string_read q t) = omega arith
+close_word_least sh = tt
+
+mark_least : (s : Setting) (p : Place) (m : Mark) (sh : Shape) → AtLeast (shape_least sh) (on_mark s p m sh)
+mark_least s p left_parenthesis sh = parenthesis_least sh
+mark_least s p right_parenthesis sh = close_word_least sh
+mark_least s p left_bracket sh = bracket_least s sh
+mark_least s p right_bracket sh = tt
+mark_least s p comma sh = tt
+mark_least s p colon sh = colon_least s p sh
+mark_least s p dot sh = dot_least sh
+mark_least s p dot_dot sh = tt
+mark_least s p hash sh = hash_least sh
+mark_least s p backslash sh = begins_least sh _ (omega arith)
+
+here_least : (s : Setting) (p : Place) (sh : Shape) → AtLeast (shape_least sh) (if is_dat s then begins sh (stays (done (node p Here))) else None)
+here_least s p sh = go (is_dat s)
+  where
+    go : (b : Bool) → AtLeast (shape_least sh) (if b then begins sh (stays (done (node p Here))) else None)
+    go true = begins_least sh _ (omega arith)
+    go false = tt
+
+grow_least : (s : Setting) (sh : Shape) (p : Place) (x : Lexeme) → AtLeast (shape_least sh) (grow s sh p x)
+grow_least s sh p (number n) = begins_least sh _ (omega arith)
+grow_least s sh p (name n) = name_least p n sh
+grow_least s sh p method_result = result_least p sh
+grow_least s sh p (string t) = string_least p t sh
+grow_least s sh p (mark m) = mark_least s p m sh
+grow_least s sh p (prefix_word r k) = tt
+grow_least s sh p (infix_word r k) = tt
+grow_least s sh p (sign k j) = tt
+grow_least s sh p (assigns o) = tt
+grow_least s sh p (changes b a) = change_least p b a sh
+grow_least s sh p address = begins_least sh _ (omega arith)
+grow_least s sh p object_address = tt
+grow_least s sh p (size z) = size_least s p z sh
+grow_least s sh p (register a x) = register_least s p a x sh
+grow_least s sh p here = here_least s p sh
+grow_least s sh p string_word = begins_least sh _ (omega arith)
+grow_least s sh p constant_word = begins_least sh _ (omega arith)
+grow_least s sh p (look k) = begins_least sh _ (omega arith)
+grow_least s sh p (value k) = begins_least sh _ (omega arith)
+grow_least s sh p (built_in k) = begins_least sh _ (omega arith)
+grow_least s sh p other = tt
+
+applied_least : (h : Head) (es : _) (e : Tree) → suc (max (height_in_head h) (max (height_of_trees es) (height e))) ≡ height (applied h (es ▷ e))
+applied_least (calls t o i n q p) es e = omega arith
+applied_least (built k p) es e = omega arith
+
+right_bracket_least : (hole : Hole) (e : Tree) → AtLeast (filled (height e) hole) (at_right_bracket hole e)
+right_bracket_least (name_index reading true p n) e = omega arith
+right_bracket_least (name_index reading false p n) e = omega arith
+right_bracket_least (name_index (addressing q) b p n) e = omega arith
+right_bracket_least (name_index (changing q c) b p n) e = omega arith
+right_bracket_least (part_index u p n z) e = omega arith
+right_bracket_least (memory_address u p z) e = omega arith
+right_bracket_least (memory_index u p z a) e = omega arith
+right_bracket_least (first_bit u p a x) e = omega arith
+right_bracket_least (last_bit u p a x low) e = omega arith
+right_bracket_least (trapped_index p n) e = omega arith
+right_bracket_least hole e = tt
+
+right_parenthesis_least : (hole : Hole) (e : Tree) → AtLeast (filled (height e) hole) (at_right_parenthesis hole e)
+right_parenthesis_least parenthesis e = omega arith
+right_parenthesis_least (argument_of h es) e = omega (arith, applied_least h es e)
+right_parenthesis_least (constant_of p) e = omega arith
+right_parenthesis_least (choice_of p k x xs) e = omega arith
+right_parenthesis_least (choice_to p k x xs low) e = omega arith
+right_parenthesis_least hole e = tt
+
+comma_least : (hole : Hole) (e : Tree) → AtLeast (filled (height e) hole) (at_comma hole e)
+comma_least (argument_of h es) e = omega arith
+comma_least (choice_of p k x xs) e = omega arith
+comma_least (choice_to p k x xs low) e = omega arith
+comma_least hole e = tt
+
+at_colon_least : (hole : Hole) (e : Tree) → AtLeast (filled (height e) hole) (at_colon hole e)
+at_colon_least (look_for p k) e = omega arith
+at_colon_least hole e = tt
+
+range_least : (hole : Hole) (e : Tree) → AtLeast (filled (height e) hole) (at_range hole e)
+range_least (first_bit u p a x) e = omega arith
+range_least (choice_of p k x xs) e = omega arith
+range_least hole e = tt
+
+close_least : (m : Mark) (hole : Hole) (e : Tree) → AtLeast (filled (height e) hole) (close m hole e)
+close_least right_parenthesis hole e = right_parenthesis_least hole e
+close_least right_bracket hole e = right_bracket_least hole e
+close_least comma hole e = comma_least hole e
+close_least colon hole e = at_colon_least hole e
+close_least dot_dot hole e = range_least hole e
+close_least m hole e = tt
+
+filled_le : (hole : Hole) (h i : ℕ) → h ≤ i → filled h hole ≤ filled i hole
+filled_le parenthesis h i le = omega arith
+filled_le (name_index u b p n) h i le = omega arith
+filled_le (part_index u p n z) h i le = omega arith
+filled_le (memory_address u p z) h i le = omega arith
+filled_le (memory_index u p z a) h i le = omega arith
+filled_le (first_bit u p a x) h i le = omega arith
+filled_le (last_bit u p a x low) h i le = omega arith
+filled_le (trapped_index p n) h i le = omega arith
+filled_le (argument_of x es) h i le = omega arith
+filled_le (constant_of p) h i le = omega arith
+filled_le (look_for p k) h i le = omega arith
+filled_le (choice_of p k x xs) h i le = omega arith
+filled_le (choice_to p k x xs low) h i le = omega arith
+
+pub need_le : (k : List Frame) (h i : ℕ) → h ≤ i → need h k ≤ need i k
+need_le [] h i le = le
+need_le (prefix_frame o p ∷ k) h i le = need_le k (suc h) (suc i) (omega arith)
+need_le (infix_frame r c p a ∷ k) h i le = need_le k (suc (max (height a) h)) (suc (max (height a) i)) (omega arith)
+need_le (assign_frame o p v ∷ k) h i le = need_le k (suc (max (height_in_variable v) h)) (suc (max (height_in_variable v) i)) (omega arith)
+need_le (inside_frame s hole ∷ k) h i le = need_le k (filled h hole) (filled i hole) (filled_le hole h i le)
+
+prefix_height : (o : Prefix) (p : Place) (e : Tree) → height (node p (with_prefix o e)) ≡ suc (height e)
+prefix_height at_object p e = refl
+prefix_height (unary r k) p e = refl
+
+pub need_wrap : (f : Frame) (e : Tree) (k : List Frame) → bar f ≤ 22 → need (height (wrap f e)) k ≡ need (height e) (f ∷ k)
+need_wrap (prefix_frame o p) e k le = ap (λ h. need h k) (prefix_height o p e)
+need_wrap (infix_frame r c p a) e k le = refl
+need_wrap (assign_frame o p v) e k le = refl
+need_wrap (inside_frame s hole) e k le = absurd (omega arith)
+
+pub need_reduce : (m : ℕ) → m ≤ 22 → (k : List Frame) (e : Tree) → need (height (reduce m e k).0) (reduce m e k).1 ≡ need (height e) k
+need_reduce m small [] e = refl
+need_reduce m small (f ∷ k) e = go (λ e'. need_reduce m small k e') (nat_le (bar f) m) refl
+  where
+    go : ((e' : Tree) → need (height (reduce m e' k).0) (reduce m e' k).1 ≡ need (height e') k) → (b : Bool) → nat_le (bar f) m ≡ b → need (height (if b then reduce m (wrap f e) k else (e, f ∷ k)).0) (if b then reduce m (wrap f e) k else (e, f ∷ k)).1 ≡ need (height e) (f ∷ k)
+    go ih false h = refl
+    go ih true h = let le : bar f ≤ m = leb-true (bar f) m h in ih (wrap f e) ∙ need_wrap f e k (omega arith)
+
+pub entered_least : (s : Setting) (k : List Frame) (n : Next) → least (entered s k n) ≡ need (next_least n) k
+entered_least s k (stays sh) = refl
+entered_least s k (opens h) = refl
+
+-- the least height may only grow from one state to the next
+abbrev LeastFrom : ℕ → Option State → Type 0
+LeastFrom l None = Unit {0}
+LeastFrom l (Some st) = l ≤ least st
+
+shut_least : (m : Mark) (e : Tree) (k : List Frame) → LeastFrom (need (height e) k) (shut m e k)
+shut_least m e [] = tt
+shut_least m e (prefix_frame o p ∷ k) = tt
+shut_least m e (infix_frame r c p a ∷ k) = tt
+shut_least m e (assign_frame o p v ∷ k) = tt
+shut_least m e (inside_frame s hole ∷ k) = go (close m hole e) (close_least m hole e)
+  where
+    go : (o : Option Next) → AtLeast (filled (height e) hole) o → LeastFrom (need (filled (height e) hole) k) (entered_all s k o)
+    go None a = tt
+    go (Some n) a = omega (arith, entered_least s k n, need_le k (filled (height e) hole) (next_least n) a)
+
+mark_from : (m : Mark) (e : Tree) (k : List Frame) → LeastFrom (need (height e) k) (shut m (reduce 22 e k).0 (reduce 22 e k).1)
+mark_from m e k = subst (λ l. LeastFrom l (shut m (reduce 22 e k).0 (reduce 22 e k).1)) (need_reduce 22 (omega arith) k e) (shut_least m (reduce 22 e k).0 (reduce 22 e k).1)
+
+prefixed_least : (s : Setting) (o : Option Prefix) (p : Place) (k : List Frame) → LeastFrom (need 1 k) (prefixed s o p k)
+prefixed_least s None p k = tt
+prefixed_least s (Some o) p k = go (nat_lt (2 * rank o + 1) (bar_of k))
+  where
+    go : (b : Bool) → LeastFrom (need 1 k) (if b then Some (state s fresh (prefix_frame o p ∷ k)) else None)
+    go false = tt
+    go true = need_le k 1 2 (omega arith)
+
+fresh_least : (s : Setting) (sh : Shape) (o : Option Prefix) (p : Place) (k : List Frame) → LeastFrom (need (shape_least sh) k) (if_fresh s sh o p k)
+fresh_least s (using reading) o p k = prefixed_least s o p k
+fresh_least s (using (addressing q)) o p k = tt
+fresh_least s (using (changing q b)) o p k = tt
+fresh_least s sh o p k = tt
+
+operate_least : (s : Setting) (o : Option (ℕ × ℕ)) (p : Place) (e : Tree) (k : List Frame) → LeastFrom (need (height e) k) (operate s o p e k)
+operate_least s None p e k = tt
+operate_least s (Some (zero, c)) p e k = tt
+operate_least s (Some (suc r, c)) p e k = go (nat_lt r 11) refl
+  where
+    go : (b : Bool) → nat_lt r 11 ≡ b → LeastFrom (need (height e) k) (if b then (let x = reduce (2 * suc r) e k in Some (state s fresh (infix_frame r c p x.0 ∷ x.1))) else None)
+    go false h = tt
+    go true h =
+        let small : r < 11 = ltb-true _ _ h in
+        let x = reduce (2 * suc r) e k in
+        omega (arith, need_reduce (2 * suc r) (omega (arith, small)) k e, need_le x.1 (height x.0) (suc (max (height x.0) 1)) (omega arith))
+
+assign_least : (s : Setting) (sh : Shape) (o : Option ℕ) (p : Place) (k : List Frame) → LeastFrom (need (shape_least sh) k) (assign s (target sh) o p k)
+assign_least s sh o p k = go (target sh) refl
+  where
+    step_on : (v : Variable) (b : Bool) → target sh ≡ Some v → LeastFrom (need (shape_least sh) k) (if b then Some (state s fresh (assign_frame o p v ∷ k)) else None)
+    step_on v false h = tt
+    step_on v true h = need_le k (shape_least sh) (suc (max (height_in_variable v) 1)) (omega (arith, target_least sh v h))
+
+    go : (t : Option Variable) → target sh ≡ t → LeastFrom (need (shape_least sh) k) (assign s t o p k)
+    go None h = tt
+    go (Some v) h = step_on v (nat_lt 21 (bar_of k)) h
+
+after_least : (s : Setting) (sh : Shape) (e : Tree) (k : List Frame) (p : Place) (x : Lexeme) → tree sh ≡ Some e → LeastFrom (need (shape_least sh) k) (after s sh e k p x)
+after_least s sh e k p (mark m) h = subst (λ l. LeastFrom (need l k) (after s sh e k p (mark m))) (sym (tree_least sh e h)) (mark_from m e k)
+after_least s sh e k p (assigns o) h = assign_least s sh o p k
+after_least s sh e k p x h = subst (λ l. LeastFrom (need l k) (after s sh e k p x)) (sym (tree_least sh e h)) (operate_least s (infix_of x) p e k)
+
+step_least : (st : State) (t : Token) → LeastFrom (least st) (step st t)
+step_least (state s sh k) (token p x) = go (grow s sh p x) (grow_least s sh p x)
+  where
+    beyond_least : (o : Option Tree) → tree sh ≡ o → LeastFrom (need (shape_least sh) k) (beyond o s sh k p x)
+    beyond_least None h = fresh_least s sh (prefix_of x) p k
+    beyond_least (Some e) h = after_least s sh e k p x h
+
+    go : (o : Option Next) → AtLeast (shape_least sh) o → LeastFrom (need (shape_least sh) k) (go_on o s sh k p x)
+    go (Some n) a = omega (arith, entered_least s k n, need_le k (shape_least sh) (next_least n) a)
+    go None a = beyond_least (tree sh) refl
+
+same_some : {x y : State} → Some x ≡ Some y → x ≡ y
+same_some h = cc
+
+pub walk_least : (ts : List Token) (st st' : State) → walk st ts ≡ Some st' → least st ≤ least st'
+walk_least [] st st' h = subst (λ x. least st ≤ least x) (same_some h) (omega arith)
+walk_least (t ∷ ts) st st' h = go (λ x h'. walk_least ts x st' h') (step st t) (step_least st t) h
+  where
+    go : ((x : State) → walk x ts ≡ Some st' → least x ≤ least st') → (o : Option State) → LeastFrom (least st) o → option_and_then (λ x. walk x ts) o ≡ Some st' → least st ≤ least st'
+    go ih None a h = absurd cc
+    go ih (Some x) a h = omega (arith, ih x h)
+
+pub accept_least : (st : State) (e : Tree) → accept st ≡ Some e → least st ≡ height e
+accept_least (state s sh k) e h = go (tree sh) refl h
+  where
+    all_least : (x : Tree) (k : List Frame) → all_of x k ≡ Some e → need (height x) k ≡ height e
+    all_least x [] h = let same : x ≡ e = cc in ap height same
+    all_least x (f ∷ k) h = absurd cc
+
+    go : (o : Option Tree) → tree sh ≡ o → accepted o k ≡ Some e → need (shape_least sh) k ≡ height e
+    go None t h = absurd cc
+    go (Some x) t h = ap (λ l. need l k) (tree_least sh x t) ∙ sym (need_reduce 22 (omega arith) k x) ∙ all_least (reduce 22 x k).0 (reduce 22 x k).1 h
+
+-- where the state needs more than n, each expression that begins so is higher than n
+pub too_high : (s : Setting) (n : ℕ) (ts : List Token) (st : State) → walk (start s) ts ≡ Some st → n < least st → IsTooHigh s n ts
+too_high s n ts st h lt rest e r =
+    let c = complete s r in
+    let w : walk st rest ≡ Some c.0 = sym (goes_on (start s) st ts rest h) ∙ c.1 in
+    omega (arith, walk_least rest st c.0 w, accept_least c.0 e c.2)

@@ -1,0 +1,112 @@
+-- What a token is to an expression.
+use Rattle.std.specs.Prelude.{ℕ, Bool, true, false, List, Option}
+use Rattle.p8_tree.specs.declared.places.Place.{Place}
+
+-- Where an expression stands. In an item of DAT's data no bracket outside parentheses and brackets
+-- begins an index: it begins the item's count.
+pub data Setting : Type 0 where
+  in_method : Setting
+  -- outside methods and DAT
+  in_declaration : Setting
+  in_dat : Setting
+  in_data_item : Setting
+
+abbrev pub allows_index : Setting → Bool
+allows_index in_method = true
+allows_index in_declaration = true
+allows_index in_dat = true
+allows_index in_data_item = false
+
+-- `$`, local labels and all registers stand in DAT alone
+abbrev pub is_dat : Setting → Bool
+is_dat in_method = false
+is_dat in_declaration = false
+is_dat in_dat = true
+is_dat in_data_item = true
+
+-- the setting inside parentheses and brackets
+abbrev pub inside : Setting → Setting
+inside in_method = in_method
+inside in_declaration = in_declaration
+inside in_dat = in_dat
+inside in_data_item = in_dat
+
+-- What may be done with a variable: those of main memory are read and written and have an address;
+-- OUTA and DIRA are read and written, whole or by bits; INA is read, whole or by bits; PAR and CNT
+-- are read; the other registers are read in DAT alone.
+pub data Access : Type 0 where
+  memory : Access
+  pins : Access
+  input_pins : Access
+  input : Access
+  assembly : Access
+
+abbrev pub is_written : Access → Bool
+is_written memory = true
+is_written pins = true
+is_written _ = false
+
+abbrev pub has_bits : Access → Bool
+has_bits pins = true
+has_bits input_pins = true
+has_bits _ = false
+
+abbrev pub is_in : Setting → Access → Bool
+is_in s assembly = is_dat s
+is_in s _ = true
+
+pub data Mark : Type 0 where
+  left_parenthesis : Mark
+  right_parenthesis : Mark
+  left_bracket : Mark
+  right_bracket : Mark
+  comma : Mark
+  colon : Mark
+  dot : Mark
+  dot_dot : Mark
+  hash : Mark
+  backslash : Mark
+
+-- Numbers behind a word are its bytecode or effect byte, a size in bytes or a register's address.
+pub data Lexeme : Type 0 where
+  number : ℕ → Lexeme
+  -- a name in capitals
+  name : List ℕ → Lexeme
+  -- RESULT
+  method_result : Lexeme
+  -- a string's characters
+  string : List ℕ → Lexeme
+  mark : Mark → Lexeme
+  -- an operator before its operand: its rank and its bytecode
+  prefix_word : ℕ → ℕ → Lexeme
+  -- an operator between its operands: its rank and its bytecode
+  infix_word : ℕ → ℕ → Lexeme
+  -- `+` or `-`: its bytecode before an operand, and between operands
+  sign : ℕ → ℕ → Lexeme
+  -- `:=`, or a binary operator with `=`
+  assigns : Option ℕ → Lexeme
+  -- `++`, `--`, `~` or `~~`: its effect byte before a variable, and after it
+  changes : ℕ → ℕ → Lexeme
+  -- `@` and `@@`
+  address : Lexeme
+  object_address : Lexeme
+  -- BYTE, WORD or LONG
+  size : ℕ → Lexeme
+  register : ℕ → Access → Lexeme
+  -- `$`
+  here : Lexeme
+  -- STRING and CONSTANT
+  string_word : Lexeme
+  constant_word : Lexeme
+  -- a LOOK function
+  look : ℕ → Lexeme
+  -- COGID, CLKFREQ or CLKMODE
+  value : ℕ → Lexeme
+  -- another built-in that gives a value
+  built_in : ℕ → Lexeme
+  -- what stands in no expression
+  other : Lexeme
+
+-- a token, at its place
+pub data Token : Type 0 where
+  token : Place → Lexeme → Token

@@ -1,0 +1,354 @@
+// What a form is with one more word.
+ghost use Rattle.std.specs.Prelude.{◌≡◌, ℕ, ◌∷◌, IfOk, List};
+ghost use Rattle.p8_grammar.specs.Views.{Grows, shape_of, access_of, setting_of, use_of, mark_of, term_of};
+ghost use Rattle.p8_grammar.specs.Machine.{takes, begins, on_name, on_result, on_string, on_size, on_register, on_change, on_parenthesis, on_bracket, on_dot, on_hash, on_colon, on_close, on_mark, grow, stays};
+ghost use Rattle.p8_grammar.specs.Lexemes.{in_method, here};
+
+use crate::building::{built, change, number};
+use crate::forms::{Written, target};
+use crate::lexemes::{Access, Mark, Setting, Term};
+use crate::measured::{Tall, TallList};
+use crate::shapes::{Grown, Head, Hole, Shape, Use};
+use p8_tree::{Expr, ExprKind, Place, Text};
+use std::alloc::{AllocError, Global};
+
+impl Use {
+    /// Whether a variable of this access may be read for this.
+    pub fn takes(self, access: Access) -> bool
+        ensures { result ≡ takes (use_of self) (access_of access) }
+    {
+        match self {
+            Use::Reading => true,
+            Use::Addressing(_) => match access {
+                Access::Memory => true,
+                _ => false,
+            },
+            Use::Changing(_, _) => access.is_written(),
+        }
+    }
+}
+
+// A form that begins an operand.
+fn begins(shape: Shape, next: Shape) -> Grown
+    ensures { Grows (begins (shape_of shape) (stays (shape_of next))) (shape_of shape) result }
+{
+    match shape {
+        Shape::Using(Use::Reading) => Grown::Stays(next),
+        other => {
+            drop(next);
+            Grown::Same(other)
+        }
+    }
+}
+
+// A local label's name, which begins with its colon.
+fn label(alloc: Global, name: Text) -> Result<Text, AllocError>
+    ensures { IfOk result (λ t. t ≡ 58 ∷ name) }
+{
+    let mut bytes = name.into_vec();
+    bytes.insert(0, b':')?;
+    Ok(Text::from_vec(bytes))
+}
+
+fn on_name(alloc: Global, place: Place, name: Text, shape: Shape) -> Result<Grown, AllocError>
+    ensures { IfOk result (λ g. Grows (on_name place name (shape_of shape)) (shape_of shape) g) }
+{
+    match shape {
+        Shape::Using(usage) => Ok(Grown::Stays(Shape::Named(usage, true, place, name))),
+        Shape::Coloned(usage, colon) => {
+            let name = label(alloc, name)?;
+            Ok(Grown::Stays(Shape::Named(usage, false, colon, name)))
+        }
+        Shape::Dotted(Use::Reading, true, first, object) => Ok(Grown::Stays(Shape::Headed(
+            Head::Calls(false, Some(object), None, name, place, first),
+        ))),
+        Shape::ObjectDot(trap, first, object, index) => Ok(Grown::Stays(Shape::Headed(Head::Calls(
+            trap,
+            Some(object),
+            index,
+            name,
+            place,
+            first,
+        )))),
+        Shape::Trapping => Ok(Grown::Stays(Shape::TrappedName(place, name))),
+        Shape::Hashed(first, object) => {
+            let tree = Expr {
+                place: first,
+                kind: ExprKind::ObjConst(object, name, place),
+            };
+            Ok(Grown::Stays(Shape::Done(Tall { tree, high: 1 })))
+        }
+        other => Ok(Grown::Same(other)),
+    }
+}
+
+fn on_result(alloc: Global, place: Place, shape: Shape) -> Result<Grown, AllocError>
+    ensures { IfOk result (λ g. Grows (on_result place (shape_of shape)) (shape_of shape) g) }
+{
+    match shape {
+        Shape::Using(usage) => {
+            let name = Text::copy_of(alloc, b"RESULT")?;
+            Ok(Grown::Stays(Shape::Named(usage, false, place, name)))
+        }
+        other => Ok(Grown::Same(other)),
+    }
+}
+
+fn on_string(place: Place, text: Text, shape: Shape) -> Grown
+    ensures { Grows (on_string place text (shape_of shape)) (shape_of shape) result }
+{
+    match shape {
+        Shape::Using(Use::Reading) => match text.as_slice() {
+            [character] => Grown::Stays(Shape::Done(number(place, u32::from(*character)))),
+            _ => Grown::Same(Shape::Using(Use::Reading)),
+        },
+        Shape::StringOpened(first) => {
+            if text.is_empty() {
+                Grown::Same(Shape::StringOpened(first))
+            } else {
+                Grown::Stays(Shape::StringRead(first, text))
+            }
+        }
+        other => Grown::Same(other),
+    }
+}
+
+fn on_size(setting: Setting, place: Place, size: u8, shape: Shape) -> Grown
+    ensures { Grows (on_size (setting_of setting) place size (shape_of shape)) (shape_of shape) result }
+{
+    match shape {
+        Shape::Using(usage) => {
+            if setting.allows_index() {
+                Grown::Stays(Shape::Sized(usage, place, size))
+            } else {
+                Grown::Same(Shape::Using(usage))
+            }
+        }
+        Shape::Dotted(usage, _, first, name) => {
+            Grown::Stays(Shape::Parted(usage, first, name, size))
+        }
+        other => Grown::Same(other),
+    }
+}
+
+fn on_register(setting: Setting, place: Place, address: u16, access: Access, shape: Shape) -> Grown
+    ensures { Grows (on_register (setting_of setting) place address (access_of access) (shape_of shape)) (shape_of shape) result }
+{
+    match shape {
+        Shape::Using(usage) => {
+            if access.is_in(setting) && usage.takes(access) {
+                Grown::Stays(Shape::RegisterWord(usage, place, address, access))
+            } else {
+                Grown::Same(Shape::Using(usage))
+            }
+        }
+        other => Grown::Same(other),
+    }
+}
+
+fn on_parenthesis(alloc: Global, shape: Shape) -> Grown
+    ensures { Grows (on_parenthesis (shape_of shape)) (shape_of shape) result }
+{
+    match shape {
+        Shape::Using(Use::Reading) => Grown::Opens(Hole::Parenthesis),
+        Shape::Named(Use::Reading, true, place, name) => {
+            let head = Head::Calls(false, None, None, name, place, place);
+            Grown::Opens(Hole::ArgumentOf(head, TallList::new(alloc)))
+        }
+        Shape::TrappedName(place, name) => {
+            let head = Head::Calls(true, None, None, name, place, place);
+            Grown::Opens(Hole::ArgumentOf(head, TallList::new(alloc)))
+        }
+        Shape::Headed(head) => Grown::Opens(Hole::ArgumentOf(head, TallList::new(alloc))),
+        Shape::StringBegun(place) => Grown::Stays(Shape::StringOpened(place)),
+        Shape::ConstantBegun(place) => Grown::Opens(Hole::ConstantOf(place)),
+        Shape::LookBegun(place, code) => Grown::Opens(Hole::LookFor(place, code)),
+        other => Grown::Same(other),
+    }
+}
+
+// The form that a bracket opens, where one may stand there.
+fn on_bracket(setting: Setting, shape: Shape) -> Grown
+    ensures { Grows (on_bracket (setting_of setting) (shape_of shape)) (shape_of shape) result }
+{
+    if setting.allows_index() {
+        indexed(shape)
+    } else {
+        Grown::Same(shape)
+    }
+}
+
+// The form that a bracket opens.
+fn indexed(shape: Shape) -> Grown
+    ensures { Grows (on_bracket in_method (shape_of shape)) (shape_of shape) result }
+{
+    match shape {
+        Shape::Named(usage, plain, place, name) => {
+            Grown::Opens(Hole::NameIndex(usage, plain, place, name))
+        }
+        Shape::Parted(usage, place, name, size) => {
+            Grown::Opens(Hole::PartIndex(usage, place, name, size))
+        }
+        Shape::Sized(usage, place, size) => Grown::Opens(Hole::MemoryAddress(usage, place, size)),
+        Shape::MemoryWord(usage, place, size, address) => {
+            Grown::Opens(Hole::MemoryIndex(usage, place, size, address))
+        }
+        Shape::RegisterWord(usage, place, address, access) => {
+            if access.has_bits() {
+                Grown::Opens(Hole::FirstBit(usage, place, address, access))
+            } else {
+                Grown::Same(Shape::RegisterWord(usage, place, address, access))
+            }
+        }
+        Shape::TrappedName(place, name) => Grown::Opens(Hole::TrappedIndex(place, name)),
+        other => Grown::Same(other),
+    }
+}
+
+fn on_dot(shape: Shape) -> Grown
+    ensures { Grows (on_dot (shape_of shape)) (shape_of shape) result }
+{
+    match shape {
+        Shape::Named(usage, plain, place, name) => {
+            Grown::Stays(Shape::Dotted(usage, plain, place, name))
+        }
+        Shape::IndexedName(place, name, index) => {
+            Grown::Stays(Shape::ObjectDot(false, place, name, Some(index)))
+        }
+        Shape::TrappedName(place, name) => {
+            Grown::Stays(Shape::ObjectDot(true, place, name, None))
+        }
+        Shape::TrappedElement(place, name, index) => {
+            Grown::Stays(Shape::ObjectDot(true, place, name, Some(index)))
+        }
+        other => Grown::Same(other),
+    }
+}
+
+fn on_hash(shape: Shape) -> Grown
+    ensures { Grows (on_hash (shape_of shape)) (shape_of shape) result }
+{
+    match shape {
+        Shape::Named(Use::Reading, true, place, name) => Grown::Stays(Shape::Hashed(place, name)),
+        other => Grown::Same(other),
+    }
+}
+
+fn on_colon(setting: Setting, place: Place, shape: Shape) -> Grown
+    ensures { Grows (on_colon (setting_of setting) place (shape_of shape)) (shape_of shape) result }
+{
+    match shape {
+        Shape::Using(usage) => {
+            if setting.is_dat() {
+                Grown::Stays(Shape::Coloned(usage, place))
+            } else {
+                Grown::Same(Shape::Using(usage))
+            }
+        }
+        other => Grown::Same(other),
+    }
+}
+
+fn on_close(shape: Shape) -> Grown
+    ensures { Grows (on_close (shape_of shape)) (shape_of shape) result }
+{
+    match shape {
+        Shape::StringRead(place, text) => {
+            let tree = Expr {
+                place,
+                kind: ExprKind::Str(text),
+            };
+            Grown::Stays(Shape::Done(Tall { tree, high: 1 }))
+        }
+        other => Grown::Same(other),
+    }
+}
+
+fn on_change(
+    alloc: Global,
+    place: Place,
+    before: u8,
+    after: u8,
+    shape: Shape,
+) -> Result<Grown, AllocError>
+    ensures { IfOk result (λ g. Grows (on_change place before after (shape_of shape)) (shape_of shape) g) }
+{
+    match shape {
+        Shape::Using(Use::Reading) => {
+            Ok(Grown::Stays(Shape::Using(Use::Changing(place, before))))
+        }
+        other => match target(alloc, other)? {
+            Written::Variable(variable) => Ok(Grown::Stays(Shape::Done(change(
+                place, variable, after,
+            )))),
+            Written::Not(shape) => Ok(Grown::Same(shape)),
+        },
+    }
+}
+
+/// A form with one more mark.
+pub fn on_mark(alloc: Global, setting: Setting, place: Place, mark: Mark, shape: Shape) -> Grown
+    ensures { Grows (on_mark (setting_of setting) place (mark_of mark) (shape_of shape)) (shape_of shape) result }
+{
+    match mark {
+        Mark::LeftParenthesis => on_parenthesis(alloc, shape),
+        Mark::RightParenthesis => on_close(shape),
+        Mark::LeftBracket => on_bracket(setting, shape),
+        Mark::Colon => on_colon(setting, place, shape),
+        Mark::Dot => on_dot(shape),
+        Mark::Hash => on_hash(shape),
+        Mark::Backslash => begins(shape, Shape::Trapping),
+        Mark::RightBracket => Grown::Same(shape),
+        Mark::Comma => Grown::Same(shape),
+        Mark::DotDot => Grown::Same(shape),
+    }
+}
+
+// `$`
+fn on_here(setting: Setting, place: Place, shape: Shape) -> Grown
+    ensures { Grows (grow (setting_of setting) (shape_of shape) place here) (shape_of shape) result }
+{
+    if setting.is_dat() {
+        let tree = Expr {
+            place,
+            kind: ExprKind::Here,
+        };
+        begins(shape, Shape::Done(Tall { tree, high: 1 }))
+    } else {
+        Grown::Same(shape)
+    }
+}
+
+/// A form with one more word of an operand.
+pub fn on_term(
+    alloc: Global,
+    setting: Setting,
+    place: Place,
+    term: Term,
+    shape: Shape,
+) -> Result<Grown, AllocError>
+    ensures { IfOk result (λ g. Grows (grow (setting_of setting) (shape_of shape) place (term_of term)) (shape_of shape) g) }
+{
+    match term {
+        Term::Number(value) => Ok(begins(shape, Shape::Done(number(place, value)))),
+        Term::Name(name) => on_name(alloc, place, name, shape),
+        Term::MethodResult => on_result(alloc, place, shape),
+        Term::Str(text) => Ok(on_string(place, text, shape)),
+        Term::Changes(before, after) => on_change(alloc, place, before, after, shape),
+        Term::Address => Ok(begins(shape, Shape::Using(Use::Addressing(place)))),
+        Term::Size(size) => Ok(on_size(setting, place, size, shape)),
+        Term::Register(address, access) => {
+            Ok(on_register(setting, place, address, access, shape))
+        }
+        Term::Here => Ok(on_here(setting, place, shape)),
+        Term::StringWord => Ok(begins(shape, Shape::StringBegun(place))),
+        Term::ConstantWord => Ok(begins(shape, Shape::ConstantBegun(place))),
+        Term::Look(code) => Ok(begins(shape, Shape::LookBegun(place, code))),
+        Term::Value(code) => {
+            let value = built(place, code, TallList::new(alloc));
+            Ok(begins(shape, Shape::Done(value)))
+        }
+        Term::BuiltIn(code) => Ok(begins(shape, Shape::Headed(Head::Built(code, place)))),
+        Term::Other => Ok(Grown::Same(shape)),
+    }
+}

@@ -1,0 +1,34 @@
+// Laws on the grammar of expressions.
+ghost use Rattle.std.specs.Prelude.{◌≡◌, ℕ, ◌<◌, ◌↔◌, ◌++◌, List};
+ghost use Rattle.p8_tree.specs.Expressions.{Tree};
+ghost use Rattle.p8_grammar.specs.Lexemes.{Setting, Token};
+ghost use Rattle.p8_grammar.specs.Grammar.{IsExpression, IsFront, IsLongestFront, OneTree};
+ghost use Rattle.p8_grammar.specs.Heights.{height, IsTooHigh};
+ghost use Rattle.p8_grammar.specs.Reading.{HasTaken};
+ghost use Rattle.p8_grammar.specs.declared.reader.Reader.{Reader};
+
+/// Tokens spell at most one tree: the function does nothing, and its contract is the law.
+pub fn one_tree()
+    ensures { OneTree }
+{}
+
+/// What begins an expression's beginning begins an expression, so the longest run is found by taking
+/// a token at a time.
+pub fn fronts_begin_fronts()
+    ensures { (s : Setting) (ts us : List Token) → IsFront s (ts ++ us) → IsFront s ts }
+{}
+
+/// Tokens have one longest run that begins an expression.
+pub fn one_longest_front()
+    ensures { (s : Setting) (ts : List Token) (n m : ℕ) → IsLongestFront s ts n → IsLongestFront s ts m → n ≡ m }
+{}
+
+/// What a reader has taken begins an expression.
+pub fn taken_is_front()
+    ensures { (s : Setting) (ts : List Token) (reader : Reader) → HasTaken s ts reader → IsFront s ts }
+{}
+
+/// An expression is higher than n exactly where each expression that begins with it is.
+pub fn height_shows()
+    ensures { (s : Setting) (n : ℕ) (ts : List Token) (e : Tree) → IsExpression s e ts → (IsTooHigh s n ts ↔ n < height e) }
+{}

@@ -1,0 +1,164 @@
+// What a token is to an expression.
+ghost use Rattle.std.specs.Prelude.{◌≡◌};
+ghost use Rattle.p8_grammar.specs.Lexemes.{inside, allows_index, is_dat, is_written, has_bits, is_in};
+ghost use Rattle.p8_grammar.specs.Views.{setting_of, access_of};
+
+use p8_tree::Text;
+
+/// Where an expression stands.
+#[derive(Clone, Copy, Debug, PartialEq, Eq)]
+pub enum Setting {
+    /// In a method.
+    Method,
+    /// Outside methods and DAT: in CON, VAR and OBJ.
+    Declaration,
+    /// In DAT: an operand of an instruction, or a value of `ORG`, `RES` or `FIT` or a count.
+    Dat,
+    /// An item of data in DAT, where no bracket outside parentheses and brackets is an index.
+    DataItem,
+}
+
+impl Setting {
+    /// The setting inside parentheses and brackets.
+    pub fn inside(self) -> Setting
+        ensures { setting_of result ≡ inside (setting_of self) }
+    {
+        match self {
+            Setting::Method => Setting::Method,
+            Setting::Declaration => Setting::Declaration,
+            Setting::Dat | Setting::DataItem => Setting::Dat,
+        }
+    }
+
+    /// Whether a bracket begins an index.
+    pub fn allows_index(self) -> bool
+        ensures { result ≡ allows_index (setting_of self) }
+    {
+        match self {
+            Setting::Method | Setting::Declaration | Setting::Dat => true,
+            Setting::DataItem => false,
+        }
+    }
+
+    /// Whether `$`, local labels and all registers may stand here.
+    pub fn is_dat(self) -> bool
+        ensures { result ≡ is_dat (setting_of self) }
+    {
+        match self {
+            Setting::Method | Setting::Declaration => false,
+            Setting::Dat | Setting::DataItem => true,
+        }
+    }
+}
+
+/// What may be done with a variable.
+#[derive(Clone, Copy, Debug, PartialEq, Eq)]
+pub enum Access {
+    /// In main memory: it is read and written, and has an address.
+    Memory,
+    /// `OUTA` and `DIRA`: they are read and written, whole or by bits.
+    Pins,
+    /// `INA`: it is read, whole or by bits.
+    InputPins,
+    /// `PAR` and `CNT`: they are read.
+    Input,
+    /// The other registers: they are read, in DAT alone.
+    Assembly,
+}
+
+impl Access {
+    /// Whether the variable may be written.
+    pub fn is_written(self) -> bool
+        ensures { result ≡ is_written (access_of self) }
+    {
+        match self {
+            Access::Memory | Access::Pins => true,
+            Access::InputPins | Access::Input | Access::Assembly => false,
+        }
+    }
+
+    /// Whether the variable has bits of its own.
+    pub fn has_bits(self) -> bool
+        ensures { result ≡ has_bits (access_of self) }
+    {
+        match self {
+            Access::Pins | Access::InputPins => true,
+            Access::Memory | Access::Input | Access::Assembly => false,
+        }
+    }
+
+    /// Whether the variable may stand in this setting.
+    pub fn is_in(self, setting: Setting) -> bool
+        ensures { result ≡ is_in (setting_of setting) (access_of self) }
+    {
+        match self {
+            Access::Assembly => setting.is_dat(),
+            Access::Memory | Access::Pins | Access::InputPins | Access::Input => true,
+        }
+    }
+}
+
+/// A mark between words.
+#[derive(Clone, Copy, Debug, PartialEq, Eq)]
+pub enum Mark {
+    LeftParenthesis,
+    RightParenthesis,
+    LeftBracket,
+    RightBracket,
+    Comma,
+    Colon,
+    Dot,
+    DotDot,
+    Hash,
+    Backslash,
+}
+
+/// An operator but for those that stand beside a variable.
+#[derive(Clone, Copy, Debug, PartialEq, Eq)]
+pub enum Operator {
+    /// Before its operand: its rank and its bytecode.
+    Prefix(u8, u8),
+    /// Between its operands: its rank and its bytecode.
+    Infix(u8, u8),
+    /// `+` or `-`: its bytecode before an operand, and between operands.
+    Sign(u8, u8),
+    /// `:=`, or a binary operator with `=`.
+    Assigns(Option<u8>),
+    /// `@@`
+    ObjectAddress,
+}
+
+/// A word that an operand has. Numbers behind it are its bytecode or effect byte, a size in bytes
+/// or a register's address.
+#[derive(Drop)]
+pub enum Term {
+    Number(u32),
+    /// A name, in capitals.
+    Name(Text),
+    MethodResult,
+    /// A string's characters.
+    Str(Text),
+    /// `++`, `--`, `~` or `~~`: its effect byte before a variable, and after it.
+    Changes(u8, u8),
+    Address,
+    Size(u8),
+    Register(u16, Access),
+    Here,
+    StringWord,
+    ConstantWord,
+    Look(u8),
+    /// `COGID`, `CLKFREQ` or `CLKMODE`.
+    Value(u8),
+    /// Another built-in that gives a value.
+    BuiltIn(u8),
+    /// What stands in no expression.
+    Other,
+}
+
+/// What a token is to an expression.
+#[derive(Drop)]
+pub enum Lexeme {
+    Mark(Mark),
+    Operator(Operator),
+    Term(Term),
+}

@@ -1,0 +1,19 @@
+//! Expressions: from tokens to trees.
+#![tactic(auto)]
+
+mod building;
+mod forms;
+mod growing;
+mod laws;
+mod lexemes;
+mod measured;
+mod reader;
+mod shapes;
+mod stack;
+mod taking;
+#[cfg(test)]
+mod tests;
+
+pub use laws::{fronts_begin_fronts, height_shows, one_longest_front, one_tree, taken_is_front};
+pub use lexemes::{Access, Lexeme, Mark, Operator, Setting, Term};
+pub use reader::Reader;

@@ -1,0 +1,112 @@
+// A reader of one expression.
+ghost use Rattle.std.specs.Prelude.{◌≡◌, ◌∷◌, ◌++◌, [], List, IfOk, IsTrue, ◌↔◌, MatchOption, option_map, if◌then◌else◌};
+ghost use Rattle.p8_tree.specs.Expressions.{Tree};
+ghost use Rattle.p8_tree.specs.Views.{tree_of};
+ghost use Rattle.p8_grammar.specs.Lexemes as lexemes;
+ghost use Rattle.p8_grammar.specs.Lexemes.{Token, token};
+ghost use Rattle.p8_grammar.specs.Grammar.{IsExpression, IsFront};
+ghost use Rattle.p8_grammar.specs.Heights.{IsTooHigh};
+ghost use Rattle.p8_grammar.specs.Machine.{step, accept};
+ghost use Rattle.p8_grammar.specs.Views.{setting_of, lexeme_of};
+ghost use Rattle.p8_grammar.specs.Reading.{HasTaken, state_of, Steps, least_of};
+
+use crate::lexemes::{Lexeme, Setting};
+use crate::measured::{TOO_HIGH, Tall};
+use crate::shapes::{Shape, Use};
+use crate::stack::Stack;
+use crate::taking::{self, Taken};
+use p8_tree::{Expr, Place};
+use p8_words::NoMemory;
+use std::alloc::{AllocError, Global};
+use std::mem;
+
+/// A reader of one expression: it takes a token at a time, as long as they begin one.
+///
+/// A token takes constant time but for the trees that it ends, each of which is built once. Nothing
+/// recurses on what is read. After `NoMemory` a reader is of no use.
+#[derive(Drop)]
+pub struct Reader {
+    setting: Setting,
+    shape: Shape,
+    stack: Stack,
+}
+
+impl Reader {
+    /// A reader that has taken nothing, of an expression that stands in this setting.
+    pub fn new(alloc: Global, setting: Setting) -> Reader
+        ensures { HasTaken (setting_of setting) [] result }
+    {
+        Reader {
+            setting,
+            shape: Shape::Using(Use::Reading),
+            stack: Stack::new(alloc),
+        }
+    }
+
+    /// Takes the token, where some expression begins with it behind those that were taken, and says
+    /// whether it did. Else it is as before.
+    pub fn take(&mut self, alloc: Global, place: Place, lexeme: Lexeme) -> Result<bool, NoMemory>
+        ensures begins { (s : lexemes.Setting) (ts : List Token) → HasTaken s ts self.old → IfOk result (λ b. IsTrue b ↔ IsFront s (ts ++ token place (lexeme_of lexeme) ∷ [])) }
+        ensures taken { (s : lexemes.Setting) (ts : List Token) → HasTaken s ts self.old → IfOk result (λ b. HasTaken s (if b then ts ++ token place (lexeme_of lexeme) ∷ [] else ts) self.new) }
+    {
+        let taken = self.advance(alloc, place, lexeme)?;
+        Ok(taken)
+    }
+
+    // One step of the machine, where there is one.
+    fn advance(&mut self, alloc: Global, place: Place, lexeme: Lexeme) -> Result<bool, AllocError>
+        ensures { IfOk result (λ b. Steps (step (state_of self.old) (token place (lexeme_of lexeme))) (state_of self.old) b (state_of self.new)) }
+    {
+        let shape = mem::replace(&mut self.shape, Shape::Using(Use::Reading));
+        match taking::take(alloc, self.setting, shape, place, lexeme, &mut self.stack)? {
+            Taken::On(setting, shape) => {
+                self.setting = setting;
+                self.shape = shape;
+                Ok(true)
+            }
+            Taken::Dead(shape) => {
+                self.shape = shape;
+                Ok(false)
+            }
+        }
+    }
+
+    // The least height of an expression that begins so, counted up to 65.
+    fn least(&self) -> u8
+        ensures { result ≡ least_of self.now }
+    {
+        self.stack.least(self.shape.least())
+    }
+
+    /// Whether each expression that begins with what was taken is higher than 64: an expression
+    /// without another inside it has height 1, and parentheses add none.
+    pub fn is_too_high(&self) -> bool
+        ensures { (s : lexemes.Setting) (ts : List Token) → HasTaken s ts self.now → (IsTrue result ↔ IsTooHigh s 64 ts) }
+    {
+        self.least() == TOO_HIGH
+    }
+
+    /// The tree of what was taken, or none where it is no expression.
+    pub fn finish(self, alloc: Global) -> Result<Option<Expr>, NoMemory>
+        ensures { (s : lexemes.Setting) (ts : List Token) → HasTaken s ts self → IfOk result (λ o. MatchOption o ((e : Tree) → ¬ IsExpression s e ts) (λ x. IsExpression s (tree_of x) ts)) }
+    {
+        let tree = self.accepted(alloc)?;
+        Ok(tree)
+    }
+
+    // What the machine accepts.
+    fn accepted(self, alloc: Global) -> Result<Option<Expr>, AllocError>
+        ensures { IfOk result (λ o. option_map tree_of o ≡ accept (state_of self)) }
+    {
+        let Reader {
+            setting,
+            shape,
+            stack,
+        } = self;
+        let mut stack = stack;
+        match taking::finish(alloc, setting, shape, &mut stack)? {
+            Some(Tall { tree, .. }) => Ok(Some(tree)),
+            None => Ok(None),
+        }
+    }
+}

@@ -1,0 +1,337 @@
+// One word more, with what is begun kept on a stack.
+ghost use Rattle.std.specs.Prelude.{◌≡◌, ℕ, ◌+◌, ◌*◌, ◌<◌, ◌≤◌, Some, None, IfOk, OnOk, IsSome, option_and_then, option_map};
+ghost use Rattle.p8_grammar.specs.Machine.{wrap, reduce, shut, step, state, fresh, if_fresh, operate, assign, grow, tree, target, accept, all_of};
+ghost use Rattle.p8_grammar.specs.Lexemes as lexemes;
+ghost use Rattle.p8_grammar.specs.Lexemes.{token, mark as mark_word, sign};
+ghost use Rattle.p8_grammar.specs.Views.{expr_of, shape_of, setting_of, mark_of, lexeme_of, operator_of, term_of, prefix_in, frame_of, tree_in};
+ghost use Rattle.p8_grammar.specs.Levels.{frames_in, Takes};
+
+use crate::forms::{Closed, Finished, Written, close, target, whole};
+use crate::lexemes::{Lexeme, Mark, Operator, Setting, Term};
+use crate::measured::Tall;
+use crate::shapes::{Grown, Shape, Use};
+use crate::stack::{Frame, Prefix, Stack};
+use crate::{building, growing};
+use p8_tree::Place;
+use std::alloc::{AllocError, Global};
+
+/// Whether a word was taken, and what is read then: where it wasn't, all is as before.
+#[derive(Drop)]
+pub enum Taken {
+    On(Setting, Shape),
+    Dead(Shape),
+}
+
+// A frame with its operand.
+fn wrap(alloc: Global, frame: Frame, tree: Tall) -> Result<Tall, AllocError>
+    ensures { IfOk result (λ e. expr_of e ≡ wrap (frame_of frame) (expr_of tree)) }
+{
+    match frame {
+        Frame::Prefix(Prefix::AtObject, place) => building::at_object(alloc, place, tree),
+        Frame::Prefix(Prefix::Unary(_, code), place) => building::unary(alloc, place, code, tree),
+        Frame::Infix(_, code, place, left) => building::binary(alloc, place, code, left, tree),
+        Frame::Assign(operator, place, variable) => {
+            building::assignment(alloc, place, operator, variable, tree)
+        }
+        Frame::Inside(_, hole) => {
+            drop(hole);
+            Ok(tree)
+        }
+    }
+}
+
+// Ends the frames whose operators bind at least as tightly as this level.
+fn reduce(alloc: Global, level: u32, tree: Tall, stack: &mut Stack) -> Result<Tall, AllocError>
+    requires { level < 23 }
+    ensures { IfOk result (λ e. reduce level (expr_of tree) (frames_in stack.old) ≡ (expr_of e, frames_in stack.new)) }
+{
+    let mut tree = tree;
+    'ends: while stack.bar() <= level {
+        match stack.pop() {
+            Some(frame) => tree = wrap(alloc, frame, tree)?,
+            None => unreachable!(),
+        }
+    }
+    Ok(tree)
+}
+
+// A mark that ends the expression in the last form: the setting and the form that go on.
+fn shut(
+    alloc: Global,
+    mark: Mark,
+    tree: Tall,
+    stack: &mut Stack,
+) -> Result<(Setting, Shape), AllocError>
+    requires { IsSome (shut (mark_of mark) (expr_of tree) (frames_in stack.old)) }
+    ensures { IfOk result (λ x. shut (mark_of mark) (expr_of tree) (frames_in stack.old) ≡ Some (state (setting_of x.0) (shape_of x.1) (frames_in stack.new))) }
+{
+    match stack.pop() {
+        Some(Frame::Inside(outer, hole)) => match close(alloc, mark, hole, tree)? {
+            Closed::Stays(shape) => Ok((outer, shape)),
+            Closed::Opens(hole) => {
+                stack.push(Frame::Inside(outer, hole))?;
+                Ok((outer.inside(), Shape::Using(Use::Reading)))
+            }
+        },
+        _ => unreachable!(),
+    }
+}
+
+// A mark that doesn't belong to the form.
+fn mark_after(
+    alloc: Global,
+    setting: Setting,
+    mark: Mark,
+    shape: Shape,
+    stack: &mut Stack,
+) -> Result<Taken, AllocError>
+    ensures { IfOk result (λ t. Takes (option_and_then (λ e. shut (mark_of mark) (reduce 22 e (frames_in stack.old)).0 (reduce 22 e (frames_in stack.old)).1) (tree (shape_of shape))) (state (setting_of setting) (shape_of shape) (frames_in stack.old)) t (frames_in stack.new)) }
+{
+    if !stack.ends_with(mark) {
+        return Ok(Taken::Dead(shape));
+    }
+    match whole(alloc, shape)? {
+        Finished::Not(shape) => Ok(Taken::Dead(shape)),
+        Finished::Tree(tree) => {
+            let tree = reduce(alloc, 22, tree, stack)?;
+            let (setting, shape) = shut(alloc, mark, tree, stack)?;
+            Ok(Taken::On(setting, shape))
+        }
+    }
+}
+
+// An operator before its operand.
+fn prefix(
+    setting: Setting,
+    shape: Shape,
+    place: Place,
+    operator: Prefix,
+    stack: &mut Stack,
+) -> Result<Taken, AllocError>
+    ensures { IfOk result (λ t. Takes (if_fresh (setting_of setting) (shape_of shape) (Some (prefix_in operator)) place (frames_in stack.old)) (state (setting_of setting) (shape_of shape) (frames_in stack.old)) t (frames_in stack.new)) }
+{
+    match shape {
+        Shape::Using(Use::Reading) => {
+            if 2 * u32::from(operator.rank()) + 1 < stack.bar() {
+                stack.push(Frame::Prefix(operator, place))?;
+                Ok(Taken::On(setting, Shape::Using(Use::Reading)))
+            } else {
+                Ok(Taken::Dead(Shape::Using(Use::Reading)))
+            }
+        }
+        other => Ok(Taken::Dead(other)),
+    }
+}
+
+// An operator between its operands, behind the left one.
+fn operate(
+    alloc: Global,
+    place: Place,
+    rank: u8,
+    code: u8,
+    tree: Tall,
+    stack: &mut Stack,
+) -> Result<(), AllocError>
+    requires { (0 < rank) × (rank < 12) }
+    ensures { (s : lexemes.Setting) → OnOk result (operate s (Some (rank, code)) place (expr_of tree) (frames_in stack.old) ≡ Some (state s fresh (frames_in stack.new))) }
+{
+    let left = reduce(alloc, 2 * u32::from(rank), tree, stack)?;
+    stack.push(Frame::Infix(rank - 1, code, place, left))?;
+    Ok(())
+}
+
+// An operator between operands.
+fn infix(
+    alloc: Global,
+    setting: Setting,
+    shape: Shape,
+    place: Place,
+    rank: u8,
+    code: u8,
+    stack: &mut Stack,
+) -> Result<Taken, AllocError>
+    ensures { IfOk result (λ t. Takes (option_and_then (λ e. operate (setting_of setting) (Some (rank, code)) place e (frames_in stack.old)) (tree (shape_of shape))) (state (setting_of setting) (shape_of shape) (frames_in stack.old)) t (frames_in stack.new)) }
+{
+    if rank == 0 || 12 <= rank {
+        return Ok(Taken::Dead(shape));
+    }
+    match whole(alloc, shape)? {
+        Finished::Not(shape) => Ok(Taken::Dead(shape)),
+        Finished::Tree(tree) => {
+            operate(alloc, place, rank, code, tree, stack)?;
+            Ok(Taken::On(setting, Shape::Using(Use::Reading)))
+        }
+    }
+}
+
+// An assignment.
+fn assign(
+    alloc: Global,
+    setting: Setting,
+    shape: Shape,
+    place: Place,
+    operator: Option<u8>,
+    stack: &mut Stack,
+) -> Result<Taken, AllocError>
+    ensures { IfOk result (λ t. Takes (assign (setting_of setting) (target (shape_of shape)) operator place (frames_in stack.old)) (state (setting_of setting) (shape_of shape) (frames_in stack.old)) t (frames_in stack.new)) }
+{
+    if stack.bar() <= 21 {
+        return Ok(Taken::Dead(shape));
+    }
+    match target(alloc, shape)? {
+        Written::Variable(variable) => {
+            stack.push(Frame::Assign(operator, place, variable))?;
+            Ok(Taken::On(setting, Shape::Using(Use::Reading)))
+        }
+        Written::Not(shape) => Ok(Taken::Dead(shape)),
+    }
+}
+
+// A mark.
+fn take_mark(
+    alloc: Global,
+    setting: Setting,
+    shape: Shape,
+    place: Place,
+    mark: Mark,
+    stack: &mut Stack,
+) -> Result<Taken, AllocError>
+    ensures { IfOk result (λ t. Takes (step (state (setting_of setting) (shape_of shape) (frames_in stack.old)) (token place (mark_word (mark_of mark)))) (state (setting_of setting) (shape_of shape) (frames_in stack.old)) t (frames_in stack.new)) }
+{
+    match growing::on_mark(alloc, setting, place, mark, shape) {
+        Grown::Stays(shape) => Ok(Taken::On(setting, shape)),
+        Grown::Opens(hole) => {
+            stack.push(Frame::Inside(setting, hole))?;
+            Ok(Taken::On(setting.inside(), Shape::Using(Use::Reading)))
+        }
+        Grown::Same(shape) => mark_after(alloc, setting, mark, shape, stack),
+    }
+}
+
+// `+` or `-`.
+fn take_sign(
+    alloc: Global,
+    setting: Setting,
+    shape: Shape,
+    place: Place,
+    before: u8,
+    between: u8,
+    stack: &mut Stack,
+) -> Result<Taken, AllocError>
+    ensures { IfOk result (λ t. Takes (step (state (setting_of setting) (shape_of shape) (frames_in stack.old)) (token place (sign before between))) (state (setting_of setting) (shape_of shape) (frames_in stack.old)) t (frames_in stack.new)) }
+{
+    if shape.is_fresh() {
+        prefix(setting, shape, place, Prefix::Unary(1, before), stack)
+    } else {
+        infix(alloc, setting, shape, place, 6, between, stack)
+    }
+}
+
+// An operator.
+fn take_operator(
+    alloc: Global,
+    setting: Setting,
+    shape: Shape,
+    place: Place,
+    operator: Operator,
+    stack: &mut Stack,
+) -> Result<Taken, AllocError>
+    ensures { IfOk result (λ t. Takes (step (state (setting_of setting) (shape_of shape) (frames_in stack.old)) (token place (operator_of operator))) (state (setting_of setting) (shape_of shape) (frames_in stack.old)) t (frames_in stack.new)) }
+{
+    match operator {
+        Operator::Prefix(rank, code) => {
+            prefix(setting, shape, place, Prefix::Unary(rank, code), stack)
+        }
+        Operator::ObjectAddress => prefix(setting, shape, place, Prefix::AtObject, stack),
+        Operator::Infix(rank, code) => infix(alloc, setting, shape, place, rank, code, stack),
+        Operator::Sign(before, between) => {
+            take_sign(alloc, setting, shape, place, before, between, stack)
+        }
+        Operator::Assigns(operator) => assign(alloc, setting, shape, place, operator, stack),
+    }
+}
+
+// A word of an operand.
+fn take_term(
+    alloc: Global,
+    setting: Setting,
+    shape: Shape,
+    place: Place,
+    term: Term,
+    stack: &mut Stack,
+) -> Result<Taken, AllocError>
+    ensures { IfOk result (λ t. Takes (step (state (setting_of setting) (shape_of shape) (frames_in stack.old)) (token place (term_of term))) (state (setting_of setting) (shape_of shape) (frames_in stack.old)) t (frames_in stack.new)) }
+{
+    match growing::on_term(alloc, setting, place, term, shape)? {
+        Grown::Stays(shape) => Ok(Taken::On(setting, shape)),
+        Grown::Opens(hole) => {
+            stack.push(Frame::Inside(setting, hole))?;
+            Ok(Taken::On(setting.inside(), Shape::Using(Use::Reading)))
+        }
+        Grown::Same(shape) => Ok(Taken::Dead(shape)),
+    }
+}
+
+/// The next word.
+pub fn take(
+    alloc: Global,
+    setting: Setting,
+    shape: Shape,
+    place: Place,
+    lexeme: Lexeme,
+    stack: &mut Stack,
+) -> Result<Taken, AllocError>
+    ensures { IfOk result (λ t. Takes (step (state (setting_of setting) (shape_of shape) (frames_in stack.old)) (token place (lexeme_of lexeme))) (state (setting_of setting) (shape_of shape) (frames_in stack.old)) t (frames_in stack.new)) }
+{
+    match lexeme {
+        Lexeme::Mark(mark) => take_mark(alloc, setting, shape, place, mark, stack),
+        Lexeme::Operator(operator) => {
+            take_operator(alloc, setting, shape, place, operator, stack)
+        }
+        Lexeme::Term(term) => take_term(alloc, setting, shape, place, term, stack),
+    }
+}
+
+// The tree of a whole form.
+fn into_tree(finished: Finished) -> Option<Tall>
+    ensures { option_map expr_of result ≡ tree_in finished }
+{
+    match finished {
+        Finished::Tree(tree) => Some(tree),
+        Finished::Not(shape) => {
+            drop(shape);
+            None
+        }
+    }
+}
+
+// The tree, where nothing waits for it.
+fn alone(tree: Tall, stack: &Stack) -> Option<Tall>
+    ensures { option_map expr_of result ≡ all_of (expr_of tree) (frames_in stack.now) }
+{
+    if stack.is_empty() {
+        Some(tree)
+    } else {
+        drop(tree);
+        None
+    }
+}
+
+/// The tree, where what has been read is an expression.
+pub fn finish(
+    alloc: Global,
+    setting: Setting,
+    shape: Shape,
+    stack: &mut Stack,
+) -> Result<Option<Tall>, AllocError>
+    ensures { IfOk result (λ o. option_map expr_of o ≡ accept (state (setting_of setting) (shape_of shape) (frames_in stack.old))) }
+{
+    let finished = whole(alloc, shape)?;
+    match into_tree(finished) {
+        None => Ok(None),
+        Some(tree) => {
+            let tree = reduce(alloc, 22, tree, stack)?;
+            Ok(alone(tree, stack))
+        }
+    }
+}
