@@ -1,6 +1,6 @@
 -- The levels of a script at a clock, by the number of lines whose clocks aren't later.
-use Rattle.std.proofs.Common.{◌≡◌, ◌∙◌, ap, sym, refl, subst, ℕ, zero, suc, ◌<◌, ◌≤◌, inl, inr, true, false, nat_lt, nat_le, if◌then◌else◌, List, [], ◌∷◌, length, get_or, Option, Some, None, arith}
-use Rattle.std.specs.Prelude.{slice_get, IfSome}
+use Rattle.std.proofs.Common.{◌≡◌, ◌∙◌, ap, sym, refl, subst, ℕ, zero, suc, ◌<◌, ◌≤◌, inl, inr, Bool, true, false, not, nat_lt, nat_le, if◌then◌else◌, List, [], ◌∷◌, length, get_or, Option, Some, None, arith}
+use Rattle.std.specs.Prelude.{slice_get, IfSome, MatchBool, IsTrue}
 use Rattle.std.specs.List.{AllWithin}
 use Rattle.std.specs.List.Sorted.{IsStrictlyIncreasing, IsNonDecreasingBy}
 use Rattle.std.proofs.lemmas.List.{length-map}
@@ -131,3 +131,39 @@ splits-kept lines changes n u view le front back =
 
     late : (k : ℕ) → n ≤ k → k < length changes → u < clock_of (lines_of changes) k
     late k h m = omega (arith, clock_of-lines_of changes k filler m, leb-false _ _ (back k filler h m))
+
+-- whether a line comes later, by the clock at its place
+pub later-beyond : (lines : List Line) (n u : ℕ) → slice_get (clocks_of lines) n ≡ None → n < length lines → u < clock_of lines n
+later-beyond lines n u none inside = absurd (let e : None ≡ Some (clock_of lines n) = sym none ∙ slice_get-clock lines n inside in cc)
+
+pub clock-there : (lines : List Line) (n clock : ℕ) → slice_get (clocks_of lines) n ≡ Some clock → (n < length lines) × (clock_of lines n ≡ clock)
+clock-there lines n clock some =
+    elim (cases_lt n (length lines)) [
+      | inl inside ↦ (inside, (let e : Some (clock_of lines n) ≡ Some clock = sym (slice_get-clock lines n inside) ∙ some in cc))
+      | inr past ↦ absurd (let e : None ≡ Some clock = sym (slice_get-beyond lines n past) ∙ some in cc)
+    ]
+
+less-true : (u line : ℕ) → nat_lt u line ≡ true → u < line
+less-true u line e = grind (arith, nat_tests)
+
+less-false : (u line : ℕ) → nat_lt u line ≡ false → line ≤ u
+less-false u line e = grind (arith, nat_tests)
+
+later-by : (lines : List Line) (n u line : ℕ) (b : Bool) → nat_lt u line ≡ b → (n < length lines) × (clock_of lines n ≡ line) → MatchBool b (n < length lines → u < clock_of lines n) ((n < length lines) × (clock_of lines n ≤ u))
+later-by lines n u line true e there = λ inside. (let less : u < line = less-true u line e in let same : clock_of lines n ≡ line = there.1 in omega arith)
+later-by lines n u line false e there = (there.0, (let on : line ≤ u = less-false u line e in let same : clock_of lines n ≡ line = there.1 in omega arith))
+
+pub later-there : (lines : List Line) (n u line : ℕ) → slice_get (clocks_of lines) n ≡ Some line → MatchBool (nat_lt u line) (n < length lines → u < clock_of lines n) ((n < length lines) × (clock_of lines n ≤ u))
+later-there lines n u line some = later-by lines n u line (nat_lt u line) refl (clock-there lines n line some)
+
+-- a test that is false
+pub not-true : (b : Bool) (P Q : Type 0) → MatchBool b P Q → IsTrue (not b) → Q
+not-true true P Q m is = absurd (let e : false ≡ true = is in cc)
+not-true false P Q m is = m
+
+-- the lines from one that comes later on do, and those up to one that doesn't don't
+pub later-all : (lines : List Line) (n u : ℕ) → IsStrictlyIncreasing (clocks_of lines) → (n < length lines → u < clock_of lines n) → (k : ℕ) → n ≤ k → k < length lines → u < clock_of lines k
+later-all lines n u rising later k le h = omega (arith, later (omega arith), clock_of-le lines n k rising le h)
+
+pub by-all : (lines : List Line) (last u : ℕ) → IsStrictlyIncreasing (clocks_of lines) → (last < length lines) × (clock_of lines last ≤ u) → (k : ℕ) → k ≤ last → clock_of lines k ≤ u
+by-all lines last u rising by k le = (let here : clock_of lines last ≤ u = by.1 in omega (arith, clock_of-le lines k last rising le by.0))

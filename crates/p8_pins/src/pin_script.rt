@@ -128,6 +128,49 @@ impl PinScript {
         self.changes.partition_point(|change| change.clock <= clock)
     }
 
+    /// Whether the line at a place, if there is one, comes later than a clock.
+    #[inline]
+    fn is_later(&self, place: usize, clock: u64) -> bool
+        ensures { MatchBool result (place < length self.now → clock < clock_in self.now place) ((place < length self.now) × (clock_in self.now place ≤ clock)) }
+    {
+        match self.clock_of(place) {
+            None => true,
+            Some(line) => clock < line,
+        }
+    }
+
+    /// Whether so many lines have no later clock than this one, and the others have.
+    #[inline]
+    fn is_count(&self, count: usize, clock: u64) -> bool
+        ensures within { IsTrue result → count ≤ length self.now }
+        ensures before { IsTrue result → (k : ℕ) → k < count → clock_in self.now k ≤ clock }
+        ensures after { IsTrue result → (k : ℕ) → count ≤ k → k < length self.now → clock < clock_in self.now k }
+    {
+        if !self.is_later(count, clock) {
+            return false;
+        }
+        match count.checked_sub(1) {
+            None => true,
+            Some(last) => last < self.changes.len() && !self.is_later(last, clock),
+        }
+    }
+
+    /// How many lines have no later clock than this one, at once where it is as many as `near` or one more.
+    #[inline]
+    fn lines_near(&self, near: usize, clock: u64) -> usize
+        ensures within { result ≤ length self.now }
+        ensures before { (k : ℕ) → k < result → clock_in self.now k ≤ clock }
+        ensures after { (k : ℕ) → result ≤ k → k < length self.now → clock < clock_in self.now k }
+    {
+        if self.is_count(near, clock) {
+            return near;
+        }
+        if near < self.changes.len() && self.is_count(near + 1, clock) {
+            return near + 1;
+        }
+        self.lines_by(clock)
+    }
+
     /// The levels that so many lines leave.
     fn levels_after(&self, count: usize) -> u32
         requires { count ≤ length self.now }
@@ -153,10 +196,32 @@ impl PinScript {
         ensures later { IfSome result.end (λ end. clock < end) }
         ensures same { (u : ℕ) → clock ≤ u → IsBefore u result.end → level_of self.now u ≡ result.levels }
     {
-        let count = self.lines_by(clock);
+        self.span_by(self.lines_by(clock))
+    }
+
+    /// The span from a clock on, as `span_at` gives it: at once where the clock is in this span of the
+    /// script or in the one behind it.
+    #[inline]
+    pub fn span_near(&self, near: &Span, clock: u64) -> Span
+        ensures levels { result.levels ≡ level_of self.now clock }
+        ensures end { result.end ≡ next_clock self.now clock }
+        ensures later { IfSome result.end (λ end. clock < end) }
+        ensures same { (u : ℕ) → clock ≤ u → IsBefore u result.end → level_of self.now u ≡ result.levels }
+    {
+        self.span_by(self.lines_near(near.count, clock))
+    }
+
+    /// The span behind so many lines.
+    #[inline]
+    fn span_by(&self, count: usize) -> Span
+        requires { count ≤ length self.now }
+        ensures levels { result.levels ≡ levels_by 0 self.now count }
+        ensures end { result.end ≡ slice_get (clocks_of self.now) count }
+    {
         Span {
             levels: self.levels_after(count),
             end: self.clock_of(count),
+            count,
         }
     }
 

@@ -16,6 +16,8 @@ pub struct Span {
     pub levels: u32,
     /// The clock of the next line, or None where there is none.
     pub end: Option<u64>,
+    /// How many lines come before that one.
+    pub count: usize,
 }
 
 impl Span {

@@ -1,5 +1,5 @@
 // Worked values.
-use crate::{PinScript, ScriptFault, Span};
+use crate::{PinScript, ScriptFault};
 use p8_access::Test;
 use p8_words::Fail as Failure;
 use std::alloc::Global;
@@ -143,14 +143,13 @@ fn decides_within_a_span(rt: HostRuntime) -> Result<(), Fail> {
     let script = PinScript::read(rt.alloc(), b"5 00000001\n9 00000003\n")?;
     let span = script.span_at(6);
     let end = Some(9);
-    assert_eq!(rt; span, Span { levels: 1, end });
-    assert_eq!(rt;
-        script.span_at(9),
-        Span {
-            levels: 3,
-            end: None
-        }
-    );
+    assert_eq!(rt; (span.levels, span.end), (1, end));
+    let last = script.span_at(9);
+    assert_eq!(rt; (last.levels, last.end), (3, None));
+    for near in [script.span_at(0), span, last] {
+        assert_eq!(rt; script.span_near(&near, 6), span);
+        assert_eq!(rt; script.span_near(&near, 9), last);
+    }
     let rows = [
         (Test::PinsEqual { state: 1, mask: 3 }, Some(6)),
         (Test::PinsEqual { state: 3, mask: 3 }, None),
