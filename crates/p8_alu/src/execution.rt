@@ -21,8 +21,10 @@ use p8_words::reverse;
 /// `d` and `s` are the values of the destination and the source, `c` and `z` the flags before, and
 /// `next` is the address after the instruction's, below 512, which JMPRET keeps. Neither the
 /// instruction's condition nor its bits for what is written are looked at.
+///
+/// It is always inlined, since the loop of a cog is to hold it and isn't its only caller.
 #[tactic(auto, unfolding(crate::specs::Effects::rows))]
-#[inline]
+#[inline(always)]
 pub fn execute(i: Instr, d: u32, s: u32, c: bool, z: bool, next: u16) -> Effect
     requires first { 8 ≤ i.opcode }
     requires last { i.opcode ≤ 59 }

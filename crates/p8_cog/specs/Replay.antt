@@ -1,12 +1,15 @@
 -- The life of a PASM cog, replayed whole from its start: instruction by instruction, each of them one
 -- formula with its accesses in order (Propeller Manual v1.2, assembly reference; the clocks, the flags of
 -- instructions of the hub and the halts are this project's profile).
-use Rattle.std.specs.Prelude.{ℕ, zero, suc, ◌+◌, ◌*◌, ◌/◌, ◌%◌, ◌^◌, ◌==◌, ◌≡◌, ◌&&◌, nat_lt, nat_le, not, if◌then◌else◌, Bool, false, List, [], ◌∷◌, ◌++◌, slice_index, slice_set, replicate}
+use Rattle.std.specs.Prelude.{ℕ, zero, suc, ◌+◌, ◌*◌, ◌/◌, ◌%◌, ◌^◌, ◌==◌, ◌≡◌, ◌&&◌, nat_lt, nat_le, not, if◌then◌else◌, Bool, true, false, List, [], ◌∷◌, ◌++◌, Option, Some, None, slice_index, slice_set, replicate}
 use Rattle.p8_access.specs.declared.kinds.Width.{Width}
+use Rattle.p8_access.specs.declared.kinds.Origin.TheVariants.{Pasm}
+use Rattle.p8_access.specs.declared.kinds.Test.{Test}
+use Rattle.p8_access.specs.declared.kinds.Test.TheVariants.{Count, PinsEqual, PinsDiffer}
 use Rattle.p8_access.specs.declared.kinds.Reason.{Reason}
-use Rattle.p8_access.specs.declared.kinds.Reason.TheVariants.{Opcode, Rom, Register}
+use Rattle.p8_access.specs.declared.kinds.Reason.TheVariants.{Opcode, Rom, Register, Port, Reset}
 use Rattle.p8_access.specs.declared.kinds.Access.{Access}
-use Rattle.p8_access.specs.declared.kinds.Access.TheVariants.{Read, Write, CogId, CogStop, Halt}
+use Rattle.p8_access.specs.declared.kinds.Access.TheVariants.{Read, Write, CogId, CogInit, CogStop, LockNew, LockRet, LockSet, LockClr, ClkSet, OutSet, DirSet, Wait, Halt}
 use Rattle.p8_access.specs.declared.kinds.Answer.{Answer}
 use Rattle.p8_access.specs.declared.kinds.Answer.TheVariants.{Done, Value, Number, Was}
 use Rattle.p8_access.specs.declared.order.Turn.{Turn}
@@ -14,13 +17,14 @@ use Rattle.p8_access.specs.Windows.{window_of}
 use Rattle.p8_access.specs.Proper.{bytes_in}
 use Rattle.p8_access.specs.Lives.{Loaded, Begun, PasmBegun, SpinBegun}
 use Rattle.p8_instr.specs.declared.instruction.Instr.{Instr}
-use Rattle.p8_instr.specs.Instruction.{instr_of, writes_z, writes_c, writes_result, is_immediate}
+use Rattle.p8_instr.specs.Instruction.{instr_of, bit_range, writes_z, writes_c, writes_result, is_immediate}
 use Rattle.p8_alu.specs.declared.effect.Effect.{Effect}
-use Rattle.p8_alu.specs.Effects.{effect_of, plain_effect}
+use Rattle.p8_alu.specs.Effects.{effect_of, plain_effect, sum_effect, is_set}
 use Rattle.p8_cog.specs.declared.kind.Kind.{Kind}
-use Rattle.p8_cog.specs.declared.kind.Kind.TheVariants.{Skipped, Halting, Reading, Writing, HubOperation, Computing}
+use Rattle.p8_cog.specs.declared.kind.Kind.TheVariants.{Skipped, Halting, OfHub, Waiting, Computing}
+use Rattle.p8_cog.specs.declared.hub.Request.{Request}
 use Rattle.p8_cog.specs.declared.state.State.{State}
-use Rattle.p8_cog.specs.Instructions.{par_register, inb_register, ctra_register, kind_of, width_of}
+use Rattle.p8_cog.specs.Instructions.{par_register, inb_register, outa_register, dira_register, ctra_register, hubop, jmpret, djnz, tjz, waitpeq, waitpne, waitcnt, clkset, cogid, coginit, cogstop, locknew, lockret, lockset, kind_of, width_of, source_access}
 
 -- ---- what an instruction does beyond its own registers
 
@@ -33,8 +37,18 @@ pub data Course : Type 0 where
   -- the life is over
   End : Course
 
--- a halt: with its turn the life is over
-abbrev pub halt : ℕ → Reason → Course
+-- a halt, and a stop of the cog itself, are the last access of a life
+abbrev pub is_last : (cog : ℕ) → Access → Bool
+is_last cog (Halt reason) = true
+is_last cog (CogStop target) = target == cog
+is_last cog _ = false
+
+-- an access at this clock, after which the instruction goes on so where the life isn't over
+abbrev pub ask : (cog clock : ℕ) → Access → (Turn → Course) → Course
+ask cog clock access go = Ask clock access (λ turn. if is_last cog access then End else go turn)
+
+-- a halt at this clock
+abbrev pub halt : (clock : ℕ) → Reason → Course
 halt clock reason = Ask clock (Halt reason) (λ turn. End)
 
 -- ---- what an instruction reads
@@ -43,32 +57,39 @@ halt clock reason = Ask clock (Halt reason) (λ turn. End)
 abbrev pub at_hand : State → Instr
 at_hand s = instr_of s.long
 
+-- the value of the destination: also of PAR, CNT, INA and INB it is the long there
+abbrev pub destination_value : State → ℕ
+destination_value s = slice_index s.registers (at_hand s).dest
+
 -- a register in the source field: PAR has the value of the start, and INB is 0
-abbrev pub register_value : State → ℕ → ℕ
+abbrev pub register_value : State → (register : ℕ) → ℕ
 register_value s register =
     if register == par_register then s.par
     else (if register == inb_register then 0 else slice_index s.registers register)
 
--- the value of the source: the field itself, or the register that it names
+-- the value of a source that isn't read by an access: the field itself, or the register that it names
 abbrev pub source_value : State → ℕ
 source_value s =
     if is_immediate (at_hand s) then (at_hand s).source else register_value s (at_hand s).source
 
--- the value of the destination
-abbrev pub destination_value : State → ℕ
-destination_value s = slice_index s.registers (at_hand s).dest
+-- the value that an answer gives a register; no other answer fits an access whose value is kept
+abbrev pub value_of : Answer → ℕ
+value_of (Value value) = value
+value_of Done = 0
+value_of (Number n) = 0
+value_of (Was set) = 0
+
+-- the source is read, at this clock where that takes an access, and the instruction goes on with its value
+abbrev pub sourced_by : Option Access → (clock : ℕ) → State → (ℕ → Course) → Course
+sourced_by None clock s go = go (source_value s)
+sourced_by (Some access) clock s go = Ask clock access (λ turn. go (value_of turn.answer))
+
+abbrev pub sourced : (clock : ℕ) → State → (ℕ → Course) → Course
+sourced clock s go = sourced_by (source_access (at_hand s)) clock s go
 
 -- the next address
 abbrev pub next_of : State → ℕ
 next_of s = (s.at + 1) % 512
-
--- the address that a jump goes to
-abbrev pub target_of : State → ℕ
-target_of s = source_value s % 512
-
--- its result and flags
-abbrev pub effect : State → Effect
-effect s = effect_of (at_hand s).opcode (destination_value s) (source_value s) s.c s.z (next_of s)
 
 -- ---- what an instruction writes
 
@@ -105,97 +126,156 @@ passed s = record s {
   clock = s.clock + 4;
 }
 
--- The result is for a register of the counters or the video generator, and not 0. These registers are 0
--- at the start, so they always are.
-abbrev pub is_refused : Instr → (result : ℕ) → Bool
-is_refused i result = writes_result i && nat_le ctra_register i.dest && not (result == 0)
+-- the access that a result makes in a register: of OUTA or DIRA, or the halt of a value other than 0 for a
+-- register of the counters or the video generator. These are 0 at the start, so they always are.
+abbrev pub register_access : (register result : ℕ) → Option Access
+register_access register result =
+    if register == outa_register then Some (OutSet result)
+    else (if register == dira_register then Some (DirSet result)
+    else (if nat_le ctra_register register && not (result == 0) then Some (Halt (Register register))
+    else None))
 
--- the write of a result at this clock: it is refused, or the instruction is done
-abbrev pub write : State → Effect → (clock : ℕ) → State → Course
-write s e clock next =
-    if is_refused (at_hand s) e.result then halt clock (Register (at_hand s).dest) else Go next
+abbrev pub result_access : Instr → (result : ℕ) → Option Access
+result_access i result = if writes_result i then register_access i.dest result else None
 
--- ---- the hub
+-- the write of a result at this clock, after which the instruction is done
+abbrev pub written_by : Option Access → (cog clock : ℕ) → (next : State) → Course
+written_by None cog clock next = Go next
+written_by (Some access) cog clock next = ask cog clock access (λ turn. Go next)
 
--- the clock of a hub access: the cog's first window after the instruction's begin
-abbrev pub hub_clock : (cog : ℕ) → State → ℕ
-hub_clock cog s = window_of cog (s.clock + 1)
+abbrev pub write : (cog : ℕ) → State → Effect → (clock : ℕ) → (next : State) → Course
+write cog s e clock next = written_by (result_access (at_hand s) e.result) cog clock next
 
--- the hub address of an access: mod 65,536, rounded down to a multiple of its bytes
-abbrev pub hub_address : State → Width → ℕ
-hub_address s width = source_value s % 2 ^ 16 / bytes_in width * bytes_in width
+-- behind an access the result is written at this clock, and the instruction ends a clock later
+abbrev pub ends_after : (cog : ℕ) → State → Effect → (clock : ℕ) → Course
+ends_after cog s e clock = write cog s e clock (fetched_before s e (next_of s) (clock + 1))
 
--- behind a hub access the instruction ends 7 clocks after its turn, and writes its result a clock before
--- its end; C is 0, and Z says whether the result is 0
-abbrev pub after_hub : State → Turn → (result : ℕ) → Course
-after_hub s turn result =
-    write s (plain_effect result false) (turn.key.clock + 6)
-    (fetched_before s (plain_effect result false) (next_of s) (turn.key.clock + 7))
+-- ---- what computes
 
--- the value that an answer gives a register; no other answer fits an access whose value is kept
-abbrev pub value_of : Answer → ℕ
-value_of (Value value) = value
-value_of Done = 0
-value_of (Number n) = 0
-value_of (Was set) = 0
-
--- a read of hub RAM; ROM, from $8000 on, can't be read
-abbrev pub read : (cog : ℕ) → State → Width → (address : ℕ) → Course
-read cog s width address =
-    if nat_lt address 32768
-    then Ask (hub_clock cog s) (Read width address) (λ turn. after_hub s turn (value_of turn.answer))
-    else halt (hub_clock cog s) (Rom address)
-
--- a write of a value that is reduced to the width
-abbrev pub write_hub : (cog : ℕ) → State → Width → (value : ℕ) → Course
-write_hub cog s width value =
-    Ask (hub_clock cog s) (Write width (hub_address s width) value) (λ turn. after_hub s turn value)
-
--- a stop of a cog; the cog's own ends its life
-abbrev pub stop : (cog : ℕ) → State → (target : ℕ) → Course
-stop cog s target =
-    Ask (hub_clock cog s) (CogStop target) (λ turn. if target == cog then End else after_hub s turn target)
-
--- HUBOP by the low three bits of the source: COGID is 1 and COGSTOP 3; the others aren't carried out yet
-abbrev pub hub_operation : (number cog : ℕ) → State → Course
-hub_operation number cog s =
-    if number == 1 then Ask (hub_clock cog s) CogId (λ turn. after_hub s turn (value_of turn.answer))
-    else (if number == 3 then stop cog s (destination_value s % 8)
-    else halt s.clock (Opcode s.long))
-
--- ---- jumps
+-- its result and flags
+abbrev pub effect : State → (source : ℕ) → Effect
+effect s source = effect_of (at_hand s).opcode (destination_value s) source s.c s.z (next_of s)
 
 -- DJNZ and TJNZ jump where the result isn't 0, TJZ where it is
 abbrev pub jumps : (opcode result : ℕ) → Bool
-jumps opcode result = if opcode == 59 then result == 0 else not (result == 0)
+jumps opcode result = if opcode == tjz then result == 0 else not (result == 0)
 
--- where a tested jump goes on: one that isn't taken costs 4 clocks more, and fetches after its write
-abbrev pub tested_jump : State → State
-tested_jump s =
-    if jumps (at_hand s).opcode (effect s).result then fetched_before s (effect s) (target_of s) (s.clock + 4)
-    else fetched_after s (effect s) (next_of s) (s.clock + 8)
+-- where one of these three goes on: where it doesn't jump it takes 4 clocks more, and fetches after its write
+abbrev pub tested_jump : State → (source : ℕ) → State
+tested_jump s source =
+    if jumps (at_hand s).opcode (effect s source).result then fetched_before s (effect s source) (source % 512) (s.clock + 4)
+    else fetched_after s (effect s source) (next_of s) (s.clock + 8)
 
--- where any other computing instruction goes on: JMPRET, of opcode 23, jumps
-abbrev pub plain_next : State → ℕ
-plain_next s = if (at_hand s).opcode == 23 then target_of s else next_of s
+-- the address at which any other goes on: JMPRET jumps
+abbrev pub plain_next : State → (source : ℕ) → ℕ
+plain_next s source = if (at_hand s).opcode == jmpret then source % 512 else next_of s
 
--- the tested jumps are the opcodes from 57 on
-abbrev pub computed : State → State
-computed s =
-    if nat_lt 56 (at_hand s).opcode then tested_jump s
-    else fetched_before s (effect s) (plain_next s) (s.clock + 4)
+abbrev pub computed : State → (source : ℕ) → State
+computed s source =
+    if nat_le djnz (at_hand s).opcode then tested_jump s source
+    else fetched_before s (effect s source) (plain_next s source) (s.clock + 4)
+
+abbrev pub compute : (cog : ℕ) → State → (source : ℕ) → Course
+compute cog s source = write cog s (effect s source) (s.clock + 3) (computed s source)
+
+-- ---- the hub
+
+-- A request is an access of the hub and the result that it has where its answer holds no number. By the
+-- answer these are its result and C:
+abbrev pub answered : (kept : ℕ) → Answer → Effect
+answered kept Done = plain_effect kept false
+answered kept (Was set) = plain_effect kept set
+answered kept (Value value) = plain_effect value false
+answered kept (Number (Some n)) = plain_effect n false
+answered kept (Number None) = plain_effect 7 true
+
+abbrev pub request : (access : Access) (kept : ℕ) → Request
+request access kept = record { access = access; kept = kept }
+
+-- the hub address of an access: mod 65,536, rounded down to a multiple of its bytes
+abbrev pub hub_address : (source : ℕ) → Width → ℕ
+hub_address source width = source % 2 ^ 16 / bytes_in width * bytes_in width
+
+-- a read of hub RAM; ROM, from $8000 on, can't be read
+abbrev pub read_access : Width → (address : ℕ) → Access
+read_access width address = if nat_lt address 32768 then Read width address else Halt (Rom address)
+
+-- CLKSET: the mode is the low byte, whose bit 7 would reset the chip
+abbrev pub mode_access : (value : ℕ) → Access
+mode_access value = if is_set value 7 then Halt Reset else ClkSet (value % 256)
+
+-- COGINIT: bits 31 to 18 are bits 15 to 2 of PAR, bits 17 to 4 are bits 15 to 2 of the code's address; bit 3
+-- asks for a new cog, and else bits 2 to 0 name one
+abbrev pub start_access : (value : ℕ) → Access
+start_access value =
+    CogInit (if is_set value 3 then None else Some (value % 8)) (Pasm (bit_range value 17 4 * 4) (bit_range value 31 18 * 4))
+
+-- RDBYTE, RDWORD, RDLONG where the result is written, else WRBYTE, WRWORD, WRLONG of a reduced value
+abbrev pub move_request : Instr → Width → (value source : ℕ) → Request
+move_request i width value source =
+    if writes_result i then request (read_access width (hub_address source width)) 0
+    else request (Write width (hub_address source width) (value % 256 ^ bytes_in width)) (value % 256 ^ bytes_in width)
+
+-- HUBOP with this value of its destination
+abbrev pub operation_request : (operation value : ℕ) → Request
+operation_request operation value =
+    if operation == clkset then request (mode_access value) value
+    else (if operation == cogid then request CogId 0
+    else (if operation == coginit then request (start_access value) 0
+    else (if operation == cogstop then request (CogStop (value % 8)) (value % 8)
+    else (if operation == locknew then request LockNew 0
+    else (if operation == lockret then request (LockRet (value % 8)) (value % 8)
+    else (if operation == lockset then request (LockSet (value % 8)) (value % 8)
+    else request (LockClr (value % 8)) (value % 8)))))))
+
+-- HUBOP goes by the low three bits of its source
+abbrev pub hub_request : Instr → (value source : ℕ) → Request
+hub_request i value source =
+    if i.opcode == hubop then operation_request (source % 8) value
+    else move_request i (width_of i.opcode) value source
+
+-- an access of the hub, at the cog's first window after the instruction's begin; behind its turn the
+-- result is written 6 clocks later
+abbrev pub ask_hub : (cog : ℕ) → State → Request → Course
+ask_hub cog s r =
+    ask cog (window_of cog (s.clock + 1)) r.access (λ turn. ends_after cog s (answered r.kept turn.answer) (turn.key.clock + 6))
+
+abbrev pub use_hub : (cog : ℕ) → State → (source : ℕ) → Course
+use_hub cog s source = ask_hub cog s (hub_request (at_hand s) (destination_value s) source)
+
+-- ---- waits
+
+-- WAITPEQ and WAITPNE with C wait for the pins of port B, which this machine doesn't have
+abbrev pub is_port_wait : State → Bool
+is_port_wait s = s.c && nat_lt (at_hand s).opcode waitcnt
+
+-- what is waited for
+abbrev pub test_of : (opcode value source : ℕ) → Test
+test_of opcode value source =
+    if opcode == waitpeq then PinsEqual value source
+    else (if opcode == waitpne then PinsDiffer value source
+    else Count value)
+
+-- what it leaves: WAITCNT adds, and the others leave the destination's value
+abbrev pub wait_effect : (opcode value source : ℕ) → Effect
+wait_effect opcode value source =
+    if opcode == waitcnt then sum_effect (value + source) else plain_effect value false
+
+-- a wait, from the fourth clock on; its result is written a clock behind its turn
+abbrev pub wait : (cog : ℕ) → State → (source : ℕ) → Course
+wait cog s source =
+    ask cog (s.clock + 4) (Wait (test_of (at_hand s).opcode (destination_value s) source))
+    (λ turn. ends_after cog s (wait_effect (at_hand s).opcode (destination_value s) source) (turn.key.clock + 1))
 
 -- ---- one line for each kind
 
+-- Instructions of the hub read their source where they begin, all others 2 clocks later.
 abbrev pub does : Kind → (cog : ℕ) → State → Course
 does Skipped cog s = Go (passed s)
 does Halting cog s = halt s.clock (Opcode s.long)
-does Computing cog s = write s (effect s) (s.clock + 3) (computed s)
-does Reading cog s =
-    read cog s (width_of (at_hand s).opcode) (hub_address s (width_of (at_hand s).opcode))
-does Writing cog s =
-    write_hub cog s (width_of (at_hand s).opcode) (destination_value s % 256 ^ bytes_in (width_of (at_hand s).opcode))
-does HubOperation cog s = hub_operation (source_value s % 8) cog s
+does OfHub cog s = sourced s.clock s (use_hub cog s)
+does Waiting cog s = if is_port_wait s then halt s.clock Port else sourced (s.clock + 2) s (wait cog s)
+does Computing cog s = sourced (s.clock + 2) s (compute cog s)
 
 -- one instruction
 abbrev pub instruction : (cog : ℕ) → State → Course

@@ -1,24 +1,30 @@
 -- internal: what follows from a replay. No public contract cites it.
-use Rattle.std.proofs.Common.{◌≡◌, ℕ, zero, suc, ◌+◌, ◌<◌, ◌≤◌, Bool, true, false, List, [], ◌∷◌, ◌++◌, Option, Some, None, refl, sym, ◌∙◌, ap, subst, arith, add_comm, add_assoc, zero-add, add-one, nat_lt, ◌==◌, ◌%◌, if◌then◌else◌}
+use Rattle.std.proofs.Common.{◌≡◌, ℕ, zero, suc, ◌+◌, ◌<◌, ◌≤◌, ◌^◌, Bool, true, false, List, [], ◌∷◌, ◌++◌, Option, Some, None, refl, sym, ◌∙◌, ap, subst, arith, add_comm, add_assoc, zero-add, add-one, nat_lt, nat_le, not, ◌&&◌, ◌==◌, if◌then◌else◌}
+use Rattle.std.proofs.lemmas.Bool.{ltb-true, ltb-false}
 use Rattle.std.proofs.lemmas.Grind.{common_steps}
 use Rattle.p8_access.specs.declared.kinds.Reason.TheVariants.{Register}
 use Rattle.p8_access.specs.declared.kinds.Access.{Access}
-use Rattle.p8_access.specs.declared.kinds.Access.TheVariants.{Wait}
+use Rattle.p8_access.specs.declared.kinds.Access.TheVariants.{Wait, Clock, PinsIn, OutSet, DirSet, Halt}
 use Rattle.p8_access.specs.declared.order.Turn.{Turn}
 use Rattle.p8_access.specs.declared.lives.Next.{Next}
 use Rattle.p8_access.specs.declared.lives.Next.TheVariants.{At, Quiet, More}
+use Rattle.p8_access.specs.Windows.{window_of}
 use Rattle.p8_access.specs.Lives.{Loaded, Begun, PasmBegun, SpinBegun, begin_of, Tells, IsOnTime, IsTurnAt, IsAnnounced}
+use Rattle.p8_instr.specs.declared.instruction.Instr.{Instr}
+use Rattle.p8_instr.specs.Instruction.{writes_result, is_immediate}
 use Rattle.p8_alu.specs.declared.effect.Effect.{Effect}
-use Rattle.p8_alu.specs.Effects.{plain_effect}
 use Rattle.p8_cog.specs.declared.kind.Kind.{Kind}
-use Rattle.p8_cog.specs.declared.kind.Kind.TheVariants.{Skipped, Halting, Reading, Writing, HubOperation, Computing}
+use Rattle.p8_cog.specs.declared.kind.Kind.TheVariants.{Skipped, Halting, OfHub, Waiting, Computing}
+use Rattle.p8_cog.specs.declared.hub.Request.{Request}
 use Rattle.p8_cog.specs.declared.state.State.{State}
+use Rattle.p8_cog.specs.declared.ending.Ending.TheVariants.{Over, Whole}
+use Rattle.p8_cog.specs.declared.progress.Had.{Had}
+use Rattle.p8_cog.specs.declared.progress.Had.TheVariants.{Nothing}
 use Rattle.p8_cog.specs.declared.progress.Progress.{Progress}
-use Rattle.p8_cog.specs.declared.progress.Ending.TheVariants.{Over, Whole, Half}
-use Rattle.p8_cog.specs.Instructions.{kind_of, width_of}
-use Rattle.p8_cog.specs.Replay.{Course, Ask, Go, End, at_hand, source_value, destination_value, effect, jumps, is_refused, write, halt, after_hub, hub_address, does, instruction, played, Outcome, Asks, Goes, Ends, step, after, first_with, replayed, IsAsked}
+use Rattle.p8_cog.specs.Instructions.{cnt_register, ina_register, outa_register, dira_register, ctra_register, djnz, kind_of, source_access}
+use Rattle.p8_cog.specs.Replay.{Course, Ask, Go, End, ask, is_last, at_hand, destination_value, source_value, value_of, sourced_by, sourced, answered, test_of, wait_effect, effect, jumps, computed, compute, result_access, written_by, ends_after, hub_request, ask_hub, use_hub, is_port_wait, wait, does, instruction, played, Outcome, Asks, Goes, Ends, step, after, first_with, replayed, IsAsked}
 use Rattle.p8_cog.specs.Standing.{standing_at, turns_of, StandsFor, clock_in, clock_of}
-use Rattle.p8_cog.specs.Stops.{IsFrom, Announces, IsHalf, IsEnded, IsSpent, Stops, Leads, Takes, AsksThis, goes_on_by, is_last, result_of}
+use Rattle.p8_cog.specs.Stops.{IsFrom, left_of, latest, is_asking, IsHalf, Announces, IsSpent, Stops, Leads, Takes, Comes}
 
 -- ---- one course
 
@@ -36,118 +42,197 @@ IsNotBefore least End = Unit {0}
 -- what comes in a course behind a turn that is on time comes later than it
 abbrev pub IsOrderly : Course → Type 0
 IsOrderly (Ask clock access go) =
-    (turn : Turn) → (clock ≤ turn.key.clock → IsNotBefore (turn.key.clock + 1) (go turn)) × IsOrderly (go turn)
+    (turn : Turn) → (IsOnTime access clock turn.key.clock → IsNotBefore (turn.key.clock + 1) (go turn)) × IsOrderly (go turn)
 IsOrderly (Go s) = Unit {0}
 IsOrderly End = Unit {0}
 
--- whether an access is a wait
-abbrev pub IsWait : Access → Type 0
-IsWait (Wait test) = Unit {0}
-IsWait _ = ⊥
+-- a course that is done at once took 4 clocks at least
+abbrev pub IsPaced : ℕ → Course → Type 0
+IsPaced begin (Ask clock access go) = Unit {0}
+IsPaced begin (Go s) = begin + 4 ≤ s.clock
+IsPaced begin End = ⊥
 
--- a course without waits
-abbrev pub IsFree : Course → Type 0
-IsFree (Ask clock access go) = (IsWait access → ⊥) × ((turn : Turn) → IsFree (go turn))
-IsFree (Go s) = Unit {0}
-IsFree End = Unit {0}
-
--- what the turn of the first access leaves is told by that access
-abbrev pub IsTold : (cog : ℕ) → State → Course → Type 0
-IsTold cog s (Ask clock access go) = (turn : Turn) → go turn ≡ goes_on_by cog s access turn
-IsTold cog s (Go next) = Unit {0}
-IsTold cog s End = Unit {0}
+-- a course asks so many accesses at most
+abbrev pub IsShort : Course → ℕ → Type 0
+IsShort (Ask clock access go) zero = ⊥
+IsShort (Ask clock access go) (suc n) = (turn : Turn) → IsShort (go turn) n
+IsShort (Go s) n = Unit {0}
+IsShort End n = Unit {0}
 
 if-holds : (P : Course → Type 0) (b : Bool) (x y : Course) → P x → P y → P (if b then x else y)
 if-holds P true x y p q = p
 if-holds P false x y p q = q
 
-if-clock : (least : ℕ) (b : Bool) (x y : State) → least ≤ x.clock → least ≤ y.clock → IsNotBefore least (Go (if b then x else y))
+if-clock : (least : ℕ) (b : Bool) (x y : State) → least ≤ x.clock → least ≤ y.clock → least ≤ (if b then x else y).clock
 if-clock least true x y p q = p
 if-clock least false x y p q = q
 
+if-option : (P : Option Access → Type 0) (b : Bool) (x y : Option Access) → P x → P y → P (if b then x else y)
+if-option P true x y p q = p
+if-option P false x y p q = q
+
+-- a fact of every access that a source makes
+source-holds : (P : Option Access → Type 0) (i : Instr) → P None → P (Some Clock) → P (Some PinsIn) → P (source_access i)
+source-holds P i none clock pins =
+    if-option P (is_immediate i) _ _ none
+    (if-option P (i.source == cnt_register) _ _ clock
+    (if-option P (i.source == ina_register) _ _ pins none))
+
+-- and of every access that a result makes
+result-holds : (P : Option Access → Type 0) (i : Instr) (value : ℕ) → P None → P (Some (OutSet value)) → P (Some (DirSet value)) → P (Some (Halt (Register i.dest))) → P (result_access i value)
+result-holds P i value none out dir stop =
+    if-option P (writes_result i) _ _
+    (if-option P (i.dest == outa_register) _ _ out
+    (if-option P (i.dest == dira_register) _ _ dir
+    (if-option P (nat_le ctra_register i.dest && not (value == 0)) _ _ stop none)))
+    none
+
+-- ---- the parts of an instruction
+
+ask-orderly : (cog clock : ℕ) (access : Access) (go : Turn → Course) → ((turn : Turn) → IsOnTime access clock turn.key.clock → IsNotBefore (turn.key.clock + 1) (go turn)) → ((turn : Turn) → IsOrderly (go turn)) → IsOrderly (ask cog clock access go)
+ask-orderly cog clock access go later rest =
+    λ turn. (λ on. if-holds (IsNotBefore (turn.key.clock + 1)) (is_last cog access) End (go turn) tt (later turn on), if-holds IsOrderly (is_last cog access) End (go turn) tt (rest turn))
+
+ask-short : (cog clock n : ℕ) (access : Access) (go : Turn → Course) → ((turn : Turn) → IsShort (go turn) n) → IsShort (ask cog clock access go) (suc n)
+ask-short cog clock n access go rest = λ turn. if-holds (λ c. IsShort c n) (is_last cog access) End (go turn) tt (rest turn)
+
+written-not_before : (found : Option Access) (cog clock least : ℕ) (next : State) → least ≤ clock → least ≤ next.clock → IsNotBefore least (written_by found cog clock next)
+written-not_before None cog clock least next here there = there
+written-not_before (Some access) cog clock least next here there = here
+
+written-orderly : (i : Instr) (value cog clock : ℕ) (next : State) → clock + 1 ≤ next.clock → IsOrderly (written_by (result_access i value) cog clock next)
+written-orderly i value cog clock next later =
+    result-holds (λ found. IsOrderly (written_by found cog clock next)) i value tt
+    (ask-orderly cog clock (OutSet value) (λ turn. Go next) (λ turn on. omega (arith, on, later)) (λ turn. tt))
+    (ask-orderly cog clock (DirSet value) (λ turn. Go next) (λ turn on. omega (arith, on, later)) (λ turn. tt))
+    (λ turn. (λ on. tt, tt))
+
+written-paced : (found : Option Access) (cog clock begin : ℕ) (next : State) → begin + 4 ≤ next.clock → IsPaced begin (written_by found cog clock next)
+written-paced None cog clock begin next there = there
+written-paced (Some access) cog clock begin next there = tt
+
+written-short : (found : Option Access) (cog clock n : ℕ) (next : State) → IsShort (written_by found cog clock next) (suc n)
+written-short None cog clock n next = tt
+written-short (Some access) cog clock n next = ask-short cog clock n access (λ turn. Go next) (λ turn. tt)
+
+ends-not_before : (cog : ℕ) (s : State) (e : Effect) (clock least : ℕ) → least ≤ clock → IsNotBefore least (ends_after cog s e clock)
+ends-not_before cog s e clock least here = written-not_before (result_access (at_hand s) e.result) cog clock least _ here (omega (arith, here))
+
+ends-orderly : (cog : ℕ) (s : State) (e : Effect) (clock : ℕ) → IsOrderly (ends_after cog s e clock)
+ends-orderly cog s e clock = written-orderly (at_hand s) e.result cog clock _ (omega arith)
+
+ends-short : (cog : ℕ) (s : State) (e : Effect) (clock n : ℕ) → IsShort (ends_after cog s e clock) (suc n)
+ends-short cog s e clock n = written-short (result_access (at_hand s) e.result) cog clock n _
+
+-- how an instruction goes on behind an access of the hub, and behind a wait
+abbrev pub behind_hub : (cog : ℕ) → State → Request → Turn → Course
+behind_hub cog s r turn = ends_after cog s (answered r.kept turn.answer) (turn.key.clock + 6)
+
+abbrev pub behind_wait : (cog : ℕ) → State → (source : ℕ) → Turn → Course
+behind_wait cog s source turn =
+    ends_after cog s (wait_effect (at_hand s).opcode (destination_value s) source) (turn.key.clock + 1)
+
+hub-orderly : (cog : ℕ) (s : State) (r : Request) → IsOrderly (ask_hub cog s r)
+hub-orderly cog s r =
+    ask-orderly cog (window_of cog (s.clock + 1)) r.access (behind_hub cog s r)
+    (λ turn on. ends-not_before cog s (answered r.kept turn.answer) (turn.key.clock + 6) (turn.key.clock + 1) (omega arith))
+    (λ turn. ends-orderly cog s (answered r.kept turn.answer) (turn.key.clock + 6))
+
+hub-short : (cog n : ℕ) (s : State) (r : Request) → IsShort (ask_hub cog s r) (suc (suc n))
+hub-short cog n s r =
+    ask-short cog (window_of cog (s.clock + 1)) (suc n) r.access (behind_hub cog s r)
+    (λ turn. ends-short cog s (answered r.kept turn.answer) (turn.key.clock + 6) n)
+
+wait-orderly : (cog : ℕ) (s : State) (source : ℕ) → IsOrderly (wait cog s source)
+wait-orderly cog s source =
+    ask-orderly cog (s.clock + 4) (Wait (test_of (at_hand s).opcode (destination_value s) source)) (behind_wait cog s source)
+    (λ turn on. ends-not_before cog s (wait_effect (at_hand s).opcode (destination_value s) source) (turn.key.clock + 1) (turn.key.clock + 1) (omega arith))
+    (λ turn. ends-orderly cog s (wait_effect (at_hand s).opcode (destination_value s) source) (turn.key.clock + 1))
+
+wait-short : (cog n : ℕ) (s : State) (source : ℕ) → IsShort (wait cog s source) (suc (suc n))
+wait-short cog n s source =
+    ask-short cog (s.clock + 4) (suc n) (Wait (test_of (at_hand s).opcode (destination_value s) source)) (behind_wait cog s source)
+    (λ turn. ends-short cog s (wait_effect (at_hand s).opcode (destination_value s) source) (turn.key.clock + 1) n)
+
+computed-clock : (s : State) (source : ℕ) → s.clock + 4 ≤ (computed s source).clock
+computed-clock s source =
+    if-clock _ (nat_le djnz (at_hand s).opcode) _ _
+    (if-clock _ (jumps (at_hand s).opcode (effect s source).result) _ _ (omega arith) (omega arith))
+    (omega arith)
+
+compute-not_before : (cog least : ℕ) (s : State) (source : ℕ) → least ≤ s.clock + 3 → IsNotBefore least (compute cog s source)
+compute-not_before cog least s source here =
+    written-not_before (result_access (at_hand s) (effect s source).result) cog (s.clock + 3) least (computed s source) here (omega (arith, here, computed-clock s source))
+
+compute-orderly : (cog : ℕ) (s : State) (source : ℕ) → IsOrderly (compute cog s source)
+compute-orderly cog s source =
+    written-orderly (at_hand s) (effect s source).result cog (s.clock + 3) (computed s source) (omega (arith, computed-clock s source))
+
+sourced-not_before : (found : Option Access) (clock least : ℕ) (s : State) (go : ℕ → Course) → least ≤ clock → ((value : ℕ) → IsNotBefore least (go value)) → IsNotBefore least (sourced_by found clock s go)
+sourced-not_before None clock least s go here rest = rest _
+sourced-not_before (Some access) clock least s go here rest = here
+
+sourced-orderly : (clock : ℕ) (s : State) (go : ℕ → Course) → ((value : ℕ) → IsNotBefore (clock + 1) (go value)) → ((value : ℕ) → IsOrderly (go value)) → IsOrderly (sourced clock s go)
+sourced-orderly clock s go later rest =
+    source-holds (λ found. IsOrderly (sourced_by found clock s go)) (at_hand s) (rest (source_value s))
+    (λ turn. (λ on. subst (λ (k : ℕ). IsNotBefore (k + 1) (go (value_of turn.answer))) on (later (value_of turn.answer)), rest (value_of turn.answer)))
+    (λ turn. (λ on. subst (λ (k : ℕ). IsNotBefore (k + 1) (go (value_of turn.answer))) on (later (value_of turn.answer)), rest (value_of turn.answer)))
+
+sourced-paced : (found : Option Access) (clock begin : ℕ) (s : State) (go : ℕ → Course) → ((value : ℕ) → IsPaced begin (go value)) → IsPaced begin (sourced_by found clock s go)
+sourced-paced None clock begin s go rest = rest _
+sourced-paced (Some access) clock begin s go rest = tt
+
+sourced-short : (found : Option Access) (clock n : ℕ) (s : State) (go : ℕ → Course) → ((value k : ℕ) → IsShort (go value) (suc (suc k))) → IsShort (sourced_by found clock s go) (suc (suc (suc n)))
+sourced-short None clock n s go rest = rest _ (suc n)
+sourced-short (Some access) clock n s go rest = λ turn. rest _ n
+
 -- ---- each kind of instruction
-
-write-not_before : (least : ℕ) (s : State) (e : Effect) (clock : ℕ) (next : State) → least ≤ clock → IsNotBefore least (Go next) → IsNotBefore least (write s e clock next)
-write-not_before least s e clock next here there =
-    if-holds (IsNotBefore least) (is_refused (at_hand s) e.result) _ _ here there
-
-write-orderly : (s : State) (e : Effect) (clock : ℕ) (next : State) → IsOrderly (write s e clock next)
-write-orderly s e clock next =
-    if-holds IsOrderly (is_refused (at_hand s) e.result) _ _ (λ turn. (λ on. tt, tt)) tt
-
-write-free : (s : State) (e : Effect) (clock : ℕ) (next : State) → IsFree (write s e clock next)
-write-free s e clock next =
-    if-holds IsFree (is_refused (at_hand s) e.result) _ _ (λ w. w, λ turn. tt) tt
-
-write-told : (cog : ℕ) (s : State) (e : Effect) (clock : ℕ) (next : State) → IsTold cog s (write s e clock next)
-write-told cog s e clock next =
-    if-holds (IsTold cog s) (is_refused (at_hand s) e.result) _ _ (λ turn. refl) tt
-
-hub-not_before : (s : State) (turn : Turn) (value : ℕ) → IsNotBefore (turn.key.clock + 1) (after_hub s turn value)
-hub-not_before s turn value = write-not_before _ s (plain_effect value false) _ _ (omega arith) (omega arith)
-
-hub-orderly : (s : State) (turn : Turn) (value : ℕ) → IsOrderly (after_hub s turn value)
-hub-orderly s turn value = write-orderly s (plain_effect value false) _ _
-
-hub-free : (s : State) (turn : Turn) (value : ℕ) → IsFree (after_hub s turn value)
-hub-free s turn value = write-free s (plain_effect value false) _ _
 
 -- nothing comes before an instruction's begin
 does-not_before : (kind : Kind) (cog : ℕ) (s : State) → IsNotBefore s.clock (does kind cog s)
 does-not_before Skipped cog s = omega arith
 does-not_before Halting cog s = omega arith
+does-not_before OfHub cog s =
+    sourced-not_before (source_access (at_hand s)) s.clock s.clock s (use_hub cog s) (omega arith) (λ value. omega arith)
+does-not_before Waiting cog s =
+    if-holds (IsNotBefore s.clock) (is_port_wait s) _ _ (omega arith)
+    (sourced-not_before (source_access (at_hand s)) (s.clock + 2) s.clock s (wait cog s) (omega arith) (λ value. omega arith))
 does-not_before Computing cog s =
-    write-not_before _ s (effect s) _ _ (omega arith)
-    (if-clock _ (nat_lt 56 (at_hand s).opcode) _ _ (if-clock _ (jumps (at_hand s).opcode (effect s).result) _ _ (omega arith) (omega arith)) (omega arith))
-does-not_before Reading cog s =
-    if-holds (IsNotBefore s.clock) (nat_lt (hub_address s (width_of (at_hand s).opcode)) 32768) _ _ (omega arith) (omega arith)
-does-not_before Writing cog s = omega arith
-does-not_before HubOperation cog s =
-    if-holds (IsNotBefore s.clock) (source_value s % 8 == 1) _ _ (omega arith)
-    (if-holds (IsNotBefore s.clock) (source_value s % 8 == 3) _ _ (omega arith) (omega arith))
+    sourced-not_before (source_access (at_hand s)) (s.clock + 2) s.clock s (compute cog s) (omega arith) (λ value. compute-not_before cog s.clock s value (omega arith))
 
 does-orderly : (kind : Kind) (cog : ℕ) (s : State) → IsOrderly (does kind cog s)
 does-orderly Skipped cog s = tt
 does-orderly Halting cog s = λ turn. (λ on. tt, tt)
-does-orderly Computing cog s = write-orderly s (effect s) _ _
-does-orderly Reading cog s =
-    if-holds IsOrderly (nat_lt (hub_address s (width_of (at_hand s).opcode)) 32768) _ _
-    (λ turn. (λ on. hub-not_before s turn _, hub-orderly s turn _))
-    (λ turn. (λ on. tt, tt))
-does-orderly Writing cog s = λ turn. (λ on. hub-not_before s turn _, hub-orderly s turn _)
-does-orderly HubOperation cog s =
-    if-holds IsOrderly (source_value s % 8 == 1) _ _
-    (λ turn. (λ on. hub-not_before s turn _, hub-orderly s turn _))
-    (if-holds IsOrderly (source_value s % 8 == 3) _ _
-    (λ turn. (λ on. if-holds (IsNotBefore (turn.key.clock + 1)) (destination_value s % 8 == cog) _ _ tt (hub-not_before s turn _), if-holds IsOrderly (destination_value s % 8 == cog) _ _ tt (hub-orderly s turn _)))
-    (λ turn. (λ on. tt, tt)))
+does-orderly OfHub cog s =
+    sourced-orderly s.clock s (use_hub cog s) (λ value. omega arith) (λ value. hub-orderly cog s (hub_request (at_hand s) (destination_value s) value))
+does-orderly Waiting cog s =
+    if-holds IsOrderly (is_port_wait s) _ _ (λ turn. (λ on. tt, tt))
+    (sourced-orderly (s.clock + 2) s (wait cog s) (λ value. omega arith) (λ value. wait-orderly cog s value))
+does-orderly Computing cog s =
+    sourced-orderly (s.clock + 2) s (compute cog s) (λ value. compute-not_before cog _ s value (omega arith)) (λ value. compute-orderly cog s value)
 
-does-free : (kind : Kind) (cog : ℕ) (s : State) → IsFree (does kind cog s)
-does-free Skipped cog s = tt
-does-free Halting cog s = (λ w. w, λ turn. tt)
-does-free Computing cog s = write-free s (effect s) _ _
-does-free Reading cog s =
-    if-holds IsFree (nat_lt (hub_address s (width_of (at_hand s).opcode)) 32768) _ _
-    (λ w. w, λ turn. hub-free s turn _)
-    (λ w. w, λ turn. tt)
-does-free Writing cog s = (λ w. w, λ turn. hub-free s turn _)
-does-free HubOperation cog s =
-    if-holds IsFree (source_value s % 8 == 1) _ _
-    (λ w. w, λ turn. hub-free s turn _)
-    (if-holds IsFree (source_value s % 8 == 3) _ _
-    (λ w. w, λ turn. if-holds IsFree (destination_value s % 8 == cog) _ _ tt (hub-free s turn _))
-    (λ w. w, λ turn. tt))
+does-paced : (kind : Kind) (cog : ℕ) (s : State) → IsPaced s.clock (does kind cog s)
+does-paced Skipped cog s = omega arith
+does-paced Halting cog s = tt
+does-paced OfHub cog s = sourced-paced (source_access (at_hand s)) _ s.clock s (use_hub cog s) (λ value. tt)
+does-paced Waiting cog s =
+    if-holds (IsPaced s.clock) (is_port_wait s) _ _ tt
+    (sourced-paced (source_access (at_hand s)) _ s.clock s (wait cog s) (λ value. tt))
+does-paced Computing cog s =
+    sourced-paced (source_access (at_hand s)) _ s.clock s (compute cog s)
+    (λ value. written-paced (result_access (at_hand s) (effect s value).result) cog (s.clock + 3) s.clock (computed s value) (computed-clock s value))
 
-does-told : (kind : Kind) (cog : ℕ) (s : State) → IsTold cog s (does kind cog s)
-does-told Skipped cog s = tt
-does-told Halting cog s = λ turn. refl
-does-told Computing cog s = write-told cog s (effect s) _ _
-does-told Reading cog s =
-    if-holds (IsTold cog s) (nat_lt (hub_address s (width_of (at_hand s).opcode)) 32768) _ _ (λ turn. refl) (λ turn. refl)
-does-told Writing cog s = λ turn. refl
-does-told HubOperation cog s =
-    if-holds (IsTold cog s) (source_value s % 8 == 1) _ _ (λ turn. refl)
-    (if-holds (IsTold cog s) (source_value s % 8 == 3) _ _ (λ turn. refl) (λ turn. refl))
+does-short : (kind : Kind) (cog : ℕ) (s : State) → IsShort (does kind cog s) (suc (suc (suc zero)))
+does-short Skipped cog s = tt
+does-short Halting cog s = λ turn. tt
+does-short OfHub cog s =
+    sourced-short (source_access (at_hand s)) _ zero s (use_hub cog s) (λ value n. hub-short cog n s (hub_request (at_hand s) (destination_value s) value))
+does-short Waiting cog s =
+    if-holds (λ c. IsShort c (suc (suc (suc zero)))) (is_port_wait s) _ _ (λ turn. tt)
+    (sourced-short (source_access (at_hand s)) _ zero s (wait cog s) (λ value n. wait-short cog n s value))
+does-short Computing cog s =
+    sourced-short (source_access (at_hand s)) _ zero s (compute cog s)
+    (λ value n. written-short (result_access (at_hand s) (effect s value).result) cog (s.clock + 3) (suc n) (computed s value))
 
 -- ---- a course that is played
 
@@ -174,69 +259,90 @@ played-more (Go s) ts extra moves = refl
 played-more End ts extra moves = refl
 
 -- with the turn of the access that it asks, a course comes to what is later than that turn
-played-then : (course : Course) (ts : List Turn) (turn : Turn) (clock : ℕ) (access : Access) → IsOrderly course → clock ≤ turn.key.clock → played course ts ≡ Asks clock access → IsFrom (turn.key.clock + 1) (played course (ts ++ turn ∷ []))
+played-then : (course : Course) (ts : List Turn) (turn : Turn) (clock : ℕ) (access : Access) → IsOrderly course → IsOnTime access clock turn.key.clock → played course ts ≡ Asks clock access → IsFrom (turn.key.clock + 1) (played course (ts ++ turn ∷ []))
 played-then (Ask c a go) [] turn clock access orderly on asks =
     let same : c ≡ clock = cc in
-    played-from (go turn) _ ((orderly turn).0 (omega arith))
+    let what : a ≡ access = cc in
+    played-from (go turn) _ ((orderly turn).0 (subst (λ (k : ℕ). IsOnTime a k turn.key.clock) (sym same) (subst (λ (x : Access). IsOnTime x clock turn.key.clock) (sym what) on)))
 played-then (Ask c a go) (first ∷ ts) turn clock access orderly on asks =
     played-then (go first) ts turn clock access (orderly first).1 on asks
 played-then (Go s) ts turn clock access orderly on asks = absurd (let e : Goes s ts ≡ Asks clock access = asks in cc)
 played-then End ts turn clock access orderly on asks = absurd (let e : Ends ≡ Asks clock access = asks in cc)
 
-abbrev pub NoWait : Outcome → Type 0
-NoWait (Asks clock access) = IsWait access → ⊥
-NoWait (Goes s left) = Unit {0}
-NoWait Ends = Unit {0}
+-- after as many turns as it may have a course asks nothing
+played-none : (course : Course) (clock : ℕ) (access : Access) → IsShort course zero → played course [] ≡ Asks clock access → ⊥
+played-none (Ask c a go) clock access short asks = short
+played-none (Go s) clock access short asks = let e : Goes s [] ≡ Asks clock access = asks in cc
+played-none End clock access short asks = let e : Ends ≡ Asks clock access = asks in cc
 
-played-no_wait : (course : Course) (ts : List Turn) → IsFree course → NoWait (played course ts)
-played-no_wait (Ask clock access go) [] free = free.0
-played-no_wait (Ask clock access go) (turn ∷ ts) free = played-no_wait (go turn) ts (free.1 turn)
-played-no_wait (Go s) ts free = tt
-played-no_wait End ts free = tt
+played-one : (n : ℕ) (course : Course) (turn : Turn) (left : List Turn) (clock : ℕ) (access : Access) → IsShort course (suc n) → ((rest : Course) → IsShort rest n → played rest left ≡ Asks clock access → ⊥) → played course (turn ∷ left) ≡ Asks clock access → ⊥
+played-one n (Ask c a go) turn left clock access short rest asks = rest (go turn) (short turn) asks
+played-one n (Go s) turn left clock access short rest asks = let e : Goes s (turn ∷ left) ≡ Asks clock access = asks in cc
+played-one n End turn left clock access short rest asks = let e : Ends ≡ Asks clock access = asks in cc
 
-told-by : (cog : ℕ) (s : State) (course : Course) (clock : ℕ) (access : Access) (turn : Turn) (left : List Turn) → IsTold cog s course → played course [] ≡ Asks clock access → played course (turn ∷ left) ≡ played (goes_on_by cog s access turn) left
-told-by cog s (Ask c a go) clock access turn left told asks =
-    let same : a ≡ access = cc in
-    ap (λ (course : Course). played course left) (told turn ∙ ap (λ (x : Access). goes_on_by cog s x turn) same)
-told-by cog s (Go next) clock access turn left told asks = absurd (let e : Goes next [] ≡ Asks clock access = asks in cc)
-told-by cog s End clock access turn left told asks = absurd (let e : Ends ≡ Asks clock access = asks in cc)
+pub third-last : (cog : ℕ) (s : State) (first second third : Turn) (clock : ℕ) (access : Access) → played (instruction cog s) (first ∷ second ∷ third ∷ []) ≡ Asks clock access → ⊥
+third-last cog s first second third clock access asks =
+    played-one (suc (suc zero)) (instruction cog s) first (second ∷ third ∷ []) clock access (does-short (kind_of (at_hand s) s.c s.z) cog s)
+    (λ c short. played-one (suc zero) c second (third ∷ []) clock access short
+    (λ d shorter. played-one zero d third [] clock access shorter
+    (λ e none. played-none e clock access none)))
+    asks
 
--- how an instruction goes on by the turn of its first access
-pub goes-by : (cog : ℕ) (s : State) (clock : ℕ) (access : Access) (turn : Turn) (left : List Turn) → played (instruction cog s) [] ≡ Asks clock access → played (instruction cog s) (turn ∷ left) ≡ played (goes_on_by cog s access turn) left
-goes-by cog s clock access turn left asks =
-    told-by cog s _ clock access turn left (does-told (kind_of (at_hand s) s.c s.z) cog s) asks
+-- an instruction that is done at once took 4 clocks at least, and isn't the end of the life
+paced-in : (begin : ℕ) (course : Course) (next : State) → IsPaced begin course → played course [] ≡ Goes next [] → begin + 4 ≤ next.clock
+paced-in begin (Ask c a go) next paced e = absurd (let x : Asks c a ≡ Goes next [] = e in cc)
+paced-in begin (Go s) next paced e =
+    let same : s ≡ next = (let x : Goes s [] ≡ Goes next [] = e in cc) in
+    subst (λ (t : State). begin + 4 ≤ t.clock) same paced
+paced-in begin End next paced e = absurd paced
 
--- the turn of the first access, where it is the last one
-pub first-over : (cog : ℕ) (s : State) (had : Option Turn) (turn : Turn) → had ≡ None → AsksThis (played (instruction cog s) []) turn.access → is_last cog turn.access ≡ true → played (instruction cog s) (turns_of had ++ turn ∷ []) ≡ Ends
-first-over cog s had turn none asks last =
-    ap (λ (t : Option Turn). played (instruction cog s) (turns_of t ++ turn ∷ [])) none
-    ∙ goes-by cog s asks.0 turn.access turn [] asks.1
-    ∙ ap (λ (b : Bool). played (if b then End else after_hub s turn (result_of turn.access turn.answer)) []) last
+pub paced : (cog : ℕ) (s next : State) → played (instruction cog s) [] ≡ Goes next [] → s.clock + 4 ≤ next.clock
+paced cog s next e = paced-in s.clock (instruction cog s) next (does-paced (kind_of (at_hand s) s.c s.z) cog s) e
 
--- and where it isn't
-pub first-on : (cog : ℕ) (s : State) (turn : Turn) (left : List Turn) → AsksThis (played (instruction cog s) []) turn.access → is_last cog turn.access ≡ false → played (instruction cog s) (turn ∷ left) ≡ played (after_hub s turn (result_of turn.access turn.answer)) left
-first-on cog s turn left asks on =
-    goes-by cog s asks.0 turn.access turn left asks.1
-    ∙ ap (λ (b : Bool). played (if b then End else after_hub s turn (result_of turn.access turn.answer)) left) on
+-- what a turn leads to is later than it
+pub came : (cog : ℕ) (s : State) (ts : List Turn) (turn : Turn) → Comes (played (instruction cog s) ts) turn → IsFrom (turn.key.clock + 1) (played (instruction cog s) (ts ++ turn ∷ []))
+came cog s ts turn comes =
+    played-then (instruction cog s) ts turn comes.0 turn.access (does-orderly (kind_of (at_hand s) s.c s.z) cog s) comes.2 comes.1
 
-pub first-whole : (cog : ℕ) (s : State) (had : Option Turn) (turn : Turn) (next : State) → had ≡ None → AsksThis (played (instruction cog s) []) turn.access → is_last cog turn.access ≡ false → played (after_hub s turn (result_of turn.access turn.answer)) [] ≡ Goes next [] → played (instruction cog s) (turns_of had ++ turn ∷ []) ≡ Goes next (turns_of had)
-first-whole cog s had turn next none asks on ends =
-    ap (λ (t : Option Turn). played (instruction cog s) (turns_of t ++ turn ∷ [])) none
-    ∙ first-on cog s turn [] asks on ∙ ends
-    ∙ ap (λ (t : Option Turn). Goes next (turns_of t)) (sym none)
+-- what is done has no turn left
+pub whole-in : (clock : ℕ) (o : Outcome) (next : State) → IsFrom clock o → o ≡ Goes next (left_of o) → (o ≡ Goes next []) × (clock ≤ next.clock)
+whole-in clock (Goes s []) next from e =
+    let same : s ≡ next = (let x : Goes s [] ≡ Goes next [] = e in cc) in
+    (e, subst (λ (t : State). clock ≤ t.clock) same from)
+whole-in clock (Goes s (turn ∷ left)) next from e = absurd from
+whole-in clock (Asks c a) next from e = absurd (let x : Asks c a ≡ Goes next [] = e in cc)
+whole-in clock Ends next from e = absurd (let x : Ends ≡ Goes next [] = e in cc)
 
--- what is left of the turn of the first access, where the result may not be written
-pub first-half : (cog : ℕ) (s next : State) (turn : Turn) (value : ℕ) → value ≡ result_of turn.access turn.answer → AsksThis (played (instruction cog s) []) turn.access → is_last cog turn.access ≡ false → IsEnded s turn value next false → IsHalf cog (record { begun = next; turn = Some turn })
-first-half cog s next turn value is asks on ended = λ other left e.
-    let same : turn ≡ other = cc in
-    let here : played (instruction cog s) (turn ∷ left) ≡ played (halt (turn.key.clock + 6) (Register (at_hand s).dest)) left =
-    first-on cog s turn left asks on ∙ ap (λ (v : ℕ). played (after_hub s turn v) left) (sym is) ∙ ap (λ (course : Course). played course left) ended.1 in
-    subst (λ (t : Turn). played (instruction cog next) (t ∷ left) ≡ played (halt (t.key.clock + 6) (Register (at_hand next).dest)) left) same
-    (subst (λ (x : State). played (instruction cog x) (turn ∷ left) ≡ played (halt (turn.key.clock + 6) (Register (at_hand x).dest)) left) (sym ended.0) here)
+-- what is asked where an instruction begins isn't before that
+pub begin-asks : (cog clock : ℕ) (s : State) (access : Access) → played (instruction cog s) [] ≡ Asks clock access → s.clock ≤ clock
+begin-asks cog clock s access e =
+    subst (IsFrom s.clock) e (played-from (instruction cog s) s.clock (does-not_before (kind_of (at_hand s) s.c s.z) cog s))
 
--- what has had no turn has reached its begin
-pub clock-none : (clock k : ℕ) (had : Option Turn) → had ≡ None → clock ≡ k → clock_in clock had ≡ k
-clock-none clock k had none is = ap (clock_in clock) none ∙ is
+-- ---- the instruction at hand and a turn
+
+-- it is done by that turn
+pub whole-takes : (cog : ℕ) (s next : State) (left turns : List Turn) (turn : Turn) → turns ≡ left ++ turn ∷ [] → Comes (played (instruction cog s) left) turn → played (instruction cog s) turns ≡ Goes next (left_of (played (instruction cog s) turns)) → (played (instruction cog s) (left ++ turn ∷ []) ≡ Goes next []) × (turn.key.clock < next.clock)
+whole-takes cog s next left turns turn is comes e =
+    let w = whole-in (turn.key.clock + 1) (played (instruction cog s) (left ++ turn ∷ [])) next (came cog s left turn comes)
+    (subst (λ (ts : List Turn). played (instruction cog s) ts ≡ Goes next (left_of (played (instruction cog s) ts))) is e) in
+    (w.0, omega (arith, w.1))
+
+-- it asks a further access
+pub half-holds : (cog clock : ℕ) (s next : State) (left turns : List Turn) (turn : Turn) (had : Had) (access : Access) → turns ≡ left ++ turn ∷ [] → turns_of had ≡ turns → next ≡ s → clock_in s.clock had ≡ turn.key.clock → s.clock + 1 < 2 ^ 62 → latest turns < 2 ^ 62 → Comes (played (instruction cog s) left) turn → played (instruction cog s) turns ≡ Asks clock access → IsHalf cog (record { begun = next; had = had })
+half-holds cog clock s next left turns turn had access is keeps same last begun below comes asks = λ half.
+    let here : played (instruction cog next) (turns_of had) ≡ played (instruction cog s) turns =
+    ap (λ (x : State). played (instruction cog x) (turns_of had)) same ∙ ap (played (instruction cog s)) keeps in
+    let reached : clock_in next.clock had ≡ turn.key.clock = ap (λ (x : State). clock_in x.clock had) same ∙ last in
+    let start : next.clock ≡ s.clock = ap (λ (x : State). x.clock) same in
+    let had-below : latest (turns_of had) < 2 ^ 62 = subst (λ (ts : List Turn). latest ts < 2 ^ 62) (sym keeps) below in (
+      ap is_asking (here ∙ asks),
+      (λ c a e.
+          let from : IsFrom (turn.key.clock + 1) (played (instruction cog s) turns) = subst (λ (ts : List Turn). IsFrom (turn.key.clock + 1) (played (instruction cog s) ts)) (sym is) (came cog s left turn comes) in
+          let le : turn.key.clock + 1 ≤ c = subst (IsFrom (turn.key.clock + 1)) (sym here ∙ e) from in
+          omega (arith, le, reached)),
+      omega (arith, start, begun),
+      had-below,
+    )
 
 -- ---- many instructions
 
@@ -293,16 +399,6 @@ after-more cog zero o extra moves = refl
 after-more cog (suc n) o extra moves =
     ap (step cog) (after-more cog n o extra (step-moves cog _ moves)) ∙ step-more cog (after cog n o) extra moves
 
-step-no_wait : (cog : ℕ) (o : Outcome) → NoWait o → NoWait (step cog o)
-step-no_wait cog (Goes s left) free = played-no_wait _ left (does-free (kind_of (at_hand s) s.c s.z) cog s)
-step-no_wait cog (Asks clock access) free = free
-step-no_wait cog Ends free = free
-
-after-no_wait : (cog n : ℕ) (o : Outcome) → NoWait o → NoWait (after cog n o)
-unfolding after
-after-no_wait cog zero o free = free
-after-no_wait cog (suc n) o free = step-no_wait cog (after cog n o) (after-no_wait cog n o free)
-
 -- ---- a life
 
 -- where a turn comes, it is left for the instruction that has been reached
@@ -357,7 +453,7 @@ asker cog zero s ts clock access e = absurd (let x : Goes s ts ≡ Asks clock ac
 asker cog (suc n) s ts clock access e = asker-step cog n s ts clock access (after cog n (Goes s ts)) (asker cog n s ts clock access) refl e
 
 -- what is asked after a turn comes later than it
-later-in : (loaded : Loaded) (ts : List Turn) (turn : Turn) (c d : ℕ) (a e : Access) → c ≤ turn.key.clock → IsAsked (PasmBegun loaded) ts c a → IsAsked (PasmBegun loaded) (ts ++ turn ∷ []) d e → turn.key.clock < d
+later-in : (loaded : Loaded) (ts : List Turn) (turn : Turn) (c d : ℕ) (a e : Access) → IsOnTime a c turn.key.clock → IsAsked (PasmBegun loaded) ts c a → IsAsked (PasmBegun loaded) (ts ++ turn ∷ []) d e → turn.key.clock < d
 later-in loaded ts turn c d a e on one other =
     let w = asker loaded.cog one.0 (first_with loaded.longs loaded.par loaded.begin) ts c a one.1 in
     let taken = turn-taken w.0 loaded ts turn w.1 w.2 w.3 in
@@ -366,16 +462,8 @@ later-in loaded ts turn c d a e on one other =
     omega arith
 
 pub asked-later : (b : Begun) (ts : List Turn) (turn : Turn) (c d : ℕ) (a e : Access) → IsAsked b ts c a → IsTurnAt c a turn → IsAsked b (ts ++ turn ∷ []) d e → turn.key.clock < d
-asked-later (PasmBegun loaded) ts turn c d a e one at other =
-    later-in loaded ts turn c d a e (on-time a c turn.key.clock at.1) one other
+asked-later (PasmBegun loaded) ts turn c d a e one at other = later-in loaded ts turn c d a e at.1 one other
 asked-later (SpinBegun entered) ts turn c d a e one at other = absurd one
-
--- no access is a wait
-pub never-waits : (b : Begun) (ts : List Turn) (clock : ℕ) (access : Access) → IsAsked b ts clock access → IsWait access → ⊥
-never-waits (PasmBegun loaded) ts clock access asked =
-    let free : NoWait (replayed asked.0 loaded ts) = after-no_wait loaded.cog asked.0 _ tt in
-    subst NoWait asked.1 free
-never-waits (SpinBegun entered) ts clock access asked = absurd asked
 
 -- ---- what a cog keeps
 
@@ -420,7 +508,7 @@ stuck cog zero clock access from p asks leads = refl
 stuck cog (suc n) clock access from p asks leads =
     let e : suc n ≡ n + 1 = omega arith in
     let one : after cog (n + 1) from ≡ after cog n (step cog from) = after-plus cog n 1 from in
-    absurd (let x : Asks clock access ≡ Goes p.begun (turns_of p.turn) = sym (after-asks cog n clock access) ∙ ap (after cog n) (sym asks) ∙ sym one ∙ ap (λ (k : ℕ). after cog k from) (sym e) ∙ leads in cc)
+    absurd (let x : Asks clock access ≡ Goes p.begun (turns_of p.had) = sym (after-asks cog n clock access) ∙ ap (after cog n) (sym asks) ∙ sym one ∙ ap (λ (k : ℕ). after cog k from) (sym e) ∙ leads in cc)
 
 pub again : (cog done budget clock until reached : ℕ) (access : Access) (over : Bool) (p new : Progress) (next : Next) → over ≡ false → step cog (standing_at over p) ≡ Asks clock access → 1 ≤ budget → clock < until → Leads cog done (standing_at false p) (standing_at false new) → Stops cog (standing_at false new) reached until next → IsSpent done budget reached until next → next ≡ At clock access
 unfolding after
@@ -454,37 +542,56 @@ pub led-stands : (done more cog : ℕ) (over : Bool) (p new : Progress) → over
 led-stands done more cog true p new is leads b ts stands = absurd cc
 led-stands done more cog false p new is leads b ts stands = stands-led done more cog p new b ts leads stands
 
--- an access was announced: the life isn't over, and a turn of it isn't before what was reached
+-- an access was announced: the life isn't over
 live : (cog : ℕ) (over : Bool) (p : Progress) (clock : ℕ) (access : Access) → step cog (standing_at over p) ≡ Asks clock access → over ≡ false
 live cog true p clock access asks = absurd (let x : Ends ≡ Asks clock access = asks in cc)
 live cog false p clock access asks = refl
 
-abbrev pub Comes : (cog : ℕ) → (over : Bool) → Progress → Turn → Type 0
-Comes cog over p turn =
-    (over ≡ false) × AsksThis (step cog (standing_at false p)) turn.access × (clock_of p ≤ turn.key.clock)
+-- and its turn comes then, not before what was reached
+abbrev pub IsTaken : (cog : ℕ) → (over : Bool) → Progress → Turn → Type 0
+IsTaken cog over p turn = (over ≡ false) × Comes (step cog (standing_at false p)) turn × (clock_of p ≤ turn.key.clock)
 
-pub turn-comes : (cog : ℕ) (over : Bool) (p : Progress) (announced : Option (ℕ × Access)) (turn : Turn) → Announces cog over p announced → IsAnnounced announced turn → Comes cog over p turn
+pub turn-comes : (cog : ℕ) (over : Bool) (p : Progress) (announced : Option (ℕ × Access)) (turn : Turn) → Announces cog over p announced → IsAnnounced announced turn → IsTaken cog over p turn
 turn-comes cog over p None turn announces is = absurd is
 turn-comes cog over p (Some asked) turn announces is =
     let h = announces asked.0 asked.1 refl in
     let le : asked.0 ≤ turn.key.clock = on-time asked.1 asked.0 turn.key.clock is.1 in
     let alive : over ≡ false = live cog over p asked.0 asked.1 h.0 in
-    (alive, (asked.0, ap (λ (v : Bool). step cog (standing_at v p)) (sym alive) ∙ h.0 ∙ ap (Asks asked.0) (sym is.0)), omega (arith, h.1))
+    (alive, (asked.0, ap (λ (v : Bool). step cog (standing_at v p)) (sym alive) ∙ h.0 ∙ ap (Asks asked.0) (sym is.0), subst (λ (x : Access). IsOnTime x asked.0 turn.key.clock) (sym is.0) is.1, h.2), omega (arith, h.1, le))
+
+-- an instruction whose first access has its turn began at a clock that can be counted with
+pub begun-below : (cog : ℕ) (p : Progress) (turn : Turn) → p.had ≡ Nothing → Comes (step cog (standing_at false p)) turn → p.begun.clock + 1 < 2 ^ 62
+begun-below cog p turn none comes =
+    let asks : played (instruction cog p.begun) [] ≡ Asks comes.0 turn.access = ap (λ (had : Had). played (instruction cog p.begun) (turns_of had)) (sym none) ∙ comes.1 in
+    let le : p.begun.clock ≤ comes.0 = begin-asks cog comes.0 p.begun turn.access asks in
+    omega (arith, le, comes.3)
+
+-- a clock is told where it is below a bound
+below-in : (cog reached clock until : ℕ) (here : Outcome) (access : Access) → step cog here ≡ Asks clock access → reached ≤ clock → (b : Bool) → nat_lt clock until ≡ b → Stops cog here reached until (if b then At clock access else Quiet)
+below-in cog reached clock until here access asks le true e = (asks, le, ltb-true clock until e)
+below-in cog reached clock until here access asks le false e =
+    let past : until ≤ clock = ltb-false clock until e in
+    subst (IsFrom until) (sym asks) past
+
+pub below-stops : (cog clock until : ℕ) (s : State) (access : Access) (next : Next) → next ≡ (if nat_lt clock until then At clock access else Quiet) → played (instruction cog s) [] ≡ Asks clock access → Stops cog (Goes s []) s.clock until next
+below-stops cog clock until s access next is asks =
+    subst (Stops cog (Goes s []) s.clock until) (sym is)
+    (below-in cog s.clock clock until (Goes s []) access asks (begin-asks cog clock s access asks) (nat_lt clock until) refl)
 
 -- where the turn that was announced comes, a cog stands for one turn more
-stands-by : (done cog : ℕ) (p : Progress) (b : Begun) (ts : List Turn) (turn : Turn) (over : Bool) (new : Progress) → played (instruction cog p.begun) (turns_of p.turn ++ turn ∷ []) ≡ standing_at over new → StandsFor done cog false p b ts → StandsFor (done + 1) cog over new b (ts ++ turn ∷ [])
+stands-by : (done cog : ℕ) (p : Progress) (b : Begun) (ts : List Turn) (turn : Turn) (over : Bool) (new : Progress) → played (instruction cog p.begun) (turns_of p.had ++ turn ∷ []) ≡ standing_at over new → StandsFor done cog false p b ts → StandsFor (done + 1) cog over new b (ts ++ turn ∷ [])
 stands-by done cog p (PasmBegun loaded) ts turn over new takes stands =
     record {
       own = stands.own;
-      reached = turn-taken done loaded ts turn p.begun (turns_of p.turn) stands.reached ∙ ap (λ (n : ℕ). played (instruction n p.begun) (turns_of p.turn ++ turn ∷ [])) stands.own ∙ takes;
+      reached = turn-taken done loaded ts turn p.begun (turns_of p.had) stands.reached ∙ ap (λ (n : ℕ). played (instruction n p.begun) (turns_of p.had ++ turn ∷ [])) stands.own ∙ takes;
     }
 stands-by done cog p (SpinBegun entered) ts turn over new takes stands = absurd stands
 
-stands-half : (done cog : ℕ) (p new : Progress) (b : Begun) (ts : List Turn) (turn : Turn) → standing_at false new ≡ Goes p.begun (turns_of p.turn ++ turn ∷ []) → StandsFor done cog false p b ts → StandsFor done cog false new b (ts ++ turn ∷ [])
+stands-half : (done cog : ℕ) (p new : Progress) (b : Begun) (ts : List Turn) (turn : Turn) → standing_at false new ≡ Goes p.begun (turns_of p.had ++ turn ∷ []) → StandsFor done cog false p b ts → StandsFor done cog false new b (ts ++ turn ∷ [])
 stands-half done cog p new (PasmBegun loaded) ts turn keeps stands =
     record {
       own = stands.own;
-      reached = turn-kept done loaded ts turn p.begun (turns_of p.turn) stands.reached ∙ sym keeps;
+      reached = turn-kept done loaded ts turn p.begun (turns_of p.had) stands.reached ∙ sym keeps;
     }
 stands-half done cog p new (SpinBegun entered) ts turn keeps stands = absurd stands
 
@@ -496,6 +603,6 @@ pub whole-stands : (done cog : ℕ) (over : Bool) (p new : Progress) (turn : Tur
 whole-stands done cog true p new turn is takes b ts stands = absurd cc
 whole-stands done cog false p new turn is takes b ts stands = stands-by done cog p b ts turn false new takes.0 stands
 
-pub half-stands : (done cog : ℕ) (over : Bool) (p new : Progress) (turn : Turn) → over ≡ false → Takes cog p turn new Half → (b : Begun) (ts : List Turn) → StandsFor done cog over p b ts → StandsFor done cog over new b (ts ++ turn ∷ [])
-half-stands done cog true p new turn is takes b ts stands = absurd cc
-half-stands done cog false p new turn is takes b ts stands = stands-half done cog p new b ts turn takes.0 stands
+pub half-stands : (done cog : ℕ) (over : Bool) (p new : Progress) (turn : Turn) → over ≡ false → standing_at false new ≡ Goes p.begun (turns_of p.had ++ turn ∷ []) → (b : Begun) (ts : List Turn) → StandsFor done cog over p b ts → StandsFor done cog over new b (ts ++ turn ∷ [])
+half-stands done cog true p new turn is keeps b ts stands = absurd cc
+half-stands done cog false p new turn is keeps b ts stands = stands-half done cog p new b ts turn keeps stands

@@ -1,27 +1,22 @@
-// What each kind of instruction does where it begins.
-ghost use Rattle.std.specs.Prelude.{Some, ◌≡◌, ◌<◌, ◌≤◌, ◌+◌, ◌%◌, ◌^◌, []};
+// What each kind of instruction does, with the turns that its accesses have had.
+ghost use Rattle.std.specs.Prelude.{ℕ, true, false, None, [], ◌≡◌, ◌<◌, ◌≤◌, ◌+◌, ◌%◌, ◌^◌};
 ghost use Rattle.p8_instr.specs.Instruction.{FitsFields};
-ghost use Rattle.p8_access.specs.declared.kinds.Access.TheVariants.{Halt};
-ghost use Rattle.p8_access.specs.declared.kinds.Reason.TheVariants.{Opcode, Register};
 ghost use Rattle.p8_access.specs.Lives.{IsMade};
-ghost use Rattle.p8_cog.specs.declared.kind.Kind.TheVariants.{Computing, Reading, Writing, HubOperation};
-ghost use Rattle.p8_cog.specs.Replay.{at_hand, source_value, effect, is_refused, jumps, tested_jump, plain_next, computed, does, instruction, played, Asks};
-ghost use Rattle.p8_cog.specs.Stops.{begins, IsBegun, IsEnded};
+ghost use Rattle.p8_cog.specs.declared.ending.Ending.TheVariants.{Half};
+ghost use Rattle.p8_cog.specs.declared.kind.Kind.TheVariants.{Computing, OfHub, Waiting};
+ghost use Rattle.p8_cog.specs.declared.state.State.{State};
+ghost use Rattle.p8_cog.specs.Replay.{at_hand, source_value, destination_value, effect, jumps, tested_jump, plain_next, computed, compute, register_access, result_access, written_by, ends_after, use_hub, is_port_wait, test_of, wait_effect, wait, halt, does, instruction, played, Goes};
+ghost use Rattle.p8_cog.specs.Stops.{ComesTo, Keeps, IsMadeIn, IsMadeIf, is_asking, latest};
 
-use crate::hub::{aligned, hub_effect, read_at, reduced};
-use crate::kind::{CTRA, Kind, kind_of, width_of};
+use crate::ending::Ending;
+use crate::hub::{Request, answered, hub_request, is_last, plain_effect};
+use crate::kind::{
+    CTRA, DIRA, DJNZ, JMPRET, Kind, OUTA, TJZ, WAITCNT, WAITPEQ, WAITPNE, kind_of, source_access,
+};
 use crate::state::State;
-use p8_access::{Access, Reason, Turn, window};
+use p8_access::{Access, Reason, Test, Turn, window};
 use p8_alu::Effect;
 use p8_instr::{Instr, decode};
-
-/// Whether a result may not be written: it is for a register that this machine doesn't have.
-#[inline]
-pub fn is_refused(i: Instr, value: u32) -> bool
-    ensures { result ≡ is_refused i value }
-{
-    i.writes_result() && i.dest >= CTRA && value != 0
-}
 
 /// The address in a cog that a value is taken as.
 #[inline]
@@ -32,33 +27,109 @@ fn address_in(value: u32) -> u16
     (value & 511) as u16
 }
 
-/// Whether a tested jump of this opcode jumps.
+/// Whether DJNZ, TJNZ or TJZ jumps.
 #[inline]
 fn jumps(opcode: u8, value: u32) -> bool
     ensures { result ≡ jumps opcode value }
 {
-    if opcode == 59 { value == 0 } else { value != 0 }
+    if opcode == TJZ {
+        value == 0
+    } else {
+        value != 0
+    }
 }
 
-/// The halt of a write that is refused, at the clock of the write.
-fn refusal(i: Instr, clock: u64) -> Option<(u64, Access)>
-    ensures { result ≡ Some (clock, Halt (Register i.dest)) }
+/// The access that a result makes in a register.
+fn register_access(register: u16, value: u32) -> Option<Access>
+    ensures access { result ≡ register_access register value }
+    ensures made { IsMadeIf result }
 {
-    let reason = Reason::Register(i.dest);
-    Some((clock, Access::Halt { reason }))
+    if register == OUTA {
+        Some(Access::OutSet { value })
+    } else if register == DIRA {
+        Some(Access::DirSet { value })
+    } else if register >= CTRA && value != 0 {
+        let reason = Reason::Register(register);
+        Some(Access::Halt { reason })
+    } else {
+        None
+    }
+}
+
+/// The access that a result makes where it is written.
+#[inline]
+fn result_access(i: Instr, value: u32) -> Option<Access>
+    ensures access { result ≡ result_access i value }
+    ensures made { IsMadeIf result }
+{
+    // Most results are for general registers.
+    if i.writes_result() && i.dest >= OUTA {
+        register_access(i.dest, value)
+    } else {
+        None
+    }
+}
+
+/// How an instruction stands at the write of its result: it is whole where that may be done.
+#[inline]
+fn written(i: Instr, cog: u8, value: u32, clock: u64, had: &[Turn]) -> Ending
+    ensures comes { (next : State) → ComesTo (played (written_by (result_access i value) cog clock next) had.now) result next }
+    ensures made { IsMadeIn result }
+{
+    match result_access(i, value) {
+        None => Ending::Whole,
+        Some(access) => match had {
+            [] => Ending::Half { clock, access },
+            _ => {
+                if is_last(cog, access) {
+                    Ending::Over
+                } else {
+                    Ending::Whole
+                }
+            }
+        },
+    }
+}
+
+/// What WAITPEQ, WAITPNE or WAITCNT waits for.
+fn test_of(opcode: u8, value: u32, source: u32) -> Test
+    ensures { result ≡ test_of opcode value source }
+{
+    match opcode {
+        WAITPEQ => Test::PinsEqual {
+            state: value,
+            mask: source,
+        },
+        WAITPNE => Test::PinsDiffer {
+            state: value,
+            mask: source,
+        },
+        _ => Test::Count { target: value },
+    }
+}
+
+/// What a wait leaves.
+fn wait_effect(opcode: u8, value: u32, source: u32) -> Effect
+    ensures { result ≡ wait_effect opcode value source }
+{
+    if opcode == WAITCNT {
+        let (sum, carry) = value.overflowing_add(source);
+        plain_effect(sum, carry)
+    } else {
+        plain_effect(value, false)
+    }
 }
 
 impl State {
-    /// Where an instruction goes on that computes and isn't a tested jump.
+    /// The address at which an instruction goes on that computes and isn't a tested jump.
     #[inline]
     fn plain_next(&self, i: Instr, source: u32) -> u16
         requires decoded { i ≡ at_hand self.now }
-        requires source { source ≡ source_value self.now }
         requires at { self.now.at < 512 }
-        ensures next { result ≡ plain_next self.now }
+        ensures next { result ≡ plain_next self.now source }
         ensures below { result < 512 }
     {
-        if i.opcode == 23 {
+        if i.opcode == JMPRET {
             address_in(source)
         } else {
             self.next()
@@ -70,12 +141,12 @@ impl State {
     fn end_tested_jump(&mut self, i: Instr, source: u32, given: Effect)
         requires decoded { i ≡ at_hand self.old }
         requires fits { FitsFields i }
-        requires source { source ≡ source_value self.old }
-        requires given { given ≡ effect self.old }
+        requires given { given ≡ effect self.old source }
         requires at { self.old.at < 512 }
         requires clock { self.old.clock < 2 ^ 62 }
-        ensures ends { self.new ≡ tested_jump self.old }
+        ensures ends { self.new ≡ tested_jump self.old source }
         ensures at { self.new.at < 512 }
+        ensures clock { self.new.clock < 2 ^ 62 + 2 ^ 10 }
     {
         if jumps(i.opcode, given.result) {
             let target = address_in(source);
@@ -87,18 +158,18 @@ impl State {
     }
 
     /// Ends an instruction that computes.
-    #[inline]
+    #[inline(always)]
     fn end_computed(&mut self, i: Instr, source: u32, given: Effect)
         requires decoded { i ≡ at_hand self.old }
         requires fits { FitsFields i }
-        requires source { source ≡ source_value self.old }
-        requires given { given ≡ effect self.old }
+        requires given { given ≡ effect self.old source }
         requires at { self.old.at < 512 }
         requires clock { self.old.clock < 2 ^ 62 }
-        ensures ends { self.new ≡ computed self.old }
+        ensures ends { self.new ≡ computed self.old source }
         ensures at { self.new.at < 512 }
+        ensures clock { self.new.clock < 2 ^ 62 + 2 ^ 10 }
     {
-        if i.opcode > 56 {
+        if i.opcode >= DJNZ {
             self.end_tested_jump(i, source, given);
         } else {
             let at = self.plain_next(i, source);
@@ -106,138 +177,285 @@ impl State {
         }
     }
 
-    /// Does an instruction that computes.
-    #[inline]
-    fn compute(&mut self, i: Instr) -> Option<(u64, Access)>
+    /// Does an instruction that computes, with the value of its source.
+    fn compute(&mut self, i: Instr, cog: u8, source: u32, had: &[Turn]) -> Ending
         requires decoded { i ≡ at_hand self.old }
         requires fits { FitsFields i }
         requires first { 8 ≤ i.opcode }
         requires last { i.opcode ≤ 59 }
         requires at { self.old.at < 512 }
         requires clock { self.old.clock < 2 ^ 62 }
-        ensures begins { played (does Computing 0 self.old) [] ≡ begins result self.new }
-        ensures begun { IsBegun self.old result self.new }
+        ensures comes { ComesTo (played (compute cog self.old source) had.now) result self.new }
+        ensures keeps { Keeps result self.old self.new }
+        ensures made { IsMadeIn result }
         ensures at { self.new.at < 512 }
+        ensures clock { self.new.clock < 2 ^ 62 + 2 ^ 10 }
     {
-        let source = self.source_value(i);
         let effect = self.effect(i, source);
-        if is_refused(i, effect.result) {
-            return refusal(i, self.clock + 3);
-        }
-        self.end_computed(i, source, effect);
-        None
-    }
-
-    /// What RDBYTE, RDWORD or RDLONG asks.
-    fn asks_read(&self, i: Instr, cog: u8) -> (u64, Access)
-        requires decoded { i ≡ at_hand self.now }
-        requires fits { FitsFields i }
-        requires cog { cog < 8 }
-        requires clock { self.now.clock + 1 < 2 ^ 62 }
-        ensures asks { played (does Reading cog self.now) [] ≡ Asks result.0 result.1 }
-        ensures made { IsMade result.1 }
-        ensures not_before { self.now.clock ≤ result.0 }
-    {
-        let width = width_of(i.opcode);
-        let access = read_at(width, aligned(self.source_value(i), width));
-        (window(cog, self.clock + 1), access)
-    }
-
-    /// What WRBYTE, WRWORD or WRLONG asks.
-    fn asks_write(&self, i: Instr, cog: u8) -> (u64, Access)
-        requires decoded { i ≡ at_hand self.now }
-        requires fits { FitsFields i }
-        requires cog { cog < 8 }
-        requires clock { self.now.clock + 1 < 2 ^ 62 }
-        ensures asks { played (does Writing cog self.now) [] ≡ Asks result.0 result.1 }
-        ensures made { IsMade result.1 }
-        ensures not_before { self.now.clock ≤ result.0 }
-    {
-        let width = width_of(i.opcode);
-        let access = Access::Write {
-            width,
-            address: aligned(self.source_value(i), width),
-            value: reduced(self.destination_value(i), width),
-        };
-        (window(cog, self.clock + 1), access)
-    }
-
-    /// The halt on the instruction at hand.
-    fn opcode_halt(&self) -> (u64, Access)
-        ensures { result ≡ (self.now.clock, Halt (Opcode self.now.long)) }
-    {
-        let reason = Reason::Opcode(self.long);
-        (self.clock, Access::Halt { reason })
-    }
-
-    /// What HUBOP asks.
-    fn asks_hub(&self, i: Instr, cog: u8) -> (u64, Access)
-        requires decoded { i ≡ at_hand self.now }
-        requires fits { FitsFields i }
-        requires cog { cog < 8 }
-        requires clock { self.now.clock + 1 < 2 ^ 62 }
-        ensures asks { played (does HubOperation cog self.now) [] ≡ Asks result.0 result.1 }
-        ensures made { IsMade result.1 }
-        ensures not_before { self.now.clock ≤ result.0 }
-    {
-        let hub_clock = window(cog, self.clock + 1);
-        match self.source_value(i) & 7 {
-            1 => (hub_clock, Access::CogId),
-            3 => {
-                let target = (self.destination_value(i) & 7) as u8;
-                (hub_clock, Access::CogStop { cog: target })
+        match written(i, cog, effect.result, self.clock + 3, had) {
+            Ending::Whole => {
+                self.end_computed(i, source, effect);
+                Ending::Whole
             }
-            _ => self.opcode_halt(),
+            Ending::Over => Ending::Over,
+            Ending::Half { clock, access } => Ending::Half { clock, access },
         }
     }
 
-    /// Begins an instruction: does it, or tells what it asks first.
-    #[inline]
-    pub fn begin(&mut self, cog: u8) -> Option<(u64, Access)>
+    /// Ends an instruction behind its access, with its result written at a clock.
+    fn end_after(&mut self, i: Instr, cog: u8, effect: Effect, clock: u64, had: &[Turn]) -> Ending
+        requires decoded { i ≡ at_hand self.old }
+        requires fits { FitsFields i }
+        requires at { self.old.at < 512 }
+        requires old { self.old.clock < 2 ^ 62 }
+        requires clock { clock < 2 ^ 62 + 2 ^ 3 }
+        ensures comes { ComesTo (played (ends_after cog self.old effect clock) had.now) result self.new }
+        ensures keeps { Keeps result self.old self.new }
+        ensures made { IsMadeIn result }
+        ensures at { self.new.at < 512 }
+        ensures clock { self.new.clock < 2 ^ 62 + 2 ^ 10 }
+    {
+        match written(i, cog, effect.result, clock, had) {
+            Ending::Whole => {
+                let at = self.next();
+                self.fetch_and_write(i, effect, at, clock + 1);
+                Ending::Whole
+            }
+            Ending::Over => Ending::Over,
+            Ending::Half { clock, access } => Ending::Half { clock, access },
+        }
+    }
+
+    /// Does an instruction of the hub, with the value of its source.
+    fn use_hub(&mut self, i: Instr, cog: u8, source: u32, had: &[Turn]) -> Ending
+        requires decoded { i ≡ at_hand self.old }
+        requires fits { FitsFields i }
+        requires cog { cog < 8 }
+        requires at { self.old.at < 512 }
+        requires clock { self.old.clock + 1 < 2 ^ 62 }
+        requires had { latest had.now < 2 ^ 62 }
+        ensures comes { ComesTo (played (use_hub cog self.old source) had.now) result self.new }
+        ensures keeps { Keeps result self.old self.new }
+        ensures made { IsMadeIn result }
+        ensures at { self.new.at < 512 }
+        ensures clock { self.new.clock < 2 ^ 62 + 2 ^ 10 }
+    {
+        let Request { access, kept } = hub_request(i, self.destination_value(i), source);
+        match had {
+            [] => {
+                let clock = window(cog, self.clock + 1);
+                Ending::Half { clock, access }
+            }
+            [turn, left @ ..] => {
+                if is_last(cog, access) {
+                    return Ending::Over;
+                }
+                let effect = answered(kept, turn.answer);
+                self.end_after(i, cog, effect, turn.key.clock + 6, left)
+            }
+        }
+    }
+
+    /// Does a wait, with the value of its source.
+    fn wait(&mut self, i: Instr, cog: u8, source: u32, had: &[Turn]) -> Ending
+        requires decoded { i ≡ at_hand self.old }
+        requires fits { FitsFields i }
+        requires at { self.old.at < 512 }
+        requires clock { self.old.clock < 2 ^ 62 }
+        requires had { latest had.now < 2 ^ 62 }
+        ensures comes { ComesTo (played (wait cog self.old source) had.now) result self.new }
+        ensures keeps { Keeps result self.old self.new }
+        ensures made { IsMadeIn result }
+        ensures at { self.new.at < 512 }
+        ensures clock { self.new.clock < 2 ^ 62 + 2 ^ 10 }
+    {
+        let value = self.destination_value(i);
+        match had {
+            [] => {
+                let test = test_of(i.opcode, value, source);
+                Ending::Half {
+                    clock: self.clock + 4,
+                    access: Access::Wait { test },
+                }
+            }
+            [turn, left @ ..] => {
+                let effect = wait_effect(i.opcode, value, source);
+                self.end_after(i, cog, effect, turn.key.clock + 1, left)
+            }
+        }
+    }
+
+    /// How an instruction stands that halts.
+    fn halted(&self, reason: Reason, had: &[Turn]) -> Ending
+        ensures comes { ComesTo (played (halt self.now.clock reason) had.now) result self.now }
+        ensures made { IsMadeIn result }
+    {
+        match had {
+            [] => Ending::Half {
+                clock: self.clock,
+                access: Access::Halt { reason },
+            },
+            _ => Ending::Over,
+        }
+    }
+
+    /// WAITPEQ or WAITPNE for the port that this machine doesn't have.
+    fn is_port_wait(&self, i: Instr) -> bool
+        requires { i ≡ at_hand self.now }
+        ensures { result ≡ is_port_wait self.now }
+    {
+        self.c && i.opcode < WAITCNT
+    }
+
+    /// How an instruction stands that isn't the hub's and is to read its source by an access.
+    fn asks_source(&self, access: Access) -> Ending
+        requires { self.now.clock < 2 ^ 62 }
+        ensures { result ≡ Half (self.now.clock + 2) access }
+    {
+        Ending::Half {
+            clock: self.clock + 2,
+            access,
+        }
+    }
+
+    /// Begins or goes on with a wait.
+    fn begin_wait(&mut self, i: Instr, cog: u8, had: &[Turn]) -> Ending
+        requires decoded { i ≡ at_hand self.old }
+        requires fits { FitsFields i }
+        requires at { self.old.at < 512 }
+        requires clock { self.old.clock < 2 ^ 62 }
+        requires had { latest had.now < 2 ^ 62 }
+        ensures comes { ComesTo (played (does Waiting cog self.old) had.now) result self.new }
+        ensures keeps { Keeps result self.old self.new }
+        ensures made { IsMadeIn result }
+        ensures at { self.new.at < 512 }
+        ensures clock { self.new.clock < 2 ^ 62 + 2 ^ 10 }
+    {
+        if self.is_port_wait(i) {
+            return self.halted(Reason::Port, had);
+        }
+        match self.source(i, had) {
+            Ok((source, left)) => self.wait(i, cog, source, left),
+            Err(access) => self.asks_source(access),
+        }
+    }
+
+    /// Begins or goes on with an instruction of the hub.
+    fn begin_hub(&mut self, i: Instr, cog: u8, had: &[Turn]) -> Ending
+        requires decoded { i ≡ at_hand self.old }
+        requires fits { FitsFields i }
+        requires cog { cog < 8 }
+        requires at { self.old.at < 512 }
+        requires clock { self.old.clock + 1 < 2 ^ 62 }
+        requires had { latest had.now < 2 ^ 62 }
+        ensures comes { ComesTo (played (does OfHub cog self.old) had.now) result self.new }
+        ensures keeps { Keeps result self.old self.new }
+        ensures made { IsMadeIn result }
+        ensures at { self.new.at < 512 }
+        ensures clock { self.new.clock < 2 ^ 62 + 2 ^ 10 }
+    {
+        match self.source(i, had) {
+            Ok((source, left)) => self.use_hub(i, cog, source, left),
+            Err(access) => {
+                let clock = self.clock;
+                Ending::Half { clock, access }
+            }
+        }
+    }
+
+    /// Begins or goes on with an instruction that computes.
+    fn begin_computing(&mut self, i: Instr, cog: u8, had: &[Turn]) -> Ending
+        requires decoded { i ≡ at_hand self.old }
+        requires fits { FitsFields i }
+        requires first { 8 ≤ i.opcode }
+        requires last { i.opcode ≤ 59 }
+        requires at { self.old.at < 512 }
+        requires clock { self.old.clock < 2 ^ 62 }
+        ensures comes { ComesTo (played (does Computing cog self.old) had.now) result self.new }
+        ensures keeps { Keeps result self.old self.new }
+        ensures made { IsMadeIn result }
+        ensures at { self.new.at < 512 }
+        ensures clock { self.new.clock < 2 ^ 62 + 2 ^ 10 }
+    {
+        match self.source(i, had) {
+            Ok((source, left)) => self.compute(i, cog, source, left),
+            Err(access) => self.asks_source(access),
+        }
+    }
+
+    /// Goes as far with the instruction at hand as the turns bring it that its accesses have had.
+    pub fn advance(&mut self, cog: u8, had: &[Turn]) -> Ending
         requires at { self.old.at < 512 }
         requires cog { cog < 8 }
         requires clock { self.old.clock + 1 < 2 ^ 62 }
-        ensures begins { played (instruction cog self.old) [] ≡ begins result self.new }
-        ensures begun { IsBegun self.old result self.new }
+        requires had { latest had.now < 2 ^ 62 }
+        ensures comes { ComesTo (played (instruction cog self.old) had.now) result self.new }
+        ensures keeps { Keeps result self.old self.new }
+        ensures made { IsMadeIn result }
         ensures at { self.new.at < 512 }
+        ensures clock { self.new.clock < 2 ^ 62 + 2 ^ 10 }
     {
         let i = decode(self.long);
         match kind_of(i, self.c, self.z) {
             Kind::Skipped => {
                 self.pass();
-                None
+                Ending::Whole
             }
-            Kind::Computing => self.compute(i),
-            Kind::Halting => Some(self.opcode_halt()),
-            Kind::Reading => Some(self.asks_read(i, cog)),
-            Kind::Writing => Some(self.asks_write(i, cog)),
-            Kind::HubOperation => Some(self.asks_hub(i, cog)),
+            Kind::Computing => self.begin_computing(i, cog, had),
+            Kind::OfHub => self.begin_hub(i, cog, had),
+            Kind::Waiting => self.begin_wait(i, cog, had),
+            Kind::Halting => self.halted(Reason::Opcode(self.long), had),
         }
     }
 
-    /// The clock and the access of the halt where a hub access gave what may not be written.
-    pub fn refused(&self, turn: &Turn) -> (u64, Access)
-        requires { turn.now.key.clock < 2 ^ 63 }
-        ensures { result ≡ (turn.now.key.clock + 6, Halt (Register (at_hand self.now).dest)) }
-    {
-        let reason = Reason::Register(decode(self.long).dest);
-        (turn.key.clock + 6, Access::Halt { reason })
-    }
-
-    /// Goes on behind a hub access, and tells whether the instruction is done: it isn't where its
-    /// result may not be written.
-    pub fn end_hub(&mut self, turn: &Turn, value: u32) -> bool
+    /// Does an instruction that computes, and tells whether it did: it does nothing where it asks.
+    #[inline]
+    fn compute_apart(&mut self, i: Instr) -> bool
+        requires decoded { i ≡ at_hand self.old }
+        requires fits { FitsFields i }
+        requires first { 8 ≤ i.opcode }
+        requires last { i.opcode ≤ 59 }
         requires at { self.old.at < 512 }
-        requires clock { turn.now.key.clock < 2 ^ 62 }
-        ensures ends { IsEnded self.old turn.now value self.new result }
+        requires clock { self.old.clock < 2 ^ 62 }
+        ensures done { result ≡ true → (cog : ℕ) → played (does Computing cog self.old) [] ≡ Goes self.new [] }
+        ensures asks { result ≡ false → (cog : ℕ) → is_asking (played (does Computing cog self.old) []) ≡ true }
+        ensures kept { result ≡ false → self.new ≡ self.old }
         ensures at { self.new.at < 512 }
+        ensures clock { self.new.clock < 2 ^ 62 + 2 ^ 10 }
     {
-        let i = decode(self.long);
-        if is_refused(i, value) {
+        if source_access(i).is_some() {
             return false;
         }
-        let at = self.next();
-        self.fetch_and_write(i, hub_effect(value), at, turn.key.clock + 7);
+        let source = self.source_value(i);
+        let effect = self.effect(i, source);
+        if result_access(i, effect.result).is_some() {
+            return false;
+        }
+        self.end_computed(i, source, effect);
         true
+    }
+
+    /// Does the instruction at hand, and tells whether it did: it does nothing where it asks.
+    ///
+    /// So a loop of instructions holds no call that takes the state and comes back.
+    #[inline]
+    pub fn run_apart(&mut self) -> bool
+        requires at { self.old.at < 512 }
+        requires clock { self.old.clock < 2 ^ 62 }
+        ensures done { result ≡ true → (cog : ℕ) → played (instruction cog self.old) [] ≡ Goes self.new [] }
+        ensures asks { result ≡ false → (cog : ℕ) → is_asking (played (instruction cog self.old) []) ≡ true }
+        ensures kept { result ≡ false → self.new ≡ self.old }
+        ensures at { self.new.at < 512 }
+        ensures clock { self.new.clock < 2 ^ 62 + 2 ^ 10 }
+    {
+        let i = decode(self.long);
+        match kind_of(i, self.c, self.z) {
+            Kind::Skipped => {
+                self.pass();
+                true
+            }
+            Kind::Computing => self.compute_apart(i),
+            Kind::OfHub | Kind::Waiting | Kind::Halting => false,
+        }
     }
 }

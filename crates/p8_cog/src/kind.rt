@@ -1,9 +1,9 @@
 // How an instruction is carried out.
-ghost use Rattle.std.specs.Prelude.{◌≡◌, ◌<◌, ◌≤◌, ◌⊎◌, ◌||◌};
-ghost use Rattle.p8_cog.specs.Instructions.{reads_outside, writes_outside, executed_kind, kind_of, width_of};
-ghost use Rattle.p8_cog.specs.Stops.{IsComputed};
+ghost use Rattle.std.specs.Prelude.{◌≡◌, ◌<◌, ◌≤◌, ◌⊎◌};
+ghost use Rattle.p8_cog.specs.Instructions.{executed_kind, kind_of, width_of, source_access};
+ghost use Rattle.p8_cog.specs.Stops.{IsComputed, IsMadeIf};
 
-use p8_access::Width;
+use p8_access::{Access, Width};
 use p8_instr::{ALWAYS, Instr};
 
 /// The register PAR.
@@ -15,69 +15,69 @@ const INA: u16 = 0x1F2;
 /// The register INB.
 pub const INB: u16 = 0x1F3;
 /// The register OUTA.
-const OUTA: u16 = 0x1F4;
+pub const OUTA: u16 = 0x1F4;
 /// The register DIRA.
-const DIRA: u16 = 0x1F6;
+pub const DIRA: u16 = 0x1F6;
 /// The register CTRA, the first of those of the counters and the video generator.
 pub const CTRA: u16 = 0x1F8;
+
+/// The opcode of HUBOP.
+pub const HUBOP: u8 = 3;
+/// The opcode of JMPRET.
+pub const JMPRET: u8 = 23;
+/// The opcode of DJNZ, which TJNZ and TJZ follow.
+pub const DJNZ: u8 = 57;
+/// The opcode of TJZ.
+pub const TJZ: u8 = 59;
+/// The opcode of WAITPEQ.
+pub const WAITPEQ: u8 = 60;
+/// The opcode of WAITPNE.
+pub const WAITPNE: u8 = 61;
+/// The opcode of WAITCNT.
+pub const WAITCNT: u8 = 62;
+/// The opcode of WAITVID.
+const WAITVID: u8 = 63;
 
 /// How an instruction is carried out (Propeller Manual v1.2, assembly reference).
 #[derive(Clone, Copy, Debug, PartialEq, Eq)]
 pub enum Kind {
     /// Its condition isn't met, and it does nothing.
     Skipped,
-    /// The cog halts.
+    /// The cog halts: MUL, MULS, ENC, ONES and WAITVID.
     Halting,
-    /// RDBYTE, RDWORD and RDLONG.
-    Reading,
-    /// WRBYTE, WRWORD and WRLONG.
-    Writing,
-    /// HUBOP: what it asks of the hub is said by its source.
-    HubOperation,
+    /// It makes an access of the hub: RDBYTE to WRLONG, and HUBOP.
+    OfHub,
+    /// WAITPEQ, WAITPNE and WAITCNT.
+    Waiting,
     /// Whatever computes a result, the jumps among it.
     Computing,
 }
 
-/// Whether it reads the pins or the counter, or writes the pins' registers.
-#[inline]
-fn is_outside(i: Instr) -> bool
-    ensures { result ≡ (reads_outside i || writes_outside i) }
-{
-    // Most instructions name general registers alone, and are through with one look at each field.
-    (i.source >= PAR || i.dest >= PAR)
-        && (!i.is_immediate() && (i.source == CNT || i.source == INA)
-            || i.writes_result() && (i.dest == OUTA || i.dest == DIRA))
-}
-
 /// How an instruction is carried out that doesn't compute, by its opcode below 8 or from 60 on.
-fn other_kind(i: Instr) -> Kind
-    requires apart { (i.opcode < 8) ⊎ (60 ≤ i.opcode) }
-    requires opcode { i.opcode < 64 }
-    ensures kind { result ≡ executed_kind i }
-    ensures computed { IsComputed result i.opcode }
+fn other_kind(opcode: u8) -> Kind
+    requires apart { (opcode < 8) ⊎ (60 ≤ opcode) }
+    requires opcode { opcode < 64 }
+    ensures kind { result ≡ executed_kind opcode }
+    ensures computed { IsComputed result opcode }
 {
-    if i.opcode > 3 || is_outside(i) {
+    if opcode <= HUBOP {
+        Kind::OfHub
+    } else if opcode < 8 || opcode == WAITVID {
         Kind::Halting
-    } else if i.opcode == 3 {
-        Kind::HubOperation
-    } else if i.writes_result() {
-        Kind::Reading
     } else {
-        Kind::Writing
+        Kind::Waiting
     }
 }
 
 /// How an instruction is carried out whose condition is met.
 #[inline]
-fn executed_kind(i: Instr) -> Kind
-    requires opcode { i.opcode < 64 }
-    ensures kind { result ≡ executed_kind i }
-    ensures computed { IsComputed result i.opcode }
+fn executed_kind(opcode: u8) -> Kind
+    requires opcode { opcode < 64 }
+    ensures kind { result ≡ executed_kind opcode }
+    ensures computed { IsComputed result opcode }
 {
-    if i.opcode < 8 || i.opcode >= 60 {
-        other_kind(i)
-    } else if is_outside(i) {
-        Kind::Halting
+    if opcode < 8 || opcode >= WAITPEQ {
+        other_kind(opcode)
     } else {
         Kind::Computing
     }
@@ -91,7 +91,7 @@ pub fn kind_of(i: Instr, c: bool, z: bool) -> Kind
     ensures computed { IsComputed result i.opcode }
 {
     if i.cond == ALWAYS || i.is_met(c, z) {
-        executed_kind(i)
+        executed_kind(i.opcode)
     } else {
         Kind::Skipped
     }
@@ -106,5 +106,22 @@ pub fn width_of(opcode: u8) -> Width
         0 => Width::Byte,
         1 => Width::Word,
         _ => Width::Long,
+    }
+}
+
+/// The access by which an instruction reads its source, where that is CNT or INA.
+#[inline]
+pub fn source_access(i: Instr) -> Option<Access>
+    ensures access { result ≡ source_access i }
+    ensures made { IsMadeIf result }
+{
+    if i.is_immediate() {
+        None
+    } else if i.source == CNT {
+        Some(Access::Clock)
+    } else if i.source == INA {
+        Some(Access::PinsIn)
+    } else {
+        None
     }
 }

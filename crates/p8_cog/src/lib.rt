@@ -2,6 +2,7 @@
 //! history. What its life is stands in specs/.
 #![tactic(auto)]
 
+mod ending;
 mod hub;
 mod instructions;
 mod kind;

@@ -7,7 +7,8 @@ ghost use Rattle.p8_cog.specs.Standing.{StandsFor, clock_of};
 ghost use Rattle.p8_cog.specs.Stops.{Announces, IsHalf};
 ghost use Rattle.p8_cog.specs.Replaying.{one-asked, asked-first, asked-later};
 
-use crate::progress::{Ending, Progress};
+use crate::ending::Ending;
+use crate::progress::{Had, Progress};
 use crate::state::State;
 use p8_access::{Access, Life, Next, Turn};
 use p8_words::NoMemory;
@@ -30,7 +31,7 @@ pub struct Cog {
     ghost at: { state.begun.at < 512 },
     ghost cog_below: { cog < 8 },
     ghost clock: { clock_of state < 2 ^ 62 + 2 ^ 10 },
-    ghost counts: { 4 * done ≤ clock_of state },
+    ghost counts: { done ≤ clock_of state },
     ghost half: { IsHalf cog state },
     ghost announces: { Announces cog over state announced },
 }
@@ -71,7 +72,7 @@ impl Cog {
         Ok(Cog {
             state: Progress {
                 begun: State::first(alloc, longs, par, begin)?,
-                turn: None,
+                had: Had::Nothing,
             },
             cog,
             over: false,
@@ -94,7 +95,7 @@ impl Cog {
         ensures cog { ⟦<Cog as Life>⟧.cog self.new ≡ cog }
     {
         self.announced = None;
-        self.state.turn = None;
+        self.state.had = Had::Nothing;
         self.state.begun.load(longs, par, begin);
         self.cog = cog;
         self.over = false;
@@ -136,7 +137,7 @@ impl Life for Cog {
                 self.done += 1;
             }
             Ending::Whole => self.done += 1,
-            Ending::Half => {}
+            Ending::Half { .. } => {}
         }
     }
 

@@ -1,21 +1,33 @@
 // How far a cog is in the instruction at hand.
-ghost use Rattle.std.specs.Prelude.{None, false, nat_lt, if◌then◌else◌, ◌≡◌, ◌<◌, ◌≤◌, ◌+◌, ◌*◌, ◌^◌, []};
+ghost use Rattle.std.specs.Prelude.{nat_lt, if◌then◌else◌, ◌≡◌, ◌<◌, ◌≤◌, ◌+◌, ◌*◌, ◌^◌, ◌++◌, ◌∷◌, [], true, false};
 ghost use Rattle.p8_access.specs.declared.lives.Next.TheVariants.{At, Quiet};
 ghost use Rattle.p8_access.specs.Lives.{IsMadeNext};
+ghost use Rattle.p8_cog.specs.declared.progress.Had.TheVariants.{Nothing, Two};
 ghost use Rattle.p8_cog.specs.Replay.{Goes, instruction, played, step};
-ghost use Rattle.p8_cog.specs.Standing.{standing_at, clock_of};
-ghost use Rattle.p8_cog.specs.Stops.{AsksThis, IsHalf, Stops, Leads, IsSpent, Takes};
+ghost use Rattle.p8_cog.specs.Standing.{turns_of, standing_at, clock_in, clock_of};
+ghost use Rattle.p8_cog.specs.Stops.{latest, is_asking, is_half, IsHalf, IsTold, Comes, Stops, Leads, IsSpent, Takes};
 
-use crate::hub::{is_last, result_of};
+use crate::ending::Ending;
 use crate::state::State;
 use p8_access::{Access, Next, Turn};
 
-/// What stands in a cog where the instruction at hand began, and the turn that this instruction has had.
+/// The turns that the instruction at hand has had, the oldest first.
+///
+/// An instruction has at most three accesses: the read of its source, the access of the hub or the wait,
+/// and that of its result. With the last turn it is done.
+#[derive(Clone, Copy, Debug)]
+pub enum Had {
+    Nothing,
+    One(Turn),
+    Two(Turn, Turn),
+}
+
+/// What stands in a cog where the instruction at hand began, and the turns that this instruction has had.
 #[derive(Drop)]
 pub struct Progress {
     pub begun: State,
-    /// There is one only where the instruction has a further access.
-    pub turn: Option<Turn>,
+    /// There are some only where the instruction has a further access.
+    pub had: Had,
 }
 
 /// What a run has done, and why it stopped.
@@ -26,27 +38,32 @@ pub struct Ran {
     pub next: Next,
 }
 
-/// How an instruction stands when one of its accesses has had its turn.
-#[derive(Clone, Copy, Debug, PartialEq, Eq)]
-pub enum Ending {
-    /// The life is over.
-    Over,
-    /// The instruction is done.
-    Whole,
-    /// It has a further access.
-    Half,
-}
-
 /// An access that comes at a clock, if that is below `until`.
 #[inline]
-fn below(asked: (u64, Access), until: u64) -> Next
-    ensures { result ≡ (if nat_lt asked.0 until then At asked.0 asked.1 else Quiet) }
+fn below(clock: u64, access: Access, until: u64) -> Next
+    ensures { result ≡ (if nat_lt clock until then At clock access else Quiet) }
 {
-    let (clock, access) = asked;
     if clock < until {
         Next::At { clock, access }
     } else {
         Next::Quiet
+    }
+}
+
+/// Tells the first access below a clock of an instruction that asks where it begins.
+fn first_below(state: &mut State, cog: u8, until: u64) -> Next
+    requires at { state.old.at < 512 }
+    requires cog { cog < 8 }
+    requires clock { state.old.clock + 1 < 2 ^ 62 }
+    requires asks { is_asking (played (instruction cog state.old) []) ≡ true }
+    ensures stops { Stops cog (Goes state.old []) state.old.clock until result }
+    ensures told { IsTold result }
+    ensures made { IsMadeNext result }
+    ensures same { state.new ≡ state.old }
+{
+    match state.advance(cog, &[]) {
+        Ending::Half { clock, access } => below(clock, access, until),
+        Ending::Whole | Ending::Over => unreachable!(),
     }
 }
 
@@ -71,8 +88,8 @@ fn run(state: &mut State, cog: u8, until: u64, budget: u32) -> Ran
             let next = Next::Quiet;
             return Ran { done, next };
         }
-        if let Some(asked) = state.begin(cog) {
-            let next = below(asked, until);
+        if !state.run_apart() {
+            let next = first_below(state, cog, until);
             return Ran { done, next };
         }
     }
@@ -87,6 +104,24 @@ fn run(state: &mut State, cog: u8, until: u64, budget: u32) -> Ran
 }
 
 impl Progress {
+    /// Tells the next access below a clock of an instruction that has had turns.
+    fn further_below(&mut self, cog: u8, until: u64, had: &[Turn]) -> Next
+        requires at { self.old.begun.at < 512 }
+        requires cog { cog < 8 }
+        requires until { until < 2 ^ 62 }
+        requires had { had.now ≡ turns_of self.old.had }
+        requires is_half { is_half self.old.had ≡ true }
+        requires half { IsHalf cog self.old }
+        ensures stops { Stops cog (standing_at false self.new) (clock_of self.new) until result }
+        ensures made { IsMadeNext result }
+        ensures same { self.new ≡ self.old }
+    {
+        match self.begun.advance(cog, had) {
+            Ending::Half { clock, access } => below(clock, access, until),
+            Ending::Whole | Ending::Over => unreachable!(),
+        }
+    }
+
     /// Tells the next access below a clock, and does instructions within a budget on the way there.
     pub fn next_below(&mut self, cog: u8, until: u64, budget: u32) -> Ran
         requires at { self.old.begun.at < 512 }
@@ -103,66 +138,105 @@ impl Progress {
         ensures clock { clock_of self.new < 2 ^ 62 + 2 ^ 10 }
         ensures half { IsHalf cog self.new }
     {
-        match self.turn {
-            Some(turn) => Ran {
+        match self.had {
+            Had::Nothing => run(&mut self.begun, cog, until, budget),
+            Had::One(first) => Ran {
                 done: 0,
-                next: below(self.begun.refused(&turn), until),
+                next: self.further_below(cog, until, &[first]),
             },
-            None => run(&mut self.begun, cog, until, budget),
+            Had::Two(first, second) => Ran {
+                done: 0,
+                next: self.further_below(cog, until, &[first, second]),
+            },
         }
     }
 
     /// The life is over; behind its end nothing looks at the instruction.
     fn close(&mut self, clock: u64)
         requires { clock < 2 ^ 62 }
-        ensures turn { self.new.turn ≡ None }
+        ensures had { self.new.had ≡ Nothing }
         ensures at { self.new.begun.at ≡ self.old.begun.at }
-        ensures clock { self.new.begun.clock ≡ clock + 7 }
+        ensures clock { self.new.begun.clock ≡ clock + 1 }
     {
-        self.turn = None;
-        self.begun.clock = clock + 7;
+        self.had = Had::Nothing;
+        self.begun.clock = clock + 1;
     }
 
-    /// Takes the turn of the first access of the instruction at hand.
-    fn take_first(&mut self, cog: u8, turn: &Turn) -> Ending
+    /// Goes on by the turns of the instruction at hand, of which `turn` is the last; where that asks
+    /// a further access they are kept as `had`.
+    fn go_on(&mut self, cog: u8, turns: &[Turn], turn: &Turn, had: Had) -> Ending
         requires at { self.old.begun.at < 512 }
-        requires clock { turn.now.key.clock < 2 ^ 62 }
-        requires first { self.old.turn ≡ None }
-        requires asks { AsksThis (played (instruction cog self.old.begun) []) turn.now.access }
+        requires cog { cog < 8 }
+        requires begun { self.old.begun.clock + 1 < 2 ^ 62 }
+        requires latest { latest turns.now < 2 ^ 62 }
+        requires turns { turns.now ≡ turns_of self.old.had ++ turn.now ∷ [] }
+        requires had { turns_of had ≡ turns.now }
+        requires last { clock_in self.old.begun.clock had ≡ turn.now.key.clock }
+        requires below { turn.now.key.clock < 2 ^ 62 }
+        requires comes { Comes (step cog (standing_at false self.old)) turn.now }
         ensures takes { Takes cog self.old turn.now self.new result }
         ensures at { self.new.begun.at < 512 }
+        ensures clock { clock_of self.new < 2 ^ 62 + 2 ^ 10 }
         ensures half { IsHalf cog self.new }
     {
-        if is_last(cog, turn.access) {
-            self.close(turn.key.clock);
-            return Ending::Over;
+        match self.begun.advance(cog, turns) {
+            Ending::Over => {
+                self.close(turn.key.clock);
+                Ending::Over
+            }
+            Ending::Whole => {
+                self.had = Had::Nothing;
+                Ending::Whole
+            }
+            Ending::Half { clock, access } => {
+                self.had = had;
+                Ending::Half { clock, access }
+            }
         }
-        if self
-            .begun
-            .end_hub(turn, result_of(turn.access, turn.answer))
-        {
-            return Ending::Whole;
+    }
+
+    /// Ends the instruction at hand by its third turn.
+    fn end_by(&mut self, cog: u8, first: Turn, second: Turn, turn: &Turn) -> Ending
+        requires at { self.old.begun.at < 512 }
+        requires cog { cog < 8 }
+        requires had { self.old.had ≡ Two first second }
+        requires half { IsHalf cog self.old }
+        requires below { turn.now.key.clock < 2 ^ 62 }
+        requires comes { Comes (step cog (standing_at false self.old)) turn.now }
+        ensures takes { Takes cog self.old turn.now self.new result }
+        ensures at { self.new.begun.at < 512 }
+        ensures clock { clock_of self.new < 2 ^ 62 + 2 ^ 10 }
+        ensures half { IsHalf cog self.new }
+    {
+        match self.begun.advance(cog, &[first, second, *turn]) {
+            Ending::Over => {
+                self.close(turn.key.clock);
+                Ending::Over
+            }
+            Ending::Whole => {
+                self.had = Had::Nothing;
+                Ending::Whole
+            }
+            Ending::Half { .. } => unreachable!(),
         }
-        self.turn = Some(*turn);
-        Ending::Half
     }
 
     /// Takes the turn of the access that the instruction at hand asked.
     pub fn take(&mut self, cog: u8, turn: &Turn) -> Ending
         requires at { self.old.begun.at < 512 }
-        requires clock { turn.now.key.clock < 2 ^ 62 }
+        requires cog { cog < 8 }
         requires half { IsHalf cog self.old }
-        requires asks { AsksThis (step cog (standing_at false self.old)) turn.now.access }
+        requires below { turn.now.key.clock < 2 ^ 62 }
+        requires comes { Comes (step cog (standing_at false self.old)) turn.now }
         ensures takes { Takes cog self.old turn.now self.new result }
         ensures at { self.new.begun.at < 512 }
+        ensures clock { clock_of self.new < 2 ^ 62 + 2 ^ 10 }
         ensures half { IsHalf cog self.new }
     {
-        match self.turn {
-            Some(_) => {
-                self.close(turn.key.clock);
-                Ending::Over
-            }
-            None => self.take_first(cog, turn),
+        match self.had {
+            Had::Nothing => self.go_on(cog, &[*turn], turn, Had::One(*turn)),
+            Had::One(first) => self.go_on(cog, &[first, *turn], turn, Had::Two(first, *turn)),
+            Had::Two(first, second) => self.end_by(cog, first, second, turn),
         }
     }
 }

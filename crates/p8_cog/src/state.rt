@@ -1,11 +1,14 @@
 // A cog between two instructions.
-ghost use Rattle.std.specs.Prelude.{◌≡◌, ◌<◌, ◌≤◌, ◌^◌, length, if◌then◌else◌, IfOk};
+ghost use Rattle.std.specs.Prelude.{ℕ, ◌≡◌, ◌<◌, ◌≤◌, ◌^◌, length, if◌then◌else◌, IfOk, IfErr};
+ghost use Rattle.p8_access.specs.Lives.{IsMade};
 ghost use Rattle.p8_instr.specs.Instruction.{FitsFields};
-ghost use Rattle.p8_cog.specs.Replay.{at_hand, register_value, source_value, destination_value, next_of, effect, fetched_before, fetched_after, passed, first_with};
-ghost use Rattle.p8_cog.specs.Stops.{left_with};
+ghost use Rattle.p8_cog.specs.Replay.{at_hand, register_value, source_value, sourced, played, Asks, Course, destination_value, next_of, effect, fetched_before, fetched_after, passed, first_with};
+ghost use Rattle.p8_cog.specs.Stops.{left_with, latest};
 
-use crate::kind::{INB, PAR};
+use crate::hub::value_in;
+use crate::kind::{INB, PAR, source_access};
 use crate::registers::Registers;
+use p8_access::{Access, Turn};
 use p8_alu::{Effect, execute};
 use p8_instr::Instr;
 use p8_words::NoMemory;
@@ -83,7 +86,7 @@ impl State {
         }
     }
 
-    /// The value of the source.
+    /// The value of a source that isn't read by an access.
     #[inline]
     pub fn source_value(&self, i: Instr) -> u32
         requires decoded { i ≡ at_hand self.now }
@@ -96,6 +99,43 @@ impl State {
             self.registers.get(i.source)
         } else {
             self.special_value(i.source)
+        }
+    }
+
+    /// The value of a source of a special register, as `source` gives it.
+    fn special_source<'a>(&self, i: Instr, had: &'a [Turn]) -> Result<(u32, &'a [Turn]), Access>
+        requires decoded { i ≡ at_hand self.now }
+        requires fits { FitsFields i }
+        ensures value { IfOk result (λ p. (clock : ℕ) (go : ℕ → Course) → played (sourced clock self.now go) had.now ≡ played (go p.0) p.1.now) }
+        ensures left { IfOk result (λ p. latest p.1.now ≤ latest had.now) }
+        ensures asks { IfErr result (λ access. (clock : ℕ) (go : ℕ → Course) → played (sourced clock self.now go) had.now ≡ Asks clock access) }
+        ensures made { IfErr result (λ access. IsMade access) }
+    {
+        match source_access(i) {
+            None => Ok((self.source_value(i), had)),
+            Some(access) => match had {
+                [] => Err(access),
+                [turn, left @ ..] => Ok((value_in(turn.answer), left)),
+            },
+        }
+    }
+
+    /// The value of the source, and the turns that are left behind its read; or the access that reads it
+    /// and has had no turn.
+    #[inline]
+    pub fn source<'a>(&self, i: Instr, had: &'a [Turn]) -> Result<(u32, &'a [Turn]), Access>
+        requires decoded { i ≡ at_hand self.now }
+        requires fits { FitsFields i }
+        ensures value { IfOk result (λ p. (clock : ℕ) (go : ℕ → Course) → played (sourced clock self.now go) had.now ≡ played (go p.0) p.1.now) }
+        ensures left { IfOk result (λ p. latest p.1.now ≤ latest had.now) }
+        ensures asks { IfErr result (λ access. (clock : ℕ) (go : ℕ → Course) → played (sourced clock self.now go) had.now ≡ Asks clock access) }
+        ensures made { IfErr result (λ access. IsMade access) }
+    {
+        // Most instructions name a general register or a number.
+        if i.is_immediate() || i.source < PAR {
+            Ok((self.source_value(i), had))
+        } else {
+            self.special_source(i, had)
         }
     }
 
@@ -120,15 +160,14 @@ impl State {
     }
 
     /// The result and the flags that are computed.
-    #[inline]
+    #[inline(always)]
     pub fn effect(&self, i: Instr, source: u32) -> Effect
         requires decoded { i ≡ at_hand self.now }
         requires fits { FitsFields i }
-        requires source { source ≡ source_value self.now }
         requires first { 8 ≤ i.opcode }
         requires last { i.opcode ≤ 59 }
         requires at { self.now.at < 512 }
-        ensures { result ≡ effect self.now }
+        ensures { result ≡ effect self.now source }
     {
         let destination = self.destination_value(i);
         execute(i, destination, source, self.c, self.z, self.next())

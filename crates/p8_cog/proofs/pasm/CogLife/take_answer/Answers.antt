@@ -3,8 +3,8 @@ use Rattle.p8_cog.specs.Standing.{clock_of}
 use Rattle.p8_cog.specs.Replaying.{turn-comes, over-stands, whole-stands, half-stands}
 use Rattle.p8_cog.proofs.pasm.CogLife.take_answer.Goals as goal
 
-pub take-requires-clause-asks : goal.take-requires-clause-asks
-take-requires-clause-asks c = (turn-comes c.args.self.now.cog c.args.self.now.over c.args.self.now.state c.args.self.now.announced c.args.turn.now c.args.self.now.announces c.requires.announced).1
+pub take-requires-clause-comes : goal.take-requires-clause-comes
+take-requires-clause-comes c = (turn-comes c.args.self.now.cog c.args.self.now.over c.args.self.now.state c.args.self.now.announced c.args.turn.now c.args.self.now.announces c.requires.announced).1
 
 pub invariant_of-self-clause-counts : goal.invariant_of-self-clause-counts
 invariant_of-self-clause-counts c =
@@ -28,4 +28,4 @@ pub returns-in-Whole-clause-stands : goal.returns-in-Whole-clause-stands
 returns-in-Whole-clause-stands c = whole-stands _ _ _ c.args.self.now.state c.take.new.self _ (turn-comes c.args.self.now.cog c.args.self.now.over c.args.self.now.state c.args.self.now.announced c.args.turn.now c.args.self.now.announces c.requires.announced).0 c.in-Whole.ensures.takes
 
 pub returns-in-Half-clause-stands : goal.returns-in-Half-clause-stands
-returns-in-Half-clause-stands c = half-stands _ _ _ c.args.self.now.state c.take.new.self _ (turn-comes c.args.self.now.cog c.args.self.now.over c.args.self.now.state c.args.self.now.announced c.args.turn.now c.args.self.now.announces c.requires.announced).0 c.in-Half.ensures.takes
+returns-in-Half-clause-stands c = half-stands _ _ _ c.args.self.now.state c.take.new.self _ (turn-comes c.args.self.now.cog c.args.self.now.over c.args.self.now.state c.args.self.now.announced c.args.turn.now c.args.self.now.announces c.requires.announced).0 c.in-Half.ensures.takes.0

@@ -1,0 +1,5 @@
+use Rattle.p8_cog.specs.Replaying.{begun-below}
+use Rattle.p8_cog.proofs.progress.Progress.take.Goals as goal
+
+pub go_on-requires-clause-begun : goal.go_on-requires-clause-begun
+go_on-requires-clause-begun c = begun-below c.args.cog c.args.self.now c.args.turn.now c.in-Nothing.is c.requires.comes
