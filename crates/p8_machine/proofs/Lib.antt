@@ -1,4 +1,5 @@
-pub mod Waits
+pub mod Coming
+pub mod Waking
 pub mod Seating
 pub mod Choosing
 pub mod Settling

@@ -10,13 +10,14 @@ use Rattle.p8_history.specs.declared.states.CogState.{CogState}
 use Rattle.p8_history.specs.declared.states.CogState.TheVariants.{Stopped, Starting, Running}
 use Rattle.p8_history.specs.Worlds.{World}
 use Rattle.p8_history.specs.Hub.{Change, Starts, Runs, Stops, change_by, change_of, changed, cog_state}
-use Rattle.p8_history.specs.Histories.{begins_life, since_begin, IsNext, IsNextIn, IsNextRunning}
-use Rattle.p8_history.proofs.Nexts.{due-late, some-injective}
+use Rattle.p8_history.specs.Histories.{begins_life, since_begin}
+use Rattle.p8_history.proofs.Nexts.{some-injective}
 use Rattle.p8_cog.specs.Replay.{IsAsked}
 use Rattle.p8_machine.specs.Pending.{Pends}
 use Rattle.p8_machine.specs.Seats.{Sits, RunsSpin, SitsIn}
-use Rattle.p8_cog.specs.Replaying.{never-waits}
-use Rattle.p8_machine.proofs.Waits.{due-now}
+use Rattle.p8_machine.specs.Waiting.{test_in, MayBe, MayRun, MayComeIn, MayCome}
+use Rattle.p8_cog.specs.Replaying.{one-asked}
+use Rattle.p8_machine.proofs.Coming.{may-late}
 use Rattle.p8_history.proofs.Changes.{none-begins, runs-begins, begun-same, since_begin-own, since_begin-other, other-test, own-test, other-begins}
 
 absurd-begins : {A : Type 0} → (b : Bool) → b ≡ false → b ≡ true → A
@@ -52,34 +53,44 @@ module _ (stands : Begun → List Turn → Type 0) (next : Option (ℕ × Access
   other-sits differ sits = other-by (cog_state w past n) (change_of n turn) refl differ sits
 
 module _ (stands : Begun → List Turn → Type 0) (next : Option (ℕ × Access)) (w : World) (past : List Turn) (n : ℕ) where
-  -- what a seat has as its next access is the cog's
-  pub next-sits : (code par : ℕ) → cog_state w past n ≡ Running (Pasm code par) → (clock : ℕ) (access : Access) → next ≡ Some (clock, access) → SitsIn IsAsked stands next w past n (cog_state w past n) → IsNext IsAsked w past n clock access
-  next-sits code par is clock access some sits =
+  -- a cog's next turn may be what its seat has as the next access, at a clock at which that may be
+  pub may-sits : (code par : ℕ) → cog_state w past n ≡ Running (Pasm code par) → (earliest clock : ℕ) (access : Access) → next ≡ Some (earliest, access) → SitsIn IsAsked stands next w past n (cog_state w past n) → MayBe w past n (test_in access) earliest clock → (earliest < w.clocks → clock < w.clocks) → MayCome w past n clock access
+  may-sits code par is earliest clock access some sits may below =
       let own : Sits IsAsked stands next w past n = subst (λ (s : CogState). SitsIn IsAsked stands next w past n s) is sits in
       let pends = subst (λ (o : Option (ℕ × Access)). Pends (IsAsked own.life (since_begin past n)) w.clocks o) some own.pends in
-      let due = due-now w past n clock access (never-waits own.life (since_begin past n) clock access pends.0) in
-      let running : IsNextRunning IsAsked w past n clock access = record { life = own.life; began = own.began; earliest = clock; asks = pends.0; due = due } in
-      record { next = subst (λ (s : CogState). IsNextIn IsAsked w past n s clock access) (sym is) running; below = pends.1 }
+      let run : MayRun w past n clock access = record { life = own.life; began = own.began; earliest = earliest; asks = pends.0; may = may } in
+      record { may = subst (λ (s : CogState). MayComeIn w past n s clock access) (sym is) run; below = below pends.1 }
+
+  -- and no other
+  pub one-sits : (code par : ℕ) → cog_state w past n ≡ Running (Pasm code par) → (earliest : ℕ) (access : Access) → next ≡ Some (earliest, access) → SitsIn IsAsked stands next w past n (cog_state w past n) → (clock : ℕ) (other : Access) → MayCome w past n clock other → (other ≡ access) × MayBe w past n (test_in access) earliest clock
+  one-sits code par is earliest access some sits clock other comes =
+      let own : Sits IsAsked stands next w past n = subst (λ (s : CogState). SitsIn IsAsked stands next w past n s) is sits in
+      let pends = subst (λ (o : Option (ℕ × Access)). Pends (IsAsked own.life (since_begin past n)) w.clocks o) some own.pends in
+      let run : MayRun w past n clock other = subst (λ (s : CogState). MayComeIn w past n s clock other) is comes.may in
+      let life : run.life ≡ own.life = some-injective _ _ (sym run.began ∙ own.began) in
+      let asks = subst (λ (b : Begun). IsAsked b (since_begin past n) run.earliest other) life run.asks in
+      let same = one-asked own.life (since_begin past n) run.earliest earliest other access asks pends.0 in
+      (same.1, subst (λ (a : Access). MayBe w past n (test_in a) earliest clock) same.1 (subst (λ (e : ℕ). MayBe w past n (test_in other) e clock) same.0 run.may))
 
   -- where it has none, none comes
-  pub quiet-sits : (code par : ℕ) → cog_state w past n ≡ Running (Pasm code par) → next ≡ None → SitsIn IsAsked stands next w past n (cog_state w past n) → (clock : ℕ) (access : Access) → IsNext IsAsked w past n clock access → ⊥
+  pub quiet-sits : (code par : ℕ) → cog_state w past n ≡ Running (Pasm code par) → next ≡ None → SitsIn IsAsked stands next w past n (cog_state w past n) → (clock : ℕ) (access : Access) → MayCome w past n clock access → ⊥
   quiet-sits code par is none sits clock access comes =
       let own : Sits IsAsked stands next w past n = subst (λ (s : CogState). SitsIn IsAsked stands next w past n s) is sits in
       let pends = subst (λ (o : Option (ℕ × Access)). Pends (IsAsked own.life (since_begin past n)) w.clocks o) none own.pends in
-      let running : IsNextRunning IsAsked w past n clock access = subst (λ (s : CogState). IsNextIn IsAsked w past n s clock access) is comes.next in
-      let life : running.life ≡ own.life = some-injective _ _ (sym running.began ∙ own.began) in
-      let late : w.clocks ≤ running.earliest = pends running.earliest access (subst (λ (b : Begun). IsAsked b (since_begin past n) running.earliest access) life running.asks) in
-      let due : running.earliest ≤ clock = due-late w past n access running.earliest clock running.due in
+      let run : MayRun w past n clock access = subst (λ (s : CogState). MayComeIn w past n s clock access) is comes.may in
+      let life : run.life ≡ own.life = some-injective _ _ (sym run.began ∙ own.began) in
+      let late : w.clocks ≤ run.earliest = pends run.earliest access (subst (λ (b : Begun). IsAsked b (since_begin past n) run.earliest access) life run.asks) in
+      let on : run.earliest ≤ clock = may-late w past n (test_in access) run.earliest clock run.may in
       let below : clock < w.clocks = comes.below in
       omega arith
 
   -- a Spin cog asks nothing here
-  pub spin-quiet : (entry pbase vbase frame size : ℕ) → cog_state w past n ≡ Running (Spin entry pbase vbase frame size) → SitsIn IsAsked stands next w past n (cog_state w past n) → (clock : ℕ) (access : Access) → IsNext IsAsked w past n clock access → ⊥
+  pub spin-quiet : (entry pbase vbase frame size : ℕ) → cog_state w past n ≡ Running (Spin entry pbase vbase frame size) → SitsIn IsAsked stands next w past n (cog_state w past n) → (clock : ℕ) (access : Access) → MayCome w past n clock access → ⊥
   spin-quiet entry pbase vbase frame size is sits clock access comes =
       let own : RunsSpin IsAsked stands next w past n = subst (λ (s : CogState). SitsIn IsAsked stands next w past n s) is sits in
-      let running : IsNextRunning IsAsked w past n clock access = subst (λ (s : CogState). IsNextIn IsAsked w past n s clock access) is comes.next in
-      let life : running.life ≡ SpinBegun own.life = some-injective _ _ (sym running.began ∙ own.began) in
-      subst (λ (b : Begun). IsAsked b (since_begin past n) running.earliest access) life running.asks
+      let run : MayRun w past n clock access = subst (λ (s : CogState). MayComeIn w past n s clock access) is comes.may in
+      let life : run.life ≡ SpinBegun own.life = some-injective _ _ (sym run.began ∙ own.began) in
+      subst (λ (b : Begun). IsAsked b (since_begin past n) run.earliest access) life run.asks
 
 and-no : (b : Bool) → (b && false) ≡ false
 and-no true = refl

@@ -1,5 +1,5 @@
 -- What one step does to what a machine stands for.
-use Rattle.std.proofs.Common.{◌≡◌, ◌∙◌, ap, sym, subst, refl, ℕ, zero, suc, ◌<◌, ◌≤◌, ◌==◌, Bool, true, false, List, [], ◌∷◌, ◌++◌, Option, Some, None, slice_get, length, reverse, arith, inl, inr, ◌⊎◌, if◌then◌else◌}
+use Rattle.std.proofs.Common.{◌≡◌, ◌∙◌, ap, sym, subst, refl, ℕ, ◌<◌, ◌≤◌, ◌==◌, Bool, true, false, List, [], ◌∷◌, ◌++◌, Option, Some, None, slice_get, length, reverse, arith, inl, inr, if◌then◌else◌}
 use Rattle.std.proofs.lemmas.List.{reverse-append}
 use Rattle.p8_access.specs.declared.kinds.Access.{Access}
 use Rattle.p8_access.specs.declared.kinds.Access.TheVariants.{Begin, Load, Read, Write, CogId, CogInit, CogStop, LockNew, LockRet, LockSet, LockClr, ClkSet, PinsIn, OutSet, DirSet, Wait, Clock, Halt}
@@ -14,7 +14,7 @@ use Rattle.p8_history.specs.declared.states.CogState.{CogState}
 use Rattle.p8_history.specs.declared.states.CogState.TheVariants.{Stopped, Starting}
 use Rattle.p8_history.specs.Worlds.{World}
 use Rattle.p8_history.specs.Hub.{Starts, Runs, Stops, is_number, change_by, change_of, changed, cog_state}
-use Rattle.p8_history.specs.Histories.{answer_to, Legal, IsNext, IsNextIn, Extends, IsOver}
+use Rattle.p8_history.specs.Histories.{answer_to, Legal, IsNext, Extends, IsOver}
 use Rattle.p8_history.proofs.Changes.{other-test}
 use Rattle.p8_hub.specs.Standing.{HubValue, IsHub}
 use Rattle.p8_cog.specs.Replay.{IsAsked}
@@ -22,7 +22,8 @@ use Rattle.p8_machine.specs.declared.due.Due.{Due}
 use Rattle.p8_machine.specs.declared.seat.Seat.{Seat}
 use Rattle.p8_machine.specs.Places.{lives}
 use Rattle.p8_machine.specs.Seats.{SitsIn}
-use Rattle.p8_machine.specs.Standing.{Stands, IsLeast}
+use Rattle.p8_machine.specs.Standing.{Stands, IsLeast, OfAll}
+use Rattle.p8_machine.proofs.Coming.{next-may, may-next}
 
 -- a legal history has at most as many turns as the limit
 pub legal-length : (w : World) (past : List Turn) → Legal IsAsked w past → length past ≤ w.turns
@@ -67,36 +68,32 @@ stays n clock cog (DirSet value) answer far own proper fits = refl
 stays n clock cog (Wait test) answer far own proper fits = refl
 stays n clock cog Clock answer far own proper fits = refl
 
--- a cog is below the eighth or not
-near-far : (n m : ℕ) → (n < m) ⊎ (m ≤ n)
-near-far zero zero = inr (omega arith)
-near-far zero (suc m) = inl (omega arith)
-near-far (suc n) zero = inr (omega arith)
-near-far (suc n) (suc m) = elim (near-far n m) [ inl l ↦ inl (omega arith) | inr l ↦ inr (omega arith) ]
+module _ (w : World) (past : List Turn) where
+  -- where no turn may come the history is over
+  pub none-over : IsLeast w past OfAll None → IsOver IsAsked w past
+  none-over least = inr (λ n clock access next. least n clock access tt (next-may w past n clock access next))
 
-module _ (w : World) (past : List Turn) (others : (n : ℕ) → 8 ≤ n → cog_state w past n ≡ Stopped) where
-  far-none : (n clock : ℕ) (access : Access) → 8 ≤ n → IsNext IsAsked w past n clock access → ⊥
-  far-none n clock access far next =
-      subst (λ (s : CogState). IsNextIn IsAsked w past n s clock access) (others n far) next.next
-
-  -- where no cog has a next turn the history is over
-  pub none-over : IsLeast w past 8 None → IsOver IsAsked w past
-  none-over least = inr (λ n clock access next. elim (near-far n 8) [
-    | inl near ↦ least n clock access near next
-    | inr far ↦ far-none n clock access far next
-  ])
+  -- the first that may come is its cog's next turn
+  first-next : (due : Due) → IsLeast w past OfAll (Some due) → IsNext IsAsked w past due.key.cog due.key.clock due.access
+  first-next due least =
+      may-next w past due.key.cog due.key.clock due.access least.0.may (λ u less comes. least.1 due.key.cog u due.access tt comes (inl less))
 
   -- the turn that comes first extends the history
-  pub least-extends : (due : Due) (turn : Turn) → length past < w.turns → IsLeast w past 8 (Some due) → turn.key ≡ due.key → turn.access ≡ due.access → turn.answer ≡ answer_to w past due.key due.access → Extends IsAsked w past turn
+  pub least-extends : (due : Due) (turn : Turn) → length past < w.turns → IsLeast w past OfAll (Some due) → turn.key ≡ due.key → turn.access ≡ due.access → turn.answer ≡ answer_to w past due.key due.access → Extends IsAsked w past turn
   least-extends due turn room least key access answer = record {
     room = room;
-    next = subst (λ (k : Key). IsNext IsAsked w past k.cog k.clock turn.access) (sym key) (subst (λ (a : Access). IsNext IsAsked w past due.key.cog due.key.clock a) (sym access) least.0.next);
+    next = subst (λ (k : Key). IsNext IsAsked w past k.cog k.clock turn.access) (sym key) (subst (λ (a : Access). IsNext IsAsked w past due.key.cog due.key.clock a) (sym access) (first-next due least));
     answer = answer ∙ (λ i. answer_to w past (sym key i) (sym access i));
-    least = λ n clock a next before. elim (near-far n 8) [
-      | inl near ↦ least.1 n clock a near next (subst (λ (k : Key). Before (record { clock = clock; cog = n }) k) key before)
-      | inr far ↦ far-none n clock a far next
-    ];
+    least = λ n clock a next before. least.1 n clock a tt (next-may w past n clock a next) (subst (λ (k : Key). Before (record { clock = clock; cog = n }) k) key before);
   }
+
+-- what a turn extends isn't over
+pub not-over : (w : World) (past : List Turn) (turn : Turn) → Extends IsAsked w past turn → IsOver IsAsked w past → ⊥
+not-over w past turn extends over =
+    elim over [
+      | inl full ↦ (let room : length past < w.turns = extends.room in omega arith)
+      | inr none ↦ none turn.key.cog turn.key.clock turn.access extends.next
+    ]
 
 pub reverse-push : (turns : List Turn) (turn : Turn) → reverse (turns ++ turn ∷ []) ≡ turn ∷ reverse turns
 reverse-push turns turn = reverse-append turns (turn ∷ [])

@@ -10,7 +10,7 @@ use Rattle.p8_history.specs.declared.states.CogState.{CogState}
 use Rattle.p8_history.specs.declared.states.CogState.TheVariants.{Stopped, Starting, Running}
 use Rattle.p8_history.specs.Worlds.{World}
 use Rattle.p8_history.specs.Hub.{cog_state}
-use Rattle.p8_history.specs.Histories.{begun_at, IsNextIn}
+use Rattle.p8_history.specs.Histories.{begun_at}
 use Rattle.p8_history.proofs.Changes.{decided, same-cog, differ-cog}
 use Rattle.p8_hub.specs.Standing.{HubValue, IsHub}
 use Rattle.p8_cog.specs.Replay.{IsAsked}
@@ -18,7 +18,9 @@ use Rattle.p8_machine.specs.declared.due.Due.{Due}
 use Rattle.p8_machine.specs.declared.seat.Seat.{Seat}
 use Rattle.p8_machine.specs.Places.{lives, SameBut, Begins, Takes}
 use Rattle.p8_machine.specs.Seats.{SitsIn}
-use Rattle.p8_machine.specs.Standing.{Stands, FitsState, IsDueTurn}
+use Rattle.p8_machine.specs.Dues.{turn_of}
+use Rattle.p8_machine.specs.Waiting.{MayComeIn}
+use Rattle.p8_machine.specs.Standing.{Stands, FitsState, IsReady}
 use Rattle.p8_machine.proofs.Choosing.{some-at}
 use Rattle.p8_machine.proofs.Seating.{other-sits, own-sits}
 use Rattle.p8_machine.proofs.Settling.{idle-sits, start-sits}
@@ -37,11 +39,7 @@ is-starting Stopped fits = absurd fits
 no-spin : (s : CogState) (code par entry pbase vbase frame size : ℕ) → s ≡ Running (Pasm code par) → s ≡ Running (Spin entry pbase vbase frame size) → ⊥
 no-spin s code par entry pbase vbase frame size pasm spin = cc
 
--- the turn of what is due, with an answer
-abbrev pub turn_of : Due → Answer → Turn
-turn_of due answer = record { key = due.key; access = due.access; answer = answer }
-
-module _ (w : World) (past : List Turn) (hub after : HubValue) (old prepared settled : List Seat) (due : Due) (answer : Answer) (stands : Stands w past hub old) (due_turn : IsDueTurn w past due) (within : due.key.cog < length old) (made : due.running ≡ true → IsMade due.access) (hub_is : IsHub w (turn_of due answer ∷ past) after) (first_limit second_limit : ℕ) (first_is : w.clocks ≡ first_limit) (second_is : w.clocks ≡ second_limit) (begins : (since code par : ℕ) (seat : Seat) → due.running ≡ false → due.access ≡ Load → cog_state w past due.key.cog ≡ Starting since (Pasm code par) → code + 4 * 496 ≤ 32768 → slice_get prepared due.key.cog ≡ Some seat → Begins seat (begun_at w past due.key.cog due.key.clock (Pasm code par)) first_limit) (prepares : SameBut due.key.cog old prepared) (runs : due.running ≡ true → prepared ≡ old) (takes : (origin : Origin) (before seat : Seat) → due.running ≡ true → cog_state w (turn_of due answer ∷ past) due.key.cog ≡ Running origin → slice_get prepared due.key.cog ≡ Some before → slice_get settled due.key.cog ≡ Some seat → Takes before seat (turn_of due answer) second_limit) (settles : SameBut due.key.cog prepared settled) (starts : due.running ≡ false → settled ≡ prepared) where
+module _ (w : World) (past : List Turn) (hub after : HubValue) (old prepared settled : List Seat) (due : Due) (answer : Answer) (stands : Stands w past hub old) (due_turn : IsReady w past due) (within : due.key.cog < length old) (made : due.running ≡ true → IsMade due.access) (hub_is : IsHub w (turn_of due answer ∷ past) after) (first_limit second_limit : ℕ) (first_is : w.clocks ≡ first_limit) (second_is : w.clocks ≡ second_limit) (begins : (since code par : ℕ) (seat : Seat) → due.running ≡ false → due.access ≡ Load → cog_state w past due.key.cog ≡ Starting since (Pasm code par) → code + 4 * 496 ≤ 32768 → slice_get prepared due.key.cog ≡ Some seat → Begins seat (begun_at w past due.key.cog due.key.clock (Pasm code par)) first_limit) (prepares : SameBut due.key.cog old prepared) (runs : due.running ≡ true → prepared ≡ old) (takes : (origin : Origin) (before seat : Seat) → due.running ≡ true → cog_state w (turn_of due answer ∷ past) due.key.cog ≡ Running origin → slice_get prepared due.key.cog ≡ Some before → slice_get settled due.key.cog ≡ Some seat → Takes before seat (turn_of due answer) second_limit) (settles : SameBut due.key.cog prepared settled) (starts : due.running ≡ false → settled ≡ prepared) where
   seated-other : (n : ℕ) (seat : Seat) → (n ≡ due.key.cog → ⊥) → slice_get settled n ≡ Some seat → SitsIn IsAsked (lives seat) seat.next w (turn_of due answer ∷ past) n (cog_state w (turn_of due answer ∷ past) n)
   seated-other n seat differ at =
       let before = prepares n seat differ (settles n seat differ at) in
@@ -61,7 +59,7 @@ module _ (w : World) (past : List Turn) (hub after : HubValue) (old prepared set
   seated-starting seat starting at =
       let fits = subst (λ (b : Bool). FitsState b (cog_state w past due.key.cog)) starting due_turn.state in
       let state = is-starting (cog_state w past due.key.cog) fits in
-      let next = subst (λ (s : CogState). IsNextIn IsAsked w past due.key.cog s due.key.clock due.access) state.2 due_turn.next.next in
+      let next = subst (λ (s : CogState). MayComeIn w past due.key.cog s due.key.clock due.access) state.2 due_turn.may.may in
       let here : slice_get prepared due.key.cog ≡ Some seat = ap (λ (seats : List Seat). slice_get seats due.key.cog) (sym (starts starting)) ∙ at in
       start-sits (lives seat) seat.next w past (turn_of due answer) due.key.cog refl state.0 state.1 state.2 next.1
       (λ code par is load room. subst (λ (l : ℕ). Begins seat (begun_at w past due.key.cog due.key.clock (Pasm code par)) l) (sym first_is) (begins state.0 code par seat starting load (state.2 ∙ ap (λ (o : Origin). Starting state.0 o) is) room here))

@@ -6,4 +6,5 @@ pub mod Pending
 pub mod Seats
 pub mod Places
 pub mod Dues
+pub mod Waiting
 pub mod Standing

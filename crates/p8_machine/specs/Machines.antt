@@ -8,7 +8,7 @@ use Rattle.p8_machine.specs.Standing.{Stands}
 
 -- the world of a machine
 abbrev pub world_in : Machine → World
-world_in machine = world_of machine.boot machine.limits
+world_in machine = world_of machine.boot machine.script machine.limits
 
 -- the turns that it has made, the newest first
 abbrev pub past_in : Machine → List Turn

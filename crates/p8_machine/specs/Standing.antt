@@ -9,13 +9,15 @@ use Rattle.p8_history.specs.declared.states.CogState.{CogState}
 use Rattle.p8_history.specs.declared.states.CogState.TheVariants.{Stopped, Starting, Running}
 use Rattle.p8_history.specs.Worlds.{World}
 use Rattle.p8_history.specs.Hub.{cog_state}
-use Rattle.p8_history.specs.Histories.{Legal, IsNext}
+use Rattle.p8_history.specs.Histories.{Legal}
 use Rattle.p8_hub.specs.Standing.{HubValue, IsHub}
 use Rattle.p8_cog.specs.Replay.{IsAsked}
 use Rattle.p8_machine.specs.declared.due.Due.{Due}
 use Rattle.p8_machine.specs.declared.seat.Seat.{Seat}
 use Rattle.p8_machine.specs.Places.{lives}
 use Rattle.p8_machine.specs.Seats.{SitsIn}
+use Rattle.p8_machine.specs.Waiting.{MayCome}
+use Rattle.p8_pins.specs.Matches.{IsBefore}
 
 -- the history is legal, the hub is that after it, and each seat has the life of its cog
 pub record Stands (w : World) (past : List Turn) (hub : HubValue) (seats : List Seat) : Type 0 where
@@ -34,21 +36,39 @@ FitsState false (Starting since origin) = Unit {0}
 FitsState false (Running origin) = ⊥
 FitsState false Stopped = ⊥
 
--- this turn is its cog's next
-pub record IsDueTurn (w : World) (past : List Turn) (due : Due) : Type 0 where
-  pub next : IsNext IsAsked w past due.key.cog due.key.clock due.access
+-- what may be its cog's next turn
+pub record IsReady (w : World) (past : List Turn) (due : Due) : Type 0 where
+  pub may : MayCome w past due.key.cog due.key.clock due.access
   pub state : FitsState due.running (cog_state w past due.key.cog)
 
--- the next turn of a cog, if there is one
-abbrev pub Comes : World → List Turn → ℕ → Option Due → Type 0
-Comes w past n None = (clock : ℕ) (access : Access) → IsNext IsAsked w past n clock access → ⊥
-Comes w past n (Some due) = IsDueTurn w past due × (due.key.cog ≡ n)
+-- the first of the turns that may come next, among those of some cogs and clocks
+abbrev pub IsLeast : World → List Turn → (ℕ → ℕ → Type 0) → Option Due → Type 0
+IsLeast w past among None = (n clock : ℕ) (access : Access) → among n clock → MayCome w past n clock access → ⊥
+IsLeast w past among (Some due) =
+    IsReady w past due × ((n clock : ℕ) (access : Access) → among n clock → MayCome w past n clock access → Before (record { clock = clock; cog = n }) due.key → ⊥)
 
--- the next turn that comes first among the cogs below a number
-abbrev pub IsLeast : World → List Turn → ℕ → Option Due → Type 0
-IsLeast w past bound None = (n clock : ℕ) (access : Access) → n < bound → IsNext IsAsked w past n clock access → ⊥
-IsLeast w past bound (Some due) =
-    IsDueTurn w past due × ((n clock : ℕ) (access : Access) → n < bound → IsNext IsAsked w past n clock access → Before (record { clock = clock; cog = n }) due.key → ⊥)
+-- the key of the first of them, if there is one
+abbrev pub IsFirstKey : World → List Turn → (ℕ → ℕ → Type 0) → (clock : Option ℕ) → (cog : ℕ) → Type 0
+IsFirstKey w past among None cog = (n clock : ℕ) (access : Access) → among n clock → MayCome w past n clock access → ⊥
+IsFirstKey w past among (Some first) cog =
+    ((access : Access) × MayCome w past cog first access) × ((n clock : ℕ) (access : Access) → among n clock → MayCome w past n clock access → Before (record { clock = clock; cog = n }) (record { clock = first; cog = cog }) → ⊥)
+
+-- a cog's next turn, which comes at a clock
+abbrev pub IsDueAt : World → List Turn → (cog clock : ℕ) → Option Due → Type 0
+IsDueAt w past cog clock None = ⊥
+IsDueAt w past cog clock (Some due) = IsReady w past due × (due.key ≡ record { clock = clock; cog = cog })
+
+-- those of one cog, before an end
+abbrev pub OfCog : ℕ → Option ℕ → ℕ → ℕ → Type 0
+OfCog cog end n clock = (n ≡ cog) × IsBefore clock end
+
+-- those of the cogs below a number, before an end
+abbrev pub OfCogs : ℕ → Option ℕ → ℕ → ℕ → Type 0
+OfCogs bound end n clock = (n < bound) × IsBefore clock end
+
+-- all
+abbrev pub OfAll : ℕ → ℕ → Type 0
+OfAll n clock = Unit {0}
 
 -- a past with one turn more, if there is one
 abbrev pub past_with : List Turn → Option Turn → List Turn

@@ -1,11 +1,11 @@
 // The turn that a cog has next.
-ghost use Rattle.std.specs.Prelude.{◌≡◌, ◌<◌, ◌≤◌, ◌+◌, ◌^◌};
+ghost use Rattle.std.specs.Prelude.{◌≡◌, ◌<◌, ◌≤◌, ◌+◌, ◌^◌, IsTrue, ◌↔◌};
 ghost use Rattle.p8_access.specs.Windows.{window_of};
 ghost use Rattle.p8_access.specs.Proper.{IsProper};
 ghost use Rattle.p8_history.specs.Histories.{first_access as first_access_of};
-ghost use Rattle.p8_machine.specs.Dues.{Picks, IsFirst};
+ghost use Rattle.p8_machine.specs.Dues.{IsEarlier, IsStartClock};
 
-use p8_access::{Access, Key, Origin, Reason, key_before, window};
+use p8_access::{Access, Key, Origin, Reason, window};
 
 /// The next turn of a cog but for its answer, and whether the cog is running; else it is starting.
 #[derive(Clone, Copy, Debug, PartialEq, Eq)]
@@ -19,6 +19,7 @@ pub struct Due {
 pub const LAST_CODE: u16 = 0x8000 - 4 * 496;
 
 /// The first access of a cog that was started.
+#[inline]
 pub fn first_access(origin: Origin) -> Access
     ensures access { result ≡ first_access_of origin }
     ensures proper { IsProper result }
@@ -37,11 +38,12 @@ pub fn first_access(origin: Origin) -> Access
     }
 }
 
-/// The first turn of a cog that is starting, where it comes below a clock.
-pub fn first_due(cog: u8, since: u64, origin: Origin, until: u64) -> Option<Due>
+/// The clock of the first turn of a cog that is starting, where that is below a limit.
+#[inline]
+pub fn start_clock(cog: u8, since: u64, until: u64) -> Option<u64>
     requires cog { cog < 8 }
     requires until { until < 2 ^ 61 }
-    ensures { IsFirst cog since origin until result }
+    ensures { IsStartClock cog since until result }
 {
     if since >= until {
         return None;
@@ -50,28 +52,19 @@ pub fn first_due(cog: u8, since: u64, origin: Origin, until: u64) -> Option<Due>
     if clock >= until {
         return None;
     }
-    Some(Due {
-        key: Key { clock, cog },
-        access: first_access(origin),
-        running: false,
-    })
+    Some(clock)
 }
 
-/// The one of two turns that comes first.
-pub fn earlier(best: Option<Due>, due: Option<Due>) -> Option<Due>
-    ensures { Picks best due result }
+/// Whether a clock, if there is one, comes before the first so far.
+#[inline]
+pub fn is_earlier(clock: Option<u64>, first: Option<u64>) -> bool
+    ensures { IsTrue result ↔ IsEarlier clock first }
 {
-    match best {
-        None => due,
-        Some(first) => match due {
-            None => Some(first),
-            Some(second) => {
-                if key_before(second.key, first.key) {
-                    Some(second)
-                } else {
-                    Some(first)
-                }
-            }
+    match clock {
+        None => false,
+        Some(clock) => match first {
+            None => true,
+            Some(first) => clock < first,
         },
     }
 }

@@ -6,6 +6,9 @@ mod outcome;
 mod run;
 mod seat;
 mod seats;
+#[cfg(test)]
+mod tests;
+mod waits;
 
 pub use outcome::{Ended, History, Limits};
 pub use run::{Machine, run_alone};

@@ -24,6 +24,7 @@ pub struct Seat {
 }
 
 /// The next access of a life below a clock.
+#[inline(always)]
 fn next_of<L: Life>(life: &mut L, until: u64) -> Option<(u64, Access)>
     requires { until < 2 ^ 61 }
     ensures keeps { (b : Begun) (ts : List Turn) → L.stands life.old b ts → L.stands life.new b ts }
@@ -55,6 +56,16 @@ impl Seat {
         })
     }
 
+    /// Asks the life for its next access below the clock `until`.
+    fn ask(&mut self, until: u64)
+        requires { until < 2 ^ 61 }
+        ensures keeps { (b : Begun) (ts : List Turn) → ⟦<Cog as Life>⟧.stands self.old.life b ts → ⟦<Cog as Life>⟧.stands self.new.life b ts }
+        ensures pends { (b : Begun) (ts : List Turn) → ⟦<Cog as Life>⟧.stands self.old.life b ts → Pends (⟦<Cog as Life>⟧.asked b ts) until self.new.next }
+        ensures cog { ⟦<Cog as Life>⟧.cog self.new.life ≡ ⟦<Cog as Life>⟧.cog self.old.life }
+    {
+        self.next = next_of(&mut self.life, until);
+    }
+
     /// A new life begins with these longs and this value of PAR. Its first instruction comes at the
     /// clock `begin`, and it is asked for its first access below the clock `until`.
     pub fn begin(&mut self, longs: &[u32], par: u16, cog: u8, begin: u64, until: u64)
@@ -67,7 +78,8 @@ impl Seat {
         ensures cog { ⟦<Cog as Life>⟧.cog self.new.life ≡ cog }
     {
         self.life.restart(longs, par, cog, begin);
-        self.next = next_of(&mut self.life, until);
+        self.next = None;
+        self.ask(until);
     }
 
     /// The life takes the turn of its next access, and is asked for the one after it below the clock
@@ -83,6 +95,7 @@ impl Seat {
         ensures cog { ⟦<Cog as Life>⟧.cog self.new.life ≡ ⟦<Cog as Life>⟧.cog self.old.life }
     {
         self.life.take_answer(turn);
-        self.next = next_of(&mut self.life, until);
+        self.next = None;
+        self.ask(until);
     }
 }

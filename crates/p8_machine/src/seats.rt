@@ -2,13 +2,15 @@
 ghost use Rattle.std.specs.Prelude.{◌≡◌, ◌<◌, ◌+◌, ◌^◌, [], ℕ, List, Some, length, IfOk, IfSome, slice_get};
 ghost use Rattle.p8_access.specs.declared.kinds.Access.{Access};
 ghost use Rattle.p8_access.specs.declared.order.Turn.{Turn};
-ghost use Rattle.p8_access.specs.Lives.{PasmBegun, IsAnnounced};
+ghost use Rattle.p8_access.specs.Lives.{PasmBegun, IsAnnounced, IsMade};
 ghost use Rattle.p8_access.specs.Proper.{Fits};
 ghost use Rattle.p8_machine.specs.declared.seat.Seat.{Seat};
 ghost use Rattle.p8_machine.specs.Pending.{IsMadeIf};
+ghost use Rattle.p8_machine.specs.Waiting.{IsNextAt};
 ghost use Rattle.p8_machine.specs.Places.{cog_of, SameBut, Begins, Takes};
 
 use crate::seat::Seat;
+use crate::waits::is_timely;
 use p8_access::{Access, Turn};
 use p8_words::NoMemory;
 use std::alloc::Global;
@@ -49,6 +51,7 @@ impl Seats {
     }
 
     /// The next access of a cog's life and its earliest clock, as it was said last.
+    #[inline]
     pub fn next(&self, cog: u8) -> Option<(u64, Access)>
         requires { cog < 8 }
         ensures next { (seat : Seat) → slice_get self.now.seats.items cog ≡ Some seat → result ≡ seat.next }
@@ -57,6 +60,25 @@ impl Seats {
     {
         let seat = &self.seats[cog as usize];
         seat.next
+    }
+
+    /// The next access of a cog's life, where it may have its turn at this clock.
+    #[inline]
+    pub fn at(&self, cog: u8, clock: u64) -> Option<Access>
+        requires { cog < 8 }
+        ensures next { (seat : Seat) → slice_get self.now.seats.items cog ≡ Some seat → IsNextAt seat.next clock result }
+        ensures made { IfSome result IsMade }
+    {
+        match self.next(cog) {
+            None => None,
+            Some((earliest, access)) => {
+                if is_timely(access, earliest, clock) {
+                    Some(access)
+                } else {
+                    None
+                }
+            }
+        }
     }
 
     /// A new life begins in a cog.

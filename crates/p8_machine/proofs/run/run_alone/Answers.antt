@@ -14,8 +14,8 @@ returns-clause-ended c =
 
 pub returns-clause-only : goal.returns-clause-only
 returns-clause-only c = λ past ended.
-    one-history IsAsked (world_of c.args.boot c.args.limits) one-asked past (reverse c.end.result.history.turns.list) ended (returns-clause-ended c)
+    one-history IsAsked (world_of c.args.boot c.args.script c.args.limits) one-asked past (reverse c.end.result.history.turns.list) ended (returns-clause-ended c)
 
 pub returns-clause-rises : goal.returns-clause-rises
 returns-clause-rises c =
-    rises IsAsked (world_of c.args.boot c.args.limits) one-asked asked-first asked-later (reverse c.end.result.history.turns.list) (returns-clause-ended c).legal
+    rises IsAsked (world_of c.args.boot c.args.script c.args.limits) one-asked asked-first asked-later (reverse c.end.result.history.turns.list) (returns-clause-ended c).legal

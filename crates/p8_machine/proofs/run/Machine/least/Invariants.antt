@@ -1,12 +1,14 @@
-use Rattle.std.proofs.Common.{◌≡◌, List}
-use Rattle.p8_access.specs.declared.order.Turn.{Turn}
-use Rattle.p8_history.specs.Worlds.{World}
-use Rattle.p8_machine.specs.Dues.{SuitsIf}
-use Rattle.p8_machine.specs.Standing.{Stands, IsLeast}
+use Rattle.std.proofs.Common.{◌-◌, ◌<◌, ◌^◌}
+use Rattle.p8_machine.specs.Machines.{world_in, past_in}
+use Rattle.p8_machine.specs.Waiting.{WaitsFrom}
+use Rattle.p8_machine.specs.Machines.{IsStanding}
 use Rattle.p8_machine.proofs.run.Machine.least.Given as goal
 
-abbrev pub invariant-loop-cog : goal.invariant-loop-cog
-invariant-loop-cog l = record {
-  suits : SuitsIf l.self.seats.seats.items l.best;
-  least : (w : World) (past : List Turn) → w.clocks ≡ l.self.limits.clocks → Stands w past l.self.hub l.self.seats.seats.items → IsLeast w past l.cog l.best;
+abbrev pub invariant-spans : goal.invariant-spans
+invariant-spans l = record {
+  waits : IsStanding l.self → WaitsFrom (world_in l.self) (past_in l.self) l.from;
+  small : l.from < 2 ^ 61;
 }
+
+abbrev pub decreases-spans : goal.decreases-spans
+decreases-spans l = 2 ^ 61 - l.from
