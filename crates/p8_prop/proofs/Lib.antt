@@ -1,3 +1,4 @@
 pub mod Digits
-pub mod Lines
-pub mod Counts
+pub mod Reading
+pub mod Telling
+pub mod Completing

@@ -1,21 +1,25 @@
 -- internal
 -- The command of the words, as it is read.
-use Rattle.std.specs.Prelude.{ℕ, ◌+◌, ◌≤◌, Option, Some, None}
-use Rattle.std.specs.Option.{ForSome}
-use Rattle.p8_prop.specs.declared.words.Command.{Command as Words}
-use Rattle.p8_prop.specs.declared.words.Command.TheVariants.{Raw as RawWords}
-use Rattle.p8_prop.specs.Commands.{Command, Raw, most_clocks}
+use Rattle.std.specs.Prelude.{◌≤◌, Option, Some, None}
+use Rattle.p8_prop.specs.declared.options.Options.{Options as OptionsRead}
+use Rattle.p8_prop.specs.declared.words.RawCommand.{RawCommand}
+use Rattle.p8_prop.specs.Commands.{Command, Raw, Options, most_clocks, most_turns}
+use Rattle.p8_prop.specs.Naming.{name_of}
+use Rattle.p8_prop.specs.Ranges.{IsInRam}
 
--- the same of a name that is borrowed
-abbrev pub seen : Option Words → Option Command
-seen None = None
-seen (Some (RawWords file clocks dump)) = Some (Raw file.now clocks dump)
+abbrev pub seen_options : OptionsRead → Options
+seen_options options = record { script = name_of options.script; turns = options.turns; dump = options.dump }
 
--- a range is in hub RAM, and isn't empty
-abbrev pub IsInRam : Option (ℕ × ℕ) → Type 0
-IsInRam dump = ForSome dump (λ range. 1 ≤ range.1) × ForSome dump (λ range. range.0 + range.1 ≤ 32768)
+abbrev pub seen : RawCommand → Command
+seen command = Raw command.file.now command.clocks (seen_options command.options)
 
--- the clocks and the range of a command keep their limits
-abbrev pub IsWithin : Option Words → Type 0
-IsWithin None = Unit {0}
-IsWithin (Some (RawWords file clocks dump)) = (clocks ≤ most_clocks) × IsInRam dump
+abbrev pub seen_if_any : Option RawCommand → Option Command
+seen_if_any None = None
+seen_if_any (Some command) = Some (seen command)
+
+-- the numbers keep their limits
+abbrev pub AreWithin : OptionsRead → Type 0
+AreWithin options = (options.turns ≤ most_turns) × IsInRam options.dump
+
+abbrev pub IsWithin : RawCommand → Type 0
+IsWithin command = (command.clocks ≤ most_clocks) × AreWithin command.options

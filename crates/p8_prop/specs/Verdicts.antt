@@ -1,11 +1,12 @@
 -- What the program answers and writes, each status with its cause (this project's profile).
-use Rattle.std.specs.Prelude.{ℕ, ◌≡◌, ◌<◌, ◌≤◌, List, [], ◌∷◌, ◌++◌, Option, Some, None, length, codes}
+use Rattle.std.specs.Prelude.{ℕ, ◌≡◌, ◌<◌, ◌≤◌, ◌⊎◌, List, [], ◌∷◌, ◌++◌, Option, Some, None, length, codes}
 use Rattle.std.specs.Fmt.{decimal}
 use Rattle.p8_access.specs.declared.kinds.Origin.TheVariants.{Pasm}
 use Rattle.p8_access.specs.declared.order.Turn.{Turn}
 use Rattle.p8_access.specs.Boots.{ram_of}
-use Rattle.p8_history.specs.Worlds.{World}
+use Rattle.p8_history.specs.Worlds.{Line, World}
 use Rattle.p8_history.specs.Histories.{Ended}
+use Rattle.p8_pins.specs.Scripts.{IsReadAs, IsFault}
 use Rattle.p8_cog.specs.Replay.{IsAsked}
 use Rattle.p8_report.specs.Text.{text_of}
 use Rattle.p8_io.specs.Counts.{Rose}
@@ -15,14 +16,30 @@ use Rattle.p8_prop.specs.declared.status.Status.{Status}
 use Rattle.p8_prop.specs.declared.status.Status.TheVariants.{Ok as Done, Usage, Refused, ShelfFault, Missing, SinkFault, NoMemory, BadImage, BadScript}
 use Rattle.p8_prop.specs.Commands.{Command, Raw}
 
--- the world of a file that is hub memory: cog 0 starts as PASM at $0000 with PAR 0
-abbrev pub world_of : List ℕ → ℕ → World
-world_of bytes clocks = record { memory = ram_of bytes; first = Pasm 0 0; script = []; clocks = clocks; turns = 100000 }
+-- the world of a file that is hub memory, and of a pin script: cog 0 starts as PASM at $0000 with PAR 0
+abbrev pub world_of : (bytes : List ℕ) → (script : List Line) → (clocks turns : ℕ) → World
+world_of bytes script clocks turns =
+    record { memory = ram_of bytes; first = Pasm 0 0; script = script; clocks = clocks; turns = turns }
 
--- the text of the ended history of that world, with a dump; there is one such history
-abbrev pub IsTrace : List ℕ → ℕ → Option (ℕ × ℕ) → List ℕ → Type 0
-IsTrace bytes clocks dump text =
-    (past : List Turn) × Ended IsAsked (world_of bytes clocks) past × (text ≡ text_of (world_of bytes clocks) past dump)
+-- the text of the ended history of a world, with a dump; there is one such history
+abbrev pub IsTrace : World → Option (ℕ × ℕ) → List ℕ → Type 0
+IsTrace world dump text = (past : List Turn) × Ended IsAsked world past × (text ≡ text_of world past dump)
+
+-- these are the bytes of a file that fits the hub
+abbrev pub IsImage : Files → (file bytes : List ℕ) → Type 0
+IsImage files file bytes = IsRead files file bytes × (length bytes ≤ 32768)
+
+-- the lines of the pin script, where one is named, and else none
+abbrev pub IsScriptFor : Files → Option (List ℕ) → List Line → Type 0
+IsScriptFor files None script = script ≡ []
+IsScriptFor files (Some name) script = (bytes : List ℕ) × IsRead files name bytes × IsReadAs bytes script
+
+-- the text that the words ask for
+abbrev pub IsAskedFor : Files → Option Command → List ℕ → Type 0
+IsAskedFor files None text = ⊥
+IsAskedFor files (Some (Raw file clocks options)) text =
+    (bytes : List ℕ) × (script : List Line) × IsImage files file bytes × IsScriptFor files options.script script ×
+    IsTrace (world_of bytes script clocks options.turns) options.dump text
 
 -- a call as it is seen from outside: the shelf's files and its count of faults before and now, and of
 -- the output its count and the bytes that it took, before and now
@@ -43,65 +60,83 @@ outside files shelf_before shelf_now out_before out_now taken_before taken_now =
 abbrev pub IsSilent : Outside → Type 0
 IsSilent o = Appended o.taken_before o.taken_now []
 
--- the file of a command was read, and these are its bytes, or their start where there are too many
-abbrev pub HasBytes : Outside → Command → List ℕ → Type 0
-HasBytes o (Raw file clocks dump) bytes = IsRead o.files file bytes
+-- the words name this file
+abbrev pub IsNamed : Option Command → (name : List ℕ) → Type 0
+IsNamed None name = ⊥
+IsNamed (Some (Raw file clocks options)) name = (name ≡ file) ⊎ (options.script ≡ Some name)
 
--- the text that a command asks for, where its file has these bytes
-abbrev pub HasText : Command → List ℕ → List ℕ → Type 0
-HasText (Raw file clocks dump) bytes text = (length bytes ≤ 32768) × IsTrace bytes clocks dump text
+-- the words name a pin script, which is looked at where the file to run is good
+abbrev pub HasScript : Files → Option Command → (name : List ℕ) → Type 0
+HasScript files None name = ⊥
+HasScript files (Some (Raw file clocks options)) name = (bytes : List ℕ) × IsImage files file bytes × (options.script ≡ Some name)
 
--- the text that the words ask for
-abbrev pub IsAskedFor : Outside → Option Command → List ℕ → Type 0
-IsAskedFor o None text = ⊥
-IsAskedFor o (Some command) text = (bytes : List ℕ) × HasBytes o command bytes × HasText command bytes text
+-- the file to run
+abbrev pub IsRun : Option Command → (name : List ℕ) → Type 0
+IsRun None name = ⊥
+IsRun (Some (Raw file clocks options)) name = name ≡ file
 
-abbrev pub IsMissingFor : Outside → Option Command → Type 0
-IsMissingFor o None = ⊥
-IsMissingFor o (Some (Raw file clocks dump)) = IsLacking o.shelf_before o.shelf_now o.files file
+-- a file of the words is missing, by what the shelf tells, with its counts before and now
+abbrev pub IsMissing : Files → (before now : ℕ) → Option Command → (name : List ℕ) → Type 0
+IsMissing files before now command name = (IsRun command name ⊎ HasScript files command name) × IsLacking before now files name
 
--- the image of the words is refused: this many bytes are more than the hub has
-abbrev pub HasLength : Outside → Option Command → ℕ → Type 0
-HasLength o None count = ⊥
-HasLength o (Some command) count = (bytes : List ℕ) × HasBytes o command bytes × (length bytes ≡ count) × (32768 < count)
+-- the file to run is refused: this many bytes are more than the hub has
+abbrev pub HasLength : Files → Option Command → (name : List ℕ) → (count : ℕ) → Type 0
+HasLength files command name count =
+    (bytes : List ℕ) × IsRun command name × IsRead files name bytes × (length bytes ≡ count) × (32768 < count)
 
--- the words are a command
-abbrev pub IsCommand : Option Command → Type 0
-IsCommand None = ⊥
-IsCommand (Some command) = Unit {0}
+-- the pin script is refused, at this line
+abbrev pub HasBadLine : Files → Option Command → (name : List ℕ) → (line : ℕ) → Type 0
+HasBadLine files command name line =
+    (bytes : List ℕ) × HasScript files command name × IsRead files name bytes × IsFault bytes line
 
 -- each status has its cause; want of memory is the only one that may always come
 abbrev pub Answers : Outside → Option Command → Status → Type 0
-Answers o command Done = (text : List ℕ) × IsAskedFor o command text × Appended o.taken_before o.taken_now text
+Answers o command Done = (text : List ℕ) × IsAskedFor o.files command text × Appended o.taken_before o.taken_now text
 Answers o command Usage = (command ≡ None) × IsSilent o
-Answers o command ShelfFault = IsCommand command × Rose o.shelf_before o.shelf_now × IsSilent o
-Answers o command Missing = IsMissingFor o command × IsSilent o
-Answers o command SinkFault = (text : List ℕ) × IsAskedFor o command text × Rose o.out_before o.out_now × AppendedPrefix o.taken_before o.taken_now text
+Answers o command ShelfFault = (name : List ℕ) × IsNamed command name × Rose o.shelf_before o.shelf_now × IsSilent o
+Answers o command Missing = (name : List ℕ) × IsMissing o.files o.shelf_before o.shelf_now command name × IsSilent o
+Answers o command SinkFault = (text : List ℕ) × IsAskedFor o.files command text × Rose o.out_before o.out_now × AppendedPrefix o.taken_before o.taken_now text
 Answers o command NoMemory = IsSilent o
-Answers o command BadImage = (count : ℕ) × HasLength o command count × IsSilent o
+Answers o command BadImage = (name : List ℕ) × (count : ℕ) × HasLength o.files command name count × IsSilent o
+Answers o command BadScript = (name : List ℕ) × (line : ℕ) × HasBadLine o.files command name line × IsSilent o
 Answers o command Refused = ⊥
-Answers o command BadScript = ⊥
 
--- the file that a command names
-abbrev pub file_of : Option Command → List ℕ
-file_of None = []
-file_of (Some (Raw file clocks dump)) = file
+-- a status is due: it is what the words and the files call for
+abbrev pub IsDue : Outside → Option Command → Status → Type 0
+IsDue o command Done = (text : List ℕ) × IsAskedFor o.files command text
+IsDue o command Usage = command ≡ None
+IsDue o command Missing = (name : List ℕ) × IsMissing o.files o.shelf_before o.shelf_now command name
+IsDue o command BadImage = (name : List ℕ) × (count : ℕ) × HasLength o.files command name count
+IsDue o command BadScript = (name : List ℕ) × (line : ℕ) × HasBadLine o.files command name line
+IsDue o command status = ⊥
+
+-- where the shelf tells its files and its count didn't rise, nor that of the output where a text is due,
+-- the status is the one that is due, or it tells want of memory
+abbrev pub IsComplete : Outside → Option Command → Status → Type 0
+IsComplete o command status =
+    (files : List ℕ → Option (List ℕ)) (due : Status) → o.files ≡ Some files → (Rose o.shelf_before o.shelf_now → ⊥) → (due ≡ Done → Rose o.out_before o.out_now → ⊥) → IsDue o command due → (status ≡ due) ⊎ (status ≡ NoMemory)
+
+-- where the shelf tells its files, the words ask for one text
+abbrev pub HasOneText : Files → Option Command → Type 0
+HasOneText told command =
+    (files : List ℕ → Option (List ℕ)) (a b : List ℕ) → told ≡ Some files → IsAskedFor told command a → IsAskedFor told command b → a ≡ b
 
 abbrev pub usage_line : List ℕ
 usage_line = codes "prop: usage: prop build|list FILE, prop raw|run FILE CLOCKS [--pins F] [--turns K] [--dump A:N] [--alone]" ++ 10 ∷ []
 
--- the line of a status on the output for faults; that of a refused image tells how many bytes it has
+-- the line of a status on the output for faults, with the file, and with what is wrong with it
 abbrev pub IsLine : Outside → Option Command → Status → List ℕ → Type 0
 IsLine o command Done line = line ≡ []
 IsLine o command Usage line = line ≡ usage_line
-IsLine o command ShelfFault line = line ≡ codes "prop: cannot read " ++ file_of command ++ 10 ∷ []
-IsLine o command Missing line = line ≡ codes "prop: " ++ file_of command ++ codes " is missing" ++ 10 ∷ []
+IsLine o command ShelfFault line = (name : List ℕ) × IsNamed command name × (line ≡ codes "prop: cannot read " ++ name ++ 10 ∷ [])
+IsLine o command Missing line = (name : List ℕ) × IsMissing o.files o.shelf_before o.shelf_now command name × (line ≡ codes "prop: " ++ name ++ codes " is missing" ++ 10 ∷ [])
 IsLine o command SinkFault line = line ≡ codes "prop: cannot write" ++ 10 ∷ []
 IsLine o command NoMemory line = line ≡ codes "prop: out of memory" ++ 10 ∷ []
 IsLine o command BadImage line =
-    (count : ℕ) × HasLength o command count × (line ≡ codes "prop: " ++ file_of command ++ codes ": length " ++ decimal count ++ 10 ∷ [])
+    (name : List ℕ) × (count : ℕ) × HasLength o.files command name count × (line ≡ codes "prop: " ++ name ++ codes ": length " ++ decimal count ++ 10 ∷ [])
+IsLine o command BadScript line =
+    (name : List ℕ) × (n : ℕ) × HasBadLine o.files command name n × (line ≡ codes "prop: " ++ name ++ codes ": line " ++ decimal n ++ 10 ∷ [])
 IsLine o command Refused line = ⊥
-IsLine o command BadScript line = ⊥
 
 -- that line was written to a sink, or a prefix of it where the sink's count rose
 abbrev pub TellsLine : Outside → Option Command → Status → (before now : ℕ) → (taken_before taken_now : Option (List ℕ)) → Type 0

@@ -1,6 +1,8 @@
 //! `prop`: runs images of the Parallax Propeller P8X32A and prints the history of the eight cogs.
 #![tactic(auto)]
 
+mod numbers;
+mod options;
 mod outcome;
 mod raw;
 mod status;

@@ -1,12 +1,12 @@
 // The top call.
 ghost use Rattle.std.specs.Prelude.{◌≡◌, ◌≤◌, map, string_bytes, Some};
-ghost use Rattle.p8_prop.specs.Commands.{command_of, Raw, most_clocks};
-ghost use Rattle.p8_prop.specs.Seen.{IsInRam};
-ghost use Rattle.p8_prop.specs.Verdicts.{Answers, TellsLine, outside};
+ghost use Rattle.p8_prop.specs.Commands.{command_of};
+ghost use Rattle.p8_prop.specs.Seen.{seen, IsWithin};
+ghost use Rattle.p8_prop.specs.Verdicts.{Answers, TellsLine, IsComplete, HasOneText, outside};
 
 use crate::raw::raw;
 use crate::status::Status;
-use crate::words::{Command, command_in};
+use crate::words::{RawCommand, command_in};
 use p8_io::{Shelf, Sink, write_pieces};
 use std::alloc::Global;
 
@@ -14,18 +14,25 @@ use std::alloc::Global;
 const USAGE: &[u8] =
     b"prop: usage: prop build|list FILE, prop raw|run FILE CLOCKS [--pins F] [--turns K] [--dump A:N] [--alone]\n";
 
-/// Does what the words say: `raw FILE CLOCKS` runs the file's bytes as hub memory on cog 0 and writes the
-/// trace of the run to `out`; with `--dump A:N` the trace ends with a dump of N bytes from the address A on.
+/// Does what the words say: `raw FILE CLOCKS` runs the file's bytes as hub memory, with cog 0 started on
+/// them, and writes the trace of the run to `out`.
 ///
 /// `words` are those after the program's name. CLOCKS is one to ten decimal digits, at most 100,000,000: no
-/// turn is made at that clock or later. A is four hexadecimal digits and N one to five decimal digits, at
-/// least 1, with A + N at most 32,768. It waits for nobody and always returns. Every status but `Ok` is
-/// told by one line on `faults`, and before the text is written nothing goes to `out`:
+/// turn is made at that clock or later. Options stand behind it in any order, each once at most and as two
+/// words: `--pins F` gives the levels of the input pins by a pin script, `--turns K` ends the run after K
+/// turns, one to ten decimal digits and at most 1,000,000, where it isn't given after 100,000, and
+/// `--dump A:N` adds a dump of N bytes from the address A on; A is four hexadecimal digits and N one to five
+/// decimal digits, at least 1, with A + N at most 32,768.
+///
+/// It waits for nobody and always returns. The words are looked at first, then the file, then the pin
+/// script; then the run is made, and then its trace is written. Every status but `Ok` is told by one line on
+/// `faults`, and before the text is written nothing goes to `out`:
 ///
 /// - `Usage` exactly where the words are no command;
 /// - `ShelfFault` only where the shelf has counted a fault;
 /// - `Missing` where the shelf has no file of that name;
 /// - `BadImage` exactly where the file has more than 32,768 bytes;
+/// - `BadScript` exactly where the pin script has a bad line, or more than 1,048,576 bytes;
 /// - `SinkFault` only where `out` has counted a fault; a prefix of the text is out then;
 /// - `NoMemory` where there was no memory.
 pub fn prop_alone<S: Shelf, K: Sink, E: Sink>(
@@ -37,34 +44,33 @@ pub fn prop_alone<S: Shelf, K: Sink, E: Sink>(
 ) -> Status
     ensures answers { Answers (outside (S.files shelf.old) (S.faults shelf.old) (S.faults shelf.new) (K.faults out.old) (K.faults out.new) (K.taken out.old) (K.taken out.new)) (command_of (map string_bytes words.now)) result }
     ensures tells { TellsLine (outside (S.files shelf.old) (S.faults shelf.old) (S.faults shelf.new) (K.faults out.old) (K.faults out.new) (K.taken out.old) (K.taken out.new)) (command_of (map string_bytes words.now)) result (E.faults faults.old) (E.faults faults.new) (E.taken faults.old) (E.taken faults.new) }
+
+    // Where the shelf tells its files, no two statuses can be due, and one text is asked for.
+    ensures complete { IsComplete (outside (S.files shelf.old) (S.faults shelf.old) (S.faults shelf.new) (K.faults out.old) (K.faults out.new) (K.taken out.old) (K.taken out.new)) (command_of (map string_bytes words.now)) result }
+    ensures one_text { HasOneText (S.files shelf.old) (command_of (map string_bytes words.now)) }
 {
     match command_in(words) {
         None => {
             let _ = write_pieces(faults, &[USAGE]);
             Status::Usage
         }
-        Some(Command::Raw { file, clocks, dump }) => raw_told(
-            alloc, file, clocks, dump, shelf, out, faults,
-        ),
+        Some(command) => carried_out(alloc, command, shelf, out, faults),
     }
 }
 
-/// Carries out `raw` and tells how it ended.
-fn raw_told<S: Shelf, K: Sink, E: Sink>(
+/// Carries out a command and tells how it ended.
+fn carried_out<'a, S: Shelf, K: Sink, E: Sink>(
     alloc: Global,
-    file: &str,
-    clocks: u64,
-    dump: Option<(u16, u16)>,
+    command: RawCommand<'a>,
     shelf: &mut S,
     out: &mut K,
     faults: &mut E,
 ) -> Status
-    requires clocks { clocks ≤ most_clocks }
-    requires in_ram { IsInRam dump }
-    ensures answers { Answers (outside (S.files shelf.old) (S.faults shelf.old) (S.faults shelf.new) (K.faults out.old) (K.faults out.new) (K.taken out.old) (K.taken out.new)) (Some (Raw file.now clocks dump)) result }
-    ensures tells { TellsLine (outside (S.files shelf.old) (S.faults shelf.old) (S.faults shelf.new) (K.faults out.old) (K.faults out.new) (K.taken out.old) (K.taken out.new)) (Some (Raw file.now clocks dump)) result (E.faults faults.old) (E.faults faults.new) (E.taken faults.old) (E.taken faults.new) }
+    requires { IsWithin command }
+    ensures answers { Answers (outside (S.files shelf.old) (S.faults shelf.old) (S.faults shelf.new) (K.faults out.old) (K.faults out.new) (K.taken out.old) (K.taken out.new)) (Some (seen command.entry)) result }
+    ensures tells { TellsLine (outside (S.files shelf.old) (S.faults shelf.old) (S.faults shelf.new) (K.faults out.old) (K.faults out.new) (K.taken out.old) (K.taken out.new)) (Some (seen command.entry)) result (E.faults faults.old) (E.faults faults.new) (E.taken faults.old) (E.taken faults.new) }
 {
-    let outcome = raw(alloc, file, clocks, dump, shelf, out);
-    outcome.tell(file, faults);
+    let outcome = raw(alloc, command, shelf, out);
+    outcome.tell(faults);
     outcome.status()
 }

@@ -1,7 +1,7 @@
 use Rattle.std.proofs.Common.{◌∙◌, sym, ◌+◌, drop}
 use Rattle.std.proofs.lemmas.List.{at_drop_more}
 use Rattle.p8_prop.proofs.Digits.{value_on, too-great}
-use Rattle.p8_prop.proofs.words.value_of.Goals as goal
+use Rattle.p8_prop.proofs.numbers.value_of.Goals as goal
 
 pub returns-then-value-limit-clause-value : goal.returns-then-value-limit-clause-value
 returns-then-value-limit-clause-value c =

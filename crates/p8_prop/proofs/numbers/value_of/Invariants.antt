@@ -1,6 +1,6 @@
 use Rattle.std.proofs.Common.{◌≡◌, ◌≤◌, drop}
 use Rattle.p8_prop.proofs.Digits.{value_on}
-use Rattle.p8_prop.proofs.words.value_of.Given as goal
+use Rattle.p8_prop.proofs.numbers.value_of.Given as goal
 
 abbrev pub invariant-loop-digit : goal.invariant-loop-digit
 invariant-loop-digit l = record {
