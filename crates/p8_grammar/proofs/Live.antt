@@ -1,9 +1,9 @@
 -- What has been read can be ended to an expression of the least height.
 use Rattle.std.proofs.Common.{◌≡◌, ℕ, suc, ◌≤◌, max, List, [], ◌∷◌, ◌++◌, Some, None, true, false, refl, sym, ap, ◌∙◌, arith}
-use Rattle.std.specs.Prelude.{option_and_then}
+use Rattle.std.specs.Prelude.{Option, option_and_then}
 use Rattle.p8_tree.specs.declared.places.Place.{Place}
 use Rattle.p8_tree.specs.Expressions.{Tree, node, Number, Str, ObjConst, Built, Look, Named, Part, Memory, Register, index, bits, single, range, no_trees, ◌▷◌, no_items, ◌▸◌}
-use Rattle.p8_grammar.specs.Lexemes.{Setting, in_method, in_declaration, in_dat, in_data_item, memory, Mark, left_parenthesis, right_parenthesis, left_bracket, right_bracket, colon, dot, number, name, string, mark, size, Token, token}
+use Rattle.p8_grammar.specs.Lexemes.{Setting, in_method, in_declaration, in_dat, in_data_item, memory, Mark, left_parenthesis, right_parenthesis, left_bracket, right_bracket, colon, dot, Lexeme, number, name, string, mark, size, Token, token}
 use Rattle.p8_grammar.specs.Grammar.{Row, Head, calls, built, applied, Reads, IsFront}
 use Rattle.p8_grammar.specs.Heights.{height, height_of_trees, IsTooHigh}
 use Rattle.p8_grammar.specs.Machine.{reading, addressing, changing, Shape, memory_word, named, parted, indexed_name, ready, trapped_name, trapped_element, headed, done, Hole, Next, stays, opens, choice_of, tree, close, Frame, wrap, inside_frame, reduce, State, state, entered, entered_all, shut, step, walk, all_of, accepted, accept, start}
@@ -18,12 +18,29 @@ somewhere : Place
 somewhere = record { line = 1; column = 1 }
 
 -- a name that a source may have, and a string
-abbrev letter : List ℕ
+abbrev pub letter : List ℕ
 letter = 65 ∷ []
+
+-- the words that end forms, each of which a source may have
+pub data IsEnding : Lexeme → Type 0 where
+  a_name : IsEnding (name letter)
+  a_number : IsEnding (number 0)
+  a_string : IsEnding (string letter)
+  a_size : IsEnding (size 1)
+  a_mark : (m : Mark) → IsEnding (mark m)
+
+pub data AreEndings : List Token → Type 0 where
+  none : AreEndings []
+  another : {p : Place} {x : Lexeme} {ts : List Token} → IsEnding x → AreEndings ts → AreEndings (token p x ∷ ts)
+
+both_end : {ts us : List Token} → AreEndings ts → AreEndings us → AreEndings (ts ++ us)
+both_end none y = y
+both_end (another x y) z = another x (both_end y z)
 
 -- words that end a form at its least height
 record Completed (s : Setting) (sh : Shape) : Type 0 where
   rest : List Token
+  endings : AreEndings rest
   whole : Shape
   top : Tree
   walks : (k : List Frame) → walk (state s sh k) rest ≡ Some (state s whole k)
@@ -31,40 +48,41 @@ record Completed (s : Setting) (sh : Shape) : Type 0 where
   low : shape_least whole ≤ shape_least sh
 
 already : (s : Setting) (sh : Shape) (e : Tree) → tree sh ≡ Some e → Completed s sh
-already s sh e h = record { rest = []; whole = sh; top = e; walks = λ k. refl; has = h; low = omega arith }
+already s sh e h = record { rest = []; endings = none; whole = sh; top = e; walks = λ k. refl; has = h; low = omega arith }
 
 completed : {s : Setting} {sh : Shape} {row : Row} → ShapeStands s sh row → Completed s sh
-completed (is_using {u = u} y) = record { rest = token somewhere (name letter) ∷ []; whole = named u true somewhere letter; top = _; walks = λ k. refl; has = refl; low = omega arith }
-completed (is_coloned {u = u} {p = p} y d) = record { rest = token somewhere (name letter) ∷ []; whole = named u false p (58 ∷ letter); top = _; walks = λ k. refl; has = refl; low = omega arith }
-completed {s = in_method} (is_sized {u = u} {p = p} {z = z} y i) = record { rest = token somewhere (mark left_bracket) ∷ token somewhere (number 0) ∷ token somewhere (mark right_bracket) ∷ []; whole = memory_word u p z (node somewhere (Number 0)); top = _; walks = λ k. refl; has = refl; low = omega arith }
-completed {s = in_declaration} (is_sized {u = u} {p = p} {z = z} y i) = record { rest = token somewhere (mark left_bracket) ∷ token somewhere (number 0) ∷ token somewhere (mark right_bracket) ∷ []; whole = memory_word u p z (node somewhere (Number 0)); top = _; walks = λ k. refl; has = refl; low = omega arith }
-completed {s = in_dat} (is_sized {u = u} {p = p} {z = z} y i) = record { rest = token somewhere (mark left_bracket) ∷ token somewhere (number 0) ∷ token somewhere (mark right_bracket) ∷ []; whole = memory_word u p z (node somewhere (Number 0)); top = _; walks = λ k. refl; has = refl; low = omega arith }
+completed (is_using {u = u} y) = record { rest = token somewhere (name letter) ∷ []; endings = another a_name none; whole = named u true somewhere letter; top = _; walks = λ k. refl; has = refl; low = omega arith }
+completed (is_coloned {u = u} {p = p} y d) = record { rest = token somewhere (name letter) ∷ []; endings = another a_name none; whole = named u false p (58 ∷ letter); top = _; walks = λ k. refl; has = refl; low = omega arith }
+completed {s = in_method} (is_sized {u = u} {p = p} {z = z} y i) = record { rest = token somewhere (mark left_bracket) ∷ token somewhere (number 0) ∷ token somewhere (mark right_bracket) ∷ []; endings = another (a_mark left_bracket) (another a_number (another (a_mark right_bracket) none)); whole = memory_word u p z (node somewhere (Number 0)); top = _; walks = λ k. refl; has = refl; low = omega arith }
+completed {s = in_declaration} (is_sized {u = u} {p = p} {z = z} y i) = record { rest = token somewhere (mark left_bracket) ∷ token somewhere (number 0) ∷ token somewhere (mark right_bracket) ∷ []; endings = another (a_mark left_bracket) (another a_number (another (a_mark right_bracket) none)); whole = memory_word u p z (node somewhere (Number 0)); top = _; walks = λ k. refl; has = refl; low = omega arith }
+completed {s = in_dat} (is_sized {u = u} {p = p} {z = z} y i) = record { rest = token somewhere (mark left_bracket) ∷ token somewhere (number 0) ∷ token somewhere (mark right_bracket) ∷ []; endings = another (a_mark left_bracket) (another a_number (another (a_mark right_bracket) none)); whole = memory_word u p z (node somewhere (Number 0)); top = _; walks = λ k. refl; has = refl; low = omega arith }
 completed {s = in_data_item} (is_sized y i) = absurd cc
 completed {s = s} (is_plain y) = already s _ _ refl
 completed {s = s} (is_named y n) = already s _ _ refl
 completed {s = s} (is_element i) = already s _ _ refl
-completed (is_plain_dot {u = u} {p = p} {n = n} y) = record { rest = token somewhere (size 1) ∷ []; whole = parted u p n 1; top = _; walks = λ k. refl; has = refl; low = omega arith }
-completed (is_dotted {u = u} {p = p} {n = n} y x) = record { rest = token somewhere (size 1) ∷ []; whole = parted u p n 1; top = _; walks = λ k. refl; has = refl; low = omega arith }
+completed (is_plain_dot {u = u} {p = p} {n = n} y) = record { rest = token somewhere (size 1) ∷ []; endings = another a_size none; whole = parted u p n 1; top = _; walks = λ k. refl; has = refl; low = omega arith }
+completed (is_dotted {u = u} {p = p} {n = n} y x) = record { rest = token somewhere (size 1) ∷ []; endings = another a_size none; whole = parted u p n 1; top = _; walks = λ k. refl; has = refl; low = omega arith }
 completed {s = s} (is_parted y n) = already s _ _ refl
 completed {s = s} (is_memory y i) = already s _ _ refl
 completed {s = s} (is_register y i t) = already s _ _ refl
 completed {s = s} (is_ready y t v) = already s _ _ refl
-completed is_trapping = record { rest = token somewhere (name letter) ∷ []; whole = trapped_name somewhere letter; top = _; walks = λ k. refl; has = refl; low = omega arith }
+completed is_trapping = record { rest = token somewhere (name letter) ∷ []; endings = another a_name none; whole = trapped_name somewhere letter; top = _; walks = λ k. refl; has = refl; low = omega arith }
 completed {s = s} is_trapped_name = already s _ _ refl
-completed (is_trapped_element {p = p} {n = n} {e = e} i) = record { rest = token somewhere (mark dot) ∷ token somewhere (name letter) ∷ []; whole = headed (calls true (Some n) (index e) letter somewhere p); top = _; walks = λ k. refl; has = refl; low = omega arith }
-completed (is_object_dot {t = t} {p = p} {n = n} {i = i} f) = record { rest = token somewhere (name letter) ∷ []; whole = headed (calls t (Some n) i letter somewhere p); top = _; walks = λ k. refl; has = refl; low = omega arith }
+completed (is_trapped_element {p = p} {n = n} {e = e} i) = record { rest = token somewhere (mark dot) ∷ token somewhere (name letter) ∷ []; endings = another (a_mark dot) (another a_name none); whole = headed (calls true (Some n) (index e) letter somewhere p); top = _; walks = λ k. refl; has = refl; low = omega arith }
+completed (is_object_dot {t = t} {p = p} {n = n} {i = i} f) = record { rest = token somewhere (name letter) ∷ []; endings = another a_name none; whole = headed (calls t (Some n) i letter somewhere p); top = _; walks = λ k. refl; has = refl; low = omega arith }
 completed {s = s} (is_headed y) = already s _ _ refl
-completed (is_hashed {p = p} {n = n}) = record { rest = token somewhere (name letter) ∷ []; whole = done (node p (ObjConst n letter somewhere)); top = _; walks = λ k. refl; has = refl; low = omega arith }
-completed (is_string_begun {p = p}) = record { rest = token somewhere (mark left_parenthesis) ∷ token somewhere (string (65 ∷ [])) ∷ token somewhere (mark right_parenthesis) ∷ []; whole = done (node p (Str (65 ∷ []))); top = _; walks = λ k. refl; has = refl; low = omega arith }
-completed (is_string_opened {p = p}) = record { rest = token somewhere (string (65 ∷ [])) ∷ token somewhere (mark right_parenthesis) ∷ []; whole = done (node p (Str (65 ∷ []))); top = _; walks = λ k. refl; has = refl; low = omega arith }
-completed (is_string_read {p = p} {c = c} {t = t}) = record { rest = token somewhere (mark right_parenthesis) ∷ []; whole = done (node p (Str (c ∷ t))); top = _; walks = λ k. refl; has = refl; low = omega arith }
-completed (is_constant_begun {p = p}) = record { rest = token somewhere (mark left_parenthesis) ∷ token somewhere (number 0) ∷ token somewhere (mark right_parenthesis) ∷ []; whole = done (node p (Built 0 (no_trees ▷ node somewhere (Number 0)))); top = _; walks = λ k. refl; has = refl; low = omega arith }
-completed (is_look_begun {p = p} {k = c}) = record { rest = token somewhere (mark left_parenthesis) ∷ token somewhere (number 0) ∷ token somewhere (mark colon) ∷ token somewhere (number 0) ∷ token somewhere (mark right_parenthesis) ∷ []; whole = done (node p (Look c (node somewhere (Number 0)) (no_items ▸ single (node somewhere (Number 0))))); top = _; walks = λ k. refl; has = refl; low = omega arith }
+completed (is_hashed {p = p} {n = n}) = record { rest = token somewhere (name letter) ∷ []; endings = another a_name none; whole = done (node p (ObjConst n letter somewhere)); top = _; walks = λ k. refl; has = refl; low = omega arith }
+completed (is_string_begun {p = p}) = record { rest = token somewhere (mark left_parenthesis) ∷ token somewhere (string (65 ∷ [])) ∷ token somewhere (mark right_parenthesis) ∷ []; endings = another (a_mark left_parenthesis) (another a_string (another (a_mark right_parenthesis) none)); whole = done (node p (Str (65 ∷ []))); top = _; walks = λ k. refl; has = refl; low = omega arith }
+completed (is_string_opened {p = p}) = record { rest = token somewhere (string (65 ∷ [])) ∷ token somewhere (mark right_parenthesis) ∷ []; endings = another a_string (another (a_mark right_parenthesis) none); whole = done (node p (Str (65 ∷ []))); top = _; walks = λ k. refl; has = refl; low = omega arith }
+completed (is_string_read {p = p} {c = c} {t = t}) = record { rest = token somewhere (mark right_parenthesis) ∷ []; endings = another (a_mark right_parenthesis) none; whole = done (node p (Str (c ∷ t))); top = _; walks = λ k. refl; has = refl; low = omega arith }
+completed (is_constant_begun {p = p}) = record { rest = token somewhere (mark left_parenthesis) ∷ token somewhere (number 0) ∷ token somewhere (mark right_parenthesis) ∷ []; endings = another (a_mark left_parenthesis) (another a_number (another (a_mark right_parenthesis) none)); whole = done (node p (Built 0 (no_trees ▷ node somewhere (Number 0)))); top = _; walks = λ k. refl; has = refl; low = omega arith }
+completed (is_look_begun {p = p} {k = c}) = record { rest = token somewhere (mark left_parenthesis) ∷ token somewhere (number 0) ∷ token somewhere (mark colon) ∷ token somewhere (number 0) ∷ token somewhere (mark right_parenthesis) ∷ []; endings = another (a_mark left_parenthesis) (another a_number (another (a_mark colon) (another a_number (another (a_mark right_parenthesis) none)))); whole = done (node p (Look c (node somewhere (Number 0)) (no_items ▸ single (node somewhere (Number 0))))); top = _; walks = λ k. refl; has = refl; low = omega arith }
 completed {s = s} (is_done f) = already s _ _ refl
 
 -- words that end a form whose next expression is there, at its least height
 record Filled (s : Setting) (hole : Hole) (e : Tree) : Type 0 where
   rest : List Token
+  endings : AreEndings rest
   whole : Shape
   top : Tree
   walks : (s' : Setting) (sh : Shape) (x : Tree) (k k' : List Frame) → tree sh ≡ Some x → reduce 22 x k ≡ (e, inside_frame s hole ∷ k') → walk (state s' sh k) rest ≡ Some (state s whole k')
@@ -80,6 +98,7 @@ closed : (s : Setting) (hole : Hole) (e : Tree) (m : Mark) (sh' : Shape) (top : 
 closed s hole e m sh' top c t low =
     record {
       rest = token somewhere (mark m) ∷ [];
+      endings = another (a_mark m) none;
       whole = sh';
       top = top;
       walks = λ s' sh x k k' h r. steps_on (state s' sh k) (state s sh' k') (token somewhere (mark m)) [] (ended_by s s' hole e x sh k k' m (stays sh') h r c);
@@ -88,10 +107,11 @@ closed s hole e m sh' top c t low =
     }
 
 -- the mark and other words end it
-closed_by : (s : Setting) (hole : Hole) (e : Tree) (m : Mark) (n : Next) (more : List Token) (sh' : Shape) (top : Tree) → close m hole e ≡ Some n → ((k : List Frame) → walk (entered s k n) more ≡ Some (state s sh' k)) → tree sh' ≡ Some top → shape_least sh' ≤ filled (height e) hole → Filled s hole e
-closed_by s hole e m n more sh' top c w t low =
+closed_by : (s : Setting) (hole : Hole) (e : Tree) (m : Mark) (n : Next) (more : List Token) (sh' : Shape) (top : Tree) → AreEndings more → close m hole e ≡ Some n → ((k : List Frame) → walk (entered s k n) more ≡ Some (state s sh' k)) → tree sh' ≡ Some top → shape_least sh' ≤ filled (height e) hole → Filled s hole e
+closed_by s hole e m n more sh' top y c w t low =
     record {
       rest = token somewhere (mark m) ∷ more;
+      endings = another (a_mark m) y;
       whole = sh';
       top = top;
       walks = λ s' sh x k k' h r. steps_on (state s' sh k) (entered s k' n) (token somewhere (mark m)) more (ended_by s s' hole e x sh k k' m n h r c) ∙ w k';
@@ -116,16 +136,17 @@ filled_in {s = s} (is_memory_address {u = u} {p = p} {z = z} y i) e = closed s _
 filled_in {s = s} (is_memory_index {u = u} {p = p} {z = z} {e = a} y i) e = closed s _ e right_bracket (ready u (Memory z a (index e) p) memory) _ refl refl (omega arith)
 filled_in {s = s} (is_first_bit {u = u} {p = p} {a = a} {x = x} y i b c t) e = closed s _ e right_bracket (ready u (Register a (bits (single e)) p) x) _ refl refl (omega arith)
 filled_in {s = s} (is_last_bit {u = u} {p = p} {a = a} {x = x} {low = low} y i b c t) e = closed s _ e right_bracket (ready u (Register a (bits (range low e)) p) x) _ refl refl (omega arith)
-filled_in {s = s} (is_trapped_index {p = p} {n = n} i) e = closed_by s _ e right_bracket (stays (trapped_element p n e)) (token somewhere (mark dot) ∷ token somewhere (name letter) ∷ []) (headed (calls true (Some n) (index e) letter somewhere p)) _ refl (λ k. refl) refl (omega arith)
+filled_in {s = s} (is_trapped_index {p = p} {n = n} i) e = closed_by s _ e right_bracket (stays (trapped_element p n e)) (token somewhere (mark dot) ∷ token somewhere (name letter) ∷ []) (headed (calls true (Some n) (index e) letter somewhere p)) _ (another (a_mark dot) (another a_name none)) refl (λ k. refl) refl (omega arith)
 filled_in {s = s} (is_argument {h = h} {es = es} f a) e = closed s _ e right_parenthesis (done (applied h (es ▷ e))) _ refl refl (applied_low h es e)
 filled_in {s = s} (is_constant {p = p}) e = closed s _ e right_parenthesis (done (node p (Built 0 (no_trees ▷ e)))) _ refl refl (omega arith)
-filled_in {s = s} (is_look_for {p = p} {k = c}) e = closed_by s _ e colon (opens (choice_of p c e no_items)) (token somewhere (number 0) ∷ token somewhere (mark right_parenthesis) ∷ []) (done (node p (Look c e (no_items ▸ single (node somewhere (Number 0)))))) _ refl (λ k. refl) refl (omega arith)
+filled_in {s = s} (is_look_for {p = p} {k = c}) e = closed_by s _ e colon (opens (choice_of p c e no_items)) (token somewhere (number 0) ∷ token somewhere (mark right_parenthesis) ∷ []) (done (node p (Look c e (no_items ▸ single (node somewhere (Number 0)))))) _ (another a_number (another (a_mark right_parenthesis) none)) refl (λ k. refl) refl (omega arith)
 filled_in {s = s} (is_choice {p = p} {k = c} {x = x} {xs = xs} y) e = closed s _ e right_parenthesis (done (node p (Look c x (xs ▸ single e)))) _ refl refl (omega arith)
 filled_in {s = s} (is_choice_to {p = p} {k = c} {x = x} {low = low} {xs = xs} y) e = closed s _ e right_parenthesis (done (node p (Look c x (xs ▸ range low e)))) _ refl refl (omega arith)
 
 -- words that end a state to an expression of at most this height
 pub record EndsAt (st : State) (n : ℕ) : Type 0 where
   pub rest : List Token
+  pub endings : AreEndings rest
   pub end : State
   pub top : Tree
   pub is : walk st rest ≡ Some end
@@ -134,15 +155,16 @@ pub record EndsAt (st : State) (n : ℕ) : Type 0 where
 
 ends : {s0 s : Setting} {k : List Frame} {us : List Token} → Pending s0 s k us → (e : Tree) (s' : Setting) (sh : Shape) (k' : List Frame) (x : Tree) → tree sh ≡ Some x → reduce 22 x k' ≡ reduce 22 e k → EndsAt (state s' sh k') (need (height e) k)
 ends nothing_pending e s' sh k' x h r =
-    record { rest = []; end = state s' sh k'; top = e; is = refl; accepts = ap (λ o. accepted o k') h ∙ ap (λ q. all_of q.0 q.1) r; low = omega arith }
+    record { rest = []; endings = none; end = state s' sh k'; top = e; is = refl; accepts = ap (λ o. accepted o k') h ∙ ap (λ q. all_of q.0 q.1) r; low = omega arith }
 ends (after_operator {f = f} {k = k} vs l p small low b g) e s' sh k' x h r =
     let y = ends p (wrap f e) s' sh k' x h (r ∙ wraps 22 e f k b) in
-    record { rest = y.rest; end = y.end; top = y.top; is = y.is; accepts = y.accepts; low = omega (arith, y.low, need_wrap f e k b) }
+    record { rest = y.rest; endings = y.endings; end = y.end; top = y.top; is = y.is; accepts = y.accepts; low = omega (arith, y.low, need_wrap f e k b) }
 ends (in_hole {s = s} {h = hole} {k = k} p stands sp) e s' sh k' x h r =
     let f = filled_in stands e in
     let y = ends p f.top s f.whole k f.top f.has refl in
     record {
       rest = f.rest ++ y.rest;
+      endings = both_end f.endings y.endings;
       end = y.end;
       top = y.top;
       is = goes_on (state s' sh k') (state s f.whole k) f.rest y.rest (f.walks s' sh x k' k h r) ∙ y.is;
@@ -156,6 +178,7 @@ ends_state s0 (state s sh k) ts b =
     let y = ends b.pending c.top s c.whole k c.top c.has refl in
     record {
       rest = c.rest ++ y.rest;
+      endings = both_end c.endings y.endings;
       end = y.end;
       top = y.top;
       is = goes_on (state s sh k) (state s c.whole k) c.rest y.rest (c.walks k) ∙ y.is;
@@ -166,6 +189,7 @@ ends_state s0 (state s sh k) ts b =
 -- an expression that goes on from what has been read, of the least height
 pub record GoesOn (s : Setting) (ts : List Token) (n : ℕ) : Type 0 where
   pub rest : List Token
+  pub endings : AreEndings rest
   pub top : Tree
   pub reads : Reads s 22 top (ts ++ rest)
   pub low : height top ≤ n
@@ -173,7 +197,7 @@ pub record GoesOn (s : Setting) (ts : List Token) (n : ℕ) : Type 0 where
 pub live : (s : Setting) (ts : List Token) (st : State) → walk (start s) ts ≡ Some st → GoesOn s ts (least st)
 live s ts st h =
     let y = ends_state s st ts (walk_stands s ts [] (start s) st (start_stands s) h) in
-    record { rest = y.rest; top = y.top; reads = sound s (ts ++ y.rest) y.end y.top (goes_on (start s) st ts y.rest h ∙ y.is) y.accepts; low = y.low }
+    record { rest = y.rest; endings = y.endings; top = y.top; reads = sound s (ts ++ y.rest) y.end y.top (goes_on (start s) st ts y.rest h ∙ y.is) y.accepts; low = y.low }
 
 pub is_front : (s : Setting) (ts : List Token) (st : State) → walk (start s) ts ≡ Some st → IsFront s ts
 is_front s ts st h = let y = live s ts st h in (y.rest, y.top, y.reads)
@@ -188,6 +212,14 @@ dead s ts h (rest, e, r) =
     let c = complete s r in
     let w : walk (start s) (ts ++ rest) ≡ None = walk_append (start s) ts rest ∙ ap (λ o. option_and_then (λ x. walk x rest) o) h in
     let e = sym w ∙ c.1 in cc
+
+-- what begins an expression is ended by words that a source may have
+pub front_ends : (s : Setting) (ts : List Token) → IsFront s ts → (n : ℕ) × GoesOn s ts n
+front_ends s ts f = go (walk (start s) ts) refl
+  where
+    go : (o : Option State) → walk (start s) ts ≡ o → (n : ℕ) × GoesOn s ts n
+    go None h = absurd (dead s ts h f)
+    go (Some st) h = (least st, live s ts st h)
 
 -- tokens spell at most one tree
 pub one_tree : (s : Setting) (ts : List Token) (e e' : Tree) → Reads s 22 e ts → Reads s 22 e' ts → e ≡ e'

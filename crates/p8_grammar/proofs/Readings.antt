@@ -1,7 +1,7 @@
 -- What a reader has taken, and the laws on fronts.
 use Rattle.std.proofs.Common.{◌≡◌, ℕ, ◌+◌, ◌-◌, ◌<◌, ◌≤◌, List, [], ◌∷◌, ◌++◌, take, drop, Option, Some, None, Bool, true, false, refl, sym, ap, ◌∙◌, subst, arith, append_assoc, append-nil, take-add}
-use Rattle.std.specs.Prelude.{◌↔◌, min, nat_lt, nat_eq, IsTrue, if◌then◌else◌, option_and_then, option_map, MatchOption}
-use Rattle.std.proofs.lemmas.Bool.{ltb-true, ltb-false, eqb-true, eq-eqb}
+use Rattle.std.specs.Prelude.{◌↔◌, min, nat_lt, IsTrue, if◌then◌else◌, option_and_then, option_map, MatchOption}
+use Rattle.std.proofs.lemmas.Bool.{ltb-true, ltb-false}
 use Rattle.p8_tree.specs.Expressions.{Tree}
 use Rattle.p8_tree.specs.Views.{tree_of}
 use Rattle.p8_tree.specs.declared.expressions.Expr.{Expr}
@@ -46,13 +46,13 @@ finish_is s ts r None a h = λ e x.
         same_state : Some st ≡ Some st' → st ≡ st'
         same_state h = cc
 
--- the least height tells whether all is too high
-pub high_is : (s : Setting) (ts : List Token) (r : Reader) (n : ℕ) → n ≡ min 65 (least (state_of r)) → HasTaken s ts r → IsTrue (nat_eq n 65) ↔ IsTooHigh s 64 ts
-high_is s ts r n e h = (λ x. too_high s 64 ts (state_of r) h.walked (let y : n ≡ 65 = eqb-true n 65 x in omega (arith, y, e)), λ high. eq-eqb n 65 (go high (nat_lt 64 (least (state_of r))) refl))
+-- the least height tells whether all is higher
+pub high_is : (s : Setting) (ts : List Token) (r : Reader) (m n : ℕ) → m ≤ 64 → n ≡ min 65 (least (state_of r)) → HasTaken s ts r → IsTrue (nat_lt m n) ↔ IsTooHigh s m ts
+high_is s ts r m n le e h = (λ x. too_high s m ts (state_of r) h.walked (let lt : m < n = ltb-true m n x in omega (arith, lt, e)), λ high. go high (nat_lt m n) refl)
   where
-    go : IsTooHigh s 64 ts → (b : Bool) → nat_lt 64 (least (state_of r)) ≡ b → n ≡ 65
-    go high true lt = let x : 64 < least (state_of r) = ltb-true _ _ lt in omega (arith, x, e)
-    go high false lt = let x : least (state_of r) ≤ 64 = ltb-false _ _ lt in absurd (not_too_high s 64 ts (state_of r) h.walked x high)
+    go : IsTooHigh s m ts → (b : Bool) → nat_lt m n ≡ b → IsTrue b
+    go high true lt = refl
+    go high false lt = let ge : n ≤ m = ltb-false m n lt in absurd (not_too_high s m ts (state_of r) h.walked (omega (arith, ge, le, e)) high)
 
 pub fronts : (s : Setting) (ts us : List Token) → IsFront s (ts ++ us) → IsFront s ts
 fronts s ts us (rest, e, r) = (us ++ rest, e, subst (IsExpression s e) (append_assoc ts us rest) r)

@@ -1,5 +1,5 @@
 // A reader of one expression.
-ghost use Rattle.std.specs.Prelude.{◌≡◌, ◌∷◌, ◌++◌, [], List, IfOk, IsTrue, ◌↔◌, MatchOption, option_map, if◌then◌else◌};
+ghost use Rattle.std.specs.Prelude.{◌≡◌, ◌∷◌, ◌≤◌, ◌++◌, [], List, IfOk, IsTrue, ◌↔◌, MatchOption, option_map, if◌then◌else◌};
 ghost use Rattle.p8_tree.specs.Expressions.{Tree};
 ghost use Rattle.p8_tree.specs.Views.{tree_of};
 ghost use Rattle.p8_grammar.specs.Lexemes as lexemes;
@@ -11,7 +11,7 @@ ghost use Rattle.p8_grammar.specs.Views.{setting_of, lexeme_of};
 ghost use Rattle.p8_grammar.specs.Reading.{HasTaken, state_of, Steps, least_of};
 
 use crate::lexemes::{Lexeme, Setting};
-use crate::measured::{TOO_HIGH, Tall};
+use crate::measured::Tall;
 use crate::shapes::{Shape, Use};
 use crate::stack::Stack;
 use crate::taking::{self, Taken};
@@ -78,12 +78,13 @@ impl Reader {
         self.stack.least(self.shape.least())
     }
 
-    /// Whether each expression that begins with what was taken is higher than 64: an expression
-    /// without another inside it has height 1, and parentheses add none.
-    pub fn is_too_high(&self) -> bool
-        ensures { (s : lexemes.Setting) (ts : List Token) → HasTaken s ts self.now → (IsTrue result ↔ IsTooHigh s 64 ts) }
+    /// Whether each expression that begins with what was taken is higher than this height, which is
+    /// at most 64: an expression without another inside it has height 1, and parentheses add none.
+    pub fn is_higher_than(&self, height: u8) -> bool
+        requires { height ≤ 64 }
+        ensures { (s : lexemes.Setting) (ts : List Token) → HasTaken s ts self.now → (IsTrue result ↔ IsTooHigh s height ts) }
     {
-        self.least() == TOO_HIGH
+        height < self.least()
     }
 
     /// The tree of what was taken, or none where it is no expression.

@@ -155,17 +155,18 @@ fn reads_worked_rows(rt: HostRuntime) -> Result<(), NoMemory> {
 }
 
 #[test]
-fn is_too_high_above_64(rt: HostRuntime) -> Result<(), NoMemory> {
+fn is_higher_than_each_lower_height(rt: HostRuntime) -> Result<(), NoMemory> {
     let alloc = rt.alloc();
     let mut reader = Reader::new(alloc, Setting::Dat);
     let place = Place { line: 1, column: 1 };
     for signs in 0..64 {
-        assert!(&rt; !reader.is_too_high(), "{signs} signs");
+        assert!(&rt; reader.is_higher_than(signs), "{signs} signs");
+        assert!(&rt; !reader.is_higher_than(signs + 1), "{signs} signs");
         let minus = Lexeme::Operator(Operator::Sign(0xe6, 0xed));
         assert!(&rt; reader.take(alloc, place, minus)?);
         let open = Lexeme::Mark(Mark::LeftParenthesis);
         assert!(&rt; reader.take(alloc, place, open)?);
     }
-    assert!(&rt; reader.is_too_high());
+    assert!(&rt; reader.is_higher_than(64));
     Ok(())
 }
