@@ -1,7 +1,7 @@
 -- Reading an expression has one answer, and the answers of the code are it.
-use Rattle.std.proofs.Common.{◌≡◌, ◌∙◌, ℕ, suc, zero, ◌+◌, ◌-◌, ◌<◌, ◌≤◌, List, [], ◌∷◌, ◌++◌, length, take, drop, map, get_or, refl, sym, ap, subst, Option, Some, None, Bool, true, false, ◌⊎◌, inl, inr, append_assoc, append-nil, take-add, arith}
+use Rattle.std.proofs.Common.{◌≡◌, ◌∙◌, ℕ, suc, zero, ◌+◌, ◌-◌, ◌<◌, ◌≤◌, List, [], ◌∷◌, ◌++◌, length, take, drop, map, get_or, refl, sym, ap, subst, Option, Some, None, Bool, true, false, ◌⊎◌, inl, inr, append_assoc, take-add, arith}
 use Rattle.std.specs.Prelude.{◌↔◌, IsTrue, MatchOption, if◌then◌else◌, nat_lt, min, slice_get, option_and_then, option_map}
-use Rattle.std.proofs.lemmas.List.{take_all, take_more, length-drop, length-map, get_or-drop}
+use Rattle.std.proofs.lemmas.List.{take_more, length-drop, length-map, get_or-drop}
 use Rattle.std.proofs.lemmas.Bool.{ltb-true, ltb-false}
 use Rattle.std.proofs.lemmas.Option.{slice_get_within, slice_get_past, slice_get_read, slice_get-map, get_or_from_slice_get}
 use Rattle.p8_tree.specs.Expressions.{Tree}
@@ -9,7 +9,7 @@ use Rattle.p8_tree.specs.Views.{tree_of}
 use Rattle.p8_tree.specs.declared.expressions.Expr.{Expr}
 use Rattle.p8_lexer.specs.declared.token.Token as lexer_token
 use Rattle.p8_lexer.specs.declared.refusal.Refusal.{Refusal}
-use Rattle.p8_lexer.specs.declared.refusal.Refusal.TheVariants.{TooNested, Unexpected}
+use Rattle.p8_lexer.specs.declared.refusal.Refusal.TheVariants.{TooNested}
 use Rattle.p8_lexer.specs.Refusals.{refusal_number}
 use Rattle.p8_lexer.specs.Words.{word_of}
 use Rattle.p8_grammar.specs.Lexemes.{Setting, Token}
@@ -23,21 +23,21 @@ use Rattle.p8_grammar.proofs.Readings.{one_longest, taken_front, shows}
 use Rattle.p8_expr.specs.declared.fault.ParseFault.{ParseFault}
 use Rattle.p8_expr.specs.Words.{token_of, place_of}
 use Rattle.p8_expr.specs.Refusals.{refusal_of}
-use Rattle.p8_expr.specs.Parsing.{Outcome, tree, refused, Ends, whole, too_high, unfit, broken_off, Parses, IsFault, IsFaultAt, refusal_at, tokens_from}
+use Rattle.p8_expr.specs.Parsing.{Outcome, tree, refused, Ends, whole, too_high, unfit, broken_off, Parses, IsFault, refusal_at, tokens_from}
 use Rattle.p8_expr.specs.Reading.{HasRead}
 
 -- one answer
 
 -- an expression that is low enough isn't too high
-low : (s : Setting) (ts : List Token) (e : Tree) → IsExpression s e ts → height e ≤ 64 → IsTooHigh s 64 ts → ⊥
-low s ts e r h high = let lt = (shows s 64 ts e r).0 high in omega (arith, lt)
+low : (s : Setting) (limit : ℕ) (ts : List Token) (e : Tree) → IsExpression s e ts → height e ≤ limit → IsTooHigh s limit ts → ⊥
+low s limit ts e r h high = let lt = (shows s limit ts e r).0 high in omega (arith, lt, h)
 
-one_end : {s : Setting} {bytes : List ℕ} {tokens : List lexer_token.Token} {at end : ℕ} {ts : List Token} {o o' : Outcome} → Ends s bytes tokens at end ts o → Ends s bytes tokens at end ts o' → o ≡ o'
+one_end : {s : Setting} {limit : ℕ} {bytes : List ℕ} {tokens : List lexer_token.Token} {at end : ℕ} {ts : List Token} {o o' : Outcome} → Ends s limit bytes tokens at end ts o → Ends s limit bytes tokens at end ts o' → o ≡ o'
 one_end {s = s} {end = end} {ts = ts} (whole {e = e} r h n) (whole {e = e'} r' h' n') = ap (λ x. tree x end) (one_tree s ts e e' r r')
-one_end {s = s} {ts = ts} (whole {e = e} r h n) (too_high t) = absurd (low s ts e r h t)
+one_end {s = s} {limit = limit} {ts = ts} (whole {e = e} r h n) (too_high t) = absurd (low s limit ts e r h t)
 one_end (whole r h n) (unfit t m) = absurd cc
 one_end (whole {e = e} r h n) (broken_off t m x) = absurd (x e r)
-one_end {s = s} {ts = ts} (too_high t) (whole {e = e} r h n) = absurd (low s ts e r h t)
+one_end {s = s} {limit = limit} {ts = ts} (too_high t) (whole {e = e} r h n) = absurd (low s limit ts e r h t)
 one_end (too_high t) (too_high t') = refl
 one_end (too_high t) (unfit f m) = absurd (f t)
 one_end (too_high t) (broken_off f m x) = absurd (f t)
@@ -50,17 +50,17 @@ one_end (broken_off f m x) (too_high t) = absurd (f t)
 one_end (broken_off f' m' x) (unfit f m) = absurd cc
 one_end (broken_off f m x) (broken_off f' m' x') = refl
 
-pub one_outcome : (s : Setting) (bytes : List ℕ) (tokens : List lexer_token.Token) (at : ℕ) (o o' : Outcome) → Parses s bytes tokens at o → Parses s bytes tokens at o' → o ≡ o'
-one_outcome s bytes tokens at o o' (n, l, x) (m, k, y) =
+pub one_outcome : (s : Setting) (limit : ℕ) (bytes : List ℕ) (tokens : List lexer_token.Token) (at : ℕ) (o o' : Outcome) → Parses s limit bytes tokens at o → Parses s limit bytes tokens at o' → o ≡ o'
+one_outcome s limit bytes tokens at o o' (n, l, x) (m, k, y) =
     let ts = tokens_from bytes tokens at in
-    one_end x (subst (λ i. Ends s bytes tokens at (at + i) (take i ts) o') (one_longest s ts m n k l) y)
+    one_end x (subst (λ i. Ends s limit bytes tokens at (at + i) (take i ts) o') (one_longest s ts m n k l) y)
 
 same_fault : (f g : ParseFault) → f.number ≡ g.number → f.place ≡ g.place → f ≡ g
 same_fault f g n p = λ i. record { number = n i; place = p i }
 
-pub one_fault : (s : Setting) (bytes : List ℕ) (tokens : List lexer_token.Token) (at : ℕ) (f g : ParseFault) → IsFault s bytes tokens at f → IsFault s bytes tokens at g → f ≡ g
-one_fault s bytes tokens at f g (r, i, x, (t, e, n, p)) (q, j, y, (u, d, m, z)) =
-    let o = one_outcome s bytes tokens at (refused r i) (refused q j) x y in
+pub one_fault : (s : Setting) (limit : ℕ) (bytes : List ℕ) (tokens : List lexer_token.Token) (at : ℕ) (f g : ParseFault) → IsFault s limit bytes tokens at f → IsFault s limit bytes tokens at g → f ≡ g
+one_fault s limit bytes tokens at f g (r, i, x, (t, e, n, p)) (q, j, y, (u, d, m, z)) =
+    let o = one_outcome s limit bytes tokens at (refused r i) (refused q j) x y in
     let same : r ≡ q = cc in
     let place : i ≡ j = cc in
     let token : t ≡ u = cc in
@@ -100,8 +100,8 @@ longest_from s ts (suc left) k e f = go (λ g. longest_from s ts left (k + 1) (o
     go ih (inr not_front) = record { run = k; above = omega arith; is = record { within = omega (arith, e); front = f; stops = λ lt. not_front } }
 
 -- what is too high stays so
-pub stays_high : (s : Setting) (ts : List Token) (k n : ℕ) → k ≤ n → IsTooHigh s 64 (take k ts) → IsTooHigh s 64 (take n ts)
-stays_high s ts k n le high = λ rest e r.
+pub stays_high : (s : Setting) (limit : ℕ) (ts : List Token) (k n : ℕ) → k ≤ n → IsTooHigh s limit (take k ts) → IsTooHigh s limit (take n ts)
+stays_high s limit ts k n le high = λ rest e r.
     high (take (n - k) (drop k ts) ++ rest) e (subst (IsExpression s e) (ap (λ us. us ++ rest) split ∙ append_assoc (take k ts) (take (n - k) (drop k ts)) rest) r)
   where
     split : take n ts ≡ take k ts ++ take (n - k) (drop k ts)
@@ -112,37 +112,37 @@ stays_high s ts k n le high = λ rest e r.
 rest_length : (bytes : List ℕ) (tokens : List lexer_token.Token) (at : ℕ) → length (tokens_from bytes tokens at) ≡ length tokens - at
 rest_length bytes tokens at = length-map (drop at tokens) (token_of bytes) ∙ length-drop at tokens
 
-pub high_ends : (s : Setting) (bytes : List ℕ) (tokens : List lexer_token.Token) (at end : ℕ) (reader : Reader) → HasRead s bytes tokens at reader end → IsTooHigh s 64 (take (end - at) (tokens_from bytes tokens at)) → Parses s bytes tokens at (refused TooNested at)
-high_ends s bytes tokens at end reader h high =
+pub high_ends : (s : Setting) (limit : ℕ) (bytes : List ℕ) (tokens : List lexer_token.Token) (at end : ℕ) (reader : Reader) → HasRead s limit bytes tokens at reader end → IsTooHigh s limit (take (end - at) (tokens_from bytes tokens at)) → Parses s limit bytes tokens at (refused TooNested at)
+high_ends s limit bytes tokens at end reader h high =
     let ts = tokens_from bytes tokens at in
     let n : (end - at) + (length ts - (end - at)) ≡ length ts = omega (arith, h.ordered, h.within, rest_length bytes tokens at) in
     let x = longest_from s ts (length ts - (end - at)) (end - at) n (taken_front s (take (end - at) ts) reader h.taken) in
-    (x.run, x.is, too_high (stays_high s ts (end - at) x.run x.above high))
+    (x.run, x.is, too_high (stays_high s limit ts (end - at) x.run x.above high))
 
-pub ends_so : (s : Setting) (bytes : List ℕ) (tokens : List lexer_token.Token) (at end : ℕ) (reader : Reader) (o : Outcome) → HasRead s bytes tokens at reader end → ¬ IsTooHigh s 64 (take (end - at) (tokens_from bytes tokens at)) → Ends s bytes tokens at end (take (end - at) (tokens_from bytes tokens at)) o → Parses s bytes tokens at o
-ends_so s bytes tokens at end reader o h refuted x =
+pub ends_so : (s : Setting) (limit : ℕ) (bytes : List ℕ) (tokens : List lexer_token.Token) (at end : ℕ) (reader : Reader) (o : Outcome) → HasRead s limit bytes tokens at reader end → ¬ IsTooHigh s limit (take (end - at) (tokens_from bytes tokens at)) → Ends s limit bytes tokens at end (take (end - at) (tokens_from bytes tokens at)) o → Parses s limit bytes tokens at o
+ends_so s limit bytes tokens at end reader o h refuted x =
     let n : end ≡ at + (end - at) = omega (arith, h.ordered) in
-    (end - at, h.longest refuted, subst (λ i. Ends s bytes tokens at i (take (end - at) (tokens_from bytes tokens at)) o) n x)
+    (end - at, h.longest refuted, subst (λ i. Ends s limit bytes tokens at i (take (end - at) (tokens_from bytes tokens at)) o) n x)
 
 -- an expression that isn't too high is low enough
-pub low_enough : (s : Setting) (ts : List Token) (e : Tree) → IsExpression s e ts → ¬ IsTooHigh s 64 ts → height e ≤ 64
-low_enough s ts e r refuted = go (nat_lt 64 (height e)) refl
+pub low_enough : (s : Setting) (limit : ℕ) (ts : List Token) (e : Tree) → IsExpression s e ts → ¬ IsTooHigh s limit ts → height e ≤ limit
+low_enough s limit ts e r refuted = go (nat_lt limit (height e)) refl
   where
-    go : (b : Bool) → nat_lt 64 (height e) ≡ b → height e ≤ 64
-    go true h = absurd (refuted ((shows s 64 ts e r).1 (ltb-true _ _ h)))
+    go : (b : Bool) → nat_lt limit (height e) ≡ b → height e ≤ limit
+    go true h = absurd (refuted ((shows s limit ts e r).1 (ltb-true _ _ h)))
     go false h = ltb-false _ _ h
 
 -- what the longest run is, where the reader stopped
-pub run_ends : (s : Setting) (bytes : List ℕ) (tokens : List lexer_token.Token) (at end : ℕ) (reader : Reader) → at ≤ end → length tokens ≤ end → HasTaken s (take (end - at) (tokens_from bytes tokens at)) reader → end ≤ length tokens → HasRead s bytes tokens at reader end
-run_ends s bytes tokens at end reader o e h w = record {
+pub run_ends : (s : Setting) (limit : ℕ) (bytes : List ℕ) (tokens : List lexer_token.Token) (at end : ℕ) (reader : Reader) → at ≤ end → length tokens ≤ end → HasTaken s (take (end - at) (tokens_from bytes tokens at)) reader → end ≤ length tokens → HasRead s limit bytes tokens at reader end
+run_ends s limit bytes tokens at end reader o e h w = record {
   ordered = o;
   within = w;
   taken = h;
   longest = λ _. record { within = omega (arith, rest_length bytes tokens at, o, w); front = taken_front s _ reader h; stops = λ lt. absurd (omega (arith, lt, rest_length bytes tokens at, o, e)) };
 }
 
-pub run_stops : (s : Setting) (bytes : List ℕ) (tokens : List lexer_token.Token) (at end : ℕ) (reader : Reader) (t : lexer_token.Token) → at ≤ end → slice_get tokens end ≡ Some t → HasTaken s (take (end - at) (tokens_from bytes tokens at)) reader → ¬ IsFront s (take (end - at) (tokens_from bytes tokens at) ++ token_of bytes t ∷ []) → HasRead s bytes tokens at reader end
-run_stops s bytes tokens at end reader t o get h refuted =
+pub run_stops : (s : Setting) (limit : ℕ) (bytes : List ℕ) (tokens : List lexer_token.Token) (at end : ℕ) (reader : Reader) (t : lexer_token.Token) → at ≤ end → slice_get tokens end ≡ Some t → HasTaken s (take (end - at) (tokens_from bytes tokens at)) reader → ¬ IsFront s (take (end - at) (tokens_from bytes tokens at) ++ token_of bytes t ∷ []) → HasRead s limit bytes tokens at reader end
+run_stops s limit bytes tokens at end reader t o get h refuted =
     let w : end < length tokens = slice_get_within tokens end t get in
     let n : at + (end - at) ≡ end = omega (arith, o) in
     record {
@@ -156,8 +156,8 @@ run_stops s bytes tokens at end reader t o get h refuted =
       };
     }
 
-pub run_high : (s : Setting) (bytes : List ℕ) (tokens : List lexer_token.Token) (at end : ℕ) (reader : Reader) → at ≤ end → end ≤ length tokens → HasTaken s (take (end - at) (tokens_from bytes tokens at)) reader → IsTooHigh s 64 (take (end - at) (tokens_from bytes tokens at)) → HasRead s bytes tokens at reader end
-run_high s bytes tokens at end reader o w h high = record { ordered = o; within = w; taken = h; longest = λ refuted. absurd (refuted high) }
+pub run_high : (s : Setting) (limit : ℕ) (bytes : List ℕ) (tokens : List lexer_token.Token) (at end : ℕ) (reader : Reader) → at ≤ end → end ≤ length tokens → HasTaken s (take (end - at) (tokens_from bytes tokens at)) reader → IsTooHigh s limit (take (end - at) (tokens_from bytes tokens at)) → HasRead s limit bytes tokens at reader end
+run_high s limit bytes tokens at end reader o w h high = record { ordered = o; within = w; taken = h; longest = λ refuted. absurd (refuted high) }
 
 -- one more token
 pub run_goes_on : (s : Setting) (bytes : List ℕ) (tokens : List lexer_token.Token) (at end : ℕ) (reader : Reader) (t : lexer_token.Token) → at ≤ end → slice_get tokens end ≡ Some t → HasTaken s (take (end - at) (tokens_from bytes tokens at) ++ token_of bytes t ∷ []) reader → HasTaken s (take (end + 1 - at) (tokens_from bytes tokens at)) reader

@@ -1,5 +1,5 @@
 -- What reading an expression answers. From one token on, T is the longest run of tokens that begins an expression. It
--- is read where it is an expression of a height of at most 64, and no token behind it is refused by itself.
+-- is read where it is an expression no higher than a limit, and no token behind it is refused by itself.
 use Rattle.std.specs.Prelude.{◌≡◌, ℕ, ◌+◌, ◌-◌, ◌≤◌, nat_lt, if◌then◌else◌, List, map, drop, take, length, slice_get, Option, Some, None, option_and_then}
 use Rattle.p8_tree.specs.Expressions.{Tree}
 use Rattle.p8_words.specs.declared.failure.Fail.{Fail}
@@ -16,7 +16,7 @@ use Rattle.p8_expr.specs.Words.{place_of, token_of}
 use Rattle.p8_expr.specs.Refusals.{refusal_of}
 use Rattle.p8_expr.specs.declared.fault.ParseFault.{ParseFault}
 
--- how high an expression may be
+-- how high any expression may be
 abbrev pub greatest_height : ℕ
 greatest_height = 64
 
@@ -35,20 +35,20 @@ pub data Outcome : Type 0 where
   refused : Refusal → ℕ → Outcome
 
 -- how reading from the token `at` on ends where T are these tokens, and `end` is the number of the token behind them
-pub data Ends (s : Setting) (bytes : List ℕ) (tokens : List lexer_token.Token) (at end : ℕ) (ts : List Token) : Outcome → Type 0 where
+pub data Ends (s : Setting) (limit : ℕ) (bytes : List ℕ) (tokens : List lexer_token.Token) (at end : ℕ) (ts : List Token) : Outcome → Type 0 where
   -- T is an expression
-  whole : {e : Tree} → IsExpression s e ts → height e ≤ greatest_height → refusal_at s bytes tokens end ≡ None → Ends s bytes tokens at end ts (tree e end)
+  whole : {e : Tree} → IsExpression s e ts → height e ≤ limit → refusal_at s bytes tokens end ≡ None → Ends s limit bytes tokens at end ts (tree e end)
   -- every expression that begins with T is too high: this comes before all else
-  too_high : IsTooHigh s greatest_height ts → Ends s bytes tokens at end ts (refused TooNested at)
+  too_high : IsTooHigh s limit ts → Ends s limit bytes tokens at end ts (refused TooNested at)
   -- the token behind T is refused by itself
-  unfit : {r : Refusal} → ¬ IsTooHigh s greatest_height ts → refusal_at s bytes tokens end ≡ Some r → Ends s bytes tokens at end ts (refused r end)
+  unfit : {r : Refusal} → ¬ IsTooHigh s limit ts → refusal_at s bytes tokens end ≡ Some r → Ends s limit bytes tokens at end ts (refused r end)
   -- T is no expression, and the token behind it is unexpected; T's last one where none follows
-  broken_off : ¬ IsTooHigh s greatest_height ts → refusal_at s bytes tokens end ≡ None → ((e : Tree) → ¬ IsExpression s e ts) → Ends s bytes tokens at end ts (refused Unexpected (if nat_lt end (length tokens) then end else end - 1))
+  broken_off : ¬ IsTooHigh s limit ts → refusal_at s bytes tokens end ≡ None → ((e : Tree) → ¬ IsExpression s e ts) → Ends s limit bytes tokens at end ts (refused Unexpected (if nat_lt end (length tokens) then end else end - 1))
 
--- reading from the token `at` on ends so
-abbrev pub Parses : Setting → List ℕ → List lexer_token.Token → ℕ → Outcome → Type 0
-Parses s bytes tokens at o =
-    (n : ℕ) × IsLongestFront s (tokens_from bytes tokens at) n × Ends s bytes tokens at (at + n) (take n (tokens_from bytes tokens at)) o
+-- reading from the token `at` on ends so, where an expression may be as high as the limit
+abbrev pub Parses : Setting → ℕ → List ℕ → List lexer_token.Token → ℕ → Outcome → Type 0
+Parses s limit bytes tokens at o =
+    (n : ℕ) × IsLongestFront s (tokens_from bytes tokens at) n × Ends s limit bytes tokens at (at + n) (take n (tokens_from bytes tokens at)) o
 
 -- a fault tells this refusal at the token of this number
 abbrev pub IsFaultAt : Refusal → List lexer_token.Token → ℕ → ParseFault → Type 0
@@ -56,8 +56,8 @@ IsFaultAt r tokens i fault =
     (t : lexer_token.Token) × (slice_get tokens i ≡ Some t) × (fault.number ≡ refusal_number r) × (fault.place ≡ place_of t.place)
 
 -- reading from the token `at` on is refused so
-abbrev pub IsFault : Setting → List ℕ → List lexer_token.Token → ℕ → ParseFault → Type 0
-IsFault s bytes tokens at fault = (r : Refusal) × (i : ℕ) × Parses s bytes tokens at (refused r i) × IsFaultAt r tokens i fault
+abbrev pub IsFault : Setting → ℕ → List ℕ → List lexer_token.Token → ℕ → ParseFault → Type 0
+IsFault s limit bytes tokens at fault = (r : Refusal) × (i : ℕ) × Parses s limit bytes tokens at (refused r i) × IsFaultAt r tokens i fault
 
 -- a fact of a refusal, which says nothing of want of memory
 abbrev pub IfRefused : (ParseFault → Type 0) → Fail ParseFault → Type 0

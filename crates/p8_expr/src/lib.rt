@@ -9,6 +9,6 @@ mod tests;
 mod words;
 
 pub use fault::ParseFault;
-pub use parsing::{one_answer, parse_expr, parse_expr_in};
+pub use parsing::{GREATEST_HEIGHT, one_answer, parse_expr, parse_expr_in};
 pub use refusals::refusal_of;
 pub use words::{lexeme, place_of};

@@ -9,7 +9,7 @@ ghost use Rattle.p8_grammar.specs.Reading.{HasTaken};
 ghost use Rattle.p8_grammar.specs.Views.{setting_of};
 ghost use Rattle.p8_expr.specs.declared.fault.ParseFault as parse_fault;
 ghost use Rattle.p8_expr.specs.Words.{token_of};
-ghost use Rattle.p8_expr.specs.Parsing.{Outcome, tree, Parses, IsFault, IsFaultAt, IfRefused, refusal_at};
+ghost use Rattle.p8_expr.specs.Parsing.{Outcome, tree, greatest_height, Parses, IsFault, IsFaultAt, IfRefused, refusal_at};
 ghost use Rattle.p8_expr.specs.Reading.{HasRead};
 
 use crate::fault::ParseFault;
@@ -20,6 +20,10 @@ use p8_lexer::{Refusal, Token, Tokens, word_of};
 use p8_tree::Expr;
 use p8_words::{Fail, NoMemory};
 use std::alloc::Global;
+
+/// How high an expression may be: one without another inside it has height 1, and parentheses add
+/// none.
+pub const GREATEST_HEIGHT: u8 = 64;
 
 /// Reads an expression of a method, from the token of this number on: gives its tree and the number
 /// of the token behind it, or the refusal and its place.
@@ -36,26 +40,32 @@ pub fn parse_expr(
     at: usize,
 ) -> Result<(Expr, usize), Fail<ParseFault>>
     requires { at < length tokens.now }
-    ensures read { IfOk result (λ read. Parses in_method bytes.now tokens.now at (tree (tree_of read.0) read.1)) }
-    ensures refused { IfErr result (IfRefused (IsFault in_method bytes.now tokens.now at)) }
+    ensures read { IfOk result (λ read. Parses in_method greatest_height bytes.now tokens.now at (tree (tree_of read.0) read.1)) }
+    ensures refused { IfErr result (IfRefused (IsFault in_method greatest_height bytes.now tokens.now at)) }
 {
-    parse_expr_in(alloc, bytes, tokens, at, Setting::Method)
+    parse_expr_in(alloc, bytes, tokens, at, Setting::Method, GREATEST_HEIGHT)
 }
 
-/// Reads an expression as [`parse_expr`] does, where it stands in this setting.
+/// Reads an expression as [`parse_expr`] does, where it stands in this setting and may have this
+/// height in place of 64.
+///
+/// An expression that is a part of a statement's own tree, as an index or an argument of an action,
+/// may only have height 63: the statement's tree adds 1.
 pub fn parse_expr_in(
     alloc: Global,
     bytes: &[u8],
     tokens: &Tokens,
     at: usize,
     setting: Setting,
+    height: u8,
 ) -> Result<(Expr, usize), Fail<ParseFault>>
-    requires { at < length tokens.now }
-    ensures read { IfOk result (λ read. Parses (setting_of setting) bytes.now tokens.now at (tree (tree_of read.0) read.1)) }
-    ensures refused { IfErr result (IfRefused (IsFault (setting_of setting) bytes.now tokens.now at)) }
+    requires within { at < length tokens.now }
+    requires limit { height ≤ greatest_height }
+    ensures read { IfOk result (λ read. Parses (setting_of setting) height bytes.now tokens.now at (tree (tree_of read.0) read.1)) }
+    ensures refused { IfErr result (IfRefused (IsFault (setting_of setting) height bytes.now tokens.now at)) }
 {
-    let (reader, end) = longest_run(alloc, bytes, tokens, at, setting)?;
-    if reader.is_too_high() {
+    let (reader, end) = longest_run(alloc, bytes, tokens, at, setting, height)?;
+    if reader.is_higher_than(height) {
         return Err(Fail::Refused(fault(Refusal::TooNested, tokens, at)));
     }
     if let Some(refusal) = refusal_at(bytes, tokens, end, setting) {
@@ -67,24 +77,26 @@ pub fn parse_expr_in(
     }
 }
 
-// Takes the longest run of tokens from one on that begins an expression, but stops where it is too
-// high already, so that no tree grows much higher: gives the reader that took them, and the number
-// of the token behind them.
+// Takes the longest run of tokens from one on that begins an expression, but stops where it is
+// higher than this height already, so that no tree grows much higher: gives the reader that took
+// them, and the number of the token behind them.
 fn longest_run(
     alloc: Global,
     bytes: &[u8],
     tokens: &Tokens,
     at: usize,
     setting: Setting,
+    height: u8,
 ) -> Result<(Reader, usize), NoMemory>
-    requires { at ≤ length tokens.now }
-    ensures { IfOk result (λ read. HasRead (setting_of setting) bytes.now tokens.now at read.0 read.1) }
+    requires within { at ≤ length tokens.now }
+    requires limit { height ≤ greatest_height }
+    ensures { IfOk result (λ read. HasRead (setting_of setting) height bytes.now tokens.now at read.0 read.1) }
 {
     let mut reader = Reader::new(alloc, setting);
     let mut end = at;
     'run: while end < tokens.len() {
         let token = token_at(tokens, end);
-        if reader.is_too_high() {
+        if reader.is_higher_than(height) {
             return Ok((reader, end));
         }
         if !take(alloc, bytes, &token, &mut reader)? {
@@ -135,11 +147,12 @@ fn token_at(tokens: &Tokens, at: usize) -> Token
     tokens.as_slice()[at]
 }
 
-/// Reading from a token on has one answer: one tree and one token behind it, or one refusal at one
-/// token. The function does nothing, and its contract is the law.
+/// Reading from a token on has one answer, in each setting and with each limit of heights: one tree
+/// and one token behind it, or one refusal at one token. The function does nothing, and its contract
+/// is the law.
 pub fn one_answer()
-    ensures outcome { (s : lexemes.Setting) (bytes : List ℕ) (tokens : List lexer_token.Token) (at : ℕ) (one another : Outcome)
-        → Parses s bytes tokens at one → Parses s bytes tokens at another → one ≡ another }
-    ensures fault { (s : lexemes.Setting) (bytes : List ℕ) (tokens : List lexer_token.Token) (at : ℕ) (one another : parse_fault.ParseFault)
-        → IsFault s bytes tokens at one → IsFault s bytes tokens at another → one ≡ another }
+    ensures outcome { (s : lexemes.Setting) (limit : ℕ) (bytes : List ℕ) (tokens : List lexer_token.Token) (at : ℕ) (one another : Outcome)
+        → Parses s limit bytes tokens at one → Parses s limit bytes tokens at another → one ≡ another }
+    ensures fault { (s : lexemes.Setting) (limit : ℕ) (bytes : List ℕ) (tokens : List lexer_token.Token) (at : ℕ) (one another : parse_fault.ParseFault)
+        → IsFault s limit bytes tokens at one → IsFault s limit bytes tokens at another → one ≡ another }
 {}

@@ -1,5 +1,5 @@
 // Worked expressions and their trees, and the places of refusals.
-use crate::{parse_expr, parse_expr_in};
+use crate::{GREATEST_HEIGHT, parse_expr, parse_expr_in};
 use p8_grammar::Setting;
 use p8_lexer::lex;
 use p8_tree::{Call, Expr, ExprKind, Item, Place, Target, Text};
@@ -195,9 +195,14 @@ fn write_expr(alloc: Global, out: &mut String, expr: &Expr) -> Result<(), AllocE
     Ok(())
 }
 
-// What reading the expression that a text begins with answers: its tree and the number of its
-// tokens, or a refusal and its place.
-fn answer(rt: &HostRuntime, setting: Setting, text: &str) -> Result<String, AllocError> {
+// What reading the expression that a text begins with answers, where it may have this height: its
+// tree and the number of its tokens, or a refusal and its place.
+fn answer_within(
+    rt: &HostRuntime,
+    setting: Setting,
+    height: u8,
+    text: &str,
+) -> Result<String, AllocError> {
     let bytes = text.as_bytes();
     let mut out = String::new(rt.alloc());
     let Ok(tokens) = lex(rt.alloc(), bytes) else {
@@ -207,8 +212,13 @@ fn answer(rt: &HostRuntime, setting: Setting, text: &str) -> Result<String, Allo
         return Ok(out);
     }
     let read = match setting {
-        Setting::Method => parse_expr(rt.alloc(), bytes, &tokens, 0),
-        _ => parse_expr_in(rt.alloc(), bytes, &tokens, 0, setting),
+        Setting::Method if height == GREATEST_HEIGHT => {
+            parse_expr(rt.alloc(), bytes, &tokens, 0)
+        }
+        _ => {
+            let height = height.min(GREATEST_HEIGHT);
+            parse_expr_in(rt.alloc(), bytes, &tokens, 0, setting, height)
+        }
     };
     match read {
         Ok((expr, end)) => {
@@ -219,6 +229,10 @@ fn answer(rt: &HostRuntime, setting: Setting, text: &str) -> Result<String, Allo
         Err(Fail::NoMemory) => out.push_str("out of memory")?,
     }
     Ok(out)
+}
+
+fn answer(rt: &HostRuntime, setting: Setting, text: &str) -> Result<String, AllocError> {
+    answer_within(rt, setting, GREATEST_HEIGHT, text)
 }
 
 #[test]
@@ -362,31 +376,42 @@ fn reads_in_each_setting(rt: HostRuntime) -> Result<(), AllocError> {
     Ok(())
 }
 
-// The answer for a text behind `!` so many times.
-fn behind_inverts(rt: &HostRuntime, count: usize, text: &str) -> Result<String, AllocError> {
+// The answer for a text behind `!` so many times, where they may have this height.
+fn behind_inverts(
+    rt: &HostRuntime,
+    height: u8,
+    count: usize,
+    text: &str,
+) -> Result<String, AllocError> {
     let mut whole = String::new(rt.alloc());
     for _ in 0..count {
         whole.push_str("!")?;
     }
     whole.push_str(text)?;
-    answer(rt, Setting::Method, &whole)
+    answer_within(rt, Setting::Method, height, &whole)
 }
 
 #[test]
 fn counts_heights(rt: HostRuntime) -> Result<(), AllocError> {
-    assert!(&rt; behind_inverts(&rt, 63, "x")?.starts_with("64: E7@1:1 "));
+    assert!(&rt; behind_inverts(&rt, 64, 63, "x")?.starts_with("64: E7@1:1 "));
+    assert!(&rt; behind_inverts(&rt, 63, 62, "x")?.starts_with("63: E7@1:1 "));
     let table = [
-        (64, "x", "1:1: 8 TooNested"),
-        (64, "", "1:1: 8 TooNested"),
-        (64, "pi", "1:1: 8 TooNested"),
-        (63, "", "1:63: 6 Unexpected"),
-        (63, "pi", "1:64: 9 Float"),
-        (63, "x[1]", "1:1: 8 TooNested"),
-        (63, "x + ", "1:1: 8 TooNested"),
+        (64, 64, "x", "1:1: 8 TooNested"),
+        (64, 64, "", "1:1: 8 TooNested"),
+        (64, 64, "pi", "1:1: 8 TooNested"),
+        (64, 63, "", "1:63: 6 Unexpected"),
+        (64, 63, "pi", "1:64: 9 Float"),
+        (64, 63, "x[1]", "1:1: 8 TooNested"),
+        (64, 63, "x + ", "1:1: 8 TooNested"),
+        (63, 63, "x", "1:1: 8 TooNested"),
     ];
-    for (count, text, wanted) in table {
-        let found = behind_inverts(&rt, count, text)?;
-        assert_eq!(&rt; found.as_str(), wanted, "{count} and {text}");
+    for (height, count, text, wanted) in table {
+        let found = behind_inverts(&rt, height, count, text)?;
+        assert_eq!(&rt;
+            found.as_str(),
+            wanted,
+            "{count} and {text} within {height}"
+        );
     }
     Ok(())
 }

@@ -10,23 +10,23 @@ use Rattle.p8_expr.proofs.parsing.longest_run.Goals as goal
 pub run-init : goal.run-init
 run-init c = record {
   ordered = omega arith;
-  within = c.requires;
+  within = c.requires.within;
   taken = first_taken (setting_of c.args.setting) c.args.bytes.now c.args.tokens.now c.args.at c.new-reader.result c.new-reader.ensures;
 }
 
-pub returns-then-is_too_high : goal.returns-then-is_too_high
-returns-then-is_too_high c =
+pub returns-then-is_higher_than : goal.returns-then-is_higher_than
+returns-then-is_higher_than c =
     let s = setting_of c.args.setting in
     let ts = take (c.run.end - c.args.at) (tokens_from c.args.bytes.now c.args.tokens.now c.args.at) in
-    run_high s c.args.bytes.now c.args.tokens.now c.args.at c.run.end c.run.reader c.run.invariant.ordered c.run.invariant.within c.run.invariant.taken
-    (granted c.is_too_high.result (IsTooHigh s 64 ts) c.if-is_too_high.true (c.is_too_high.ensures s ts c.run.invariant.taken))
+    run_high s c.args.height c.args.bytes.now c.args.tokens.now c.args.at c.run.end c.run.reader c.run.invariant.ordered c.run.invariant.within c.run.invariant.taken
+    (granted c.is_higher_than.result (IsTooHigh s c.args.height ts) c.if-is_higher_than.true (c.is_higher_than.ensures s ts c.run.invariant.taken))
 
 pub returns-then-not-branch : goal.returns-then-not-branch
 returns-then-not-branch c =
     let s = setting_of c.args.setting in
     let ts = take (c.run.end - c.args.at) (tokens_from c.args.bytes.now c.args.tokens.now c.args.at) in
     let us = ts ++ token_of c.args.bytes.now c.token_at-token.result ∷ [] in
-    run_stops s c.args.bytes.now c.args.tokens.now c.args.at c.run.end c.take.new.reader c.token_at-token.result c.run.invariant.ordered c.token_at-token.ensures
+    run_stops s c.args.height c.args.bytes.now c.args.tokens.now c.args.at c.run.end c.take.new.reader c.token_at-token.result c.run.invariant.ordered c.token_at-token.ensures
     (not_taken s ts us c.take.new.reader c.in_ok-take.field-0 c.if-not-branch.true (c.in_ok-take.ensures.taken s ts c.run.invariant.taken))
     (refuted c.in_ok-take.field-0 (IsFront s us) c.if-not-branch.true (c.in_ok-take.ensures.begins s ts c.run.invariant.taken))
 
@@ -44,4 +44,4 @@ run-preserved c =
 
 pub returns : goal.returns
 returns c =
-    run_ends (setting_of c.args.setting) c.args.bytes.now c.args.tokens.now c.args.at c.run.end c.run.reader c.run.invariant.ordered (omega (arith, c.run-test.false, c.len.ensures)) c.run.invariant.taken c.run.invariant.within
+    run_ends (setting_of c.args.setting) c.args.height c.args.bytes.now c.args.tokens.now c.args.at c.run.end c.run.reader c.run.invariant.ordered (omega (arith, c.run-test.false, c.len.ensures)) c.run.invariant.taken c.run.invariant.within
