@@ -4,4 +4,8 @@ pub mod Standing
 pub mod Fitting
 pub mod Reading
 pub mod Meaning
+pub mod Built
+pub mod Queries
+pub mod Frames
+pub mod Steps
 pub mod Rows

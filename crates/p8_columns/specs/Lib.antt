@@ -2,5 +2,7 @@
 pub mod Lines
 pub mod Columns
 pub mod Blocks
--- internal: the reader of the proofs.
+pub mod Taken
+-- internal: the reader of the proofs and the code, and what the code's values stand for.
 pub mod Reader
+pub mod Views
