@@ -1,0 +1,16 @@
+// Pieces.
+use p8_lexer::Word;
+use p8_tree::{Expr, Place, Text};
+
+/// A piece of a line of a source.
+#[derive(Drop)]
+pub enum Piece {
+    /// A symbol, a reserved word or the end of the line, with its place.
+    Word(Word, Place),
+    /// A name that isn't reserved, in capitals, with its place.
+    Name(Text, Place),
+    /// A string's characters, with the place of its first quote.
+    Text(Text, Place),
+    /// An expression, with the place of its first token.
+    Tree(Expr, Place),
+}
