@@ -1,0 +1,16 @@
+pub mod Lexemes
+pub mod Arrows
+pub mod Fronts
+pub mod Settings
+pub mod Matching
+pub mod Completing
+pub mod Splits
+pub mod Ways
+pub mod Begun
+pub mod Rows
+pub mod Readings
+pub mod Texts
+pub mod Stops
+pub mod LineEnds
+pub mod Targets
+pub mod Steps

@@ -1,0 +1,155 @@
+-- The steps of reading a line, as the code takes them.
+use Rattle.std.proofs.Common.{◌≡◌, ◌≢◌, ◌⊎◌, inl, inr, ℕ, ◌+◌, ◌-◌, ◌<◌, ◌≤◌, Bool, true, false, length, List, [], ◌∷◌, ◌++◌, Option, Some, None, Result, Ok, Err, refl, sym, ap, ◌∙◌, subst, append_assoc, arith}
+use Rattle.std.specs.Prelude.{IfErr, nat_lt, map, slice_get, option_map, MatchOption}
+use Rattle.std.proofs.lemmas.Bool.{ltb-true, ltb-false}
+use Rattle.std.proofs.lemmas.Option.{slice_get_past}
+use Rattle.p8_tree.specs.declared.places.Place.{Place}
+use Rattle.p8_tree.specs.Expressions.{Tree}
+use Rattle.p8_words.specs.declared.failure.Fail.{Fail}
+use Rattle.p8_words.specs.declared.failure.Fail.TheVariants as fail
+use Rattle.p8_lexer.specs.declared.word.Word.TheVariants as word
+use Rattle.p8_lexer.specs.declared.token.Token as lexer_token
+use Rattle.p8_grammar.specs.Lexemes.{Setting}
+use Rattle.p8_expr.specs.declared.fault.ParseFault.{ParseFault}
+use Rattle.p8_expr.specs.Parsing.{tree, Parses, IsFault, IfRefused}
+use Rattle.p8_pieces.specs.Pieces as pieces
+use Rattle.p8_pieces.specs.Pieces.{Piece}
+use Rattle.p8_lines.specs.declared.arrow.Arrow.{Arrow}
+use Rattle.p8_lines.specs.declared.state.State.{State}
+use Rattle.p8_lines.specs.declared.state.State.TheVariants as state
+use Rattle.p8_lines.specs.Diagram.{Phrase, choices, setting_at}
+use Rattle.p8_lines.specs.Tokens as line_tokens
+use Rattle.p8_lines.specs.Tokens.{LineToken, piece, line_token, text_end, tokens_from}
+use Rattle.p8_lines.specs.Lines.{Follows, behind, greatest_height, Leads, nowhere, number_of, Reads, read, refused}
+use Rattle.p8_lines.specs.Stopping.{token_at, run, told_at, FitsSetting, Stops, Goes, Advances}
+use Rattle.p8_lines.proofs.Rows.{leads_on}
+use Rattle.p8_lines.proofs.Readings.{leads_fits, reads_line, reads_stop}
+use Rattle.p8_lines.proofs.Texts.{first_at, is_end}
+use Rattle.p8_lines.proofs.Stops.{run_within, spelled, within, arrow_goes, no_phrase_stops, end_stops, tree_goes, tree_stops, refused_stops}
+use Rattle.p8_lines.proofs.LineEnds.{line_end_over, line_end_behind}
+
+-- what a refusal of a part says of the whole
+pub refused_so : (P Q : ParseFault → Type 0) → ((f : ParseFault) → P f → Q f) → (e : Fail ParseFault) → IfRefused P e → IfRefused Q e
+refused_so P Q g (fail.Refused f) h = g f h
+refused_so P Q g fail.NoMemory h = tt
+
+pub err_so : {A : Type 0} (P Q : ParseFault → Type 0) → ((f : ParseFault) → P f → Q f) → (r : Result A (Fail ParseFault)) → IfErr r (IfRefused P) → IfErr r (IfRefused Q)
+err_so P Q g (Ok x) h = tt
+err_so P Q g (Err e) h = refused_so P Q g e h
+
+pub stops_as : (s : Setting) (first : Place) (q : State) (ts : List LineToken) (n m : ℕ) (p p' : Place) → Stops s first q ts n p → m ≡ n → p' ≡ p → Stops s first q ts m p'
+stops_as s first q ts n m p p' x e f = subst (λ p. Stops s first q ts m p) (sym f) (subst (λ n. Stops s first q ts n p) (sym e) x)
+
+-- the expression at a state
+
+pub phrase_none : (o : Option Phrase) → None ≡ option_map (λ h. h.setting) o → o ≡ None
+phrase_none None e = refl
+phrase_none (Some h) e = absurd cc
+
+pub phrase_some : (o : Option Phrase) (k : Setting) → option_map (λ h. h.setting) o ≡ Some k → (h : Phrase) × (o ≡ Some h) × (h.setting ≡ k)
+phrase_some None k e = absurd cc
+phrase_some (Some h) k e = (h, refl, cc)
+
+inner_is : (o : Option Phrase) (b : Bool) (h : Phrase) → MatchOption o (b ≡ false) (λ h. b ≡ h.inner) → o ≡ Some h → b ≡ h.inner
+inner_is o b h m e = subst (λ o. MatchOption o (b ≡ false) (λ h. b ≡ h.inner)) e m
+
+-- reading it
+
+pub parses_within : (s : Setting) (limit : ℕ) (bytes : List ℕ) (tokens : List lexer_token.Token) (at end : ℕ) (e : Tree) → at < length tokens → Parses s limit bytes tokens at (tree e end) → end ≤ length tokens
+parses_within s limit bytes tokens at end e lt x = run_within s limit bytes tokens at end e lt x
+
+pub tree_refused : (s : Setting) (first : Place) (bytes : List ℕ) (tokens : List lexer_token.Token) (at : ℕ) (q : State) (k : Setting) (limit : ℕ) (inner : Bool) (fault : ParseFault) (n : ℕ) (p : Place) → at < length tokens → option_map (λ h. h.setting) (choices q).phrase ≡ Some k → ((h : Phrase) → (choices q).phrase ≡ Some h → limit ≡ greatest_height h) → MatchOption (choices q).phrase (inner ≡ false) (λ h. inner ≡ h.inner) → FitsSetting s q → ((r : State) → ¬ Follows (choices q).arrows (token_at bytes tokens at) r) → IsFault k limit bytes tokens at fault → n ≡ fault.number → p ≡ told_at inner fault.number first fault.place → Stops s first q (tokens_from bytes tokens at) n p
+tree_refused s first bytes tokens at q k limit inner fault n p lt expects limits inners fits unfollowed x number place =
+    let y = phrase_some (choices q).phrase k expects in
+    let h = y.0 in
+    let mine : IsFault h.setting (greatest_height h) bytes tokens at fault = subst (λ k. IsFault k (greatest_height h) bytes tokens at fault) (sym y.2) (subst (λ l. IsFault k l bytes tokens at fault) (limits h y.1) x) in
+    stops_as s first q (tokens_from bytes tokens at) fault.number n (told_at h.inner fault.number first fault.place) p (refused_stops s first bytes tokens at q h fault lt y.1 fits unfollowed mine) number
+    (place ∙ ap (λ b. told_at b fault.number first fault.place) (inner_is (choices q).phrase inner h inners y.1))
+
+pub none_stops : (s : Setting) (first : Place) (bytes : List ℕ) (tokens : List lexer_token.Token) (at : ℕ) (q : State) (n : ℕ) (p : Place) → at ≤ length tokens → q ≢ state.End → ((r : State) → ¬ Follows (choices q).arrows (token_at bytes tokens at) r) → None ≡ option_map (λ h. h.setting) (choices q).phrase → n ≡ number_of s (line_tokens.word (token_at bytes tokens at)) → p ≡ (token_at bytes tokens at).place → Stops s first q (tokens_from bytes tokens at) n p
+none_stops s first bytes tokens at q n p le open_ unfollowed e number place =
+    stops_as s first q (tokens_from bytes tokens at) (number_of s (line_tokens.word (token_at bytes tokens at))) n (token_at bytes tokens at).place p (no_phrase_stops s first bytes tokens at q le open_ unfollowed (phrase_none (choices q).phrase e)) number place
+
+pub ended_stops : (s : Setting) (first : Place) (bytes : List ℕ) (tokens : List lexer_token.Token) (at : ℕ) (q : State) (k : Setting) (n : ℕ) (p : Place) → at ≡ length tokens → ((r : State) → ¬ Follows (choices q).arrows (token_at bytes tokens at) r) → option_map (λ h. h.setting) (choices q).phrase ≡ Some k → n ≡ number_of s (line_tokens.word (token_at bytes tokens at)) → p ≡ (token_at bytes tokens at).place → Stops s first q (tokens_from bytes tokens at) n p
+ended_stops s first bytes tokens at q k n p here unfollowed expects number place =
+    let y = phrase_some (choices q).phrase k expects in
+    stops_as s first q (tokens_from bytes tokens at) (number_of s (line_tokens.word (token_at bytes tokens at))) n (token_at bytes tokens at).place p (end_stops s first bytes tokens at q y.0 here unfollowed y.1) number place
+
+pub stops_behind_tree : (s : Setting) (first : Place) (bytes : List ℕ) (tokens : List lexer_token.Token) (at end : ℕ) (q : State) (k : Setting) (e : Tree) (arrows : List Arrow) (n : ℕ) (p : Place) → at < length tokens → option_map (λ h. h.setting) (choices q).phrase ≡ Some k → ((h : Phrase) → (choices q).phrase ≡ Some h → Parses h.setting (greatest_height h) bytes tokens at (tree e end)) → ((r : State) → ¬ Follows (choices q).arrows (token_at bytes tokens at) r) → ((h : Phrase) → (choices q).phrase ≡ Some h → arrows ≡ behind h (run bytes tokens at (end - at))) → ((r : State) → ¬ Follows arrows (token_at bytes tokens end) r) → n ≡ number_of s (line_tokens.word (token_at bytes tokens end)) → p ≡ (token_at bytes tokens end).place → Stops s first q (tokens_from bytes tokens at) n p
+stops_behind_tree s first bytes tokens at end q k e arrows n p lt expects parses unfollowed arrows_are no_arrow number place =
+    let y = phrase_some (choices q).phrase k expects in
+    let h = y.0 in
+    let x = spelled h bytes tokens at end e lt (parses h y.1) in
+    stops_as s first q (tokens_from bytes tokens at) (number_of s (line_tokens.word (token_at bytes tokens end))) n (token_at bytes tokens end).place p
+    (tree_stops s first bytes tokens at end q h e y.1 unfollowed x (λ r f. no_arrow r (subst (λ l. Follows l (token_at bytes tokens end) r) (sym (arrows_are h y.1)) f))) number place
+
+-- what comes behind the text's end
+
+end_word : (bytes : List ℕ) (tokens : List lexer_token.Token) (at : ℕ) → length tokens < at + 1 → line_tokens.word (token_at bytes tokens at) ≡ word.LineEnd
+end_word bytes tokens at lt = ap line_tokens.word (is_end bytes tokens at (slice_get_past tokens at (omega (arith, lt))))
+
+pub arrow_step : (bytes : List ℕ) (tokens : List lexer_token.Token) (at m : ℕ) (q r : State) (old new : List Piece) → at ≤ length tokens → Follows (choices q).arrows (token_at bytes tokens at) r → new ≡ old ++ piece (token_at bytes tokens at) ∷ [] → m ≡ at + 1 → Advances bytes tokens at m q old new r
+arrow_step bytes tokens at m q r old new le f kept e = subst (λ m. Advances bytes tokens at m q old new r) (sym e) (record {
+  row = piece (token_at bytes tokens at) ∷ [];
+  kept = kept;
+  goes = arrow_goes bytes tokens at q r le f;
+  onward = omega arith;
+  within = omega (arith, le);
+  ended = λ lt. line_end_over q r (token_at bytes tokens at) f (end_word bytes tokens at lt);
+})
+
+pub tree_step : (bytes : List ℕ) (tokens : List lexer_token.Token) (at end m : ℕ) (q r : State) (k : Setting) (e : Tree) (arrows : List Arrow) (old middle new : List Piece) → at < length tokens → option_map (λ h. h.setting) (choices q).phrase ≡ Some k → ((h : Phrase) → (choices q).phrase ≡ Some h → Parses h.setting (greatest_height h) bytes tokens at (tree e end)) → ((h : Phrase) → (choices q).phrase ≡ Some h → arrows ≡ behind h (run bytes tokens at (end - at))) → Follows arrows (token_at bytes tokens end) r → middle ≡ old ++ pieces.tree e (token_at bytes tokens at).place ∷ [] → new ≡ middle ++ piece (token_at bytes tokens end) ∷ [] → m ≡ end + 1 → Advances bytes tokens at m q old new r
+tree_step bytes tokens at end m q r k e arrows old middle new lt expects parses arrows_are f first second behind_it =
+    let y = phrase_some (choices q).phrase k expects in
+    let h = y.0 in
+    let x = spelled h bytes tokens at end e lt (parses h y.1) in
+    let g : Follows (behind h (run bytes tokens at (end - at))) (token_at bytes tokens end) r = subst (λ l. Follows l (token_at bytes tokens end) r) (arrows_are h y.1) f in
+    subst (λ m. Advances bytes tokens at m q old new r) (sym behind_it) (record {
+      row = pieces.tree e (token_at bytes tokens at).place ∷ piece (token_at bytes tokens end) ∷ [];
+      kept = second ∙ ap (λ l. l ++ piece (token_at bytes tokens end) ∷ []) first ∙ append_assoc old (pieces.tree e (token_at bytes tokens at).place ∷ []) (piece (token_at bytes tokens end) ∷ []);
+      goes = tree_goes bytes tokens at end q r h e y.1 x g;
+      onward = (let o = x.ordered in omega (arith, o));
+      within = (let w = within x in omega (arith, w));
+      ended = λ lt. line_end_behind q r h (run bytes tokens at (end - at)) (token_at bytes tokens end) y.1 g (end_word bytes tokens end lt);
+    })
+
+-- the whole line
+
+pub begin_goes : (bytes : List ℕ) (tokens : List lexer_token.Token) (at : ℕ) (q : State) (row : List Piece) → row ≡ [] → Goes bytes tokens at at q row q
+begin_goes bytes tokens at q row e = subst (λ row. Goes bytes tokens at at q row q) (sym e) (record { taken = []; split = refl; leads = nowhere })
+
+pub goes_further : {bytes : List ℕ} {tokens : List lexer_token.Token} {at end end' : ℕ} {q r s : State} {row new : List Piece} → Goes bytes tokens at end q row r → Advances bytes tokens end end' r row new s → Goes bytes tokens at end' q new s
+goes_further {bytes = bytes} {tokens = tokens} {at = at} {end = end} {end' = end'} {q = q} {s = s} x y =
+    record {
+      taken = x.taken ++ y.goes.taken;
+      split = x.split ∙ ap (λ l. x.taken ++ l) y.goes.split ∙ sym (append_assoc x.taken y.goes.taken (tokens_from bytes tokens end'));
+      leads = subst (λ l. Leads q (x.taken ++ y.goes.taken) l s) (sym y.kept) (leads_on x.leads y.goes.leads);
+    }
+
+pub still_within : (n end : ℕ) (r : State) → (n < end → r ≡ state.End) → r ≢ state.End → end ≤ n
+still_within n end r ended open_ = go (nat_lt n end) refl
+  where
+    go : (b : Bool) → nat_lt n end ≡ b → end ≤ n
+    go true h = absurd (open_ (ended (ltb-true n end h)))
+    go false h = ltb-false n end h
+
+pub fits_there : {bytes : List ℕ} {tokens : List lexer_token.Token} {at end : ℕ} {q r : State} {row : List Piece} (s : Setting) → s ≡ setting_at q → Goes bytes tokens at end q row r → FitsSetting s r
+fits_there {r = r} s e x = subst (λ s. FitsSetting s r) (sym e) (leads_fits x.leads)
+
+pub line_read : {bytes : List ℕ} {tokens : List lexer_token.Token} {at end : ℕ} {q r : State} {row : List Piece} → r ≡ state.End → Goes bytes tokens at end q row r → Reads q (tokens_from bytes tokens at) (read row (tokens_from bytes tokens end))
+line_read {q = q} {row = row} e x = reads_line x.split (subst (λ r. Leads q x.taken row r) e x.leads)
+
+pub line_refused : (bytes : List ℕ) (tokens : List lexer_token.Token) (at end : ℕ) (q r : State) (row : List Piece) (s : Setting) (first : Place) (n : ℕ) (p : Place) → at ≤ length tokens → s ≡ setting_at q → first ≡ (token_at bytes tokens at).place → Goes bytes tokens at end q row r → Stops s first r (tokens_from bytes tokens end) n p → Reads q (tokens_from bytes tokens at) (refused n p)
+line_refused bytes tokens at end q r row s first n p le e f x stops =
+    reads_stop (tokens_from bytes tokens at) (tokens_from bytes tokens (at + 1)) (token_at bytes tokens at) (first_at bytes tokens at le) x.split x.leads
+    (subst (λ s. Stops s (token_at bytes tokens at).place r (tokens_from bytes tokens end) n p) e (subst (λ f. Stops s f r (tokens_from bytes tokens end) n p) f stops))
+
+pub onward : (q r : State) (at end : ℕ) → (r ≡ q) ⊎ (at < end) → r ≡ state.End → q ≢ state.End → at < end
+onward q r at end (inl e) f n = absurd (n (sym e ∙ f))
+onward q r at end (inr lt) f n = lt
+
+pub is_refused : (P : ParseFault → Type 0) (x : Fail ParseFault) (f : ParseFault) → x ≡ fail.Refused f → IfRefused P x → P f
+is_refused P x f e h = subst (IfRefused P) e h
+
+pub kept_as : (old new : List Piece) (x y : Piece) → new ≡ old ++ x ∷ [] → x ≡ y → new ≡ old ++ y ∷ []
+kept_as old new x y e f = e ∙ ap (λ x. old ++ x ∷ []) f

@@ -1,0 +1,51 @@
+-- internal: where reading a line stops, from a state in its midst.
+use Rattle.std.specs.Prelude.{◌≡◌, ℕ, ◌+◌, ◌<◌, ◌≤◌, ◌==◌, Bool, ◌&&◌, length, take, if◌then◌else◌, List, [], ◌∷◌, ◌++◌, Some, None, Option, option_map, unwrap_or, slice_get, map}
+use Rattle.p8_tree.specs.declared.places.Place.{Place}
+use Rattle.p8_lexer.specs.declared.token.Token as lexer_token
+use Rattle.p8_lexer.specs.declared.word.Word.{Word}
+use Rattle.p8_lexer.specs.declared.refusal.Refusal.TheVariants.{TooNested}
+use Rattle.p8_lexer.specs.Refusals.{refusal_number}
+use Rattle.p8_grammar.specs.Lexemes.{Setting}
+use Rattle.p8_expr.specs.Refusals.{refusal_of}
+use Rattle.p8_pieces.specs.Pieces.{Piece}
+use Rattle.p8_lines.specs.declared.state.State.{State}
+use Rattle.p8_lines.specs.declared.state.State.TheVariants as state
+use Rattle.p8_lines.specs.Diagram.{Phrase, choices}
+use Rattle.p8_lines.specs.Tokens.{LineToken, word, line_token, text_end, tokens_from}
+use Rattle.p8_lines.specs.Lines.{Row, Begins, Leads, IsTooHigh, HasTooHigh, number_of}
+
+-- the token of this number, or the text's end
+abbrev pub token_at : List ℕ → List lexer_token.Token → ℕ → LineToken
+token_at bytes tokens at = unwrap_or (option_map (line_token bytes) (slice_get tokens at)) (text_end (map (line_token bytes) tokens))
+
+-- so many tokens from one on
+abbrev pub run : List ℕ → List lexer_token.Token → ℕ → ℕ → List LineToken
+run bytes tokens at n = take n (tokens_from bytes tokens at)
+
+-- The words that are refused by themselves are the same in the setting of a state's expression as in that of the line.
+abbrev pub FitsSetting : Setting → State → Type 0
+FitsSetting s q = (h : Phrase) → (choices q).phrase ≡ Some h → (w : Word) → refusal_of h.setting w ≡ refusal_of s w
+
+-- Reading stops so at a state, in a line of this setting whose first token stands at `first`.
+pub data Stops (s : Setting) (first : Place) (q : State) (ts : List LineToken) : ℕ → Place → Type 0 where
+  too_high : {h : Phrase} {t : LineToken} {vs : List LineToken} → ts ≡ t ∷ vs → (choices q).phrase ≡ Some h → IsTooHigh h (t ∷ vs) → Stops s first q ts (refusal_number TooNested) (if h.inner then first else t.place)
+  stopped : {us : List LineToken} (t : LineToken) (vs : List LineToken) → ts ≡ us ++ t ∷ vs → Begins q us → ((row : List Piece) → ¬ Row q row us) → ¬ Begins q (us ++ t ∷ []) → ¬ HasTooHigh q us → Stops s first q ts (number_of s (word t)) t.place
+
+-- the tokens of these numbers lead from one state to another
+pub record Goes (bytes : List ℕ) (tokens : List lexer_token.Token) (at end : ℕ) (q : State) (row : List Piece) (r : State) : Type 0 where
+  pub taken : List LineToken
+  pub split : tokens_from bytes tokens at ≡ taken ++ tokens_from bytes tokens end
+  pub leads : Leads q taken row r
+
+-- they are read: their pieces stand behind the others, and nothing but a line's end ends a text
+pub record Advances (bytes : List ℕ) (tokens : List lexer_token.Token) (at end : ℕ) (q : State) (old new : List Piece) (r : State) : Type 0 where
+  pub row : List Piece
+  pub kept : new ≡ old ++ row
+  pub goes : Goes bytes tokens at end q row r
+  pub onward : at < end
+  pub within : end ≤ length tokens + 1
+  pub ended : length tokens < end → r ≡ state.End
+
+-- the place of an expression's refusal: where a part of an action is too high, the action's whole tree is
+abbrev pub told_at : Bool → ℕ → Place → Place → Place
+told_at inner n first place = if inner && (n == refusal_number TooNested) then first else place

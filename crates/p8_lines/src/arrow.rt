@@ -1,0 +1,10 @@
+// Arrows of the diagram.
+use crate::sign::Sign;
+use crate::state::State;
+
+/// A token that may stand next, and the state to which it leads.
+#[derive(Clone, Copy, Debug, PartialEq, Eq)]
+pub struct Arrow {
+    pub sign: Sign,
+    pub to: State,
+}

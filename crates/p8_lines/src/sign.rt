@@ -1,0 +1,73 @@
+// Which tokens an arrow stands for.
+ghost use Rattle.std.specs.Prelude.{◌↔◌, IsTrue};
+ghost use Rattle.p8_lines.specs.Signs.{Matches};
+
+use crate::words::{
+    is_assignment, is_built_in, is_change, is_condition, is_flag, is_on_memory, is_operator,
+    is_pins, is_size, is_value, is_write, takes_one, takes_two,
+};
+use p8_lexer::Word;
+
+/// Which tokens an arrow of the diagram stands for.
+#[derive(Clone, Copy, Debug, PartialEq, Eq)]
+pub enum Sign {
+    /// A symbol, a reserved word, a name that isn't reserved, or the end of a line.
+    Word(Word),
+    /// `BYTE`, `WORD` or `LONG`.
+    Size,
+    /// `OUTA` or `DIRA`.
+    Pins,
+    /// `:=`, or an operator between two values with `=`.
+    Assignment,
+    /// `++`, `--`, `~` or `~~`.
+    Change,
+    /// An operator before a value that, alone before a variable, writes the variable: all but `+`.
+    Operator,
+    /// `COGID`, `CLKFREQ` or `CLKMODE`.
+    Value,
+    /// Another built-in method.
+    BuiltIn,
+    /// A string that isn't empty.
+    Text,
+    /// A string of two characters or more.
+    LongText,
+    /// An instruction's condition.
+    Condition,
+    /// An instruction with a destination and a source that isn't on main memory.
+    TwoOperands,
+    /// An instruction on main memory.
+    Memory,
+    /// An instruction with a destination alone.
+    OneOperand,
+    /// `WZ` or `WC`.
+    Flag,
+    /// `WR` or `NR`.
+    Write,
+}
+
+impl Sign {
+    /// Whether a token with this word, and with so many characters between its quotes, is one of
+    /// these.
+    pub fn matches(self, word: Word, length: usize) -> bool
+        ensures { IsTrue result ↔ Matches self word length }
+    {
+        match self {
+            Sign::Word(w) => w == word,
+            Sign::Size => is_size(word),
+            Sign::Pins => is_pins(word),
+            Sign::Assignment => is_assignment(word),
+            Sign::Change => is_change(word),
+            Sign::Operator => is_operator(word),
+            Sign::Value => is_value(word),
+            Sign::BuiltIn => is_built_in(word),
+            Sign::Text => word == Word::Str && length > 0,
+            Sign::LongText => word == Word::Str && length > 1,
+            Sign::Condition => is_condition(word),
+            Sign::TwoOperands => takes_two(word),
+            Sign::Memory => is_on_memory(word),
+            Sign::OneOperand => takes_one(word),
+            Sign::Flag => is_flag(word),
+            Sign::Write => is_write(word),
+        }
+    }
+}
