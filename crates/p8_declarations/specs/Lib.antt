@@ -1,0 +1,8 @@
+-- The parts of a line, and what the lines of CON, VAR and OBJ and the heads of methods declare.
+pub mod Parts
+pub mod Constants
+pub mod Variables
+pub mod Objects
+pub mod Methods
+-- What the code's values stand for: internal.
+pub mod Views
