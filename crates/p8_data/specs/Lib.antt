@@ -1,0 +1,6 @@
+-- What public contracts cite.
+pub mod Parts
+pub mod Lines
+pub mod Rows
+-- What only proofs need.
+pub mod Views

@@ -1,0 +1,218 @@
+// The items of a line of data.
+ghost use Rattle.std.specs.Prelude.{◌≡◌, [], ◌∷◌, ◌++◌, List, OnOk, IfOk, map, option_map};
+ghost use Rattle.p8_tree.specs.Sources.{Datum};
+ghost use Rattle.p8_tree.specs.Views.{datum_of, tree_of};
+ghost use Rattle.p8_tree.specs.Expressions.{node, Str};
+ghost use Rattle.p8_data.specs.Lines.{before, behind, open_bracket, counted, closed, all_items, items};
+ghost use Rattle.p8_data.specs.Views.{part_of, rest, stage_of, Steps};
+
+use crate::part::Part;
+use crate::row::Row;
+use p8_tree::{DatItem, Expr, ExprKind, List, Place, Text};
+use p8_words::NoMemory;
+use std::alloc::Global;
+
+// How far an item of data is read.
+#[derive(Drop)]
+pub enum Stage {
+    // Its size, where it has one of its own.
+    Before(Option<u8>),
+    // Its value.
+    Behind(Option<u8>, Expr),
+    // The bracket before its count.
+    OpenBracket(Option<u8>, Expr),
+    // Its count.
+    Counted(Option<u8>, Expr, Expr),
+    // The bracket behind its count.
+    Closed(Option<u8>, Expr, Expr),
+}
+
+// A string as a value.
+fn string(text: Text, place: Place) -> Expr
+    ensures { tree_of result ≡ node place (Str text) }
+{
+    Expr {
+        place,
+        kind: ExprKind::Str(text),
+    }
+}
+
+// Where an item goes on from its size.
+fn from_size(size: Option<u8>, part: Part) -> Option<Stage>
+    ensures { (read : List Datum) → Steps read (before size) (part_of part) read (option_map stage_of result) }
+{
+    match part {
+        Part::Size(own, _) => match size {
+            None => Some(Stage::Before(Some(own))),
+            Some(_) => None,
+        },
+        Part::Tree(value, _) => Some(Stage::Behind(size, value)),
+        Part::Text(text, place) => Some(Stage::Behind(size, string(text, place))),
+        other => {
+            drop(other);
+            None
+        }
+    }
+}
+
+// Puts an item behind those that are read.
+fn put(read: &mut List<DatItem>, item: DatItem) -> Result<(), NoMemory>
+    ensures { OnOk result (map datum_of read.new ≡ map datum_of read.old ++ datum_of item ∷ []) }
+{
+    read.push(item)?;
+    Ok(())
+}
+
+// Where an item goes on from its value.
+fn from_value(
+    read: &mut List<DatItem>,
+    size: Option<u8>,
+    value: Expr,
+    part: Part,
+) -> Result<Option<Stage>, NoMemory>
+    ensures { IfOk result (λ s. Steps (map datum_of read.old) (behind size (tree_of value)) (part_of part) (map datum_of read.new) (option_map stage_of s)) }
+{
+    match part {
+        Part::LeftBracket => Ok(Some(Stage::OpenBracket(size, value))),
+        Part::Comma => {
+            let item = DatItem {
+                size,
+                value,
+                count: None,
+            };
+            put(read, item)?;
+            Ok(Some(Stage::Before(None)))
+        }
+        other => {
+            drop(other);
+            Ok(None)
+        }
+    }
+}
+
+// Where an item goes on from the bracket before its count.
+fn from_open_bracket(size: Option<u8>, value: Expr, part: Part) -> Option<Stage>
+    ensures { (read : List Datum) → Steps read (open_bracket size (tree_of value)) (part_of part) read (option_map stage_of result) }
+{
+    match part {
+        Part::Tree(count, _) => Some(Stage::Counted(size, value, count)),
+        other => {
+            drop(other);
+            None
+        }
+    }
+}
+
+// Where an item goes on from its count.
+fn from_count(size: Option<u8>, value: Expr, count: Expr, part: Part) -> Option<Stage>
+    ensures { (read : List Datum) → Steps read (counted size (tree_of value) (tree_of count)) (part_of part) read (option_map stage_of result) }
+{
+    match part {
+        Part::RightBracket => Some(Stage::Closed(size, value, count)),
+        other => {
+            drop(other);
+            None
+        }
+    }
+}
+
+// What stands behind an item with a count.
+fn from_closed_bracket(
+    read: &mut List<DatItem>,
+    size: Option<u8>,
+    value: Expr,
+    count: Expr,
+    part: Part,
+) -> Result<Option<Stage>, NoMemory>
+    ensures { IfOk result (λ s. Steps (map datum_of read.old) (closed size (tree_of value) (tree_of count)) (part_of part) (map datum_of read.new) (option_map stage_of s)) }
+{
+    match part {
+        Part::Comma => {
+            let item = DatItem {
+                size,
+                value,
+                count: Some(count),
+            };
+            put(read, item)?;
+            Ok(Some(Stage::Before(None)))
+        }
+        other => {
+            drop(other);
+            Ok(None)
+        }
+    }
+}
+
+impl Stage {
+    // Goes on by a part; a comma puts the item that it ends behind those that are read.
+    fn step(self, read: &mut List<DatItem>, part: Part) -> Result<Option<Stage>, NoMemory>
+        ensures { IfOk result (λ s. Steps (map datum_of read.old) (stage_of self) (part_of part) (map datum_of read.new) (option_map stage_of s)) }
+    {
+        match self {
+            Stage::Before(size) => Ok(from_size(size, part)),
+            Stage::Behind(size, value) => from_value(read, size, value, part),
+            Stage::OpenBracket(size, value) => Ok(from_open_bracket(size, value, part)),
+            Stage::Counted(size, value, count) => Ok(from_count(size, value, count, part)),
+            Stage::Closed(size, value, count) => {
+                from_closed_bracket(read, size, value, count, part)
+            }
+        }
+    }
+
+    // The items of a line that ends here.
+    fn end(self, mut read: List<DatItem>) -> Result<Option<List<DatItem>>, NoMemory>
+        ensures { IfOk result (λ r. option_map (map datum_of) r ≡ items (map datum_of read) (stage_of self) []) }
+    {
+        match self {
+            Stage::Behind(size, value) => {
+                let item = DatItem {
+                    size,
+                    value,
+                    count: None,
+                };
+                put(&mut read, item)?;
+                Ok(Some(read))
+            }
+            Stage::Closed(size, value, count) => {
+                let item = DatItem {
+                    size,
+                    value,
+                    count: Some(count),
+                };
+                put(&mut read, item)?;
+                Ok(Some(read))
+            }
+            other => {
+                drop(other);
+                Ok(None)
+            }
+        }
+    }
+}
+
+// The items from this part on.
+fn items_from(alloc: Global, first: Part, mut row: Row) -> Result<Option<List<DatItem>>, NoMemory>
+    ensures { IfOk result (λ r. option_map (map datum_of) r ≡ items [] (before None) (part_of first ∷ rest row)) }
+{
+    let mut read = List::new(alloc);
+    let mut stage = Stage::Before(None);
+    let mut next = Some(first);
+    'parts: while let Some(part) = next {
+        let Some(further) = stage.step(&mut read, part)? else {
+            return Ok(None);
+        };
+        stage = further;
+        next = row.next();
+    }
+    stage.end(read)
+}
+
+// The items of a line of data, which may have none.
+pub fn all_items(alloc: Global, mut row: Row) -> Result<Option<List<DatItem>>, NoMemory>
+    ensures { IfOk result (λ r. option_map (map datum_of) r ≡ all_items (rest row)) }
+{
+    match row.next() {
+        None => Ok(Some(List::new(alloc))),
+        Some(first) => items_from(alloc, first, row),
+    }
+}

@@ -1,0 +1,245 @@
+// Lines of DAT.
+ghost use Rattle.std.specs.Prelude.{◌≡◌, ◌∷◌, None, IfOk, option_map};
+ghost use Rattle.p8_tree.specs.Views.{tree_of, contents_of, line_of};
+ghost use Rattle.p8_pieces.specs.Pieces.{pieces_of};
+ghost use Rattle.p8_data.specs.Lines.{value, filled, instruction, body, blank, line, line_of_row};
+ghost use Rattle.p8_data.specs.Rows.{outcome_of};
+ghost use Rattle.p8_data.specs.Views.{part_of, rest};
+
+use crate::instructions::{bare, local, operands, source};
+use crate::items::all_items;
+use crate::part::{Part, place_of};
+use crate::row::Row;
+use p8_lexer::Word;
+use p8_pieces::Piece;
+use p8_tree::{DatBody, DatLine, Expr, Place, Text};
+use p8_words::NoMemory;
+use std::alloc::Global;
+
+/// What a row of pieces is to `DAT`.
+#[derive(Drop)]
+pub enum DatRow {
+    /// The line's end alone: no line.
+    Empty,
+    /// A line.
+    Line(DatLine),
+    /// No row of `DAT`.
+    Unknown,
+}
+
+// The value of ORG, RES or FIT, which may have none.
+fn value(mut row: Row) -> Option<Option<Expr>>
+    ensures { option_map (option_map tree_of) result ≡ value (rest row) }
+{
+    let Some(part) = row.next() else {
+        return Some(None);
+    };
+    match part {
+        Part::Tree(tree, _) => match row.next() {
+            None => Some(Some(tree)),
+            Some(_) => None,
+        },
+        other => {
+            drop(other);
+            None
+        }
+    }
+}
+
+// A line with nothing behind its label.
+fn blank(place: Place, label: Option<Text>) -> DatLine
+    ensures { line_of result ≡ blank place label }
+{
+    DatLine {
+        place,
+        label,
+        word_place: place,
+        body: DatBody::Nothing,
+    }
+}
+
+// The line with these contents, whose word stands here.
+fn filled(mut line: DatLine, place: Place, body: DatBody) -> DatLine
+    ensures { line_of result ≡ filled (line_of line) place (contents_of body) }
+{
+    line.word_place = place;
+    line.body = body;
+    line
+}
+
+// The line as one of data.
+fn with_data(
+    alloc: Global,
+    line: DatLine,
+    size: u8,
+    place: Place,
+    row: Row,
+) -> Result<Option<DatLine>, NoMemory>
+    ensures { IfOk result (λ r. option_map line_of r ≡ body (line_of line) (part_of (Part.Size size place) ∷ rest row)) }
+{
+    let Some(items) = all_items(alloc, row)? else {
+        return Ok(None);
+    };
+    Ok(Some(filled(line, place, DatBody::Data(size, items))))
+}
+
+// The line as one of JMP.
+fn with_jump(
+    alloc: Global,
+    line: DatLine,
+    cond: u8,
+    place: Place,
+    row: Row,
+) -> Result<Option<DatLine>, NoMemory>
+    ensures { IfOk result (λ r. option_map line_of r ≡ instruction cond (line_of line) (part_of (Part.Jump place) ∷ rest row)) }
+{
+    let jump = bare(alloc, cond, Word::Jmp, place)?;
+    let Some(instr) = source(alloc, jump, row)? else {
+        return Ok(None);
+    };
+    Ok(Some(filled(line, place, DatBody::Instr(instr))))
+}
+
+// The line as one of another instruction.
+fn with_word(
+    alloc: Global,
+    line: DatLine,
+    cond: u8,
+    word: Word,
+    place: Place,
+    row: Row,
+) -> Result<Option<DatLine>, NoMemory>
+    ensures { IfOk result (λ r. option_map line_of r ≡ instruction cond (line_of line) (part_of (Part.Other word place) ∷ rest row)) }
+{
+    let begun = bare(alloc, cond, word, place)?;
+    let Some(instr) = operands(alloc, begun, row)? else {
+        return Ok(None);
+    };
+    Ok(Some(filled(line, place, DatBody::Instr(instr))))
+}
+
+// The line as an instruction under a condition, from the instruction's word on.
+fn with_instruction(
+    alloc: Global,
+    line: DatLine,
+    cond: u8,
+    first: Part,
+    row: Row,
+) -> Result<Option<DatLine>, NoMemory>
+    ensures { IfOk result (λ r. option_map line_of r ≡ instruction cond (line_of line) (part_of first ∷ rest row)) }
+{
+    match first {
+        Part::Jump(place) => with_jump(alloc, line, cond, place, row),
+        Part::Other(word, place) => with_word(alloc, line, cond, word, place, row),
+        other => {
+            drop(other);
+            drop(line);
+            Ok(None)
+        }
+    }
+}
+
+// The line as an instruction, from behind its condition on.
+fn with_condition(
+    alloc: Global,
+    line: DatLine,
+    cond: u8,
+    mut row: Row,
+) -> Result<Option<DatLine>, NoMemory>
+    ensures { IfOk result (λ r. option_map line_of r ≡ instruction cond (line_of line) (rest row)) }
+{
+    match row.next() {
+        None => {
+            drop(line);
+            Ok(None)
+        }
+        Some(first) => with_instruction(alloc, line, cond, first, row),
+    }
+}
+
+// The line with what stands behind its label, from this part on.
+fn body_from(
+    alloc: Global,
+    line: DatLine,
+    first: Part,
+    row: Row,
+) -> Result<Option<DatLine>, NoMemory>
+    ensures { IfOk result (λ r. option_map line_of r ≡ body (line_of line) (part_of first ∷ rest row)) }
+{
+    match first {
+        Part::Size(size, place) => with_data(alloc, line, size, place, row),
+        Part::Org(place) => Ok(value(row).map(|v| filled(line, place, DatBody::Org(v)))),
+        Part::Res(place) => Ok(value(row).map(|v| filled(line, place, DatBody::Res(v)))),
+        Part::Fit(place) => Ok(value(row).map(|v| filled(line, place, DatBody::Fit(v)))),
+        Part::Condition(cond) => with_condition(alloc, line, cond, row),
+        other => with_instruction(alloc, line, 15, other, row),
+    }
+}
+
+// The line with what stands behind its label.
+fn body(alloc: Global, line: DatLine, mut row: Row) -> Result<Option<DatLine>, NoMemory>
+    ensures { IfOk result (λ r. option_map line_of r ≡ body (line_of line) (rest row)) }
+{
+    match row.next() {
+        None => Ok(Some(line)),
+        Some(first) => body_from(alloc, line, first, row),
+    }
+}
+
+// The line that begins with a local label, from behind its colon on.
+fn local_line(
+    alloc: Global,
+    place: Place,
+    colon: Place,
+    mut row: Row,
+) -> Result<Option<DatLine>, NoMemory>
+    ensures { IfOk result (λ r. option_map line_of r ≡ line place (part_of (Part.Colon colon) ∷ rest row)) }
+{
+    let Some(part) = row.next() else {
+        return Ok(None);
+    };
+    match part {
+        Part::Name(name, _) => {
+            let label = local(alloc, &name)?;
+            body(alloc, blank(place, Some(label)), row)
+        }
+        other => {
+            drop(other);
+            Ok(None)
+        }
+    }
+}
+
+// The line that begins with this part.
+fn line_from(
+    alloc: Global,
+    place: Place,
+    first: Part,
+    row: Row,
+) -> Result<Option<DatLine>, NoMemory>
+    ensures { IfOk result (λ r. option_map line_of r ≡ line place (part_of first ∷ rest row)) }
+{
+    match first {
+        Part::Name(name, _) => body(alloc, blank(place, Some(name)), row),
+        Part::Colon(colon) => local_line(alloc, place, colon, row),
+        other => body_from(alloc, blank(place, None), other, row),
+    }
+}
+
+/// Turns a row of pieces, which ends with its line's end, into the line of `DAT` that it is.
+pub fn dat_line(alloc: Global, pieces: Vec<Piece>) -> Result<DatRow, NoMemory>
+    ensures { IfOk result (λ r. outcome_of r ≡ line_of_row (pieces_of pieces.items)) }
+{
+    let Some(first) = pieces.first() else {
+        return Ok(DatRow::Unknown);
+    };
+    let place = place_of(first);
+    let mut row = Row::new(pieces);
+    let Some(part) = row.next() else {
+        return Ok(DatRow::Empty);
+    };
+    match line_from(alloc, place, part, row)? {
+        Some(line) => Ok(DatRow::Line(line)),
+        None => Ok(DatRow::Unknown),
+    }
+}
