@@ -1,0 +1,16 @@
+mod Pieces
+mod Following
+mod DeclarationWords
+mod Constants
+mod Variables
+mod Objects
+mod Methods
+mod DataWords
+mod Data
+mod Reading
+mod StatementPieces
+mod StatementRows
+mod StatementGoals
+mod Actions
+mod StatementLines
+mod StatementReads
