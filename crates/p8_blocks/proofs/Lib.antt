@@ -1,0 +1,4 @@
+pub mod Entering
+pub mod Stepping
+pub mod Reaching
+pub mod Finishing

@@ -1,0 +1,72 @@
+-- The tokens of a text from one on, and what lines lead to.
+use Rattle.std.proofs.Common.{◌≡◌, ◌∙◌, ℕ, zero, suc, ◌+◌, ◌<◌, ◌≤◌, ◌⊎◌, inl, inr, List, [], ◌∷◌, ◌++◌, Option, Some, None, refl, sym, ap, subst, length, map, drop, add-one, arith}
+use Rattle.std.specs.Prelude.{slice_get, unwrap_or}
+use Rattle.std.proofs.lemmas.Bool.{cases_lt}
+use Rattle.std.proofs.lemmas.List.{length-map}
+use Rattle.p8_tree.specs.declared.places.Place.{Place}
+use Rattle.p8_tree.specs.Sources.{Source}
+use Rattle.p8_lexer.specs.declared.word.Word.TheVariants as word_case
+use Rattle.p8_lexer.specs.declared.token.Token as lexer_token
+use Rattle.p8_lines.specs.Tokens.{LineToken, word, line_token, text_end, all_tokens, tokens_from}
+use Rattle.p8_blocks.specs.Files.{Position, at, start, blank, Goes, stay, go_on, Fails, AreBlocks, Parses, whole, fails, source, fault}
+use Rattle.p8_blocks.specs.Standing.{StandsFor, Starts, Continues, Reached}
+use Rattle.p8_blocks.specs.declared.first.First.{First}
+use Rattle.p8_blocks.specs.declared.growing.Growing.{Growing}
+
+some_same : {A : Type 0} {x y : A} → Some x ≡ Some y → x ≡ y
+some_same h = cc
+
+drop_mapped : {A B : Type 0} (f : A → B) (xs : List A) (i : ℕ) (x : A) (e : B) → slice_get xs i ≡ Some x → drop i (map f xs ++ e ∷ []) ≡ f x ∷ drop (suc i) (map f xs ++ e ∷ [])
+drop_mapped f [] i x e h = absurd cc
+drop_mapped f (y ∷ ys) zero x e h = ap (λ y. f y ∷ (map f ys ++ e ∷ [])) (some_same h)
+drop_mapped f (y ∷ ys) (suc i) x e h = drop_mapped f ys i x e h
+
+drop_all : {A : Type 0} (xs : List A) (e : A) → drop (length xs) (xs ++ e ∷ []) ≡ e ∷ []
+drop_all [] e = refl
+drop_all (x ∷ xs) e = drop_all xs e
+
+drop_more : {A : Type 0} (xs : List A) (e : A) → drop (suc (length xs)) (xs ++ e ∷ []) ≡ []
+drop_more [] e = refl
+drop_more (x ∷ xs) e = drop_more xs e
+
+pub one_token : (bytes : List ℕ) (tokens : List lexer_token.Token) (at : ℕ) (t : lexer_token.Token) → slice_get tokens at ≡ Some t → tokens_from bytes tokens at ≡ line_token bytes t ∷ tokens_from bytes tokens (at + 1)
+one_token bytes tokens at t h =
+    let f : lexer_token.Token → LineToken = line_token bytes in
+    drop_mapped f tokens at t (text_end (map f tokens)) h ∙ ap (λ n. f t ∷ tokens_from bytes tokens n) (sym (add-one at))
+
+pub starts : (bytes : List ℕ) (tokens : List lexer_token.Token) (at : ℕ) (b : Option Place) (t : lexer_token.Token) (first : First) → slice_get tokens at ≡ Some t → first.word ≡ word (line_token bytes t) → first.place ≡ (line_token bytes t).place → first.begin ≡ unwrap_or b first.place → Starts (tokens_from bytes tokens at) (tokens_from bytes tokens (at + 1)) b first
+starts bytes tokens at b t first h w p e = record {
+  token = line_token bytes t;
+  tokens = one_token bytes tokens at t h;
+  is = record { same_word = sym w; same_place = sym p; same_begin = ap (unwrap_or b) (sym p) ∙ sym e };
+}
+
+pub begun_reached : (bytes : List ℕ) (tokens : List lexer_token.Token) (file : Growing) → StandsFor start file → Reached (all_tokens bytes tokens) (tokens_from bytes tokens 0) file
+begun_reached bytes tokens file s = record { position = start; goes = stay; stands = s }
+
+pub more_reached : {ts us vs : List LineToken} {old new : Growing} (r : Reached ts us old) → Continues r.position us new vs → Reached ts vs new
+more_reached {ts} {us} {vs} {old} {new} r c = record { position = c.next; goes = go_on r.goes c.step; stands = c.stands }
+
+pub refused_there : {ts us : List LineToken} {file : Growing} (n : ℕ) (p : Place) (r : Reached ts us file) → Fails r.position us n p → Parses ts (fault n p)
+refused_there n p r f = fails r.goes f
+
+-- behind the last token
+ends : {ts : List LineToken} (us : List LineToken) {x : Position} (e : LineToken) (s : Source) → Goes start ts x us → us ≡ e ∷ [] → word e ≡ word_case.LineEnd → AreBlocks x.parts s → Parses ts (source s)
+ends {ts} us {x} e s g h w b = whole {x = at x.parts None} (go_on (subst (λ us. Goes start ts x us) h g) (blank w)) b
+
+pub all_reached : (bytes : List ℕ) (tokens : List lexer_token.Token) (at : ℕ) (s : Source) {file : Growing} (r : Reached (all_tokens bytes tokens) (tokens_from bytes tokens at) file) → length tokens ≤ at → at ≤ length tokens + 1 → AreBlocks r.position.parts s → Parses (all_tokens bytes tokens) (source s)
+all_reached bytes tokens at s r low high b = go (cases_lt (length tokens) at)
+  where
+    count : length (map (line_token bytes) tokens) ≡ length tokens
+    count = length-map tokens (line_token bytes)
+
+    go : (length tokens < at) ⊎ (at ≤ length tokens) → Parses (all_tokens bytes tokens) (source s)
+    go (inl lt) =
+        let n : at ≡ suc (length tokens) = omega (arith, lt, high) in
+        let h : tokens_from bytes tokens at ≡ [] = ap (λ n. tokens_from bytes tokens n) (n ∙ ap suc (sym count)) ∙ drop_more (map (line_token bytes) tokens) (text_end (map (line_token bytes) tokens)) in
+        whole (subst (λ us. Goes start (all_tokens bytes tokens) r.position us) h r.goes) b
+    go (inr le) =
+        let n : at ≡ length tokens = omega (arith, le, low) in
+        let e = text_end (map (line_token bytes) tokens) in
+        let h : tokens_from bytes tokens at ≡ e ∷ [] = ap (λ n. tokens_from bytes tokens n) (n ∙ sym count) ∙ drop_all (map (line_token bytes) tokens) e in
+        ends (tokens_from bytes tokens at) e s r.goes h refl b

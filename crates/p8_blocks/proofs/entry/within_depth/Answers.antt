@@ -1,0 +1,27 @@
+use Rattle.p8_lines.specs.Tokens.{tokens_from}
+use Rattle.p8_blocks.specs.Files.{at, method, Fails}
+use Rattle.std.proofs.Common.{◌∷◌}
+use Rattle.p8_blocks.specs.Standing.{TellsTooDeep}
+use Rattle.p8_blocks.proofs.Entering.{granted, denied, refused_weaker, numbered, loop_fails, deep_fails}
+use Rattle.p8_blocks.proofs.entry.within_depth.Goals as goal
+
+pub returns-then-has_no_loop-clause-refused : goal.returns-then-has_no_loop-clause-refused
+returns-then-has_no_loop-clause-refused c = λ b m ls ps s h e.
+    numbered c.number.ensures (loop_fails s m ls ps c.args.state (e s.token s.is.same_word s.is.same_place) (granted c.if-has_no_loop.true (c.has_no_loop.ensures ls s.token h s.is.same_word s.is.same_place)))
+
+pub returns-then-is_too_deep-clause-refused : goal.returns-then-is_too_deep-clause-refused
+returns-then-is_too_deep-clause-refused c = λ b m ls ps s h e.
+    let ts = tokens_from c.args.bytes.now c.args.tokens.now c.args.at in
+    let q = c.args.state in
+    let w = s.is.same_word in
+    let p = s.is.same_place in
+    refused_weaker (λ f. TellsTooDeep q ts c.args.first.begin f.number f.place) (λ f. Fails (at (method m ls ∷ ps) b) ts f.number f.place)
+    (λ f. deep_fails s m ls ps q f.number f.place (e s.token w p) (denied c.if-has_no_loop.false (c.has_no_loop.ensures ls s.token h w p)) (granted c.if-is_too_deep.true (c.is_too_deep.ensures ls s.token h w p)))
+    c.too_deep.result c.too_deep.ensures
+
+pub returns-else-is_too_deep-clause-read : goal.returns-else-is_too_deep-clause-read
+returns-else-is_too_deep-clause-read c = λ ls t h w p e. record {
+  enters = e;
+  loops = denied c.if-has_no_loop.false (c.has_no_loop.ensures ls t h w p);
+  shallow = denied c.if-is_too_deep.false (c.is_too_deep.ensures ls t h w p);
+}

@@ -1,0 +1,14 @@
+use Rattle.std.proofs.Common.{map, ◌++◌, ◌∷◌, ap}
+use Rattle.p8_tree.specs.Views.{child_of}
+use Rattle.p8_lines.specs.Tokens.{tokens_from}
+use Rattle.p8_blocks.specs.Files as files
+use Rattle.p8_blocks.specs.Files.{objects}
+use Rattle.p8_blocks.proofs.Stepping.{added, appended_view}
+use Rattle.p8_blocks.proofs.lines.more_objects.Goals as goal
+
+pub returns-clause-read : goal.returns-clause-read
+returns-clause-read c = λ ps.
+    let xs = c.args.items in
+    let ys = c.in_ok-more.more in
+    added (objects (map child_of xs) ∷ ps) ps (objects (map child_of xs ++ map child_of ys)) c.new.result (tokens_from c.args.bytes.now c.args.tokens.now) c.new.ensures.block c.new.ensures.begun c.new.ensures.end
+    (ap objects (appended_view child_of xs ys c.in_ok-appended.field-0 c.in_ok-appended.ensures)) (files.more_objects c.in_ok-more.ensures.read)

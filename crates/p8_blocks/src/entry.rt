@@ -1,0 +1,224 @@
+// Which lines may stand next in a method.
+ghost use Rattle.std.specs.Prelude.{◌≡◌, ◌<◌, ◌+◌, ◌∷◌, ◌↔◌, List, Option, IsTrue, IfOk, IfErr, false, length};
+ghost use Rattle.p8_tree.specs.declared.places.Place as tree_place;
+ghost use Rattle.p8_tree.specs.Sources.{MethodTree};
+ghost use Rattle.p8_grammar.specs.Lexemes.{in_method};
+ghost use Rattle.p8_columns.specs.Lines as lines;
+ghost use Rattle.p8_columns.specs.Taken.{HasTaken};
+ghost use Rattle.p8_expr.specs.Parsing.{IfRefused};
+ghost use Rattle.p8_lines.specs.Tokens.{LineToken, tokens_from, word};
+ghost use Rattle.p8_lexer.specs.declared.refusal.Refusal.TheVariants.{TooNested};
+ghost use Rattle.p8_lexer.specs.Refusals.{refusal_number};
+ghost use Rattle.p8_lines.specs.declared.state.State as line_state;
+ghost use Rattle.p8_lines.specs.Lines.{number_of, refused, Reads};
+ghost use Rattle.p8_rows.specs.Values.{begins_line};
+ghost use Rattle.p8_blocks.specs.Files.{Part, method, at as position, from, Enters, HasNoLoop, IsTooDeep, Fails, is_chain_word, is_loop_end_word};
+ghost use Rattle.p8_blocks.specs.Standing.{Inner, MayRead, TellsTooDeep, begins_entry, entry_of};
+
+use crate::first::First;
+use crate::words::{is_chain_word, is_loop_end_word, leaves_loop, opens};
+use p8_columns::{Blocks, Chain, Room};
+use p8_expr::{ParseFault, refusal_of};
+use p8_grammar::Setting;
+use p8_lexer::{Refusal, Tokens, Word};
+use p8_lines::State;
+use p8_rows::read_statement;
+use p8_tree::Place;
+use p8_words::Fail;
+use std::alloc::Global;
+
+/// How many blocks may be open, the method counted.
+pub const GREATEST_DEPTH: usize = 64;
+
+/// Where a line of a method is read from, or the number of the refusal of its first token.
+#[derive(Clone, Copy)]
+pub enum Entry {
+    From(State),
+    Barred(u8),
+}
+
+// The number of the refusal of a word that can't stand where it does in a method.
+fn number_of(word: Word) -> u8
+    ensures { result ≡ number_of in_method word }
+{
+    let refusal = refusal_of(Setting::Method, word).unwrap_or(Refusal::Unexpected);
+    refusal.number()
+}
+
+// An `ELSE` kind goes on with the chain at its column, unless that has its `ELSE`.
+fn chain_entry(blocks: &Blocks, first: First) -> Entry
+    requires { IsTrue (is_chain_word first.word) }
+    ensures begins { IsTrue (begins_entry (entry_of result)) }
+    ensures enters { (ls : List lines.Line) (t : LineToken) → HasTaken ls blocks.now → word t ≡ first.word → t.place ≡ first.place → Enters ls t (entry_of result) }
+{
+    match blocks.chain(first.place.column) {
+        Chain::Begun => Entry::From(State::ChainLine),
+        Chain::Ended => Entry::Barred(number_of(first.word)),
+        Chain::Missing => Entry::Barred(Refusal::BadIndent.number()),
+    }
+}
+
+// `WHILE` and `UNTIL` end the plain `REPEAT` at their column.
+fn loop_end_entry(blocks: &Blocks, first: First) -> Entry
+    requires { IsTrue (is_loop_end_word first.word) }
+    ensures begins { IsTrue (begins_entry (entry_of result)) }
+    ensures enters { (ls : List lines.Line) (t : LineToken) → HasTaken ls blocks.now → word t ≡ first.word → t.place ≡ first.place → Enters ls t (entry_of result) }
+{
+    if blocks.is_plain_loop(first.place.column) {
+        Entry::From(State::LoopEndLine)
+    } else {
+        let refusal = Refusal::BadIndent;
+        Entry::Barred(refusal.number())
+    }
+}
+
+// Any other line is a statement, or an item directly under a `CASE`, which takes nothing more after
+// its `OTHER`.
+fn room_entry(blocks: &Blocks, first: First) -> Entry
+    requires no_chain { is_chain_word first.word ≡ false }
+    requires no_loop_end { is_loop_end_word first.word ≡ false }
+    ensures begins { IsTrue (begins_entry (entry_of result)) }
+    ensures enters { (ls : List lines.Line) (t : LineToken) → HasTaken ls blocks.now → word t ≡ first.word → t.place ≡ first.place → Enters ls t (entry_of result) }
+{
+    match blocks.room(first.place.column) {
+        Room::Statement => Entry::From(State::Statement),
+        Room::Item => Entry::From(State::CaseItem),
+        Room::Nothing => Entry::Barred(number_of(first.word)),
+    }
+}
+
+/// Where a line that begins so is read from, after the lines that the blocks have taken.
+pub fn entry_at(blocks: &Blocks, first: First) -> Entry
+    ensures begins { IsTrue (begins_entry (entry_of result)) }
+    ensures enters { (ls : List lines.Line) (t : LineToken) → HasTaken ls blocks.now → word t ≡ first.word → t.place ≡ first.place → Enters ls t (entry_of result) }
+{
+    if is_chain_word(first.word) {
+        chain_entry(blocks, first)
+    } else if is_loop_end_word(first.word) {
+        loop_end_entry(blocks, first)
+    } else {
+        room_entry(blocks, first)
+    }
+}
+
+// Whether the line is `NEXT` or `QUIT`, and no `REPEAT` is open there.
+fn has_no_loop(blocks: &Blocks, first: First, state: State) -> bool
+    ensures { (ls : List lines.Line) (t : LineToken) → HasTaken ls blocks.now → word t ≡ first.word → t.place ≡ first.place → IsTrue result ↔ HasNoLoop ls state t }
+{
+    leaves_loop(state, first.word) && !blocks.is_in_loop(first.place.column)
+}
+
+// Whether the line would open one block too many.
+fn is_too_deep(blocks: &Blocks, first: First, state: State) -> bool
+    ensures { (ls : List lines.Line) (t : LineToken) → HasTaken ls blocks.now → word t ≡ first.word → t.place ≡ first.place → IsTrue result ↔ IsTooDeep ls state t }
+{
+    opens(state, first.word) && blocks.depth(first.place.column) >= GREATEST_DEPTH
+}
+
+// The refusal of a line that begins at a place and is too deep.
+fn too_nested(begin: Place) -> Fail<ParseFault>
+    ensures { IfRefused (λ f. (f.number ≡ refusal_number TooNested) × (f.place ≡ begin)) result }
+{
+    Fail::Refused(ParseFault {
+        number: Refusal::TooNested.number(),
+        place: begin,
+    })
+}
+
+// Whether two places are the same.
+fn is_same(one: Place, other: Place) -> bool
+    ensures { IsTrue result ↔ (one ≡ other) }
+{
+    one == other
+}
+
+// The refusal of a line that is too deep, begins at a place and is refused itself: its own, if that
+// stands there.
+fn first_refusal(fail: Fail<ParseFault>, begin: Place) -> Fail<ParseFault>
+    ensures { (q : line_state.State) (ts : List LineToken) → IfRefused (λ f. Reads q ts (refused f.number f.place)) fail → IfRefused (λ f. TellsTooDeep q ts begin f.number f.place) result }
+{
+    match fail {
+        Fail::Refused(fault) => {
+            if is_same(fault.place, begin) {
+                Fail::Refused(fault)
+            } else {
+                too_nested(begin)
+            }
+        }
+        Fail::NoMemory => Fail::NoMemory,
+    }
+}
+
+// The refusal of a line that is too deep and begins at a place.
+fn too_deep(
+    alloc: Global,
+    bytes: &[u8],
+    tokens: &Tokens,
+    at: usize,
+    state: State,
+    begin: Place,
+) -> Fail<ParseFault>
+    requires within { at < length tokens.now }
+    requires begins { IsTrue (begins_line state) }
+    ensures { IfRefused (λ f. TellsTooDeep state (tokens_from bytes.now tokens.now at) begin f.number f.place) result }
+{
+    match read_statement(alloc, bytes, tokens, at, state) {
+        Ok(read) => {
+            drop(read);
+            too_nested(begin)
+        }
+        Err(fail) => first_refusal(fail, begin),
+    }
+}
+
+// The state, unless the line is refused for the blocks that are open there.
+fn within_depth(
+    alloc: Global,
+    bytes: &[u8],
+    tokens: &Tokens,
+    at: usize,
+    first: First,
+    blocks: &Blocks,
+    state: State,
+) -> Result<State, Fail<ParseFault>>
+    requires within { at < length tokens.now }
+    requires begins { IsTrue (begins_line state) }
+    ensures same { IfOk result (λ q. q ≡ state) }
+    ensures read { (ls : List lines.Line) (t : LineToken) → HasTaken ls blocks.now → word t ≡ first.word → t.place ≡ first.place → Enters ls t (from state) → IfOk result (λ q. MayRead ls t q) }
+    ensures refused { (b : Option tree_place.Place) (m : MethodTree) (ls : List lines.Line) (ps : List Part) → Inner (tokens_from bytes.now tokens.now at) (tokens_from bytes.now tokens.now (at + 1)) b first → HasTaken ls blocks.now → ((t : LineToken) → word t ≡ first.word → t.place ≡ first.place → Enters ls t (from state)) → IfErr result (IfRefused (λ f. Fails (position (method m ls ∷ ps) b) (tokens_from bytes.now tokens.now at) f.number f.place)) }
+{
+    if has_no_loop(blocks, first, state) {
+        Err(Fail::Refused(ParseFault {
+            number: Refusal::LoopWord.number(),
+            place: first.place,
+        }))
+    } else if is_too_deep(blocks, first, state) {
+        Err(too_deep(alloc, bytes, tokens, at, state, first.begin))
+    } else {
+        Ok(state)
+    }
+}
+
+/// The state that a line of a method is read from, unless the line is refused for the blocks that are
+/// open there.
+pub fn state_of_line(
+    alloc: Global,
+    bytes: &[u8],
+    tokens: &Tokens,
+    at: usize,
+    first: First,
+    blocks: &Blocks,
+) -> Result<State, Fail<ParseFault>>
+    requires { at < length tokens.now }
+    ensures begins { IfOk result (λ q. IsTrue (begins_line q)) }
+    ensures read { (ls : List lines.Line) (t : LineToken) → HasTaken ls blocks.now → word t ≡ first.word → t.place ≡ first.place → IfOk result (λ q. MayRead ls t q) }
+    ensures refused { (b : Option tree_place.Place) (m : MethodTree) (ls : List lines.Line) (ps : List Part) → Inner (tokens_from bytes.now tokens.now at) (tokens_from bytes.now tokens.now (at + 1)) b first → HasTaken ls blocks.now → IfErr result (IfRefused (λ f. Fails (position (method m ls ∷ ps) b) (tokens_from bytes.now tokens.now at) f.number f.place)) }
+{
+    match entry_at(blocks, first) {
+        Entry::From(state) => within_depth(alloc, bytes, tokens, at, first, blocks, state),
+        Entry::Barred(number) => Err(Fail::Refused(ParseFault {
+            number,
+            place: first.place,
+        })),
+    }
+}

@@ -1,0 +1,61 @@
+// The first token of a line.
+ghost use Rattle.std.specs.Prelude.{◌≡◌, ◌<◌, ◌+◌, ◌↔◌, IsTrue, MatchOption, Some, length, slice_get};
+ghost use Rattle.p8_lexer.specs.declared.word.Word.TheVariants as word_case;
+ghost use Rattle.p8_lines.specs.Tokens.{tokens_from};
+ghost use Rattle.p8_blocks.specs.Standing.{IsHeadAt, Starts, word_of_head};
+
+use crate::words::{Head, head_of};
+use p8_expr::place_of;
+use p8_lexer::{Token, Tokens, Word, word_of};
+use p8_tree::Place;
+
+/// What is known of the first token of a line.
+#[derive(Clone, Copy)]
+pub struct First {
+    pub word: Word,
+    pub place: Place,
+    /// Where the line begins. Behind the colon of a `CASE`'s item that is where the item begins.
+    pub begin: Place,
+}
+
+// The token of this number.
+fn token_at(tokens: &Tokens, at: usize) -> Token
+    requires { at < length tokens.now }
+    ensures { slice_get tokens.now at ≡ Some result }
+{
+    tokens.as_slice()[at]
+}
+
+impl First {
+    /// The first token of a line, of this number. `begun` is where the line begins, if not there.
+    pub fn at(bytes: &[u8], tokens: &Tokens, at: usize, begun: Option<Place>) -> First
+        requires { at < length tokens.now }
+        ensures { Starts (tokens_from bytes.now tokens.now at) (tokens_from bytes.now tokens.now (at + 1)) begun result }
+    {
+        let token = token_at(tokens, at);
+        let place = place_of(token.place);
+        First {
+            word: word_of(bytes, &token),
+            place,
+            begin: begun.unwrap_or(place),
+        }
+    }
+
+    /// Whether it is the end of a line.
+    pub fn is_line_end(self) -> bool
+        ensures { IsTrue result ↔ (self.word ≡ word_case.LineEnd) }
+    {
+        self.word == Word::LineEnd
+    }
+
+    /// The block that the line begins.
+    pub fn head(self) -> Option<Head>
+        ensures { MatchOption result (¬ IsHeadAt self.word self.place) (λ h. (self.word ≡ word_of_head h) × (self.place.column ≡ 1)) }
+    {
+        if self.place.column == 1 {
+            head_of(self.word)
+        } else {
+            None
+        }
+    }
+}

@@ -1,0 +1,14 @@
+//! Files: from the tokens of a source to its tree, block by block and line by line.
+#![tactic(auto)]
+
+mod entry;
+mod first;
+mod growing;
+mod lines;
+mod parsing;
+#[cfg(test)]
+mod tests;
+mod words;
+
+pub use p8_expr::ParseFault;
+pub use parsing::parse;

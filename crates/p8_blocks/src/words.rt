@@ -1,0 +1,68 @@
+// Which words begin lines of which kinds.
+ghost use Rattle.std.specs.Prelude.{◌≡◌};
+ghost use Rattle.p8_blocks.specs.Files.{is_chain_word, is_loop_end_word, opens, leaves_loop};
+ghost use Rattle.p8_blocks.specs.Standing.{head_of};
+
+use p8_lexer::Word;
+use p8_lines::State;
+
+/// A word that begins a block where it stands in column 1.
+#[derive(Clone, Copy)]
+pub enum Head {
+    Con,
+    Var,
+    Obj,
+    Pub,
+    Pri,
+    Dat,
+}
+
+/// The word as one that begins a block.
+pub fn head_of(word: Word) -> Option<Head>
+    ensures { result ≡ head_of word }
+{
+    match word {
+        Word::Con => Some(Head::Con),
+        Word::Var => Some(Head::Var),
+        Word::Obj => Some(Head::Obj),
+        Word::Pub => Some(Head::Pub),
+        Word::Pri => Some(Head::Pri),
+        Word::Dat => Some(Head::Dat),
+        _ => None,
+    }
+}
+
+/// Whether the word goes on with an `IF` chain.
+pub fn is_chain_word(word: Word) -> bool
+    ensures { result ≡ is_chain_word word }
+{
+    matches!(word, Word::Else | Word::Elseif | Word::Elseifnot)
+}
+
+/// Whether the word ends a plain `REPEAT`.
+pub fn is_loop_end_word(word: Word) -> bool
+    ensures { result ≡ is_loop_end_word word }
+{
+    matches!(word, Word::While | Word::Until)
+}
+
+/// Whether a line that is read from this state and begins with this word opens a block.
+pub fn opens(state: State, word: Word) -> bool
+    ensures { result ≡ opens state word }
+{
+    match state {
+        State::Statement => matches!(word, Word::If | Word::Ifnot | Word::Case | Word::Repeat),
+        State::CaseItem => true,
+        _ => false,
+    }
+}
+
+/// Whether such a line is `NEXT` or `QUIT`.
+pub fn leaves_loop(state: State, word: Word) -> bool
+    ensures { result ≡ leaves_loop state word }
+{
+    match state {
+        State::Statement => matches!(word, Word::Next | Word::Quit),
+        _ => false,
+    }
+}
