@@ -1,0 +1,4 @@
+pub mod Words
+pub mod WordCuts
+pub mod Runs
+pub mod Lines
