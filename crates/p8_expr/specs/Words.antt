@@ -11,7 +11,7 @@ use Rattle.p8_lexer.specs.declared.word.Word.{Word}
 use Rattle.p8_lexer.specs.declared.word.Word.TheVariants as word
 use Rattle.p8_lexer.specs.Characters.{characters}
 use Rattle.p8_lexer.specs.Words.{capital, word_of}
-use Rattle.p8_grammar.specs.Lexemes.{pins, input_pins, input, assembly, left_parenthesis, right_parenthesis, left_bracket, right_bracket, comma, colon, dot, dot_dot, hash, backslash, Lexeme, number, name, method_result, string, mark, prefix_word, infix_word, sign, assigns, changes, address, object_address, size, register, here, string_word, constant_word, look, value, built_in, other, Token, token}
+use Rattle.p8_grammar.specs.Lexemes.{pins, input_pins, input, assembly, left_parenthesis, right_parenthesis, left_bracket, right_bracket, comma, colon, dot, dot_dot, hash, backslash, equal, Lexeme, number, name, method_result, string, mark, prefix_word, infix_word, sign, assigns, changes, address, object_address, size, register, here, string_word, constant_word, look, value, built_in, other, Token, token}
 
 -- what a symbol or a reserved word is to an expression
 unfoldable pub lexeme_of_word : Word → Lexeme
@@ -94,6 +94,7 @@ lexeme_of_word word.Dot = mark dot
 lexeme_of_word word.DotDot = mark dot_dot
 lexeme_of_word word.Hash = mark hash
 lexeme_of_word word.Backslash = mark backslash
+lexeme_of_word word.EqualSign = mark equal
 -- variables
 lexeme_of_word word.Result = method_result
 lexeme_of_word word.ByteSize = size 1

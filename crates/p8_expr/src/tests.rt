@@ -262,6 +262,20 @@ fn reads_operators_by_their_levels(rt: HostRuntime) -> Result<(), AllocError> {
             "5: assign 0 A@1:1@1:3 assign 0 B@1:6@1:8 C@1:11@1:11",
         ),
         ("(a) b", "3: A@1:2@1:2"),
+        ("a = b", "1: A@1:1@1:1"),
+        ("a AND = b", "4: assign F0 A@1:1@1:3 B@1:9@1:9"),
+        (
+            "result and=not 256",
+            "5: assign F0 RESULT@1:1@1:8 FF@1:12 256@1:16",
+        ),
+        (
+            "x := v OR= 1",
+            "6: assign 0 X@1:1@1:3 assign F2 V@1:6@1:8 1@1:12",
+        ),
+        (
+            "a[i] or b == c",
+            "8: F2@1:6 A[]@1:1@1:1 I@1:3@1:3 FC@1:11 B@1:9@1:9 C@1:14@1:14",
+        ),
     ];
     for (text, wanted) in table {
         let found = answer(&rt, Setting::Method, text)?;
@@ -327,6 +341,13 @@ fn tells_refusals(rt: HostRuntime) -> Result<(), AllocError> {
         ("string(\"\")", "1:8: 6 Unexpected"),
         ("a +", "1:3: 6 Unexpected"),
         ("a +\n", "1:4: 6 Unexpected"),
+        ("a and", "1:3: 6 Unexpected"),
+        ("a + b AND = c", "1:11: 6 Unexpected"),
+        ("-a AND = b", "1:8: 6 Unexpected"),
+        ("(a) AND = b", "1:9: 6 Unexpected"),
+        ("1 AND = 2", "1:7: 6 Unexpected"),
+        ("ina and = 2", "1:9: 6 Unexpected"),
+        ("a & = b", "1:5: 6 Unexpected"),
         ("(", "1:1: 6 Unexpected"),
         ("cogstop(1)", "1:1: 6 Unexpected"),
         ("a := waitcnt(1)", "1:6: 6 Unexpected"),

@@ -96,6 +96,7 @@ fn lexeme_of_word(word: Word) -> Lexeme
         Word::DotDot => Lexeme::Mark(Mark::DotDot),
         Word::Hash => Lexeme::Mark(Mark::Hash),
         Word::Backslash => Lexeme::Mark(Mark::Backslash),
+        Word::EqualSign => Lexeme::Mark(Mark::Equal),
         // Variables.
         Word::Result => Lexeme::Term(Term::MethodResult),
         Word::ByteSize => Lexeme::Term(Term::Size(1)),

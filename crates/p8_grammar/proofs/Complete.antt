@@ -1,14 +1,15 @@
 -- The reader reads what the grammar spells.
-use Rattle.std.proofs.Common.{◌≡◌, ℕ, suc, ◌+◌, ◌*◌, ◌<◌, ◌≤◌, List, [], ◌∷◌, ◌++◌, Option, Some, None, refl, ap, ◌∙◌, arith}
-use Rattle.std.specs.Prelude.{option_and_then}
+use Rattle.std.proofs.Common.{◌≡◌, ℕ, zero, suc, ◌+◌, ◌*◌, ◌<◌, ◌≤◌, List, [], ◌∷◌, ◌++◌, Option, Some, None, refl, ap, ◌∙◌, arith}
+use Rattle.std.specs.Prelude.{option_and_then, IsTrue, nat_lt, Bool, true, false, ◌&&◌}
 use Rattle.std.proofs.lemmas.Bool.{lt-ltb}
 use Rattle.p8_tree.specs.declared.places.Place.{Place}
 use Rattle.p8_tree.specs.Expressions.{Tree, Variable}
-use Rattle.p8_grammar.specs.Lexemes.{Setting, inside, Mark, left_parenthesis, right_parenthesis, left_bracket, right_bracket, comma, colon, dot, dot_dot, hash, backslash, Lexeme, mark, prefix_word, infix_word, sign, assigns, object_address, Token, token}
-use Rattle.p8_grammar.specs.Grammar.{word, upto, Row, Prefix, rank, prefix_of, infix_of, Reads, operand, before, between, assigned, Spells, nothing, a_word, an_expression}
-use Rattle.p8_grammar.specs.Machine.{reading, Shape, using, string_read, Hole, Next, stays, opens, tree, target, on_close, close, fresh, Frame, prefix_frame, infix_frame, assign_frame, inside_frame, bar_of, reduce, State, state, entered, entered_all, shut, prefixed, operate, assign, beyond, go_on, step, walk, all_of, accepted, accept, start}
+use Rattle.p8_grammar.specs.Lexemes.{Setting, inside, Mark, left_parenthesis, right_parenthesis, left_bracket, right_bracket, comma, colon, dot, dot_dot, hash, backslash, equal, Lexeme, mark, prefix_word, infix_word, sign, assigns, object_address, Token, token}
+use Rattle.p8_grammar.specs.Grammar.{word, upto, Row, Prefix, rank, prefix_of, infix_of, Reads, operand, before, between, assigned, assigned_by_word, is_boolean, Spells, nothing, a_word, an_expression}
+use Rattle.p8_grammar.specs.Machine.{reading, Shape, using, string_read, Hole, Next, stays, opens, tree, target, on_close, close, fresh, Frame, prefix_frame, infix_frame, assign_frame, inside_frame, bar_of, reduce, State, state, joined, entered, entered_all, shut, prefixed, operate, join, assign, beyond, go_on, step, walk, all_of, accepted, accept, start}
 use Rattle.p8_grammar.proofs.Walks.{goes_on, one_step, steps_on, kept, wraps}
 use Rattle.p8_grammar.proofs.FormsRead.{fed, run, variables_run, forms_run, written_target}
+use Rattle.p8_grammar.proofs.Joins.{join_on, join_off, joins, joined_walk}
 
 -- the walk has read an operand, and has what it would have with e
 pub record Arrives (s : Setting) (l : ℕ) (e : Tree) (k : List Frame) (o : Option State) : Type 0 where
@@ -28,13 +29,35 @@ prefix_step s k p x o h lt = first x h ∙ rw (lt-ltb (2 * rank o + 1) (bar_of k
     first object_address h = ap (λ o. prefixed s o p k) h
     first x h = absurd cc
 
-pub infix_step : (s : Setting) (sh : Shape) (k : List Frame) (p : Place) (x : Lexeme) (top : Tree) (r c : ℕ) → infix_of x ≡ Some (suc r, c) → tree sh ≡ Some top → step (state s sh k) (token p x) ≡ operate s (Some (suc r, c)) p top k
-infix_step s sh k p (infix_word r' c') top r c h t = ap (λ o. beyond o s sh k p (infix_word r' c')) t ∙ ap (λ o. operate s o p top k) h
-infix_step s sh k p (sign c' j) top r c h t = ap (λ o. beyond o s sh k p (sign c' j)) t ∙ ap (λ o. operate s o p top k) h
-infix_step s sh k p x top r c h t = absurd cc
-
 pub operates : (s : Setting) (p : Place) (e : Tree) (k : List Frame) (r c : ℕ) → r < 11 → operate s (Some (suc r, c)) p e k ≡ Some (state s fresh (infix_frame r c p (reduce (2 * suc r) e k).0 ∷ (reduce (2 * suc r) e k).1))
 operates s p e k r c lt = rw (lt-ltb r 11 lt) refl
+
+-- an operator between operands, and its right operand
+pub infix_walk : (s : Setting) (sh : Shape) (k : List Frame) (p : Place) (x : Lexeme) (top : Tree) (r c : ℕ) (us : List Token) (s' : Setting) (sh' : Shape) (k' : List Frame) (top' : Tree) → infix_of x ≡ Some (suc r, c) → tree sh ≡ Some top → r < 11 → tree sh' ≡ Some top' → walk (state s fresh (infix_frame r c p (reduce (2 * suc r) top k).0 ∷ (reduce (2 * suc r) top k).1)) us ≡ Some (state s' sh' k') → walk (state s sh k) (token p x ∷ us) ≡ Some (state s' sh' k')
+infix_walk s sh k p (infix_word r' c') top r c us s' sh' k' top' h t lt t' is = by_target (target sh) refl
+  where
+    first : step (state s sh k) (token p (infix_word r' c')) ≡ join s (target sh) (Some (suc r, c)) p top k
+    first = ap (λ o. beyond o s sh k p (infix_word r' c')) t ∙ ap (λ o. join s (target sh) o p top k) h
+
+    operated : join s (target sh) (Some (suc r, c)) p top k ≡ operate s (Some (suc r, c)) p top k → walk (state s sh k) (token p (infix_word r' c') ∷ us) ≡ Some (state s' sh' k')
+    operated e = steps_on (state s sh k) (state s fresh (infix_frame r c p (reduce (2 * suc r) top k).0 ∷ (reduce (2 * suc r) top k).1)) (token p (infix_word r' c')) us (first ∙ e ∙ operates s p top k r c lt) ∙ is
+
+    by_test : (b : Bool) (v : Variable) → (is_boolean (suc r) && nat_lt 21 (bar_of k)) ≡ b → target sh ≡ Some v → walk (state s sh k) (token p (infix_word r' c') ∷ us) ≡ Some (state s' sh' k')
+    by_test false v e w = operated (join_off s (target sh) (suc r) c p top k e)
+    by_test true v e w = steps_on (state s sh k) (joined s r c p v k) (token p (infix_word r' c')) us (first ∙ ap (λ x. join s x (Some (suc r, c)) p top k) w ∙ join_on s v r c p top k e) ∙ joined_walk s sh k p r c top v us s' sh' k' top' t w e t' is
+
+    by_target : (o : Option Variable) → target sh ≡ o → walk (state s sh k) (token p (infix_word r' c') ∷ us) ≡ Some (state s' sh' k')
+    by_target None w = operated (ap (λ x. join s x (Some (suc r, c)) p top k) w)
+    by_target (Some v) w = by_test (is_boolean (suc r) && nat_lt 21 (bar_of k)) v refl w
+infix_walk s sh k p (sign b j) top r c us s' sh' k' top' h t lt t' is =
+    steps_on (state s sh k) (state s fresh (infix_frame r c p (reduce (2 * suc r) top k).0 ∷ (reduce (2 * suc r) top k).1)) (token p (sign b j)) us (ap (λ o. beyond o s sh k p (sign b j)) t ∙ ap (λ o. operate s o p top k) h ∙ operates s p top k r c lt) ∙ is
+infix_walk s sh k p x top r c us s' sh' k' top' h t lt t' is = absurd cc
+
+-- an assignment by AND or OR
+word_assigns : (s : Setting) (sh : Shape) (k : List Frame) (p q : Place) (r c : ℕ) (top : Tree) (v : Variable) (us : List Token) → tree sh ≡ Some top → target sh ≡ Some v → IsTrue (is_boolean r) → 21 < bar_of k → walk (state s sh k) (token p (infix_word r c) ∷ token q (mark equal) ∷ us) ≡ walk (state s fresh (assign_frame (Some c) p v ∷ k)) us
+word_assigns s sh k p q zero c top v us t w b lt = absurd cc
+word_assigns s sh k p q (suc r) c top v us t w b lt =
+    steps_on (state s sh k) (joined s r c p v k) (token p (infix_word (suc r) c)) (token q (mark equal) ∷ us) (joins s sh k p r c top v t w b lt)
 
 -- no form goes on where an expression ends
 on_close_none : (sh : Shape) (top : Tree) → tree sh ≡ Some top → on_close sh ≡ None
@@ -54,6 +77,7 @@ mark_step s s' sh k p left_bracket h e top n t c = absurd cc
 mark_step s s' sh k p dot h e top n t c = absurd cc
 mark_step s s' sh k p hash h e top n t c = absurd cc
 mark_step s s' sh k p backslash h e top n t c = absurd cc
+mark_step s s' sh k p equal h e top n t c = absurd cc
 
 pub assign_step : (s : Setting) (sh : Shape) (k : List Frame) (p : Place) (o : Option ℕ) (top : Tree) (v : Variable) → tree sh ≡ Some top → target sh ≡ Some v → 21 < bar_of k → step (state s sh k) (token p (assigns o)) ≡ Some (state s fresh (assign_frame o p v ∷ k))
 assign_step s sh k p o top v t w lt =
@@ -85,8 +109,7 @@ mutual
         frames = z.frames;
         top = z.top;
         is = goes_on (state s fresh k) (state s y.sh y.frames) ts (token p x ∷ us) y.is
-            ∙ steps_on (state s y.sh y.frames) (state s fresh (infix_frame r c p a ∷ k)) (token p x) us (infix_step s y.sh y.frames p x y.top r c h y.whole ∙ operates s p y.top y.frames r c (omega arith) ∙ ap (λ q. Some (state s fresh (infix_frame r c p q.0 ∷ q.1))) (y.same (suc r) (omega arith) ∙ kept (2 * suc r) a k (omega arith)))
-            ∙ z.is;
+            ∙ infix_walk s y.sh y.frames p x y.top r c us s z.sh z.frames z.top h y.whole (omega arith) z.whole (ap (λ q. walk (state s fresh (infix_frame r c p q.0 ∷ q.1)) us) (y.same (suc r) (omega arith) ∙ kept (2 * suc r) a k (omega arith)) ∙ z.is);
         whole = z.whole;
         same = λ i hi. z.same i (omega arith) ∙ wraps (2 * i) b (infix_frame r c p a) k (omega arith);
       }
@@ -102,6 +125,19 @@ mutual
             ∙ a.is;
         whole = a.whole;
         same = λ i hi. a.same i (omega arith) ∙ wraps (2 * i) e (assign_frame o p v) k (omega arith);
+      }
+  arrives {s = s} (assigned_by_word {k = c} {p = p} {v = v} {e = e} {ts = ts} {us = us} x r q le w b y sp rd) small k lt =
+      let z = variables_run y reading refl refl in
+      let a = arrives rd (omega arith) (assign_frame (Some c) p v ∷ k) (omega arith) in
+      record {
+        sh = a.sh;
+        frames = a.frames;
+        top = a.top;
+        is = goes_on (state s fresh k) (state s z.sh k) ts (token p (infix_word r c) ∷ token q (mark equal) ∷ us) (spelled sp (stays z.sh) z.is k)
+            ∙ word_assigns s z.sh k p q r c _ v us z.whole (written_target x v z.sh w z.written) b (omega arith)
+            ∙ a.is;
+        whole = a.whole;
+        same = λ i hi. a.same i (omega arith) ∙ wraps (2 * i) e (assign_frame (Some c) p v) k (omega arith);
       }
 
   pub spelled : {s : Setting} {row : Row} {ts : List Token} → Spells s row ts → (n : Next) → run s row ≡ Some n → (k : List Frame) → walk (state s fresh k) ts ≡ Some (entered s k n)

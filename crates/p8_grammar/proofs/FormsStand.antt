@@ -3,7 +3,7 @@ use Rattle.std.proofs.Common.{◌≡◌, ℕ, List, [], ◌∷◌, Option, Some,
 use Rattle.std.specs.Prelude.{IsTrue, if◌then◌else◌, ◌&&◌}
 use Rattle.p8_tree.specs.declared.places.Place.{Place}
 use Rattle.p8_tree.specs.Expressions.{Tree, node, Number, Here, Built, Variable, Index, Trees, no_trees, ◌▷◌, Items}
-use Rattle.p8_grammar.specs.Lexemes.{Setting, allows_index, is_dat, Access, memory, pins, input_pins, input, assembly, is_written, has_bits, is_in, Mark, left_parenthesis, right_parenthesis, left_bracket, right_bracket, comma, colon, dot, dot_dot, hash, backslash, Lexeme, number, name, method_result, string, mark, prefix_word, infix_word, sign, assigns, changes, address, object_address, size, register, here, string_word, constant_word, look, value, built_in, other}
+use Rattle.p8_grammar.specs.Lexemes.{Setting, allows_index, is_dat, Access, memory, pins, input_pins, input, assembly, is_written, has_bits, is_in, Mark, left_parenthesis, right_parenthesis, left_bracket, right_bracket, comma, colon, dot, dot_dot, hash, backslash, equal, Lexeme, number, name, method_result, string, mark, prefix_word, infix_word, sign, assigns, changes, address, object_address, size, register, here, string_word, constant_word, look, value, built_in, other}
 use Rattle.p8_grammar.specs.Grammar.{word, upto, Row, begin, ◌▹◌, Names, plain_name, result_word, local_label, Variables, named, indexed, part, part_indexed, memory_at, memory_indexed, register_whole, register_bit, register_bits, Head, calls, built, applied, Heads, trapped, of_object, of_element, of_built_in, Arguments, no_arguments, argument, Choices, no_choices, value_choice, range_choice, Forms, a_number, a_character, the_place, parentheses, variable, changed_before, changed_after, address_of, plain_call, bare_call, full_call, object_constant, a_value, a_string, a_constant, look_value, look_range}
 use Rattle.p8_grammar.specs.Machine as machine
 use Rattle.p8_grammar.specs.Machine.{Use, reading, addressing, changing, used, takes, Shape, using, coloned, sized, indexed_name, dotted, parted, memory_word, register_word, ready, trapping, trapped_name, trapped_element, object_dot, headed, hashed, string_begun, string_opened, string_read, constant_begun, look_begun, done, Hole, parenthesis, name_index, part_index, memory_address, memory_index, first_bit, last_bit, trapped_index, argument_of, constant_of, look_for, choice_of, choice_to, Next, stays, opens, only_if, tree, if_reading, target, at_fresh, begins, on_name, on_result, on_character, on_text, on_string, on_size, on_register, changed, on_change, on_parenthesis, on_bracket, on_dot, on_hash, on_colon, on_close, on_mark, grow, at_right_bracket, at_right_parenthesis, at_comma, at_colon, at_range, close}
@@ -266,6 +266,7 @@ mark_stands st p dot n' h = dot_stands st p n' h
 mark_stands st p dot_dot n' h = absurd cc
 mark_stands st p hash n' h = hash_stands st p n' h
 mark_stands st p backslash n' h = begins_stands st (mark backslash) p (stays trapping) n' h is_trapping
+mark_stands st p equal n' h = absurd cc
 
 here_stands : {s : Setting} {sh : Shape} {row : Row} → ShapeStands s sh row → (p : Place) (n' : Next) → (if is_dat s then begins sh (stays (done (node p Here))) else None) ≡ Some n' → NextStands s n' (row ▹ word p here)
 here_stands {s = s} {sh = sh} {row = row} st p n' h = go (is_dat s) refl h

@@ -2,6 +2,7 @@ pub mod Walks
 pub mod FormsRead
 pub mod Complete
 pub mod FormsStand
+pub mod Joins
 pub mod Sound
 pub mod Tall
 pub mod Live
@@ -11,4 +12,5 @@ pub mod Depths
 pub mod Measures
 pub mod Endings
 pub mod Readings
+pub mod Resolving
 pub mod Rows

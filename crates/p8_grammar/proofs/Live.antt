@@ -3,15 +3,15 @@ use Rattle.std.proofs.Common.{◌≡◌, ℕ, suc, ◌≤◌, max, List, [], ◌
 use Rattle.std.specs.Prelude.{Option, option_and_then}
 use Rattle.p8_tree.specs.declared.places.Place.{Place}
 use Rattle.p8_tree.specs.Expressions.{Tree, node, Number, Str, ObjConst, Built, Look, Named, Part, Memory, Register, index, bits, single, range, no_trees, ◌▷◌, no_items, ◌▸◌}
-use Rattle.p8_grammar.specs.Lexemes.{Setting, in_method, in_declaration, in_dat, in_data_item, memory, Mark, left_parenthesis, right_parenthesis, left_bracket, right_bracket, colon, dot, Lexeme, number, name, string, mark, size, Token, token}
+use Rattle.p8_grammar.specs.Lexemes.{Setting, in_method, in_declaration, in_dat, in_data_item, memory, Mark, left_parenthesis, right_parenthesis, left_bracket, right_bracket, colon, dot, equal, Lexeme, number, name, string, mark, size, Token, token}
 use Rattle.p8_grammar.specs.Grammar.{Row, Head, calls, built, applied, Reads, IsFront}
 use Rattle.p8_grammar.specs.Heights.{height, height_of_trees, IsTooHigh}
-use Rattle.p8_grammar.specs.Machine.{reading, addressing, changing, Shape, memory_word, named, parted, indexed_name, ready, trapped_name, trapped_element, headed, done, Hole, Next, stays, opens, choice_of, tree, close, Frame, wrap, inside_frame, reduce, State, state, entered, entered_all, shut, step, walk, all_of, accepted, accept, start}
+use Rattle.p8_grammar.specs.Machine.{reading, addressing, changing, Shape, memory_word, named, parted, indexed_name, ready, trapped_name, trapped_element, headed, done, Hole, Next, stays, opens, choice_of, tree, close, fresh, Frame, wrap, assign_frame, inside_frame, reduce, State, state, joined, entered, entered_all, shut, step, walk, all_of, accepted, accept, start}
 use Rattle.p8_grammar.specs.Least.{height_in_head, shape_least, filled, need, least}
 use Rattle.p8_grammar.proofs.Walks.{walk_append, goes_on, steps_on, wraps}
 use Rattle.p8_grammar.proofs.FormsStand.{ShapeStands, is_using, is_coloned, is_sized, is_plain, is_named, is_element, is_plain_dot, is_dotted, is_parted, is_memory, is_register, is_ready, is_trapping, is_trapped_name, is_trapped_element, is_object_dot, is_headed, is_hashed, is_string_begun, is_string_opened, is_string_read, is_constant_begun, is_look_begun, is_done, HoleStands, is_parenthesis, is_plain_index, is_name_index, is_part_index, is_memory_address, is_memory_index, is_first_bit, is_last_bit, is_trapped_index, is_argument, is_constant, is_look_for, is_choice, is_choice_to}
 use Rattle.p8_grammar.proofs.Complete.{mark_step, complete}
-use Rattle.p8_grammar.proofs.Sound.{Pending, nothing_pending, after_operator, in_hole, Stands, walk_stands, start_stands, sound}
+use Rattle.p8_grammar.proofs.Sound.{Pending, nothing_pending, after_operator, in_hole, Begun, Stands, walk_stands, start_stands, joint_assigns, sound}
 use Rattle.p8_grammar.proofs.Tall.{tree_least, need_le, need_wrap}
 
 somewhere : Place
@@ -172,8 +172,8 @@ ends (in_hole {s = s} {h = hole} {k = k} p stands sp) e s' sh k' x h r =
       low = omega (arith, y.low, need_le k (height f.top) (filled (height e) hole) (omega (arith, f.low, tree_least f.whole f.top f.has)));
     }
 
-ends_state : (s0 : Setting) (st : State) (ts : List Token) → Stands s0 st ts → EndsAt st (least st)
-ends_state s0 (state s sh k) ts b =
+ends_form : (s0 s : Setting) (sh : Shape) (k : List Frame) (ts : List Token) → Begun s0 s (stays sh) k ts → EndsAt (state s sh k) (need (shape_least sh) k)
+ends_form s0 s sh k ts b =
     let c = completed b.stands in
     let y = ends b.pending c.top s c.whole k c.top c.has refl in
     record {
@@ -185,6 +185,12 @@ ends_state s0 (state s sh k) ts b =
       accepts = y.accepts;
       low = omega (arith, y.low, need_le k (height c.top) (shape_least sh) (omega (arith, c.low, tree_least c.whole c.top c.has)));
     }
+
+ends_state : (s0 : Setting) (st : State) (ts : List Token) → Stands s0 st ts → EndsAt st (least st)
+ends_state s0 (state s sh k) ts b = ends_form s0 s sh k ts b
+ends_state s0 (joined s r c p v k) ts b =
+    let y = ends_form s0 s fresh (assign_frame (Some c) p v ∷ k) (ts ++ token somewhere (mark equal) ∷ []) (joint_assigns s0 s r c p v k ts somewhere b) in
+    record { rest = token somewhere (mark equal) ∷ y.rest; endings = another (a_mark equal) y.endings; end = y.end; top = y.top; is = y.is; accepts = y.accepts; low = y.low }
 
 -- an expression that goes on from what has been read, of the least height
 pub record GoesOn (s : Setting) (ts : List Token) (n : ℕ) : Type 0 where

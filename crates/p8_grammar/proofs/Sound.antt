@@ -1,13 +1,14 @@
 -- What the reader keeps stands for the tokens that it has read.
 use Rattle.std.proofs.Common.{◌≡◌, ℕ, zero, suc, ◌+◌, ◌*◌, ◌<◌, ◌≤◌, List, [], ◌∷◌, ◌++◌, Option, Some, None, Bool, true, false, refl, sym, ap, ◌∙◌, subst, arith, append_assoc, append-nil}
-use Rattle.std.specs.Prelude.{option_and_then, nat_le, nat_lt, if◌then◌else◌}
+use Rattle.std.specs.Prelude.{option_and_then, nat_le, nat_lt, if◌then◌else◌, IsTrue, ◌&&◌}
 use Rattle.std.proofs.lemmas.Bool.{leb-false, ltb-true, leb-true}
 use Rattle.p8_tree.specs.declared.places.Place.{Place}
 use Rattle.p8_tree.specs.Expressions.{Tree, Variable}
-use Rattle.p8_grammar.specs.Lexemes.{Setting, inside, Mark, Lexeme, mark, assigns, Token, token}
-use Rattle.p8_grammar.specs.Grammar.{word, upto, Row, begin, ◌▹◌, Prefix, rank, prefix_of, infix_of, Reads, operand, before, between, assigned, Spells, nothing, a_word, an_expression}
-use Rattle.p8_grammar.specs.Machine.{reading, addressing, changing, Shape, using, Hole, Next, stays, opens, tree, target, grow, close, fresh, Frame, prefix_frame, infix_frame, assign_frame, inside_frame, bar, bar_of, wrap, reduce, State, state, entered, entered_all, shut, prefixed, if_fresh, operate, assign, after, beyond, go_on, step, walk, all_of, accepted, accept, start}
+use Rattle.p8_grammar.specs.Lexemes.{Setting, inside, Access, is_written, Mark, equal, Lexeme, mark, infix_word, assigns, Token, token}
+use Rattle.p8_grammar.specs.Grammar.{word, upto, Row, begin, ◌▹◌, Prefix, rank, prefix_of, infix_of, is_boolean, Variables, variable, Reads, operand, before, between, assigned, assigned_by_word, Spells, nothing, a_word, an_expression}
+use Rattle.p8_grammar.specs.Machine.{reading, addressing, changing, used, Shape, using, Hole, Next, stays, opens, tree, target, grow, close, fresh, Frame, prefix_frame, infix_frame, assign_frame, inside_frame, bar, bar_of, wrap, reduce, State, state, joined, entered, entered_all, shut, prefixed, if_fresh, operate, join, assign, after, beyond, go_on, step, walk, all_of, accepted, accept, start}
 use Rattle.p8_grammar.proofs.FormsStand.{at_reading, ShapeStands, is_using, HoleStands, NextStands, tree_stands, target_stands, grow_stands, close_stands}
+use Rattle.p8_grammar.proofs.Joins.{first_true, second_true, boolean_most}
 
 -- these frames are what these tokens have begun
 pub data Pending (s0 : Setting) : Setting → List Frame → List Token → Type 0 where
@@ -34,14 +35,30 @@ pub record Begun (s0 s : Setting) (n : Next) (k : List Frame) (ts : List Token) 
   pub spells : Spells s row vs
   pub is : ts ≡ us ++ vs
 
+-- a variable with AND or OR behind it, and what was begun before them
+pub record Joint (s0 s : Setting) (r c : ℕ) (p : Place) (v : Variable) (k : List Frame) (ts : List Token) : Type 0 where
+  pub us : List Token
+  pub vs : List Token
+  pub row : Row
+  pub x : Access
+  pub pending : Pending s0 s k us
+  pub written : IsTrue (is_written x)
+  pub stands : Variables s begin x v row
+  pub spells : Spells s row vs
+  pub boolean : IsTrue (is_boolean (suc r))
+  pub below : 21 < bar_of k
+  pub is : ts ≡ us ++ (vs ++ token p (infix_word (suc r) c) ∷ [])
+
 abbrev pub Stands : Setting → State → List Token → Type 0
 Stands s0 (state s sh k) ts = Begun s0 s (stays sh) k ts
+Stands s0 (joined s r c p v k) ts = Joint s0 s r c p v k ts
 
 looser : {s : Setting} {l : ℕ} {e : Tree} {ts : List Token} → Reads s l e ts → (m : ℕ) → l ≤ m → Reads s m e ts
 looser (operand f sp) m le = operand f sp
 looser (before h b r) m le = before h (omega arith) r
 looser (between x h b ra rb) m le = between x h (omega arith) ra rb
 looser (assigned x b w v sp r) m le = assigned x (omega arith) w v sp r
+looser (assigned_by_word x c q b w y v sp r) m le = assigned_by_word x c q (omega arith) w y v sp r
 
 positive : (k : List Frame) → 0 < bar_of k
 positive [] = omega arith
@@ -165,6 +182,51 @@ assign_stands s0 s sh k ts p o st b (Some v) h e = go (nat_lt 21 (bar_of k)) ref
         (after_operator {f = assign_frame o p v} (b.vs ++ token p (assigns o) ∷ []) 21 b.pending (omega arith) (ltb-true _ _ c) (omega arith)
         (λ m e ws r lt. subst (Reads s 21 _) (sym (append_assoc b.vs (token p (assigns o) ∷ []) ws)) (assigned w.x (omega arith) w.written w.variable b.spells (looser r 21 (omega arith)))))))
 
+-- an operator that is a word
+join_stands : (s0 s : Setting) (sh : Shape) (k : List Frame) (e : Tree) (ts : List Token) (p : Place) (r c : ℕ) (st : State) → Begun s0 s (stays sh) k ts → tree sh ≡ Some e → (t : Option Variable) → target sh ≡ t → join s t (Some (r, c)) p e k ≡ Some st → Stands s0 st (ts ++ token p (infix_word r c) ∷ [])
+join_stands s0 s sh k e ts p r c st b h None t is = operate_stands s0 s k e ts p (infix_word r c) (Some (r, c)) st (whole_operand s0 s sh k ts e b h) refl is
+join_stands s0 s sh k e ts p zero c st b h (Some v) t is = absurd cc
+join_stands s0 s sh k e ts p (suc r) c st b h (Some v) t is = go (is_boolean (suc r) && nat_lt 21 (bar_of k)) refl is
+  where
+    go : (b' : Bool) → (is_boolean (suc r) && nat_lt 21 (bar_of k)) ≡ b' → (if b' then Some (joined s r c p v k) else operate s (Some (suc r, c)) p e k) ≡ Some st → Stands s0 st (ts ++ token p (infix_word (suc r) c) ∷ [])
+    go false y is = operate_stands s0 s k e ts p (infix_word (suc r) c) (Some (suc r, c)) st (whole_operand s0 s sh k ts e b h) refl is
+    go true y is =
+        let w = target_stands b.stands v t in
+        arrived s0 _ (joined s r c p v k) st is (record {
+          us = b.us;
+          vs = b.vs;
+          row = b.row;
+          x = w.x;
+          pending = b.pending;
+          written = w.written;
+          stands = w.variable;
+          spells = b.spells;
+          boolean = first_true (is_boolean (suc r)) (nat_lt 21 (bar_of k)) y;
+          below = ltb-true 21 (bar_of k) (second_true (is_boolean (suc r)) (nat_lt 21 (bar_of k)) y);
+          is = ap (λ l. l ++ token p (infix_word (suc r) c) ∷ []) b.is ∙ append_assoc b.us b.vs (token p (infix_word (suc r) c) ∷ []);
+        })
+
+-- the word is an operator
+joint_operates : (s0 s : Setting) (r c : ℕ) (p : Place) (v : Variable) (k : List Frame) (ts : List Token) → Joint s0 s r c p v k ts → Begun s0 s (stays fresh) (infix_frame r c p (used reading v) ∷ k) ts
+joint_operates s0 s r c p v k ts b =
+    let w = token p (infix_word (suc r) c) in
+    let most : suc r ≤ 10 = boolean_most (suc r) b.boolean in
+    let low = b.below in
+    subst (λ l. Begun s0 s (stays fresh) (infix_frame r c p (used reading v) ∷ k) l) (sym b.is)
+    (fresh_stands s0 s (infix_frame r c p (used reading v) ∷ k) (b.us ++ (b.vs ++ w ∷ []))
+    (after_operator {f = infix_frame r c p (used reading v)} (b.vs ++ w ∷ []) (2 * suc r) b.pending (omega arith) (omega (arith, most, low)) (omega (arith, most))
+    (λ m e ws rd lt. subst (Reads s (2 * suc r) _) (sym (append_assoc b.vs (w ∷ []) ws)) (between (infix_word (suc r) c) refl (omega arith) (operand (variable b.stands) b.spells) (looser rd (2 * r + 1) (omega arith))))))
+
+-- `=` makes it an assignment
+pub joint_assigns : (s0 s : Setting) (r c : ℕ) (p : Place) (v : Variable) (k : List Frame) (ts : List Token) (q : Place) → Joint s0 s r c p v k ts → Begun s0 s (stays fresh) (assign_frame (Some c) p v ∷ k) (ts ++ token q (mark equal) ∷ [])
+joint_assigns s0 s r c p v k ts q b =
+    let w = token p (infix_word (suc r) c) in
+    let z = token q (mark equal) in
+    subst (λ l. Begun s0 s (stays fresh) (assign_frame (Some c) p v ∷ k) l) (sym (ap (λ l. l ++ z ∷ []) b.is ∙ append_assoc b.us (b.vs ++ w ∷ []) (z ∷ []) ∙ ap (λ l. b.us ++ l) (append_assoc b.vs (w ∷ []) (z ∷ []))))
+    (fresh_stands s0 s (assign_frame (Some c) p v ∷ k) (b.us ++ (b.vs ++ w ∷ z ∷ []))
+    (after_operator {f = assign_frame (Some c) p v} (b.vs ++ w ∷ z ∷ []) 21 b.pending (omega arith) b.below (omega arith)
+    (λ m e ws rd lt. subst (Reads s 21 _) (sym (append_assoc b.vs (w ∷ z ∷ []) ws)) (assigned_by_word b.x (suc r) q (omega arith) b.written b.boolean b.stands b.spells (looser rd 21 (omega arith))))))
+
 -- a mark that ends an expression
 shut_stands : (s0 : Setting) (m : Mark) (p : Place) (k : List Frame) (s : Setting) (e : Tree) (ts : List Token) (st : State) → Operand s0 s 22 e k ts → shut m e k ≡ Some st → Stands s0 st (ts ++ token p (mark m) ∷ [])
 shut_stands s0 m p [] s e ts st o h = absurd cc
@@ -190,18 +252,25 @@ shut_stands s0 m p (inside_frame s' hole ∷ k) s e ts st o h = go o.pending o.r
 after_stands : (s0 s : Setting) (sh : Shape) (k : List Frame) (e : Tree) (ts : List Token) (p : Place) (x : Lexeme) (st : State) → Begun s0 s (stays sh) k ts → tree sh ≡ Some e → after s sh e k p x ≡ Some st → Stands s0 st (ts ++ token p x ∷ [])
 after_stands s0 s sh k e ts p (mark m) st b t h = shut_stands s0 m p (reduce 22 e k).1 s (reduce 22 e k).0 ts st (reduced 22 (omega arith) k 0 e ts (omega arith) (whole_operand s0 s sh k ts e b t)) h
 after_stands s0 s sh k e ts p (assigns o) st b t h = assign_stands s0 s sh k ts p o st b (target sh) refl h
+after_stands s0 s sh k e ts p (infix_word r c) st b t h = join_stands s0 s sh k e ts p r c st b t (target sh) refl h
 after_stands s0 s sh k e ts p x st b t h = operate_stands s0 s k e ts p x _ st (whole_operand s0 s sh k ts e b t) refl h
 
 beyond_stands : (s0 s : Setting) (sh : Shape) (k : List Frame) (ts : List Token) (p : Place) (x : Lexeme) (st : State) → Begun s0 s (stays sh) k ts → (o : Option Tree) → tree sh ≡ o → beyond o s sh k p x ≡ Some st → Stands s0 st (ts ++ token p x ∷ [])
 beyond_stands s0 s sh k ts p x st b None t h = fresh_only s0 s sh k ts p x st b h
 beyond_stands s0 s sh k ts p x st b (Some e) t h = after_stands s0 s sh k e ts p x st b t h
 
-pub step_stands : (s0 : Setting) (st : State) (t : Token) (ts : List Token) (st' : State) → Stands s0 st ts → step st t ≡ Some st' → Stands s0 st' (ts ++ t ∷ [])
-step_stands s0 (state s sh k) (token p x) ts st b h = go (grow s sh p x) refl h
+form_stands : (s0 s : Setting) (sh : Shape) (k : List Frame) (p : Place) (x : Lexeme) (ts : List Token) (st : State) → Begun s0 s (stays sh) k ts → go_on (grow s sh p x) s sh k p x ≡ Some st → Stands s0 st (ts ++ token p x ∷ [])
+form_stands s0 s sh k p x ts st b h = go (grow s sh p x) refl h
   where
     go : (o : Option Next) → grow s sh p x ≡ o → go_on o s sh k p x ≡ Some st → Stands s0 st (ts ++ token p x ∷ [])
     go (Some n) e h = grown s0 s sh k ts p x n st b e h
     go None e h = beyond_stands s0 s sh k ts p x st b (tree sh) refl h
+
+pub step_stands : (s0 : Setting) (st : State) (t : Token) (ts : List Token) (st' : State) → Stands s0 st ts → step st t ≡ Some st' → Stands s0 st' (ts ++ t ∷ [])
+step_stands s0 (state s sh k) (token p x) ts st b h = form_stands s0 s sh k p x ts st b h
+step_stands s0 (joined s r c p v k) (token q (mark equal)) ts st b h = arrived s0 (ts ++ token q (mark equal) ∷ []) (state s fresh (assign_frame (Some c) p v ∷ k)) st h (joint_assigns s0 s r c p v k ts q b)
+step_stands s0 (joined s r c p v k) (token q (mark m)) ts st b h = form_stands s0 s fresh (infix_frame r c p (used reading v) ∷ k) q (mark m) ts st (joint_operates s0 s r c p v k ts b) h
+step_stands s0 (joined s r c p v k) (token q x) ts st b h = form_stands s0 s fresh (infix_frame r c p (used reading v) ∷ k) q x ts st (joint_operates s0 s r c p v k ts b) h
 
 pub walk_stands : (s0 : Setting) (ts us : List Token) (st st' : State) → Stands s0 st us → walk st ts ≡ Some st' → Stands s0 st' (us ++ ts)
 walk_stands s0 [] us st st' x h = subst (λ l. Stands s0 st' l) (sym (append-nil us)) (arrived s0 us st st' h x)
@@ -225,6 +294,7 @@ all_read s0 s [] x e ts o h = go o.pending o.reads o.is
     go nothing_pending r is = subst (λ e. Reads s0 22 e ts) (same_tree x e h) (subst (Reads s0 22 x) (sym is) r)
 
 accept_reads : (s0 : Setting) (st : State) (ts : List Token) (e : Tree) → Stands s0 st ts → accept st ≡ Some e → Reads s0 22 e ts
+accept_reads s0 (joined s r c p v k) ts e b h = absurd cc
 accept_reads s0 (state s sh k) ts e b h = go (tree sh) refl h
   where
     go : (o : Option Tree) → tree sh ≡ o → accepted o k ≡ Some e → Reads s0 22 e ts

@@ -8,7 +8,7 @@ use Rattle.p8_tree.specs.declared.places.Place.{Place}
 use Rattle.p8_tree.specs.Expressions.{Tree, Variable}
 use Rattle.p8_grammar.specs.Lexemes.{Setting, inside, Mark, Lexeme, mark, prefix_word, infix_word, sign, assigns, object_address, token}
 use Rattle.p8_grammar.specs.Grammar.{at_object, unary}
-use Rattle.p8_grammar.specs.Machine.{reading, addressing, changing, Shape, using, Hole, Next, stays, opens, inside_frame, tree, target, grow, on_mark, fresh, Frame, bar, bar_of, wrap, reduce, State, state, entered, shut, if_fresh, operate, assign, beyond, go_on, step, all_of, accepted, accept}
+use Rattle.p8_grammar.specs.Machine.{reading, addressing, changing, Shape, using, Hole, Next, stays, opens, inside_frame, tree, target, grow, on_mark, fresh, Frame, bar, bar_of, wrap, reduce, State, state, entered, shut, if_fresh, operate, join, assign, beyond, go_on, step, all_of, accepted, accept}
 use Rattle.p8_grammar.specs.declared.lexemes.Term as term
 use Rattle.p8_grammar.specs.declared.lexemes.Term.TheVariants as term_case
 use Rattle.p8_grammar.specs.declared.taking.Taken as taken
@@ -16,9 +16,12 @@ use Rattle.p8_grammar.specs.declared.shapes.Shape as shape
 use Rattle.p8_grammar.specs.declared.shapes.Hole as hole
 use Rattle.p8_grammar.specs.declared.forms.Finished as finished
 use Rattle.p8_grammar.specs.declared.forms.Finished.TheVariants as finished_case
+use Rattle.p8_grammar.specs.declared.forms.Written as written
+use Rattle.p8_grammar.specs.declared.forms.Written.TheVariants as written_case
+use Rattle.p8_grammar.specs.declared.measured.TallTarget.{TallTarget}
 use Rattle.p8_grammar.specs.declared.shapes.Grown as grown
 use Rattle.p8_grammar.specs.declared.shapes.Grown.TheVariants as grown_case
-use Rattle.p8_grammar.specs.Views.{term_of, shape_of, hole_of, tree_in, Grows, IsWhole}
+use Rattle.p8_grammar.specs.Views.{term_of, shape_of, hole_of, target_of, tree_in, Grows, IsWhole, IsTarget}
 use Rattle.p8_grammar.specs.Levels.{Takes}
 use Rattle.p8_grammar.proofs.Walks.{wraps}
 
@@ -36,7 +39,7 @@ pub object_step : (s : Setting) (sh : Shape) (k : List Frame) (p : Place) → st
 object_step s (using u) k p = refl
 object_step s sh k p = refl
 
-pub infix_word_step : (s : Setting) (sh : Shape) (k : List Frame) (p : Place) (r c : ℕ) → step (state s sh k) (token p (infix_word r c)) ≡ option_and_then (λ e. operate s (Some (r, c)) p e k) (tree sh)
+pub infix_word_step : (s : Setting) (sh : Shape) (k : List Frame) (p : Place) (r c : ℕ) → step (state s sh k) (token p (infix_word r c)) ≡ option_and_then (λ e. join s (target sh) (Some (r, c)) p e k) (tree sh)
 infix_word_step s (using u) k p r c = no_prefix s (using u) p k
 infix_word_step s sh k p r c = refl
 
@@ -136,3 +139,10 @@ all e k h = sym (ap (λ k. all_of e k) h)
 pub whole_is : (sh : Shape) (w : finished.Finished) → IsWhole sh w → tree sh ≡ tree_in w
 whole_is sh (finished_case.Tree t) h = h
 whole_is sh (finished_case.Not x) h = h.0
+
+-- a variable that may be written, or none
+pub written_is : (sh : Shape) (w : written.Written) (v : TallTarget) → IsTarget sh w → w ≡ written_case.Variable v → target sh ≡ Some (target_of v)
+written_is sh w v h is = subst (λ w. IsTarget sh w) is h
+
+pub written_not : (sh : Shape) (w : written.Written) (x : shape.Shape) → IsTarget sh w → w ≡ written_case.Not x → (target sh ≡ None) × (shape_of x ≡ sh)
+written_not sh w x h is = subst (λ w. IsTarget sh w) is h

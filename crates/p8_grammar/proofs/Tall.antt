@@ -4,10 +4,10 @@ use Rattle.std.specs.Prelude.{option_and_then, nat_le, nat_lt, if◌then◌else�
 use Rattle.std.proofs.lemmas.Bool.{leb-true, ltb-true}
 use Rattle.p8_tree.specs.declared.places.Place.{Place}
 use Rattle.p8_tree.specs.Expressions.{Tree, node, Here, Variable, Memory, Register, no_index, whole, no_trees, ◌▷◌}
-use Rattle.p8_grammar.specs.Lexemes.{Setting, allows_index, is_dat, is_in, has_bits, Access, is_written, Mark, left_parenthesis, right_parenthesis, left_bracket, right_bracket, comma, colon, dot, dot_dot, hash, backslash, Lexeme, number, name, method_result, string, mark, prefix_word, infix_word, sign, assigns, changes, address, object_address, size, register, here, string_word, constant_word, look, value, built_in, other, Token, token}
-use Rattle.p8_grammar.specs.Grammar.{Head, calls, built, applied, Prefix, at_object, unary, rank, with_prefix, prefix_of, infix_of}
+use Rattle.p8_grammar.specs.Lexemes.{Setting, allows_index, is_dat, is_in, has_bits, Access, is_written, Mark, left_parenthesis, right_parenthesis, left_bracket, right_bracket, comma, colon, dot, dot_dot, hash, backslash, equal, Lexeme, number, name, method_result, string, mark, prefix_word, infix_word, sign, assigns, changes, address, object_address, size, register, here, string_word, constant_word, look, value, built_in, other, Token, token}
+use Rattle.p8_grammar.specs.Grammar.{Head, calls, built, applied, Prefix, at_object, unary, rank, with_prefix, prefix_of, infix_of, is_boolean}
 use Rattle.p8_grammar.specs.Heights.{height, height_in_variable, height_of_trees, IsTooHigh}
-use Rattle.p8_grammar.specs.Machine.{Use, reading, addressing, changing, used, takes, Shape, using, coloned, sized, named, indexed_name, dotted, parted, memory_word, register_word, ready, trapping, trapped_name, trapped_element, object_dot, headed, hashed, string_begun, string_opened, string_read, constant_begun, look_begun, done, Hole, parenthesis, name_index, part_index, memory_address, memory_index, first_bit, last_bit, trapped_index, argument_of, constant_of, look_for, choice_of, choice_to, Next, stays, opens, only_if, tree, if_reading, target, begins, on_name, on_result, on_string, on_size, on_register, changed, on_change, on_parenthesis, on_bracket, on_dot, on_hash, on_colon, on_close, on_mark, grow, at_right_bracket, at_right_parenthesis, at_comma, at_colon, at_range, close, fresh, Frame, prefix_frame, infix_frame, assign_frame, inside_frame, bar, bar_of, wrap, reduce, State, state, entered, entered_all, shut, prefixed, if_fresh, operate, assign, after, beyond, go_on, step, walk, all_of, accepted, accept, start}
+use Rattle.p8_grammar.specs.Machine.{Use, reading, addressing, changing, used, takes, Shape, using, coloned, sized, named, indexed_name, dotted, parted, memory_word, register_word, ready, trapping, trapped_name, trapped_element, object_dot, headed, hashed, string_begun, string_opened, string_read, constant_begun, look_begun, done, Hole, parenthesis, name_index, part_index, memory_address, memory_index, first_bit, last_bit, trapped_index, argument_of, constant_of, look_for, choice_of, choice_to, Next, stays, opens, only_if, tree, if_reading, target, begins, on_name, on_result, on_string, on_size, on_register, changed, on_change, on_parenthesis, on_bracket, on_dot, on_hash, on_colon, on_close, on_mark, grow, at_right_bracket, at_right_parenthesis, at_comma, at_colon, at_range, close, fresh, Frame, prefix_frame, infix_frame, assign_frame, inside_frame, bar, bar_of, wrap, reduce, State, state, joined, entered, entered_all, shut, prefixed, if_fresh, operate, join, assign, after, beyond, go_on, step, walk, all_of, accepted, accept, start}
 use Rattle.p8_grammar.specs.Least.{height_in_head, shape_least, filled, need, next_least, least}
 use Rattle.p8_grammar.proofs.Walks.{goes_on}
 use Rattle.p8_grammar.proofs.Complete.{complete}
@@ -197,6 +197,7 @@ mark_least s p dot sh = dot_least sh
 mark_least s p dot_dot sh = tt
 mark_least s p hash sh = hash_least sh
 mark_least s p backslash sh = begins_least sh _ (omega arith)
+mark_least s p equal sh = tt
 
 here_least : (s : Setting) (p : Place) (sh : Shape) → AtLeast (shape_least sh) (if is_dat s then begins sh (stays (done (node p Here))) else None)
 here_least s p sh = go (is_dat s)
@@ -376,13 +377,29 @@ assign_least s sh o p k = go (target sh) refl
     go None h = tt
     go (Some v) h = step_on v (nat_lt 21 (bar_of k)) h
 
+join_least : (s : Setting) (sh : Shape) (e : Tree) (k : List Frame) (p : Place) (r c : ℕ) → tree sh ≡ Some e → LeastFrom (need (shape_least sh) k) (join s (target sh) (Some (r, c)) p e k)
+join_least s sh e k p r c h = go (target sh) refl r
+  where
+    operates : (r : ℕ) → LeastFrom (need (shape_least sh) k) (operate s (Some (r, c)) p e k)
+    operates r = subst (λ l. LeastFrom (need l k) (operate s (Some (r, c)) p e k)) (sym (tree_least sh e h)) (operate_least s (Some (r, c)) p e k)
+
+    by_test : (v : Variable) (r : ℕ) (b : Bool) → target sh ≡ Some v → LeastFrom (need (shape_least sh) k) (if b then Some (joined s r c p v k) else operate s (Some (suc r, c)) p e k)
+    by_test v r true t = need_le k (shape_least sh) (suc (max (height_in_variable v) 1)) (omega (arith, target_least sh v t))
+    by_test v r false t = operates (suc r)
+
+    go : (t : Option Variable) → target sh ≡ t → (r : ℕ) → LeastFrom (need (shape_least sh) k) (join s t (Some (r, c)) p e k)
+    go None t r = operates r
+    go (Some v) t zero = tt
+    go (Some v) t (suc r) = by_test v r (is_boolean (suc r) && nat_lt 21 (bar_of k)) t
+
 after_least : (s : Setting) (sh : Shape) (e : Tree) (k : List Frame) (p : Place) (x : Lexeme) → tree sh ≡ Some e → LeastFrom (need (shape_least sh) k) (after s sh e k p x)
 after_least s sh e k p (mark m) h = subst (λ l. LeastFrom (need l k) (after s sh e k p (mark m))) (sym (tree_least sh e h)) (mark_from m e k)
 after_least s sh e k p (assigns o) h = assign_least s sh o p k
+after_least s sh e k p (infix_word r c) h = join_least s sh e k p r c h
 after_least s sh e k p x h = subst (λ l. LeastFrom (need l k) (after s sh e k p x)) (sym (tree_least sh e h)) (operate_least s (infix_of x) p e k)
 
-step_least : (st : State) (t : Token) → LeastFrom (least st) (step st t)
-step_least (state s sh k) (token p x) = go (grow s sh p x) (grow_least s sh p x)
+form_least : (s : Setting) (sh : Shape) (k : List Frame) (p : Place) (x : Lexeme) → LeastFrom (need (shape_least sh) k) (go_on (grow s sh p x) s sh k p x)
+form_least s sh k p x = go (grow s sh p x) (grow_least s sh p x)
   where
     beyond_least : (o : Option Tree) → tree sh ≡ o → LeastFrom (need (shape_least sh) k) (beyond o s sh k p x)
     beyond_least None h = fresh_least s sh (prefix_of x) p k
@@ -391,6 +408,20 @@ step_least (state s sh k) (token p x) = go (grow s sh p x) (grow_least s sh p x)
     go : (o : Option Next) → AtLeast (shape_least sh) o → LeastFrom (need (shape_least sh) k) (go_on o s sh k p x)
     go (Some n) a = omega (arith, entered_least s k n, need_le k (shape_least sh) (next_least n) a)
     go None a = beyond_least (tree sh) refl
+
+at_most_least : (l m : ℕ) (o : Option State) → l ≤ m → LeastFrom m o → LeastFrom l o
+at_most_least l m None le h = tt
+at_most_least l m (Some st) le h = omega (arith, le, h)
+
+operator_least : (s : Setting) (r c : ℕ) (p : Place) (v : Variable) (k : List Frame) (q : Place) (x : Lexeme) → LeastFrom (need (suc (max (height_in_variable v) 1)) k) (go_on (grow s fresh q x) s fresh (infix_frame r c p (used reading v) ∷ k) q x)
+operator_least s r c p v k q x =
+    at_most_least (need (suc (max (height_in_variable v) 1)) k) (need (suc (max (height (used reading v)) 1)) k) (go_on (grow s fresh q x) s fresh (infix_frame r c p (used reading v) ∷ k) q x) (need_le k (suc (max (height_in_variable v) 1)) (suc (max (height (used reading v)) 1)) (omega arith)) (form_least s fresh (infix_frame r c p (used reading v) ∷ k) q x)
+
+step_least : (st : State) (t : Token) → LeastFrom (least st) (step st t)
+step_least (state s sh k) (token p x) = form_least s sh k p x
+step_least (joined s r c p v k) (token q (mark equal)) = omega arith
+step_least (joined s r c p v k) (token q (mark m)) = operator_least s r c p v k q (mark m)
+step_least (joined s r c p v k) (token q x) = operator_least s r c p v k q x
 
 same_some : {x y : State} → Some x ≡ Some y → x ≡ y
 same_some h = cc
@@ -404,6 +435,7 @@ walk_least (t ∷ ts) st st' h = go (λ x h'. walk_least ts x st' h') (step st t
     go ih (Some x) a h = omega (arith, ih x h)
 
 pub accept_least : (st : State) (e : Tree) → accept st ≡ Some e → least st ≡ height e
+accept_least (joined s r c p v k) e h = absurd cc
 accept_least (state s sh k) e h = go (tree sh) refl h
   where
     all_least : (x : Tree) (k : List Frame) → all_of x k ≡ Some e → need (height x) k ≡ height e

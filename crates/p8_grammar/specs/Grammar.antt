@@ -3,10 +3,10 @@
 --
 -- A form is a row of parts: words, and whole expressions with the mark that ends each. Places are
 -- those by which refusals name a form.
-use Rattle.std.specs.Prelude.{◌≡◌, ℕ, ◌<◌, ◌≤◌, suc, ◌+◌, ◌*◌, Bool, true, false, IsTrue, Option, Some, None, List, [], ◌∷◌, ◌++◌, length, take}
+use Rattle.std.specs.Prelude.{◌≡◌, ℕ, ◌<◌, ◌≤◌, suc, ◌+◌, ◌*◌, nat_le, Bool, true, false, ◌&&◌, IsTrue, Option, Some, None, List, [], ◌∷◌, ◌++◌, length, take}
 use Rattle.p8_tree.specs.declared.places.Place.{Place}
 use Rattle.p8_tree.specs.Expressions.{Tree, node, Form, Number, Str, Here, Var, Call, Unary, Binary, Assign, Change, Address, ObjectAddress, ObjConst, Built, Look, Variable, Named, Part, Memory, Register, Index, no_index, index, whole, bits, single, range, Trees, no_trees, ◌▷◌, Items, no_items, ◌▸◌}
-use Rattle.p8_grammar.specs.Lexemes.{Setting, allows_index, is_dat, inside, Access, memory, is_written, has_bits, is_in, Mark, left_parenthesis, right_parenthesis, left_bracket, right_bracket, comma, colon, dot, dot_dot, hash, backslash, Lexeme, number, name, method_result, string, mark, prefix_word, infix_word, sign, assigns, changes, address, object_address, size, register, here, string_word, constant_word, look, value, built_in, Token, token}
+use Rattle.p8_grammar.specs.Lexemes.{Setting, allows_index, is_dat, inside, Access, memory, is_written, has_bits, is_in, Mark, left_parenthesis, right_parenthesis, left_bracket, right_bracket, comma, colon, dot, dot_dot, hash, backslash, equal, Lexeme, number, name, method_result, string, mark, prefix_word, infix_word, sign, assigns, changes, address, object_address, size, register, here, string_word, constant_word, look, value, built_in, Token, token}
 
 infixl 30 ◌▹◌
 -- a word, or an expression up to the mark that ends it
@@ -164,6 +164,11 @@ infix_of (infix_word r k) = Some (r, k)
 infix_of (sign k j) = Some (6, j)
 infix_of _ = None
 
+-- AND and OR, the operators between operands that are words: the `=` that makes them assignments is
+-- a token of its own
+abbrev pub is_boolean : ℕ → Bool
+is_boolean r = nat_le 9 r && nat_le r 10
+
 mutual
   -- these tokens spell this tree, at a place that takes a tree of at most this level
   pub data Reads : Setting → ℕ → Tree → List Token → Type 0 where
@@ -175,6 +180,8 @@ mutual
     between : {s : Setting} {l r k : ℕ} {p : Place} {a b : Tree} {ts us : List Token} (x : Lexeme) → infix_of x ≡ Some (suc r, k) → 2 * suc r ≤ l → Reads s (2 * suc r) a ts → Reads s (2 * r + 1) b us → Reads s l (node p (Binary k a b)) (ts ++ token p x ∷ us)
     -- an assignment: its right side may be one too
     assigned : {s : Setting} {l : ℕ} {o : Option ℕ} {p : Place} {v : Variable} {e : Tree} {row : Row} {ts us : List Token} (x : Access) → 21 ≤ l → IsTrue (is_written x) → Variables s begin x v row → Spells s row ts → Reads s 21 e us → Reads s l (node p (Assign v o e)) (ts ++ token p (assigns o) ∷ us)
+    -- an assignment by AND or OR
+    assigned_by_word : {s : Setting} {l k : ℕ} {p : Place} {v : Variable} {e : Tree} {row : Row} {ts us : List Token} (x : Access) (r : ℕ) (q : Place) → 21 ≤ l → IsTrue (is_written x) → IsTrue (is_boolean r) → Variables s begin x v row → Spells s row ts → Reads s 21 e us → Reads s l (node p (Assign v (Some k) e)) (ts ++ token p (infix_word r k) ∷ token q (mark equal) ∷ us)
 
   -- these tokens spell this row
   pub data Spells : Setting → Row → List Token → Type 0 where

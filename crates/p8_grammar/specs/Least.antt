@@ -2,7 +2,7 @@
 use Rattle.std.specs.Prelude.{ℕ, suc, ◌+◌, max, List, [], ◌∷◌}
 use Rattle.p8_grammar.specs.Grammar.{Head, calls, built}
 use Rattle.p8_grammar.specs.Heights.{height, height_in_variable, height_in_index, height_of_trees, height_of_items}
-use Rattle.p8_grammar.specs.Machine.{Shape, using, coloned, sized, named, indexed_name, dotted, parted, memory_word, register_word, ready, trapping, trapped_name, trapped_element, object_dot, headed, hashed, string_begun, string_opened, string_read, constant_begun, look_begun, done, Hole, parenthesis, name_index, part_index, memory_address, memory_index, first_bit, last_bit, trapped_index, argument_of, constant_of, look_for, choice_of, choice_to, Next, stays, opens, Frame, prefix_frame, infix_frame, assign_frame, inside_frame, State, state}
+use Rattle.p8_grammar.specs.Machine.{Shape, using, coloned, sized, named, indexed_name, dotted, parted, memory_word, register_word, ready, trapping, trapped_name, trapped_element, object_dot, headed, hashed, string_begun, string_opened, string_read, constant_begun, look_begun, done, Hole, parenthesis, name_index, part_index, memory_address, memory_index, first_bit, last_bit, trapped_index, argument_of, constant_of, look_for, choice_of, choice_to, Next, stays, opens, Frame, prefix_frame, infix_frame, assign_frame, inside_frame, State, state, joined}
 
 abbrev pub height_in_head : Head → ℕ
 height_in_head (calls t o i n q p) = height_in_index i
@@ -63,6 +63,8 @@ next_least (opens h) = filled 1 h
 
 abbrev pub least : State → ℕ
 least (state s sh k) = need (shape_least sh) k
+-- an assignment needs no more than an operator between operands
+least (joined s r c p v k) = need (suc (max (height_in_variable v) 1)) k
 
 -- What a frame does to the height h of what comes next: it makes it max of h and one number, and
 -- adds another. So a stack does too.

@@ -66,6 +66,7 @@ pub data Mark : Type 0 where
   dot_dot : Mark
   hash : Mark
   backslash : Mark
+  equal : Mark
 
 -- Numbers behind a word are its bytecode or effect byte, a size in bytes or a register's address.
 pub data Lexeme : Type 0 where

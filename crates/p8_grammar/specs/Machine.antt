@@ -2,8 +2,8 @@
 use Rattle.std.specs.Prelude.{ℕ, suc, zero, ◌+◌, ◌*◌, nat_lt, nat_le, if◌then◌else◌, Bool, true, false, ◌&&◌, Option, Some, None, option_and_then, List, [], ◌∷◌}
 use Rattle.p8_tree.specs.declared.places.Place.{Place}
 use Rattle.p8_tree.specs.Expressions.{Tree, node, Number, Str, Here, Var, Binary, Assign, Change, Address, ObjConst, Built, Look, Variable, Named, Part, Memory, Register, Index, no_index, index, whole, bits, single, range, Trees, no_trees, ◌▷◌, Items, no_items, ◌▸◌}
-use Rattle.p8_grammar.specs.Lexemes.{Setting, allows_index, is_dat, inside, Access, memory, is_written, has_bits, is_in, Mark, left_parenthesis, right_parenthesis, left_bracket, right_bracket, comma, colon, dot, dot_dot, hash, backslash, Lexeme, number, name, method_result, string, mark, prefix_word, infix_word, sign, assigns, changes, address, object_address, size, register, here, string_word, constant_word, look, value, built_in, other, Token, token}
-use Rattle.p8_grammar.specs.Grammar.{result_name, place_of, Head, calls, built, applied, Prefix, rank, with_prefix, prefix_of, infix_of}
+use Rattle.p8_grammar.specs.Lexemes.{Setting, allows_index, is_dat, inside, Access, memory, is_written, has_bits, is_in, Mark, left_parenthesis, right_parenthesis, left_bracket, right_bracket, comma, colon, dot, dot_dot, hash, backslash, equal, Lexeme, number, name, method_result, string, mark, prefix_word, infix_word, sign, assigns, changes, address, object_address, size, register, here, string_word, constant_word, look, value, built_in, other, Token, token}
+use Rattle.p8_grammar.specs.Grammar.{result_name, place_of, Head, calls, built, applied, Prefix, rank, with_prefix, prefix_of, infix_of, is_boolean}
 
 -- what a variable is read for: its value, its address, or a change that stands before it
 pub data Use : Type 0 where
@@ -211,6 +211,7 @@ on_mark s p dot sh = on_dot sh
 on_mark s p dot_dot sh = None
 on_mark s p hash sh = on_hash sh
 on_mark s p backslash sh = begins sh (stays trapping)
+on_mark s p equal sh = None
 
 -- what a form is with one more word
 abbrev pub grow : Setting → Shape → Place → Lexeme → Option Next
@@ -313,6 +314,8 @@ reduce m e (f ∷ k) = if nat_le (bar f) m then reduce m (wrap f e) k else (e, f
 
 pub data State : Type 0 where
   state : Setting → Shape → List Frame → State
+  -- a variable and AND or OR, behind which `=` may come; the rank is one more than the number
+  joined : Setting → ℕ → ℕ → Place → Variable → List Frame → State
 
 abbrev pub fresh : Shape
 fresh = using reading
@@ -349,10 +352,18 @@ abbrev pub assign : Setting → Option Variable → Option ℕ → Place → Lis
 assign s None o p k = None
 assign s (Some v) o p k = if nat_lt 21 (bar_of k) then Some (state s fresh (assign_frame o p v ∷ k)) else None
 
+-- an operator between operands that is a word: behind a variable that may be assigned `=` may come
+abbrev pub join : Setting → Option Variable → Option (ℕ × ℕ) → Place → Tree → List Frame → Option State
+join s None o p e k = operate s o p e k
+join s (Some v) None p e k = None
+join s (Some v) (Some (zero, c)) p e k = None
+join s (Some v) (Some (suc r, c)) p e k = if is_boolean (suc r) && nat_lt 21 (bar_of k) then Some (joined s r c p v k) else operate s (Some (suc r, c)) p e k
+
 -- a word after a whole operand that is no part of it
 abbrev pub after : Setting → Shape → Tree → List Frame → Place → Lexeme → Option State
 after s sh e k p (mark m) = (let x = reduce 22 e k in shut m x.0 x.1)
 after s sh e k p (assigns o) = assign s (target sh) o p k
+after s sh e k p (infix_word r c) = join s (target sh) (Some (r, c)) p e k
 after s sh e k p x = operate s (infix_of x) p e k
 
 abbrev pub beyond : Option Tree → Setting → Shape → List Frame → Place → Lexeme → Option State
@@ -363,8 +374,14 @@ abbrev pub go_on : Option Next → Setting → Shape → List Frame → Place �
 go_on (Some n) s sh k p x = Some (entered s k n)
 go_on None s sh k p x = beyond (tree sh) s sh k p x
 
+-- a word behind a variable and AND or OR: `=`, or the first one of the right operand
+abbrev pub resolve : Setting → ℕ → ℕ → Place → Variable → List Frame → Place → Lexeme → Option State
+resolve s r c p v k q (mark equal) = Some (state s fresh (assign_frame (Some c) p v ∷ k))
+resolve s r c p v k q x = go_on (grow s fresh q x) s fresh (infix_frame r c p (used reading v) ∷ k) q x
+
 abbrev pub step : State → Token → Option State
 step (state s sh k) (token p x) = go_on (grow s sh p x) s sh k p x
+step (joined s r c p v k) (token q x) = resolve s r c p v k q x
 
 abbrev pub walk : State → List Token → Option State
 walk st [] = Some st
@@ -381,6 +398,7 @@ accepted (Some e) k = (let x = reduce 22 e k in all_of x.0 x.1)
 -- the tree, where what has been read is an expression
 abbrev pub accept : State → Option Tree
 accept (state s sh k) = accepted (tree sh) k
+accept (joined s r c p v k) = None
 
 abbrev pub start : Setting → State
 start s = state s fresh []

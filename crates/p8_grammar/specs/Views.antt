@@ -69,6 +69,7 @@ mark_of mark_case.Dot = lexemes.dot
 mark_of mark_case.DotDot = lexemes.dot_dot
 mark_of mark_case.Hash = lexemes.hash
 mark_of mark_case.Backslash = lexemes.backslash
+mark_of mark_case.Equal = lexemes.equal
 
 abbrev pub operator_of : operator.Operator → lexemes.Lexeme
 operator_of (operator_case.Prefix r k) = lexemes.prefix_word r k

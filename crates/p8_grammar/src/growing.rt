@@ -301,6 +301,7 @@ pub fn on_mark(alloc: Global, setting: Setting, place: Place, mark: Mark, shape:
         Mark::RightBracket => Grown::Same(shape),
         Mark::Comma => Grown::Same(shape),
         Mark::DotDot => Grown::Same(shape),
+        Mark::Equal => Grown::Same(shape),
     }
 }
 

@@ -1,7 +1,7 @@
 // What a token is to an expression.
-ghost use Rattle.std.specs.Prelude.{◌≡◌};
-ghost use Rattle.p8_grammar.specs.Lexemes.{inside, allows_index, is_dat, is_written, has_bits, is_in};
-ghost use Rattle.p8_grammar.specs.Views.{setting_of, access_of};
+ghost use Rattle.std.specs.Prelude.{◌≡◌, ◌↔◌, IsTrue};
+ghost use Rattle.p8_grammar.specs.Lexemes.{inside, allows_index, is_dat, is_written, has_bits, is_in, equal};
+ghost use Rattle.p8_grammar.specs.Views.{setting_of, access_of, mark_of};
 
 use p8_tree::Text;
 
@@ -111,6 +111,20 @@ pub enum Mark {
     DotDot,
     Hash,
     Backslash,
+    /// `=`, which with AND and OR makes an assignment.
+    Equal,
+}
+
+impl Mark {
+    /// Whether it is `=`.
+    pub fn is_equal(self) -> bool
+        ensures { IsTrue result ↔ (mark_of self ≡ equal) }
+    {
+        match self {
+            Mark::Equal => true,
+            _ => false,
+        }
+    }
 }
 
 /// An operator but for those that stand beside a variable.

@@ -4,6 +4,7 @@
 mod building;
 mod forms;
 mod growing;
+mod joining;
 mod laws;
 mod lexemes;
 mod measured;

@@ -6,10 +6,12 @@ ghost use Rattle.p8_grammar.specs.Lexemes as lexemes;
 ghost use Rattle.p8_grammar.specs.Lexemes.{Token, token};
 ghost use Rattle.p8_grammar.specs.Grammar.{IsExpression, IsFront};
 ghost use Rattle.p8_grammar.specs.Heights.{IsTooHigh};
-ghost use Rattle.p8_grammar.specs.Machine.{step, accept};
-ghost use Rattle.p8_grammar.specs.Views.{setting_of, lexeme_of};
+ghost use Rattle.p8_grammar.specs.Machine.{state, step, accept};
+ghost use Rattle.p8_grammar.specs.Views.{setting_of, shape_of, lexeme_of};
+ghost use Rattle.p8_grammar.specs.Levels.{frames_in, joined_at};
 ghost use Rattle.p8_grammar.specs.Reading.{HasTaken, state_of, Steps, least_of};
 
+use crate::joining::{self, Joined, Resolved};
 use crate::lexemes::{Lexeme, Setting};
 use crate::measured::Tall;
 use crate::shapes::{Shape, Use};
@@ -20,6 +22,15 @@ use p8_words::NoMemory;
 use std::alloc::{AllocError, Global};
 use std::mem;
 
+/// Where a reader is.
+#[derive(Drop)]
+pub enum Stage {
+    /// In a form.
+    Form(Shape),
+    /// Behind a variable and AND or OR, which with `=` are an assignment.
+    Joined(Joined),
+}
+
 /// A reader of one expression: it takes a token at a time, as long as they begin one.
 ///
 /// A token takes constant time but for the trees that it ends, each of which is built once. Nothing
@@ -27,7 +38,7 @@ use std::mem;
 #[derive(Drop)]
 pub struct Reader {
     setting: Setting,
-    shape: Shape,
+    stage: Stage,
     stack: Stack,
 }
 
@@ -38,7 +49,7 @@ impl Reader {
     {
         Reader {
             setting,
-            shape: Shape::Using(Use::Reading),
+            stage: Stage::Form(Shape::Using(Use::Reading)),
             stack: Stack::new(alloc),
         }
     }
@@ -57,15 +68,58 @@ impl Reader {
     fn advance(&mut self, alloc: Global, place: Place, lexeme: Lexeme) -> Result<bool, AllocError>
         ensures { IfOk result (λ b. Steps (step (state_of self.old) (token place (lexeme_of lexeme))) (state_of self.old) b (state_of self.new)) }
     {
-        let shape = mem::replace(&mut self.shape, Shape::Using(Use::Reading));
+        match mem::replace(&mut self.stage, Stage::Form(Shape::Using(Use::Reading))) {
+            Stage::Form(shape) => self.go_on(alloc, shape, place, lexeme),
+            Stage::Joined(joined) => self.resolve(alloc, joined, place, lexeme),
+        }
+    }
+
+    // One step in a form.
+    fn go_on(
+        &mut self,
+        alloc: Global,
+        shape: Shape,
+        place: Place,
+        lexeme: Lexeme,
+    ) -> Result<bool, AllocError>
+        ensures { IfOk result (λ b. Steps (step (state (setting_of self.old.setting) (shape_of shape) (frames_in self.old.stack)) (token place (lexeme_of lexeme))) (state (setting_of self.old.setting) (shape_of shape) (frames_in self.old.stack)) b (state_of self.new)) }
+    {
         match taking::take(alloc, self.setting, shape, place, lexeme, &mut self.stack)? {
             Taken::On(setting, shape) => {
                 self.setting = setting;
-                self.shape = shape;
+                self.stage = Stage::Form(shape);
+                Ok(true)
+            }
+            Taken::Joins(setting, joined) => {
+                self.setting = setting;
+                self.stage = Stage::Joined(joined);
                 Ok(true)
             }
             Taken::Dead(shape) => {
-                self.shape = shape;
+                self.stage = Stage::Form(shape);
+                Ok(false)
+            }
+        }
+    }
+
+    // One step behind AND or OR.
+    fn resolve(
+        &mut self,
+        alloc: Global,
+        joined: Joined,
+        place: Place,
+        lexeme: Lexeme,
+    ) -> Result<bool, AllocError>
+        ensures { IfOk result (λ b. Steps (step (joined_at self.old.setting joined (frames_in self.old.stack)) (token place (lexeme_of lexeme))) (joined_at self.old.setting joined (frames_in self.old.stack)) b (state_of self.new)) }
+    {
+        match joining::resolve(alloc, self.setting, joined, place, lexeme, &mut self.stack)? {
+            Resolved::On(setting, shape) => {
+                self.setting = setting;
+                self.stage = Stage::Form(shape);
+                Ok(true)
+            }
+            Resolved::Dead(joined) => {
+                self.stage = Stage::Joined(joined);
                 Ok(false)
             }
         }
@@ -75,7 +129,10 @@ impl Reader {
     fn least(&self) -> u8
         ensures { result ≡ least_of self.now }
     {
-        self.stack.least(self.shape.least())
+        match &self.stage {
+            Stage::Form(shape) => self.stack.least(shape.least()),
+            Stage::Joined(joined) => self.stack.least(joined.least()),
+        }
     }
 
     /// Whether each expression that begins with what was taken is higher than this height, which is
@@ -101,13 +158,19 @@ impl Reader {
     {
         let Reader {
             setting,
-            shape,
+            stage,
             stack,
         } = self;
         let mut stack = stack;
-        match taking::finish(alloc, setting, shape, &mut stack)? {
-            Some(Tall { tree, .. }) => Ok(Some(tree)),
-            None => Ok(None),
+        match stage {
+            Stage::Form(shape) => match taking::finish(alloc, setting, shape, &mut stack)? {
+                Some(Tall { tree, .. }) => Ok(Some(tree)),
+                None => Ok(None),
+            },
+            Stage::Joined(joined) => {
+                drop(joined);
+                Ok(None)
+            }
         }
     }
 }

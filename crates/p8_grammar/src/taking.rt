@@ -1,12 +1,14 @@
 // One word more, with what is begun kept on a stack.
-ghost use Rattle.std.specs.Prelude.{◌≡◌, ℕ, ◌+◌, ◌*◌, ◌<◌, ◌≤◌, Some, None, IfOk, OnOk, IsSome, option_and_then, option_map};
-ghost use Rattle.p8_grammar.specs.Machine.{wrap, reduce, shut, step, state, fresh, if_fresh, operate, assign, grow, tree, target, accept, all_of};
+ghost use Rattle.std.specs.Prelude.{◌≡◌, ℕ, ◌+◌, ◌*◌, ◌<◌, ◌≤◌, ◌&&◌, nat_lt, Some, None, IfOk, OnOk, IsSome, IsTrue, option_and_then, option_map};
+ghost use Rattle.p8_grammar.specs.Machine.{wrap, reduce, shut, step, state, fresh, if_fresh, operate, join, bar_of, assign, grow, tree, target, accept, all_of};
+ghost use Rattle.p8_grammar.specs.Grammar.{is_boolean};
 ghost use Rattle.p8_grammar.specs.Lexemes as lexemes;
 ghost use Rattle.p8_grammar.specs.Lexemes.{token, mark as mark_word, sign};
 ghost use Rattle.p8_grammar.specs.Views.{expr_of, shape_of, setting_of, mark_of, lexeme_of, operator_of, term_of, prefix_in, frame_of, tree_in};
 ghost use Rattle.p8_grammar.specs.Levels.{frames_in, Takes};
 
 use crate::forms::{Closed, Finished, Written, close, target, whole};
+use crate::joining::Joined;
 use crate::lexemes::{Lexeme, Mark, Operator, Setting, Term};
 use crate::measured::Tall;
 use crate::shapes::{Grown, Shape, Use};
@@ -19,6 +21,8 @@ use std::alloc::{AllocError, Global};
 #[derive(Drop)]
 pub enum Taken {
     On(Setting, Shape),
+    /// Behind a variable and AND or OR.
+    Joins(Setting, Joined),
     Dead(Shape),
 }
 
@@ -164,6 +168,43 @@ fn infix(
     }
 }
 
+// Whether `=` may come behind the operator, where a variable is before it.
+fn may_join(rank: u8, stack: &Stack) -> bool
+    ensures joins { result ≡ (is_boolean rank && nat_lt 21 (bar_of (frames_in stack.now))) }
+    ensures rank { IsTrue result → 9 ≤ rank }
+{
+    9 <= rank && rank <= 10 && 21 < stack.bar()
+}
+
+// An operator between operands, or what may be an assignment's word.
+fn infix_word(
+    alloc: Global,
+    setting: Setting,
+    shape: Shape,
+    place: Place,
+    rank: u8,
+    code: u8,
+    stack: &mut Stack,
+) -> Result<Taken, AllocError>
+    ensures { IfOk result (λ t. Takes (option_and_then (λ e. join (setting_of setting) (target (shape_of shape)) (Some (rank, code)) place e (frames_in stack.old)) (tree (shape_of shape))) (state (setting_of setting) (shape_of shape) (frames_in stack.old)) t (frames_in stack.new)) }
+{
+    if !may_join(rank, stack) {
+        return infix(alloc, setting, shape, place, rank, code, stack);
+    }
+    match target(alloc, shape)? {
+        Written::Variable(variable) => {
+            let joined = Joined {
+                place,
+                lower: rank - 1,
+                code,
+                variable,
+            };
+            Ok(Taken::Joins(setting, joined))
+        }
+        Written::Not(shape) => infix(alloc, setting, shape, place, rank, code, stack),
+    }
+}
+
 // An assignment.
 fn assign(
     alloc: Global,
@@ -243,7 +284,7 @@ fn take_operator(
             prefix(setting, shape, place, Prefix::Unary(rank, code), stack)
         }
         Operator::ObjectAddress => prefix(setting, shape, place, Prefix::AtObject, stack),
-        Operator::Infix(rank, code) => infix(alloc, setting, shape, place, rank, code, stack),
+        Operator::Infix(rank, code) => infix_word(alloc, setting, shape, place, rank, code, stack),
         Operator::Sign(before, between) => {
             take_sign(alloc, setting, shape, place, before, between, stack)
         }

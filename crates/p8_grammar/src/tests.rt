@@ -87,6 +87,7 @@ fn reads_worked_rows(rt: HostRuntime) -> Result<(), NoMemory> {
     const AND_BITS: Word = Word::Operator(Operator::Infix(3, 0xe8));
     const ROTATE: Word = Word::Operator(Operator::Infix(2, 0xe0));
     const NOT: Word = Word::Operator(Operator::Prefix(8, 0xff));
+    const AND: Word = Word::Operator(Operator::Infix(9, 0xf0));
     const ASSIGN: Word = Word::Operator(Operator::Assigns(None));
     const OPEN: Word = Word::Mark(Mark::LeftParenthesis);
     const CLOSE: Word = Word::Mark(Mark::RightParenthesis);
@@ -97,9 +98,10 @@ fn reads_worked_rows(rt: HostRuntime) -> Result<(), NoMemory> {
     const DOT: Word = Word::Mark(Mark::Dot);
     const DOTS: Word = Word::Mark(Mark::DotDot);
     const TRAP: Word = Word::Mark(Mark::Backslash);
+    const EQUAL: Word = Word::Mark(Mark::Equal);
     const A: Word = Name(b'A');
     const B: Word = Name(b'B');
-    let table: [(&[Word], Outcome); 11] = [
+    let table: [(&[Word], Outcome); 16] = [
         // 2 + 3 * 4
         (
             &[Number(2), PLUS, Number(3), TIMES, Number(4)],
@@ -147,6 +149,16 @@ fn reads_worked_rows(rt: HostRuntime) -> Result<(), NoMemory> {
         (&[A, PLUS, B, ASSIGN], Outcome(3, Root::Binary(0xec), 2)),
         // a, with a comma that isn't taken, := b
         (&[A, COMMA, ASSIGN, B], Outcome(3, Root::Assign, 3)),
+        // a AND = b, with a comma that isn't taken
+        (&[A, AND, COMMA, EQUAL, B], Outcome(4, Root::Assign, 2)),
+        // a AND b
+        (&[A, AND, B], Outcome(3, Root::Binary(0xf0), 2)),
+        // a AND NOT b
+        (&[A, AND, NOT, B], Outcome(4, Root::Binary(0xf0), 2)),
+        // a + b AND =
+        (&[A, PLUS, B, AND, EQUAL], Outcome(4, Root::Nothing, 0)),
+        // a =
+        (&[A, EQUAL], Outcome(1, Root::Another, 1)),
     ];
     for (row, outcome) in table {
         assert_eq!(&rt; read(rt.alloc(), row)?, outcome);

@@ -13,7 +13,7 @@ pub returns-in-ObjectAddress : goal.returns-in-ObjectAddress
 returns-in-ObjectAddress c = takes_too c.prefix-in-ObjectAddress.result _ _ (state (setting_of c.args.setting) (shape_of c.args.shape) (frames_in c.args.stack.now)) (state (setting_of c.args.setting) (shape_of c.args.shape) (frames_in c.args.stack.now)) (frames_in c.prefix-in-ObjectAddress.new.stack) (sym (ap (λ o. step (state (setting_of c.args.setting) (shape_of c.args.shape) (frames_in c.args.stack.now)) (token c.args.place (operator_of o))) c.in-ObjectAddress.is ∙ object_step (setting_of c.args.setting) (shape_of c.args.shape) (frames_in c.args.stack.now) c.args.place)) refl c.prefix-in-ObjectAddress.ensures
 
 pub returns-in-Infix : goal.returns-in-Infix
-returns-in-Infix c = takes_too c.infix.result _ _ (state (setting_of c.args.setting) (shape_of c.args.shape) (frames_in c.args.stack.now)) (state (setting_of c.args.setting) (shape_of c.args.shape) (frames_in c.args.stack.now)) (frames_in c.infix.new.stack) (sym (ap (λ o. step (state (setting_of c.args.setting) (shape_of c.args.shape) (frames_in c.args.stack.now)) (token c.args.place (operator_of o))) c.in-Infix.is ∙ infix_word_step (setting_of c.args.setting) (shape_of c.args.shape) (frames_in c.args.stack.now) c.args.place c.in-Infix.rank c.in-Infix.code)) refl c.infix.ensures
+returns-in-Infix c = takes_too c.infix_word.result _ _ (state (setting_of c.args.setting) (shape_of c.args.shape) (frames_in c.args.stack.now)) (state (setting_of c.args.setting) (shape_of c.args.shape) (frames_in c.args.stack.now)) (frames_in c.infix_word.new.stack) (sym (ap (λ o. step (state (setting_of c.args.setting) (shape_of c.args.shape) (frames_in c.args.stack.now)) (token c.args.place (operator_of o))) c.in-Infix.is ∙ infix_word_step (setting_of c.args.setting) (shape_of c.args.shape) (frames_in c.args.stack.now) c.args.place c.in-Infix.rank c.in-Infix.code)) refl c.infix_word.ensures
 
 pub returns-in-Assigns : goal.returns-in-Assigns
 returns-in-Assigns c = takes_too c.assign.result _ _ (state (setting_of c.args.setting) (shape_of c.args.shape) (frames_in c.args.stack.now)) (state (setting_of c.args.setting) (shape_of c.args.shape) (frames_in c.args.stack.now)) (frames_in c.assign.new.stack) (sym (ap (λ o. step (state (setting_of c.args.setting) (shape_of c.args.shape) (frames_in c.args.stack.now)) (token c.args.place (operator_of o))) c.in-Assigns.is ∙ assigns_step (setting_of c.args.setting) (shape_of c.args.shape) (frames_in c.args.stack.now) c.args.place c.in-Assigns.operator)) refl c.assign.ensures

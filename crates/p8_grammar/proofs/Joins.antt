@@ -1,0 +1,119 @@
+-- A variable with AND or OR behind it.
+use Rattle.std.proofs.Common.{◌≡◌, ℕ, zero, suc, ◌*◌, ◌<◌, ◌≤◌, List, [], ◌∷◌, Option, Some, None, Bool, true, false, refl, sym, ap, ◌∙◌, arith, le-leb}
+use Rattle.std.specs.Prelude.{option_and_then, IsTrue, nat_le, nat_lt, if◌then◌else◌, ◌&&◌}
+use Rattle.std.proofs.lemmas.Bool.{leb-true, ltb-true, lt-ltb}
+use Rattle.p8_tree.specs.declared.places.Place.{Place}
+use Rattle.p8_tree.specs.Expressions.{Tree, Variable, Register, whole}
+use Rattle.p8_grammar.specs.Lexemes.{Setting, is_written, equal, mark, infix_word, Token, token}
+use Rattle.p8_grammar.specs.Grammar.{is_boolean}
+use Rattle.p8_grammar.specs.Machine.{reading, addressing, changing, used, Shape, named, indexed_name, parted, memory_word, register_word, ready, tree, if_reading, target, fresh, Frame, infix_frame, bar_of, reduce, state, joined, operate, join, beyond, step, walk}
+use Rattle.p8_grammar.proofs.Walks.{kept, both}
+
+pub first_true : (a b : Bool) → IsTrue (a && b) → IsTrue a
+first_true true b h = refl
+first_true false b h = absurd cc
+
+pub second_true : (a b : Bool) → IsTrue (a && b) → IsTrue b
+second_true true b h = h
+second_true false b h = absurd cc
+
+-- the ranks of AND and OR
+pub boolean_most : (r : ℕ) → IsTrue (is_boolean r) → r ≤ 10
+boolean_most r h = leb-true r 10 (second_true (nat_le 9 r) (nat_le r 10) h)
+
+pub boolean_is : (r : ℕ) → 9 ≤ r → r ≤ 10 → IsTrue (is_boolean r)
+boolean_is r h h' = both (nat_le 9 r) (nat_le r 10) (le-leb 9 r h) (le-leb r 10 h')
+
+same_used : (w v : Variable) → Some w ≡ Some v → Some (used reading w) ≡ Some (used reading v)
+same_used w v h = ap (λ v. Some (used reading v)) (same h)
+  where
+    same : Some w ≡ Some v → w ≡ v
+    same h = cc
+
+-- a variable that may be written is whole
+pub target_tree : (sh : Shape) (v : Variable) → target sh ≡ Some v → tree sh ≡ Some (used reading v)
+target_tree (named reading b p n) v h = same_used _ v h
+target_tree (named (addressing q) b p n) v h = absurd cc
+target_tree (named (changing q c) b p n) v h = absurd cc
+target_tree (indexed_name p n e) v h = same_used _ v h
+target_tree (parted reading p n z) v h = same_used _ v h
+target_tree (parted (addressing q) p n z) v h = absurd cc
+target_tree (parted (changing q c) p n z) v h = absurd cc
+target_tree (memory_word reading p z e) v h = same_used _ v h
+target_tree (memory_word (addressing q) p z e) v h = absurd cc
+target_tree (memory_word (changing q c) p z e) v h = absurd cc
+target_tree (register_word reading p a x) v h = go (is_written x) h
+  where
+    go : (b : Bool) → if_reading reading b (Register a whole p) ≡ Some v → Some (used reading (Register a whole p)) ≡ Some (used reading v)
+    go true h = same_used _ v h
+    go false h = absurd cc
+target_tree (register_word (addressing q) p a x) v h = absurd cc
+target_tree (register_word (changing q c) p a x) v h = absurd cc
+target_tree (ready reading w x) v h = go (is_written x) h
+  where
+    go : (b : Bool) → if_reading reading b w ≡ Some v → Some (used reading w) ≡ Some (used reading v)
+    go true h = same_used w v h
+    go false h = absurd cc
+target_tree (ready (addressing q) w x) v h = absurd cc
+target_tree (ready (changing q c) w x) v h = absurd cc
+target_tree sh v h = absurd cc
+
+-- what comes of an operator that is a word, by the test
+pub join_on : (s : Setting) (v : Variable) (r c : ℕ) (p : Place) (e : Tree) (k : List Frame) → IsTrue (is_boolean (suc r) && nat_lt 21 (bar_of k)) → join s (Some v) (Some (suc r, c)) p e k ≡ Some (joined s r c p v k)
+join_on s v r c p e k h = ap (λ b. if b then Some (joined s r c p v k) else operate s (Some (suc r, c)) p e k) h
+
+pub join_off : (s : Setting) (t : Option Variable) (r c : ℕ) (p : Place) (e : Tree) (k : List Frame) → (is_boolean r && nat_lt 21 (bar_of k)) ≡ false → join s t (Some (r, c)) p e k ≡ operate s (Some (r, c)) p e k
+join_off s None r c p e k h = refl
+join_off s (Some v) zero c p e k h = refl
+join_off s (Some v) (suc r) c p e k h = ap (λ b. if b then Some (joined s r c p v k) else operate s (Some (suc r, c)) p e k) h
+
+-- `=` may come
+pub joins : (s : Setting) (sh : Shape) (k : List Frame) (p : Place) (r c : ℕ) (top : Tree) (v : Variable) → tree sh ≡ Some top → target sh ≡ Some v → IsTrue (is_boolean (suc r)) → 21 < bar_of k → step (state s sh k) (token p (infix_word (suc r) c)) ≡ Some (joined s r c p v k)
+joins s sh k p r c top v t w h lt =
+    ap (λ o. beyond o s sh k p (infix_word (suc r) c)) t ∙ ap (λ x. join s x (Some (suc r, c)) p top k) w ∙ join_on s v r c p top k (both (is_boolean (suc r)) (nat_lt 21 (bar_of k)) h (lt-ltb 21 (bar_of k) lt))
+
+same_shape : (s s' : Setting) (sh sh' : Shape) (k k' : List Frame) → Some (state s sh k) ≡ Some (state s' sh' k') → sh ≡ sh'
+same_shape s s' sh sh' k k' h = cc
+
+-- where no `=` comes, the word is an operator
+past_word : (s : Setting) (r c : ℕ) (p : Place) (v : Variable) (k : List Frame) (us : List Token) (s' : Setting) (sh : Shape) (k' : List Frame) (top : Tree) → tree sh ≡ Some top → walk (state s fresh (infix_frame r c p (used reading v) ∷ k)) us ≡ Some (state s' sh k') → walk (joined s r c p v k) us ≡ Some (state s' sh k')
+past_word s r c p v k [] s' sh k' top t h =
+    let e : tree fresh ≡ Some top = ap tree (same_shape s s' fresh sh (infix_frame r c p (used reading v) ∷ k) k' h) ∙ t in
+    absurd cc
+past_word s r c p v k (token q (mark equal) ∷ us) s' sh k' top t h = absurd cc
+past_word s r c p v k (token q (mark m) ∷ us) s' sh k' top t h = h
+past_word s r c p v k (token q x ∷ us) s' sh k' top t h = h
+
+same_tree : (x y : Tree) → Some x ≡ Some y → x ≡ y
+same_tree x y h = cc
+
+-- nothing is ended by AND or OR behind a variable that may be assigned
+pub reduced_is : (sh : Shape) (k : List Frame) (r : ℕ) (top : Tree) (v : Variable) → tree sh ≡ Some top → target sh ≡ Some v → IsTrue (is_boolean (suc r) && nat_lt 21 (bar_of k)) → reduce (2 * suc r) top k ≡ (used reading v, k)
+reduced_is sh k r top v t w h =
+    let most : suc r ≤ 10 = boolean_most (suc r) (first_true (is_boolean (suc r)) (nat_lt 21 (bar_of k)) h) in
+    let low : 21 < bar_of k = ltb-true 21 (bar_of k) (second_true (is_boolean (suc r)) (nat_lt 21 (bar_of k)) h) in
+    kept (2 * suc r) top k (omega (arith, most, low)) ∙ ap (λ e. (e, k)) (same_tree top (used reading v) (sym t ∙ target_tree sh v w))
+
+-- AND or OR behind a variable, and an operand behind it
+pub joined_walk : (s : Setting) (sh : Shape) (k : List Frame) (p : Place) (r c : ℕ) (top : Tree) (v : Variable) (us : List Token) (s' : Setting) (sh' : Shape) (k' : List Frame) (top' : Tree) → tree sh ≡ Some top → target sh ≡ Some v → IsTrue (is_boolean (suc r) && nat_lt 21 (bar_of k)) → tree sh' ≡ Some top' → walk (state s fresh (infix_frame r c p (reduce (2 * suc r) top k).0 ∷ (reduce (2 * suc r) top k).1)) us ≡ Some (state s' sh' k') → walk (joined s r c p v k) us ≡ Some (state s' sh' k')
+joined_walk s sh k p r c top v us s' sh' k' top' t w h t' is =
+    past_word s r c p v k us s' sh' k' top' t' (ap (λ q. walk (state s fresh (infix_frame r c p q.0 ∷ q.1)) us) (sym (reduced_is sh k r top v t w h)) ∙ is)
+
+-- the answers of the code
+pub join_taken : (s : Setting) (sh : Shape) (k : List Frame) (p : Place) (r l c : ℕ) (v : Variable) → r ≡ suc l → target sh ≡ Some v → IsTrue (is_boolean r && nat_lt 21 (bar_of k)) → option_and_then (λ e. join s (target sh) (Some (r, c)) p e k) (tree sh) ≡ Some (joined s l c p v k)
+join_taken s sh k p r l c v same w h =
+    ap (λ o. option_and_then (λ e. join s (target sh) (Some (r, c)) p e k) o) (target_tree sh v w)
+    ∙ ap (λ x. join s x (Some (r, c)) p (used reading v) k) w
+    ∙ ap (λ r. join s (Some v) (Some (r, c)) p (used reading v) k) same
+    ∙ join_on s v l c p (used reading v) k (sym (ap (λ r. is_boolean r && nat_lt 21 (bar_of k)) same) ∙ h)
+
+operate_too : (s : Setting) (t : Option Variable) (o : Option Tree) (k : List Frame) (p : Place) (r c : ℕ) → (is_boolean r && nat_lt 21 (bar_of k)) ≡ false → option_and_then (λ e. operate s (Some (r, c)) p e k) o ≡ option_and_then (λ e. join s t (Some (r, c)) p e k) o
+operate_too s t None k p r c h = refl
+operate_too s t (Some e) k p r c h = sym (join_off s t r c p e k h)
+
+pub not_joined : (s : Setting) (sh : Shape) (k : List Frame) (p : Place) (r c : ℕ) → (is_boolean r && nat_lt 21 (bar_of k)) ≡ false → option_and_then (λ e. operate s (Some (r, c)) p e k) (tree sh) ≡ option_and_then (λ e. join s (target sh) (Some (r, c)) p e k) (tree sh)
+not_joined s sh k p r c h = operate_too s (target sh) (tree sh) k p r c h
+
+pub no_target : (s : Setting) (sh sh' : Shape) (k : List Frame) (p : Place) (r c : ℕ) → target sh ≡ None → sh' ≡ sh → option_and_then (λ e. operate s (Some (r, c)) p e k) (tree sh') ≡ option_and_then (λ e. join s (target sh) (Some (r, c)) p e k) (tree sh)
+no_target s sh sh' k p r c none same =
+    ap (λ x. option_and_then (λ e. operate s (Some (r, c)) p e k) (tree x)) same ∙ sym (ap (λ t. option_and_then (λ e. join s t (Some (r, c)) p e k) (tree sh)) none)
