@@ -1,5 +1,5 @@
 -- Items of data, read a part at a time.
-use Rattle.std.proofs.Common.{◌≡◌, ◌≢◌, [], ◌∷◌, List, Option, Some, None, refl, sym, ap, ◌∙◌}
+use Rattle.std.proofs.Common.{◌≡◌, ◌≢◌, [], ◌∷◌, List, Option, Some, None, refl, sym, ◌∙◌}
 use Rattle.std.specs.Prelude.{option_map, MatchOption}
 use Rattle.p8_tree.specs.Sources.{Datum}
 use Rattle.p8_data.specs.declared.part.Part as code

@@ -1,5 +1,5 @@
 -- What the code's values stand for: internal.
-use Rattle.std.specs.Prelude.{◌≡◌, ℕ, List, [], ◌∷◌, Option, Some, None}
+use Rattle.std.specs.Prelude.{◌≡◌, List, [], ◌∷◌, Option, Some, None}
 use Rattle.std.specs.Vec.Iter.{into_iter_items}
 use Rattle.p8_tree.specs.Views.{tree_of}
 use Rattle.p8_tree.specs.Sources.{Datum, Instruction}

@@ -6,5 +6,7 @@ mod items;
 mod lines;
 mod part;
 mod row;
+#[cfg(test)]
+mod tests;
 
 pub use lines::{DatRow, dat_line};

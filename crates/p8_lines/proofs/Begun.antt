@@ -1,13 +1,12 @@
 -- What begins an expression is ended by tokens that a source may have.
-use Rattle.std.proofs.Common.{◌≡◌, ℕ, ◌<◌, ◌≤◌, List, [], ◌∷◌, ◌++◌, length, take, drop, Some, refl, sym, ap, ◌∙◌, subst, append_assoc, arith}
-use Rattle.std.specs.Prelude.{map}
+use Rattle.std.proofs.Common.{◌≡◌, ℕ, ◌<◌, ◌≤◌, List, [], ◌∷◌, ◌++◌, Some, refl, sym, ap, ◌∙◌, subst, append_assoc, arith}
 use Rattle.p8_tree.specs.declared.places.Place.{Place}
 use Rattle.p8_tree.specs.Expressions.{Tree, node, Number}
 use Rattle.p8_lexer.specs.declared.token.TokenKind.TheVariants as kind
 use Rattle.p8_lexer.specs.Words.{symbols, every_word}
 use Rattle.p8_grammar.specs.Lexemes as lexemes
-use Rattle.p8_grammar.specs.Lexemes.{Setting, Mark, left_parenthesis, right_parenthesis, left_bracket, right_bracket, comma, colon, dot, dot_dot, hash, backslash, Lexeme, number, mark, token}
-use Rattle.p8_grammar.specs.Grammar.{begin, ◌▹◌, word, a_number, operand, nothing, a_word, IsExpression, IsFront}
+use Rattle.p8_grammar.specs.Lexemes.{Setting, Mark, left_parenthesis, right_parenthesis, left_bracket, right_bracket, comma, colon, dot, dot_dot, hash, backslash, equal, Lexeme, number, mark, token}
+use Rattle.p8_grammar.specs.Grammar.{a_number, operand, nothing, a_word, IsExpression, IsFront}
 use Rattle.p8_grammar.specs.Heights as heights
 use Rattle.p8_grammar.specs.Heights.{height}
 use Rattle.p8_grammar.specs.Machine.{accept, start}
@@ -35,6 +34,7 @@ real_mark p dot = record { is = record { place = p; text = []; kind = kind.Symbo
 real_mark p dot_dot = record { is = record { place = p; text = []; kind = kind.Symbol 65 }; same = refl }
 real_mark p hash = record { is = record { place = p; text = []; kind = kind.Symbol 67 }; same = refl }
 real_mark p backslash = record { is = record { place = p; text = []; kind = kind.Symbol 69 }; same = refl }
+real_mark p equal = record { is = record { place = p; text = []; kind = kind.Symbol 66 }; same = refl }
 
 real : (p : Place) {x : Lexeme} → IsEnding x → Real (token p x)
 unfolding every_word lexeme_of_word

@@ -107,6 +107,13 @@ dot_dot_word = refl
 abbrev dot_dot : Spelled
 dot_dot = record { token = a_symbol 65; word = word.DotDot; is = dot_dot_word }
 
+equal_sign_word : tokens.word (a_symbol 66) ≡ word.EqualSign
+unfolding symbols
+equal_sign_word = refl
+
+abbrev equal_sign : Spelled
+equal_sign = record { token = a_symbol 66; word = word.EqualSign; is = equal_sign_word }
+
 hash_word : tokens.word (a_symbol 67) ≡ word.Hash
 unfolding symbols
 hash_word = refl
@@ -271,6 +278,9 @@ from_indexable = by_token plus_plus refl from_line_end
 from_indexed : Completion state.Indexed
 from_indexed = by_token plus_plus refl from_line_end
 
+from_assigned : Completion state.Assigned
+from_assigned = by_phrase line_end refl refl from_end
+
 from_address : Completion state.Address
 from_address = by_phrase right_bracket refl refl from_indexable
 
@@ -400,7 +410,8 @@ completed state.TrappedIndex = by_phrase right_bracket refl refl from_trapped_do
 completed state.TrappedDot = from_trapped_dot
 completed state.BuiltIn = by_token line_end refl from_end
 completed state.Arguments = by_phrase right_parenthesis refl refl from_line_end
-completed state.Assigned = by_phrase line_end refl refl from_end
+completed state.AssignedByWord = by_token equal_sign refl from_assigned
+completed state.Assigned = from_assigned
 completed state.Changed = by_token name refl from_changed_name
 completed state.ChangedName = from_changed_name
 completed state.ChangedDot = by_token long refl from_changed_indexable

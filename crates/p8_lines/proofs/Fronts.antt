@@ -8,7 +8,7 @@ use Rattle.p8_lexer.specs.declared.word.Word.{Word}
 use Rattle.p8_lexer.specs.declared.word.Word.TheVariants as word
 use Rattle.p8_grammar.specs.Lexemes.{Setting, in_method, in_declaration, in_dat, in_data_item, Lexeme, left_bracket, right_bracket, right_parenthesis, comma, colon, dot_dot, string, mark, size, other, Token, token}
 use Rattle.p8_grammar.specs.Grammar.{IsExpression, IsFront}
-use Rattle.p8_grammar.specs.Machine.{Shape, using, string_read, tree, on_bracket, on_close, on_colon, Frame, wrap, reduce, State, state, shut, go_on, beyond, step, walk, all_of, accepted, accept, start}
+use Rattle.p8_grammar.specs.Machine.{Shape, using, string_read, tree, on_bracket, on_close, on_colon, Frame, wrap, reduce, State, state, joined, shut, go_on, beyond, step, walk, all_of, accepted, accept, start}
 use Rattle.p8_grammar.proofs.Walks.{walk_append, wraps}
 use Rattle.p8_grammar.proofs.Complete.{complete}
 use Rattle.p8_grammar.proofs.Sound.{Pending, nothing_pending, after_operator, in_hole, start_stands, walk_stands}
@@ -170,6 +170,7 @@ record Whole (s : Setting) (st : State) (e : Tree) : Type 0 where
   ended : reduce 22 top frames ≡ (e, [])
 
 whole : (s : Setting) (st : State) (e : Tree) → accept st ≡ Some e → Whole s st e
+whole s (joined s' r c p v k) e h = absurd cc
 whole s (state s' sh k) e h = go (tree sh) refl h
   where
     ends_so : (q : Tree × List Frame) → all_of q.0 q.1 ≡ Some e → q ≡ (e, [])

@@ -1,5 +1,5 @@
 -- The end of a line ends it from each state.
-use Rattle.std.proofs.Common.{◌≡◌, ℕ, List, Bool, true, false, IsTrue, Option, Some, None, refl, sym, ap, ◌∙◌, subst}
+use Rattle.std.proofs.Common.{◌≡◌, ℕ, List, Bool, true, false, IsTrue, Option, Some, None, refl, sym, ◌∙◌, subst}
 use Rattle.std.specs.Prelude.{if◌then◌else◌}
 use Rattle.p8_lexer.specs.declared.word.Word.{Word}
 use Rattle.p8_lexer.specs.declared.word.Word.TheVariants as word
@@ -37,6 +37,7 @@ sign_ends (sign.Word w) r v n e m h = let z : word.LineEnd ≡ w = sym e ∙ m i
 sign_ends sign.Size r v n e m h = let z = subst (λ v. Matches sign.Size v n) e m in absurd cc
 sign_ends sign.Pins r v n e m h = let z = subst (λ v. Matches sign.Pins v n) e m in absurd cc
 sign_ends sign.Assignment r v n e m h = let z = subst (λ v. Matches sign.Assignment v n) e m in absurd cc
+sign_ends sign.Boolean r v n e m h = let z = subst (λ v. Matches sign.Boolean v n) e m in absurd cc
 sign_ends sign.Change r v n e m h = let z = subst (λ v. Matches sign.Change v n) e m in absurd cc
 sign_ends sign.Operator r v n e m h = let z = subst (λ v. Matches sign.Operator v n) e m in absurd cc
 sign_ends sign.Value r v n e m h = let z = subst (λ v. Matches sign.Value v n) e m in absurd cc

@@ -1,8 +1,7 @@
 -- Tokens are read in one way.
 use Rattle.std.specs.Prelude.{if◌then◌else◌}
-use Rattle.std.proofs.Common.{◌≡◌, ◌⊎◌, inl, inr, ℕ, Bool, List, [], ◌∷◌, ◌++◌, Some, None, refl, sym, ap, ◌∙◌, subst, append_assoc, append-nil}
+use Rattle.std.proofs.Common.{◌≡◌, ◌⊎◌, inl, inr, ℕ, Bool, List, [], ◌∷◌, ◌++◌, Some, refl, sym, ap, ◌∙◌, subst, append_assoc, append-nil}
 use Rattle.p8_tree.specs.declared.places.Place.{Place}
-use Rattle.p8_grammar.specs.Lexemes.{Setting}
 use Rattle.p8_pieces.specs.Pieces.{Piece}
 use Rattle.p8_lexer.specs.declared.refusal.Refusal.TheVariants.{TooNested}
 use Rattle.p8_lexer.specs.Refusals.{refusal_number}
@@ -13,15 +12,14 @@ use Rattle.p8_lexer.specs.declared.word.Word.TheVariants as word
 use Rattle.p8_lines.specs.declared.arrow.Arrow.{Arrow}
 use Rattle.p8_lines.specs.Diagram.{Phrase, ◌⇒◌, choices, setting_at}
 use Rattle.p8_lines.specs.Tokens as tokens
-use Rattle.p8_lines.specs.Tokens.{LineToken, terms}
-use Rattle.p8_lines.specs.Lines as lines
-use Rattle.p8_lines.specs.Lines.{Follows, here, further, Row, over, Begins, Leads, IsTooHigh, HasTooHigh, number_of, Outcome, read, refused, Reads, line, too_high, stopped, OneReading}
+use Rattle.p8_lines.specs.Tokens.{LineToken}
+use Rattle.p8_lines.specs.Lines.{Follows, here, further, Row, over, Begins, Leads, IsTooHigh, HasTooHigh, number_of, Outcome, read, refused, Reads, line, too_high, stopped}
 use Rattle.p8_lines.specs.Stopping as stopping
 use Rattle.p8_lines.specs.Stopping.{Stops, FitsSetting}
 use Rattle.p8_lines.proofs.Splits.{Compared, same, beyond, short, compare}
 use Rattle.p8_lines.proofs.Settings.{setting_fits, keeps_setting, keeps_setting_behind}
 use Rattle.p8_lines.proofs.Ways.{Step, token, phrase, Way, none, more, goes_on, cancel}
-use Rattle.p8_lines.proofs.Rows.{leads_way, way_leads, way_row, row_way, leads_on, at_end, at_once, way_low, blocked, begun, begun_with, way_begins, front_begins, none_there}
+use Rattle.p8_lines.proofs.Rows.{leads_way, way_leads, way_row, row_way, at_end, at_once, blocked, begun_with, way_begins, front_begins, none_there}
 
 -- what is left behind a list of its own beginning
 nothing_more : {X : Type 0} (us vs ws : List X) → us ≡ (us ++ vs) ++ ws → vs ≡ []

@@ -1,6 +1,6 @@
 -- Lines and what begins them, as ways.
 use Rattle.std.specs.Prelude.{if◌then◌else◌}
-use Rattle.std.proofs.Common.{◌≡◌, ℕ, ◌<◌, ◌≤◌, Bool, true, false, IsTrue, List, [], ◌∷◌, ◌++◌, Some, None, refl, sym, ap, ◌∙◌, subst, append_assoc, append-nil, arith}
+use Rattle.std.proofs.Common.{◌≡◌, ◌<◌, ◌≤◌, Bool, true, false, List, [], ◌∷◌, ◌++◌, Some, refl, sym, ap, ◌∙◌, subst, append_assoc, append-nil, arith}
 use Rattle.p8_tree.specs.Expressions.{Tree}
 use Rattle.p8_grammar.specs.Grammar.{IsExpression, IsFront}
 use Rattle.p8_grammar.specs.Heights as heights
@@ -11,7 +11,7 @@ use Rattle.p8_lines.specs.declared.state.State.TheVariants as state
 use Rattle.p8_lines.specs.Diagram.{Phrase, choices}
 use Rattle.p8_lines.specs.Tokens.{LineToken, term, terms, piece}
 use Rattle.p8_lines.specs.Lines as lines
-use Rattle.p8_lines.specs.Lines.{Follows, here, further, behind, Row, over, Begins, greatest_height, Leads, nowhere, by_token, by_phrase, IsTooHigh, HasTooHigh}
+use Rattle.p8_lines.specs.Lines.{Follows, behind, Row, over, Begins, greatest_height, Leads, nowhere, by_token, by_phrase, IsTooHigh}
 use Rattle.p8_lines.proofs.Splits.{Compared, same, beyond, short, compare}
 use Rattle.p8_lines.proofs.Fronts.{before_fails, behind_fails}
 use Rattle.p8_lines.proofs.Completing.{completion, follower}

@@ -1,6 +1,6 @@
 -- The steps of reading a line, as the code takes them.
 use Rattle.std.proofs.Common.{◌≡◌, ◌≢◌, ◌⊎◌, inl, inr, ℕ, ◌+◌, ◌-◌, ◌<◌, ◌≤◌, Bool, true, false, length, List, [], ◌∷◌, ◌++◌, Option, Some, None, Result, Ok, Err, refl, sym, ap, ◌∙◌, subst, append_assoc, arith}
-use Rattle.std.specs.Prelude.{IfErr, nat_lt, map, slice_get, option_map, MatchOption}
+use Rattle.std.specs.Prelude.{IfErr, nat_lt, option_map, MatchOption}
 use Rattle.std.proofs.lemmas.Bool.{ltb-true, ltb-false}
 use Rattle.std.proofs.lemmas.Option.{slice_get_past}
 use Rattle.p8_tree.specs.declared.places.Place.{Place}
@@ -19,7 +19,7 @@ use Rattle.p8_lines.specs.declared.state.State.{State}
 use Rattle.p8_lines.specs.declared.state.State.TheVariants as state
 use Rattle.p8_lines.specs.Diagram.{Phrase, choices, setting_at}
 use Rattle.p8_lines.specs.Tokens as line_tokens
-use Rattle.p8_lines.specs.Tokens.{LineToken, piece, line_token, text_end, tokens_from}
+use Rattle.p8_lines.specs.Tokens.{LineToken, piece, tokens_from}
 use Rattle.p8_lines.specs.Lines.{Follows, behind, greatest_height, Leads, nowhere, number_of, Reads, read, refused}
 use Rattle.p8_lines.specs.Stopping.{token_at, run, told_at, FitsSetting, Stops, Goes, Advances}
 use Rattle.p8_lines.proofs.Rows.{leads_on}

@@ -1,6 +1,6 @@
 -- Where reading a line stops, and where it goes on.
-use Rattle.std.specs.Prelude.{if◌then◌else◌, ◌&&◌, ◌==◌, nat_lt, map, slice_get, option_and_then, unwrap_or}
-use Rattle.std.proofs.Common.{◌≡◌, ◌≢◌, ℕ, ◌+◌, ◌-◌, ◌<◌, ◌≤◌, Bool, true, false, IsTrue, length, take, List, [], ◌∷◌, ◌++◌, Option, Some, None, refl, sym, ap, ◌∙◌, subst, append_assoc, append-nil, arith}
+use Rattle.std.specs.Prelude.{if◌then◌else◌, nat_lt, map, slice_get, option_and_then, unwrap_or}
+use Rattle.std.proofs.Common.{◌≡◌, ◌≢◌, ℕ, ◌+◌, ◌-◌, ◌<◌, ◌≤◌, Bool, true, false, length, take, List, [], ◌∷◌, ◌++◌, Option, Some, None, refl, sym, ap, ◌∙◌, subst, append_assoc, append-nil, arith}
 use Rattle.std.proofs.lemmas.Option.{slice_get_within, slice_get_past}
 use Rattle.std.proofs.lemmas.Bool.{lt-ltb, le-ltb}
 use Rattle.p8_tree.specs.declared.places.Place.{Place}
@@ -22,21 +22,20 @@ use Rattle.p8_expr.specs.declared.fault.ParseFault.{ParseFault}
 use Rattle.p8_expr.specs.Words.{place_of}
 use Rattle.p8_expr.specs.Refusals.{refusal_of}
 use Rattle.p8_expr.specs.Parsing as parsing
-use Rattle.p8_expr.specs.Parsing.{tree, refused, Ends, whole, unfit, broken_off, Parses, refusal_at, IsFaultAt, IsFault}
+use Rattle.p8_expr.specs.Parsing.{tree, refused, Ends, whole, unfit, broken_off, Parses, refusal_at, IsFault}
 use Rattle.p8_pieces.specs.Pieces as pieces
 use Rattle.p8_pieces.specs.Pieces.{Piece}
 use Rattle.p8_lines.specs.declared.state.State.{State}
 use Rattle.p8_lines.specs.declared.state.State.TheVariants as state
 use Rattle.p8_lines.specs.Diagram.{Phrase, choices}
 use Rattle.p8_lines.specs.Tokens as line_tokens
-use Rattle.p8_lines.specs.Tokens.{LineToken, term, terms, piece, line_token, text_end, tokens_from}
+use Rattle.p8_lines.specs.Tokens.{LineToken, term, terms, piece, line_token, tokens_from}
 use Rattle.p8_lines.specs.Lines.{Follows, behind, Row, Begins, greatest_height, Leads, nowhere, by_token, by_phrase, IsTooHigh, HasTooHigh, number_of}
-use Rattle.p8_lines.specs.Stopping as stopping
 use Rattle.p8_lines.specs.Stopping.{token_at, run, told_at, FitsSetting, Stops, too_high, stopped, Goes}
 use Rattle.p8_lines.proofs.Splits.{Compared, same, beyond, short, compare}
 use Rattle.p8_lines.proofs.Fronts.{behind_fails}
 use Rattle.p8_lines.proofs.Settings.{behind_good}
-use Rattle.p8_lines.proofs.Ways.{terms_append, begins_more, Step, token, phrase, Way, none, more}
+use Rattle.p8_lines.proofs.Ways.{begins_more, Step, token, phrase, Way, none, more}
 use Rattle.p8_lines.proofs.Begun.{not_nothing, nothing_begins, nothing_high, stays_high, not_high, front_with}
 use Rattle.p8_lines.proofs.Rows.{grouped, leads_way, row_way, at_once, front_begins, completed, none_there, limit_positive}
 use Rattle.p8_lines.proofs.Texts.{first_at, is_at, is_end, none_within, last_is, text_end_ends, Run, run_of}

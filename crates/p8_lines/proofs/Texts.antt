@@ -7,9 +7,8 @@ use Rattle.p8_tree.specs.declared.places.Place.{Place}
 use Rattle.p8_lexer.specs.declared.token.Token as lexer_token
 use Rattle.p8_grammar.specs.Lexemes.{Setting, other, Token, token}
 use Rattle.p8_grammar.specs.Grammar.{IsFront, IsLongestFront}
-use Rattle.p8_grammar.specs.Machine.{using, reading, Shape, if_fresh, beyond, State, state, tree, step, walk, start}
+use Rattle.p8_grammar.specs.Machine.{using, reading, Shape, if_fresh, beyond, State, state, joined, tree, step, walk, start}
 use Rattle.p8_tree.specs.Expressions.{Tree}
-use Rattle.p8_grammar.specs.Machine.{Frame}
 use Rattle.p8_grammar.proofs.Live.{dead}
 use Rattle.p8_grammar.proofs.Walks.{walk_append}
 use Rattle.p8_expr.specs.Words.{place_of, token_of, lexeme_of_token, lexeme_of_word}
@@ -53,6 +52,7 @@ last_is bytes tokens i t h g = go (record { line = 1; column = 1 }) tokens i h g
 
 -- what stands in no expression begins and goes on with none
 no_other : (st : State) (p : Place) → step st (token p other) ≡ None
+no_other (joined s r c q v k) p = refl
 no_other (state s sh k) p = go (tree sh)
   where
     fresh_none : (sh : Shape) → if_fresh s sh None p k ≡ None

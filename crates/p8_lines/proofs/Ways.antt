@@ -1,9 +1,6 @@
 -- Ways through the diagram: a token or an expression with the token behind it at a time. A way is found by its tokens.
-use Rattle.std.proofs.Common.{◌≡◌, ◌≤◌, Bool, true, false, IsTrue, List, [], ◌∷◌, ◌++◌, Some, refl, sym, ap, ◌∙◌, subst, append_assoc, append-nil}
-use Rattle.std.specs.Prelude.{map}
-use Rattle.p8_tree.specs.declared.places.Place.{Place}
+use Rattle.std.proofs.Common.{◌≡◌, ◌≤◌, Bool, IsTrue, List, [], ◌∷◌, ◌++◌, Some, refl, sym, ap, ◌∙◌, subst, append_assoc}
 use Rattle.p8_tree.specs.Expressions.{Tree}
-use Rattle.p8_grammar.specs.Lexemes as lexemes
 use Rattle.p8_grammar.specs.Lexemes.{Setting}
 use Rattle.p8_grammar.specs.Grammar.{IsExpression, IsFront}
 use Rattle.p8_grammar.specs.Heights.{height}
@@ -11,11 +8,9 @@ use Rattle.p8_grammar.proofs.Live.{one_tree}
 use Rattle.p8_pieces.specs.Pieces.{Piece, tree}
 use Rattle.p8_lines.specs.declared.arrow.Arrow.{Arrow}
 use Rattle.p8_lines.specs.declared.state.State.{State}
-use Rattle.p8_lines.specs.declared.state.State.TheVariants as state
 use Rattle.p8_lines.specs.Diagram.{Phrase, choices}
 use Rattle.p8_lines.specs.Tokens.{LineToken, term, terms, piece}
-use Rattle.p8_lines.specs.Lines as lines
-use Rattle.p8_lines.specs.Lines.{IsOn, Follows, here, further, behind, Row, over, greatest_height, Leads, nowhere, by_token, by_phrase}
+use Rattle.p8_lines.specs.Lines.{Follows, here, further, behind, greatest_height}
 use Rattle.p8_lines.proofs.Splits.{Compared, same, beyond, short, compare}
 use Rattle.p8_lines.proofs.Fronts.{before_fails, behind_fails}
 

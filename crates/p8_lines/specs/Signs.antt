@@ -46,6 +46,12 @@ is_assignment word.LessOrEqualAssign = true
 is_assignment word.GreaterOrEqualAssign = true
 is_assignment _ = false
 
+-- AND and OR: with `=` behind them they are assignments of two tokens
+abbrev pub is_boolean : Word → Bool
+is_boolean word.And = true
+is_boolean word.Or = true
+is_boolean _ = false
+
 -- `++`, `--`, `~` and `~~`
 abbrev pub is_change : Word → Bool
 is_change word.PlusPlus = true
@@ -223,6 +229,7 @@ Matches (sign.Word w) v n = v ≡ w
 Matches sign.Size v n = IsTrue (is_size v)
 Matches sign.Pins v n = IsTrue (is_pins v)
 Matches sign.Assignment v n = IsTrue (is_assignment v)
+Matches sign.Boolean v n = IsTrue (is_boolean v)
 Matches sign.Change v n = IsTrue (is_change v)
 Matches sign.Operator v n = IsTrue (is_operator v)
 Matches sign.Value v n = IsTrue (is_value v)

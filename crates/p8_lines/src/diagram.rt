@@ -729,6 +729,10 @@ impl State {
                     to: State::Assigned,
                 },
                 Arrow {
+                    sign: Sign::Boolean,
+                    to: State::AssignedByWord,
+                },
+                Arrow {
                     sign: Sign::Change,
                     to: State::LineEnd,
                 },
@@ -741,6 +745,10 @@ impl State {
                 Arrow {
                     sign: Sign::Assignment,
                     to: State::Assigned,
+                },
+                Arrow {
+                    sign: Sign::Boolean,
+                    to: State::AssignedByWord,
                 },
                 Arrow {
                     sign: Sign::Change,
@@ -781,6 +789,10 @@ impl State {
                     to: State::Assigned,
                 },
                 Arrow {
+                    sign: Sign::Boolean,
+                    to: State::AssignedByWord,
+                },
+                Arrow {
                     sign: Sign::Change,
                     to: State::LineEnd,
                 },
@@ -789,6 +801,10 @@ impl State {
                 Arrow {
                     sign: Sign::Assignment,
                     to: State::Assigned,
+                },
+                Arrow {
+                    sign: Sign::Boolean,
+                    to: State::AssignedByWord,
                 },
                 Arrow {
                     sign: Sign::Change,
@@ -807,6 +823,10 @@ impl State {
                 Arrow {
                     sign: Sign::Assignment,
                     to: State::Assigned,
+                },
+                Arrow {
+                    sign: Sign::Boolean,
+                    to: State::AssignedByWord,
                 },
                 Arrow {
                     sign: Sign::Change,
@@ -829,6 +849,10 @@ impl State {
                 Arrow {
                     sign: Sign::Assignment,
                     to: State::Assigned,
+                },
+                Arrow {
+                    sign: Sign::Boolean,
+                    to: State::AssignedByWord,
                 },
                 Arrow {
                     sign: Sign::Change,
@@ -860,6 +884,10 @@ impl State {
             State::TrappedDot => &[Arrow {
                 sign: Sign::Word(Word::Dot),
                 to: State::MethodOf,
+            }],
+            State::AssignedByWord => &[Arrow {
+                sign: Sign::Word(Word::EqualSign),
+                to: State::Assigned,
             }],
             State::BuiltIn => &[
                 Arrow {

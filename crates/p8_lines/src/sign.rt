@@ -3,8 +3,8 @@ ghost use Rattle.std.specs.Prelude.{◌↔◌, IsTrue};
 ghost use Rattle.p8_lines.specs.Signs.{Matches};
 
 use crate::words::{
-    is_assignment, is_built_in, is_change, is_condition, is_flag, is_on_memory, is_operator,
-    is_pins, is_size, is_value, is_write, takes_one, takes_two,
+    is_assignment, is_boolean, is_built_in, is_change, is_condition, is_flag, is_on_memory,
+    is_operator, is_pins, is_size, is_value, is_write, takes_one, takes_two,
 };
 use p8_lexer::Word;
 
@@ -19,6 +19,8 @@ pub enum Sign {
     Pins,
     /// `:=`, or an operator between two values with `=`.
     Assignment,
+    /// `AND` or `OR`: with `=` behind them they are assignments of two tokens.
+    Boolean,
     /// `++`, `--`, `~` or `~~`.
     Change,
     /// An operator before a value that, alone before a variable, writes the variable: all but `+`.
@@ -56,6 +58,7 @@ impl Sign {
             Sign::Size => is_size(word),
             Sign::Pins => is_pins(word),
             Sign::Assignment => is_assignment(word),
+            Sign::Boolean => is_boolean(word),
             Sign::Change => is_change(word),
             Sign::Operator => is_operator(word),
             Sign::Value => is_value(word),

@@ -197,6 +197,8 @@ pub enum State {
     BuiltIn,
     /// An argument.
     Arguments,
+    /// What follows AND or OR behind a variable.
+    AssignedByWord,
     /// What follows an assignment's word.
     Assigned,
     // An operator and the variable that it changes.

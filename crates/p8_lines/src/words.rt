@@ -1,6 +1,6 @@
 // Kinds of words.
 ghost use Rattle.std.specs.Prelude.{◌≡◌};
-ghost use Rattle.p8_lines.specs.Signs.{is_size, is_pins, is_assignment, is_change, is_operator, is_value, is_built_in, is_condition, takes_two, is_on_memory, takes_one, is_flag, is_write};
+ghost use Rattle.p8_lines.specs.Signs.{is_size, is_pins, is_assignment, is_boolean, is_change, is_operator, is_value, is_built_in, is_condition, takes_two, is_on_memory, takes_one, is_flag, is_write};
 
 use p8_lexer::Word;
 
@@ -49,6 +49,13 @@ pub fn is_assignment(word: Word) -> bool
             | Word::LessOrEqualAssign
             | Word::GreaterOrEqualAssign
     )
+}
+
+// Whether the word is one of AND and OR.
+pub fn is_boolean(word: Word) -> bool
+    ensures { result ≡ is_boolean word }
+{
+    matches!(word, Word::And | Word::Or)
 }
 
 // Whether the word is one of `++`, `--`, `~` and `~~`.

@@ -39,6 +39,11 @@ pub built_in_keeps : (row : List Piece) → Keeps Goal state.BuiltIn row
 unfolding role_of
 built_in_keeps row = record { arrows = (λ g q. g no_trees) & (λ g q. no_arguments row g) & none; phrase = tt }
 
+-- `=` and e, behind AND or OR
+pub assigned_by_word_keeps : (row : List Piece) → Keeps Goal state.AssignedByWord row
+unfolding role_of
+assigned_by_word_keeps row = record { arrows = (λ g q v k p. mapped (λ e. node p (Assign v (Some k) e)) g) & none; phrase = tt }
+
 pub assigned_keeps : (row : List Piece) → Keeps Goal state.Assigned row
 unfolding role_of
 assigned_keeps row = record { arrows = none; phrase = both state.Assigned row (λ b. ((λ g q e p k. chosen _ (is_empty row) g) & none)) }
@@ -58,6 +63,7 @@ named_keeps row =
           & (λ g q n p. g n p)
           & (λ g q n p. mapped (λ es. node p (Call false None no_index n p es)) (g no_trees))
           & (λ g w o r q n p. by_role (λ x. Has (named_action n p (record { role = x; place = q }) row)) r (assigned (Named n no_index p) o q row g))
+          & (λ g w k r q n p. by_role (λ x. Has (named_action n p (record { role = x; place = q }) row)) r (g (Named n no_index p) k q))
           & (λ g w a b r q n p. by_role (λ x. Has (named_action n p (record { role = x; place = q }) row)) r (stepped (Named n no_index p) a b q row g))
           & none;
       phrase = tt;
@@ -74,6 +80,7 @@ named_indexed_keeps row =
       arrows =
           (λ g q n p e. g false n (index e) p)
           & (λ g w o r q n p e. by_role (λ x. Has (element n e p (record { role = x; place = q }) row)) r (assigned (Named n (index e) p) o q row g))
+          & (λ g w k r q n p e. by_role (λ x. Has (element n e p (record { role = x; place = q }) row)) r (g (Named n (index e) p) k q))
           & (λ g w a b r q n p e. by_role (λ x. Has (element n e p (record { role = x; place = q }) row)) r (stepped (Named n (index e) p) a b q row g))
           & none;
       phrase = tt;
@@ -124,6 +131,7 @@ indexable_keeps row =
       arrows =
           (λ g q f. g f)
           & (λ g w o r q f. by_role (λ x. Has ((index_in (record { role = x; place = q }) row ▶ λ y row. Some ((f y.0, y.1), row)) ▶ writes)) r (assigned (f no_index) o q row g))
+          & (λ g w k r q f. by_role (λ x. Has ((index_in (record { role = x; place = q }) row ▶ λ y row. Some ((f y.0, y.1), row)) ▶ writes)) r (g (f no_index) k q))
           & (λ g w a b r q f. by_role (λ x. Has ((index_in (record { role = x; place = q }) row ▶ λ y row. Some ((f y.0, y.1), row)) ▶ writes)) r (stepped (f no_index) a b q row g))
           & none;
       phrase = tt;
@@ -138,6 +146,7 @@ indexed_keeps row =
     record {
       arrows =
           (λ g w o r q v. by_role (λ x. Has (used v x q row)) r (assigned v o q row g))
+          & (λ g w k r q v. by_role (λ x. Has (used v x q row)) r (g v k q))
           & (λ g w a b r q v. by_role (λ x. Has (used v x q row)) r (stepped v a b q row g))
           & none;
       phrase = tt;
@@ -151,6 +160,7 @@ result_keeps row =
           (λ g q n p. g (λ i. Named n i p))
           & (λ g q n p. g n p)
           & (λ g w o r q n p. by_role (λ x. Has (named n p (record { role = x; place = q }) row ▶ writes)) r (assigned (Named n no_index p) o q row g))
+          & (λ g w k r q n p. by_role (λ x. Has (named n p (record { role = x; place = q }) row ▶ writes)) r (g (Named n no_index p) k q))
           & (λ g w a b r q n p. by_role (λ x. Has (named n p (record { role = x; place = q }) row ▶ writes)) r (stepped (Named n no_index p) a b q row g))
           & none;
       phrase = tt;
@@ -174,6 +184,7 @@ pins_keep row =
       arrows =
           (λ g q a p. g a p)
           & (λ g w o r q a p. by_role (λ x. Has (register a p (record { role = x; place = q }) row ▶ writes)) r (assigned (Register a whole p) o q row g))
+          & (λ g w k r q a p. by_role (λ x. Has (register a p (record { role = x; place = q }) row ▶ writes)) r (g (Register a whole p) k q))
           & (λ g w c d r q a p. by_role (λ x. Has (register a p (record { role = x; place = q }) row ▶ writes)) r (stepped (Register a whole p) c d q row g))
           & none;
       phrase = tt;

@@ -12,7 +12,7 @@ use Rattle.p8_statements.specs.declared.role.Role.{Role}
 use Rattle.p8_statements.specs.declared.row.Sign.{Sign}
 use Rattle.p8_statements.specs.Rows.{Reading, ◌▶◌, word_in, phrase, is_empty, ended, ends, value_in, up_to_bracket}
 use Rattle.p8_statements.specs.Variables.{index_in, part, named, memory, bits_in, register}
-use Rattle.p8_statements.specs.Actions.{used, changed, arguments_after, arguments, method_in, trapped_element, trapped, element, member, named_action, trapping}
+use Rattle.p8_statements.specs.Actions.{assigned_by_word, used, changed, arguments_after, arguments, method_in, trapped_element, trapped, element, member, named_action, trapping}
 use Rattle.p8_statements.specs.Statements.{maybe_value, counted, counting, course, tests_after, other_line, kind_of_row}
 use Rattle.p8_rows.specs.Values.{suits}
 use Rattle.p8_rows.proofs.StatementRows.{Has, found, Owes, Behind}
@@ -80,6 +80,7 @@ Goal state.Arguments row = (es : Trees) → Has (arguments_after es row)
 Goal state.Indexable row = (f : Index → Variable) → Has (indexable f writes row)
 Goal state.Index row = (f : Index → Variable) → Has (indexing f writes row)
 Goal state.Indexed row = (v : Variable) → Has (word_in row ▶ λ s row. used v s.role s.place row)
+Goal state.AssignedByWord row = (v : Variable) (k : ℕ) (p : Place) → Has (assigned_by_word v k p row)
 Goal state.Assigned row = Has (value_in row)
 Goal state.Result row = (n : List ℕ) (p : Place) → Has ((word_in row ▶ λ s row. named n p s row) ▶ writes)
 Goal state.ResultDot row = (n : List ℕ) (p : Place) → Has ((word_in row ▶ λ t row. part t.role n p row) ▶ writes)

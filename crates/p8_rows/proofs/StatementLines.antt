@@ -193,6 +193,7 @@ keeps state.Arguments row = actions.arguments_keep row
 keeps state.Indexable row = actions.indexable_keeps row
 keeps state.Index row = actions.index_keeps row
 keeps state.Indexed row = actions.indexed_keeps row
+keeps state.AssignedByWord row = actions.assigned_by_word_keeps row
 keeps state.Assigned row = actions.assigned_keeps row
 keeps state.Result row = actions.result_keeps row
 keeps state.ResultDot row = actions.result_dot_keeps row

@@ -10,7 +10,7 @@ use Rattle.p8_pieces.specs.Pieces as pieces
 use Rattle.p8_pieces.specs.Pieces.{Piece}
 use Rattle.p8_lines.specs.declared.sign.Sign.{Sign}
 use Rattle.p8_lines.specs.declared.sign.Sign.TheVariants as sign
-use Rattle.p8_lines.specs.Signs.{is_size, is_pins, is_assignment, is_change, is_operator, is_value, is_built_in, Matches}
+use Rattle.p8_lines.specs.Signs.{is_size, is_pins, is_assignment, is_boolean, is_change, is_operator, is_value, is_built_in, Matches}
 use Rattle.p8_lines.specs.Tokens as tokens
 use Rattle.p8_lines.specs.Tokens.{LineToken, string_length, piece_from, piece}
 use Rattle.p8_lines.proofs.Lexemes.{is_plain, plain_lexeme, name_lexeme}
@@ -43,6 +43,10 @@ is_pins_role _ = false
 abbrev is_assigning : Role → Bool
 is_assigning (role.Assigns o) = true
 is_assigning _ = false
+
+abbrev is_boolean_role : Role → Bool
+is_boolean_role (role.Boolean k) = true
+is_boolean_role _ = false
 
 abbrev is_changing : Role → Bool
 is_changing (role.Changes before behind) = true
@@ -84,6 +88,11 @@ unfolding role_of
 assignments_fit word.PlusPlus = refl
 assignments_fit w = refl
 
+booleans_fit : (w : Word) → IsTrue (fits (is_boolean w) (is_plain w) (is_boolean_role (role_of w)))
+unfolding role_of
+booleans_fit word.PlusPlus = refl
+booleans_fit w = refl
+
 changes_fit : (w : Word) → IsTrue (fits (is_change w) (is_plain w) (is_changing (role_of w)))
 unfolding role_of
 changes_fit word.PlusPlus = refl
@@ -116,6 +125,10 @@ assigning : (r : Role) → IsTrue (is_assigning r) → (o : Option ℕ) × (r �
 assigning (role.Assigns o) h = (o, refl)
 assigning r h = absurd cc
 
+boolean_role : (r : Role) → IsTrue (is_boolean_role r) → (k : ℕ) × (r ≡ role.Boolean k)
+boolean_role (role.Boolean k) h = (k, refl)
+boolean_role r h = absurd cc
+
 changing : (r : Role) → IsTrue (is_changing r) → (before : ℕ) × (behind : ℕ) × (r ≡ role.Changes before behind)
 changing (role.Changes before behind) h = (before, behind, refl)
 changing r h = absurd cc
@@ -145,6 +158,7 @@ Each (sign.Word w) R = EachWord w R
 Each sign.Size R = (w : Word) (z : ℕ) → role_of w ≡ role.Size z → (p : Place) → R (pieces.word w p)
 Each sign.Pins R = (w : Word) (a : ℕ) → role_of w ≡ role.Pins a → (p : Place) → R (pieces.word w p)
 Each sign.Assignment R = (w : Word) (o : Option ℕ) → role_of w ≡ role.Assigns o → (p : Place) → R (pieces.word w p)
+Each sign.Boolean R = (w : Word) (k : ℕ) → role_of w ≡ role.Boolean k → (p : Place) → R (pieces.word w p)
 Each sign.Change R = (w : Word) (before behind : ℕ) → role_of w ≡ role.Changes before behind → (p : Place) → R (pieces.word w p)
 Each sign.Operator R = (w : Word) (k : ℕ) → role_of w ≡ role.Operator k → (p : Place) → R (pieces.word w p)
 Each sign.Value R = (w : Word) (k : ℕ) → role_of w ≡ role.Value k → (p : Place) → R (pieces.word w p)
@@ -173,6 +187,10 @@ each sign.Pins R t m x =
 each sign.Assignment R t m x =
     let f = fitting (is_assignment (tokens.word t)) (is_plain (tokens.word t)) (is_assigning (role_of (tokens.word t))) (assignments_fit (tokens.word t)) m in
     let r = assigning (role_of (tokens.word t)) f.1 in
+    of_word R t f.0 (x (tokens.word t) r.0 r.1 t.place)
+each sign.Boolean R t m x =
+    let f = fitting (is_boolean (tokens.word t)) (is_plain (tokens.word t)) (is_boolean_role (role_of (tokens.word t))) (booleans_fit (tokens.word t)) m in
+    let r = boolean_role (role_of (tokens.word t)) f.1 in
     of_word R t f.0 (x (tokens.word t) r.0 r.1 t.place)
 each sign.Change R t m x =
     let f = fitting (is_change (tokens.word t)) (is_plain (tokens.word t)) (is_changing (role_of (tokens.word t))) (changes_fit (tokens.word t)) m in
@@ -204,6 +222,7 @@ each_of (sign.Word w) R x = go w
 each_of sign.Size R x = λ w z r p. x (pieces.word w p)
 each_of sign.Pins R x = λ w a r p. x (pieces.word w p)
 each_of sign.Assignment R x = λ w o r p. x (pieces.word w p)
+each_of sign.Boolean R x = λ w k r p. x (pieces.word w p)
 each_of sign.Change R x = λ w before behind r p. x (pieces.word w p)
 each_of sign.Operator R x = λ w k r p. x (pieces.word w p)
 each_of sign.Value R x = λ w k r p. x (pieces.word w p)

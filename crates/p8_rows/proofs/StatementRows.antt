@@ -4,7 +4,7 @@ use Rattle.std.specs.Prelude.{IsTrue, if◌then◌else◌}
 use Rattle.p8_tree.specs.declared.places.Place.{Place}
 use Rattle.p8_tree.specs.Expressions.{Tree, node, Var, Named, no_index}
 use Rattle.p8_grammar.specs.Lexemes as lexemes
-use Rattle.p8_grammar.specs.Lexemes.{Setting, Lexeme, Token}
+use Rattle.p8_grammar.specs.Lexemes.{Setting, Lexeme}
 use Rattle.p8_grammar.specs.Grammar.{IsExpression, operand, variable, named, plain_name, result_word, result_name, nothing, a_word}
 use Rattle.p8_grammar.proofs.Live.{one_tree}
 use Rattle.p8_pieces.specs.Pieces.{Piece, tree}

@@ -74,6 +74,7 @@ fn reads_lines_of_each_kind(rt: HostRuntime) -> Result<(), AllocError> {
         (Statement, "x", "2: do"),
         (Statement, "++byte[x][2]", "9: do"),
         (Statement, "outa[3..5]~~", "8: do"),
+        (Statement, "result or = x", "5: do"),
         (Statement, "\\ser[1].tx(2, 3)", "13: do"),
         (Statement, "waitcnt(cnt)", "5: do"),
         (Statement, "if x", "3: if"),

@@ -6,13 +6,18 @@ use Rattle.p8_pieces.specs.Pieces.{Piece, word, name, tree}
 use Rattle.p8_statements.specs.declared.role.Role.{Role}
 use Rattle.p8_statements.specs.declared.role.Role.TheVariants as role
 use Rattle.p8_statements.specs.declared.row.Sign.{Sign}
-use Rattle.p8_statements.specs.Roles.{role_of, is_left_parenthesis, is_right_parenthesis, is_left_bracket, is_comma, is_dot, is_line_end, begins_variable}
+use Rattle.p8_statements.specs.Roles.{role_of, is_left_parenthesis, is_right_parenthesis, is_left_bracket, is_comma, is_dot, is_equal_sign, is_line_end, begins_variable}
 use Rattle.p8_statements.specs.Rows.{◌▶◌, word_in, name_in, ended, ending, value_in, up_to_bracket}
 use Rattle.p8_statements.specs.Variables.{part, variable_by, variable_in}
 
--- what is done to a variable, by the word behind it: v := e and v++
+-- `=` and e, behind a variable and AND or OR
+abbrev pub assigned_by_word : Variable → ℕ → Place → List Piece → Option Tree
+assigned_by_word v k p row = word_in row ▶ λ s row. if is_equal_sign s.role then option_map (λ e. node p (Assign v (Some k) e)) (value_in row) else None
+
+-- what is done to a variable, by the word behind it: v := e, v AND = e and v++
 abbrev pub used : Variable → Role → Place → List Piece → Option Tree
 used v (role.Assigns o) p row = option_map (λ e. node p (Assign v o e)) (value_in row)
+used v (role.Boolean k) p row = assigned_by_word v k p row
 used v (role.Changes before behind) p row = ending (node p (Change v behind)) row
 used v _ p row = None
 

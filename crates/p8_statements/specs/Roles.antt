@@ -83,6 +83,10 @@ role_of word.NotEqualAssign = role.Assigns (Some 0xFB)
 role_of word.EqualAssign = role.Assigns (Some 0xFC)
 role_of word.LessOrEqualAssign = role.Assigns (Some 0xFD)
 role_of word.GreaterOrEqualAssign = role.Assigns (Some 0xFE)
+-- AND and OR, by their bytecodes: with `=` behind them they are assignments
+role_of word.And = role.Boolean 0xF0
+role_of word.Or = role.Boolean 0xF2
+role_of word.EqualSign = role.EqualSign
 -- built-ins without arguments, and the others
 role_of word.Cogid = role.Value 0x3F
 role_of word.Clkfreq = role.Value 0xC0
@@ -147,6 +151,11 @@ is_dot_dot _ = false
 abbrev pub is_colon : Role → Bool
 is_colon role.Colon = true
 is_colon _ = false
+
+-- `=`
+abbrev pub is_equal_sign : Role → Bool
+is_equal_sign role.EqualSign = true
+is_equal_sign _ = false
 
 -- FROM
 abbrev pub is_from : Role → Bool

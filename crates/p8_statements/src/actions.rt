@@ -5,7 +5,7 @@ ghost use Rattle.p8_tree.specs.Expressions.{node, Var, Assign, Change, Built, Na
 ghost use Rattle.p8_tree.specs.Bridges.{boxed_index};
 ghost use Rattle.p8_tree.specs.Views.{tree_of, trees_of, variable_of, call_of};
 ghost use Rattle.p8_statements.specs.Rows.{◌▶◌, word_in, ended, ending, value_in, up_to_bracket};
-ghost use Rattle.p8_statements.specs.Actions.{used, changed, last_argument, arguments_after, arguments, method_in, trapped_element, trapped, element, used_part, member, named_action, trapping, built_in, other_action, action};
+ghost use Rattle.p8_statements.specs.Actions.{assigned_by_word, used, changed, last_argument, arguments_after, arguments, method_in, trapped_element, trapped, element, used_part, member, named_action, trapping, built_in, other_action, action};
 ghost use Rattle.p8_statements.specs.Views.{rest_of, index_for, with_argument};
 
 use crate::role::{Role, role_of};
@@ -126,7 +126,29 @@ impl Row {
     {
         match sign.role {
             Role::Assigns(operator) => self.assigned(alloc, target, operator, sign.place),
+            Role::Boolean(operator) => self.assigned_by_word(alloc, target, operator, sign.place),
             Role::Changes(_, behind) => Ok(self.changed_here(target, behind, sign.place)),
+            _ => {
+                drop(target);
+                Ok(None)
+            }
+        }
+    }
+
+    // `=` and a value that is written to a variable, behind AND or OR.
+    fn assigned_by_word(
+        &mut self,
+        alloc: Global,
+        target: Target,
+        operator: u8,
+        place: Place,
+    ) -> Result<Option<Expr>, NoMemory>
+        ensures { IfOk result (λ o. option_map tree_of o ≡ assigned_by_word (variable_of target) operator place (rest_of self.old)) }
+    {
+        match self.word() {
+            Some(sign) if sign.role.is_equal_sign() => {
+                self.assigned(alloc, target, Some(operator), place)
+            }
             _ => {
                 drop(target);
                 Ok(None)

@@ -5,6 +5,8 @@ mod actions;
 mod role;
 mod row;
 mod statements;
+#[cfg(test)]
+mod tests;
 mod variables;
 
 pub use statements::line_kind;

@@ -1,6 +1,6 @@
 // What each word is to a statement.
 ghost use Rattle.std.specs.Prelude.{◌≡◌};
-ghost use Rattle.p8_statements.specs.Roles.{role_of, is_left_parenthesis, is_right_parenthesis, is_left_bracket, is_right_bracket, is_comma, is_dot, is_dot_dot, is_colon, is_from, is_to, is_step, is_line_end, begins_variable, begins_action};
+ghost use Rattle.p8_statements.specs.Roles.{role_of, is_left_parenthesis, is_right_parenthesis, is_left_bracket, is_right_bracket, is_comma, is_dot, is_dot_dot, is_colon, is_equal_sign, is_from, is_to, is_step, is_line_end, begins_variable, begins_action};
 
 use p8_lexer::Word;
 
@@ -47,6 +47,9 @@ pub enum Role {
     Operator(u8),
     /// `:=`, or an operator between two values with `=`.
     Assigns(Option<u8>),
+    /// `AND` or `OR`, by its bytecode: with `=` behind it, an assignment.
+    Boolean(u8),
+    EqualSign,
     /// `COGID`, `CLKFREQ` or `CLKMODE`.
     Value(u8),
     /// Another built-in method.
@@ -136,6 +139,10 @@ pub fn role_of(word: Word) -> Role
         Word::EqualAssign => Role::Assigns(Some(0xFC)),
         Word::LessOrEqualAssign => Role::Assigns(Some(0xFD)),
         Word::GreaterOrEqualAssign => Role::Assigns(Some(0xFE)),
+        // AND and OR, by their bytecodes: with `=` behind them they are assignments.
+        Word::And => Role::Boolean(0xF0),
+        Word::Or => Role::Boolean(0xF2),
+        Word::EqualSign => Role::EqualSign,
         // Built-ins without arguments, and the others.
         Word::Cogid => Role::Value(0x3F),
         Word::Clkfreq => Role::Value(0xC0),
@@ -217,6 +224,13 @@ impl Role {
         ensures { result ≡ is_colon self }
     {
         matches!(self, Role::Colon)
+    }
+
+    // Whether it is `=`.
+    pub fn is_equal_sign(self) -> bool
+        ensures { result ≡ is_equal_sign self }
+    {
+        matches!(self, Role::EqualSign)
     }
 
     // Whether it is `FROM`.

@@ -1,4 +1,4 @@
-use Rattle.std.proofs.Common.{◌∷◌, None, Some, map, ap, ◌∙◌, subst}
+use Rattle.std.proofs.Common.{map, ap, ◌∙◌, subst}
 use Rattle.std.specs.Prelude.{option_map}
 use Rattle.p8_tree.specs.Views.{datum_of}
 use Rattle.p8_data.specs.Lines.{items}
