@@ -1,0 +1,16 @@
+pub mod After
+pub mod Loops
+pub mod Depths
+pub mod Entries
+pub mod Answering
+pub mod Firsts
+pub mod Saying
+pub mod Walks
+pub mod Runs
+pub mod Items
+pub mod Keeping
+pub mod Parts
+pub mod Walking
+pub mod Going
+pub mod Agreeing
+pub mod Stopping
