@@ -1,0 +1,33 @@
+-- internal: what a call writes.
+use Rattle.std.specs.Prelude.{ℕ, ◌==◌, if◌then◌else◌, List, [], ◌∷◌, ◌++◌, Box, Option, None, Some}
+use Rattle.std.specs.declared.alloc.Global.{Global}
+use Rattle.p8_lexer.specs.declared.word.Word.{Word}
+use Rattle.p8_lexer.specs.declared.word.Word.TheVariants as word_case
+use Rattle.p8_tree.specs.Expressions.{Bits, whole, bits, Trees, no_trees, ◌▷◌, Items, no_items, ◌▸◌}
+use Rattle.p8_tree.specs.Views.{item_of}
+use Rattle.p8_tree.specs.declared.expressions.Item as item
+use Rattle.p8_spelling.specs.Spelled.{Spelled, reserved}
+use Rattle.p8_wording.specs.Wording.{words_of, words_of_item, words_before, choices_before}
+
+-- the bits in a box, or all
+abbrev pub boxed_bits : Option (Box item.Item Global) → Bits
+boxed_bits None = whole
+boxed_bits (Some b) = bits (item_of b.value)
+
+-- the word before the argument of this number
+abbrev pub word_before : ℕ → Word
+word_before n = if n == 0 then word_case.LeftParenthesis else word_case.Comma
+
+-- the words before the item of this number
+abbrev pub separator : ℕ → List Spelled
+separator n = if n == 0 then [] else reserved word_case.Comma ∷ []
+
+-- arguments without the last parenthesis
+abbrev pub arguments_begun : Trees → List Spelled
+arguments_begun no_trees = []
+arguments_begun (es ▷ e) = reserved word_case.LeftParenthesis ∷ (words_before es ++ words_of e)
+
+-- items without the last parenthesis
+abbrev pub choices_begun : Items → List Spelled
+choices_begun no_items = []
+choices_begun (xs ▸ x) = choices_before xs ++ words_of_item x
