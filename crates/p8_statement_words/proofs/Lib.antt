@@ -1,0 +1,9 @@
+mod Forgetting
+mod ForgettingActions
+mod ForgettingLines
+mod Names
+mod RoleWords
+mod WrittenRows
+mod WrittenVariables
+mod WrittenActions
+mod WrittenLines
