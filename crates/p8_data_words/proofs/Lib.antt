@@ -1,0 +1,14 @@
+pub mod Made
+pub mod Pieces
+pub mod Reading
+pub mod Rows
+pub mod Going
+pub mod Effects
+pub mod Names
+pub mod Operands
+pub mod Items
+pub mod InstructionsRead
+pub mod LinesRead
+pub mod All
+pub mod Back
+pub mod Written
