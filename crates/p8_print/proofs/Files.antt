@@ -1,0 +1,51 @@
+-- A tree that was read from a file is read from what is printed of it, but for places.
+use Rattle.std.proofs.Common.{◌≡◌, ℕ, ◌<◌, ◌≤◌, List, [], ◌∷◌, length, map, EachIndex, refl, sym, subst}
+use Rattle.std.specs.Prelude.{slice_index}
+use Rattle.std.specs.List.{AllByRecursion as Each}
+use Rattle.std.proofs.lemmas.List.Elements.{recursion_from_All}
+use Rattle.p8_tree.specs.Sources.{Source}
+use Rattle.p8_tree.specs.Forgetting.{IsSameSource}
+use Rattle.p8_lexer.specs.declared.token.Token as lexer_token
+use Rattle.p8_lexer.specs.declared.word.Word.TheVariants as word_case
+use Rattle.p8_lexer.specs.Lexing.{longest_file, AreTokens}
+use Rattle.p8_grammar.specs.Lexemes.{other}
+use Rattle.p8_expr.specs.Words.{token_of, lexeme_of_token, lexeme_of_word}
+use Rattle.p8_lines.specs.Tokens.{LineToken, lexeme, line_token, text_end, all_tokens}
+use Rattle.p8_lines.proofs.Texts.{text_end_other}
+use Rattle.p8_blocks.specs.Files.{source, Parses}
+use Rattle.p8_spelling.specs.Spelled.{text_of_lines}
+use Rattle.p8_spelling.proofs.Lines.{read_back}
+use Rattle.p8_wording.specs.Lexemes.{lexeme_in, IsLexeme}
+use Rattle.p8_print.specs.Layout.{lines_of}
+use Rattle.p8_print.proofs.Elements.{each_append}
+use Rattle.p8_print.proofs.Below.{Laws}
+use Rattle.p8_print.proofs.Spelt.{spelled_lines}
+use Rattle.p8_print.proofs.Printable.{IsOfSource, file_printable, source_readable}
+use Rattle.p8_print.proofs.Reread.{reread}
+
+same_lexeme : (bytes : List ℕ) (t : lexer_token.Token) → lexeme_in (token_of bytes t) ≡ lexeme (line_token bytes t)
+unfolding token_of lexeme_of_token
+same_lexeme bytes t = refl
+
+of_tokens : (bytes : List ℕ) (tokens : List lexer_token.Token) → Each (λ t. IsLexeme (lexeme_in t)) (map (token_of bytes) tokens) → Each IsOfSource (map (line_token bytes) tokens)
+of_tokens bytes [] h = tt
+of_tokens bytes (t ∷ tokens) h = (subst IsLexeme (same_lexeme bytes t) h.0, of_tokens bytes tokens h.1)
+
+other_word : IsLexeme other
+unfolding lexeme_of_word
+other_word = (word_case.LineEnd, refl)
+
+end_of_source : (ts : List LineToken) → IsOfSource (text_end ts)
+end_of_source ts = subst IsLexeme (sym (text_end_other ts)) other_word
+
+pub printed_again : Laws → (bytes : List ℕ) (tokens : List lexer_token.Token) (s : Source) → EachIndex bytes (λ i. slice_index bytes i < 256) → AreTokens bytes tokens → Parses (all_tokens bytes tokens) (source s) → length (text_of_lines (lines_of s)) ≤ longest_file → (tokens' : List lexer_token.Token) × (s' : Source) × AreTokens (text_of_lines (lines_of s)) tokens' × Parses (all_tokens (text_of_lines (lines_of s)) tokens') (source s') × IsSameSource s' s
+printed_again laws bytes tokens s small are parses short =
+    let file = (laws.files (all_tokens bytes tokens) s).0 parses in
+    let ts = map (line_token bytes) tokens in
+    let of_source = each_append IsOfSource ts (text_end ts ∷ []) (of_tokens bytes tokens (recursion_from_All (λ t. IsLexeme (lexeme_in t)) (map (token_of bytes) tokens) (laws.lexemes bytes tokens small are))) (end_of_source ts, tt) in
+    let printable = file_printable laws file.0 of_source in
+    let text = text_of_lines (lines_of s) in
+    let again = read_back (lines_of s) (source_readable s printable) short in
+    let us = map (line_token text) again.0 in
+    let read = reread s us (text_end us) printable file.1 (spelled_lines text 1 (lines_of s) again.0 again.2) refl in
+    (again.0, read.source, again.1, (laws.files (all_tokens text again.0) read.source).1 (read.file, read.shallow), read.same)

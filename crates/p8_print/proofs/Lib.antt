@@ -1,0 +1,14 @@
+mod Elements
+mod Found
+mod Forgotten
+mod Rebuilt
+mod Below
+mod Keeping
+mod Values
+mod Spelt
+mod Lines
+mod Printable
+mod Reread
+mod Files
+mod Written
+mod WrittenLines

@@ -1,0 +1,8 @@
+use Rattle.p8_tree.specs.Views.{constant_of}
+use Rattle.p8_declaration_words.specs.Words.{words_of_constant}
+use Rattle.p8_print.proofs.Written.{line_written}
+use Rattle.p8_print.proofs.printing.write_constants.Goals as goal
+
+pub loop-item-preserved : goal.loop-item-preserved
+loop-item-preserved c =
+    line_written constant_of words_of_constant c.args.items.now c.loop-item.item-index c.item-item.result c.args.script.now c.loop-item.script c.loop-item-test.true c.item-item.is c.loop-item.invariant c.in_ok-begin_line.ensures c.in_ok-write_constant.ensures c.in_ok-end_line.ensures

@@ -1,0 +1,8 @@
+use Rattle.p8_tree.specs.Views.{declared_of}
+use Rattle.p8_declaration_words.specs.Words.{words_of_variable}
+use Rattle.p8_print.proofs.Written.{line_written}
+use Rattle.p8_print.proofs.printing.write_variables.Goals as goal
+
+pub loop-item-preserved : goal.loop-item-preserved
+loop-item-preserved c =
+    line_written declared_of words_of_variable c.args.items.now c.loop-item.item-index c.item-item.result c.args.script.now c.loop-item.script c.loop-item-test.true c.item-item.is c.loop-item.invariant c.in_ok-begin_line.ensures c.in_ok-write_variable.ensures c.in_ok-end_line.ensures

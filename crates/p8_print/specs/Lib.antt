@@ -1,0 +1,4 @@
+-- What public contracts cite.
+pub mod Layout
+-- internal: what a call writes.
+pub mod Writing
