@@ -1,5 +1,5 @@
 -- What a life begins with, and what it says of its accesses.
-use Rattle.std.specs.Prelude.{ℕ, ◌+◌, ◌*◌, ◌≡◌, ◌<◌, ◌≤◌, List, Option, Some, None}
+use Rattle.std.specs.Prelude.{ℕ, ◌+◌, ◌*◌, ◌==◌, ◌≡◌, ◌<◌, ◌≤◌, ◌||◌, Bool, true, false, List, [], ◌∷◌, Option, Some, None}
 use Rattle.p8_access.specs.declared.kinds.Origin.{Origin}
 use Rattle.p8_access.specs.declared.kinds.Access.{Access}
 use Rattle.p8_access.specs.declared.kinds.Access.TheVariants.{Begin, Load, Read, Write, CogId, CogInit, CogStop, LockNew, LockRet, LockSet, LockClr, ClkSet, PinsIn, OutSet, DirSet, Wait, Clock, Halt}
@@ -8,16 +8,16 @@ use Rattle.p8_access.specs.declared.lives.Next.{Next}
 use Rattle.p8_access.specs.declared.lives.Next.TheVariants.{At, Quiet, More}
 use Rattle.p8_access.specs.Proper.{IsProper}
 
--- what a PASM life began with: its 496 longs, PAR, its cog, and the clock of its first instruction
+-- what a PASM life began with: its code's address, PAR, its cog, and the clock of its Load
 pub record Loaded : Type 0 where
-  pub longs : List ℕ
+  pub code : ℕ
   pub par : ℕ
   pub cog : ℕ
-  pub begin : ℕ
+  pub load : ℕ
 
--- what a Spin life began with: the boot's memory, its origin, its cog, and the clock of its entry
+-- what a Spin life began with: the boot's memory, its origin, its cog, and the clock of its Begin
 pub record Entered : Type 0 where
-  pub code : List ℕ
+  pub memory : List ℕ
   pub origin : Origin
   pub cog : ℕ
   pub begin : ℕ
@@ -27,9 +27,21 @@ pub data Begun : Type 0 where
   PasmBegun : (loaded : Loaded) → Begun
   SpinBegun : (entered : Entered) → Begun
 
-abbrev pub begin_of : Begun → ℕ
-begin_of (PasmBegun loaded) = loaded.begin
-begin_of (SpinBegun entered) = entered.begin
+-- the clock of the turn with which it began
+abbrev pub first_turn_of : Begun → ℕ
+first_turn_of (PasmBegun loaded) = loaded.load
+first_turn_of (SpinBegun entered) = entered.begin
+
+-- a halt, and a stop of the cog itself, are the last access of a life
+abbrev pub is_last : (cog : ℕ) → Access → Bool
+is_last cog (Halt reason) = true
+is_last cog (CogStop target) = target == cog
+is_last cog _ = false
+
+-- whether a life in this cog is over by these turns
+abbrev pub has_ended : (cog : ℕ) → List Turn → Bool
+has_ended cog [] = false
+has_ended cog (turn ∷ turns) = is_last cog turn.access || has_ended cog turns
 
 -- what is said of the access that is asked next
 abbrev pub Tells : (ℕ → Access → Type 0) → ℕ → Next → Type 0
@@ -107,3 +119,17 @@ Spends place_before place_after reached_before reached_after pace until budget (
 Spends place_before place_after reached_before reached_after pace until budget Quiet = reached_before ≤ reached_after
 Spends place_before place_after reached_before reached_after pace until budget (More bound) =
     (place_after ≡ place_before + budget) × (reached_before + pace * budget ≤ bound) × (bound ≡ reached_after) × (bound < until)
+
+-- nothing whole is left to do. `Begins n clock` says that so many instructions or bytecodes are done whole
+-- and that the next one begins at that clock: none beyond this place before the access, none beyond it
+-- below `until`, and after More the next one begins at the bound.
+abbrev pub IsThorough : (Begins : ℕ → ℕ → Type 0) → (place until : ℕ) → Next → Type 0
+IsThorough Begins place until (At clock access) = (n begin : ℕ) → Begins n begin → n ≤ place
+IsThorough Begins place until Quiet = (n begin : ℕ) → Begins n begin → place < n → until ≤ begin
+IsThorough Begins place until (More bound) = Begins place bound
+
+-- an access that is told comes within the time between two windows
+abbrev pub IsNear : (reached : ℕ) → Next → Type 0
+IsNear reached (At clock access) = clock ≤ reached + 16
+IsNear reached Quiet = Unit {0}
+IsNear reached (More bound) = Unit {0}

@@ -7,6 +7,8 @@ mod kinds;
 mod lives;
 mod memory;
 mod order;
+#[cfg(test)]
+mod tests;
 mod turn_list;
 
 pub use kinds::{Access, Answer, Origin, Reason, Test, Width};

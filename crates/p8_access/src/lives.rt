@@ -1,10 +1,10 @@
 // What runs in a cog, as the machine sees it.
-ghost use Rattle.std.specs.Prelude.{◌≡◌, ◌<◌, ◌≤◌, ◌+◌, ◌^◌, ◌++◌, ◌∷◌, [], ℕ, List, Option, Some, None};
+ghost use Rattle.std.specs.Prelude.{◌≡◌, ◌<◌, ◌≤◌, ◌+◌, ◌-◌, ◌*◌, ◌^◌, ◌++◌, ◌∷◌, [], ℕ, false, List, Option, Some, None};
 ghost use Rattle.p8_access.specs.declared.kinds.Access.{Access};
 ghost use Rattle.p8_access.specs.declared.order.Turn.{Turn};
-ghost use Rattle.p8_access.specs.declared.lives.Next.TheVariants.{At};
+ghost use Rattle.p8_access.specs.declared.lives.Next.TheVariants.{At, Quiet};
 ghost use Rattle.p8_access.specs.Proper.{Fits};
-ghost use Rattle.p8_access.specs.Lives.{Begun, begin_of, Tells, IsMadeNext, announced_by, IsTurnAt, IsAnnounced, Spends};
+ghost use Rattle.p8_access.specs.Lives.{Begun, first_turn_of, has_ended, Tells, IsMadeNext, announced_by, IsTurnAt, IsAnnounced, Spends, IsThorough, IsNear};
 
 use crate::kinds::Access;
 use crate::order::Turn;
@@ -31,6 +31,10 @@ pub trait Life {
     /// After these turns this is the first access that has none yet, with its earliest clock.
     ghost asked: { Begun → List Turn → ℕ → Access → Type 0 };
 
+    /// With these turns so many instructions or bytecodes of the life are done whole, and the next one
+    /// begins at this clock. While a start is under way none is, and the first one begins behind it.
+    ghost begins: { Begun → List Turn → (place : ℕ) → (clock : ℕ) → Type 0 };
+
     /// How many instructions or bytecodes it has done since its start.
     ghost place: { Self → ℕ };
 
@@ -39,6 +43,12 @@ pub trait Life {
 
     /// The fewest clocks that one instruction or bytecode takes.
     ghost pace: { Self → ℕ };
+
+    /// The most clocks that one takes which asks nothing.
+    ghost stride: { Self → ℕ };
+
+    /// The most clocks from a turn to where the next one begins.
+    ghost lead: { Self → ℕ };
 
     /// The access that was announced and has no turn yet, with its earliest clock.
     ghost announced: { Self → Option (ℕ × Access) };
@@ -58,9 +68,19 @@ pub trait Life {
         ensures made { IsMadeNext result }
         ensures again { (clock : ℕ) (access : Access) → announced self.old ≡ Some (clock, access) → clock < until → result ≡ At clock access }
 
+        ensures forward { place self.old ≤ place self.new }
+        ensures budget { place self.new ≤ place self.old + budget }
+        ensures thorough { (b : Begun) (ts : List Turn) → stands self.old b ts → IsThorough (begins b ts) (place self.new) until result }
+
         ensures spends { Spends (place self.old) (place self.new) (reached self.old) (reached self.new) (pace self.old) until budget result }
+        ensures stride { reached self.new ≤ reached self.old + stride self.old * (place self.new - place self.old) }
+        ensures near { IsNear (reached self.new) result }
+        ensures quiet { (b : Begun) (ts : List Turn) → stands self.old b ts → has_ended (cog self.old) ts ≡ false → result ≡ Quiet → until ≤ reached self.new + 16 }
+
         ensures announced { announced self.new ≡ announced_by result }
-        ensures pace { pace self.new ≡ pace self.old }
+        ensures same_pace { pace self.new ≡ pace self.old }
+        ensures same_stride { stride self.new ≡ stride self.old }
+        ensures same_lead { lead self.new ≡ lead self.old }
         ensures cog { cog self.new ≡ cog self.old };
 
     /// Takes the turn of the access that was announced: at its clock, or for a wait not before it.
@@ -73,17 +93,23 @@ pub trait Life {
         ensures stands { (b : Begun) (ts : List Turn) → stands self.old b ts → stands self.new b (ts ++ turn.now ∷ []) }
         ensures announced { announced self.new ≡ None }
         ensures reached { turn.now.key.clock ≤ reached self.new }
-        ensures pace { pace self.new ≡ pace self.old }
+        ensures lead { reached self.new ≤ turn.now.key.clock + lead self.old }
+        ensures same_pace { pace self.new ≡ pace self.old }
+        ensures same_stride { stride self.new ≡ stride self.old }
+        ensures same_lead { lead self.new ≡ lead self.old }
         ensures cog { cog self.new ≡ cog self.old };
 
     /// An instruction or a bytecode takes time.
     ghost paced: { (life : Self) → 4 ≤ pace life };
 
+    /// Its place is the place in the replay, until it is over.
+    ghost placed: { (life : Self) (b : Begun) (ts : List Turn) → stands life b ts → has_ended (cog life) ts ≡ false → (clock : ℕ) × begins b ts (place life) clock };
+
     /// One access is asked next.
     ghost one_asked: { (b : Begun) (ts : List Turn) (c d : ℕ) (a e : Access) → asked b ts c a → asked b ts d e → (c ≡ d) × (a ≡ e) };
 
-    /// Nothing is asked before the begin.
-    ghost asked_first: { (b : Begun) (c : ℕ) (a : Access) → asked b [] c a → begin_of b ≤ c };
+    /// Nothing is asked up to the turn with which the life began.
+    ghost asked_first: { (b : Begun) (c : ℕ) (a : Access) → asked b [] c a → first_turn_of b < c };
 
     /// What is asked after a turn comes later than it.
     ghost asked_later: { (b : Begun) (ts : List Turn) (turn : Turn) (c d : ℕ) (a e : Access) → asked b ts c a → IsTurnAt c a turn → asked b (ts ++ turn ∷ []) d e → turn.key.clock < d };
