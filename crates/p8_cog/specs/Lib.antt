@@ -5,3 +5,5 @@ pub mod Standing
 -- Machinery that only proofs need.
 pub mod Stops
 pub mod Replaying
+pub mod Reaching
+pub mod Keeping

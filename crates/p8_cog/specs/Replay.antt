@@ -1,8 +1,9 @@
--- The life of a PASM cog, replayed whole from its start: instruction by instruction, each of them one
--- formula with its accesses in order (Propeller Manual v1.2, assembly reference; the clocks, the flags of
--- instructions of the hub and the halts are this project's profile).
-use Rattle.std.specs.Prelude.{ℕ, zero, suc, ◌+◌, ◌*◌, ◌/◌, ◌%◌, ◌^◌, ◌==◌, ◌≡◌, ◌&&◌, nat_lt, nat_le, not, if◌then◌else◌, Bool, true, false, List, [], ◌∷◌, ◌++◌, Option, Some, None, slice_index, slice_set, replicate}
+-- The life of a PASM cog, replayed whole from its start: the reads of its load, and then instruction by
+-- instruction, each of them one formula with its accesses in order (Propeller Manual v1.2, assembly
+-- reference; the clocks, the flags of instructions of the hub and the halts are this project's profile).
+use Rattle.std.specs.Prelude.{ℕ, zero, suc, ◌+◌, ◌*◌, ◌/◌, ◌%◌, ◌^◌, ◌==◌, ◌≡◌, ◌⊎◌, ◌&&◌, nat_lt, nat_le, not, if◌then◌else◌, Bool, true, false, List, [], ◌∷◌, ◌++◌, Option, Some, None, length, slice_index, slice_set, replicate}
 use Rattle.p8_access.specs.declared.kinds.Width.{Width}
+use Rattle.p8_access.specs.declared.kinds.Width.TheVariants.{Long}
 use Rattle.p8_access.specs.declared.kinds.Origin.TheVariants.{Pasm}
 use Rattle.p8_access.specs.declared.kinds.Test.{Test}
 use Rattle.p8_access.specs.declared.kinds.Test.TheVariants.{Count, PinsEqual, PinsDiffer}
@@ -14,8 +15,8 @@ use Rattle.p8_access.specs.declared.kinds.Answer.{Answer}
 use Rattle.p8_access.specs.declared.kinds.Answer.TheVariants.{Done, Value, Number, Was}
 use Rattle.p8_access.specs.declared.order.Turn.{Turn}
 use Rattle.p8_access.specs.Windows.{window_of}
-use Rattle.p8_access.specs.Proper.{bytes_in}
-use Rattle.p8_access.specs.Lives.{Loaded, Begun, PasmBegun, SpinBegun}
+use Rattle.p8_access.specs.Proper.{bytes_in, value_of}
+use Rattle.p8_access.specs.Lives.{Loaded, Begun, PasmBegun, SpinBegun, is_last}
 use Rattle.p8_instr.specs.declared.instruction.Instr.{Instr}
 use Rattle.p8_instr.specs.Instruction.{instr_of, bit_range, writes_z, writes_c, writes_result, is_immediate}
 use Rattle.p8_alu.specs.declared.effect.Effect.{Effect}
@@ -36,12 +37,6 @@ pub data Course : Type 0 where
   Go : (state : State) → Course
   -- the life is over
   End : Course
-
--- a halt, and a stop of the cog itself, are the last access of a life
-abbrev pub is_last : (cog : ℕ) → Access → Bool
-is_last cog (Halt reason) = true
-is_last cog (CogStop target) = target == cog
-is_last cog _ = false
 
 -- an access at this clock, after which the instruction goes on so where the life isn't over
 abbrev pub ask : (cog clock : ℕ) → Access → (Turn → Course) → Course
@@ -71,13 +66,6 @@ register_value s register =
 abbrev pub source_value : State → ℕ
 source_value s =
     if is_immediate (at_hand s) then (at_hand s).source else register_value s (at_hand s).source
-
--- the value that an answer gives a register; no other answer fits an access whose value is kept
-abbrev pub value_of : Answer → ℕ
-value_of (Value value) = value
-value_of Done = 0
-value_of (Number n) = 0
-value_of (Was set) = 0
 
 -- the source is read, at this clock where that takes an access, and the instruction goes on with its value
 abbrev pub sourced_by : Option Access → (clock : ℕ) → State → (ℕ → Course) → Course
@@ -323,11 +311,41 @@ first_with longs par begin = record {
   z = false;
 }
 
--- so many instructions from the start, with these turns
+-- The load behind a PASM start: 496 reads, long k from the address code + 4k at the clock load + 16(k + 1).
+-- These longs have been read, and so many are to come; then the first instruction begins, 8,192 clocks
+-- after the turn of Load.
+unfoldable pub loading : Loaded → (to_come : ℕ) → (longs : List ℕ) → Course
+loading l zero longs = Go (first_with longs l.par (l.load + 8192))
+loading l (suc to_come) longs =
+    Ask (l.load + 16 * (length longs + 1)) (Read Long (l.code + 4 * length longs))
+    (λ turn. loading l to_come (longs ++ value_of turn.answer ∷ []))
+
+-- how the load stands with these turns
+abbrev pub loaded_by : Loaded → List Turn → Outcome
+loaded_by loaded turns = played (loading loaded 496 []) turns
+
+-- so many instructions behind the load, with these turns
 abbrev pub replayed : (count : ℕ) → Loaded → List Turn → Outcome
-replayed count loaded turns = after loaded.cog count (Goes (first_with loaded.longs loaded.par loaded.begin) turns)
+replayed count loaded turns = after loaded.cog count (loaded_by loaded turns)
 
 -- after these turns the life asks this access next, from this clock on
 abbrev pub IsAsked : Begun → List Turn → ℕ → Access → Type 0
 IsAsked (PasmBegun loaded) turns clock access = (count : ℕ) × (replayed count loaded turns ≡ Asks clock access)
 IsAsked (SpinBegun entered) turns clock access = ⊥
+
+-- an instruction begins at this clock
+abbrev pub BeginsAt : (clock : ℕ) → Outcome → Type 0
+BeginsAt clock (Goes s left) = s.clock ≡ clock
+BeginsAt clock (Asks c access) = ⊥
+BeginsAt clock Ends = ⊥
+
+-- the load still asks
+abbrev pub IsLoading : Loaded → List Turn → Type 0
+IsLoading loaded turns = (clock : ℕ) × (access : Access) × (loaded_by loaded turns ≡ Asks clock access)
+
+-- with these turns so many instructions are done whole, and the next one begins at this clock; while the
+-- load asks none is, and the first one begins behind it
+abbrev pub Begins : Begun → List Turn → (place clock : ℕ) → Type 0
+Begins (PasmBegun loaded) turns place clock =
+    BeginsAt clock (replayed place loaded turns) ⊎ (IsLoading loaded turns × (place ≡ 0) × (clock ≡ loaded.load + 8192))
+Begins (SpinBegun entered) turns place clock = ⊥

@@ -1,15 +1,14 @@
 -- internal: what follows from a replay. No public contract cites it.
-use Rattle.std.proofs.Common.{◌≡◌, ℕ, zero, suc, ◌+◌, ◌<◌, ◌≤◌, ◌^◌, Bool, true, false, List, [], ◌∷◌, ◌++◌, Option, Some, None, refl, sym, ◌∙◌, ap, subst, arith, add_comm, add_assoc, zero-add, add-one, nat_lt, nat_le, not, ◌&&◌, ◌==◌, if◌then◌else◌}
-use Rattle.std.proofs.lemmas.Bool.{ltb-true, ltb-false}
+use Rattle.std.proofs.Common.{◌≡◌, ◌⊎◌, inl, inr, ℕ, zero, suc, ◌+◌, ◌*◌, ◌<◌, ◌≤◌, Bool, true, false, List, [], ◌∷◌, ◌++◌, length, Option, Some, None, refl, sym, ◌∙◌, ap, subst, arith, add_comm, add-one, nat_le, not, ◌&&◌, ◌==◌, if◌then◌else◌}
+use Rattle.std.proofs.lemmas.List.{length-append}
 use Rattle.std.proofs.lemmas.Grind.{common_steps}
 use Rattle.p8_access.specs.declared.kinds.Reason.TheVariants.{Register}
 use Rattle.p8_access.specs.declared.kinds.Access.{Access}
 use Rattle.p8_access.specs.declared.kinds.Access.TheVariants.{Wait, Clock, PinsIn, OutSet, DirSet, Halt}
 use Rattle.p8_access.specs.declared.order.Turn.{Turn}
-use Rattle.p8_access.specs.declared.lives.Next.{Next}
-use Rattle.p8_access.specs.declared.lives.Next.TheVariants.{At, Quiet, More}
 use Rattle.p8_access.specs.Windows.{window_of}
-use Rattle.p8_access.specs.Lives.{Loaded, Begun, PasmBegun, SpinBegun, begin_of, Tells, IsOnTime, IsTurnAt, IsAnnounced}
+use Rattle.p8_access.specs.Proper.{value_of}
+use Rattle.p8_access.specs.Lives.{Loaded, Begun, PasmBegun, SpinBegun, first_turn_of, is_last, IsOnTime, IsTurnAt}
 use Rattle.p8_instr.specs.declared.instruction.Instr.{Instr}
 use Rattle.p8_instr.specs.Instruction.{writes_result, is_immediate}
 use Rattle.p8_alu.specs.declared.effect.Effect.{Effect}
@@ -17,19 +16,14 @@ use Rattle.p8_cog.specs.declared.kind.Kind.{Kind}
 use Rattle.p8_cog.specs.declared.kind.Kind.TheVariants.{Skipped, Halting, OfHub, Waiting, Computing}
 use Rattle.p8_cog.specs.declared.hub.Request.{Request}
 use Rattle.p8_cog.specs.declared.state.State.{State}
-use Rattle.p8_cog.specs.declared.ending.Ending.TheVariants.{Over, Whole}
-use Rattle.p8_cog.specs.declared.progress.Had.{Had}
-use Rattle.p8_cog.specs.declared.progress.Had.TheVariants.{Nothing}
-use Rattle.p8_cog.specs.declared.progress.Progress.{Progress}
 use Rattle.p8_cog.specs.Instructions.{cnt_register, ina_register, outa_register, dira_register, ctra_register, djnz, kind_of, source_access}
-use Rattle.p8_cog.specs.Replay.{Course, Ask, Go, End, ask, is_last, at_hand, destination_value, source_value, value_of, sourced_by, sourced, answered, test_of, wait_effect, effect, jumps, computed, compute, result_access, written_by, ends_after, hub_request, ask_hub, use_hub, is_port_wait, wait, does, instruction, played, Outcome, Asks, Goes, Ends, step, after, first_with, replayed, IsAsked}
-use Rattle.p8_cog.specs.Standing.{standing_at, turns_of, StandsFor, clock_in, clock_of}
-use Rattle.p8_cog.specs.Stops.{IsFrom, left_of, latest, is_asking, IsHalf, Announces, IsSpent, Stops, Leads, Takes, Comes}
+use Rattle.p8_cog.specs.Replay.{Course, Ask, Go, End, ask, at_hand, destination_value, source_value, sourced_by, sourced, answered, test_of, wait_effect, effect, jumps, computed, compute, result_access, written_by, ends_after, hub_request, ask_hub, use_hub, is_port_wait, wait, does, instruction, played, Outcome, Asks, Goes, Ends, step, after, loading, loaded_by, replayed, IsAsked}
+use Rattle.p8_cog.specs.Stops.{IsFrom, left_of, Comes}
 
 -- ---- one course
 
 -- a turn that is on time isn't before its earliest clock
-on-time : (access : Access) (earliest clock : ℕ) → IsOnTime access earliest clock → earliest ≤ clock
+pub on-time : (access : Access) (earliest clock : ℕ) → IsOnTime access earliest clock → earliest ≤ clock
 on-time (Wait test) earliest clock on = on
 on-time _ earliest clock on = omega arith
 
@@ -59,7 +53,7 @@ IsShort (Ask clock access go) (suc n) = (turn : Turn) → IsShort (go turn) n
 IsShort (Go s) n = Unit {0}
 IsShort End n = Unit {0}
 
-if-holds : (P : Course → Type 0) (b : Bool) (x y : Course) → P x → P y → P (if b then x else y)
+pub if-holds : (P : Course → Type 0) (b : Bool) (x y : Course) → P x → P y → P (if b then x else y)
 if-holds P true x y p q = p
 if-holds P false x y p q = q
 
@@ -67,19 +61,19 @@ if-clock : (least : ℕ) (b : Bool) (x y : State) → least ≤ x.clock → leas
 if-clock least true x y p q = p
 if-clock least false x y p q = q
 
-if-option : (P : Option Access → Type 0) (b : Bool) (x y : Option Access) → P x → P y → P (if b then x else y)
+pub if-option : (P : Option Access → Type 0) (b : Bool) (x y : Option Access) → P x → P y → P (if b then x else y)
 if-option P true x y p q = p
 if-option P false x y p q = q
 
 -- a fact of every access that a source makes
-source-holds : (P : Option Access → Type 0) (i : Instr) → P None → P (Some Clock) → P (Some PinsIn) → P (source_access i)
+pub source-holds : (P : Option Access → Type 0) (i : Instr) → P None → P (Some Clock) → P (Some PinsIn) → P (source_access i)
 source-holds P i none clock pins =
     if-option P (is_immediate i) _ _ none
     (if-option P (i.source == cnt_register) _ _ clock
     (if-option P (i.source == ina_register) _ _ pins none))
 
 -- and of every access that a result makes
-result-holds : (P : Option Access → Type 0) (i : Instr) (value : ℕ) → P None → P (Some (OutSet value)) → P (Some (DirSet value)) → P (Some (Halt (Register i.dest))) → P (result_access i value)
+pub result-holds : (P : Option Access → Type 0) (i : Instr) (value : ℕ) → P None → P (Some (OutSet value)) → P (Some (DirSet value)) → P (Some (Halt (Register i.dest))) → P (result_access i value)
 result-holds P i value none out dir stop =
     if-option P (writes_result i) _ _
     (if-option P (i.dest == outa_register) _ _ out
@@ -89,7 +83,7 @@ result-holds P i value none out dir stop =
 
 -- ---- the parts of an instruction
 
-ask-orderly : (cog clock : ℕ) (access : Access) (go : Turn → Course) → ((turn : Turn) → IsOnTime access clock turn.key.clock → IsNotBefore (turn.key.clock + 1) (go turn)) → ((turn : Turn) → IsOrderly (go turn)) → IsOrderly (ask cog clock access go)
+pub ask-orderly : (cog clock : ℕ) (access : Access) (go : Turn → Course) → ((turn : Turn) → IsOnTime access clock turn.key.clock → IsNotBefore (turn.key.clock + 1) (go turn)) → ((turn : Turn) → IsOrderly (go turn)) → IsOrderly (ask cog clock access go)
 ask-orderly cog clock access go later rest =
     λ turn. (λ on. if-holds (IsNotBefore (turn.key.clock + 1)) (is_last cog access) End (go turn) tt (later turn on), if-holds IsOrderly (is_last cog access) End (go turn) tt (rest turn))
 
@@ -236,7 +230,7 @@ does-short Computing cog s =
 
 -- ---- a course that is played
 
-played-from : (course : Course) (least : ℕ) → IsNotBefore least course → IsFrom least (played course [])
+pub played-from : (course : Course) (least : ℕ) → IsNotBefore least course → IsFrom least (played course [])
 played-from (Ask clock access go) least from = from
 played-from (Go s) least from = from
 played-from End least from = tt
@@ -318,32 +312,6 @@ pub begin-asks : (cog clock : ℕ) (s : State) (access : Access) → played (ins
 begin-asks cog clock s access e =
     subst (IsFrom s.clock) e (played-from (instruction cog s) s.clock (does-not_before (kind_of (at_hand s) s.c s.z) cog s))
 
--- ---- the instruction at hand and a turn
-
--- it is done by that turn
-pub whole-takes : (cog : ℕ) (s next : State) (left turns : List Turn) (turn : Turn) → turns ≡ left ++ turn ∷ [] → Comes (played (instruction cog s) left) turn → played (instruction cog s) turns ≡ Goes next (left_of (played (instruction cog s) turns)) → (played (instruction cog s) (left ++ turn ∷ []) ≡ Goes next []) × (turn.key.clock < next.clock)
-whole-takes cog s next left turns turn is comes e =
-    let w = whole-in (turn.key.clock + 1) (played (instruction cog s) (left ++ turn ∷ [])) next (came cog s left turn comes)
-    (subst (λ (ts : List Turn). played (instruction cog s) ts ≡ Goes next (left_of (played (instruction cog s) ts))) is e) in
-    (w.0, omega (arith, w.1))
-
--- it asks a further access
-pub half-holds : (cog clock : ℕ) (s next : State) (left turns : List Turn) (turn : Turn) (had : Had) (access : Access) → turns ≡ left ++ turn ∷ [] → turns_of had ≡ turns → next ≡ s → clock_in s.clock had ≡ turn.key.clock → s.clock + 1 < 2 ^ 62 → latest turns < 2 ^ 62 → Comes (played (instruction cog s) left) turn → played (instruction cog s) turns ≡ Asks clock access → IsHalf cog (record { begun = next; had = had })
-half-holds cog clock s next left turns turn had access is keeps same last begun below comes asks = λ half.
-    let here : played (instruction cog next) (turns_of had) ≡ played (instruction cog s) turns =
-    ap (λ (x : State). played (instruction cog x) (turns_of had)) same ∙ ap (played (instruction cog s)) keeps in
-    let reached : clock_in next.clock had ≡ turn.key.clock = ap (λ (x : State). clock_in x.clock had) same ∙ last in
-    let start : next.clock ≡ s.clock = ap (λ (x : State). x.clock) same in
-    let had-below : latest (turns_of had) < 2 ^ 62 = subst (λ (ts : List Turn). latest ts < 2 ^ 62) (sym keeps) below in (
-      ap is_asking (here ∙ asks),
-      (λ c a e.
-          let from : IsFrom (turn.key.clock + 1) (played (instruction cog s) turns) = subst (λ (ts : List Turn). IsFrom (turn.key.clock + 1) (played (instruction cog s) ts)) (sym is) (came cog s left turn comes) in
-          let le : turn.key.clock + 1 ≤ c = subst (IsFrom (turn.key.clock + 1)) (sym here ∙ e) from in
-          omega (arith, le, reached)),
-      omega (arith, start, begun),
-      had-below,
-    )
-
 -- ---- many instructions
 
 -- one instruction more
@@ -352,7 +320,7 @@ unfolding after
 after-one cog n o = rw add-one refl
 
 -- m instructions after k
-after-plus : (cog m k : ℕ) (o : Outcome) → after cog (m + k) o ≡ after cog m (after cog k o)
+pub after-plus : (cog m k : ℕ) (o : Outcome) → after cog (m + k) o ≡ after cog m (after cog k o)
 unfolding after
 after-plus cog zero k o = grind (arith, common_steps)
 after-plus cog (suc m) k o =
@@ -360,25 +328,25 @@ after-plus cog (suc m) k o =
     rw e (ap (step cog) (after-plus cog m k o))
 
 -- what has stopped stays as it is
-after-asks : (cog n clock : ℕ) (access : Access) → after cog n (Asks clock access) ≡ Asks clock access
+pub after-asks : (cog n clock : ℕ) (access : Access) → after cog n (Asks clock access) ≡ Asks clock access
 unfolding after
 after-asks cog zero clock access = refl
 after-asks cog (suc n) clock access = ap (step cog) (after-asks cog n clock access)
 
-from-below : (a b : ℕ) (o : Outcome) → a ≤ b → IsFrom b o → IsFrom a o
+pub from-below : (a b : ℕ) (o : Outcome) → a ≤ b → IsFrom b o → IsFrom a o
 from-below a b (Goes s []) le from = omega arith
 from-below a b (Goes s (turn ∷ left)) le from = from
 from-below a b (Asks c access) le from = omega arith
 from-below a b Ends le from = tt
 
-step-from : (cog clock : ℕ) (o : Outcome) → IsFrom clock o → IsFrom clock (step cog o)
+pub step-from : (cog clock : ℕ) (o : Outcome) → IsFrom clock o → IsFrom clock (step cog o)
 step-from cog clock (Goes s []) from =
     from-below _ _ _ from (played-from _ _ (does-not_before (kind_of (at_hand s) s.c s.z) cog s))
 step-from cog clock (Goes s (turn ∷ left)) from = absurd from
 step-from cog clock (Asks c access) from = from
 step-from cog clock Ends from = from
 
-after-from : (cog n clock : ℕ) (o : Outcome) → IsFrom clock o → IsFrom clock (after cog n o)
+pub after-from : (cog n clock : ℕ) (o : Outcome) → IsFrom clock o → IsFrom clock (after cog n o)
 unfolding after
 after-from cog zero clock o from = from
 after-from cog (suc n) clock o from = step-from cog clock _ (after-from cog n clock o from)
@@ -387,6 +355,11 @@ step-moves : (cog : ℕ) (o : Outcome) → Moves (step cog o) → Moves o
 step-moves cog (Goes s left) moves = tt
 step-moves cog (Asks clock access) moves = moves
 step-moves cog Ends moves = tt
+
+after-moves : (cog n : ℕ) (o : Outcome) → Moves (after cog n o) → Moves o
+unfolding after
+after-moves cog zero o moves = moves
+after-moves cog (suc n) o moves = after-moves cog n o (step-moves cog (after cog n o) moves)
 
 step-more : (cog : ℕ) (o : Outcome) (extra : List Turn) → Moves (step cog o) → step cog (more o extra) ≡ more (step cog o) extra
 step-more cog (Goes s left) extra moves = played-more (instruction cog s) left extra moves
@@ -399,16 +372,37 @@ after-more cog zero o extra moves = refl
 after-more cog (suc n) o extra moves =
     ap (step cog) (after-more cog n o extra (step-moves cog _ moves)) ∙ step-more cog (after cog n o) extra moves
 
+-- ---- the load
+
+loading-not_before : (least : ℕ) (l : Loaded) (n : ℕ) (longs : List ℕ) → length longs + n ≤ 496 → least ≤ l.load + 16 * length longs + 1 → IsNotBefore least (loading l n longs)
+unfolding loading
+loading-not_before least l zero longs room le = omega (arith, room, le)
+loading-not_before least l (suc n) longs room le = omega (arith, le)
+
+-- what comes behind a read comes later than it
+loading-orderly : (l : Loaded) (n : ℕ) (longs : List ℕ) → length longs + n ≤ 496 → IsOrderly (loading l n longs)
+unfolding loading
+loading-orderly l zero longs room = tt
+loading-orderly l (suc n) longs room = λ turn.
+    let size : length (longs ++ value_of turn.answer ∷ []) ≡ length longs + 1 = length-append longs (value_of turn.answer ∷ []) in
+    let rest : length (longs ++ value_of turn.answer ∷ []) + n ≤ 496 = omega (arith, size, room) in (
+      (λ on. loading-not_before (turn.key.clock + 1) l n (longs ++ value_of turn.answer ∷ []) rest (omega (arith, size, on))),
+      loading-orderly l n (longs ++ value_of turn.answer ∷ []) rest,
+    )
+
 -- ---- a life
 
 -- where a turn comes, it is left for the instruction that has been reached
-turn-kept : (k : ℕ) (loaded : Loaded) (ts : List Turn) (turn : Turn) (s : State) (left : List Turn) → replayed k loaded ts ≡ Goes s left → replayed k loaded (ts ++ turn ∷ []) ≡ Goes s (left ++ turn ∷ [])
+pub turn-kept : (k : ℕ) (loaded : Loaded) (ts : List Turn) (turn : Turn) (s : State) (left : List Turn) → replayed k loaded ts ≡ Goes s left → replayed k loaded (ts ++ turn ∷ []) ≡ Goes s (left ++ turn ∷ [])
 turn-kept k loaded ts turn s left reached =
     let moves : Moves (replayed k loaded ts) = subst Moves (sym reached) tt in
-    after-more loaded.cog k (Goes (first_with loaded.longs loaded.par loaded.begin) ts) (turn ∷ []) moves ∙ ap (λ (o : Outcome). more o (turn ∷ [])) reached
+    let begun : Moves (loaded_by loaded ts) = after-moves loaded.cog k (loaded_by loaded ts) moves in
+    ap (after loaded.cog k) (played-more (loading loaded 496 []) ts (turn ∷ []) begun)
+    ∙ after-more loaded.cog k (loaded_by loaded ts) (turn ∷ []) moves
+    ∙ ap (λ (o : Outcome). more o (turn ∷ [])) reached
 
 -- and is taken by that instruction
-turn-taken : (k : ℕ) (loaded : Loaded) (ts : List Turn) (turn : Turn) (s : State) (left : List Turn) → replayed k loaded ts ≡ Goes s left → replayed (k + 1) loaded (ts ++ turn ∷ []) ≡ played (instruction loaded.cog s) (left ++ turn ∷ [])
+pub turn-taken : (k : ℕ) (loaded : Loaded) (ts : List Turn) (turn : Turn) (s : State) (left : List Turn) → replayed k loaded ts ≡ Goes s left → replayed (k + 1) loaded (ts ++ turn ∷ []) ≡ played (instruction loaded.cog s) (left ++ turn ∷ [])
 turn-taken k loaded ts turn s left reached =
     after-one loaded.cog k _ ∙ ap (step loaded.cog) (turn-kept k loaded ts turn s left reached)
 
@@ -420,9 +414,15 @@ asked-from loaded ts k n clock access o reached asks =
     ∙ after-plus loaded.cog k n _ ∙ ap (after loaded.cog k) asks ∙ after-asks loaded.cog k clock access
 
 -- and not before it
-not-before : (loaded : Loaded) (ts : List Turn) (k : ℕ) (o : Outcome) (until : ℕ) → replayed k loaded ts ≡ o → IsFrom until o → (n clock : ℕ) (access : Access) → replayed n loaded ts ≡ Asks clock access → until ≤ clock
+pub not-before : (loaded : Loaded) (ts : List Turn) (k : ℕ) (o : Outcome) (until : ℕ) → replayed k loaded ts ≡ o → IsFrom until o → (n clock : ℕ) (access : Access) → replayed n loaded ts ≡ Asks clock access → until ≤ clock
 not-before loaded ts k o until reached from n clock access asks =
     subst (IsFrom until) (asked-from loaded ts k n clock access o reached asks) (after-from loaded.cog n until o from)
+
+-- and not before how the load stands
+load-bounds : (loaded : Loaded) (ts : List Turn) (until : ℕ) → IsFrom until (loaded_by loaded ts) → (n clock : ℕ) (access : Access) → replayed n loaded ts ≡ Asks clock access → until ≤ clock
+unfolding after
+load-bounds loaded ts until from n clock access asks =
+    not-before loaded ts zero (loaded_by loaded ts) until refl from n clock access asks
 
 -- one access is asked
 pub one-asked : (b : Begun) (ts : List Turn) (c d : ℕ) (a e : Access) → IsAsked b ts c a → IsAsked b ts d e → (c ≡ d) × (a ≡ e)
@@ -431,178 +431,42 @@ one-asked (PasmBegun loaded) ts c d a e one other =
     (cc, cc)
 one-asked (SpinBegun entered) ts c d a e one other = absurd one
 
--- nothing is asked before the begin
-pub asked-first : (b : Begun) (c : ℕ) (a : Access) → IsAsked b [] c a → begin_of b ≤ c
-unfolding after
+-- nothing is asked up to the turn of the Load
+pub asked-first : (b : Begun) (c : ℕ) (a : Access) → IsAsked b [] c a → first_turn_of b < c
 asked-first (PasmBegun loaded) c a asked =
-    not-before loaded [] 0 (Goes (first_with loaded.longs loaded.par loaded.begin) []) loaded.begin refl (omega arith) asked.0 c a asked.1
+    let from : IsFrom (loaded.load + 1) (loaded_by loaded []) = played-from (loading loaded 496 []) (loaded.load + 1) (loading-not_before (loaded.load + 1) loaded 496 [] (omega arith) (omega arith)) in
+    let le : loaded.load + 1 ≤ c = load-bounds loaded [] (loaded.load + 1) from asked.0 c a asked.1 in
+    omega (arith, le)
 asked-first (SpinBegun entered) c a asked = absurd asked
 
 -- an instruction that has been reached and asks this
-abbrev pub Asker : ℕ → State → List Turn → ℕ → Access → Type 0
-Asker cog s ts clock access = (k : ℕ) × (at : State) × (left : List Turn) × (after cog k (Goes s ts) ≡ Goes at left) × (played (instruction cog at) left ≡ Asks clock access)
+abbrev pub Asker : ℕ → Outcome → ℕ → Access → Type 0
+Asker cog o clock access = (k : ℕ) × (at : State) × (left : List Turn) × (after cog k o ≡ Goes at left) × (played (instruction cog at) left ≡ Asks clock access)
 
-asker-step : (cog n : ℕ) (s : State) (ts : List Turn) (clock : ℕ) (access : Access) (o : Outcome) → (after cog n (Goes s ts) ≡ Asks clock access → Asker cog s ts clock access) → after cog n (Goes s ts) ≡ o → step cog o ≡ Asks clock access → Asker cog s ts clock access
-asker-step cog n s ts clock access (Goes at left) before reached asks = (n, at, left, reached, asks)
-asker-step cog n s ts clock access (Asks c a) before reached asks = before (reached ∙ asks)
-asker-step cog n s ts clock access Ends before reached asks = absurd cc
+asker-step : (cog n : ℕ) (from : Outcome) (clock : ℕ) (access : Access) (o : Outcome) → (after cog n from ≡ Asks clock access → (from ≡ Asks clock access) ⊎ Asker cog from clock access) → after cog n from ≡ o → step cog o ≡ Asks clock access → (from ≡ Asks clock access) ⊎ Asker cog from clock access
+asker-step cog n from clock access (Goes at left) before reached asks = inr (n, at, left, reached, asks)
+asker-step cog n from clock access (Asks c a) before reached asks = before (reached ∙ asks)
+asker-step cog n from clock access Ends before reached asks = absurd cc
 
-asker : (cog n : ℕ) (s : State) (ts : List Turn) (clock : ℕ) (access : Access) → after cog n (Goes s ts) ≡ Asks clock access → Asker cog s ts clock access
+-- what asks is where a walk begins, or an instruction on the way
+asker : (cog n : ℕ) (from : Outcome) (clock : ℕ) (access : Access) → after cog n from ≡ Asks clock access → (from ≡ Asks clock access) ⊎ Asker cog from clock access
 unfolding after
-asker cog zero s ts clock access e = absurd (let x : Goes s ts ≡ Asks clock access = e in cc)
-asker cog (suc n) s ts clock access e = asker-step cog n s ts clock access (after cog n (Goes s ts)) (asker cog n s ts clock access) refl e
+asker cog zero from clock access e = inl e
+asker cog (suc n) from clock access e = asker-step cog n from clock access (after cog n from) (asker cog n from clock access) refl e
 
 -- what is asked after a turn comes later than it
-later-in : (loaded : Loaded) (ts : List Turn) (turn : Turn) (c d : ℕ) (a e : Access) → IsOnTime a c turn.key.clock → IsAsked (PasmBegun loaded) ts c a → IsAsked (PasmBegun loaded) (ts ++ turn ∷ []) d e → turn.key.clock < d
-later-in loaded ts turn c d a e on one other =
-    let w = asker loaded.cog one.0 (first_with loaded.longs loaded.par loaded.begin) ts c a one.1 in
+later-by : (loaded : Loaded) (ts : List Turn) (turn : Turn) (c d : ℕ) (a e : Access) → IsOnTime a c turn.key.clock → (loaded_by loaded ts ≡ Asks c a) ⊎ Asker loaded.cog (loaded_by loaded ts) c a → IsAsked (PasmBegun loaded) (ts ++ turn ∷ []) d e → turn.key.clock + 1 ≤ d
+later-by loaded ts turn c d a e on (inl load) other =
+    load-bounds loaded (ts ++ turn ∷ []) (turn.key.clock + 1)
+    (played-then (loading loaded 496 []) ts turn c a (loading-orderly loaded 496 [] (omega arith)) on load)
+    other.0 d e other.1
+later-by loaded ts turn c d a e on (inr w) other =
     let taken = turn-taken w.0 loaded ts turn w.1 w.2 w.3 in
     let orderly = does-orderly (kind_of (at_hand w.1) w.1.c w.1.z) loaded.cog w.1 in
-    let le : turn.key.clock + 1 ≤ d = not-before loaded (ts ++ turn ∷ []) (w.0 + 1) _ (turn.key.clock + 1) taken (played-then _ w.2 turn c a orderly on w.4) other.0 d e other.1 in
-    omega arith
+    not-before loaded (ts ++ turn ∷ []) (w.0 + 1) _ (turn.key.clock + 1) taken (played-then _ w.2 turn c a orderly on w.4) other.0 d e other.1
 
 pub asked-later : (b : Begun) (ts : List Turn) (turn : Turn) (c d : ℕ) (a e : Access) → IsAsked b ts c a → IsTurnAt c a turn → IsAsked b (ts ++ turn ∷ []) d e → turn.key.clock < d
-asked-later (PasmBegun loaded) ts turn c d a e one at other = later-in loaded ts turn c d a e at.1 one other
+asked-later (PasmBegun loaded) ts turn c d a e one at other =
+    let le : turn.key.clock + 1 ≤ d = later-by loaded ts turn c d a e at.1 (asker loaded.cog one.0 (loaded_by loaded ts) c a one.1) other in
+    omega (arith, le)
 asked-later (SpinBegun entered) ts turn c d a e one at other = absurd one
-
--- ---- what a cog keeps
-
--- a cog that stands for these turns tells what is asked
-tells-in : (done : ℕ) (loaded : Loaded) (here : Outcome) (reached : ℕ) (ts : List Turn) (until : ℕ) (next : Next) → replayed done loaded ts ≡ here → Stops loaded.cog here reached until next → Tells (IsAsked (PasmBegun loaded) ts) until next
-tells-in done loaded here reached ts until (At clock access) is stops =
-    ((done + 1, after-one loaded.cog done _ ∙ ap (step loaded.cog) is ∙ stops.0), stops.2)
-tells-in done loaded here reached ts until Quiet is stops =
-    λ clock access asked. not-before loaded ts (done + 1) (step loaded.cog here) until (after-one loaded.cog done _ ∙ ap (step loaded.cog) is) stops asked.0 clock access asked.1
-tells-in done loaded here reached ts until (More bound) is stops =
-    λ clock access asked. not-before loaded ts done here bound is stops asked.0 clock access asked.1
-
-pub stops-tells : (done cog : ℕ) (over : Bool) (p : Progress) (reached : ℕ) (b : Begun) (ts : List Turn) (until : ℕ) (next : Next) → Stops cog (standing_at over p) reached until next → StandsFor done cog over p b ts → Tells (IsAsked b ts) until next
-stops-tells done cog over p reached (PasmBegun loaded) ts until next stops stands =
-    tells-in done loaded _ reached ts until next stands.reached (subst (λ (n : ℕ). Stops n (standing_at over p) reached until next) (sym stands.own) stops)
-stops-tells done cog over p reached (SpinBegun entered) ts until next stops stands = absurd stands
-
--- after the instructions that were done a cog stands for the same turns
-pub stands-led : (done more cog : ℕ) (p new : Progress) (b : Begun) (ts : List Turn) → Leads cog more (standing_at false p) (standing_at false new) → StandsFor done cog false p b ts → StandsFor (done + more) cog false new b ts
-stands-led done more cog p new (PasmBegun loaded) ts leads stands =
-    record {
-      own = stands.own;
-      reached = ap (λ (n : ℕ). after n (done + more) (Goes (first_with loaded.longs loaded.par loaded.begin) ts)) stands.own ∙ leads done _ (ap (λ (n : ℕ). after n done (Goes (first_with loaded.longs loaded.par loaded.begin) ts)) (sym stands.own) ∙ stands.reached);
-    }
-stands-led done more cog p new (SpinBegun entered) ts leads stands = absurd stands
-
--- what asks at once is what a run stops at
-again-in : (cog done budget clock until reached : ℕ) (access : Access) (from to : Outcome) (next : Next) → step cog from ≡ Asks clock access → 1 ≤ budget → clock < until → (done ≡ 0 → from ≡ to) → done ≡ 0 → Stops cog to reached until next → IsSpent done budget reached until next → next ≡ At clock access
-again-in cog done budget clock until reached access from to (At c a) asks some below same none stops spent =
-    let e : Asks c a ≡ Asks clock access = sym stops.0 ∙ ap (step cog) (sym (same none)) ∙ asks in
-    cc
-again-in cog done budget clock until reached access from to Quiet asks some below same none stops spent =
-    let le : until ≤ clock = subst (IsFrom until) (ap (step cog) (sym (same none)) ∙ asks) stops in
-    absurd (omega arith)
-again-in cog done budget clock until reached access from to (More bound) asks some below same none stops spent =
-    absurd (let e : done ≡ budget = spent.0 in omega arith)
-
--- a place that asks at once leads nowhere else
-stuck : (cog done clock : ℕ) (access : Access) (from : Outcome) (p : Progress) → step cog from ≡ Asks clock access → after cog done from ≡ standing_at false p → done ≡ 0
-unfolding after
-stuck cog zero clock access from p asks leads = refl
-stuck cog (suc n) clock access from p asks leads =
-    let e : suc n ≡ n + 1 = omega arith in
-    let one : after cog (n + 1) from ≡ after cog n (step cog from) = after-plus cog n 1 from in
-    absurd (let x : Asks clock access ≡ Goes p.begun (turns_of p.had) = sym (after-asks cog n clock access) ∙ ap (after cog n) (sym asks) ∙ sym one ∙ ap (λ (k : ℕ). after cog k from) (sym e) ∙ leads in cc)
-
-pub again : (cog done budget clock until reached : ℕ) (access : Access) (over : Bool) (p new : Progress) (next : Next) → over ≡ false → step cog (standing_at over p) ≡ Asks clock access → 1 ≤ budget → clock < until → Leads cog done (standing_at false p) (standing_at false new) → Stops cog (standing_at false new) reached until next → IsSpent done budget reached until next → next ≡ At clock access
-unfolding after
-again cog done budget clock until reached access true p new next is asks some below leads stops spent = absurd cc
-again cog done budget clock until reached access false p new next is asks some below leads stops spent =
-    let led : after cog done (standing_at false p) ≡ standing_at false new = ap (λ (k : ℕ). after cog k (standing_at false p)) (sym (zero-add done)) ∙ leads 0 (standing_at false p) refl in
-    let none : done ≡ 0 = stuck cog done clock access (standing_at false p) new asks led in
-    again-in cog done budget clock until reached access (standing_at false p) (standing_at false new) next asks some below (λ e. ap (λ (k : ℕ). after cog k (standing_at false p)) (sym e) ∙ led) none stops spent
-
--- one instruction more was done
-pub leads-more : (cog done : ℕ) (from : Outcome) (s next : State) → Leads cog done from (Goes s []) → played (instruction cog s) [] ≡ Goes next [] → Leads cog (done + 1) from (Goes next [])
-leads-more cog done from s next leads e = λ n o h.
-    ap (λ (k : ℕ). after cog k o) (sym (add_assoc n done 1)) ∙ after-one cog (n + done) o ∙ ap (step cog) (leads n o h) ∙ e
-
--- nothing comes before a clock that an instruction's begin isn't before
-pub quiet-from : (cog until : ℕ) (s : State) → until ≤ s.clock → IsFrom until (played (instruction cog s) [])
-quiet-from cog until s le = step-from cog until (Goes s []) le
-
--- a life that is over asks nothing
-pub over-tells : (done cog : ℕ) (over : Bool) (p : Progress) (until : ℕ) → over ≡ true → (b : Begun) (ts : List Turn) → StandsFor done cog over p b ts → Tells (IsAsked b ts) until Quiet
-over-tells done cog true p until is b ts stands = stops-tells done cog true p 0 b ts until Quiet tt stands
-over-tells done cog false p until is b ts stands = absurd cc
-
--- what a run tells of the turns that a cog stands for
-pub led-tells : (done more cog : ℕ) (over : Bool) (p new : Progress) (reached until : ℕ) (next : Next) → over ≡ false → Leads cog more (standing_at false p) (standing_at false new) → Stops cog (standing_at false new) reached until next → (b : Begun) (ts : List Turn) → StandsFor done cog over p b ts → Tells (IsAsked b ts) until next
-led-tells done more cog true p new reached until next is leads stops b ts stands = absurd cc
-led-tells done more cog false p new reached until next is leads stops b ts stands =
-    stops-tells (done + more) cog false new reached b ts until next stops (stands-led done more cog p new b ts leads stands)
-
-pub led-stands : (done more cog : ℕ) (over : Bool) (p new : Progress) → over ≡ false → Leads cog more (standing_at false p) (standing_at false new) → (b : Begun) (ts : List Turn) → StandsFor done cog over p b ts → StandsFor (done + more) cog over new b ts
-led-stands done more cog true p new is leads b ts stands = absurd cc
-led-stands done more cog false p new is leads b ts stands = stands-led done more cog p new b ts leads stands
-
--- an access was announced: the life isn't over
-live : (cog : ℕ) (over : Bool) (p : Progress) (clock : ℕ) (access : Access) → step cog (standing_at over p) ≡ Asks clock access → over ≡ false
-live cog true p clock access asks = absurd (let x : Ends ≡ Asks clock access = asks in cc)
-live cog false p clock access asks = refl
-
--- and its turn comes then, not before what was reached
-abbrev pub IsTaken : (cog : ℕ) → (over : Bool) → Progress → Turn → Type 0
-IsTaken cog over p turn = (over ≡ false) × Comes (step cog (standing_at false p)) turn × (clock_of p ≤ turn.key.clock)
-
-pub turn-comes : (cog : ℕ) (over : Bool) (p : Progress) (announced : Option (ℕ × Access)) (turn : Turn) → Announces cog over p announced → IsAnnounced announced turn → IsTaken cog over p turn
-turn-comes cog over p None turn announces is = absurd is
-turn-comes cog over p (Some asked) turn announces is =
-    let h = announces asked.0 asked.1 refl in
-    let le : asked.0 ≤ turn.key.clock = on-time asked.1 asked.0 turn.key.clock is.1 in
-    let alive : over ≡ false = live cog over p asked.0 asked.1 h.0 in
-    (alive, (asked.0, ap (λ (v : Bool). step cog (standing_at v p)) (sym alive) ∙ h.0 ∙ ap (Asks asked.0) (sym is.0), subst (λ (x : Access). IsOnTime x asked.0 turn.key.clock) (sym is.0) is.1, h.2), omega (arith, h.1, le))
-
--- an instruction whose first access has its turn began at a clock that can be counted with
-pub begun-below : (cog : ℕ) (p : Progress) (turn : Turn) → p.had ≡ Nothing → Comes (step cog (standing_at false p)) turn → p.begun.clock + 1 < 2 ^ 62
-begun-below cog p turn none comes =
-    let asks : played (instruction cog p.begun) [] ≡ Asks comes.0 turn.access = ap (λ (had : Had). played (instruction cog p.begun) (turns_of had)) (sym none) ∙ comes.1 in
-    let le : p.begun.clock ≤ comes.0 = begin-asks cog comes.0 p.begun turn.access asks in
-    omega (arith, le, comes.3)
-
--- a clock is told where it is below a bound
-below-in : (cog reached clock until : ℕ) (here : Outcome) (access : Access) → step cog here ≡ Asks clock access → reached ≤ clock → (b : Bool) → nat_lt clock until ≡ b → Stops cog here reached until (if b then At clock access else Quiet)
-below-in cog reached clock until here access asks le true e = (asks, le, ltb-true clock until e)
-below-in cog reached clock until here access asks le false e =
-    let past : until ≤ clock = ltb-false clock until e in
-    subst (IsFrom until) (sym asks) past
-
-pub below-stops : (cog clock until : ℕ) (s : State) (access : Access) (next : Next) → next ≡ (if nat_lt clock until then At clock access else Quiet) → played (instruction cog s) [] ≡ Asks clock access → Stops cog (Goes s []) s.clock until next
-below-stops cog clock until s access next is asks =
-    subst (Stops cog (Goes s []) s.clock until) (sym is)
-    (below-in cog s.clock clock until (Goes s []) access asks (begin-asks cog clock s access asks) (nat_lt clock until) refl)
-
--- where the turn that was announced comes, a cog stands for one turn more
-stands-by : (done cog : ℕ) (p : Progress) (b : Begun) (ts : List Turn) (turn : Turn) (over : Bool) (new : Progress) → played (instruction cog p.begun) (turns_of p.had ++ turn ∷ []) ≡ standing_at over new → StandsFor done cog false p b ts → StandsFor (done + 1) cog over new b (ts ++ turn ∷ [])
-stands-by done cog p (PasmBegun loaded) ts turn over new takes stands =
-    record {
-      own = stands.own;
-      reached = turn-taken done loaded ts turn p.begun (turns_of p.had) stands.reached ∙ ap (λ (n : ℕ). played (instruction n p.begun) (turns_of p.had ++ turn ∷ [])) stands.own ∙ takes;
-    }
-stands-by done cog p (SpinBegun entered) ts turn over new takes stands = absurd stands
-
-stands-half : (done cog : ℕ) (p new : Progress) (b : Begun) (ts : List Turn) (turn : Turn) → standing_at false new ≡ Goes p.begun (turns_of p.had ++ turn ∷ []) → StandsFor done cog false p b ts → StandsFor done cog false new b (ts ++ turn ∷ [])
-stands-half done cog p new (PasmBegun loaded) ts turn keeps stands =
-    record {
-      own = stands.own;
-      reached = turn-kept done loaded ts turn p.begun (turns_of p.had) stands.reached ∙ sym keeps;
-    }
-stands-half done cog p new (SpinBegun entered) ts turn keeps stands = absurd stands
-
-pub over-stands : (done cog : ℕ) (over : Bool) (p new : Progress) (turn : Turn) → over ≡ false → Takes cog p turn new Over → (b : Begun) (ts : List Turn) → StandsFor done cog over p b ts → StandsFor (done + 1) cog true new b (ts ++ turn ∷ [])
-over-stands done cog true p new turn is takes b ts stands = absurd cc
-over-stands done cog false p new turn is takes b ts stands = stands-by done cog p b ts turn true new takes.0 stands
-
-pub whole-stands : (done cog : ℕ) (over : Bool) (p new : Progress) (turn : Turn) → over ≡ false → Takes cog p turn new Whole → (b : Begun) (ts : List Turn) → StandsFor done cog over p b ts → StandsFor (done + 1) cog over new b (ts ++ turn ∷ [])
-whole-stands done cog true p new turn is takes b ts stands = absurd cc
-whole-stands done cog false p new turn is takes b ts stands = stands-by done cog p b ts turn false new takes.0 stands
-
-pub half-stands : (done cog : ℕ) (over : Bool) (p new : Progress) (turn : Turn) → over ≡ false → standing_at false new ≡ Goes p.begun (turns_of p.had ++ turn ∷ []) → (b : Begun) (ts : List Turn) → StandsFor done cog over p b ts → StandsFor done cog over new b (ts ++ turn ∷ [])
-half-stands done cog true p new turn is keeps b ts stands = absurd cc
-half-stands done cog false p new turn is keeps b ts stands = stands-half done cog p new b ts turn keeps stands

@@ -1,5 +1,5 @@
 -- internal: what the parts of a cog's code promise each other.
-use Rattle.std.specs.Prelude.{ℕ, ◌+◌, ◌^◌, ◌≡◌, ◌<◌, ◌≤◌, max, if◌then◌else◌, Bool, true, false, List, [], ◌∷◌, ◌++◌, Option, None, Some}
+use Rattle.std.specs.Prelude.{ℕ, ◌+◌, ◌^◌, ◌≡◌, ◌<◌, ◌≤◌, max, if◌then◌else◌, Bool, true, false, List, [], ◌∷◌, ◌++◌, take, Option, None, Some}
 use Rattle.p8_access.specs.declared.kinds.Access.{Access}
 use Rattle.p8_access.specs.declared.order.Turn.{Turn}
 use Rattle.p8_access.specs.declared.lives.Next.{Next}
@@ -12,12 +12,14 @@ use Rattle.p8_cog.specs.declared.kind.Kind.{Kind}
 use Rattle.p8_cog.specs.declared.kind.Kind.TheVariants.{Skipped, Halting, OfHub, Waiting, Computing}
 use Rattle.p8_cog.specs.declared.state.State.{State}
 use Rattle.p8_cog.specs.declared.ending.Ending.{Ending}
-use Rattle.p8_cog.specs.declared.ending.Ending.TheVariants.{Over, Whole, Half}
+use Rattle.p8_cog.specs.declared.ending.Ending.TheVariants.{Ended, Whole, Half}
 use Rattle.p8_cog.specs.declared.progress.Had.{Had}
 use Rattle.p8_cog.specs.declared.progress.Had.TheVariants.{Nothing, One, Two}
 use Rattle.p8_cog.specs.declared.progress.Progress.{Progress}
-use Rattle.p8_cog.specs.Replay.{instruction, played, Outcome, Asks, Goes, Ends, step, after}
-use Rattle.p8_cog.specs.Standing.{turns_of, standing_at, clock_of}
+use Rattle.p8_cog.specs.declared.stage.Stage.{Stage}
+use Rattle.p8_cog.specs.declared.stage.Stage.TheVariants.{Loading, Running, Over}
+use Rattle.p8_cog.specs.Replay.{instruction, played, Outcome, Asks, Goes, Ends, step, after, first_with, BeginsAt}
+use Rattle.p8_cog.specs.Standing.{turns_of, running_at, standing_at, clock_of}
 
 -- what the processor computes has an opcode from 8 to 59
 abbrev pub IsComputed : Kind → ℕ → Type 0
@@ -47,18 +49,18 @@ left_of Ends = []
 
 -- an instruction that comes to this outcome ends so, and where it is done leaves this state
 abbrev pub ComesTo : Outcome → Ending → State → Type 0
-ComesTo o Over new = o ≡ Ends
+ComesTo o Ended new = o ≡ Ends
 ComesTo o Whole new = o ≡ Goes new (left_of o)
 ComesTo o (Half clock access) new = o ≡ Asks clock access
 
 -- what isn't done changes nothing
 abbrev pub Keeps : Ending → (old new : State) → Type 0
 Keeps Whole old new = Unit {0}
-Keeps Over old new = new ≡ old
+Keeps Ended old new = new ≡ old
 Keeps (Half clock access) old new = new ≡ old
 
 abbrev pub IsMadeIn : Ending → Type 0
-IsMadeIn Over = Unit {0}
+IsMadeIn Ended = Unit {0}
 IsMadeIn Whole = Unit {0}
 IsMadeIn (Half clock access) = IsMade access
 
@@ -90,31 +92,37 @@ is_asking (Asks clock access) = true
 is_asking (Goes s left) = false
 is_asking Ends = false
 
--- what is asked next isn't before the clock that was reached
+-- what is asked next isn't before the clock that was reached, and not beyond the next window
 abbrev pub IsDue : (cog : ℕ) → Progress → Type 0
-IsDue cog p = (clock : ℕ) (access : Access) → step cog (standing_at false p) ≡ Asks clock access → clock_of p ≤ clock
+IsDue cog p =
+    (clock : ℕ) (access : Access) → step cog (running_at p) ≡ Asks clock access → (clock_of p ≤ clock) × (clock ≤ clock_of p + 16)
 
 -- an instruction that has had a turn asks a further access, and its clocks can be counted with
 abbrev pub IsHalf : (cog : ℕ) → Progress → Type 0
 IsHalf cog p =
-    is_half p.had ≡ true → (is_asking (step cog (standing_at false p)) ≡ true) × IsDue cog p × (p.begun.clock + 1 < 2 ^ 62) × (latest (turns_of p.had) < 2 ^ 62)
+    is_half p.had ≡ true → (is_asking (step cog (running_at p)) ≡ true) × IsDue cog p × (p.begun.clock + 1 < 2 ^ 62) × (latest (turns_of p.had) < 2 ^ 62)
 
 -- a turn of what is asked, on time
 abbrev pub Comes : Outcome → Turn → Type 0
 Comes o turn =
     (clock : ℕ) × (o ≡ Asks clock turn.access) × IsOnTime turn.access clock turn.key.clock × (clock + 1 < 2 ^ 62)
 
--- what was announced is what comes next
-abbrev pub Announces : (cog : ℕ) → (over : Bool) → Progress → Option (ℕ × Access) → Type 0
-Announces cog over p announced =
-    (clock : ℕ) (access : Access) → announced ≡ Some (clock, access) → (step cog (standing_at over p) ≡ Asks clock access) × (clock_of p ≤ clock) × (clock + 1 < 2 ^ 62)
+-- a load has a register to read next, and no instruction is at hand
+abbrev pub IsInLoad : Progress → Type 0
+IsInLoad p = (p.begun.at < 496) × (is_half p.had ≡ false)
 
--- what is told is what comes next from here, or nothing comes below this clock
+-- what was announced is what comes next
+abbrev pub Announces : (cog code : ℕ) → Stage → Progress → Option (ℕ × Access) → Type 0
+Announces cog code stage p announced =
+    (clock : ℕ) (access : Access) → announced ≡ Some (clock, access) → (step cog (standing_at stage code p) ≡ Asks clock access) × (clock_of p ≤ clock) × (clock + 1 < 2 ^ 62)
+
+-- what is told is what comes next from here, or nothing comes below this clock; neither is farther than
+-- the next window
 abbrev pub Stops : (cog : ℕ) → (here : Outcome) → (reached until : ℕ) → Next → Type 0
 Stops cog here reached until (At clock access) =
-    (step cog here ≡ Asks clock access) × (reached ≤ clock) × (clock < until)
-Stops cog here reached until Quiet = IsFrom until (step cog here)
-Stops cog here reached until (More bound) = IsFrom bound here
+    (step cog here ≡ Asks clock access) × (reached ≤ clock) × (clock < until) × (clock ≤ reached + 16)
+Stops cog here reached until Quiet = IsFrom until (step cog here) × (until ≤ reached + 16)
+Stops cog here reached until (More bound) = IsFrom bound here × BeginsAt bound here
 
 -- so many instructions lead from one place to another
 abbrev pub Leads : (cog done : ℕ) → Outcome → Outcome → Type 0
@@ -132,11 +140,19 @@ IsTold (At clock access) = Unit {0}
 IsTold Quiet = Unit {0}
 IsTold (More bound) = ⊥
 
+-- how the value of a read brings a load on: the next long is to be read, or the first instruction begins
+abbrev pub Loads : State → (long : ℕ) → Progress → Stage → Type 0
+Loads old long new Loading =
+    (new.begun.at ≡ old.at + 1) × (new.begun.at < 496) × (new.begun.clock ≡ old.clock + 16) × (new.begun.par ≡ old.par) × (take (old.at + 1) new.begun.registers ≡ take old.at old.registers ++ long ∷ []) × (new.had ≡ Nothing)
+Loads old long new Running =
+    (old.at ≡ 495) × (new.begun ≡ first_with (take old.at old.registers ++ long ∷ []) old.par (old.clock + 272)) × (new.had ≡ Nothing)
+Loads old long new Over = ⊥
+
 -- how a turn brings an instruction on
 abbrev pub Takes : (cog : ℕ) → Progress → Turn → Progress → Ending → Type 0
-Takes cog old turn new Over =
-    (played (instruction cog old.begun) (turns_of old.had ++ turn ∷ []) ≡ Ends) × (turn.key.clock < clock_of new)
+Takes cog old turn new Ended =
+    (played (instruction cog old.begun) (turns_of old.had ++ turn ∷ []) ≡ Ends) × (clock_of new ≡ turn.key.clock + 1)
 Takes cog old turn new Whole =
-    (played (instruction cog old.begun) (turns_of old.had ++ turn ∷ []) ≡ standing_at false new) × (turn.key.clock < clock_of new)
+    (played (instruction cog old.begun) (turns_of old.had ++ turn ∷ []) ≡ running_at new) × (turn.key.clock < clock_of new) × (clock_of new ≤ turn.key.clock + 8)
 Takes cog old turn new (Half clock access) =
-    (standing_at false new ≡ Goes old.begun (turns_of old.had ++ turn ∷ [])) × (clock_of new ≡ turn.key.clock)
+    (running_at new ≡ Goes old.begun (turns_of old.had ++ turn ∷ [])) × (clock_of new ≡ turn.key.clock)

@@ -5,7 +5,7 @@ use p8_access::Access;
 #[derive(Clone, Copy, Debug, PartialEq, Eq)]
 pub enum Ending {
     /// The life is over.
-    Over,
+    Ended,
     /// The instruction is done.
     Whole,
     /// It asks this access next, from this clock on.

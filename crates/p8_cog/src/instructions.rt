@@ -82,7 +82,7 @@ fn written(i: Instr, cog: u8, value: u32, clock: u64, had: &[Turn]) -> Ending
             [] => Ending::Half { clock, access },
             _ => {
                 if is_last(cog, access) {
-                    Ending::Over
+                    Ending::Ended
                 } else {
                     Ending::Whole
                 }
@@ -197,7 +197,7 @@ impl State {
                 self.end_computed(i, source, effect);
                 Ending::Whole
             }
-            Ending::Over => Ending::Over,
+            Ending::Ended => Ending::Ended,
             Ending::Half { clock, access } => Ending::Half { clock, access },
         }
     }
@@ -221,7 +221,7 @@ impl State {
                 self.fetch_and_write(i, effect, at, clock + 1);
                 Ending::Whole
             }
-            Ending::Over => Ending::Over,
+            Ending::Ended => Ending::Ended,
             Ending::Half { clock, access } => Ending::Half { clock, access },
         }
     }
@@ -248,7 +248,7 @@ impl State {
             }
             [turn, left @ ..] => {
                 if is_last(cog, access) {
-                    return Ending::Over;
+                    return Ending::Ended;
                 }
                 let effect = answered(kept, turn.answer);
                 self.end_after(i, cog, effect, turn.key.clock + 6, left)
@@ -295,7 +295,7 @@ impl State {
                 clock: self.clock,
                 access: Access::Halt { reason },
             },
-            _ => Ending::Over,
+            _ => Ending::Ended,
         }
     }
 

@@ -9,6 +9,7 @@ mod kind;
 mod pasm;
 mod progress;
 mod registers;
+mod stage;
 mod state;
 #[cfg(test)]
 mod tests;

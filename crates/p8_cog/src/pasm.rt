@@ -1,14 +1,19 @@
 // A cog as a life.
-ghost use Rattle.std.specs.Prelude.{◌≡◌, ◌<◌, ◌≤◌, ◌+◌, ◌*◌, ◌^◌, [], None, Some, length, IfOk};
+ghost use Rattle.std.specs.Prelude.{◌≡◌, ◌<◌, ◌≤◌, ◌+◌, ◌%◌, ◌^◌, [], None, Some, IfOk};
 ghost use Rattle.std.proofs.Math.Nat.{le_refl};
-ghost use Rattle.p8_access.specs.Lives.{Begun, PasmBegun, IsMadeNext, announced_by};
-ghost use Rattle.p8_cog.specs.Replay.{IsAsked};
+ghost use Rattle.p8_access.specs.Windows.{IsWindow};
+ghost use Rattle.p8_access.specs.Lives.{PasmBegun, announced_by};
+ghost use Rattle.p8_cog.specs.declared.stage.Stage.TheVariants.{Loading};
+ghost use Rattle.p8_cog.specs.Replay.{IsAsked, Begins};
 ghost use Rattle.p8_cog.specs.Standing.{StandsFor, clock_of};
-ghost use Rattle.p8_cog.specs.Stops.{Announces, IsHalf};
+ghost use Rattle.p8_cog.specs.Stops.{Announces, IsHalf, IsInLoad};
 ghost use Rattle.p8_cog.specs.Replaying.{one-asked, asked-first, asked-later};
+ghost use Rattle.p8_cog.specs.Keeping.{placed};
 
 use crate::ending::Ending;
+use crate::hub::value_in;
 use crate::progress::{Had, Progress};
+use crate::stage::Stage;
 use crate::state::State;
 use p8_access::{Access, Life, Next, Turn};
 use p8_words::NoMemory;
@@ -16,24 +21,28 @@ use std::alloc::Global;
 
 /// A cog that runs PASM, from a start on.
 ///
-/// It keeps its registers and flags and how far it is in the instruction at hand, and the access that it
-/// has announced until that has its turn.
+/// It keeps its registers and flags and how far it is in its load or in the instruction at hand, and the
+/// access that it has announced until that has its turn.
 #[derive(Drop)]
 pub struct Cog {
     state: Progress,
+    /// The address from which it loads.
+    code: u16,
     /// Its own number.
     cog: u8,
-    /// Whether its life is over.
-    over: bool,
+    stage: Stage,
     /// How many instructions it has done since its start.
     done: u64,
     announced: Option<(u64, Access)>,
     ghost at: { state.begun.at < 512 },
+    ghost aligned: { code % 4 ≡ 0 },
+    ghost room: { code ≤ 30784 },
     ghost cog_below: { cog < 8 },
     ghost clock: { clock_of state < 2 ^ 62 + 2 ^ 10 },
     ghost counts: { done ≤ clock_of state },
     ghost half: { IsHalf cog state },
-    ghost announces: { Announces cog over state announced },
+    ghost loads: { stage ≡ Loading → IsInLoad state },
+    ghost announces: { Announces cog code stage state announced },
 }
 
 /// The access that an answer announces.
@@ -48,65 +57,72 @@ fn announced_in(next: Next) -> Option<(u64, Access)>
 }
 
 impl Cog {
-    /// A cog that took these 496 longs at its start, and begins its first instruction at the clock `begin`.
+    /// A cog whose Load had its turn at the clock `load`: it is to read its 496 longs from the address
+    /// `code` on.
     ///
     /// `cog` is its own number, and `par` the value that its register PAR has as a source.
-    pub fn start(
-        alloc: Global,
-        longs: &[u32],
-        par: u16,
-        cog: u8,
-        begin: u64,
-    ) -> Result<Cog, NoMemory>
-        requires longs { length longs.now ≡ 496 }
+    pub fn start(alloc: Global, code: u16, par: u16, cog: u8, load: u64) -> Result<Cog, NoMemory>
+        requires aligned { code % 4 ≡ 0 }
+        requires room { code ≤ 30784 }
         requires cog { cog < 8 }
-        requires begin { begin < 2 ^ 62 }
+        requires window { IsWindow cog load }
+        requires load { load < 2 ^ 62 }
 
-        ensures stands { IfOk result (λ life. ⟦<Cog as Life>⟧.stands life (PasmBegun (record { longs = longs.now; par = par; cog = cog; begin = begin })) []) }
+        ensures stands { IfOk result (λ life. ⟦<Cog as Life>⟧.stands life (PasmBegun (record { code = code; par = par; cog = cog; load = load })) []) }
         ensures place { IfOk result (λ life. ⟦<Cog as Life>⟧.place life ≡ 0) }
-        ensures reached { IfOk result (λ life. ⟦<Cog as Life>⟧.reached life ≡ begin) }
+        ensures reached { IfOk result (λ life. ⟦<Cog as Life>⟧.reached life ≡ load) }
         ensures pace { IfOk result (λ life. ⟦<Cog as Life>⟧.pace life ≡ 4) }
+        ensures stride { IfOk result (λ life. ⟦<Cog as Life>⟧.stride life ≡ 8) }
+        ensures lead { IfOk result (λ life. ⟦<Cog as Life>⟧.lead life ≡ 8192) }
         ensures announced { IfOk result (λ life. ⟦<Cog as Life>⟧.announced life ≡ None) }
         ensures cog { IfOk result (λ life. ⟦<Cog as Life>⟧.cog life ≡ cog) }
     {
         Ok(Cog {
             state: Progress {
-                begun: State::first(alloc, longs, par, begin)?,
+                begun: State::unloaded(alloc, par, load)?,
                 had: Had::Nothing,
             },
+            code,
             cog,
-            over: false,
+            stage: Stage::Loading,
             done: 0,
             announced: None,
         })
     }
 
     /// Starts it anew, as `start` would, in the memory that it has: nothing of the old life is left.
-    pub fn restart(&mut self, longs: &[u32], par: u16, cog: u8, begin: u64)
-        requires longs { length longs.now ≡ 496 }
+    pub fn restart(&mut self, code: u16, par: u16, cog: u8, load: u64)
+        requires aligned { code % 4 ≡ 0 }
+        requires room { code ≤ 30784 }
         requires cog { cog < 8 }
-        requires begin { begin < 2 ^ 62 }
+        requires window { IsWindow cog load }
+        requires load { load < 2 ^ 62 }
 
-        ensures stands { ⟦<Cog as Life>⟧.stands self.new (PasmBegun (record { longs = longs.now; par = par; cog = cog; begin = begin })) [] }
+        ensures stands { ⟦<Cog as Life>⟧.stands self.new (PasmBegun (record { code = code; par = par; cog = cog; load = load })) [] }
         ensures place { ⟦<Cog as Life>⟧.place self.new ≡ 0 }
-        ensures reached { ⟦<Cog as Life>⟧.reached self.new ≡ begin }
+        ensures reached { ⟦<Cog as Life>⟧.reached self.new ≡ load }
         ensures pace { ⟦<Cog as Life>⟧.pace self.new ≡ 4 }
+        ensures stride { ⟦<Cog as Life>⟧.stride self.new ≡ 8 }
+        ensures lead { ⟦<Cog as Life>⟧.lead self.new ≡ 8192 }
         ensures announced { ⟦<Cog as Life>⟧.announced self.new ≡ None }
         ensures cog { ⟦<Cog as Life>⟧.cog self.new ≡ cog }
     {
         self.announced = None;
         self.state.had = Had::Nothing;
-        self.state.begun.load(longs, par, begin);
+        self.state.begun.unload(par, load);
+        self.code = code;
         self.cog = cog;
-        self.over = false;
+        self.stage = Stage::Loading;
         self.done = 0;
     }
 }
 
 impl Life for Cog {
-    ghost stands = { λ life began turns. StandsFor life.done life.cog life.over life.state began turns };
+    ghost stands = { λ life began turns. StandsFor life.done life.cog life.code life.stage life.state began turns };
 
     ghost asked = { IsAsked };
+
+    ghost begins = { Begins };
 
     ghost place = { λ life. life.done };
 
@@ -114,34 +130,51 @@ impl Life for Cog {
 
     ghost pace = { λ life. 4 };
 
+    ghost stride = { λ life. 8 };
+
+    ghost lead = { λ life. 8192 };
+
     ghost announced = { λ life. life.announced };
 
     ghost cog = { λ life. life.cog };
 
     fn run_to_access(&mut self, until: u64, budget: u32) -> Next {
         self.announced = None;
-        if self.over {
-            return Next::Quiet;
+        match self.stage {
+            Stage::Loading => {
+                let next = self.state.next_read(self.code, until);
+                self.announced = announced_in(next);
+                next
+            }
+            Stage::Running => {
+                let ran = self.state.next_below(self.cog, until, budget);
+                self.done += u64::from(ran.done);
+                self.announced = announced_in(ran.next);
+                ran.next
+            }
+            Stage::Over => Next::Quiet,
         }
-        let ran = self.state.next_below(self.cog, until, budget);
-        self.done += u64::from(ran.done);
-        self.announced = announced_in(ran.next);
-        ran.next
     }
 
     fn take_answer(&mut self, turn: &Turn) {
         self.announced = None;
-        match self.state.take(self.cog, turn) {
-            Ending::Over => {
-                self.over = true;
-                self.done += 1;
-            }
-            Ending::Whole => self.done += 1,
-            Ending::Half { .. } => {}
+        match self.stage {
+            Stage::Loading => self.stage = self.state.take_long(value_in(turn.answer)),
+            Stage::Running => match self.state.take(self.cog, turn) {
+                Ending::Ended => {
+                    self.stage = Stage::Over;
+                    self.done += 1;
+                }
+                Ending::Whole => self.done += 1,
+                Ending::Half { .. } => {}
+            },
+            Stage::Over => unreachable!(),
         }
     }
 
     ghost paced = { λ life. le_refl 4 };
+
+    ghost placed = { λ life b ts stands live. placed _ _ _ life.stage life.state b ts stands live };
 
     ghost one_asked = { one-asked };
 

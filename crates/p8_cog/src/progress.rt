@@ -1,15 +1,18 @@
 // How far a cog is in the instruction at hand.
-ghost use Rattle.std.specs.Prelude.{nat_lt, if◌then◌else◌, ◌≡◌, ◌<◌, ◌≤◌, ◌+◌, ◌*◌, ◌^◌, ◌++◌, ◌∷◌, [], true, false};
+ghost use Rattle.std.specs.Prelude.{ℕ, nat_lt, if◌then◌else◌, ◌≡◌, ◌<◌, ◌≤◌, ◌+◌, ◌*◌, ◌%◌, ◌^◌, ◌++◌, ◌∷◌, [], true};
 ghost use Rattle.p8_access.specs.declared.lives.Next.TheVariants.{At, Quiet};
 ghost use Rattle.p8_access.specs.Lives.{IsMadeNext};
 ghost use Rattle.p8_cog.specs.declared.progress.Had.TheVariants.{Nothing, Two};
+ghost use Rattle.p8_cog.specs.declared.stage.Stage.TheVariants.{Loading};
 ghost use Rattle.p8_cog.specs.Replay.{Goes, instruction, played, step};
-ghost use Rattle.p8_cog.specs.Standing.{turns_of, standing_at, clock_in, clock_of};
-ghost use Rattle.p8_cog.specs.Stops.{latest, is_asking, is_half, IsHalf, IsTold, Comes, Stops, Leads, IsSpent, Takes};
+ghost use Rattle.p8_cog.specs.Standing.{turns_of, running_at, standing_at, clock_in, clock_of};
+ghost use Rattle.p8_cog.specs.Stops.{latest, is_asking, is_half, IsHalf, IsInLoad, IsTold, Comes, Stops, Leads, IsSpent, Loads, Takes};
 
 use crate::ending::Ending;
+use crate::registers::LOADED_LONGS;
+use crate::stage::Stage;
 use crate::state::State;
-use p8_access::{Access, Next, Turn};
+use p8_access::{Access, Next, Turn, Width};
 
 /// The turns that the instruction at hand has had, the oldest first.
 ///
@@ -63,7 +66,7 @@ fn first_below(state: &mut State, cog: u8, until: u64) -> Next
 {
     match state.advance(cog, &[]) {
         Ending::Half { clock, access } => below(clock, access, until),
-        Ending::Whole | Ending::Over => unreachable!(),
+        Ending::Whole | Ending::Ended => unreachable!(),
     }
 }
 
@@ -75,11 +78,13 @@ fn run(state: &mut State, cog: u8, until: u64, budget: u32) -> Ran
     requires cog { cog < 8 }
     requires clock { state.old.clock < 2 ^ 62 + 2 ^ 10 }
     requires until { until < 2 ^ 62 }
+    ensures budget { result.done ≤ budget }
     ensures leads { Leads cog result.done (Goes state.old []) (Goes state.new []) }
     ensures stops { Stops cog (Goes state.new []) state.new.clock until result.next }
     ensures made { IsMadeNext result.next }
     ensures spent { IsSpent result.done budget state.new.clock until result.next }
     ensures counts { state.old.clock + 4 * result.done ≤ state.new.clock }
+    ensures stride { state.new.clock ≤ state.old.clock + 8 * result.done }
     ensures at { state.new.at < 512 }
     ensures clock { state.new.clock < 2 ^ 62 + 2 ^ 10 }
 {
@@ -112,14 +117,46 @@ impl Progress {
         requires had { had.now ≡ turns_of self.old.had }
         requires is_half { is_half self.old.had ≡ true }
         requires half { IsHalf cog self.old }
-        ensures stops { Stops cog (standing_at false self.new) (clock_of self.new) until result }
+        ensures stops { Stops cog (running_at self.new) (clock_of self.new) until result }
         ensures made { IsMadeNext result }
         ensures same { self.new ≡ self.old }
     {
         match self.begun.advance(cog, had) {
             Ending::Half { clock, access } => below(clock, access, until),
-            Ending::Whole | Ending::Over => unreachable!(),
+            Ending::Whole | Ending::Ended => unreachable!(),
         }
+    }
+
+    /// Tells the next read of the load from an address, below a clock.
+    pub fn next_read(&self, code: u16, until: u64) -> Next
+        requires aligned { code % 4 ≡ 0 }
+        requires room { code ≤ 30784 }
+        requires loads { IsInLoad self.now }
+        requires clock { clock_of self.now < 2 ^ 62 + 2 ^ 10 }
+        ensures stops { (cog : ℕ) → Stops cog (standing_at Loading code self.now) (clock_of self.now) until result }
+        ensures told { IsTold result }
+        ensures made { IsMadeNext result }
+    {
+        let access = Access::Read {
+            width: Width::Long,
+            address: code + 4 * self.begun.at,
+        };
+        below(self.begun.clock + 16, access, until)
+    }
+
+    /// Takes the next long of the load, and tells how far the life is then.
+    pub fn take_long(&mut self, long: u32) -> Stage
+        requires at { self.old.begun.at < 496 }
+        requires clock { self.old.begun.clock < 2 ^ 62 }
+        ensures { Loads self.old.begun long self.new result }
+    {
+        self.had = Had::Nothing;
+        self.begun.load(long);
+        if self.begun.at < LOADED_LONGS {
+            return Stage::Loading;
+        }
+        self.begun.begin();
+        Stage::Running
     }
 
     /// Tells the next access below a clock, and does instructions within a budget on the way there.
@@ -129,11 +166,13 @@ impl Progress {
         requires clock { clock_of self.old < 2 ^ 62 + 2 ^ 10 }
         requires until { until < 2 ^ 62 }
         requires half { IsHalf cog self.old }
-        ensures leads { Leads cog result.done (standing_at false self.old) (standing_at false self.new) }
-        ensures stops { Stops cog (standing_at false self.new) (clock_of self.new) until result.next }
+        ensures budget { result.done ≤ budget }
+        ensures leads { Leads cog result.done (running_at self.old) (running_at self.new) }
+        ensures stops { Stops cog (running_at self.new) (clock_of self.new) until result.next }
         ensures made { IsMadeNext result.next }
         ensures spent { IsSpent result.done budget (clock_of self.new) until result.next }
         ensures counts { clock_of self.old + 4 * result.done ≤ clock_of self.new }
+        ensures stride { clock_of self.new ≤ clock_of self.old + 8 * result.done }
         ensures at { self.new.begun.at < 512 }
         ensures clock { clock_of self.new < 2 ^ 62 + 2 ^ 10 }
         ensures half { IsHalf cog self.new }
@@ -173,16 +212,16 @@ impl Progress {
         requires had { turns_of had ≡ turns.now }
         requires last { clock_in self.old.begun.clock had ≡ turn.now.key.clock }
         requires below { turn.now.key.clock < 2 ^ 62 }
-        requires comes { Comes (step cog (standing_at false self.old)) turn.now }
+        requires comes { Comes (step cog (running_at self.old)) turn.now }
         ensures takes { Takes cog self.old turn.now self.new result }
         ensures at { self.new.begun.at < 512 }
         ensures clock { clock_of self.new < 2 ^ 62 + 2 ^ 10 }
         ensures half { IsHalf cog self.new }
     {
         match self.begun.advance(cog, turns) {
-            Ending::Over => {
+            Ending::Ended => {
                 self.close(turn.key.clock);
-                Ending::Over
+                Ending::Ended
             }
             Ending::Whole => {
                 self.had = Had::Nothing;
@@ -202,16 +241,16 @@ impl Progress {
         requires had { self.old.had ≡ Two first second }
         requires half { IsHalf cog self.old }
         requires below { turn.now.key.clock < 2 ^ 62 }
-        requires comes { Comes (step cog (standing_at false self.old)) turn.now }
+        requires comes { Comes (step cog (running_at self.old)) turn.now }
         ensures takes { Takes cog self.old turn.now self.new result }
         ensures at { self.new.begun.at < 512 }
         ensures clock { clock_of self.new < 2 ^ 62 + 2 ^ 10 }
         ensures half { IsHalf cog self.new }
     {
         match self.begun.advance(cog, &[first, second, *turn]) {
-            Ending::Over => {
+            Ending::Ended => {
                 self.close(turn.key.clock);
-                Ending::Over
+                Ending::Ended
             }
             Ending::Whole => {
                 self.had = Had::Nothing;
@@ -227,7 +266,7 @@ impl Progress {
         requires cog { cog < 8 }
         requires half { IsHalf cog self.old }
         requires below { turn.now.key.clock < 2 ^ 62 }
-        requires comes { Comes (step cog (standing_at false self.old)) turn.now }
+        requires comes { Comes (step cog (running_at self.old)) turn.now }
         ensures takes { Takes cog self.old turn.now self.new result }
         ensures at { self.new.begun.at < 512 }
         ensures clock { clock_of self.new < 2 ^ 62 + 2 ^ 10 }

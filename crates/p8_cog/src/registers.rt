@@ -1,5 +1,5 @@
 // The registers of a cog.
-ghost use Rattle.std.specs.Prelude.{◌≡◌, ◌<◌, ◌++◌, length, slice_index, slice_set, replicate, if◌then◌else◌, IfOk};
+ghost use Rattle.std.specs.Prelude.{◌≡◌, ◌<◌, ◌+◌, ◌++◌, ◌∷◌, [], length, take, slice_index, slice_set, replicate, if◌then◌else◌};
 
 use p8_words::NoMemory;
 use std::alloc::Global;
@@ -21,34 +21,40 @@ impl Model for Registers {
     ghost invariant = { λ r. length r.longs.items ≡ 512 };
 }
 
-/// Puts these longs first, and 0 into the rest.
-fn load_all(all: &mut [u32], longs: &[u32])
-    requires all { length all.old ≡ 512 }
-    requires longs { length longs.now ≡ 496 }
-    ensures { all.new ≡ longs.now ++ replicate 16 0 }
+/// How many longs a cog loads.
+pub const LOADED_LONGS: u16 = 496;
+
+/// Puts 0 into the last 16.
+fn clear_special(all: &mut [u32])
+    requires { length all.old ≡ 512 }
+    ensures cleared { all.new ≡ take 496 all.old ++ replicate 16 0 }
+    ensures length { length all.new ≡ 512 }
 {
-    let (general, special) = all.split_at_mut(496);
-    general.copy_from_slice(longs);
+    let (_, special) = all.split_at_mut(496);
     special.copy_from_slice(&[0; 16]);
 }
 
 impl Registers {
-    /// The registers at a start: these longs, and 0 in the last 16.
-    pub fn new(alloc: Global, longs: &[u32]) -> Result<Registers, NoMemory>
-        requires { length longs.now ≡ 496 }
-        ensures { IfOk result (λ r. r ≡ longs.now ++ replicate 16 0) }
-    {
-        let mut all = longs.to_vec(alloc)?;
-        all.extend_from_slice(&[0; 16])?;
-        Ok(Registers { longs: all })
+    /// Registers with 0 in each.
+    pub fn new(alloc: Global) -> Result<Registers, NoMemory> {
+        let mut longs = Vec::new(alloc);
+        longs.resize(512, 0)?;
+        Ok(Registers { longs })
     }
 
-    /// Puts these longs into the general registers, and 0 into the last 16.
-    pub fn load(&mut self, longs: &[u32])
-        requires { length longs.now ≡ 496 }
-        ensures { self.new ≡ longs.now ++ replicate 16 0 }
+    /// Puts 0 into the special registers, the last 16.
+    pub fn clear_special(&mut self)
+        ensures { self.new ≡ take 496 self.old ++ replicate 16 0 }
     {
-        load_all(&mut self.longs, longs);
+        clear_special(&mut self.longs);
+    }
+
+    /// Writes a register behind those that were loaded.
+    pub fn load(&mut self, register: u16, value: u32)
+        requires { register < 512 }
+        ensures { take (register + 1) self.new ≡ take register self.old ++ value ∷ [] }
+    {
+        self.longs[register as usize] = value;
     }
 
     /// The long in a register.

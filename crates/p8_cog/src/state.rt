@@ -1,5 +1,5 @@
 // A cog between two instructions.
-ghost use Rattle.std.specs.Prelude.{ℕ, ◌≡◌, ◌<◌, ◌≤◌, ◌^◌, length, if◌then◌else◌, IfOk, IfErr};
+ghost use Rattle.std.specs.Prelude.{ℕ, ◌≡◌, ◌<◌, ◌≤◌, ◌+◌, ◌^◌, ◌++◌, ◌∷◌, [], take, if◌then◌else◌, IfOk, IfErr};
 ghost use Rattle.p8_access.specs.Lives.{IsMade};
 ghost use Rattle.p8_instr.specs.Instruction.{FitsFields};
 ghost use Rattle.p8_cog.specs.Replay.{at_hand, register_value, source_value, sourced, played, Asks, Course, destination_value, next_of, effect, fetched_before, fetched_after, passed, first_with};
@@ -7,7 +7,7 @@ ghost use Rattle.p8_cog.specs.Stops.{left_with, latest};
 
 use crate::hub::value_in;
 use crate::kind::{INB, PAR, source_access};
-use crate::registers::Registers;
+use crate::registers::{LOADED_LONGS, Registers};
 use p8_access::{Access, Turn};
 use p8_alu::{Effect, execute};
 use p8_instr::Instr;
@@ -20,11 +20,11 @@ pub struct State {
     pub registers: Registers,
     /// The value of PAR as a source.
     pub par: u16,
-    /// The address of the long that is executed next, below 512.
+    /// The address of the long that is executed next, below 512; in a load, of the one that is read next.
     pub at: u16,
     /// That long, as it stood there when it was fetched.
     pub long: u32,
-    /// The clock at which it begins.
+    /// The clock at which it begins; in a load, that of the last turn.
     pub clock: u64,
     /// The flag C.
     pub c: bool,
@@ -41,33 +41,57 @@ fn flag_of(writes: bool, new: bool, old: bool) -> bool
 }
 
 impl State {
-    /// What stands in a cog that took these longs and this value of PAR, where its first instruction
-    /// begins.
-    pub fn first(alloc: Global, longs: &[u32], par: u16, begin: u64) -> Result<State, NoMemory>
-        requires { length longs.now ≡ 496 }
-        ensures { IfOk result (λ s. s ≡ first_with longs.now par begin) }
+    /// What stands in a cog that is to load from the clock of its Load on, with this value of PAR.
+    pub fn unloaded(alloc: Global, par: u16, load: u64) -> Result<State, NoMemory>
+        ensures par { IfOk result (λ s. s.par ≡ par) }
+        ensures at { IfOk result (λ s. s.at ≡ 0) }
+        ensures clock { IfOk result (λ s. s.clock ≡ load) }
     {
         Ok(State {
-            registers: Registers::new(alloc, longs)?,
+            registers: Registers::new(alloc)?,
             par,
             at: 0,
-            long: longs[0],
-            clock: begin,
+            long: 0,
+            clock: load,
             c: false,
             z: false,
         })
     }
 
-    /// Makes it what `first` gives, in the memory that it has.
-    pub fn load(&mut self, longs: &[u32], par: u16, begin: u64)
-        requires { length longs.now ≡ 496 }
-        ensures { self.new ≡ first_with longs.now par begin }
+    /// Makes it what `unloaded` gives, in the memory that it has.
+    pub fn unload(&mut self, par: u16, load: u64)
+        ensures par { self.new.par ≡ par }
+        ensures at { self.new.at ≡ 0 }
+        ensures clock { self.new.clock ≡ load }
     {
-        self.registers.load(longs);
         self.par = par;
         self.at = 0;
-        self.long = longs[0];
-        self.clock = begin;
+        self.clock = load;
+    }
+
+    /// Takes the next long of the load, which is read 16 clocks after the one before.
+    pub fn load(&mut self, long: u32)
+        requires at { self.old.at < 496 }
+        requires clock { self.old.clock < 2 ^ 62 }
+        ensures par { self.new.par ≡ self.old.par }
+        ensures at { self.new.at ≡ self.old.at + 1 }
+        ensures clock { self.new.clock ≡ self.old.clock + 16 }
+        ensures longs { take (self.old.at + 1) self.new.registers ≡ take self.old.at self.old.registers ++ long ∷ [] }
+    {
+        self.registers.load(self.at, long);
+        self.at += 1;
+        self.clock += 16;
+    }
+
+    /// Begins the first instruction behind the last read of the load, 8,192 clocks after the Load.
+    pub fn begin(&mut self)
+        requires { self.old.clock < 2 ^ 62 + 2 ^ 8 }
+        ensures { self.new ≡ first_with (take 496 self.old.registers) self.old.par (self.old.clock + 256) }
+    {
+        self.registers.clear_special();
+        self.at = 0;
+        self.long = self.registers.get(0);
+        self.clock += 8192 - 16 * u64::from(LOADED_LONGS);
         self.c = false;
         self.z = false;
     }

@@ -1,4 +1,4 @@
-use Rattle.p8_cog.specs.Replaying.{below-stops}
+use Rattle.p8_cog.specs.Keeping.{below-stops}
 use Rattle.p8_cog.proofs.progress.first_below.Goals as goal
 
 pub returns-clause-stops : goal.returns-clause-stops

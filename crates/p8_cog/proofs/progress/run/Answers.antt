@@ -1,6 +1,8 @@
 use Rattle.std.proofs.Common.{◌≡◌, [], arith, refl}
 use Rattle.p8_cog.specs.Replay.{Goes, instruction, played}
-use Rattle.p8_cog.specs.Replaying.{leads-more, quiet-from, paced}
+use Rattle.p8_cog.specs.Replaying.{paced}
+use Rattle.p8_cog.specs.Reaching.{strides}
+use Rattle.p8_cog.specs.Keeping.{leads-more, quiet-from}
 use Rattle.p8_cog.proofs.progress.run.Goals as goal
 
 pub returns-then-state-until-clause-stops : goal.returns-then-state-until-clause-stops
@@ -17,4 +19,5 @@ loop-done-preserved c =
       at = c.if-not-run_apart.ensures.at;
       clock = c.if-not-run_apart.ensures.clock;
       counts = omega (arith, c.loop-done.invariant.counts, paced c.args.cog c.loop-done.state c.run_apart.new.self goes);
+      stride = omega (arith, c.loop-done.invariant.stride, strides c.args.cog c.loop-done.state c.run_apart.new.self goes);
     }

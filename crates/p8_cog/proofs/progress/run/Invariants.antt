@@ -9,4 +9,5 @@ invariant-loop-done l = record {
   at : l.state.at < 512;
   clock : l.state.clock < 2 ^ 62 + 2 ^ 10;
   counts : l.fn.state.clock + 4 * l.done ≤ l.state.clock;
+  stride : l.state.clock ≤ l.fn.state.clock + 8 * l.done;
 }

@@ -1,8 +1,6 @@
-use Rattle.std.proofs.Common.{refl, sym, ap, []}
-use Rattle.p8_cog.specs.declared.state.State.{State}
-use Rattle.p8_cog.specs.Replay.{Goes, after}
+use Rattle.p8_cog.specs.declared.progress.Had.TheVariants.{Nothing}
+use Rattle.p8_cog.specs.Keeping.{unloaded-stands}
 use Rattle.p8_cog.proofs.pasm.Cog.restart.Goals as goal
 
 pub returns-clause-stands : goal.returns-clause-stands
-unfolding after
-returns-clause-stands c = record { own = refl; reached = ap (λ (s : State). Goes s []) (sym c.load.ensures) }
+returns-clause-stands c = unloaded-stands c.args.cog c.args.code c.args.par c.args.load (record { begun = c.unload.new.self; had = Nothing }) c.unload.ensures.par c.unload.ensures.at c.unload.ensures.clock

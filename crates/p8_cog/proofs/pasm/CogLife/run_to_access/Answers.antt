@@ -1,12 +1,59 @@
-use Rattle.p8_cog.specs.Replaying.{over-tells, led-tells, again}
+use Rattle.std.proofs.Common.{ℕ, ◌+◌, sym, subst}
+use Rattle.p8_access.specs.Lives.{announced_by, IsThorough}
+use Rattle.p8_cog.specs.declared.stage.Stage.TheVariants.{Loading, Running}
+use Rattle.p8_cog.specs.Replay.{Begins}
+use Rattle.p8_cog.specs.Standing.{standing_at, StandsFor, clock_of}
+use Rattle.p8_cog.specs.Stops.{Announces, Stops}
+use Rattle.p8_cog.specs.Keeping.{stops-tells, stops-thorough, stops-quiet, stops-announces, announces-same, told-spends, over-tells, over-thorough, over-ended, at-stage, again-told, again, led}
 use Rattle.p8_cog.proofs.pasm.CogLife.run_to_access.Goals as goal
 
-pub returns-then-self-clause-tells : goal.returns-then-self-clause-tells
-returns-then-self-clause-tells c = over-tells _ _ _ c.args.self.now.state _ c.if-self.true
+-- what a load tells stands where it is
+reads : (c : goal.After-self-1) → Stops c.args.self.now.cog (standing_at c.args.self.now.stage c.args.self.now.code c.args.self.now.state) (clock_of c.args.self.now.state) c.args.until c.next_read-next.result
+reads c = at-stage c.args.self.now.cog c.args.self.now.code (clock_of c.args.self.now.state) c.args.until c.args.self.now.stage Loading c.args.self.now.state c.next_read-next.result c.in-Loading.is (c.next_read-next.ensures.stops c.args.self.now.cog)
 
-pub returns-clause-tells : goal.returns-clause-tells
-returns-clause-tells c = led-tells _ _ _ _ c.args.self.now.state c.next_below-ran.new.self _ _ _ c.if-self.false c.next_below-ran.ensures.leads c.next_below-ran.ensures.stops
+-- what a run tells stands where it has come
+ran : (c : goal.After-self-in-Running-1) → Stops c.args.self.now.cog (standing_at c.args.self.now.stage c.args.self.now.code c.next_below-ran.new.self) (clock_of c.next_below-ran.new.self) c.args.until c.next_below-ran.result.next
+ran c = at-stage c.args.self.now.cog c.args.self.now.code (clock_of c.next_below-ran.new.self) c.args.until c.args.self.now.stage Running c.next_below-ran.new.self c.next_below-ran.result.next c.in-Running.is c.next_below-ran.ensures.stops
 
-pub returns-clause-again : goal.returns-clause-again
-returns-clause-again c = λ clock access announced below.
-    again _ _ _ clock _ _ access _ c.args.self.now.state c.next_below-ran.new.self _ c.if-self.false (c.args.self.now.announces clock access announced).0 c.requires.budget below c.next_below-ran.ensures.leads c.next_below-ran.ensures.stops c.next_below-ran.ensures.spent
+pub invariant_of-self-clause-announces : goal.invariant_of-self-clause-announces
+invariant_of-self-clause-announces c = announces-same c.args.self.now.cog c.args.self.now.code c.args.self.now.stage c.args.self.now.state c.announced_in-self.result (announced_by c.next_read-next.result) c.announced_in-self.ensures
+    (stops-announces c.args.self.now.cog c.args.self.now.code c.args.until c.args.self.now.stage c.args.self.now.state c.next_read-next.result c.requires.until
+    (at-stage c.args.self.now.cog c.args.self.now.code (clock_of c.args.self.now.state) c.args.until c.args.self.now.stage Loading c.args.self.now.state c.next_read-next.result c.in-Loading.is (c.next_read-next.ensures.stops c.args.self.now.cog)))
+
+pub returns-in-Loading-clause-tells : goal.returns-in-Loading-clause-tells
+returns-in-Loading-clause-tells c = stops-tells c.args.self.now.done c.args.self.now.cog c.args.self.now.code (clock_of c.args.self.now.state) c.args.until c.args.self.now.stage c.args.self.now.state c.next_read-next.result (reads c)
+
+pub returns-in-Loading-clause-again : goal.returns-in-Loading-clause-again
+returns-in-Loading-clause-again c = λ clock access announced below.
+    again-told c.args.self.now.cog clock c.args.until (clock_of c.args.self.now.state) access (standing_at c.args.self.now.stage c.args.self.now.code c.args.self.now.state) c.next_read-next.result (c.args.self.now.announces clock access announced).0 below c.next_read-next.ensures.told (reads c)
+
+pub returns-in-Loading-clause-thorough : goal.returns-in-Loading-clause-thorough
+returns-in-Loading-clause-thorough c = stops-thorough c.args.self.now.done c.args.self.now.cog c.args.self.now.code (clock_of c.args.self.now.state) c.args.until c.args.self.now.stage c.args.self.now.state c.next_read-next.result (reads c)
+
+pub returns-in-Loading-clause-spends : goal.returns-in-Loading-clause-spends
+returns-in-Loading-clause-spends c = told-spends c.args.self.now.cog c.args.self.now.done (clock_of c.args.self.now.state) c.args.until c.args.budget (standing_at c.args.self.now.stage c.args.self.now.code c.args.self.now.state) c.next_read-next.result (reads c) c.next_read-next.ensures.told
+
+pub returns-in-Loading-clause-quiet : goal.returns-in-Loading-clause-quiet
+returns-in-Loading-clause-quiet c = λ b ts stands live is.
+    stops-quiet c.args.self.now.cog (clock_of c.args.self.now.state) c.args.until (standing_at c.args.self.now.stage c.args.self.now.code c.args.self.now.state) c.next_read-next.result (reads c) is
+
+pub returns-in-Running-clause-tells : goal.returns-in-Running-clause-tells
+returns-in-Running-clause-tells c = λ b ts stands.
+    stops-tells (c.args.self.now.done + c.next_below-ran.result.done) c.args.self.now.cog c.args.self.now.code (clock_of c.next_below-ran.new.self) c.args.until c.args.self.now.stage c.next_below-ran.new.self c.next_below-ran.result.next (ran c) b ts
+    (led c.args.self.now.done c.next_below-ran.result.done c.args.self.now.cog c.args.self.now.code c.args.self.now.stage c.args.self.now.state c.next_below-ran.new.self c.in-Running.is c.next_below-ran.ensures.leads b ts stands)
+
+pub returns-in-Running-clause-again : goal.returns-in-Running-clause-again
+returns-in-Running-clause-again c = λ clock access announced below.
+    again c.args.self.now.cog c.args.self.now.code c.next_below-ran.result.done c.args.budget clock c.args.until (clock_of c.next_below-ran.new.self) access c.args.self.now.stage c.args.self.now.state c.next_below-ran.new.self c.next_below-ran.result.next c.in-Running.is (c.args.self.now.announces clock access announced).0 c.requires.budget below c.next_below-ran.ensures.leads c.next_below-ran.ensures.stops c.next_below-ran.ensures.spent
+
+pub returns-in-Running-clause-thorough : goal.returns-in-Running-clause-thorough
+returns-in-Running-clause-thorough c = λ b ts stands.
+    subst (λ (n : ℕ). IsThorough (Begins b ts) (c.args.self.now.done + n) c.args.until c.next_below-ran.result.next) (sym c.from.ensures)
+    (stops-thorough (c.args.self.now.done + c.next_below-ran.result.done) c.args.self.now.cog c.args.self.now.code (clock_of c.next_below-ran.new.self) c.args.until c.args.self.now.stage c.next_below-ran.new.self c.next_below-ran.result.next (ran c) b ts
+    (led c.args.self.now.done c.next_below-ran.result.done c.args.self.now.cog c.args.self.now.code c.args.self.now.stage c.args.self.now.state c.next_below-ran.new.self c.in-Running.is c.next_below-ran.ensures.leads b ts stands))
+
+pub returns-in-Over-clause-tells : goal.returns-in-Over-clause-tells
+returns-in-Over-clause-tells c = over-tells c.args.self.now.done c.args.self.now.cog c.args.self.now.code c.args.until c.args.self.now.stage c.args.self.now.state c.in-Over.is
+
+pub returns-in-Over-clause-thorough : goal.returns-in-Over-clause-thorough
+returns-in-Over-clause-thorough c = over-thorough c.args.self.now.done c.args.self.now.cog c.args.self.now.code c.args.until c.args.self.now.stage c.args.self.now.state c.in-Over.is

@@ -1,31 +1,106 @@
-use Rattle.std.proofs.Common.{◌≤◌, arith}
-use Rattle.p8_cog.specs.Standing.{clock_of}
-use Rattle.p8_cog.specs.Replaying.{turn-comes, over-stands, whole-stands, half-stands}
+use Rattle.std.proofs.Common.{◌≡◌, ℕ, ◌+◌, ◌≤◌, subst, arith}
+use Rattle.p8_cog.specs.declared.stage.Stage.TheVariants.{Loading, Over}
+use Rattle.p8_cog.specs.Replay.{step}
+use Rattle.p8_cog.specs.Standing.{running_at, clock_of}
+use Rattle.p8_cog.specs.Stops.{Comes, Loads}
+use Rattle.p8_cog.specs.Keeping.{comes-running, comes-never, comes-read, load-holds, load-clock, load-stands, IsLoaded, announces-none, not-in-load, over-stands, whole-stands, half-stands}
 use Rattle.p8_cog.proofs.pasm.CogLife.take_answer.Goals as goal
 
+pub take_long-self-requires-clause-clock : goal.take_long-self-requires-clause-clock
+take_long-self-requires-clause-clock c =
+    let at : c.args.turn.now.key.clock ≡ c.args.self.now.state.begun.clock + 16 = comes-read c.args.self.now.cog c.args.self.now.code c.args.self.now.stage c.args.self.now.state c.args.self.now.announced c.args.turn.now c.in-Loading.is c.args.self.now.announces c.requires.announced in
+    omega (arith, at, c.requires.clock)
+
 pub take-requires-clause-comes : goal.take-requires-clause-comes
-take-requires-clause-comes c = (turn-comes c.args.self.now.cog c.args.self.now.over c.args.self.now.state c.args.self.now.announced c.args.turn.now c.args.self.now.announces c.requires.announced).1
+take-requires-clause-comes c = (comes-running c.args.self.now.cog c.args.self.now.code c.args.self.now.stage c.args.self.now.state c.args.self.now.announced c.args.turn.now c.in-Running.is c.args.self.now.announces c.requires.announced).0
 
-pub invariant_of-self-clause-counts : goal.invariant_of-self-clause-counts
-invariant_of-self-clause-counts c =
-    let comes : clock_of c.args.self.now.state ≤ c.args.turn.now.key.clock = (turn-comes c.args.self.now.cog c.args.self.now.over c.args.self.now.state c.args.self.now.announced c.args.turn.now c.args.self.now.announces c.requires.announced).2 in
-    omega (arith, c.in-Over.ensures.takes.1, c.args.self.now.counts)
+pub unreachable-requires : goal.unreachable-requires
+unreachable-requires c = comes-never c.args.self.now.cog c.args.self.now.code c.args.self.now.stage c.args.self.now.state c.args.self.now.announced c.args.turn.now c.in-Over.is c.args.self.now.announces c.requires.announced
 
-pub invariant_of-self-in-Whole-clause-counts : goal.invariant_of-self-in-Whole-clause-counts
-invariant_of-self-in-Whole-clause-counts c =
-    let comes : clock_of c.args.self.now.state ≤ c.args.turn.now.key.clock = (turn-comes c.args.self.now.cog c.args.self.now.over c.args.self.now.state c.args.self.now.announced c.args.turn.now c.args.self.now.announces c.requires.announced).2 in
-    omega (arith, c.in-Whole.ensures.takes.1, c.args.self.now.counts)
+pub invariant_of-self : goal.invariant_of-self
+invariant_of-self c =
+    let at : c.args.turn.now.key.clock ≡ c.args.self.now.state.begun.clock + 16 = comes-read c.args.self.now.cog c.args.self.now.code c.args.self.now.stage c.args.self.now.state c.args.self.now.announced c.args.turn.now c.in-Loading.is c.args.self.now.announces c.requires.announced in
+    let here : clock_of c.args.self.now.state ≡ c.args.self.now.state.begun.clock = load-clock c.args.self.now.state (c.args.self.now.loads c.in-Loading.is) in
+    let h : IsLoaded c.args.self.now.cog c.args.self.now.state.begun.clock c.take_long-self.result c.take_long-self.new.self = load-holds c.args.self.now.cog c.take_long-self.result c.args.self.now.state.begun c.value_in.result c.take_long-self.new.self c.take_long-self.ensures in
+    record {
+      at = h.at;
+      aligned = c.args.self.now.aligned;
+      room = c.args.self.now.room;
+      cog_below = c.args.self.now.cog_below;
+      clock = omega (arith, h.most, at, c.requires.clock);
+      counts = omega (arith, h.least, here, c.args.self.now.counts);
+      half = h.half;
+      loads = h.loads;
+      announces = announces-none c.args.self.now.cog c.args.self.now.code c.take_long-self.result c.take_long-self.new.self;
+    }
 
-pub invariant_of-self-in-Half-clause-counts : goal.invariant_of-self-in-Half-clause-counts
-invariant_of-self-in-Half-clause-counts c =
-    let comes : clock_of c.args.self.now.state ≤ c.args.turn.now.key.clock = (turn-comes c.args.self.now.cog c.args.self.now.over c.args.self.now.state c.args.self.now.announced c.args.turn.now c.args.self.now.announces c.requires.announced).2 in
-    omega (arith, c.in-Half.ensures.takes.1, c.args.self.now.counts)
+pub invariant_of-self-in-Ended : goal.invariant_of-self-in-Ended
+invariant_of-self-in-Ended c =
+    let comes = comes-running c.args.self.now.cog c.args.self.now.code c.args.self.now.stage c.args.self.now.state c.args.self.now.announced c.args.turn.now c.in-Running.is c.args.self.now.announces c.requires.announced in
+    record {
+      at = c.in-Ended.ensures.at;
+      aligned = c.args.self.now.aligned;
+      room = c.args.self.now.room;
+      cog_below = c.args.self.now.cog_below;
+      clock = c.in-Ended.ensures.clock;
+      counts = omega (arith, c.in-Ended.ensures.takes.1, comes.1, c.args.self.now.counts);
+      half = c.in-Ended.ensures.half;
+      loads = λ is. absurd (let x : Over ≡ Loading = is in cc);
+      announces = announces-none c.args.self.now.cog c.args.self.now.code Over c.take.new.self;
+    }
 
-pub returns-in-Over-clause-stands : goal.returns-in-Over-clause-stands
-returns-in-Over-clause-stands c = over-stands _ _ _ c.args.self.now.state c.take.new.self _ (turn-comes c.args.self.now.cog c.args.self.now.over c.args.self.now.state c.args.self.now.announced c.args.turn.now c.args.self.now.announces c.requires.announced).0 c.in-Over.ensures.takes
+pub invariant_of-self-in-Whole : goal.invariant_of-self-in-Whole
+invariant_of-self-in-Whole c =
+    let comes = comes-running c.args.self.now.cog c.args.self.now.code c.args.self.now.stage c.args.self.now.state c.args.self.now.announced c.args.turn.now c.in-Running.is c.args.self.now.announces c.requires.announced in
+    record {
+      at = c.in-Whole.ensures.at;
+      aligned = c.args.self.now.aligned;
+      room = c.args.self.now.room;
+      cog_below = c.args.self.now.cog_below;
+      clock = c.in-Whole.ensures.clock;
+      counts = omega (arith, c.in-Whole.ensures.takes.1, comes.1, c.args.self.now.counts);
+      half = c.in-Whole.ensures.half;
+      loads = not-in-load c.args.self.now.stage c.take.new.self c.in-Running.is;
+      announces = announces-none c.args.self.now.cog c.args.self.now.code c.args.self.now.stage c.take.new.self;
+    }
+
+pub invariant_of-self-in-Half : goal.invariant_of-self-in-Half
+invariant_of-self-in-Half c =
+    let comes = comes-running c.args.self.now.cog c.args.self.now.code c.args.self.now.stage c.args.self.now.state c.args.self.now.announced c.args.turn.now c.in-Running.is c.args.self.now.announces c.requires.announced in
+    record {
+      at = c.in-Half.ensures.at;
+      aligned = c.args.self.now.aligned;
+      room = c.args.self.now.room;
+      cog_below = c.args.self.now.cog_below;
+      clock = c.in-Half.ensures.clock;
+      counts = omega (arith, c.in-Half.ensures.takes.1, comes.1, c.args.self.now.counts);
+      half = c.in-Half.ensures.half;
+      loads = not-in-load c.args.self.now.stage c.take.new.self c.in-Running.is;
+      announces = announces-none c.args.self.now.cog c.args.self.now.code c.args.self.now.stage c.take.new.self;
+    }
+
+pub returns-in-Loading-clause-stands : goal.returns-in-Loading-clause-stands
+returns-in-Loading-clause-stands c =
+    load-stands c.args.self.now.done c.args.self.now.cog c.args.self.now.code c.args.self.now.stage c.take_long-self.result c.args.self.now.state c.take_long-self.new.self c.args.turn.now c.in-Loading.is
+    (subst (λ (long : ℕ). Loads c.args.self.now.state.begun long c.take_long-self.new.self c.take_long-self.result) c.value_in.ensures c.take_long-self.ensures)
+
+pub returns-in-Loading-clause-reached : goal.returns-in-Loading-clause-reached
+returns-in-Loading-clause-reached c =
+    let at : c.args.turn.now.key.clock ≡ c.args.self.now.state.begun.clock + 16 = comes-read c.args.self.now.cog c.args.self.now.code c.args.self.now.stage c.args.self.now.state c.args.self.now.announced c.args.turn.now c.in-Loading.is c.args.self.now.announces c.requires.announced in
+    let h : IsLoaded c.args.self.now.cog c.args.self.now.state.begun.clock c.take_long-self.result c.take_long-self.new.self = load-holds c.args.self.now.cog c.take_long-self.result c.args.self.now.state.begun c.value_in.result c.take_long-self.new.self c.take_long-self.ensures in
+    omega (arith, at, h.least)
+
+pub returns-in-Loading-clause-lead : goal.returns-in-Loading-clause-lead
+returns-in-Loading-clause-lead c =
+    let at : c.args.turn.now.key.clock ≡ c.args.self.now.state.begun.clock + 16 = comes-read c.args.self.now.cog c.args.self.now.code c.args.self.now.stage c.args.self.now.state c.args.self.now.announced c.args.turn.now c.in-Loading.is c.args.self.now.announces c.requires.announced in
+    let h : IsLoaded c.args.self.now.cog c.args.self.now.state.begun.clock c.take_long-self.result c.take_long-self.new.self = load-holds c.args.self.now.cog c.take_long-self.result c.args.self.now.state.begun c.value_in.result c.take_long-self.new.self c.take_long-self.ensures in
+    omega (arith, at, h.most)
+
+pub returns-in-Ended-clause-stands : goal.returns-in-Ended-clause-stands
+returns-in-Ended-clause-stands c = over-stands c.args.self.now.done c.args.self.now.cog c.args.self.now.code c.args.self.now.stage c.args.self.now.state c.take.new.self c.args.turn.now c.in-Running.is (comes-running c.args.self.now.cog c.args.self.now.code c.args.self.now.stage c.args.self.now.state c.args.self.now.announced c.args.turn.now c.in-Running.is c.args.self.now.announces c.requires.announced).0 c.in-Ended.ensures.takes
 
 pub returns-in-Whole-clause-stands : goal.returns-in-Whole-clause-stands
-returns-in-Whole-clause-stands c = whole-stands _ _ _ c.args.self.now.state c.take.new.self _ (turn-comes c.args.self.now.cog c.args.self.now.over c.args.self.now.state c.args.self.now.announced c.args.turn.now c.args.self.now.announces c.requires.announced).0 c.in-Whole.ensures.takes
+returns-in-Whole-clause-stands c = whole-stands c.args.self.now.done c.args.self.now.cog c.args.self.now.code c.args.self.now.stage c.args.self.now.state c.take.new.self c.args.turn.now c.in-Running.is c.in-Whole.ensures.takes
 
 pub returns-in-Half-clause-stands : goal.returns-in-Half-clause-stands
-returns-in-Half-clause-stands c = half-stands _ _ _ c.args.self.now.state c.take.new.self _ (turn-comes c.args.self.now.cog c.args.self.now.over c.args.self.now.state c.args.self.now.announced c.args.turn.now c.args.self.now.announces c.requires.announced).0 c.in-Half.ensures.takes.0
+returns-in-Half-clause-stands c = half-stands c.args.self.now.done c.args.self.now.cog c.args.self.now.code c.args.self.now.stage c.args.self.now.state c.take.new.self c.args.turn.now c.in-Running.is c.in-Half.ensures.takes.0

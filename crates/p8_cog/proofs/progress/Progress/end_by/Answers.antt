@@ -1,7 +1,8 @@
 use Rattle.std.proofs.Common.{[], ◌∷◌, ◌++◌, sym, ap}
 use Rattle.p8_cog.specs.declared.progress.Had.{Had}
 use Rattle.p8_cog.specs.Standing.{turns_of}
-use Rattle.p8_cog.specs.Replaying.{whole-takes, third-last}
+use Rattle.p8_cog.specs.Reaching.{whole-takes}
+use Rattle.p8_cog.specs.Replaying.{third-last}
 use Rattle.p8_cog.proofs.progress.Progress.end_by.Goals as goal
 
 pub unreachable-requires : goal.unreachable-requires

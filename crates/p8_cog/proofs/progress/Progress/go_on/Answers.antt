@@ -1,5 +1,5 @@
 use Rattle.p8_cog.specs.Standing.{turns_of}
-use Rattle.p8_cog.specs.Replaying.{whole-takes, half-holds}
+use Rattle.p8_cog.specs.Reaching.{whole-takes, half-holds}
 use Rattle.p8_cog.proofs.progress.Progress.go_on.Goals as goal
 
 pub returns-in-Whole-clause-takes : goal.returns-in-Whole-clause-takes

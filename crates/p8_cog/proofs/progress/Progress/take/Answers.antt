@@ -1,4 +1,4 @@
-use Rattle.p8_cog.specs.Replaying.{begun-below}
+use Rattle.p8_cog.specs.Keeping.{begun-below}
 use Rattle.p8_cog.proofs.progress.Progress.take.Goals as goal
 
 pub go_on-requires-clause-begun : goal.go_on-requires-clause-begun

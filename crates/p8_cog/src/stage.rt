@@ -1,0 +1,12 @@
+// How far a life is.
+
+/// Where a life is between its start and its end.
+#[derive(Clone, Copy, Debug, PartialEq, Eq)]
+pub enum Stage {
+    /// It reads the 496 longs of its load.
+    Loading,
+    /// It runs them.
+    Running,
+    /// It is over.
+    Over,
+}
