@@ -70,6 +70,7 @@ pub trait Life {
 
         ensures forward { place self.old ≤ place self.new }
         ensures budget { place self.new ≤ place self.old + budget }
+        ensures placed { (b : Begun) (ts : List Turn) → stands self.old b ts → has_ended (cog self.old) ts ≡ false → (clock : ℕ) × begins b ts (place self.new) clock }
         ensures thorough { (b : Begun) (ts : List Turn) → stands self.old b ts → IsThorough (begins b ts) (place self.new) until result }
 
         ensures spends { Spends (place self.old) (place self.new) (reached self.old) (reached self.new) (pace self.old) until budget result }
@@ -91,6 +92,7 @@ pub trait Life {
         requires fits { Fits turn.now.access turn.now.answer }
 
         ensures stands { (b : Begun) (ts : List Turn) → stands self.old b ts → stands self.new b (ts ++ turn.now ∷ []) }
+        ensures placed { (b : Begun) (ts : List Turn) → stands self.old b ts → has_ended (cog self.old) (ts ++ turn.now ∷ []) ≡ false → (clock : ℕ) × begins b (ts ++ turn.now ∷ []) (place self.new) clock }
         ensures announced { announced self.new ≡ None }
         ensures reached { turn.now.key.clock ≤ reached self.new }
         ensures lead { reached self.new ≤ turn.now.key.clock + lead self.old }
@@ -101,9 +103,6 @@ pub trait Life {
 
     /// An instruction or a bytecode takes time.
     ghost paced: { (life : Self) → 4 ≤ pace life };
-
-    /// Its place is the place in the replay, until it is over.
-    ghost placed: { (life : Self) (b : Begun) (ts : List Turn) → stands life b ts → has_ended (cog life) ts ≡ false → (clock : ℕ) × begins b ts (place life) clock };
 
     /// One access is asked next.
     ghost one_asked: { (b : Begun) (ts : List Turn) (c d : ℕ) (a e : Access) → asked b ts c a → asked b ts d e → (c ≡ d) × (a ≡ e) };

@@ -8,7 +8,6 @@ ghost use Rattle.p8_cog.specs.Replay.{IsAsked, Begins};
 ghost use Rattle.p8_cog.specs.Standing.{StandsFor, clock_of};
 ghost use Rattle.p8_cog.specs.Stops.{Announces, IsHalf, IsInLoad};
 ghost use Rattle.p8_cog.specs.Replaying.{one-asked, asked-first, asked-later};
-ghost use Rattle.p8_cog.specs.Keeping.{placed};
 
 use crate::ending::Ending;
 use crate::hub::value_in;
@@ -173,8 +172,6 @@ impl Life for Cog {
     }
 
     ghost paced = { λ life. le_refl 4 };
-
-    ghost placed = { λ life b ts stands live. placed _ _ _ life.stage life.state b ts stands live };
 
     ghost one_asked = { one-asked };
 

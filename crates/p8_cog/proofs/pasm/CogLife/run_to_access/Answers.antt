@@ -4,7 +4,7 @@ use Rattle.p8_cog.specs.declared.stage.Stage.TheVariants.{Loading, Running}
 use Rattle.p8_cog.specs.Replay.{Begins}
 use Rattle.p8_cog.specs.Standing.{standing_at, StandsFor, clock_of}
 use Rattle.p8_cog.specs.Stops.{Announces, Stops}
-use Rattle.p8_cog.specs.Keeping.{stops-tells, stops-thorough, stops-quiet, stops-announces, announces-same, told-spends, over-tells, over-thorough, over-ended, at-stage, again-told, again, led}
+use Rattle.p8_cog.specs.Keeping.{stops-tells, stops-thorough, stops-quiet, stops-announces, announces-same, told-spends, over-tells, over-thorough, over-ended, at-stage, again-told, again, led, placed}
 use Rattle.p8_cog.proofs.pasm.CogLife.run_to_access.Goals as goal
 
 -- what a load tells stands where it is
@@ -57,3 +57,16 @@ returns-in-Over-clause-tells c = over-tells c.args.self.now.done c.args.self.now
 
 pub returns-in-Over-clause-thorough : goal.returns-in-Over-clause-thorough
 returns-in-Over-clause-thorough c = over-thorough c.args.self.now.done c.args.self.now.cog c.args.self.now.code c.args.until c.args.self.now.stage c.args.self.now.state c.in-Over.is
+
+pub returns-in-Loading-clause-placed : goal.returns-in-Loading-clause-placed
+returns-in-Loading-clause-placed c = placed c.args.self.now.done c.args.self.now.cog c.args.self.now.code c.args.self.now.stage c.args.self.now.state
+
+pub returns-in-Running-clause-placed : goal.returns-in-Running-clause-placed
+returns-in-Running-clause-placed c = λ b ts stands live.
+    subst (λ (n : ℕ). (clock : ℕ) × Begins b ts (c.args.self.now.done + n) clock) (sym c.from.ensures)
+    (placed (c.args.self.now.done + c.next_below-ran.result.done) c.args.self.now.cog c.args.self.now.code c.args.self.now.stage c.next_below-ran.new.self b ts
+    (led c.args.self.now.done c.next_below-ran.result.done c.args.self.now.cog c.args.self.now.code c.args.self.now.stage c.args.self.now.state c.next_below-ran.new.self c.in-Running.is c.next_below-ran.ensures.leads b ts stands)
+    live)
+
+pub returns-in-Over-clause-placed : goal.returns-in-Over-clause-placed
+returns-in-Over-clause-placed c = placed c.args.self.now.done c.args.self.now.cog c.args.self.now.code c.args.self.now.stage c.args.self.now.state

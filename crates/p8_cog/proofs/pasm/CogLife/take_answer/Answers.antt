@@ -1,9 +1,9 @@
-use Rattle.std.proofs.Common.{◌≡◌, ℕ, ◌+◌, ◌≤◌, subst, arith}
+use Rattle.std.proofs.Common.{◌≡◌, ℕ, ◌+◌, ◌≤◌, ◌++◌, ◌∷◌, [], subst, arith}
 use Rattle.p8_cog.specs.declared.stage.Stage.TheVariants.{Loading, Over}
 use Rattle.p8_cog.specs.Replay.{step}
 use Rattle.p8_cog.specs.Standing.{running_at, clock_of}
 use Rattle.p8_cog.specs.Stops.{Comes, Loads}
-use Rattle.p8_cog.specs.Keeping.{comes-running, comes-never, comes-read, load-holds, load-clock, load-stands, IsLoaded, announces-none, not-in-load, over-stands, whole-stands, half-stands}
+use Rattle.p8_cog.specs.Keeping.{comes-running, comes-never, comes-read, load-holds, load-clock, load-stands, IsLoaded, announces-none, not-in-load, over-stands, whole-stands, half-stands, placed}
 use Rattle.p8_cog.proofs.pasm.CogLife.take_answer.Goals as goal
 
 pub take_long-self-requires-clause-clock : goal.take_long-self-requires-clause-clock
@@ -104,3 +104,19 @@ returns-in-Whole-clause-stands c = whole-stands c.args.self.now.done c.args.self
 
 pub returns-in-Half-clause-stands : goal.returns-in-Half-clause-stands
 returns-in-Half-clause-stands c = half-stands c.args.self.now.done c.args.self.now.cog c.args.self.now.code c.args.self.now.stage c.args.self.now.state c.take.new.self c.args.turn.now c.in-Running.is c.in-Half.ensures.takes.0
+
+pub returns-in-Loading-clause-placed : goal.returns-in-Loading-clause-placed
+returns-in-Loading-clause-placed c = λ b ts stands live.
+    placed c.args.self.now.done c.args.self.now.cog c.args.self.now.code c.take_long-self.result c.take_long-self.new.self b (ts ++ c.args.turn.now ∷ []) (returns-in-Loading-clause-stands c b ts stands) live
+
+pub returns-in-Ended-clause-placed : goal.returns-in-Ended-clause-placed
+returns-in-Ended-clause-placed c = λ b ts stands live.
+    placed (c.args.self.now.done + 1) c.args.self.now.cog c.args.self.now.code Over c.take.new.self b (ts ++ c.args.turn.now ∷ []) (returns-in-Ended-clause-stands c b ts stands) live
+
+pub returns-in-Whole-clause-placed : goal.returns-in-Whole-clause-placed
+returns-in-Whole-clause-placed c = λ b ts stands live.
+    placed (c.args.self.now.done + 1) c.args.self.now.cog c.args.self.now.code c.args.self.now.stage c.take.new.self b (ts ++ c.args.turn.now ∷ []) (returns-in-Whole-clause-stands c b ts stands) live
+
+pub returns-in-Half-clause-placed : goal.returns-in-Half-clause-placed
+returns-in-Half-clause-placed c = λ b ts stands live.
+    placed c.args.self.now.done c.args.self.now.cog c.args.self.now.code c.args.self.now.stage c.take.new.self b (ts ++ c.args.turn.now ∷ []) (returns-in-Half-clause-stands c b ts stands) live

@@ -1,0 +1,8 @@
+//! What runs in a cog, of whatever kind: the one type of life that the program's parts hold.
+#![tactic(auto)]
+
+mod cog_life;
+#[cfg(test)]
+mod tests;
+
+pub use cog_life::CogLife;
