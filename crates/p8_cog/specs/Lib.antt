@@ -2,6 +2,7 @@
 pub mod Instructions
 pub mod Replay
 pub mod Standing
+pub mod Whole
 -- Machinery that only proofs need.
 pub mod Stops
 pub mod Replaying

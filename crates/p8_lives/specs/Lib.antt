@@ -1,4 +1,5 @@
 -- What public contracts cite.
 pub mod Lives
+pub mod Whole
 -- Machinery that only proofs need.
 pub mod Laws
