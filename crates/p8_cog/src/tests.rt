@@ -1,5 +1,5 @@
 // Lives of a few instructions, worked by hand.
-ghost use Rattle.std.specs.Prelude.{◌≡◌};
+ghost use Rattle.std.specs.Prelude.{◌≡◌, ◌<◌};
 
 use crate::pasm::Cog;
 use p8_access::{Access, Answer, Key, Life, Next, Turn, Width};
@@ -21,32 +21,42 @@ macro_rules! has_turn {
     };
 }
 
-/// Answers the reads of a load from $0100 on behind the clock 16: these longs, and 0 behind them.
+/// Answers the read of long k of a load from $0100 on behind the clock 16.
+fn read(rt: &impl Abort, life: &mut Cog, k: u16, long: u32)
+    requires cog { ⟦<Cog as Life>⟧.cog life.old ≡ 0 }
+    requires k { k < 496 }
+    ensures { ⟦<Cog as Life>⟧.cog life.new ≡ 0 }
+{
+    let next = life.run_to_access(1 << 40, 1);
+    let Next::At {
+        clock,
+        access: Access::Read {
+            width: Width::Long,
+            address,
+        },
+    } = next
+    else {
+        panic!(rt; "{next:?}")
+    };
+    assert_eq!(rt; (clock, address), (32 + 16 * u64::from(k), 0x0100 + 4 * k));
+    life.take_answer(&Turn {
+        key: Key { clock, cog: 0 },
+        access: Access::Read {
+            width: Width::Long,
+            address,
+        },
+        answer: Answer::Value(long),
+    });
+}
+
+/// Answers the reads of a load: these longs, and 0 behind them.
 fn load(rt: &impl Abort, life: &mut Cog, code: &[u32])
     requires { ⟦<Cog as Life>⟧.cog life.old ≡ 0 }
     ensures { ⟦<Cog as Life>⟧.cog life.new ≡ 0 }
 {
     for k in 0..496u16 {
-        let next = life.run_to_access(1 << 40, 1);
-        let Next::At {
-            clock,
-            access: Access::Read {
-                width: Width::Long,
-                address,
-            },
-        } = next
-        else {
-            panic!(rt; "{next:?}")
-        };
-        assert_eq!(rt; (clock, address), (32 + 16 * u64::from(k), 0x0100 + 4 * k));
-        life.take_answer(&Turn {
-            key: Key { clock, cog: 0 },
-            access: Access::Read {
-                width: Width::Long,
-                address,
-            },
-            answer: Answer::Value(code.get(usize::from(k)).copied().unwrap_or(0)),
-        });
+        let long = code.get(usize::from(k)).copied().unwrap_or(0);
+        read(rt, life, k, long);
     }
 }
 
