@@ -71,7 +71,7 @@ difference_effect a b = plain_effect (difference a b) (nat_lt a b)
 abbrev pub signed_effect : ℤ → Effect
 signed_effect whole = plain_effect (word_of whole) (overflows whole)
 
--- D - S - C as a word, with C where the signed reading of D is below that of S, and C, as whole numbers
+-- D - S - C as a word, with C where D is below S + C, as whole numbers by the signed readings of D and S
 abbrev pub extended_comparison_effect : ℕ → ℕ → Bool → Effect
 extended_comparison_effect d s c =
     plain_effect (difference d (s + from_bool c)) (int_lt (signed_value d) (signed_value s +ℤ pos (from_bool c)))

@@ -1,7 +1,7 @@
-// What an instruction plain_effect.
+// What an instruction gives.
 ghost use Rattle.std.specs.Prelude.{◌≡◌, ◌<◌, ◌≤◌, ◌^◌, ◌≤ℤ◌, pos, neg_ℤ};
 
-/// What an instruction plain_effect, before its own bits say what of it is written.
+/// What an instruction gives, before its own bits say what of it is written.
 #[derive(Clone, Copy, Debug, PartialEq, Eq)]
 pub struct Effect {
     /// The long for the destination.
