@@ -99,7 +99,7 @@ module _ (w : World) (past : List Turn) (turn : Turn) (n : ℕ) where
   pub begun-same : begins_life n turn ≡ false → begun w (turn ∷ past) n ≡ begun w past n
   begun-same begins = rw begins refl
 
-  pub begun-new : begins_life n turn ≡ true → begun w (turn ∷ past) n ≡ Some (begun_at w past n turn.key.clock (origin_of (cog_state w past n)))
+  pub begun-new : begins_life n turn ≡ true → begun w (turn ∷ past) n ≡ Some (begun_at w n turn.key.clock (origin_of (cog_state w past n)))
   begun-new begins = rw begins refl
 
   pub since_begin-new : begins_life n turn ≡ true → since_begin (turn ∷ past) n ≡ []

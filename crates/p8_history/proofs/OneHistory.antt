@@ -1,5 +1,5 @@
 -- A world has one ended history.
-use Rattle.std.proofs.Common.{◌≡◌, ◌∙◌, ap, sym, subst, refl, ℕ, zero, suc, ◌+◌, ◌<◌, List, [], ◌∷◌, length, arith, inl, inr, ◌⊎◌}
+use Rattle.std.proofs.Common.{◌≡◌, ◌∙◌, ap, sym, subst, refl, ℕ, zero, suc, ◌+◌, ◌<◌, List, [], ◌∷◌, ◌++◌, length, arith, inl, inr, ◌⊎◌}
 use Rattle.p8_access.specs.declared.kinds.Access.{Access}
 use Rattle.p8_access.specs.declared.order.Key.{Key}
 use Rattle.p8_access.specs.declared.order.Turn.{Turn}
@@ -50,4 +50,17 @@ module _ (asked : Begun → List Turn → ℕ → Access → Type 0) (w : World)
   one-history h k p q = elim (apart (length h) (length k)) [
     | inl e ↦ same-length h k e p.legal q.legal
     | inr o ↦ elim o [ inl d ↦ absurd (longer k h d.0 d.1 q.legal p) | inr d ↦ absurd (longer h k d.0 d.1 p.legal q) ]
+  ]
+
+  -- a legal history is a part of each that has as many turns or more
+  part : (h k : List Turn) (d : ℕ) → length h ≡ d + length k → Legal asked w h → Legal asked w k → (more : List Turn) × (more ++ k ≡ h)
+  part h k zero e p q = ([], same-length k h (omega arith) q p)
+  part [] k (suc d) e p q = absurd (omega arith)
+  part (t ∷ h) k (suc d) e p q = let rest = part h k d (omega arith) p.0 q in (t ∷ rest.0, ap (λ (l : List Turn). t ∷ l) rest.1)
+
+  -- the ended history begins with every legal one
+  pub begins-ended : (h k : List Turn) → Ended asked w h → Legal asked w k → (more : List Turn) × (more ++ k ≡ h)
+  begins-ended h k p q = elim (apart (length h) (length k)) [
+    | inl e ↦ part h k zero (omega arith) p.legal q
+    | inr o ↦ elim o [ inl d ↦ absurd (longer k h d.0 d.1 q p) | inr d ↦ part h k (suc d.0) d.1 p.legal q ]
   ]

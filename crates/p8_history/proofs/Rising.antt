@@ -8,7 +8,7 @@ use Rattle.p8_access.specs.declared.kinds.Access.TheVariants.{Begin, Load, Read,
 use Rattle.p8_access.specs.declared.kinds.Answer.{Answer}
 use Rattle.p8_access.specs.declared.order.Turn.{Turn}
 use Rattle.p8_access.specs.Windows.{Before, window_of}
-use Rattle.p8_access.specs.Lives.{Begun, begin_of, IsTurnAt}
+use Rattle.p8_access.specs.Lives.{Begun, first_turn_of, IsTurnAt}
 use Rattle.p8_history.specs.declared.states.CogState.{CogState}
 use Rattle.p8_history.specs.declared.states.CogState.TheVariants.{Stopped, Starting, Running}
 use Rattle.p8_history.specs.Worlds.{World}
@@ -27,9 +27,9 @@ first-changes : (n clock cog : ℕ) (origin : Origin) (answer : Answer) → (cog
 first-changes n clock cog (Spin entry pbase vbase frame size) answer own e = let f = not-picked (cog == n) _ e in cc
 first-changes n clock cog (Pasm code par) answer own e = loaded-changes n clock cog (nat_le (code + 4 * 496) 32768) answer own e
 
-begin_of-begun_at : (w : World) (past : List Turn) (n clock : ℕ) (origin : Origin) → begin_of (begun_at w past n clock origin) ≡ clock + 8192
-begin_of-begun_at w past n clock (Pasm code par) = refl
-begin_of-begun_at w past n clock (Spin entry pbase vbase frame size) = refl
+first_turn-begun_at : (w : World) (n clock : ℕ) (origin : Origin) → first_turn_of (begun_at w n clock origin) ≡ clock
+first_turn-begun_at w n clock (Pasm code par) = refl
+first_turn-begun_at w n clock (Spin entry pbase vbase frame size) = refl
 
 -- an access that was due after a past is due after one turn more, but for a wait, which is later than
 -- that turn
@@ -53,7 +53,7 @@ due-moves w older prev n (DirSet value) earliest clock due = inr due
 due-moves w older prev n Clock earliest clock due = inr due
 due-moves w older prev n (Halt reason) earliest clock due = inr due
 
-module _ (asked : Begun → List Turn → ℕ → Access → Type 0) (w : World) (one_asked : (b : Begun) (ts : List Turn) (c d : ℕ) (a e : Access) → asked b ts c a → asked b ts d e → (c ≡ d) × (a ≡ e)) (asked_first : (b : Begun) (c : ℕ) (a : Access) → asked b [] c a → begin_of b ≤ c) (asked_later : (b : Begun) (ts : List Turn) (turn : Turn) (c d : ℕ) (a e : Access) → asked b ts c a → IsTurnAt c a turn → asked b (ts ++ turn ∷ []) d e → turn.key.clock < d) where
+module _ (asked : Begun → List Turn → ℕ → Access → Type 0) (w : World) (one_asked : (b : Begun) (ts : List Turn) (c d : ℕ) (a e : Access) → asked b ts c a → asked b ts d e → (c ≡ d) × (a ≡ e)) (asked_first : (b : Begun) (c : ℕ) (a : Access) → asked b [] c a → first_turn_of b < c) (asked_later : (b : Begun) (ts : List Turn) (turn : Turn) (c d : ℕ) (a e : Access) → asked b ts c a → IsTurnAt c a turn → asked b (ts ++ turn ∷ []) d e → turn.key.clock < d) where
   module _ (older : List Turn) (prev turn : Turn) (before : Extends asked w older prev) (below : turn.key.clock < w.clocks) where
     -- what was next already comes after the turn that was chosen before it
     waited : IsNextIn asked w older turn.key.cog (cog_state w older turn.key.cog) turn.key.clock turn.access → (prev.key.cog ≡ turn.key.cog → ⊥) → Before prev.key turn.key
@@ -100,9 +100,9 @@ module _ (asked : Begun → List Turn → ℕ → Access → Type 0) (w : World)
     rise-begun change next =
         let begins = runs-begins turn.key.cog prev.key.clock prev.key.cog prev.access prev.answer change in
         let life = some-injective _ _ (sym next.began ∙ begun-new w older prev turn.key.cog begins) in
-        let begin : begin_of next.life ≡ prev.key.clock + 8192 = ap begin_of life ∙ begin_of-begun_at w older turn.key.cog prev.key.clock (origin_of (cog_state w older turn.key.cog)) in
+        let begin : first_turn_of next.life ≡ prev.key.clock = ap first_turn_of life ∙ first_turn-begun_at w turn.key.cog prev.key.clock (origin_of (cog_state w older turn.key.cog)) in
         let asks = subst (λ (ts : List Turn). asked next.life ts next.earliest turn.access) (since_begin-new w older prev turn.key.cog begins) next.asks in
-        let first : begin_of next.life ≤ next.earliest = asked_first next.life next.earliest turn.access asks in
+        let first : first_turn_of next.life < next.earliest = asked_first next.life next.earliest turn.access asks in
         let late : next.earliest ≤ turn.key.clock = due-late w (prev ∷ older) turn.key.cog turn.access next.earliest turn.key.clock next.due in
         inl (omega arith)
 

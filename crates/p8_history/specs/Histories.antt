@@ -16,7 +16,7 @@ use Rattle.p8_access.specs.Lives.{Begun, PasmBegun, SpinBegun}
 use Rattle.p8_history.specs.declared.states.CogState.{CogState}
 use Rattle.p8_history.specs.declared.states.CogState.TheVariants.{Stopped, Starting, Running}
 use Rattle.p8_history.specs.Worlds.{World}
-use Rattle.p8_history.specs.Hub.{read_at, longs_at, is_set, stopped_cog, free_lock, cog_state, origin_of}
+use Rattle.p8_history.specs.Hub.{read_at, is_set, stopped_cog, free_lock, cog_state, origin_of}
 use Rattle.p8_history.specs.Pins.{pins_at, Holds}
 
 -- the answer to an access after a past
@@ -32,7 +32,7 @@ answer_to w past key PinsIn = Value (pins_at w past key.clock)
 answer_to w past key Clock = Value (key.clock % 2 ^ 32)
 answer_to w past key _ = Done
 
--- the first turn of a cog that was started: PASM takes 496 longs, where they stand below $8000
+-- the first turn of a cog that was started: a Load for PASM, where its 496 longs stand below $8000
 abbrev pub first_access : Origin → Access
 first_access (Pasm code par) = if nat_le (code + 4 * 496) 32768 then Load else Halt (Rom 32768)
 first_access (Spin entry pbase vbase frame size) = Begin
@@ -46,19 +46,17 @@ is_begin _ = false
 abbrev pub begins_life : ℕ → Turn → Bool
 begins_life n turn = (turn.key.cog == n) && is_begin turn.access
 
--- what a life begins with, where its first turn comes at a clock: its first instruction or entry
--- comes 8,192 clocks later
-abbrev pub begun_at : World → List Turn → ℕ → ℕ → Origin → Begun
-begun_at w past n clock (Pasm code par) =
-    PasmBegun (record { longs = longs_at w past code 496; par = par; cog = n; begin = clock + 8192 })
-begun_at w past n clock (Spin entry pbase vbase frame size) =
-    SpinBegun (record { code = w.memory; origin = Spin entry pbase vbase frame size; cog = n; begin = clock + 8192 })
+-- what a life of a cog begins with, where its first turn comes at a clock
+abbrev pub begun_at : World → (n clock : ℕ) → Origin → Begun
+begun_at w n clock (Pasm code par) = PasmBegun (record { code = code; par = par; cog = n; load = clock })
+begun_at w n clock (Spin entry pbase vbase frame size) =
+    SpinBegun (record { memory = w.memory; origin = Spin entry pbase vbase frame size; cog = n; begin = clock })
 
 -- what the newest life of a cog began with
 abbrev pub begun : World → List Turn → ℕ → Option Begun
 begun w [] n = None
 begun w (turn ∷ past) n =
-    if begins_life n turn then Some (begun_at w past n turn.key.clock (origin_of (cog_state w past n))) else begun w past n
+    if begins_life n turn then Some (begun_at w n turn.key.clock (origin_of (cog_state w past n))) else begun w past n
 
 -- the turns of that life, the oldest first
 abbrev pub since_begin : List Turn → ℕ → List Turn

@@ -1,8 +1,8 @@
 -- What the hub is after some turns, told by the last turn that matters (Propeller Manual v1.2, "Hub",
 -- COGINIT, COGSTOP, LOCKNEW, LOCKRET, LOCKSET, LOCKCLR; what they leave open is this project's profile).
 -- A past is a list of turns, the newest first.
-use Rattle.std.specs.Prelude.{ℕ, ◌+◌, ◌-◌, ◌*◌, ◌/◌, ◌%◌, ◌^◌, ◌==◌, nat_lt, if◌then◌else◌, Bool, true, false, not, List, [], ◌∷◌, Option, Some, None, slice_index, map}
-use Rattle.std.specs.List.{range_with_len, find}
+use Rattle.std.specs.Prelude.{ℕ, ◌+◌, ◌-◌, ◌*◌, ◌/◌, ◌%◌, ◌^◌, ◌==◌, nat_lt, if◌then◌else◌, Bool, true, false, not, List, [], ◌∷◌, Option, Some, None, slice_index}
+use Rattle.std.specs.List.{find}
 use Rattle.p8_access.specs.declared.kinds.Width.{Width}
 use Rattle.p8_access.specs.declared.kinds.Width.TheVariants.{Byte, Word, Long}
 use Rattle.p8_access.specs.declared.kinds.Origin.{Origin}
@@ -55,10 +55,6 @@ value_at w past Long a =
 -- what a read gives: 0 at $8000 and above
 abbrev pub read_at : World → List Turn → Width → ℕ → ℕ
 read_at w past width a = if nat_lt a 32768 then value_at w past width a else 0
-
--- the longs from an address on
-unfoldable pub longs_at : World → List Turn → ℕ → ℕ → List ℕ
-longs_at w past code count = map (λ (i : ℕ). value_at w past Long (code + 4 * i)) (range_with_len 0 count)
 
 -- locks: an answer names this number
 abbrev pub is_number : ℕ → Answer → Bool

@@ -5,5 +5,5 @@
 mod laws;
 mod states;
 
-pub use laws::{keys_rise, one_history};
+pub use laws::{each_legal_past_begins_it, keys_rise, one_history};
 pub use states::CogState;
