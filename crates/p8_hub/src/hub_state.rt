@@ -1,11 +1,12 @@
 // The hub, seen as the history that it stands for.
-ghost use Rattle.std.specs.Prelude.{◌≡◌, ◌<◌, ◌≤◌, ◌+◌, ◌*◌, ◌∷◌, [], ℕ, List, length, nat_lt, if◌then◌else◌, slice_set, IfOk};
+ghost use Rattle.std.specs.Prelude.{◌≡◌, ◌<◌, ◌∷◌, [], ℕ, List, nat_lt, if◌then◌else◌, slice_set, IfOk};
 ghost use Rattle.std.specs.List.{position_from};
 ghost use Rattle.p8_access.specs.declared.order.Turn.{Turn};
+ghost use Rattle.p8_access.specs.declared.kinds.Access.TheVariants.{PinsIn};
 ghost use Rattle.p8_access.specs.declared.kinds.Answer.TheVariants.{Done};
 ghost use Rattle.p8_access.specs.Proper.{IsProper, IsNumber, Fits};
 ghost use Rattle.p8_history.specs.Worlds.{World, level_at};
-ghost use Rattle.p8_history.specs.Hub.{byte_at, longs_at, cog_state, is_stopped, is_taken, is_set};
+ghost use Rattle.p8_history.specs.Hub.{byte_at, cog_state, is_stopped, is_taken, is_set};
 ghost use Rattle.p8_history.specs.Pins.{dira, outputs};
 ghost use Rattle.p8_history.specs.Histories.{answer_to};
 ghost use Rattle.p8_history.specs.declared.states.CogState.TheVariants.{Stopped, Starting};
@@ -56,7 +57,7 @@ impl Hub {
     }
 
     /// Answers the access of a turn with this key and does what it asks for. `levels` are those of the
-    /// 32 input pins at the key's clock, bit n for pin n.
+    /// 32 input pins at the key's clock, bit n for pin n; only a `PinsIn` looks at them.
     ///
     /// A number in memory stands with its lowest byte first. A read at $8000 and above gives 0, and a
     /// write there changes nothing. A start that names no cog takes the lowest stopped one, and a start
@@ -67,7 +68,7 @@ impl Hub {
 
         // Where the hub stands for a history it answers as that history does, and stands then for the
         // history with this turn.
-        ensures answer { (w : World) (past : List Turn) → IsHub w past self.old → levels ≡ level_at w.script key.clock → result ≡ answer_to w past key access.now }
+        ensures answer { (w : World) (past : List Turn) → IsHub w past self.old → (access.now ≡ PinsIn → levels ≡ level_at w.script key.clock) → result ≡ answer_to w past key access.now }
         ensures stands { (w : World) (past : List Turn) → IsHub w past self.old → IsHub w ((record { key = key; access = access.now; answer = result }) ∷ past) self.new }
 
         ensures fits { Fits access.now result }
@@ -152,16 +153,6 @@ impl Hub {
         ensures { (w : World) (past : List Turn) → IsHub w past self.now → result ≡ outputs past }
     {
         self.pins.outputs()
-    }
-
-    /// Copies the 496 longs from an address on, as a cog that is started takes them. All of them stand
-    /// in RAM, so the address is at most $7840.
-    pub fn copy_longs(&self, code: u16, longs: &mut [u32])
-        requires count { length longs.old ≡ 496 }
-        requires room { code + 4 * 496 ≤ 32768 }
-        ensures { (w : World) (past : List Turn) → IsHub w past self.now → longs.new ≡ longs_at w past code 496 }
-    {
-        self.memory.copy_longs(code, longs);
     }
 
     /// Starts the target, or the lowest stopped cog where there is none, and clears its pins.

@@ -1,7 +1,6 @@
 // The memory of the hub.
-ghost use Rattle.std.specs.Prelude.{◌≡◌, ◌<◌, ◌≤◌, ◌+◌, ◌*◌, ◌^◌, ℕ, length, nat_lt, if◌then◌else◌, slice_index, IfOk};
+ghost use Rattle.std.specs.Prelude.{◌≡◌, ◌<◌, ◌≤◌, ◌+◌, ◌^◌, ℕ, length, nat_lt, if◌then◌else◌, slice_index, IfOk};
 ghost use Rattle.p8_access.specs.declared.kinds.Access.TheVariants.{Write};
-ghost use Rattle.p8_access.specs.declared.kinds.Width.TheVariants.{Long};
 ghost use Rattle.p8_access.specs.Proper.{bytes_in, IsAligned, IsReduced};
 ghost use Rattle.p8_history.specs.Hub.{put_by, or_else};
 ghost use Rattle.p8_hub.specs.Parts.{number_in};
@@ -86,15 +85,5 @@ impl Memory {
         if (address as usize) < self.bytes.len() {
             put(&mut self.bytes, width, address, value);
         }
-    }
-
-    /// Copies the longs from an address on, which stand in RAM.
-    pub fn copy_longs(&self, code: u16, longs: &mut [u32])
-        requires { code + 4 * length longs.old ≤ 32768 }
-        ensures { (i : ℕ) → i < length longs.new → slice_index longs.new i ≡ number_in self.now Long (code + 4 * i) }
-    {
-        let from = code as usize;
-        let bytes = &self.bytes[from..from + 4 * longs.len()];
-        LittleEndian::read_u32_into(bytes, longs);
     }
 }

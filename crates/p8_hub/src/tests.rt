@@ -46,9 +46,6 @@ fn reads_and_writes(rt: HostRuntime) -> Result<(), Fail> {
     assert_eq!(rt; read(hub, Width::Word, 0x0100), Answer::Value(0x2A));
     assert_eq!(rt; hub.byte(0x0100), 0x2A);
     assert_eq!(rt; hub.byte(0x8100), 0);
-    let mut longs = [1; 496];
-    hub.copy_longs(0, &mut longs);
-    assert_eq!(rt; (longs[0], longs[64]), (0x083C_0604, 0x2A));
     Ok(())
 }
 
@@ -77,42 +74,5 @@ fn starts_eight_cogs(rt: HostRuntime) -> Result<(), Fail> {
     for cog in 1..8 {
         assert_eq!(rt; hub.state(cog), CogState::Running { origin });
     }
-    Ok(())
-}
-
-#[test]
-fn takes_eight_locks(rt: HostRuntime) -> Result<(), Fail> {
-    let mut hub = hub_of(rt.alloc(), &[])?;
-    let hub = &mut hub;
-    for lock in 0..8 {
-        assert_eq!(rt; ask(hub, 0, Access::LockNew), Answer::Number(Some(lock)));
-    }
-    assert_eq!(rt; ask(hub, 0, Access::LockNew), Answer::Number(None));
-    assert_eq!(rt;
-        ask(hub, 0, Access::LockSet { lock: 2 }),
-        Answer::Was(false)
-    );
-    assert_eq!(rt; ask(hub, 0, Access::LockSet { lock: 2 }), Answer::Was(true));
-    assert_eq!(rt; ask(hub, 0, Access::LockClr { lock: 2 }), Answer::Was(true));
-    assert_eq!(rt; ask(hub, 0, Access::LockRet { lock: 2 }), Answer::Done);
-    assert_eq!(rt; ask(hub, 0, Access::LockNew), Answer::Number(Some(2)));
-    for lock in 0..8 {
-        assert_eq!(rt; hub.lock(lock), (true, false));
-    }
-    Ok(())
-}
-
-#[test]
-fn drives_a_pin(rt: HostRuntime) -> Result<(), Fail> {
-    // Cog 1 sets bit 0 of OUTA and DIRA, and is stopped.
-    let mut hub = hub_of(rt.alloc(), &[])?;
-    let hub = &mut hub;
-    assert_eq!(rt; ask(hub, 1, Access::OutSet { value: 1 }), Answer::Done);
-    assert_eq!(rt; (hub.dira(), hub.outputs()), (0, 0));
-    assert_eq!(rt; ask(hub, 1, Access::DirSet { value: 1 }), Answer::Done);
-    assert_eq!(rt; (hub.dira(), hub.outputs()), (1, 1));
-    assert_eq!(rt; ask(hub, 0, Access::PinsIn), Answer::Value(1));
-    assert_eq!(rt; ask(hub, 0, Access::CogStop { cog: 1 }), Answer::Done);
-    assert_eq!(rt; (hub.dira(), hub.outputs()), (0, 0));
     Ok(())
 }

@@ -14,5 +14,5 @@ returns-in-CogInit-clause-answer c = λ w past stands levels.
 
 pub returns-in-PinsIn-clause-answer : goal.returns-in-PinsIn-clause-answer
 returns-in-PinsIn-clause-answer c = λ w past stands levels.
-    ap Value (c.read-in-PinsIn.ensures ∙ ap (λ (hub : HubValue). pins_with (ors hub.dira) (ors (driven hub.outa hub.dira)) c.args.levels) c.self-in-PinsIn.view_is ∙ rw (told_dira w past _ stands, told_outputs w past _ stands, levels) refl)
+    ap Value (c.read-in-PinsIn.ensures ∙ ap (λ (hub : HubValue). pins_with (ors hub.dira) (ors (driven hub.outa hub.dira)) c.args.levels) c.self-in-PinsIn.view_is ∙ rw (told_dira w past _ stands, told_outputs w past _ stands, levels c.in-PinsIn.is) refl)
     ∙ ap (λ (access : Access). answer_to w past c.args.key access) (sym c.in-PinsIn.is)
