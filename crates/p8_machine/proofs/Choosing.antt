@@ -1,29 +1,39 @@
--- The next turn of a cog, and the one that comes first.
-use Rattle.std.proofs.Common.{◌≡◌, ◌∙◌, ap, sym, subst, refl, ℕ, zero, suc, ◌+◌, ◌<◌, ◌≤◌, true, false, List, [], ◌∷◌, Option, Some, None, length, slice_get, arith, inl, inr, ◌⊎◌}
+-- The fronts of the cogs, and the turn that comes first.
+use Rattle.std.proofs.Common.{◌≡◌, ◌∙◌, ap, sym, subst, refl, ℕ, zero, suc, ◌+◌, ◌^◌, ◌<◌, ◌≤◌, true, false, List, [], ◌∷◌, Option, Some, None, length, slice_get, slice_index, slice_index_or, arith, inl, inr}
 use Rattle.p8_access.specs.declared.kinds.Origin.{Origin}
 use Rattle.p8_access.specs.declared.kinds.Origin.TheVariants.{Pasm, Spin}
 use Rattle.p8_access.specs.declared.kinds.Test.{Test}
 use Rattle.p8_access.specs.declared.kinds.Access.{Access}
 use Rattle.p8_access.specs.declared.order.Key.{Key}
 use Rattle.p8_access.specs.declared.order.Turn.{Turn}
-use Rattle.p8_access.specs.Windows.{Before}
+use Rattle.p8_access.specs.Windows.{Before, window_of}
+use Rattle.p8_access.specs.Lives.{Begun, Entered, SpinBegun}
 use Rattle.p8_history.specs.declared.states.CogState.{CogState}
 use Rattle.p8_history.specs.declared.states.CogState.TheVariants.{Stopped, Starting, Running}
 use Rattle.p8_history.specs.Worlds.{World}
 use Rattle.p8_history.specs.Hub.{cog_state}
+use Rattle.p8_history.specs.Histories.{first_access}
 use Rattle.p8_hub.specs.Standing.{HubValue}
+use Rattle.p8_pins.specs.Matches.{IsBefore}
 use Rattle.p8_machine.specs.declared.due.Due.{Due}
+use Rattle.p8_machine.specs.declared.fronts.Fronts.{Fronts}
 use Rattle.p8_machine.specs.declared.seat.Seat.{Seat}
 use Rattle.p8_machine.specs.Places.{lives}
-use Rattle.p8_machine.specs.Waiting.{test_in, MayBe, MayComeIn, MayCome, IsFrom, WaitsFrom, IsLeastClock, IsNextAt}
-use Rattle.p8_history.specs.Histories.{first_access}
-use Rattle.p8_machine.proofs.Coming.{may-timely}
-use Rattle.p8_machine.specs.Dues.{IsStartClock, IsEarlier, IsOpen, IsDecided}
-use Rattle.p8_machine.specs.Standing.{Stands, FitsState, IsLeast, IsFirstKey, IsDueAt, OfCog, OfCogs, OfAll}
+use Rattle.p8_machine.specs.Pending.{said_by}
+use Rattle.p8_machine.specs.Seats.{SitsIn}
+use Rattle.p8_machine.specs.Waiting.{test_in, Wakes, IsFirstWake, IsDecided, IsNextAt}
+use Rattle.p8_machine.specs.Coming.{MayBe, MayComeIn, MayCome, IsFrom, WaitsFrom, IsClockIn, IsFirstKey}
+use Rattle.p8_machine.specs.Fronts.{IsFirstOf, IsFront, IsNextFront}
+use Rattle.p8_machine.specs.Standing.{Stands, FitsState, IsLeast, IsDueAt}
+use Rattle.p8_machine.proofs.Coming.{may-late, may-timely}
+use Rattle.p8_machine.proofs.Firsts.{near-far}
 use Rattle.p8_machine.proofs.Seating.{may-sits, one-sits, quiet-sits, spin-quiet}
 
 some-access : (a b : Access) → Some a ≡ Some b → a ≡ b
 some-access a b e = cc
+
+none-some : {A : Type 0} → (o : Option Test) → (t : Test) → o ≡ None → o ≡ Some t → A
+none-some o t p q = absurd (let e : None ≡ Some t = sym p ∙ q in cc)
 
 -- there is a seat at each place
 pub some-at : (seats : List Seat) (n : ℕ) → n < length seats → (seat : Seat) × (slice_get seats n ≡ Some seat)
@@ -31,101 +41,207 @@ some-at [] n below = absurd (omega arith)
 some-at (seat ∷ seats) zero below = (seat, refl)
 some-at (seat ∷ seats) (suc n) below = some-at seats n (omega arith)
 
--- no key of a cog comes before one that isn't later
-not-before : (n cog clock : ℕ) (key : Key) → n ≡ cog → key.cog ≡ cog → key.clock ≤ clock → Before (record { clock = clock; cog = n }) key → ⊥
-not-before n cog clock key same own late before =
-    elim before [ inl less ↦ omega arith | inr less ↦ (let l : n < key.cog = less.1 in omega arith) ]
+module _ (asked : Begun → List Turn → ℕ → Access → Type 0) (one_asked : (b : Begun) (ts : List Turn) (c d : ℕ) (a e : Access) → asked b ts c a → asked b ts d e → (c ≡ d) × (a ≡ e)) (silent : (life : Entered) (ts : List Turn) (c : ℕ) (a : Access) → asked (SpinBegun life) ts c a → ⊥) (w : World) (past : List Turn) (n : ℕ) (stands : Begun → List Turn → Type 0) (next : Option (ℕ × Access)) (sits : SitsIn asked stands (said_by next) w past n (cog_state w past n)) (front : ℕ) (test : Option Test) where
+  in-state : (s : CogState) → cog_state w past n ≡ s → (u : ℕ) (access : Access) → MayCome asked w past n u access → MayComeIn asked w past n s u access
+  in-state s is u access comes = subst (λ (s : CogState). MayComeIn asked w past n s u access) is comes.may
 
-module _ (w : World) (past : List Turn) (hub : HubValue) (seats : List Seat) (n : ℕ) (stands : Stands w past hub seats) (within : n < length seats) (next : Option (ℕ × Access)) (is : (seat : Seat) → slice_get seats n ≡ Some seat → next ≡ seat.next) (code par : ℕ) (state : cog_state w past n ≡ Running (Pasm code par)) (end : Option ℕ) where
-  pub running-quiet : next ≡ None → IsFirstKey w past (OfCog n end) None n
-  running-quiet none m clock access among comes =
-      let at = some-at seats n within in
-      quiet-sits (lives at.0) at.0.next w past n code par state (sym (is at.0 at.1) ∙ none) (stands.seated n at.0 at.1) clock access
-      (subst (λ (m : ℕ). MayCome w past m clock access) among.0 comes)
-
-  module _ (earliest from : ℕ) (access : Access) (some : next ≡ Some (earliest, access)) (waits : WaitsFrom w past from) where
-    -- what may come is that access, at a clock at which it may be
-    only : (m clock : ℕ) (other : Access) → m ≡ n → MayCome w past m clock other → MayBe w past n (test_in access) earliest clock × IsFrom (test_in access) from clock
-    only m clock other same comes =
-        let at = some-at seats n within in
-        let one = one-sits (lives at.0) at.0.next w past n code par state earliest access (sym (is at.0 at.1) ∙ some) (stands.seated n at.0 at.1) clock other (subst (λ (m : ℕ). MayCome w past m clock other) same comes) in
-        (one.1, subst (λ (a : Access). IsFrom (test_in a) from clock) one.0 (waits m clock other comes))
-
-    running-late : IsLeastClock w past n (test_in access) earliest from end None → IsFirstKey w past (OfCog n end) None n
-    running-late late m clock other among comes =
-        let one = only m clock other among.0 comes in
-        late clock one.1 among.1 comes.below one.0
-
-    running-comes : (clock : ℕ) → IsLeastClock w past n (test_in access) earliest from end (Some clock) → IsFirstKey w past (OfCog n end) (Some clock) n
-    running-comes clock least =
-        let at = some-at seats n within in (
-          (access, may-sits (lives at.0) at.0.next w past n code par state earliest clock access (sym (is at.0 at.1) ∙ some) (stands.seated n at.0 at.1) least.0 least.1),
-          λ m u other among comes before.
-              let one = only m u other among.0 comes in
-              not-before m n u (record { clock = clock; cog = n }) among.0 refl (least.2 u one.1 among.1 one.0) before,
-        )
-
-    pub running-first : (clock : Option ℕ) → IsLeastClock w past n (test_in access) earliest from end clock → IsFirstKey w past (OfCog n end) clock n
-    running-first None least = running-late least
-    running-first (Some clock) least = running-comes clock least
-
-pub spin-none : (w : World) (past : List Turn) (hub : HubValue) (seats : List Seat) (n entry pbase vbase frame size : ℕ) (end : Option ℕ) → Stands w past hub seats → n < length seats → cog_state w past n ≡ Running (Spin entry pbase vbase frame size) → IsFirstKey w past (OfCog n end) None n
-spin-none w past hub seats n entry pbase vbase frame size end stands within state m clock access among comes =
-    let at = some-at seats n within in
-    spin-quiet (lives at.0) at.0.next w past n entry pbase vbase frame size state (stands.seated n at.0 at.1) clock access
-    (subst (λ (m : ℕ). MayCome w past m clock access) among.0 comes)
-
-module _ (w : World) (past : List Turn) (n : ℕ) (end : Option ℕ) where
-  in-state : (s : CogState) (m clock : ℕ) (access : Access) → cog_state w past n ≡ s → m ≡ n → MayCome w past m clock access → MayComeIn w past n s clock access
-  in-state s m clock access state same comes =
-      subst (λ (s : CogState). MayComeIn w past n s clock access) state (subst (λ (m : ℕ). MayCome w past m clock access) same comes).may
-
-  pub stopped-none : cog_state w past n ≡ Stopped → IsFirstKey w past (OfCog n end) None n
-  stopped-none state m clock access among comes = in-state Stopped m clock access state among.0 comes
-
-  pub starting-comes : (since until : ℕ) (origin : Origin) → w.clocks ≡ until → cog_state w past n ≡ Starting since origin → (first : Option ℕ) → IsStartClock n since until first → IsFirstKey w past (OfCog n end) first n
-  starting-comes since until origin limit state None first = λ m clock access among comes.
-      let at = (in-state (Starting since origin) m clock access state among.0 comes).0 in
-      let below : clock < w.clocks = comes.below in
+  least-next : (code par : ℕ) → cog_state w past n ≡ Running (Pasm code par) → (o : Option (ℕ × Access)) → next ≡ o → IsNextFront w.clocks o front test → (u : ℕ) (access : Access) → MayCome asked w past n u access → front ≤ u
+  least-next code par is None none f u access comes = absurd (quiet-sits asked stands next w past n code par is none sits u access comes)
+  least-next code par is (Some said) some f u access comes =
+      let one = one-sits asked stands next w past n one_asked code par is said.0 said.1 some sits u access comes in
+      let late : said.0 ≤ u = may-late w past n (test_in said.1) said.0 u one.1 in
+      let front_is : front ≡ said.0 = f.0 in
       omega arith
-  starting-comes since until origin limit state (Some clock) first =
-      let below : clock < w.clocks = (let l : clock < until = first.1 in omega arith) in (
-        (first_access origin, record { may = subst (λ (s : CogState). MayComeIn w past n s clock (first_access origin)) (sym state) (first.0, refl); below = below }),
-        λ m u access among comes before.
-            let at = (in-state (Starting since origin) m u access state among.0 comes).0 in
-            not-before m n u (record { clock = clock; cog = n }) among.0 refl (omega arith) before,
-      )
 
-module _ (w : World) (past : List Turn) (n clock : ℕ) (access : Access) (comes : MayCome w past n clock access) where
-  state-of : (s : CogState) → cog_state w past n ≡ s → MayComeIn w past n s clock access
-  state-of s state = subst (λ (s : CogState). MayComeIn w past n s clock access) state comes.may
+  -- no turn of a cog comes before its front
+  pub front-least : (s : CogState) → cog_state w past n ≡ s → IsFront n w.clocks s next front test → (u : ℕ) (access : Access) → MayCome asked w past n u access → front ≤ u
+  front-least Stopped is f u access comes = absurd (in-state Stopped is u access comes)
+  front-least (Starting since origin) is f u access comes =
+      let at : u ≡ window_of n (since + 1) = (in-state (Starting since origin) is u access comes).0 in
+      let below : u < w.clocks = comes.below in
+      let same : front ≡ window_of n (since + 1) = f.1 (subst (λ (c : ℕ). c < w.clocks) at below) in
+      subst (λ (c : ℕ). c ≤ u) (at ∙ sym same) (omega arith)
+  front-least (Running (Pasm code par)) is f u access comes = least-next code par is next refl f u access comes
+  front-least (Running (Spin entry pbase vbase frame size)) is f u access comes =
+      absurd (spin-quiet asked stands next w past n silent entry pbase vbase frame size is sits u access comes)
+
+  comes-next : (code par : ℕ) → cog_state w past n ≡ Running (Pasm code par) → (o : Option (ℕ × Access)) → next ≡ o → IsNextFront w.clocks o front test → test ≡ None → front < w.clocks → (access : Access) × MayCome asked w past n front access
+  comes-next code par is None none f plain below = absurd (let late : w.clocks ≤ front = f.0 in omega arith)
+  comes-next code par is (Some said) some f plain below =
+      let no_wait : test_in said.1 ≡ None = sym f.1 ∙ plain in
+      let may : MayBe w past n (test_in said.1) said.0 front = subst (λ (t : Option Test). MayBe w past n t said.0 front) (sym no_wait) f.0 in
+      (said.1, may-sits asked stands next w past n code par is said.0 front said.1 some sits may (λ _. below))
+
+  -- where it doesn't wait, one comes at its front
+  pub front-comes : (s : CogState) → cog_state w past n ≡ s → IsFront n w.clocks s next front test → test ≡ None → front < w.clocks → (access : Access) × MayCome asked w past n front access
+  front-comes Stopped is f plain below = absurd (let late : w.clocks ≤ front = f.0 in omega arith)
+  front-comes (Starting since origin) is f plain below =
+      (first_access origin, record { may = subst (λ (s : CogState). MayComeIn asked w past n s front (first_access origin)) (sym is) (f.0 below, refl); below = below })
+  front-comes (Running (Pasm code par)) is f plain below = comes-next code par is next refl f plain below
+  front-comes (Running (Spin entry pbase vbase frame size)) is f plain below = absurd (let late : w.clocks ≤ front = f.0 in omega arith)
+
+  module _ (waited : Test) (waits : test ≡ Some waited) where
+    wakes-next : (code par : ℕ) → cog_state w past n ≡ Running (Pasm code par) → (o : Option (ℕ × Access)) → next ≡ o → IsNextFront w.clocks o front test → (u : ℕ) (access : Access) → MayCome asked w past n u access → (test_in access ≡ Some waited) × Wakes w past n waited front u
+    wakes-next code par is None none f u access comes = none-some test waited f.1 waits
+    wakes-next code par is (Some said) some f u access comes =
+        let one = one-sits asked stands next w past n one_asked code par is said.0 said.1 some sits u access comes in
+        let same : test_in said.1 ≡ Some waited = sym f.1 ∙ waits in
+        let wakes : Wakes w past n waited said.0 u = subst (λ (t : Option Test). MayBe w past n t said.0 u) same one.1 in
+        (ap test_in one.0 ∙ same, subst (λ (e : ℕ). Wakes w past n waited e u) (sym f.0) wakes)
+
+    -- where it waits, a turn of it is that wait's
+    pub front-wakes : (s : CogState) → cog_state w past n ≡ s → IsFront n w.clocks s next front test → (u : ℕ) (access : Access) → MayCome asked w past n u access → (test_in access ≡ Some waited) × Wakes w past n waited front u
+    front-wakes Stopped is f u access comes = none-some test waited f.1 waits
+    front-wakes (Starting since origin) is f u access comes = none-some test waited f.2 waits
+    front-wakes (Running (Pasm code par)) is f u access comes = wakes-next code par is next refl f u access comes
+    front-wakes (Running (Spin entry pbase vbase frame size)) is f u access comes = none-some test waited f.1 waits
+
+    woken-next : (code par : ℕ) → cog_state w past n ≡ Running (Pasm code par) → (o : Option (ℕ × Access)) → next ≡ o → IsNextFront w.clocks o front test → (u : ℕ) → Wakes w past n waited front u → u < w.clocks → (access : Access) × MayCome asked w past n u access
+    woken-next code par is None none f u wakes below = none-some test waited f.1 waits
+    woken-next code par is (Some said) some f u wakes below =
+        let same : test_in said.1 ≡ Some waited = sym f.1 ∙ waits in
+        let own : Wakes w past n waited said.0 u = subst (λ (e : ℕ). Wakes w past n waited e u) f.0 wakes in
+        let may : MayBe w past n (test_in said.1) said.0 u = subst (λ (t : Option Test). MayBe w past n t said.0 u) (sym same) own in
+        (said.1, may-sits asked stands next w past n code par is said.0 u said.1 some sits may (λ _. below))
+
+    -- and it may come wherever the wait may end
+    pub front-woken : (s : CogState) → cog_state w past n ≡ s → IsFront n w.clocks s next front test → (u : ℕ) → Wakes w past n waited front u → u < w.clocks → (access : Access) × MayCome asked w past n u access
+    front-woken Stopped is f u wakes below = none-some test waited f.1 waits
+    front-woken (Starting since origin) is f u wakes below = none-some test waited f.2 waits
+    front-woken (Running (Pasm code par)) is f u wakes below = woken-next code par is next refl f u wakes below
+    front-woken (Running (Spin entry pbase vbase frame size)) is f u wakes below = none-some test waited f.1 waits
+
+    module _ (from : ℕ) (late : WaitsFrom asked w past from) (end : Option ℕ) (f : IsFront n w.clocks (cog_state w past n) next front test) where
+      from-wait : (u : ℕ) (access : Access) → MayCome asked w past n u access → from ≤ u
+      from-wait u access comes =
+          subst (λ (t : Option Test). IsFrom t from u) (front-wakes (cog_state w past n) refl f u access comes).0 (late n u access comes)
+
+      -- the clock of a cog that waits, and where the wait doesn't end before the end of the span
+      pub no-wake : (never : ℕ) → w.clocks ≤ never → w.clocks ≤ 2 ^ 62 → IsFirstWake w past n waited front from end None → IsClockIn asked w past end n never
+      no-wake never far small none = record {
+        least = λ u access before comes.
+            let below : u < w.clocks = comes.below in
+            absurd (none u (from-wait u access comes) before (omega arith) (front-wakes (cog_state w past n) refl f u access comes).1);
+        comes = λ below. absurd (omega arith);
+      }
+
+      pub some-wake : (clock : ℕ) → IsFirstWake w past n waited front from end (Some clock) → IsClockIn asked w past end n clock
+      some-wake clock first = record {
+        least = λ u access before comes. first.1 u (from-wait u access comes) before (front-wakes (cog_state w past n) refl f u access comes).1;
+        comes = λ below. front-woken (cog_state w past n) refl f clock first.0 below;
+      }
+
+  -- the clock of a cog that doesn't wait is its front
+  pub plain-clock : (end : Option ℕ) → IsFront n w.clocks (cog_state w past n) next front test → test ≡ None → IsClockIn asked w past end n front
+  plain-clock end f plain = record {
+    least = λ u access before comes. front-least (cog_state w past n) refl f u access comes;
+    comes = λ below. front-comes (cog_state w past n) refl f plain below;
+  }
+
+from-late : (test : Option Test) (from clock : ℕ) → from ≤ clock → IsFrom test from clock
+from-late None from clock late = tt
+from-late (Some test) from clock late = late
+
+-- what comes before a key isn't later
+not-later : (a b : Key) → Before a b → a.clock ≤ b.clock
+not-later a b before = elim before [ inl less ↦ omega arith | inr same ↦ (let e : a.clock ≡ b.clock = same.0 in omega arith) ]
+
+module _ (asked : Begun → List Turn → ℕ → Access → Type 0) (w : World) (past : List Turn) where
+  module _ (others : (n : ℕ) → 8 ≤ n → cog_state w past n ≡ Stopped) where
+    far-none : (n u : ℕ) (access : Access) → 8 ≤ n → MayCome asked w past n u access → ⊥
+    far-none n u access far comes = subst (λ (s : CogState). MayComeIn asked w past n s u access) (others n far) comes.may
+
+    -- nothing comes before the first of clocks that are early enough
+    pub key-first : (clocks : List ℕ) (key : Key) (end : Option ℕ) → IsFirstOf clocks key → ((n : ℕ) → n < 8 → (u : ℕ) (access : Access) → IsBefore u end → MayCome asked w past n u access → slice_index clocks n ≤ u) → (n u : ℕ) (access : Access) → IsBefore u end → MayCome asked w past n u access → Before (record { clock = u; cog = n }) key → ⊥
+    key-first clocks key end first early n u access within comes before =
+        elim (near-far n 8) [
+          | inr far ↦ far-none n u access far comes
+          | inl near ↦
+              (let on : slice_index clocks n ≤ u = early n near u access within comes in
+              let late : slice_index clocks n < key.clock → ⊥ = λ l. first.first n near (inl l) in
+              elim before [
+                | inl less ↦ omega arith
+                | inr same ↦
+                    (let e : u ≡ key.clock = same.0 in
+                    let at : slice_index clocks n ≡ key.clock = omega arith in
+                    first.first n near (inr (at, same.1)))
+              ])
+        ]
+
+    pub first-in : (clocks : List ℕ) (key : Key) (end : Option ℕ) → IsFirstOf clocks key → ((n : ℕ) → n < 8 → IsClockIn asked w past end n (slice_index clocks n)) → IsFirstKey asked w past end key
+    first-in clocks key end first each = record {
+      first = key-first clocks key end first (λ n near. (each n near).least);
+      comes = λ below.
+          let own = (each key.cog first.near).comes (subst (λ (c : ℕ). c < w.clocks) first.there below) in
+          (own.0, subst (λ (c : ℕ). MayCome asked w past key.cog c own.0) (sym first.there) own.1);
+    }
+
+  -- what is first before an end is first of all where nothing later can come before it
+  pub first-decided : (key : Key) (end : Option ℕ) → IsFirstKey asked w past end key → IsDecided key.clock end w.clocks → IsFirstKey asked w past None key
+  first-decided key None first decided = first
+  first-decided key (Some end) first decided = record {
+    first = λ n u access _ comes before.
+        elim (near-far u end) [
+          | inl less ↦ first.first n u access less comes before
+          | inr late ↦
+              (let on : u ≤ key.clock = not-later (record { clock = u; cog = n }) key before in
+              let below : u < w.clocks = comes.below in
+              let far : w.clocks ≤ end = decided (omega arith) in
+              omega arith)
+        ];
+    comes = first.comes;
+  }
+
+  -- else no wait ends before the end
+  pub first-moves : (key : Key) (end : Option ℕ) (from : ℕ) → IsFirstKey asked w past end key → end ≡ Some from → from ≤ key.clock → WaitsFrom asked w past from
+  first-moves key end from first is late n u access comes =
+      from-late (test_in access) from u
+      (elim (near-far u from) [
+        | inl less ↦ absurd (first.first n u access (subst (λ (o : Option ℕ). IsBefore u o) (sym is) less) comes (inl (omega arith)))
+        | inr on ↦ on
+      ])
+
+  -- what is due at the first key comes first
+  pub least-at : (key : Key) (due : Option Due) → IsFirstKey asked w past None key → IsDueAt asked w past key.cog key.clock due → IsLeast asked w past due
+  least-at key None first due_is = absurd due_is
+  least-at key (Some due) first due_is = (
+    due_is.0,
+    λ n u access comes before. first.first n u access tt comes (subst (λ (k : Key). Before (record { clock = u; cog = n }) k) due_is.1 before),
+  )
+
+  pub none-at : (key : Key) → IsFirstKey asked w past None key → w.clocks ≤ key.clock → IsLeast asked w past None
+  none-at key first late n u access comes = first.first n u access tt comes (inl (let below : u < w.clocks = comes.below in omega arith))
+
+module _ (asked : Begun → List Turn → ℕ → Access → Type 0) (w : World) (past : List Turn) (n clock : ℕ) (access : Access) (comes : MayCome asked w past n clock access) where
+  state-of : (s : CogState) → cog_state w past n ≡ s → MayComeIn asked w past n s clock access
+  state-of s state = subst (λ (s : CogState). MayComeIn asked w past n s clock access) state comes.may
 
   pub stopped-due : cog_state w past n ≡ Stopped → ⊥
   stopped-due state = state-of Stopped state
 
-  pub starting-due : (since : ℕ) (origin : Origin) → cog_state w past n ≡ Starting since origin → IsDueAt w past n clock (Some (record { key = record { clock = clock; cog = n }; access = first_access origin; running = false }))
+  pub starting-due : (since : ℕ) (origin : Origin) → cog_state w past n ≡ Starting since origin → IsDueAt asked w past n clock (Some (record { key = record { clock = clock; cog = n }; access = first_access origin; running = false }))
   starting-due since origin state = (
     record {
-      may = subst (λ (a : Access). MayCome w past n clock a) (state-of (Starting since origin) state).1 comes;
+      may = subst (λ (a : Access). MayCome asked w past n clock a) (state-of (Starting since origin) state).1 comes;
       state = subst (FitsState false) (sym state) tt;
     },
     refl,
   )
 
-  module _ (hub : HubValue) (seats : List Seat) (stands : Stands w past hub seats) (within : n < length seats) (got : Option Access) (is : (seat : Seat) → slice_get seats n ≡ Some seat → IsNextAt seat.next clock got) where
+  module _ (one_asked : (b : Begun) (ts : List Turn) (c d : ℕ) (a e : Access) → asked b ts c a → asked b ts d e → (c ≡ d) × (a ≡ e)) (silent : (life : Entered) (ts : List Turn) (c : ℕ) (a : Access) → asked (SpinBegun life) ts c a → ⊥) (hub : HubValue) (seats : List Seat) (fronts : Fronts) (stands : Stands asked w past hub seats fronts) (within : n < length seats) (got : Option Access) (is : (seat : Seat) → slice_get seats n ≡ Some seat → IsNextAt seat.next clock got) where
     seated-due : (code par : ℕ) → cog_state w past n ≡ Running (Pasm code par) → (seat : Seat) → slice_get seats n ≡ Some seat → (next : Option (ℕ × Access)) → seat.next ≡ next → (a : Option Access) → IsNextAt next clock a → (own : Access) × (a ≡ Some own) × (access ≡ own)
-    seated-due code par state seat at None next a e = absurd (quiet-sits (lives seat) seat.next w past n code par state next (stands.seated n seat at) clock access comes)
-    seated-due code par state seat at (Some asked) next None e =
-        let one = one-sits (lives seat) seat.next w past n code par state asked.0 asked.1 next (stands.seated n seat at) clock access comes in
-        absurd (e (may-timely w past n (test_in asked.1) asked.0 clock one.1))
-    seated-due code par state seat at (Some asked) next (Some own) e =
-        let one = one-sits (lives seat) seat.next w past n code par state asked.0 asked.1 next (stands.seated n seat at) clock access comes in
+    seated-due code par state seat at None next a e = absurd (quiet-sits asked (lives seat) seat.next w past n code par state next (stands.seated n seat at) clock access comes)
+    seated-due code par state seat at (Some said) next None e =
+        let one = one-sits asked (lives seat) seat.next w past n one_asked code par state said.0 said.1 next (stands.seated n seat at) clock access comes in
+        absurd (e (may-timely w past n (test_in said.1) said.0 clock one.1))
+    seated-due code par state seat at (Some said) next (Some own) e =
+        let one = one-sits asked (lives seat) seat.next w past n one_asked code par state said.0 said.1 next (stands.seated n seat at) clock access comes in
         (own, refl, one.0 ∙ sym e.0)
 
     spin-due : (entry pbase vbase frame size : ℕ) → cog_state w past n ≡ Running (Spin entry pbase vbase frame size) → ⊥
     spin-due entry pbase vbase frame size state =
         let at = some-at seats n within in
-        spin-quiet (lives at.0) at.0.next w past n entry pbase vbase frame size state (stands.seated n at.0 at.1) clock access comes
+        spin-quiet asked (lives at.0) at.0.next w past n silent entry pbase vbase frame size state (stands.seated n at.0 at.1) clock access comes
 
     running-own : (origin : Origin) → cog_state w past n ≡ Running origin → (own : Access) × (got ≡ Some own) × (access ≡ own) × FitsState true (Running origin)
     running-own (Pasm code par) state =
@@ -137,145 +253,44 @@ module _ (w : World) (past : List Turn) (n clock : ℕ) (access : Access) (comes
     pub running-none : (origin : Origin) → cog_state w past n ≡ Running origin → got ≡ None → ⊥
     running-none origin state none = let own = running-own origin state in let e : None ≡ Some own.0 = sym none ∙ own.1 in absurd cc
 
-    pub running-due : (origin : Origin) (own : Access) → cog_state w past n ≡ Running origin → got ≡ Some own → IsDueAt w past n clock (Some (record { key = record { clock = clock; cog = n }; access = own; running = true }))
+    pub running-due : (origin : Origin) (own : Access) → cog_state w past n ≡ Running origin → got ≡ Some own → IsDueAt asked w past n clock (Some (record { key = record { clock = clock; cog = n }; access = own; running = true }))
     running-due origin own state some =
         let found = running-own origin state in
         let same : access ≡ own = found.2 ∙ some-access found.0 own (sym found.1 ∙ some) in (
           record {
-            may = subst (λ (a : Access). MayCome w past n clock a) same comes;
+            may = subst (λ (a : Access). MayCome asked w past n clock a) same comes;
             state = subst (FitsState true) (sym state) found.3;
           },
           refl,
         )
 
--- what isn't less is greater or equal
-not_less : (x y : ℕ) → (x < y → ⊥) → (y < x) ⊎ (y ≡ x)
-not_less zero zero p = inr refl
-not_less zero (suc y) p = absurd (p (omega arith))
-not_less (suc x) zero p = inl (omega arith)
-not_less (suc x) (suc y) p = elim (not_less x y (λ l. p (omega arith))) [ inl l ↦ inl (omega arith) | inr e ↦ inr (ap suc e) ]
+module _ (asked : Begun → List Turn → ℕ → Access → Type 0) (one_asked : (b : Begun) (ts : List Turn) (c d : ℕ) (a e : Access) → asked b ts c a → asked b ts d e → (c ≡ d) × (a ≡ e)) (silent : (life : Entered) (ts : List Turn) (c : ℕ) (a : Access) → asked (SpinBegun life) ts c a → ⊥) (w : World) (past : List Turn) (hub : HubValue) (seats : List Seat) (fronts : Fronts) (stands : Stands asked w past hub seats fronts) (eight : length seats ≡ 8) where
+  -- where the cog with the least front doesn't wait, its turn comes first
+  pub fast-first : (key : Key) → IsFirstOf fronts.clocks key → slice_index_or fronts.tests key.cog None ≡ None → IsFirstKey asked w past None key
+  fast-first key first plain = record {
+    first = key-first asked w past stands.others fronts.clocks key None first (λ n near u access _ comes.
+        let at = some-at seats n (omega arith) in
+        front-least asked one_asked silent w past n (lives at.0) at.0.next (stands.seated n at.0 at.1) (slice_index fronts.clocks n) (slice_index_or fronts.tests n None) (cog_state w past n) refl (stands.fronted n at.0 at.1) u access comes);
+    comes = λ below.
+        let near : key.cog < 8 = first.near in
+        let at = some-at seats key.cog (omega arith) in
+        let own = front-comes asked one_asked silent w past key.cog (lives at.0) at.0.next (stands.seated key.cog at.0 at.1) (slice_index fronts.clocks key.cog) (slice_index_or fronts.tests key.cog None) (cog_state w past key.cog) refl (stands.fronted key.cog at.0 at.1) plain (subst (λ (c : ℕ). c < w.clocks) first.there below) in
+        (own.0, subst (λ (c : ℕ). MayCome asked w past key.cog c own.0) (sym first.there) own.1);
+  }
 
--- below the next number is below, or the number itself
-below-next : (n bound : ℕ) → n < bound + 1 → (n < bound) ⊎ (n ≡ bound)
-below-next n bound below = not_less bound n (λ l. omega arith)
+  module _ (n : ℕ) (near : n < 8) (end : Option ℕ) where
+    pub clock-plain : slice_index_or fronts.tests n None ≡ None → IsClockIn asked w past end n (slice_index fronts.clocks n)
+    clock-plain plain =
+        let at = some-at seats n (omega arith) in
+        plain-clock asked one_asked silent w past n (lives at.0) at.0.next (stands.seated n at.0 at.1) (slice_index fronts.clocks n) (slice_index_or fronts.tests n None) end (stands.fronted n at.0 at.1) plain
 
--- a number is below another or not
-near-far : (n m : ℕ) → (n < m) ⊎ (m ≤ n)
-near-far zero zero = inr (omega arith)
-near-far zero (suc m) = inl (omega arith)
-near-far (suc n) zero = inr (omega arith)
-near-far (suc n) (suc m) = elim (near-far n m) [ inl l ↦ inl (omega arith) | inr l ↦ inr (omega arith) ]
+    module _ (test : Test) (waits : slice_index_or fronts.tests n None ≡ Some test) (from : ℕ) (late : WaitsFrom asked w past from) where
+      pub clock-silent : (never : ℕ) → w.clocks ≤ never → w.clocks ≤ 2 ^ 62 → IsFirstWake w past n test (slice_index fronts.clocks n) from end None → IsClockIn asked w past end n never
+      clock-silent never far small none =
+          let at = some-at seats n (omega arith) in
+          no-wake asked one_asked silent w past n (lives at.0) at.0.next (stands.seated n at.0 at.1) (slice_index fronts.clocks n) (slice_index_or fronts.tests n None) test waits from late end (stands.fronted n at.0 at.1) never far small none
 
--- what comes before a key isn't later
-not-later : (a b : Key) → Before a b → a.clock ≤ b.clock
-not-later a b before = elim before [ inl less ↦ omega arith | inr same ↦ (let e : a.clock ≡ b.clock = same.0 in omega arith) ]
-
-from-late : (test : Option Test) (from clock : ℕ) → from ≤ clock → IsFrom test from clock
-from-late None from clock late = tt
-from-late (Some test) from clock late = late
-
-module _ (w : World) (past : List Turn) where
-  module _ (bound : ℕ) (end : Option ℕ) where
-    own-late : (n c clock : ℕ) → n ≡ bound → (Before (record { clock = c; cog = n }) (record { clock = clock; cog = bound }) → ⊥) → clock ≤ c
-    own-late n c clock own not_before = let n0 : c < clock → ⊥ = λ l. not_before (inl l) in omega arith
-
-    split : (n clock : ℕ) → OfCogs (bound + 1) end n clock → OfCogs bound end n clock ⊎ OfCog bound end n clock
-    split n clock among = elim (below-next n bound among.0) [ inl l ↦ inl (l, among.1) | inr e ↦ inr (e, among.1) ]
-
-    -- the next cog's turn doesn't come before the first so far
-    pub first-kept : (first clock : Option ℕ) (cog : ℕ) → cog ≤ bound → IsFirstKey w past (OfCogs bound end) first cog → IsFirstKey w past (OfCog bound end) clock bound → (IsEarlier clock first → ⊥) → IsFirstKey w past (OfCogs (bound + 1) end) first cog
-    first-kept None None cog low least comes kept = λ n c access among may. elim (split n c among) [
-      | inl p ↦ least n c access p may
-      | inr q ↦ comes n c access q may
-    ]
-    first-kept None (Some clock) cog low least comes kept = absurd (kept tt)
-    first-kept (Some first) None cog low least comes kept = (
-      least.0,
-      λ n c access among may before. elim (split n c among) [
-        | inl p ↦ least.1 n c access p may before
-        | inr q ↦ comes n c access q may
-      ],
-    )
-    first-kept (Some first) (Some clock) cog low least comes kept = (
-      least.0,
-      λ n c access among may before. elim (split n c among) [
-        | inl p ↦ least.1 n c access p may before
-        | inr q ↦
-            (let not_less : clock < first → ⊥ = kept in
-            let on : clock ≤ c = own-late n c clock q.0 (comes.1 n c access q may) in
-            elim before [ inl less ↦ omega arith | inr same ↦ (let e : c ≡ first = same.0 in let l : n < cog = same.1 in let own : n ≡ bound = q.0 in omega arith) ])
-      ],
-    )
-
-    -- it comes first
-    pub first-new : (first clock : Option ℕ) (cog : ℕ) → IsFirstKey w past (OfCogs bound end) first cog → IsFirstKey w past (OfCog bound end) clock bound → IsEarlier clock first → IsFirstKey w past (OfCogs (bound + 1) end) clock bound
-    first-new first None cog least comes earlier = absurd earlier
-    first-new None (Some clock) cog least comes earlier = (
-      comes.0,
-      λ n c access among may before. elim (split n c among) [
-        | inl p ↦ least n c access p may
-        | inr q ↦ comes.1 n c access q may before
-      ],
-    )
-    first-new (Some first) (Some clock) cog least comes earlier = (
-      comes.0,
-      λ n c access among may before. elim (split n c among) [
-        | inl p ↦
-            (let less : clock < first = earlier in
-            let on : c ≤ clock = not-later (record { clock = c; cog = n }) (record { clock = clock; cog = bound }) before in
-            least.1 n c access p may (inl (omega arith)))
-        | inr q ↦ comes.1 n c access q may before
-      ],
-    )
-
-  -- what is due at the first key comes first
-  pub least-at : (among : ℕ → ℕ → Type 0) (first cog : ℕ) (due : Option Due) → IsFirstKey w past among (Some first) cog → IsDueAt w past cog first due → IsLeast w past among due
-  least-at among first cog None first_is due_is = absurd due_is
-  least-at among first cog (Some due) first_is due_is = (
-    due_is.0,
-    λ n clock access in_it may before. first_is.1 n clock access in_it may (subst (λ (k : Key). Before (record { clock = clock; cog = n }) k) due_is.1 before),
-  )
-
-  module _ (others : (n : ℕ) → 8 ≤ n → cog_state w past n ≡ Stopped) where
-    far-none : (n clock : ℕ) (access : Access) → 8 ≤ n → MayCome w past n clock access → ⊥
-    far-none n clock access far comes =
-        subst (λ (s : CogState). MayComeIn w past n s clock access) (others n far) comes.may
-
-    near : (n clock : ℕ) (access : Access) → MayCome w past n clock access → n < 8
-    near n clock access comes =
-        elim (near-far n 8) [ inl below ↦ below | inr far ↦ absurd (far-none n clock access far comes) ]
-
-    -- where nothing that comes at the end or later may be before the best, this is the first of all
-    pub decided-all : (best : Option Due) (end : Option ℕ) (limit : ℕ) → w.clocks ≡ limit → IsLeast w past (OfCogs 8 end) best → IsDecided best end limit → IsLeast w past OfAll best
-    decided-all None None limit is least decided = λ n clock access among comes. least n clock access (near n clock access comes, tt) comes
-    decided-all None (Some end) limit is least decided = λ n clock access among comes.
-        let below : clock < w.clocks = comes.below in
-        let closed : end < limit → ⊥ = decided in
-        let before : clock < end = omega arith in
-        least n clock access (near n clock access comes, before) comes
-    decided-all (Some due) None limit is least decided = (
-      least.0,
-      λ n clock access among comes before. least.1 n clock access (near n clock access comes, tt) comes before,
-    )
-    decided-all (Some due) (Some end) limit is least decided = (
-      least.0,
-      λ n clock access among comes before.
-          let closed : end ≤ due.key.clock → ⊥ = decided in
-          let on : clock ≤ due.key.clock = not-later (record { clock = clock; cog = n }) due.key before in
-          least.1 n clock access (near n clock access comes, omega arith) comes before,
-    )
-
-    early : (best : Option Due) (from limit : ℕ) → IsLeast w past (OfCogs 8 (Some from)) best → IsOpen best from limit → (n clock : ℕ) (access : Access) → MayCome w past n clock access → clock < from → ⊥
-    early None from limit least still n clock access comes less = least n clock access (near n clock access comes, less) comes
-    early (Some due) from limit least still n clock access comes less =
-        let later : from ≤ due.key.clock = still in
-        least.1 n clock access (near n clock access comes, less) comes (inl (omega arith))
-
-    -- else no wait may end before the end
-    pub open-from : (best : Option Due) (end : Option ℕ) (from limit : ℕ) → end ≡ Some from → IsLeast w past (OfCogs 8 end) best → IsOpen best from limit → WaitsFrom w past from
-    open-from best end from limit is least still n clock access comes =
-        from-late (test_in access) from clock
-        (elim (near-far clock from) [
-          | inl less ↦ absurd (early best from limit (subst (λ (e : Option ℕ). IsLeast w past (OfCogs 8 e) best) is least) still n clock access comes less)
-          | inr late ↦ late
-        ])
+      pub clock-woken : (clock : ℕ) → IsFirstWake w past n test (slice_index fronts.clocks n) from end (Some clock) → IsClockIn asked w past end n clock
+      clock-woken clock first =
+          let at = some-at seats n (omega arith) in
+          some-wake asked one_asked silent w past n (lives at.0) at.0.next (stands.seated n at.0 at.1) (slice_index fronts.clocks n) (slice_index_or fronts.tests n None) test waits from late end (stands.fronted n at.0 at.1) clock first

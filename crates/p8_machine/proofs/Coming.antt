@@ -10,14 +10,14 @@ use Rattle.p8_access.specs.declared.order.Key.{Key}
 use Rattle.p8_access.specs.declared.order.Turn.{Turn}
 use Rattle.p8_access.specs.declared.kinds.Answer.{Answer}
 use Rattle.p8_access.specs.Proper.{IsProper}
-use Rattle.p8_access.specs.Lives.{IsMade, IsOnTime, IsAnnounced}
+use Rattle.p8_access.specs.Lives.{Begun, IsMade, IsOnTime, IsAnnounced}
 use Rattle.p8_history.specs.declared.states.CogState.{CogState}
 use Rattle.p8_history.specs.declared.states.CogState.TheVariants.{Stopped, Starting, Running}
 use Rattle.p8_history.specs.Worlds.{World}
 use Rattle.p8_history.specs.Hub.{cog_state}
 use Rattle.p8_history.specs.Histories.{IsAfter, IsDue, IsNext, IsNextIn, first_access}
-use Rattle.p8_cog.specs.Replay.{IsAsked}
-use Rattle.p8_machine.specs.Waiting.{test_in, newest_key, IsBehind, MayBe, MayComeIn, MayCome, IsFrom, WaitsFrom, IsTimely, IsNextAt}
+use Rattle.p8_machine.specs.Waiting.{test_in, newest_key, IsBehind, IsTimely, IsNextAt}
+use Rattle.p8_machine.specs.Coming.{MayBe, MayComeIn, MayCome, IsFrom, WaitsFrom}
 
 -- what isn't less
 not-less : (x y : ℕ) → (x < y → ⊥) → y ≤ x
@@ -83,7 +83,8 @@ module _ (w : World) (past : List Turn) (n : ℕ) where
   may-timely None earliest clock may = sym may
   may-timely (Some test) earliest clock may = may.not_before
 
-  next-may-in : (state : CogState) (clock : ℕ) (access : Access) → IsNextIn IsAsked w past n state clock access → MayComeIn w past n state clock access
+module _ (asked : Begun → List Turn → ℕ → Access → Type 0) (w : World) (past : List Turn) (n : ℕ) where
+  next-may-in : (state : CogState) (clock : ℕ) (access : Access) → IsNextIn asked w past n state clock access → MayComeIn asked w past n state clock access
   next-may-in Stopped clock access next = next
   next-may-in (Starting since origin) clock access next = next
   next-may-in (Running origin) clock access next = record {
@@ -91,10 +92,10 @@ module _ (w : World) (past : List Turn) (n : ℕ) where
     began = next.began;
     earliest = next.earliest;
     asks = next.asks;
-    may = due-may access next.earliest clock next.due;
+    may = due-may w past n access next.earliest clock next.due;
   }
 
-  may-next-in : (state : CogState) (clock : ℕ) (access : Access) → MayComeIn w past n state clock access → ((u : ℕ) → u < clock → MayComeIn w past n state u access → ⊥) → IsNextIn IsAsked w past n state clock access
+  may-next-in : (state : CogState) (clock : ℕ) (access : Access) → MayComeIn asked w past n state clock access → ((u : ℕ) → u < clock → MayComeIn asked w past n state u access → ⊥) → IsNextIn asked w past n state clock access
   may-next-in Stopped clock access may first = may
   may-next-in (Starting since origin) clock access may first = may
   may-next-in (Running origin) clock access may first = record {
@@ -102,14 +103,14 @@ module _ (w : World) (past : List Turn) (n : ℕ) where
     began = may.began;
     earliest = may.earliest;
     asks = may.asks;
-    due = may-due access may.earliest clock may.may (λ u less here. first u less (record { life = may.life; began = may.began; earliest = may.earliest; asks = may.asks; may = here }));
+    due = may-due w past n access may.earliest clock may.may (λ u less here. first u less (record { life = may.life; began = may.began; earliest = may.earliest; asks = may.asks; may = here }));
   }
 
   -- a cog's next turn may come, and is the first that may
-  pub next-may : (clock : ℕ) (access : Access) → IsNext IsAsked w past n clock access → MayCome w past n clock access
+  pub next-may : (clock : ℕ) (access : Access) → IsNext asked w past n clock access → MayCome asked w past n clock access
   next-may clock access next = record { may = next-may-in (cog_state w past n) clock access next.next; below = next.below }
 
-  pub may-next : (clock : ℕ) (access : Access) → MayCome w past n clock access → ((u : ℕ) → u < clock → MayCome w past n u access → ⊥) → IsNext IsAsked w past n clock access
+  pub may-next : (clock : ℕ) (access : Access) → MayCome asked w past n clock access → ((u : ℕ) → u < clock → MayCome asked w past n u access → ⊥) → IsNext asked w past n clock access
   may-next clock access comes first = record {
     next = may-next-in (cog_state w past n) clock access comes.may (λ u less may. first u less (record { may = may; below = (let below : clock < w.clocks = comes.below in omega arith) }));
     below = comes.below;
@@ -171,19 +172,19 @@ first-not_wait : (origin : Origin) → test_in (first_access origin) ≡ None
 first-not_wait (Pasm code par) = load-not_wait (nat_le (code + 4 * 496) 32768)
 first-not_wait (Spin entry pbase vbase frame size) = refl
 
-module _ (w : World) (past : List Turn) (from : ℕ) (late : (n clock : ℕ) → IsAfter past (record { clock = clock; cog = n }) → from ≤ clock) where
+module _ (asked : Begun → List Turn → ℕ → Access → Type 0) (w : World) (past : List Turn) (from : ℕ) (late : (n clock : ℕ) → IsAfter past (record { clock = clock; cog = n }) → from ≤ clock) where
   from-may : (n : ℕ) (test : Option Test) (earliest clock : ℕ) → MayBe w past n test earliest clock → IsFrom test from clock
   from-may n None earliest clock may = tt
   from-may n (Some test) earliest clock may = late n clock may.after
 
-  from-in : (n : ℕ) (state : CogState) (clock : ℕ) (access : Access) → MayComeIn w past n state clock access → IsFrom (test_in access) from clock
+  from-in : (n : ℕ) (state : CogState) (clock : ℕ) (access : Access) → MayComeIn asked w past n state clock access → IsFrom (test_in access) from clock
   from-in n Stopped clock access may = absurd may
   from-in n (Starting since origin) clock access may =
       subst (λ (test : Option Test). IsFrom test from clock) (sym (ap test_in may.1 ∙ first-not_wait origin)) tt
   from-in n (Running origin) clock access may = from-may n (test_in access) may.earliest clock may.may
 
   -- waits don't end before the last turn
-  pub waits-from : WaitsFrom w past from
+  pub waits-from : WaitsFrom asked w past from
   waits-from n clock access comes = from-in n (cog_state w past n) clock access comes.may
 
 abbrev clock_in : Option Key → ℕ

@@ -4,19 +4,19 @@ use Rattle.p8_access.specs.declared.kinds.Origin.TheVariants.{Pasm, Spin}
 use Rattle.p8_access.specs.declared.kinds.Access.{Access}
 use Rattle.p8_access.specs.declared.kinds.Access.TheVariants.{Begin, Load, Read, Write, CogId, CogInit, CogStop, LockNew, LockRet, LockSet, LockClr, ClkSet, PinsIn, OutSet, DirSet, Wait, Clock, Halt}
 use Rattle.p8_access.specs.declared.kinds.Answer.{Answer}
+use Rattle.p8_access.specs.declared.lives.Next.{Next}
 use Rattle.p8_access.specs.declared.order.Turn.{Turn}
-use Rattle.p8_access.specs.Lives.{Begun, SpinBegun, IsMade}
+use Rattle.p8_access.specs.Lives.{Begun, Entered, SpinBegun, Tells, IsMade}
 use Rattle.p8_history.specs.declared.states.CogState.{CogState}
 use Rattle.p8_history.specs.declared.states.CogState.TheVariants.{Stopped, Starting, Running}
 use Rattle.p8_history.specs.Worlds.{World}
 use Rattle.p8_history.specs.Hub.{Change, Starts, Runs, Stops, change_by, change_of, changed, cog_state}
 use Rattle.p8_history.specs.Histories.{begins_life, since_begin}
 use Rattle.p8_history.proofs.Nexts.{some-injective}
-use Rattle.p8_cog.specs.Replay.{IsAsked}
-use Rattle.p8_machine.specs.Pending.{Pends}
+use Rattle.p8_machine.specs.Pending.{said_by, Pends}
 use Rattle.p8_machine.specs.Seats.{Sits, RunsSpin, SitsIn}
-use Rattle.p8_machine.specs.Waiting.{test_in, MayBe, MayRun, MayComeIn, MayCome}
-use Rattle.p8_cog.specs.Replaying.{one-asked}
+use Rattle.p8_machine.specs.Waiting.{test_in}
+use Rattle.p8_machine.specs.Coming.{MayBe, MayRun, MayComeIn, MayCome}
 use Rattle.p8_machine.proofs.Coming.{may-late}
 use Rattle.p8_history.proofs.Changes.{none-begins, runs-begins, begun-same, since_begin-own, since_begin-other, other-test, own-test, other-begins}
 
@@ -24,21 +24,21 @@ absurd-begins : {A : Type 0} → (b : Bool) → b ≡ false → b ≡ true → A
 absurd-begins true p q = absurd cc
 absurd-begins false p q = absurd cc
 
-module _ (stands : Begun → List Turn → Type 0) (next : Option (ℕ × Access)) (w : World) (past : List Turn) (turn : Turn) (n : ℕ) where
-  sits-other : begins_life n turn ≡ false → (turn.key.cog == n) ≡ false → Sits IsAsked stands next w past n → Sits IsAsked stands next w (turn ∷ past) n
+module _ (asked : Begun → List Turn → ℕ → Access → Type 0) (stands : Begun → List Turn → Type 0) (said : Next) (w : World) (past : List Turn) (turn : Turn) (n : ℕ) where
+  sits-other : begins_life n turn ≡ false → (turn.key.cog == n) ≡ false → Sits asked stands said w past n → Sits asked stands said w (turn ∷ past) n
   sits-other begins other sits =
       let since = since_begin-other w past turn n begins other in
       record {
         life = sits.life;
         began = begun-same w past turn n begins ∙ sits.began;
         stood = subst (λ (ts : List Turn). stands sits.life ts) (sym since) sits.stood;
-        pends = subst (λ (ts : List Turn). Pends (IsAsked sits.life ts) w.clocks next) (sym since) sits.pends;
+        told = subst (λ (ts : List Turn). Tells (asked sits.life ts) w.clocks said) (sym since) sits.told;
       }
 
-  spin-same : begins_life n turn ≡ false → RunsSpin IsAsked stands next w past n → RunsSpin IsAsked stands next w (turn ∷ past) n
+  spin-same : begins_life n turn ≡ false → RunsSpin asked stands said w past n → RunsSpin asked stands said w (turn ∷ past) n
   spin-same begins runs = record { life = runs.life; began = begun-same w past turn n begins ∙ runs.began }
 
-  other-by : (state : CogState) (change : Option Change) → change_of n turn ≡ change → (turn.key.cog ≡ n → ⊥) → SitsIn IsAsked stands next w past n state → SitsIn IsAsked stands next w (turn ∷ past) n (changed state change)
+  other-by : (state : CogState) (change : Option Change) → change_of n turn ≡ change → (turn.key.cog ≡ n → ⊥) → SitsIn asked stands said w past n state → SitsIn asked stands said w (turn ∷ past) n (changed state change)
   other-by Stopped None e differ sits = tt
   other-by (Starting since origin) None e differ sits = tt
   other-by (Running (Pasm code par)) None e differ sits = sits-other (other-begins turn n differ) (other-test turn.key.cog n differ) sits
@@ -49,48 +49,48 @@ module _ (stands : Begun → List Turn → Type 0) (next : Option (ℕ × Access
       absurd-begins (begins_life n turn) (other-begins turn n differ) (runs-begins n turn.key.clock turn.key.cog turn.access turn.answer e)
 
   -- a turn of another cog
-  pub other-sits : (turn.key.cog ≡ n → ⊥) → SitsIn IsAsked stands next w past n (cog_state w past n) → SitsIn IsAsked stands next w (turn ∷ past) n (cog_state w (turn ∷ past) n)
+  pub other-sits : (turn.key.cog ≡ n → ⊥) → SitsIn asked stands said w past n (cog_state w past n) → SitsIn asked stands said w (turn ∷ past) n (cog_state w (turn ∷ past) n)
   other-sits differ sits = other-by (cog_state w past n) (change_of n turn) refl differ sits
 
-module _ (stands : Begun → List Turn → Type 0) (next : Option (ℕ × Access)) (w : World) (past : List Turn) (n : ℕ) where
+module _ (asked : Begun → List Turn → ℕ → Access → Type 0) (stands : Begun → List Turn → Type 0) (next : Option (ℕ × Access)) (w : World) (past : List Turn) (n : ℕ) where
   -- a cog's next turn may be what its seat has as the next access, at a clock at which that may be
-  pub may-sits : (code par : ℕ) → cog_state w past n ≡ Running (Pasm code par) → (earliest clock : ℕ) (access : Access) → next ≡ Some (earliest, access) → SitsIn IsAsked stands next w past n (cog_state w past n) → MayBe w past n (test_in access) earliest clock → (earliest < w.clocks → clock < w.clocks) → MayCome w past n clock access
+  pub may-sits : (code par : ℕ) → cog_state w past n ≡ Running (Pasm code par) → (earliest clock : ℕ) (access : Access) → next ≡ Some (earliest, access) → SitsIn asked stands (said_by next) w past n (cog_state w past n) → MayBe w past n (test_in access) earliest clock → (earliest < w.clocks → clock < w.clocks) → MayCome asked w past n clock access
   may-sits code par is earliest clock access some sits may below =
-      let own : Sits IsAsked stands next w past n = subst (λ (s : CogState). SitsIn IsAsked stands next w past n s) is sits in
-      let pends = subst (λ (o : Option (ℕ × Access)). Pends (IsAsked own.life (since_begin past n)) w.clocks o) some own.pends in
-      let run : MayRun w past n clock access = record { life = own.life; began = own.began; earliest = earliest; asks = pends.0; may = may } in
-      record { may = subst (λ (s : CogState). MayComeIn w past n s clock access) (sym is) run; below = below pends.1 }
+      let own : Sits asked stands (said_by next) w past n = subst (λ (s : CogState). SitsIn asked stands (said_by next) w past n s) is sits in
+      let pends = subst (λ (o : Option (ℕ × Access)). Pends (asked own.life (since_begin past n)) w.clocks o) some own.told in
+      let run : MayRun asked w past n clock access = record { life = own.life; began = own.began; earliest = earliest; asks = pends.0; may = may } in
+      record { may = subst (λ (s : CogState). MayComeIn asked w past n s clock access) (sym is) run; below = below pends.1 }
 
   -- and no other
-  pub one-sits : (code par : ℕ) → cog_state w past n ≡ Running (Pasm code par) → (earliest : ℕ) (access : Access) → next ≡ Some (earliest, access) → SitsIn IsAsked stands next w past n (cog_state w past n) → (clock : ℕ) (other : Access) → MayCome w past n clock other → (other ≡ access) × MayBe w past n (test_in access) earliest clock
-  one-sits code par is earliest access some sits clock other comes =
-      let own : Sits IsAsked stands next w past n = subst (λ (s : CogState). SitsIn IsAsked stands next w past n s) is sits in
-      let pends = subst (λ (o : Option (ℕ × Access)). Pends (IsAsked own.life (since_begin past n)) w.clocks o) some own.pends in
-      let run : MayRun w past n clock other = subst (λ (s : CogState). MayComeIn w past n s clock other) is comes.may in
+  pub one-sits : ((b : Begun) (ts : List Turn) (c d : ℕ) (a e : Access) → asked b ts c a → asked b ts d e → (c ≡ d) × (a ≡ e)) → (code par : ℕ) → cog_state w past n ≡ Running (Pasm code par) → (earliest : ℕ) (access : Access) → next ≡ Some (earliest, access) → SitsIn asked stands (said_by next) w past n (cog_state w past n) → (clock : ℕ) (other : Access) → MayCome asked w past n clock other → (other ≡ access) × MayBe w past n (test_in access) earliest clock
+  one-sits one_asked code par is earliest access some sits clock other comes =
+      let own : Sits asked stands (said_by next) w past n = subst (λ (s : CogState). SitsIn asked stands (said_by next) w past n s) is sits in
+      let pends = subst (λ (o : Option (ℕ × Access)). Pends (asked own.life (since_begin past n)) w.clocks o) some own.told in
+      let run : MayRun asked w past n clock other = subst (λ (s : CogState). MayComeIn asked w past n s clock other) is comes.may in
       let life : run.life ≡ own.life = some-injective _ _ (sym run.began ∙ own.began) in
-      let asks = subst (λ (b : Begun). IsAsked b (since_begin past n) run.earliest other) life run.asks in
-      let same = one-asked own.life (since_begin past n) run.earliest earliest other access asks pends.0 in
+      let asks = subst (λ (b : Begun). asked b (since_begin past n) run.earliest other) life run.asks in
+      let same = one_asked own.life (since_begin past n) run.earliest earliest other access asks pends.0 in
       (same.1, subst (λ (a : Access). MayBe w past n (test_in a) earliest clock) same.1 (subst (λ (e : ℕ). MayBe w past n (test_in other) e clock) same.0 run.may))
 
   -- where it has none, none comes
-  pub quiet-sits : (code par : ℕ) → cog_state w past n ≡ Running (Pasm code par) → next ≡ None → SitsIn IsAsked stands next w past n (cog_state w past n) → (clock : ℕ) (access : Access) → MayCome w past n clock access → ⊥
+  pub quiet-sits : (code par : ℕ) → cog_state w past n ≡ Running (Pasm code par) → next ≡ None → SitsIn asked stands (said_by next) w past n (cog_state w past n) → (clock : ℕ) (access : Access) → MayCome asked w past n clock access → ⊥
   quiet-sits code par is none sits clock access comes =
-      let own : Sits IsAsked stands next w past n = subst (λ (s : CogState). SitsIn IsAsked stands next w past n s) is sits in
-      let pends = subst (λ (o : Option (ℕ × Access)). Pends (IsAsked own.life (since_begin past n)) w.clocks o) none own.pends in
-      let run : MayRun w past n clock access = subst (λ (s : CogState). MayComeIn w past n s clock access) is comes.may in
+      let own : Sits asked stands (said_by next) w past n = subst (λ (s : CogState). SitsIn asked stands (said_by next) w past n s) is sits in
+      let pends = subst (λ (o : Option (ℕ × Access)). Pends (asked own.life (since_begin past n)) w.clocks o) none own.told in
+      let run : MayRun asked w past n clock access = subst (λ (s : CogState). MayComeIn asked w past n s clock access) is comes.may in
       let life : run.life ≡ own.life = some-injective _ _ (sym run.began ∙ own.began) in
-      let late : w.clocks ≤ run.earliest = pends run.earliest access (subst (λ (b : Begun). IsAsked b (since_begin past n) run.earliest access) life run.asks) in
+      let late : w.clocks ≤ run.earliest = pends run.earliest access (subst (λ (b : Begun). asked b (since_begin past n) run.earliest access) life run.asks) in
       let on : run.earliest ≤ clock = may-late w past n (test_in access) run.earliest clock run.may in
       let below : clock < w.clocks = comes.below in
       omega arith
 
-  -- a Spin cog asks nothing here
-  pub spin-quiet : (entry pbase vbase frame size : ℕ) → cog_state w past n ≡ Running (Spin entry pbase vbase frame size) → SitsIn IsAsked stands next w past n (cog_state w past n) → (clock : ℕ) (access : Access) → MayCome w past n clock access → ⊥
-  spin-quiet entry pbase vbase frame size is sits clock access comes =
-      let own : RunsSpin IsAsked stands next w past n = subst (λ (s : CogState). SitsIn IsAsked stands next w past n s) is sits in
-      let run : MayRun w past n clock access = subst (λ (s : CogState). MayComeIn w past n s clock access) is comes.may in
+  -- where Spin asks nothing, a Spin cog has no turn
+  pub spin-quiet : ((life : Entered) (ts : List Turn) (c : ℕ) (a : Access) → asked (SpinBegun life) ts c a → ⊥) → (entry pbase vbase frame size : ℕ) → cog_state w past n ≡ Running (Spin entry pbase vbase frame size) → SitsIn asked stands (said_by next) w past n (cog_state w past n) → (clock : ℕ) (access : Access) → MayCome asked w past n clock access → ⊥
+  spin-quiet silent entry pbase vbase frame size is sits clock access comes =
+      let own : RunsSpin asked stands (said_by next) w past n = subst (λ (s : CogState). SitsIn asked stands (said_by next) w past n s) is sits in
+      let run : MayRun asked w past n clock access = subst (λ (s : CogState). MayComeIn asked w past n s clock access) is comes.may in
       let life : run.life ≡ SpinBegun own.life = some-injective _ _ (sym run.began ∙ own.began) in
-      subst (λ (b : Begun). IsAsked b (since_begin past n) run.earliest access) life run.asks
+      silent own.life (since_begin past n) run.earliest access (subst (λ (b : Begun). asked b (since_begin past n) run.earliest access) life run.asks)
 
 and-no : (b : Bool) → (b && false) ≡ false
 and-no true = refl
@@ -117,27 +117,27 @@ made-begins n clock cog (Wait test) answer made e = absurd-begins _ (and-no (cog
 made-begins n clock cog Clock answer made e = absurd-begins _ (and-no (cog == n)) (runs-begins n clock cog Clock answer e)
 made-begins n clock cog (Halt reason) answer made e = absurd-begins _ (and-no (cog == n)) (runs-begins n clock cog (Halt reason) answer e)
 
-module _ (stands stands' : Begun → List Turn → Type 0) (next next' : Option (ℕ × Access)) (w : World) (past : List Turn) (turn : Turn) (n : ℕ) (own : turn.key.cog ≡ n) where
-  sits-own : begins_life n turn ≡ false → ((b : Begun) (ts : List Turn) → stands b ts → stands' b (ts ++ turn ∷ [])) → ((b : Begun) (ts : List Turn) → stands b ts → Pends (IsAsked b (ts ++ turn ∷ [])) w.clocks next') → Sits IsAsked stands next w past n → Sits IsAsked stands' next' w (turn ∷ past) n
-  sits-own begins keeps pends sits =
+module _ (asked : Begun → List Turn → ℕ → Access → Type 0) (stands stands' : Begun → List Turn → Type 0) (said said' : Next) (w : World) (past : List Turn) (turn : Turn) (n : ℕ) (own : turn.key.cog ≡ n) where
+  sits-own : begins_life n turn ≡ false → ((b : Begun) (ts : List Turn) → stands b ts → stands' b (ts ++ turn ∷ [])) → ((b : Begun) (ts : List Turn) → stands b ts → Tells (asked b (ts ++ turn ∷ [])) w.clocks said') → Sits asked stands said w past n → Sits asked stands' said' w (turn ∷ past) n
+  sits-own begins keeps tells sits =
       let since = since_begin-own w past turn n begins (own-test turn.key.cog n own) in
       record {
         life = sits.life;
         began = begun-same w past turn n begins ∙ sits.began;
         stood = subst (λ (ts : List Turn). stands' sits.life ts) (sym since) (keeps sits.life _ sits.stood);
-        pends = subst (λ (ts : List Turn). Pends (IsAsked sits.life ts) w.clocks next') (sym since) (pends sits.life _ sits.stood);
+        told = subst (λ (ts : List Turn). Tells (asked sits.life ts) w.clocks said') (sym since) (tells sits.life _ sits.stood);
       }
 
-  own-by : (state : CogState) (change : Option Change) → change_of n turn ≡ change → IsMade turn.access → ((entry pbase vbase frame size : ℕ) → state ≡ Running (Spin entry pbase vbase frame size) → ⊥) → ((b : Begun) (ts : List Turn) → stands b ts → stands' b (ts ++ turn ∷ [])) → ((b : Begun) (ts : List Turn) → stands b ts → Pends (IsAsked b (ts ++ turn ∷ [])) w.clocks next') → SitsIn IsAsked stands next w past n state → SitsIn IsAsked stands' next' w (turn ∷ past) n (changed state change)
-  own-by Stopped None e made pasm keeps pends sits = tt
-  own-by (Starting since origin) None e made pasm keeps pends sits = tt
-  own-by (Running (Pasm code par)) None e made pasm keeps pends sits =
-      sits-own (none-begins n turn.key.clock turn.key.cog turn.access turn.answer e) keeps pends sits
-  own-by (Running (Spin entry pbase vbase frame size)) None e made pasm keeps pends sits = absurd (pasm entry pbase vbase frame size refl)
-  own-by state (Some (Starts since origin)) e made pasm keeps pends sits = tt
-  own-by state (Some Stops) e made pasm keeps pends sits = tt
-  own-by state (Some Runs) e made pasm keeps pends sits = absurd (made-begins n turn.key.clock turn.key.cog turn.access turn.answer made e)
+  own-by : (state : CogState) (change : Option Change) → change_of n turn ≡ change → IsMade turn.access → ((entry pbase vbase frame size : ℕ) → state ≡ Running (Spin entry pbase vbase frame size) → ⊥) → ((b : Begun) (ts : List Turn) → stands b ts → stands' b (ts ++ turn ∷ [])) → ((b : Begun) (ts : List Turn) → stands b ts → Tells (asked b (ts ++ turn ∷ [])) w.clocks said') → SitsIn asked stands said w past n state → SitsIn asked stands' said' w (turn ∷ past) n (changed state change)
+  own-by Stopped None e made pasm keeps tells sits = tt
+  own-by (Starting since origin) None e made pasm keeps tells sits = tt
+  own-by (Running (Pasm code par)) None e made pasm keeps tells sits =
+      sits-own (none-begins n turn.key.clock turn.key.cog turn.access turn.answer e) keeps tells sits
+  own-by (Running (Spin entry pbase vbase frame size)) None e made pasm keeps tells sits = absurd (pasm entry pbase vbase frame size refl)
+  own-by state (Some (Starts since origin)) e made pasm keeps tells sits = tt
+  own-by state (Some Stops) e made pasm keeps tells sits = tt
+  own-by state (Some Runs) e made pasm keeps tells sits = absurd (made-begins n turn.key.clock turn.key.cog turn.access turn.answer made e)
 
   -- a turn of its own that its life takes
-  pub own-sits : IsMade turn.access → ((entry pbase vbase frame size : ℕ) → cog_state w past n ≡ Running (Spin entry pbase vbase frame size) → ⊥) → ((b : Begun) (ts : List Turn) → stands b ts → stands' b (ts ++ turn ∷ [])) → ((b : Begun) (ts : List Turn) → stands b ts → Pends (IsAsked b (ts ++ turn ∷ [])) w.clocks next') → SitsIn IsAsked stands next w past n (cog_state w past n) → SitsIn IsAsked stands' next' w (turn ∷ past) n (cog_state w (turn ∷ past) n)
-  own-sits made pasm keeps pends sits = own-by (cog_state w past n) (change_of n turn) refl made pasm keeps pends sits
+  pub own-sits : IsMade turn.access → ((entry pbase vbase frame size : ℕ) → cog_state w past n ≡ Running (Spin entry pbase vbase frame size) → ⊥) → ((b : Begun) (ts : List Turn) → stands b ts → stands' b (ts ++ turn ∷ [])) → ((b : Begun) (ts : List Turn) → stands b ts → Tells (asked b (ts ++ turn ∷ [])) w.clocks said') → SitsIn asked stands said w past n (cog_state w past n) → SitsIn asked stands' said' w (turn ∷ past) n (cog_state w (turn ∷ past) n)
+  own-sits made pasm keeps tells sits = own-by (cog_state w past n) (change_of n turn) refl made pasm keeps tells sits

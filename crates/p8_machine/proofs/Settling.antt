@@ -1,5 +1,5 @@
 -- What the turn of a cog leaves of its own seat.
-use Rattle.std.proofs.Common.{◌≡◌, ◌∙◌, ap, sym, subst, refl, ℕ, ◌+◌, ◌*◌, ◌≤◌, ◌==◌, Bool, true, false, nat_le, List, [], ◌∷◌, Option, Some, arith, if◌then◌else◌}
+use Rattle.std.proofs.Common.{◌≡◌, ◌∙◌, ap, sym, subst, refl, ℕ, ◌+◌, ◌*◌, ◌≤◌, ◌==◌, Bool, true, false, nat_le, List, [], ◌∷◌, Some, arith, if◌then◌else◌}
 use Rattle.std.proofs.lemmas.Bool.Decides.{nat_tests}
 use Rattle.p8_access.specs.declared.kinds.Origin.{Origin}
 use Rattle.p8_access.specs.declared.kinds.Origin.TheVariants.{Pasm, Spin}
@@ -7,15 +7,14 @@ use Rattle.p8_access.specs.declared.kinds.Reason.TheVariants.{Rom}
 use Rattle.p8_access.specs.declared.kinds.Access.{Access}
 use Rattle.p8_access.specs.declared.kinds.Access.TheVariants.{Begin, Load, Halt}
 use Rattle.p8_access.specs.declared.order.Turn.{Turn}
-use Rattle.p8_access.specs.Lives.{Begun}
+use Rattle.p8_access.specs.declared.lives.Next.{Next}
+use Rattle.p8_access.specs.Lives.{Begun, Tells}
 use Rattle.p8_history.specs.declared.states.CogState.{CogState}
 use Rattle.p8_history.specs.declared.states.CogState.TheVariants.{Stopped, Starting, Running}
 use Rattle.p8_history.specs.Worlds.{World}
 use Rattle.p8_history.specs.Hub.{Change, Runs, Stops, change_by, change_of, changed, cog_state, origin_of}
 use Rattle.p8_history.specs.Histories.{begins_life, is_begin, begun_at, first_access}
 use Rattle.p8_history.proofs.Changes.{begun-new, since_begin-new, own-test}
-use Rattle.p8_cog.specs.Replay.{IsAsked}
-use Rattle.p8_machine.specs.Pending.{Pends}
 use Rattle.p8_machine.specs.Seats.{Sits, RunsSpin, SitsIn}
 
 fits-code : (code : ℕ) → nat_le (code + 4 * 496) 32768 ≡ true → code + 4 * 496 ≤ 32768
@@ -31,9 +30,9 @@ begin-changes n clock cog answer own = rw own refl
 halt-changes : (n clock cog : ℕ) (answer : _) → (cog == n) ≡ true → change_by n clock cog (Halt (Rom 32768)) answer ≡ Some Stops
 halt-changes n clock cog answer own = rw own refl
 
-module _ (stands : Begun → List Turn → Type 0) (next : Option (ℕ × Access)) (w : World) (past : List Turn) (turn : Turn) (n : ℕ) where
+module _ (asked : Begun → List Turn → ℕ → Access → Type 0) (stands : Begun → List Turn → Type 0) (said : Next) (w : World) (past : List Turn) (turn : Turn) (n : ℕ) where
   -- in a state that isn't running there is nothing to show
-  pub idle-sits : (state : CogState) → ((origin : Origin) → state ≡ Running origin → SitsIn IsAsked stands next w (turn ∷ past) n state) → SitsIn IsAsked stands next w (turn ∷ past) n state
+  pub idle-sits : (state : CogState) → ((origin : Origin) → state ≡ Running origin → SitsIn asked stands said w (turn ∷ past) n state) → SitsIn asked stands said w (turn ∷ past) n state
   idle-sits Stopped running = tt
   idle-sits (Starting since origin) running = tt
   idle-sits (Running origin) running = running origin refl
@@ -48,39 +47,41 @@ module _ (stands : Begun → List Turn → Type 0) (next : Option (ℕ × Access
     begins : is_begin turn.access ≡ true → begins_life n turn ≡ true
     begins is = rw (own-test turn.key.cog n own, is) refl
 
-    loaded-sits : (code par : ℕ) → cog_state w past n ≡ Starting since (Pasm code par) → turn.access ≡ Load → stands (begun_at w past n turn.key.clock (Pasm code par)) [] × Pends (IsAsked (begun_at w past n turn.key.clock (Pasm code par)) []) w.clocks next → SitsIn IsAsked stands next w (turn ∷ past) n (cog_state w (turn ∷ past) n)
+    loaded-sits : (code par : ℕ) → cog_state w past n ≡ Starting since (Pasm code par) → turn.access ≡ Load → (cog_state w (turn ∷ past) n ≡ Running (Pasm code par) → stands (begun_at w n turn.key.clock (Pasm code par)) [] × Tells (asked (begun_at w n turn.key.clock (Pasm code par)) []) w.clocks said) → SitsIn asked stands said w (turn ∷ past) n (cog_state w (turn ∷ past) n)
     loaded-sits code par state load lives =
         let change : change_of n turn ≡ Some Runs = ap (λ (a : Access). change_by n turn.key.clock turn.key.cog a turn.answer) load ∙ load-changes n turn.key.clock turn.key.cog turn.answer (own-test turn.key.cog n own) in
         let is : begins_life n turn ≡ true = begins (ap is_begin load) in
         let none = since_begin-new w past turn n is in
-        let sits : Sits IsAsked stands next w (turn ∷ past) n = record {
-          life = begun_at w past n turn.key.clock (Pasm code par);
-          began = begun-new w past turn n is ∙ ap (λ (o : Origin). Some (begun_at w past n turn.key.clock o)) (origin-is (Pasm code par) state);
-          stood = subst (λ (ts : List Turn). stands (begun_at w past n turn.key.clock (Pasm code par)) ts) (sym none) lives.0;
-          pends = subst (λ (ts : List Turn). Pends (IsAsked (begun_at w past n turn.key.clock (Pasm code par)) ts) w.clocks next) (sym none) lives.1;
+        let runs : cog_state w (turn ∷ past) n ≡ Running (Pasm code par) = after (Pasm code par) Runs state change in
+        let lived = lives runs in
+        let sits : Sits asked stands said w (turn ∷ past) n = record {
+          life = begun_at w n turn.key.clock (Pasm code par);
+          began = begun-new w past turn n is ∙ ap (λ (o : Origin). Some (begun_at w n turn.key.clock o)) (origin-is (Pasm code par) state);
+          stood = subst (λ (ts : List Turn). stands (begun_at w n turn.key.clock (Pasm code par)) ts) (sym none) lived.0;
+          told = subst (λ (ts : List Turn). Tells (asked (begun_at w n turn.key.clock (Pasm code par)) ts) w.clocks said) (sym none) lived.1;
         } in
-        subst (λ (s : CogState). SitsIn IsAsked stands next w (turn ∷ past) n s) (sym (after (Pasm code par) Runs state change)) sits
+        subst (λ (s : CogState). SitsIn asked stands said w (turn ∷ past) n s) (sym runs) sits
 
-    halted-sits : (origin : Origin) → cog_state w past n ≡ Starting since origin → turn.access ≡ Halt (Rom 32768) → SitsIn IsAsked stands next w (turn ∷ past) n (cog_state w (turn ∷ past) n)
+    halted-sits : (origin : Origin) → cog_state w past n ≡ Starting since origin → turn.access ≡ Halt (Rom 32768) → SitsIn asked stands said w (turn ∷ past) n (cog_state w (turn ∷ past) n)
     halted-sits origin state halt =
         let change : change_of n turn ≡ Some Stops = ap (λ (a : Access). change_by n turn.key.clock turn.key.cog a turn.answer) halt ∙ halt-changes n turn.key.clock turn.key.cog turn.answer (own-test turn.key.cog n own) in
-        subst (λ (s : CogState). SitsIn IsAsked stands next w (turn ∷ past) n s) (sym (after origin Stops state change)) tt
+        subst (λ (s : CogState). SitsIn asked stands said w (turn ∷ past) n s) (sym (after origin Stops state change)) tt
 
-    spin-sits : (entry pbase vbase frame size : ℕ) → cog_state w past n ≡ Starting since (Spin entry pbase vbase frame size) → turn.access ≡ Begin → SitsIn IsAsked stands next w (turn ∷ past) n (cog_state w (turn ∷ past) n)
+    spin-sits : (entry pbase vbase frame size : ℕ) → cog_state w past n ≡ Starting since (Spin entry pbase vbase frame size) → turn.access ≡ Begin → SitsIn asked stands said w (turn ∷ past) n (cog_state w (turn ∷ past) n)
     spin-sits entry pbase vbase frame size state begin =
         let change : change_of n turn ≡ Some Runs = ap (λ (a : Access). change_by n turn.key.clock turn.key.cog a turn.answer) begin ∙ begin-changes n turn.key.clock turn.key.cog turn.answer (own-test turn.key.cog n own) in
         let is : begins_life n turn ≡ true = begins (ap is_begin begin) in
-        let runs : RunsSpin IsAsked stands next w (turn ∷ past) n = record {
-          life = record { code = w.memory; origin = Spin entry pbase vbase frame size; cog = n; begin = turn.key.clock + 8192 };
-          began = begun-new w past turn n is ∙ ap (λ (o : Origin). Some (begun_at w past n turn.key.clock o)) (origin-is (Spin entry pbase vbase frame size) state);
+        let runs : RunsSpin asked stands said w (turn ∷ past) n = record {
+          life = record { memory = w.memory; origin = Spin entry pbase vbase frame size; cog = n; begin = turn.key.clock };
+          began = begun-new w past turn n is ∙ ap (λ (o : Origin). Some (begun_at w n turn.key.clock o)) (origin-is (Spin entry pbase vbase frame size) state);
         } in
-        subst (λ (s : CogState). SitsIn IsAsked stands next w (turn ∷ past) n s) (sym (after (Spin entry pbase vbase frame size) Runs state change)) runs
+        subst (λ (s : CogState). SitsIn asked stands said w (turn ∷ past) n s) (sym (after (Spin entry pbase vbase frame size) Runs state change)) runs
 
-    pasm-sits : (code par : ℕ) (fits : Bool) → nat_le (code + 4 * 496) 32768 ≡ fits → cog_state w past n ≡ Starting since (Pasm code par) → turn.access ≡ (if fits then Load else Halt (Rom 32768)) → (turn.access ≡ Load → code + 4 * 496 ≤ 32768 → stands (begun_at w past n turn.key.clock (Pasm code par)) [] × Pends (IsAsked (begun_at w past n turn.key.clock (Pasm code par)) []) w.clocks next) → SitsIn IsAsked stands next w (turn ∷ past) n (cog_state w (turn ∷ past) n)
+    pasm-sits : (code par : ℕ) (fits : Bool) → nat_le (code + 4 * 496) 32768 ≡ fits → cog_state w past n ≡ Starting since (Pasm code par) → turn.access ≡ (if fits then Load else Halt (Rom 32768)) → (turn.access ≡ Load → code + 4 * 496 ≤ 32768 → cog_state w (turn ∷ past) n ≡ Running (Pasm code par) → stands (begun_at w n turn.key.clock (Pasm code par)) [] × Tells (asked (begun_at w n turn.key.clock (Pasm code par)) []) w.clocks said) → SitsIn asked stands said w (turn ∷ past) n (cog_state w (turn ∷ past) n)
     pasm-sits code par true fits state access lives = loaded-sits code par state access (lives access (fits-code code fits))
     pasm-sits code par false fits state access lives = halted-sits (Pasm code par) state access
 
     -- the first turn of a cog that was starting
-    pub start-sits : (origin : Origin) → cog_state w past n ≡ Starting since origin → turn.access ≡ first_access origin → ((code par : ℕ) → origin ≡ Pasm code par → turn.access ≡ Load → code + 4 * 496 ≤ 32768 → stands (begun_at w past n turn.key.clock (Pasm code par)) [] × Pends (IsAsked (begun_at w past n turn.key.clock (Pasm code par)) []) w.clocks next) → SitsIn IsAsked stands next w (turn ∷ past) n (cog_state w (turn ∷ past) n)
+    pub start-sits : (origin : Origin) → cog_state w past n ≡ Starting since origin → turn.access ≡ first_access origin → ((code par : ℕ) → origin ≡ Pasm code par → turn.access ≡ Load → code + 4 * 496 ≤ 32768 → cog_state w (turn ∷ past) n ≡ Running (Pasm code par) → stands (begun_at w n turn.key.clock (Pasm code par)) [] × Tells (asked (begun_at w n turn.key.clock (Pasm code par)) []) w.clocks said) → SitsIn asked stands said w (turn ∷ past) n (cog_state w (turn ∷ past) n)
     start-sits (Pasm code par) state access lives = pasm-sits code par (nat_le (code + 4 * 496) 32768) refl state access (lives code par refl)
     start-sits (Spin entry pbase vbase frame size) state access lives = spin-sits entry pbase vbase frame size state access

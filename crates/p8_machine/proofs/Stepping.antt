@@ -1,6 +1,7 @@
 -- What one step does to what a machine stands for.
-use Rattle.std.proofs.Common.{◌≡◌, ◌∙◌, ap, sym, subst, refl, ℕ, ◌<◌, ◌≤◌, ◌==◌, Bool, true, false, List, [], ◌∷◌, ◌++◌, Option, Some, None, slice_get, length, reverse, arith, inl, inr, if◌then◌else◌}
+use Rattle.std.proofs.Common.{◌≡◌, ◌∙◌, ap, sym, subst, refl, ℕ, ◌<◌, ◌≤◌, ◌==◌, Bool, true, false, List, [], ◌∷◌, ◌++◌, Option, Some, None, slice_get, length, reverse, arith, inl, inr, if◌then◌else◌, lit<}
 use Rattle.std.proofs.lemmas.List.{reverse-append}
+use Rattle.p8_access.specs.declared.kinds.Origin.{Origin}
 use Rattle.p8_access.specs.declared.kinds.Access.{Access}
 use Rattle.p8_access.specs.declared.kinds.Access.TheVariants.{Begin, Load, Read, Write, CogId, CogInit, CogStop, LockNew, LockRet, LockSet, LockClr, ClkSet, PinsIn, OutSet, DirSet, Wait, Clock, Halt}
 use Rattle.p8_access.specs.declared.kinds.Answer.{Answer}
@@ -8,27 +9,30 @@ use Rattle.p8_access.specs.declared.kinds.Answer.TheVariants.{Done, Value, Numbe
 use Rattle.p8_access.specs.declared.order.Key.{Key}
 use Rattle.p8_access.specs.declared.order.Turn.{Turn}
 use Rattle.p8_access.specs.Windows.{Before}
-use Rattle.p8_access.specs.Proper.{IsProper, IsNumber, IsStarted, Fits}
+use Rattle.p8_access.specs.Proper.{IsProper, IsProperOrigin, IsNumber, IsStarted, Fits}
+use Rattle.p8_access.specs.declared.lives.Next.{Next}
 use Rattle.p8_access.specs.Lives.{Begun}
 use Rattle.p8_history.specs.declared.states.CogState.{CogState}
 use Rattle.p8_history.specs.declared.states.CogState.TheVariants.{Stopped, Starting}
 use Rattle.p8_history.specs.Worlds.{World}
-use Rattle.p8_history.specs.Hub.{Starts, Runs, Stops, is_number, change_by, change_of, changed, cog_state}
+use Rattle.p8_history.specs.Hub.{Starts, Runs, Stops, is_number, change_by, change_of, changed, cog_state, origin_of}
 use Rattle.p8_history.specs.Histories.{answer_to, Legal, IsNext, Extends, IsOver}
 use Rattle.p8_history.proofs.Changes.{other-test}
 use Rattle.p8_hub.specs.Standing.{HubValue, IsHub}
-use Rattle.p8_cog.specs.Replay.{IsAsked}
 use Rattle.p8_machine.specs.declared.due.Due.{Due}
+use Rattle.p8_machine.specs.declared.fronts.Fronts.{Fronts}
 use Rattle.p8_machine.specs.declared.seat.Seat.{Seat}
 use Rattle.p8_machine.specs.Places.{lives}
+use Rattle.p8_machine.specs.Pending.{said_by}
 use Rattle.p8_machine.specs.Seats.{SitsIn}
-use Rattle.p8_machine.specs.Standing.{Stands, IsLeast, OfAll}
+use Rattle.p8_machine.specs.Fronts.{IsFrontIn}
+use Rattle.p8_machine.specs.Standing.{Stands, IsLeast}
 use Rattle.p8_machine.proofs.Coming.{next-may, may-next}
 
 -- a legal history has at most as many turns as the limit
-pub legal-length : (w : World) (past : List Turn) → Legal IsAsked w past → length past ≤ w.turns
-legal-length w [] legal = omega arith
-legal-length w (turn ∷ past) legal = let room : length past < w.turns = legal.1.room in omega arith
+pub legal-length : (asked : Begun → List Turn → ℕ → Access → Type 0) (w : World) (past : List Turn) → Legal asked w past → length past ≤ w.turns
+legal-length asked w [] legal = omega arith
+legal-length asked w (turn ∷ past) legal = let room : length past < w.turns = legal.1.room in omega arith
 
 -- no other cog is answered as started
 not-answered : (n : ℕ) (target : Option ℕ) (answer : Answer) → 8 ≤ n → IsNumber target → IsStarted target answer → is_number n answer ≡ false
@@ -68,28 +72,28 @@ stays n clock cog (DirSet value) answer far own proper fits = refl
 stays n clock cog (Wait test) answer far own proper fits = refl
 stays n clock cog Clock answer far own proper fits = refl
 
-module _ (w : World) (past : List Turn) where
+module _ (asked : Begun → List Turn → ℕ → Access → Type 0) (w : World) (past : List Turn) where
   -- where no turn may come the history is over
-  pub none-over : IsLeast w past OfAll None → IsOver IsAsked w past
-  none-over least = inr (λ n clock access next. least n clock access tt (next-may w past n clock access next))
+  pub none-over : IsLeast asked w past None → IsOver asked w past
+  none-over least = inr (λ n clock access next. least n clock access (next-may asked w past n clock access next))
 
   -- the first that may come is its cog's next turn
-  first-next : (due : Due) → IsLeast w past OfAll (Some due) → IsNext IsAsked w past due.key.cog due.key.clock due.access
+  first-next : (due : Due) → IsLeast asked w past (Some due) → IsNext asked w past due.key.cog due.key.clock due.access
   first-next due least =
-      may-next w past due.key.cog due.key.clock due.access least.0.may (λ u less comes. least.1 due.key.cog u due.access tt comes (inl less))
+      may-next asked w past due.key.cog due.key.clock due.access least.0.may (λ u less comes. least.1 due.key.cog u due.access comes (inl less))
 
   -- the turn that comes first extends the history
-  pub least-extends : (due : Due) (turn : Turn) → length past < w.turns → IsLeast w past OfAll (Some due) → turn.key ≡ due.key → turn.access ≡ due.access → turn.answer ≡ answer_to w past due.key due.access → Extends IsAsked w past turn
+  pub least-extends : (due : Due) (turn : Turn) → length past < w.turns → IsLeast asked w past (Some due) → turn.key ≡ due.key → turn.access ≡ due.access → turn.answer ≡ answer_to w past due.key due.access → Extends asked w past turn
   least-extends due turn room least key access answer = record {
     room = room;
-    next = subst (λ (k : Key). IsNext IsAsked w past k.cog k.clock turn.access) (sym key) (subst (λ (a : Access). IsNext IsAsked w past due.key.cog due.key.clock a) (sym access) (first-next due least));
+    next = subst (λ (k : Key). IsNext asked w past k.cog k.clock turn.access) (sym key) (subst (λ (a : Access). IsNext asked w past due.key.cog due.key.clock a) (sym access) (first-next due least));
     answer = answer ∙ (λ i. answer_to w past (sym key i) (sym access i));
-    least = λ n clock a next before. least.1 n clock a tt (next-may w past n clock a next) (subst (λ (k : Key). Before (record { clock = clock; cog = n }) k) key before);
+    least = λ n clock a next before. least.1 n clock a (next-may asked w past n clock a next) (subst (λ (k : Key). Before (record { clock = clock; cog = n }) k) key before);
   }
 
 -- what a turn extends isn't over
-pub not-over : (w : World) (past : List Turn) (turn : Turn) → Extends IsAsked w past turn → IsOver IsAsked w past → ⊥
-not-over w past turn extends over =
+pub not-over : (asked : Begun → List Turn → ℕ → Access → Type 0) (w : World) (past : List Turn) (turn : Turn) → Extends asked w past turn → IsOver asked w past → ⊥
+not-over asked w past turn extends over =
     elim over [
       | inl full ↦ (let room : length past < w.turns = extends.room in omega arith)
       | inr none ↦ none turn.key.cog turn.key.clock turn.access extends.next
@@ -98,24 +102,66 @@ not-over w past turn extends over =
 pub reverse-push : (turns : List Turn) (turn : Turn) → reverse (turns ++ turn ∷ []) ≡ turn ∷ reverse turns
 reverse-push turns turn = reverse-append turns (turn ∷ [])
 
+-- a start of a well-formed access has a well-formed origin
+proper-if : (b : Bool) (state : CogState) (since : ℕ) (origin : Origin) → IsProperOrigin (origin_of state) → IsProperOrigin origin → IsProperOrigin (origin_of (changed state (if b then Some (Starts since origin) else None)))
+proper-if true state since origin old new = new
+proper-if false state since origin old new = old
+
+runs-if : (b : Bool) (state : CogState) → IsProperOrigin (origin_of state) → IsProperOrigin (origin_of (changed state (if b then Some Runs else None)))
+runs-if true state old = old
+runs-if false state old = old
+
+stops-if : (b : Bool) (state : CogState) → IsProperOrigin (origin_of state) → IsProperOrigin (origin_of (changed state (if b then Some Stops else None)))
+stops-if true state old = ((refl, lit< tt), (refl, lit< tt))
+stops-if false state old = old
+
+-- origins stay well formed
+pub origins-stay : (state : CogState) (n clock cog : ℕ) (access : Access) (answer : Answer) → IsProperOrigin (origin_of state) → IsProper access → IsProperOrigin (origin_of (changed state (change_by n clock cog access answer)))
+origins-stay state n clock cog (CogInit target origin) answer old proper = proper-if (is_number n answer) state clock origin old proper.1
+origins-stay state n clock cog Begin answer old proper = runs-if (cog == n) state old
+origins-stay state n clock cog Load answer old proper = runs-if (cog == n) state old
+origins-stay state n clock cog (CogStop target) answer old proper = stops-if (target == n) state old
+origins-stay state n clock cog (Halt reason) answer old proper = stops-if (cog == n) state old
+origins-stay state n clock cog (Read width address) answer old proper = old
+origins-stay state n clock cog (Write width address value) answer old proper = old
+origins-stay state n clock cog CogId answer old proper = old
+origins-stay state n clock cog LockNew answer old proper = old
+origins-stay state n clock cog (LockRet lock) answer old proper = old
+origins-stay state n clock cog (LockSet lock) answer old proper = old
+origins-stay state n clock cog (LockClr lock) answer old proper = old
+origins-stay state n clock cog (ClkSet mode) answer old proper = old
+origins-stay state n clock cog PinsIn answer old proper = old
+origins-stay state n clock cog (OutSet value) answer old proper = old
+origins-stay state n clock cog (DirSet value) answer old proper = old
+origins-stay state n clock cog (Wait test) answer old proper = old
+origins-stay state n clock cog Clock answer old proper = old
+
 -- a machine stands for the turn that it made
-pub step-stands : (w : World) (past : List Turn) (hub hub' : HubValue) (seats seats' : List Seat) (turn : Turn) → Stands w past hub seats → Extends IsAsked w past turn → turn.key.cog < 8 → IsProper turn.access → Fits turn.access turn.answer → IsHub w (turn ∷ past) hub' → ((n : ℕ) (seat : Seat) → slice_get seats' n ≡ Some seat → SitsIn IsAsked (lives seat) seat.next w (turn ∷ past) n (cog_state w (turn ∷ past) n)) → Stands w (turn ∷ past) hub' seats'
-step-stands w past hub hub' seats seats' turn stands extends near proper fits hub_is seated = record {
+pub step-stands : (asked : Begun → List Turn → ℕ → Access → Type 0) (w : World) (past : List Turn) (hub hub' : HubValue) (seats seats' : List Seat) (fronts fronts' : Fronts) (turn : Turn) → Stands asked w past hub seats fronts → Extends asked w past turn → turn.key.cog < 8 → IsProper turn.access → Fits turn.access turn.answer → IsHub w (turn ∷ past) hub' → ((n : ℕ) (seat : Seat) → slice_get seats' n ≡ Some seat → SitsIn asked (lives seat) (said_by seat.next) w (turn ∷ past) n (cog_state w (turn ∷ past) n)) → ((n : ℕ) (seat : Seat) → slice_get seats' n ≡ Some seat → IsFrontIn fronts' n w.clocks (cog_state w (turn ∷ past) n) seat.next) → Stands asked w (turn ∷ past) hub' seats' fronts'
+step-stands asked w past hub hub' seats seats' fronts fronts' turn stands extends near proper fits hub_is seated fronted = record {
   legal = (stands.legal, extends);
   hub_is = hub_is;
   seated = seated;
+  fronted = fronted;
+  origins = λ n. origins-stay (cog_state w past n) n turn.key.clock turn.key.cog turn.access turn.answer (stands.origins n) proper;
   others = λ n far. ap (λ (s : CogState). changed s (change_of n turn)) (stands.others n far) ∙ stays n turn.key.clock turn.key.cog turn.access turn.answer far near proper fits;
 }
 
 -- before the first turn
-first-idle : (stands : Begun → List Turn → Type 0) (next : Option (ℕ × Access)) (w : World) (n : ℕ) (b : Bool) → SitsIn IsAsked stands next w [] n (if b then Starting 0 w.first else Stopped)
-first-idle stands next w n true = tt
-first-idle stands next w n false = tt
+first-idle : (asked : Begun → List Turn → ℕ → Access → Type 0) (stands : Begun → List Turn → Type 0) (said : Next) (w : World) (n : ℕ) (b : Bool) → SitsIn asked stands said w [] n (if b then Starting 0 w.first else Stopped)
+first-idle asked stands said w n true = tt
+first-idle asked stands said w n false = tt
 
-pub open-stands : (w : World) (hub : HubValue) (seats : List Seat) → IsHub w [] hub → Stands w [] hub seats
-open-stands w hub seats hub_is = record {
+first-origin : (w : World) (b : Bool) → IsProperOrigin w.first → IsProperOrigin (origin_of (if b then Starting 0 w.first else Stopped))
+first-origin w true proper = proper
+first-origin w false proper = ((refl, lit< tt), (refl, lit< tt))
+
+pub open-stands : (asked : Begun → List Turn → ℕ → Access → Type 0) (w : World) (hub : HubValue) (seats : List Seat) (fronts : Fronts) → IsHub w [] hub → IsProperOrigin w.first → ((n : ℕ) (seat : Seat) → slice_get seats n ≡ Some seat → IsFrontIn fronts n w.clocks (cog_state w [] n) seat.next) → Stands asked w [] hub seats fronts
+open-stands asked w hub seats fronts hub_is proper fronted = record {
   legal = tt;
   hub_is = hub_is;
-  seated = λ n seat at. first-idle (lives seat) seat.next w n (n == 0);
+  seated = λ n seat at. first-idle asked (lives seat) (said_by seat.next) w n (n == 0);
+  fronted = fronted;
+  origins = λ n. first-origin w (n == 0) proper;
   others = λ n far. ap (λ (b : Bool). if b then Starting 0 w.first else Stopped) (other-test n 0 (λ e. omega arith));
 }

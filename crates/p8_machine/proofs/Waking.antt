@@ -1,5 +1,6 @@
 -- The clock at which a wait ends, as a span of the script tells it.
-use Rattle.std.proofs.Common.{◌≡◌, sym, subst, ℕ, ◌<◌, ◌≤◌, List, Option, Some, None, arith}
+use Rattle.std.proofs.Common.{◌≡◌, sym, subst, ℕ, ◌^◌, ◌<◌, ◌≤◌, List, Option, Some, None, arith}
+use Rattle.std.specs.Prelude.{IfSome, IfNone}
 use Rattle.p8_access.specs.declared.kinds.Test.{Test}
 use Rattle.p8_access.specs.declared.order.Key.{Key}
 use Rattle.p8_access.specs.declared.order.Turn.{Turn}
@@ -7,7 +8,7 @@ use Rattle.p8_history.specs.Worlds.{World, level_at}
 use Rattle.p8_history.specs.Pins.{pins_with, dira, outputs, Holds}
 use Rattle.p8_pins.specs.Matches.{IsBefore}
 use Rattle.p8_pins.specs.declared.spans.Span.{Span}
-use Rattle.p8_machine.specs.Waiting.{newest_key, IsBehind, Wakes, IsSpanFrom, IsLeastClock}
+use Rattle.p8_machine.specs.Waiting.{newest_key, IsBehind, Wakes, IsSpanFrom, IsFirstWake}
 use Rattle.p8_machine.proofs.Coming.{behind-after, after-behind}
 
 module _ (w : World) (past : List Turn) (n : ℕ) (test : Test) (earliest from first directions outs : ℕ) (span : Span) (spans : IsSpanFrom w.script from span) (directions_is : directions ≡ dira past) (outs_is : outs ≡ outputs past) (last : Option Key) (last_is : last ≡ newest_key past) where
@@ -35,24 +36,21 @@ module _ (w : World) (past : List Turn) (n : ℕ) (test : Test) (earliest from f
         ((behind_is u).1 (subst (λ (l : Option Key). IsBehind l (record { clock = u; cog = n })) (sym last_is) (after-behind past (record { clock = u; cog = n }) wakes.after)))
 
     -- no clock was found
-    pub none-woken : (bound : ℕ) → w.clocks ≤ bound → ((u : ℕ) → first ≤ u → u < bound → IsBefore u span.end → Waits u → ⊥) → IsLeastClock w past n (Some test) earliest from span.end None
-    none-woken bound limit none u le before below wakes =
-        none u (from-first u le wakes) (omega arith) before (holds-by u le before wakes.holds)
-
-    -- the one that was found is at the limit or later
-    pub late-woken : (clock : ℕ) → w.clocks ≤ clock → ((u : ℕ) → first ≤ u → Waits u → clock ≤ u) → IsLeastClock w past n (Some test) earliest from span.end None
-    late-woken clock late least u le before below wakes =
-        let on : clock ≤ u = least u (from-first u le wakes) (holds-by u le before wakes.holds) in
-        omega arith
+    pub none-woken : ((u : ℕ) → first ≤ u → u < 2 ^ 62 → IsBefore u span.end → Waits u → ⊥) → IsFirstWake w past n test earliest from span.end None
+    none-woken none u le before below wakes = none u (from-first u le wakes) below before (holds-by u le before wakes.holds)
 
     -- one was found
-    pub found-woken : (clock : ℕ) → clock < w.clocks → first ≤ clock → IsBefore clock span.end → Waits clock → ((u : ℕ) → first ≤ u → Waits u → clock ≤ u) → IsLeastClock w past n (Some test) earliest from span.end (Some clock)
-    found-woken clock below le before holds least = (
+    pub found-woken : (clock : ℕ) → first ≤ clock → IsBefore clock span.end → Waits clock → ((u : ℕ) → first ≤ u → Waits u → clock ≤ u) → IsFirstWake w past n test earliest from span.end (Some clock)
+    found-woken clock le before holds least = (
       record {
         not_before = omega arith;
         after = behind-after past (record { clock = clock; cog = n }) (subst (λ (l : Option Key). IsBehind l (record { clock = clock; cog = n })) last_is ((behind_is clock).0 (omega arith)));
         holds = by-holds clock (omega arith) before holds;
       },
-      λ _. below,
       λ u on end wakes. least u (from-first u on wakes) (holds-by u on end wakes.holds),
     )
+
+    -- what was found or not
+    pub woken : (got : Option ℕ) → IfSome got (λ (clock : ℕ). first ≤ clock) → IfSome got (λ (clock : ℕ). IsBefore clock span.end) → IfSome got Waits → IfSome got (λ (clock : ℕ). (u : ℕ) → first ≤ u → Waits u → clock ≤ u) → IfNone got ((u : ℕ) → first ≤ u → u < 2 ^ 62 → IsBefore u span.end → Waits u → ⊥) → IsFirstWake w past n test earliest from span.end got
+    woken None le before holds least none = none-woken none
+    woken (Some clock) le before holds least none = found-woken clock le before holds least

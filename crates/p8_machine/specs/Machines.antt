@@ -2,6 +2,7 @@
 use Rattle.std.specs.Prelude.{List, reverse}
 use Rattle.p8_access.specs.declared.order.Turn.{Turn}
 use Rattle.p8_history.specs.Worlds.{World}
+use Rattle.p8_lives.specs.Lives.{asks}
 use Rattle.p8_machine.specs.declared.run.Machine.{Machine}
 use Rattle.p8_machine.specs.Worlds.{world_of}
 use Rattle.p8_machine.specs.Standing.{Stands}
@@ -16,4 +17,5 @@ past_in machine = reverse machine.turns.list
 
 -- its parts stand for these turns in this world
 abbrev pub IsStanding : Machine → Type 0
-IsStanding machine = Stands (world_in machine) (past_in machine) machine.hub machine.seats.seats.items
+IsStanding machine =
+    Stands asks (world_in machine) (past_in machine) machine.hub machine.seats.seats.items machine.fronts

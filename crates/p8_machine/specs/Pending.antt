@@ -1,18 +1,24 @@
 -- internal
 -- What a life has said of its next access.
-use Rattle.std.specs.Prelude.{ℕ, ◌<◌, ◌≤◌, Option, Some, None}
+use Rattle.std.specs.Prelude.{ℕ, Option, Some, None}
 use Rattle.std.proofs.Props.{props}
 use Rattle.p8_access.specs.declared.kinds.Origin.{Origin}
 use Rattle.p8_access.specs.declared.kinds.Origin.TheVariants.{Pasm, Spin}
 use Rattle.p8_access.specs.declared.kinds.Access.{Access}
 use Rattle.p8_access.specs.declared.kinds.Access.TheVariants.{Begin, Load, Read, Write, CogId, CogInit, CogStop, LockNew, LockRet, LockSet, LockClr, ClkSet, PinsIn, OutSet, DirSet, Wait, Clock, Halt}
-use Rattle.p8_access.specs.Lives.{IsMade}
+use Rattle.p8_access.specs.declared.lives.Next.{Next}
+use Rattle.p8_access.specs.declared.lives.Next.TheVariants.{At, Quiet}
+use Rattle.p8_access.specs.Lives.{Tells, IsMade}
 use Rattle.p8_access.specs.Proper.{IsNumber, IsProperOrigin}
+
+-- what a life has said where this is its next access below a limit, or where there is none
+abbrev pub said_by : Option (ℕ × Access) → Next
+said_by None = Quiet
+said_by (Some next) = At next.0 next.1
 
 -- this access is asked, from this clock on, which is below the limit; or none is asked below it
 abbrev pub Pends : (ℕ → Access → Type 0) → ℕ → Option (ℕ × Access) → Type 0
-Pends Asked until (Some next) = Asked next.0 next.1 × (next.0 < until)
-Pends Asked until None = (clock : ℕ) (access : Access) → Asked clock access → until ≤ clock
+Pends Asked until next = Tells Asked until (said_by next)
 
 abbrev pub IsMadeIf : Option (ℕ × Access) → Type 0
 IsMadeIf None = Unit {0}

@@ -1,23 +1,22 @@
--- internal
--- What the seat of a cog has to do with the history.
-use Rattle.std.specs.Prelude.{ℕ, ◌≡◌, List, Option, Some}
+-- What a life and what it has said last have to do with the history of its cog.
+use Rattle.std.specs.Prelude.{ℕ, ◌≡◌, List, Some}
 use Rattle.p8_access.specs.declared.kinds.Origin.TheVariants.{Pasm, Spin}
 use Rattle.p8_access.specs.declared.kinds.Access.{Access}
 use Rattle.p8_access.specs.declared.order.Turn.{Turn}
-use Rattle.p8_access.specs.Lives.{Entered, Begun, SpinBegun}
+use Rattle.p8_access.specs.declared.lives.Next.{Next}
+use Rattle.p8_access.specs.Lives.{Entered, Begun, SpinBegun, Tells}
 use Rattle.p8_history.specs.declared.states.CogState.{CogState}
 use Rattle.p8_history.specs.declared.states.CogState.TheVariants.{Stopped, Starting, Running}
 use Rattle.p8_history.specs.Worlds.{World}
 use Rattle.p8_history.specs.Histories.{begun, since_begin}
-use Rattle.p8_machine.specs.Pending.{Pends}
 
-module _ (asked : Begun → List Turn → ℕ → Access → Type 0) (stands : Begun → List Turn → Type 0) (next : Option (ℕ × Access)) (w : World) (past : List Turn) (n : ℕ) where
-  -- a seat's life is that of its running cog, and its next access is that of the life
+module _ (asked : Begun → List Turn → ℕ → Access → Type 0) (stands : Begun → List Turn → Type 0) (said : Next) (w : World) (past : List Turn) (n : ℕ) where
+  -- the life is that of the running cog, and what it has said is true of it
   pub record Sits : Type 0 where
     pub life : Begun
     pub began : begun w past n ≡ Some life
     pub stood : stands life (since_begin past n)
-    pub pends : Pends (asked life (since_begin past n)) w.clocks next
+    pub told : Tells (asked life (since_begin past n)) w.clocks said
 
   -- a cog that runs Spin has no life here
   pub record RunsSpin : Type 0 where

@@ -1,9 +1,8 @@
 // The turn that a cog has next.
-ghost use Rattle.std.specs.Prelude.{◌≡◌, ◌<◌, ◌≤◌, ◌+◌, ◌^◌, IsTrue, ◌↔◌};
-ghost use Rattle.p8_access.specs.Windows.{window_of};
+ghost use Rattle.std.specs.Prelude.{◌≡◌, ◌<◌, ◌^◌};
 ghost use Rattle.p8_access.specs.Proper.{IsProper};
 ghost use Rattle.p8_history.specs.Histories.{first_access as first_access_of};
-ghost use Rattle.p8_machine.specs.Dues.{IsEarlier, IsStartClock};
+ghost use Rattle.p8_machine.specs.Fronts.{IsStartClock};
 
 use p8_access::{Access, Key, Origin, Reason, window};
 
@@ -18,7 +17,7 @@ pub struct Due {
 /// The greatest address at which the 496 longs of a cog stand below $8000.
 pub const LAST_CODE: u16 = 0x8000 - 4 * 496;
 
-/// The first access of a cog that was started.
+/// The first access of a cog that was started: a Load for PASM whose 496 longs stand below $8000.
 #[inline]
 pub fn first_access(origin: Origin) -> Access
     ensures access { result ≡ first_access_of origin }
@@ -53,18 +52,4 @@ pub fn start_clock(cog: u8, since: u64, until: u64) -> Option<u64>
         return None;
     }
     Some(clock)
-}
-
-/// Whether a clock, if there is one, comes before the first so far.
-#[inline]
-pub fn is_earlier(clock: Option<u64>, first: Option<u64>) -> bool
-    ensures { IsTrue result ↔ IsEarlier clock first }
-{
-    match clock {
-        None => false,
-        Some(clock) => match first {
-            None => true,
-            Some(first) => clock < first,
-        },
-    }
 }

@@ -1,24 +1,29 @@
 // One cog of the machine: its life, and what that has said.
-ghost use Rattle.std.specs.Prelude.{◌≡◌, ◌<◌, ◌≤◌, ◌^◌, ◌∷◌, ◌++◌, [], ℕ, List, Option, Some, None, length, IfOk, IfSome};
+ghost use Rattle.std.specs.Prelude.{◌≡◌, ◌<◌, ◌≤◌, ◌^◌, ◌∷◌, ◌++◌, [], ℕ, List, Option, Some, None, IfOk, IfSome};
 ghost use Rattle.p8_access.specs.declared.order.Turn.{Turn};
 ghost use Rattle.p8_access.specs.declared.kinds.Access.{Access};
-ghost use Rattle.p8_access.specs.Lives.{Begun, PasmBegun, IsMade, IsAnnounced};
+ghost use Rattle.p8_access.specs.declared.kinds.Origin.TheVariants.{Pasm};
+ghost use Rattle.p8_access.specs.Lives.{Begun, IsMade, IsAnnounced};
 ghost use Rattle.p8_access.specs.Proper.{Fits};
+ghost use Rattle.p8_access.specs.Windows.{IsWindow};
+ghost use Rattle.p8_history.specs.Worlds.{World};
+ghost use Rattle.p8_history.specs.Histories.{begun_at};
+ghost use Rattle.p8_lives.specs.Lives.{IsStartable};
 ghost use Rattle.p8_machine.specs.Pending.{Pends, IsMadeIf, is_prop-IsMadeIf};
 ghost use Rattle.std.proofs.Props.{props};
 
-use p8_access::{Access, Life, Next, Turn};
-use p8_cog::Cog;
+use p8_access::{Access, Life, Next, Origin, Turn};
+use p8_lives::CogLife;
 use p8_words::NoMemory;
 use std::alloc::Global;
 
 /// A cog's place in the machine. Its memory is taken before the run and serves one life after another.
 #[derive(Drop)]
 pub struct Seat {
-    pub life: Cog,
+    pub life: CogLife,
     /// The next access of the life and its earliest clock, where there is one below the limit.
     pub next: Option<(u64, Access)>,
-    ghost announced: { ⟦<Cog as Life>⟧.announced life ≡ next },
+    ghost announced: { ⟦<CogLife as Life>⟧.announced life ≡ next },
     ghost made: { IsMadeIf next } by { is_prop-IsMadeIf next },
     ghost below: { IfSome next (λ first. first.0 < 2 ^ 61) } by { Prim.hlevel props },
 }
@@ -45,13 +50,12 @@ fn next_of<L: Life>(life: &mut L, until: u64) -> Option<(u64, Access)>
 
 impl Seat {
     /// The place of a cog that nothing has begun in.
-    pub fn new(alloc: Global, longs: &[u32], cog: u8) -> Result<Seat, NoMemory>
-        requires longs { length longs.now ≡ 496 }
-        requires cog { cog < 8 }
-        ensures cog { IfOk result (λ seat. ⟦<Cog as Life>⟧.cog seat.life ≡ cog) }
+    pub fn new(alloc: Global, cog: u8) -> Result<Seat, NoMemory>
+        requires { cog < 8 }
+        ensures { IfOk result (λ seat. ⟦<CogLife as Life>⟧.cog seat.life ≡ cog) }
     {
         Ok(Seat {
-            life: Cog::start(alloc, longs, 0, cog, 0)?,
+            life: CogLife::new(alloc, cog)?,
             next: None,
         })
     }
@@ -59,25 +63,26 @@ impl Seat {
     /// Asks the life for its next access below the clock `until`.
     fn ask(&mut self, until: u64)
         requires { until < 2 ^ 61 }
-        ensures keeps { (b : Begun) (ts : List Turn) → ⟦<Cog as Life>⟧.stands self.old.life b ts → ⟦<Cog as Life>⟧.stands self.new.life b ts }
-        ensures pends { (b : Begun) (ts : List Turn) → ⟦<Cog as Life>⟧.stands self.old.life b ts → Pends (⟦<Cog as Life>⟧.asked b ts) until self.new.next }
-        ensures cog { ⟦<Cog as Life>⟧.cog self.new.life ≡ ⟦<Cog as Life>⟧.cog self.old.life }
+        ensures keeps { (b : Begun) (ts : List Turn) → ⟦<CogLife as Life>⟧.stands self.old.life b ts → ⟦<CogLife as Life>⟧.stands self.new.life b ts }
+        ensures pends { (b : Begun) (ts : List Turn) → ⟦<CogLife as Life>⟧.stands self.old.life b ts → Pends (⟦<CogLife as Life>⟧.asked b ts) until self.new.next }
+        ensures cog { ⟦<CogLife as Life>⟧.cog self.new.life ≡ ⟦<CogLife as Life>⟧.cog self.old.life }
     {
         self.next = next_of(&mut self.life, until);
     }
 
-    /// A new life begins with these longs and this value of PAR. Its first instruction comes at the
-    /// clock `begin`, and it is asked for its first access below the clock `until`.
-    pub fn begin(&mut self, longs: &[u32], par: u16, cog: u8, begin: u64, until: u64)
-        requires longs { length longs.now ≡ 496 }
+    /// A new life begins with this origin. Its first turn is at the clock `first`, and it is asked for its
+    /// first access below the clock `until`.
+    pub fn begin(&mut self, origin: Origin, cog: u8, first: u64, until: u64)
+        requires origin { IsStartable origin }
         requires cog { cog < 8 }
-        requires begin { begin < 2 ^ 62 }
+        requires window { IsWindow cog first }
+        requires first { first < 2 ^ 62 }
         requires until { until < 2 ^ 61 }
-        ensures stands { ⟦<Cog as Life>⟧.stands self.new.life (PasmBegun (record { longs = longs.now; par = par; cog = cog; begin = begin })) [] }
-        ensures pends { Pends (⟦<Cog as Life>⟧.asked (PasmBegun (record { longs = longs.now; par = par; cog = cog; begin = begin })) []) until self.new.next }
-        ensures cog { ⟦<Cog as Life>⟧.cog self.new.life ≡ cog }
+        ensures stands { (w : World) (code par : ℕ) → origin ≡ Pasm code par → ⟦<CogLife as Life>⟧.stands self.new.life (begun_at w cog first (Pasm code par)) [] }
+        ensures pends { (w : World) (code par : ℕ) → origin ≡ Pasm code par → Pends (⟦<CogLife as Life>⟧.asked (begun_at w cog first (Pasm code par)) []) until self.new.next }
+        ensures cog { ⟦<CogLife as Life>⟧.cog self.new.life ≡ cog }
     {
-        self.life.restart(longs, par, cog, begin);
+        self.life.restart(origin, cog, first);
         self.next = None;
         self.ask(until);
     }
@@ -86,13 +91,13 @@ impl Seat {
     /// `until`.
     pub fn take(&mut self, turn: &Turn, until: u64)
         requires next { IsAnnounced self.old.next turn.now }
-        requires own { turn.now.key.cog ≡ ⟦<Cog as Life>⟧.cog self.old.life }
+        requires own { turn.now.key.cog ≡ ⟦<CogLife as Life>⟧.cog self.old.life }
         requires clock { turn.now.key.clock < 2 ^ 62 }
         requires fits { Fits turn.now.access turn.now.answer }
         requires until { until < 2 ^ 61 }
-        ensures stands { (b : Begun) (ts : List Turn) → ⟦<Cog as Life>⟧.stands self.old.life b ts → ⟦<Cog as Life>⟧.stands self.new.life b (ts ++ turn.now ∷ []) }
-        ensures pends { (b : Begun) (ts : List Turn) → ⟦<Cog as Life>⟧.stands self.old.life b ts → Pends (⟦<Cog as Life>⟧.asked b (ts ++ turn.now ∷ [])) until self.new.next }
-        ensures cog { ⟦<Cog as Life>⟧.cog self.new.life ≡ ⟦<Cog as Life>⟧.cog self.old.life }
+        ensures stands { (b : Begun) (ts : List Turn) → ⟦<CogLife as Life>⟧.stands self.old.life b ts → ⟦<CogLife as Life>⟧.stands self.new.life b (ts ++ turn.now ∷ []) }
+        ensures pends { (b : Begun) (ts : List Turn) → ⟦<CogLife as Life>⟧.stands self.old.life b ts → Pends (⟦<CogLife as Life>⟧.asked b (ts ++ turn.now ∷ [])) until self.new.next }
+        ensures cog { ⟦<CogLife as Life>⟧.cog self.new.life ≡ ⟦<CogLife as Life>⟧.cog self.old.life }
     {
         self.life.take_answer(turn);
         self.next = None;

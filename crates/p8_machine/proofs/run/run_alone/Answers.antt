@@ -1,8 +1,8 @@
 use Rattle.std.proofs.Common.{◌∙◌, sym, reverse}
-use Rattle.p8_history.proofs.OneHistory.{one-history}
+use Rattle.p8_history.proofs.OneHistory.{one-history, begins-ended}
 use Rattle.p8_history.proofs.Rising.{rises}
-use Rattle.p8_cog.specs.Replay.{IsAsked}
-use Rattle.p8_cog.specs.Replaying.{one-asked, asked-first, asked-later}
+use Rattle.p8_lives.specs.Lives.{asks}
+use Rattle.p8_lives.specs.Laws.{one-asked, asked-first, asked-later}
 use Rattle.p8_machine.specs.Worlds.{world_of}
 use Rattle.p8_machine.proofs.run.run_alone.Goals as goal
 
@@ -14,8 +14,12 @@ returns-clause-ended c =
 
 pub returns-clause-only : goal.returns-clause-only
 returns-clause-only c = λ past ended.
-    one-history IsAsked (world_of c.args.boot c.args.script c.args.limits) one-asked past (reverse c.end.result.history.turns.list) ended (returns-clause-ended c)
+    one-history asks (world_of c.args.boot c.args.script c.args.limits) one-asked past (reverse c.end.result.history.turns.list) ended (returns-clause-ended c)
 
 pub returns-clause-rises : goal.returns-clause-rises
 returns-clause-rises c =
-    rises IsAsked (world_of c.args.boot c.args.script c.args.limits) one-asked asked-first asked-later (reverse c.end.result.history.turns.list) (returns-clause-ended c).legal
+    rises asks (world_of c.args.boot c.args.script c.args.limits) one-asked asked-first asked-later (reverse c.end.result.history.turns.list) (returns-clause-ended c).legal
+
+pub returns-clause-begins_each : goal.returns-clause-begins_each
+returns-clause-begins_each c = λ past legal.
+    begins-ended asks (world_of c.args.boot c.args.script c.args.limits) one-asked (reverse c.end.result.history.turns.list) past (returns-clause-ended c) legal

@@ -12,6 +12,6 @@ loop-cog-preserved c =
       own = λ n seat at.
           let there : slice_get (c.loop-cog.seats.items ++ c.in_ok-new.field-0 ∷ []) n ≡ Some seat = subst (λ (seats : List Seat). slice_get seats n ≡ Some seat) items at in
           let before : (m : ℕ) (s : Seat) → slice_get c.loop-cog.seats.items m ≡ Some s → cog_of s ≡ 0 + m = λ m s e. (let own : cog_of s ≡ m = c.loop-cog.invariant.own m s e in omega arith) in
-          let last : cog_of c.in_ok-new.field-0 ≡ 0 + length c.loop-cog.seats.items = (let own : cog_of c.in_ok-new.field-0 ≡ c.loop-cog.cog = c.in_ok-new.ensures.cog in omega (arith, c.loop-cog.invariant.length)) in
+          let last : cog_of c.in_ok-new.field-0 ≡ 0 + length c.loop-cog.seats.items = (let own : cog_of c.in_ok-new.field-0 ≡ c.loop-cog.cog = c.in_ok-new.ensures in omega (arith, c.loop-cog.invariant.length)) in
           (let e : cog_of seat ≡ 0 + n = own-push c.loop-cog.seats.items c.in_ok-new.field-0 0 before last n seat there in omega arith);
     }

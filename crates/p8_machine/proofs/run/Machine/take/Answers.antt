@@ -1,21 +1,21 @@
-use Rattle.std.proofs.Common.{◌∙◌, ap, sym, subst, ◌<◌, length, arith}
-use Rattle.p8_hub.specs.Standing.{HubValue, IsHub}
-use Rattle.p8_machine.specs.declared.seats.Seats.{Seats}
-use Rattle.p8_machine.specs.declared.outcome.Limits.{Limits}
+use Rattle.std.proofs.Common.{sym, subst, ℕ, ◌<◌, ◌∷◌, length, arith}
+use Rattle.p8_access.specs.declared.order.Turn.{Turn}
+use Rattle.p8_history.specs.Hub.{cog_state}
+use Rattle.p8_hub.specs.Standing.{IsHub}
+use Rattle.p8_lives.specs.Lives.{asks}
+use Rattle.p8_machine.specs.Dues.{turn_of}
+use Rattle.p8_machine.specs.Fronts.{IsFrontIn}
 use Rattle.p8_machine.proofs.Taking.{seated-after}
+use Rattle.p8_machine.proofs.Stepping.{step-stands}
 use Rattle.p8_machine.proofs.run.Machine.take.Goals as goal
 
-pub returns-clause-seated : goal.returns-clause-seated
-returns-clause-seated c = λ w past n seat limit stands due_turn at.
+pub returns-clause-stands : goal.returns-clause-stands
+returns-clause-stands c = λ w past limit stands ready extends.
     let within : c.args.due.key.cog < length c.args.self.now.seats.seats.items = omega (arith, c.args.self.now.seats.eight, c.requires.suits.cog) in
-    let hub : IsHub w past c.prepare.new.self.hub = subst (λ (h : HubValue). IsHub w past h) (sym c.prepare.ensures.hub) stands.hub_is in
-    let hub_is = c.answer-answer.ensures.stands w past hub in
-    seated-after w past c.args.self.now.hub c.answer-answer.new.self c.args.self.now.seats.seats.items c.prepare.new.self.seats.seats.items c.settle.new.self.seats.seats.items c.args.due c.answer-answer.result stands due_turn within c.requires.suits.made hub_is
-    _ _ limit (limit ∙ sym (ap (λ (l : Limits). l.clocks) c.prepare.ensures.limits))
-    (λ since code par s starting load state room there. c.prepare.ensures.begins w past since code par s starting load stands.hub_is state room there)
-    c.prepare.ensures.others
-    (λ running. ap (λ (s : Seats). s.seats.items) (c.prepare.ensures.running running))
-    (λ origin before s running state was there. c.settle.ensures.takes w _ origin before s running hub_is state was there)
-    c.settle.ensures.others
-    (λ starting. ap (λ (s : Seats). s.seats.items) (c.settle.ensures.starting starting))
-    n seat at
+    let turn : Turn = turn_of c.args.due c.answer-answer.result in
+    let hub : IsHub w (turn ∷ past) c.answer-answer.new.self = c.answer-answer.ensures.stands w past stands.hub_is in
+    step-stands asks w past c.args.self.now.hub c.answer-answer.new.self c.args.self.now.seats.seats.items c.settle.new.self.seats.items c.args.self.now.fronts c.settle-2.new.self turn stands extends c.requires.suits.cog c.requires.suits.proper c.answer-answer.ensures.fits hub
+    (seated-after asks w past c.args.self.now.hub c.answer-answer.new.self c.args.self.now.seats.seats.items c.settle.new.self.seats.items c.args.self.now.fronts c.args.due c.answer-answer.result stands ready c.requires.suits.cog within c.requires.suits.made c.args.self.now.limits.clocks limit c.state-state.result (c.state-state.ensures w (turn ∷ past) hub) c.settle.ensures.takes (c.settle.ensures.begins w) c.settle.ensures.others)
+    (λ n seat at.
+    subst (λ (l : ℕ). IsFrontIn c.settle-2.new.self n l (cog_state w (turn ∷ past) n) seat.next) (sym limit)
+    (c.settle-2.ensures.fronts w past n seat hub at (λ differ. subst (λ (l : ℕ). IsFrontIn c.args.self.now.fronts n l (cog_state w past n) seat.next) limit (stands.fronted n seat (c.settle.ensures.others n seat differ at)))))

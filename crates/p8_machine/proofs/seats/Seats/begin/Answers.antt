@@ -1,7 +1,9 @@
 -- The seats with one in which a life has begun.
 use Rattle.std.proofs.Common.{◌≡◌, ◌∙◌, sym, subst}
 use Rattle.std.proofs.lemmas.List.{length-set}
-use Rattle.p8_access.specs.Lives.{PasmBegun}
+use Rattle.p8_access.specs.declared.kinds.Origin.TheVariants.{Pasm}
+use Rattle.p8_history.specs.Histories.{begun_at}
+use Rattle.p8_lives.specs.Lives.{asks}
 use Rattle.p8_machine.specs.declared.seat.Seat.{Seat}
 use Rattle.p8_machine.specs.Places.{Begins}
 use Rattle.p8_machine.proofs.Rows.{set-there, set-else, own-set}
@@ -9,14 +11,14 @@ use Rattle.p8_machine.proofs.seats.Seats.begin.Goals as goal
 
 pub invariant_of-self : goal.invariant_of-self
 invariant_of-self c = record {
-  eight = length-set c.args.self.now.seats.items c.args.cog c.begin.new.self ∙ c.args.self.now.eight;
-  own = own-set c.args.self.now.seats.items c.args.cog c.begin.new.self c.args.self.now.own c.begin.ensures.cog;
+  eight = length-set c.args.self.now.seats.items c.args.key.cog c.begin.new.self ∙ c.args.self.now.eight;
+  own = own-set c.args.self.now.seats.items c.args.key.cog c.begin.new.self c.args.self.now.own c.begin.ensures.cog;
 }
 
-pub returns-clause-others : goal.returns-clause-others
-returns-clause-others c = λ n seat differ at. set-else c.args.self.now.seats.items c.args.cog n c.begin.new.self seat differ at
-
-pub returns-clause-begins : goal.returns-clause-begins
-returns-clause-begins c = λ seat at.
-    let new : seat ≡ c.begin.new.self = set-there c.args.self.now.seats.items c.args.cog c.begin.new.self seat at in
-    subst (λ (s : Seat). Begins s (PasmBegun (record { longs = c.args.longs.now; par = c.args.par; cog = c.args.cog; begin = c.args.begin })) c.args.until) (sym new) (c.begin.ensures.stands, c.begin.ensures.pends)
+pub returns-then-may_begin : goal.returns-then-may_begin
+returns-then-may_begin c = record {
+  begins = λ w code par seat is startable window at.
+      (let new : seat ≡ c.begin.new.self = set-there c.args.self.now.seats.items c.args.key.cog c.begin.new.self seat at in
+      subst (λ (s : Seat). Begins asks s (begun_at w c.args.key.cog c.args.key.clock (Pasm code par)) c.args.until) (sym new) (c.begin.ensures.stands w code par is, c.begin.ensures.pends w code par is));
+  others = λ n seat differ at. set-else c.args.self.now.seats.items c.args.key.cog n c.begin.new.self seat differ at;
+}
