@@ -1,3 +1,5 @@
 mod Digits
+mod Pairs
+mod LineText
 mod Ranges
 mod LineEnds

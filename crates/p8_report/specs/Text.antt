@@ -14,8 +14,9 @@ use Rattle.p8_access.specs.declared.kinds.Reason.TheVariants.{Opcode, Register, 
 use Rattle.p8_access.specs.declared.kinds.Access.{Access}
 use Rattle.p8_access.specs.declared.kinds.Access.TheVariants.{Begin, Load, Read, Write, CogId, CogInit, CogStop, LockNew, LockRet, LockSet, LockClr, ClkSet, PinsIn, OutSet, DirSet, Wait, Clock, Halt}
 use Rattle.p8_access.specs.declared.kinds.Answer.{Answer}
-use Rattle.p8_access.specs.declared.kinds.Answer.TheVariants.{Value, Number, Was}
+use Rattle.p8_access.specs.declared.kinds.Answer.TheVariants.{Number, Was}
 use Rattle.p8_access.specs.declared.order.Turn.{Turn}
+use Rattle.p8_access.specs.Proper.{value_of}
 use Rattle.p8_history.specs.declared.states.CogState.{CogState}
 use Rattle.p8_history.specs.declared.states.CogState.TheVariants.{Stopped, Starting, Running}
 use Rattle.p8_history.specs.Worlds.{World}
@@ -23,11 +24,7 @@ use Rattle.p8_history.specs.Hub.{byte_at, is_taken, is_set, cog_state, origin_of
 use Rattle.p8_history.specs.Pins.{dira, outputs}
 use Rattle.p8_report.specs.Numerals.{hex}
 
--- the value, the number or the previous state in an answer
-abbrev pub value_of : Answer → ℕ
-value_of (Value value) = value
-value_of _ = 0
-
+-- the number or the previous state in an answer
 abbrev pub number_text : Answer → List ℕ
 number_text (Number (Some n)) = decimal n
 number_text _ = codes "none"

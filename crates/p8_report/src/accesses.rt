@@ -1,232 +1,213 @@
-// The text of an access with its answer.
-ghost use Rattle.std.specs.Prelude.{◌≡◌, ◌++◌, ◌≤◌, codes, OnOk};
+// The text of an access with its answer, in a line.
+ghost use Rattle.std.specs.Prelude.{◌≡◌, ◌≤◌, ◌+◌, ◌++◌, codes, length, take};
 ghost use Rattle.std.specs.Fmt.{decimal};
 ghost use Rattle.p8_report.specs.Numerals.{hex};
 ghost use Rattle.p8_report.specs.Text.{number_text, previous_text, width_text, digits_of, code_of, parameter_of, kind_text, test_text, reason_text, access_text};
 
-use crate::numerals::push_decimal;
-use crate::phrases::{push_longs, push_numbered, push_text, push_word};
-use crate::words::{code_in, digit_count, kind_name, parameter_in, value_in, width_name};
+use crate::line::{
+    LINE, write_byte, write_decimal, write_long, write_number, write_text, write_word,
+};
+use crate::numerals::register_digits;
+use crate::words::{code_in, kind_name, parameter_in, value_in};
 use p8_access::{Access, Answer, Origin, Reason, Test, Width};
-use p8_words::NoMemory;
 
-/// A word, and where a cog's code begins, with PAR or the frame.
-fn push_origin(out: &mut Vec<u8>, word: &[u8], origin: &Origin) -> Result<(), NoMemory>
-    ensures { OnOk result (out.new.items ≡ out.old.items ++ (word.now ++ hex 4 (code_of origin.now) ++ codes " " ++ hex 4 (parameter_of origin.now))) }
+/// A text, and where a cog's code begins, with PAR or the frame.
+fn write_origin(line: &mut [u8; LINE], at: usize, text: &[u8], origin: &Origin) -> usize
+    requires { at + length text.now + 9 ≤ 64 }
+    ensures end { result ≡ at + length text.now + 9 }
+    ensures text { take result line.new ≡ take at line.old ++ (text.now ++ hex 4 (code_of origin.now) ++ codes " " ++ hex 4 (parameter_of origin.now)) }
 {
-    push_word(out, word, 4, code_in(origin) as u32)?;
-    push_word(out, b" ", 4, parameter_in(origin) as u32)
+    let at = write_word(line, at, text, code_in(origin) as u32);
+    write_word(line, at, b" ", parameter_in(origin) as u32)
 }
 
 /// A read or a write: its word, its width, the address, and the value in the digits of the width.
-fn push_move(
-    out: &mut Vec<u8>,
+#[inline(always)]
+fn write_move(
+    line: &mut [u8; LINE],
+    at: usize,
     word: &[u8],
     width: Width,
     address: u16,
     value: u32,
-) -> Result<(), NoMemory>
-    ensures { OnOk result (out.new.items ≡ out.old.items ++ (word.now ++ width_text width ++ codes " " ++ hex 4 address ++ codes " " ++ hex (digits_of width) value)) }
+) -> usize
+    requires { at + length word.now + 18 ≤ 64 }
+    ensures end { result ≤ at + length word.now + 18 }
+    ensures text { take result line.new ≡ take at line.old ++ (word.now ++ width_text width ++ codes " " ++ hex 4 address ++ codes " " ++ hex (digits_of width) value) }
 {
-    push_text(out, word)?;
-    push_text(out, width_name(width))?;
-    push_word(out, b" ", 4, address as u32)?;
-    push_word(out, b" ", digit_count(width), value)
+    let at = write_text(line, at, word);
+    match width {
+        Width::Byte => {
+            let at = write_word(line, at, b"byte ", address as u32);
+            write_byte(line, at, b" ", value)
+        }
+        Width::Word => {
+            let at = write_word(line, at, b"word ", address as u32);
+            write_word(line, at, b" ", value)
+        }
+        Width::Long => {
+            let at = write_word(line, at, b"long ", address as u32);
+            write_long(line, at, b" ", value)
+        }
+    }
+}
+
+/// A word, and the number of a cog or a lock.
+fn write_numbered(line: &mut [u8; LINE], at: usize, word: &[u8], number: u8) -> usize
+    requires { at + length word.now + 3 ≤ 64 }
+    ensures end { result ≤ at + length word.now + 3 }
+    ensures text { take result line.new ≡ take at line.old ++ (word.now ++ decimal number) }
+{
+    let at = write_text(line, at, word);
+    write_number(line, at, number)
 }
 
 /// The number of a cog or a lock in an answer, or `none`.
-fn push_number(out: &mut Vec<u8>, word: &[u8], answer: Answer) -> Result<(), NoMemory>
-    ensures { OnOk result (out.new.items ≡ out.old.items ++ (word.now ++ number_text answer)) }
+fn write_answered(line: &mut [u8; LINE], at: usize, word: &[u8], answer: Answer) -> usize
+    requires { at + length word.now + 4 ≤ 64 }
+    ensures end { result ≤ at + length word.now + 4 }
+    ensures text { take result line.new ≡ take at line.old ++ (word.now ++ number_text answer) }
 {
-    push_text(out, word)?;
+    let at = write_text(line, at, word);
     match answer {
-        Answer::Number(Some(number)) => push_decimal(out, number as u64),
+        Answer::Number(Some(number)) => write_number(line, at, number),
         Answer::Number(None) | Answer::Done | Answer::Value(_) | Answer::Was(_) => {
-            push_text(out, b"none")
+            write_text(line, at, b"none")
         }
     }
 }
 
 /// A start of a cog: which one, the kind of its code, and where that begins.
-fn push_start(out: &mut Vec<u8>, origin: &Origin, answer: Answer) -> Result<(), NoMemory>
-    ensures { OnOk result (out.new.items ≡ out.old.items ++ (codes "coginit " ++ number_text answer ++ codes " " ++ kind_text origin.now ++ codes " " ++ hex 4 (code_of origin.now) ++ codes " " ++ hex 4 (parameter_of origin.now))) }
+fn write_start(line: &mut [u8; LINE], at: usize, origin: &Origin, answer: Answer) -> usize
+    requires { at + 27 ≤ 64 }
+    ensures end { result ≤ at + 27 }
+    ensures text { take result line.new ≡ take at line.old ++ (codes "coginit " ++ number_text answer ++ codes " " ++ kind_text origin.now ++ codes " " ++ hex 4 (code_of origin.now) ++ codes " " ++ hex 4 (parameter_of origin.now)) }
 {
-    push_number(out, b"coginit ", answer)?;
-    push_text(out, b" ")?;
-    push_text(out, kind_name(origin))?;
-    push_origin(out, b" ", origin)
+    let at = write_answered(line, at, b"coginit ", answer);
+    let at = write_text(line, at, b" ");
+    let at = write_text(line, at, kind_name(origin));
+    write_origin(line, at, b" ", origin)
 }
 
 /// A word, a lock, and the lock's previous state, 0 or 1.
-fn push_lock(out: &mut Vec<u8>, word: &[u8], lock: u8, answer: Answer) -> Result<(), NoMemory>
-    ensures { OnOk result (out.new.items ≡ out.old.items ++ (word.now ++ decimal lock ++ codes " " ++ previous_text answer)) }
+fn write_lock(line: &mut [u8; LINE], at: usize, word: &[u8], lock: u8, answer: Answer) -> usize
+    requires { at + length word.now + 5 ≤ 64 }
+    ensures end { result ≤ at + length word.now + 5 }
+    ensures text { take result line.new ≡ take at line.old ++ (word.now ++ decimal lock ++ codes " " ++ previous_text answer) }
 {
-    push_numbered(out, word, lock as u64)?;
-    push_text(out, b" ")?;
+    let at = write_numbered(line, at, word, lock);
+    let at = write_text(line, at, b" ");
     match answer {
-        Answer::Was(true) => push_text(out, b"1"),
+        Answer::Was(true) => write_text(line, at, b"1"),
         Answer::Was(false) | Answer::Done | Answer::Value(_) | Answer::Number(_) => {
-            push_text(out, b"0")
+            write_text(line, at, b"0")
         }
     }
 }
 
+/// The number that a cog is told for its own.
+fn write_cog_id(line: &mut [u8; LINE], at: usize, number: u32) -> usize
+    requires { at + 16 ≤ 64 }
+    ensures end { result ≤ at + 16 }
+    ensures text { take result line.new ≡ take at line.old ++ (codes "cogid " ++ decimal number) }
+{
+    let at = write_text(line, at, b"cogid ");
+    write_decimal(line, at, number)
+}
+
+/// A word and two longs.
+fn write_longs(line: &mut [u8; LINE], at: usize, word: &[u8], first: u32, second: u32) -> usize
+    requires { at + length word.now + 17 ≤ 64 }
+    ensures end { result ≡ at + length word.now + 17 }
+    ensures text { take result line.new ≡ take at line.old ++ (word.now ++ hex 8 first ++ codes " " ++ hex 8 second) }
+{
+    let at = write_long(line, at, word, first);
+    write_long(line, at, b" ", second)
+}
+
 /// What a wait waits for.
-fn push_test(out: &mut Vec<u8>, test: Test) -> Result<(), NoMemory>
-    ensures { OnOk result (out.new.items ≡ out.old.items ++ test_text test) }
+fn write_test(line: &mut [u8; LINE], at: usize, test: Test) -> usize
+    requires { at + 25 ≤ 64 }
+    ensures end { result ≤ at + 25 }
+    ensures text { take result line.new ≡ take at line.old ++ test_text test }
 {
     match test {
-        Test::Count { target } => push_word(out, b"waitcnt ", 8, target),
-        Test::PinsEqual { state, mask } => push_longs(out, b"waitpeq ", state, mask),
-        Test::PinsDiffer { state, mask } => push_longs(out, b"waitpne ", state, mask),
+        Test::Count { target } => write_long(line, at, b"waitcnt ", target),
+        Test::PinsEqual { state, mask } => write_longs(line, at, b"waitpeq ", state, mask),
+        Test::PinsDiffer { state, mask } => write_longs(line, at, b"waitpne ", state, mask),
     }
+}
+
+/// A register, in three digits.
+fn write_register(line: &mut [u8; LINE], at: usize, register: u16) -> usize
+    requires { at + 12 ≤ 64 }
+    ensures end { result ≡ at + 12 }
+    ensures text { take result line.new ≡ take at line.old ++ (codes "register " ++ hex 3 register) }
+{
+    let at = write_text(line, at, b"register ");
+    write_text(line, at, &register_digits(register as u32))
 }
 
 /// Why a cog halted.
-fn push_reason(out: &mut Vec<u8>, reason: Reason) -> Result<(), NoMemory>
-    ensures { OnOk result (out.new.items ≡ out.old.items ++ reason_text reason) }
+fn write_reason(line: &mut [u8; LINE], at: usize, reason: Reason) -> usize
+    requires { at + 15 ≤ 64 }
+    ensures end { result ≤ at + 15 }
+    ensures text { take result line.new ≡ take at line.old ++ reason_text reason }
 {
     match reason {
-        Reason::Opcode(long) => push_word(out, b"opcode ", 8, long),
-        Reason::Register(register) => push_word(out, b"register ", 3, register as u32),
-        Reason::Rom(address) => push_word(out, b"rom ", 4, address as u32),
-        Reason::Byte(address) => push_word(out, b"byte ", 4, address as u32),
-        Reason::Deep => push_text(out, b"deep"),
-        Reason::Stack => push_text(out, b"stack"),
-        Reason::Under => push_text(out, b"under"),
-        Reason::Table => push_text(out, b"table"),
-        Reason::Port => push_text(out, b"port"),
-        Reason::Reset => push_text(out, b"reset"),
+        Reason::Opcode(long) => write_long(line, at, b"opcode ", long),
+        Reason::Register(register) => write_register(line, at, register),
+        Reason::Rom(address) => write_word(line, at, b"rom ", address as u32),
+        Reason::Byte(address) => write_word(line, at, b"byte ", address as u32),
+        Reason::Deep => write_text(line, at, b"deep"),
+        Reason::Stack => write_text(line, at, b"stack"),
+        Reason::Under => write_text(line, at, b"under"),
+        Reason::Table => write_text(line, at, b"table"),
+        Reason::Port => write_text(line, at, b"port"),
+        Reason::Reset => write_text(line, at, b"reset"),
     }
 }
 
-/// Appends an access with its answer; `own` is what the cog that made it was started with.
-pub fn push_access(
-    out: &mut Vec<u8>,
+/// Writes an access with its answer; `own` is what the cog that made it was started with.
+#[inline(always)]
+pub fn write_access(
+    line: &mut [u8; LINE],
+    at: usize,
     own: &Origin,
     access: &Access,
     answer: Answer,
-) -> Result<(), NoMemory>
-    ensures { OnOk result (out.new.items ≡ out.old.items ++ access_text own.now access.now answer) }
+) -> usize
+    requires { at + 27 ≤ 64 }
+    ensures end { result ≤ at + 27 }
+    ensures text { take result line.new ≡ take at line.old ++ access_text own.now access.now answer }
 {
     match *access {
-        Access::Begin => push_origin(out, b"begin ", own),
-        Access::Load => push_word(out, b"load ", 4, code_in(own) as u32),
+        Access::Begin => write_origin(line, at, b"begin ", own),
+        Access::Load => write_word(line, at, b"load ", code_in(own) as u32),
         Access::Read { width, address } => {
-            push_move(out, b"rd", width, address, value_in(answer))
+            write_move(line, at, b"rd", width, address, value_in(answer))
         }
         Access::Write {
             width,
             address,
             value,
-        } => push_move(out, b"wr", width, address, value),
-        Access::CogId => push_numbered(out, b"cogid ", value_in(answer) as u64),
-        Access::CogInit { origin, .. } => push_start(out, &origin, answer),
-        Access::CogStop { cog } => push_numbered(out, b"cogstop ", cog as u64),
-        Access::LockNew => push_number(out, b"locknew ", answer),
-        Access::LockRet { lock } => push_numbered(out, b"lockret ", lock as u64),
-        Access::LockSet { lock } => push_lock(out, b"lockset ", lock, answer),
-        Access::LockClr { lock } => push_lock(out, b"lockclr ", lock, answer),
-        Access::ClkSet { mode } => push_word(out, b"clkset ", 2, mode as u32),
-        Access::PinsIn => push_word(out, b"ina ", 8, value_in(answer)),
-        Access::OutSet { value } => push_word(out, b"outa ", 8, value),
-        Access::DirSet { value } => push_word(out, b"dira ", 8, value),
-        Access::Wait { test } => push_test(out, test),
-        Access::Clock => push_word(out, b"cnt ", 8, value_in(answer)),
+        } => write_move(line, at, b"wr", width, address, value),
+        Access::CogId => write_cog_id(line, at, value_in(answer)),
+        Access::CogInit { origin, .. } => write_start(line, at, &origin, answer),
+        Access::CogStop { cog } => write_numbered(line, at, b"cogstop ", cog),
+        Access::LockNew => write_answered(line, at, b"locknew ", answer),
+        Access::LockRet { lock } => write_numbered(line, at, b"lockret ", lock),
+        Access::LockSet { lock } => write_lock(line, at, b"lockset ", lock, answer),
+        Access::LockClr { lock } => write_lock(line, at, b"lockclr ", lock, answer),
+        Access::ClkSet { mode } => write_byte(line, at, b"clkset ", mode as u32),
+        Access::PinsIn => write_long(line, at, b"ina ", value_in(answer)),
+        Access::OutSet { value } => write_long(line, at, b"outa ", value),
+        Access::DirSet { value } => write_long(line, at, b"dira ", value),
+        Access::Wait { test } => write_test(line, at, test),
+        Access::Clock => write_long(line, at, b"cnt ", value_in(answer)),
         Access::Halt { reason } => {
-            push_text(out, b"halt ")?;
-            push_reason(out, reason)
+            let at = write_text(line, at, b"halt ");
+            write_reason(line, at, reason)
         }
-    }
-}
-
-#[cfg(test)]
-mod tests {
-    use super::*;
-    use std::test::Fail;
-
-    const PASM: Origin = Origin::Pasm { code: 12, par: 0 };
-
-    const SPIN: Origin = Origin::Spin {
-        entry: 0x3A,
-        pbase: 16,
-        vbase: 84,
-        frame: 0x50,
-        size: 4,
-    };
-
-    const fn start(origin: Origin) -> Access {
-        Access::CogInit {
-            target: None,
-            origin,
-        }
-    }
-
-    /// Each access of a worked history, with its answer, has the text that stands there.
-    #[test]
-    fn worked_accesses(rt: HostRuntime) -> Result<(), Fail> {
-        let byte = Access::Read {
-            width: Width::Byte,
-            address: 0x2E,
-        };
-        let word = Access::Write {
-            width: Width::Word,
-            address: 0x1000,
-            value: 3,
-        };
-        let pins = Test::PinsDiffer { state: 1, mask: 1 };
-        let long = Reason::Opcode(0x10BC0000);
-        let rows: [(Access, Answer, &[u8]); 16] = [
-            (Access::Begin, Answer::Done, b"begin 003A 0050"),
-            (Access::Load, Answer::Done, b"load 003A"),
-            (byte, Answer::Value(0xFC), b"rdbyte 002E FC"),
-            (word, Answer::Done, b"wrword 1000 0003"),
-            (
-                start(PASM),
-                Answer::Number(Some(1)),
-                b"coginit 1 pasm 000C 0000",
-            ),
-            (
-                start(PASM),
-                Answer::Number(None),
-                b"coginit none pasm 000C 0000",
-            ),
-            (
-                start(SPIN),
-                Answer::Number(Some(1)),
-                b"coginit 1 spin 003A 0050",
-            ),
-            (Access::LockNew, Answer::Number(None), b"locknew none"),
-            (Access::LockRet { lock: 2 }, Answer::Done, b"lockret 2"),
-            (
-                Access::LockSet { lock: 2 },
-                Answer::Was(false),
-                b"lockset 2 0",
-            ),
-            (
-                Access::LockClr { lock: 2 },
-                Answer::Was(true),
-                b"lockclr 2 1",
-            ),
-            (Access::ClkSet { mode: 0x59 }, Answer::Done, b"clkset 59"),
-            (Access::PinsIn, Answer::Value(0), b"ina 00000000"),
-            (Access::Clock, Answer::Value(0x44BB), b"cnt 000044BB"),
-            (
-                Access::Wait { test: pins },
-                Answer::Done,
-                b"waitpne 00000001 00000001",
-            ),
-            (
-                Access::Halt { reason: long },
-                Answer::Done,
-                b"halt opcode 10BC0000",
-            ),
-        ];
-        for (access, answer, text) in rows {
-            let mut out = Vec::new(rt.alloc());
-            push_access(&mut out, &SPIN, &access, answer)?;
-            assert_eq!(rt; out.as_slice(), text);
-        }
-        Ok(())
     }
 }

@@ -9,8 +9,8 @@ ghost use Rattle.p8_hub.specs.Standing.{IsHub};
 ghost use Rattle.p8_report.specs.Numerals.{hex};
 ghost use Rattle.p8_report.specs.Text.{dump_line, dump_text};
 
-use crate::numerals::push_hex;
-use crate::phrases::{push_text, push_word};
+use crate::numerals::word_digits;
+use crate::phrases::{push_byte, push_text};
 use p8_hub::Hub;
 use p8_words::NoMemory;
 
@@ -20,7 +20,7 @@ fn push_bytes(out: &mut Vec<u8>, hub: &Hub, address: u16, count: u16) -> Result<
     ensures { OnOk result ((w : World) (past : List Turn) → IsHub w past hub.now → out.new.items ≡ out.old.items ++ flat_map (λ i. 32 ∷ hex 2 (byte_at w past (address + i))) (range_with_len 0 count)) }
 {
     for i in 0..count {
-        push_word(out, b" ", 2, hub.byte(address + i) as u32)?;
+        push_byte(out, b" ", hub.byte(address + i) as u32)?;
     }
     Ok(())
 }
@@ -30,7 +30,7 @@ fn push_dump_line(out: &mut Vec<u8>, hub: &Hub, address: u16, count: u16) -> Res
     requires { address + count ≤ 32768 }
     ensures { OnOk result ((w : World) (past : List Turn) → IsHub w past hub.now → out.new.items ≡ out.old.items ++ dump_line w past address count) }
 {
-    push_hex(out, 4, address as u32)?;
+    push_text(out, &word_digits(address as u32))?;
     push_text(out, b":")?;
     push_bytes(out, hub, address, count)?;
     push_text(out, b"\n")

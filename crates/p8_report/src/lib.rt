@@ -4,6 +4,7 @@
 mod accesses;
 mod dump;
 mod history_text;
+mod line;
 mod lines;
 mod numerals;
 mod origins;

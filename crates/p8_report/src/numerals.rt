@@ -1,50 +1,63 @@
 // Numbers in print.
-ghost use Rattle.std.specs.Prelude.{◌≡◌, ◌++◌, ◌<◌, ◌≤◌, OnOk};
-ghost use Rattle.std.specs.Fmt.{decimal};
-ghost use Rattle.p8_report.specs.Numerals.{glyph as glyph_of, hex};
+ghost use Rattle.std.specs.Prelude.{◌≡◌, ◌∷◌, []};
+ghost use Rattle.p8_report.specs.Numerals.{hex};
 
-use itoa::Buffer;
-use p8_words::NoMemory;
+/// The bytes from 0 to 255, in two hexadecimal digits each.
+static PAIRS: [u8; 512] = *b"000102030405060708090A0B0C0D0E0F101112131415161718191A1B1C1D1E1F\
+      202122232425262728292A2B2C2D2E2F303132333435363738393A3B3C3D3E3F\
+      404142434445464748494A4B4C4D4E4F505152535455565758595A5B5C5D5E5F\
+      606162636465666768696A6B6C6D6E6F707172737475767778797A7B7C7D7E7F\
+      808182838485868788898A8B8C8D8E8F909192939495969798999A9B9C9D9E9F\
+      A0A1A2A3A4A5A6A7A8A9AAABACADAEAFB0B1B2B3B4B5B6B7B8B9BABBBCBDBEBF\
+      C0C1C2C3C4C5C6C7C8C9CACBCCCDCECFD0D1D2D3D4D5D6D7D8D9DADBDCDDDEDF\
+      E0E1E2E3E4E5E6E7E8E9EAEBECEDEEEFF0F1F2F3F4F5F6F7F8F9FAFBFCFDFEFF";
 
-/// The hexadecimal digit of a number below 16, in capitals.
-#[inline]
-fn glyph(digit: u32) -> u8
-    requires { digit < 16 }
-    ensures { result ≡ glyph_of digit }
+/// The last two hexadecimal digits of a number, in capitals.
+#[inline(always)]
+fn pair(value: u32) -> (u8, u8)
+    ensures { result.0 ∷ result.1 ∷ [] ≡ hex 2 value }
 {
-    let digit = digit as u8;
-    if digit < 10 {
-        b'0' + digit
-    } else {
-        b'A' - 10 + digit
-    }
+    let from = 2 * (value % 256) as usize;
+    (PAIRS[from], PAIRS[from + 1])
 }
 
-/// Appends the last digits of a number, in hexadecimal: `width` of them, at most 8.
-#[inline]
-pub fn push_hex(out: &mut Vec<u8>, width: usize, value: u32) -> Result<(), NoMemory>
-    requires { width ≤ 8 }
-    ensures { OnOk result (out.new.items ≡ out.old.items ++ hex width value) }
+/// The last two hexadecimal digits of a number.
+#[inline(always)]
+pub fn byte_digits(value: u32) -> [u8; 2]
+    ensures { result ≡ hex 2 value }
 {
-    let first = 8 - width;
-    let mut digits = [0; 8];
-    let mut at = 8;
-    let mut left = value;
-    while at > first {
-        at -= 1;
-        digits[at] = glyph(left % 16);
-        left /= 16;
-    }
-    out.extend_from_slice(&digits[first..])?;
-    Ok(())
+    let (high, low) = pair(value);
+    [high, low]
 }
 
-/// Appends a number in decimal digits, without leading zeros.
-#[inline]
-pub fn push_decimal(out: &mut Vec<u8>, value: u64) -> Result<(), NoMemory>
-    ensures { OnOk result (out.new.items ≡ out.old.items ++ decimal value) }
+/// The last four hexadecimal digits of a number.
+#[inline(always)]
+pub fn word_digits(value: u32) -> [u8; 4]
+    ensures { result ≡ hex 4 value }
 {
-    let mut buffer = Buffer::new();
-    out.extend_from_slice(buffer.format(value).as_bytes())?;
-    Ok(())
+    let (a, b) = pair(value / 0x100);
+    let (c, d) = pair(value);
+    [a, b, c, d]
+}
+
+/// The last three hexadecimal digits of a number.
+#[inline(always)]
+pub fn register_digits(value: u32) -> [u8; 3]
+    ensures { result ≡ hex 3 value }
+{
+    let (_, b) = pair(value / 0x100);
+    let (c, d) = pair(value);
+    [b, c, d]
+}
+
+/// The eight hexadecimal digits of a long.
+#[inline(always)]
+pub fn long_digits(value: u32) -> [u8; 8]
+    ensures { result ≡ hex 8 value }
+{
+    let (a, b) = pair(value / 0x100_0000);
+    let (c, d) = pair(value / 0x1_0000);
+    let (e, f) = pair(value / 0x100);
+    let (g, h) = pair(value);
+    [a, b, c, d, e, f, g, h]
 }

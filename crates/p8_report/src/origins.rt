@@ -45,10 +45,10 @@ impl Origins {
 
     /// The origin of a cog.
     #[inline]
-    pub fn of_cog(&self, cog: u8) -> Origin
-        ensures { (w : World) (past : List Turn) → AreOrigins w past self.now → result ≡ origin_of (cog_state w past cog) }
+    pub fn of_cog(&self, cog: u8) -> &Origin
+        ensures { (w : World) (past : List Turn) → AreOrigins w past self.now → result.now ≡ origin_of (cog_state w past cog) }
     {
-        self.of_cogs[cog as usize]
+        &self.of_cogs[cog as usize]
     }
 
     /// Takes note of a turn.

@@ -119,21 +119,3 @@ pub fn push_tail(out: &mut Vec<u8>, count: u64, limit: u64, hub: &Hub) -> Result
     push_pins(out, hub)?;
     push_cogs(out, hub)
 }
-
-#[cfg(test)]
-mod tests {
-    use super::*;
-
-    #[test]
-    fn letters_of_locks(rt: HostRuntime) {
-        let rows = [
-            (false, false, b'.'),
-            (false, true, b's'),
-            (true, false, b'N'),
-            (true, true, b'S'),
-        ];
-        for (taken, set, letter) in rows {
-            assert_eq!(rt; lock_letter(taken, set), letter);
-        }
-    }
-}

@@ -1,8 +1,9 @@
 // What the texts of accesses are made of.
-ghost use Rattle.std.specs.Prelude.{◌≡◌, ◌≤◌};
-ghost use Rattle.p8_report.specs.Text.{value_of, width_text, digits_of, code_of, parameter_of, kind_text};
+ghost use Rattle.std.specs.Prelude.{◌≡◌, length};
+ghost use Rattle.p8_access.specs.Proper.{value_of};
+ghost use Rattle.p8_report.specs.Text.{code_of, parameter_of, kind_text};
 
-use p8_access::{Answer, Origin, Width};
+use p8_access::{Answer, Origin};
 
 /// The value in an answer, or 0 where it has none.
 #[inline]
@@ -15,35 +16,11 @@ pub fn value_in(answer: Answer) -> u32
     }
 }
 
-/// The name of a width.
-#[inline]
-pub fn width_name(width: Width) -> &'static [u8]
-    ensures { result.now ≡ width_text width }
-{
-    match width {
-        Width::Byte => b"byte",
-        Width::Word => b"word",
-        Width::Long => b"long",
-    }
-}
-
-/// How many hexadecimal digits a value of a width has.
-#[inline]
-pub fn digit_count(width: Width) -> usize
-    ensures exact { result ≡ digits_of width }
-    ensures few { result ≤ 8 }
-{
-    match width {
-        Width::Byte => 2,
-        Width::Word => 4,
-        Width::Long => 8,
-    }
-}
-
 /// What kind of code a cog is started with.
 #[inline]
 pub fn kind_name(origin: &Origin) -> &'static [u8]
-    ensures { result.now ≡ kind_text origin.now }
+    ensures name { result.now ≡ kind_text origin.now }
+    ensures length { length result.now ≡ 4 }
 {
     match origin {
         Origin::Pasm { .. } => b"pasm",

@@ -19,27 +19,28 @@ fn make(hub: &mut Hub, turns: &mut Turns, clock: u64, access: Access)
     });
 }
 
-/// The first turns of a program that writes 42 to $0100, asks for its number and stops.
-fn ended(alloc: Global, count: u64, limit: u64) -> Result<Ended, NoMemory> {
+/// The history of a program that writes 42 to $0100, asks for its number and stops, as if its load were one read.
+fn ended(alloc: Global) -> Result<Ended, NoMemory> {
     let boot = Boot::raw(alloc, &[])?;
     let mut hub = Hub::open(alloc, &boot)?;
-    let mut turns = Turns::new(alloc, 4)?;
-    if count > 0 {
-        let write = Access::Write {
-            width: Width::Long,
-            address: 0x100,
-            value: 42,
-        };
-        make(&mut hub, &mut turns, 16, Access::Load);
-        make(&mut hub, &mut turns, 8224, write);
-    }
-    if count > 2 {
-        make(&mut hub, &mut turns, 8240, Access::CogId);
-        make(&mut hub, &mut turns, 8256, Access::CogStop { cog: 0 });
-    }
+    let mut turns = Turns::new(alloc, 5)?;
+    let read = Access::Read {
+        width: Width::Long,
+        address: 0,
+    };
+    let write = Access::Write {
+        width: Width::Long,
+        address: 0x100,
+        value: 42,
+    };
+    make(&mut hub, &mut turns, 16, Access::Load);
+    make(&mut hub, &mut turns, 32, read);
+    make(&mut hub, &mut turns, 8224, write);
+    make(&mut hub, &mut turns, 8240, Access::CogId);
+    make(&mut hub, &mut turns, 8256, Access::CogStop { cog: 0 });
     let limits = Limits {
         clocks: 10000,
-        turns: limit,
+        turns: 1000000,
     };
     Ok(Ended {
         history: History {
@@ -52,42 +53,16 @@ fn ended(alloc: Global, count: u64, limit: u64) -> Result<Ended, NoMemory> {
     })
 }
 
-const OTHERS: &[u8] = b"cog 1 stopped\ncog 2 stopped\ncog 3 stopped\ncog 4 stopped\n\
-    cog 5 stopped\ncog 6 stopped\ncog 7 stopped\n";
+const TEXT: &[u8] = b"16 0 load 0000\n32 0 rdlong 0000 00000000\n8224 0 wrlong 0100 0000002A\n\
+    8240 0 cogid 0\n8256 0 cogstop 0\nended clocks 5\nlocks ........\npins 00000000 00000000\n\
+    cog 0 stopped\ncog 1 stopped\ncog 2 stopped\ncog 3 stopped\ncog 4 stopped\ncog 5 stopped\n\
+    cog 6 stopped\ncog 7 stopped\n\
+    00F8: 00 00 00 00 00 00 00 00 2A 00 00 00 00 00 00 00\n0108: 00\n";
 
-/// Worked histories: no turn, as many turns as the limit, and all turns, with a dump of 17 bytes.
+/// A worked history, with a dump of 17 bytes.
 #[test]
-fn worked_histories(rt: HostRuntime) -> Result<(), Fail> {
-    let rows: [(u64, u64, Option<(u16, u16)>, &[u8], &[u8]); 3] = [
-        (
-            0,
-            4,
-            None,
-            b"ended clocks 0\nlocks ........\npins 00000000 00000000\ncog 0 starting pasm\n",
-            b"",
-        ),
-        (
-            2,
-            2,
-            None,
-            b"16 0 load 0000\n8224 0 wrlong 0100 0000002A\nended turns 2\n\
-            locks ........\npins 00000000 00000000\ncog 0 running pasm\n",
-            b"",
-        ),
-        (
-            4,
-            1000000,
-            Some((0xF8, 17)),
-            b"16 0 load 0000\n8224 0 wrlong 0100 0000002A\n8240 0 cogid 0\n\
-            8256 0 cogstop 0\nended clocks 4\nlocks ........\n\
-            pins 00000000 00000000\ncog 0 stopped\n",
-            b"00F8: 00 00 00 00 00 00 00 00 2A 00 00 00 00 00 00 00\n0108: 00\n",
-        ),
-    ];
-    for (count, limit, dump, first, last) in rows {
-        let text = trace(rt.alloc(), &ended(rt.alloc(), count, limit)?, dump)?;
-        let expected = [first, OTHERS, last].concat(rt.alloc())?;
-        assert_eq!(rt; text.as_slice(), expected.as_slice());
-    }
+fn a_worked_history(rt: HostRuntime) -> Result<(), Fail> {
+    let text = trace(rt.alloc(), &ended(rt.alloc())?, Some((0xF8, 17)))?;
+    assert_eq!(rt; text.as_slice(), TEXT);
     Ok(())
 }
