@@ -3,8 +3,8 @@ use Rattle.std.proofs.Common.{◌≡◌, ◌∙◌, ap, sym, subst, refl, arith,
 use Rattle.p8_history.specs.Worlds.{Line, World}
 use Rattle.p8_history.proofs.OneHistory.{one-history}
 use Rattle.p8_access.specs.declared.order.Turn.{Turn}
-use Rattle.p8_cog.specs.Replay.{IsAsked}
-use Rattle.p8_cog.specs.Replaying.{one-asked}
+use Rattle.p8_lives.specs.Lives.{asks}
+use Rattle.p8_lives.specs.Laws.{one-asked}
 use Rattle.p8_report.specs.Text.{text_of}
 use Rattle.p8_pins.specs.Scripts.{IsReadAs, IsFault}
 use Rattle.p8_pins.proofs.Scripting.{read-same, read-not_bad}
@@ -12,7 +12,7 @@ use Rattle.p8_io.specs.Shelves.{Files, IsRead, AreStartOf}
 use Rattle.p8_prop.specs.declared.status.Status.{Status}
 use Rattle.p8_prop.specs.declared.status.Status.TheVariants.{Ok as Done, Usage, Refused, ShelfFault, Missing, SinkFault, NoMemory, BadImage, BadScript}
 use Rattle.p8_prop.specs.Commands.{Command, Raw, Options}
-use Rattle.p8_prop.specs.Verdicts.{world_of, IsTrace, IsImage, IsScriptFor, IsAskedFor, IsMissing, HasLength, HasBadLine, Outside, outside, Answers, IsDue, IsComplete, HasOneText}
+use Rattle.p8_prop.specs.Verdicts.{world_of, IsTrace, IsImage, IsScriptFor, IsAskedFor, IsMissing, HasLength, HasBadLine, Outside, outside, Answers, IsDue, IsComplete, HasOneDue, HasOneText}
 
 start-one : (file : Option (List ℕ)) (a b : List ℕ) → AreStartOf file a → AreStartOf file b → a ≡ b
 start-one None a b p q = absurd p
@@ -27,7 +27,7 @@ some-not_none e = cc
 
 trace-one : (w : World) (dump : Option (ℕ × ℕ)) (a b : List ℕ) → IsTrace w dump a → IsTrace w dump b → a ≡ b
 trace-one w dump a b p q =
-    let past : p.0 ≡ q.0 = one-history IsAsked w one-asked p.0 q.0 p.1 q.1 in
+    let past : p.0 ≡ q.0 = one-history asks w one-asked p.0 q.0 p.1 q.1 in
     p.2 ∙ ap (λ (turns : List Turn). text_of w turns dump) past ∙ sym q.2
 
 module _ (files : List ℕ → Option (List ℕ)) where
@@ -137,6 +137,36 @@ due-one-of : (o : Outside) (files : List ℕ → Option (List ℕ)) (command : C
 due-one-of o files (Raw file clocks options) a b told =
     subst (λ (f : Files). IsDue (outside f o.shelf_before o.shelf_now o.out_before o.out_now o.taken_before o.taken_now) (Some (Raw file clocks options)) a → IsDue (outside f o.shelf_before o.shelf_now o.out_before o.out_now o.taken_before o.taken_now) (Some (Raw file clocks options)) b → a ≡ b) (sym told)
     (due-one files o.shelf_before o.shelf_now file clocks options o.out_before o.out_now o.taken_before o.taken_now a b)
+
+-- words that are no command have one status
+due-none : (o : Outside) (a b : Status) → IsDue o None a → IsDue o None b → a ≡ b
+due-none o Usage Usage p q = refl
+due-none o Done b p q = absurd p.1
+due-none o Missing b p q = absurd (elim p.1.0 [
+  | inl run ↦ run
+  | inr script ↦ script
+])
+due-none o BadImage b p q = absurd p.2.1
+due-none o BadScript b p q = absurd p.2.1
+due-none o Refused b p q = absurd p
+due-none o ShelfFault b p q = absurd p
+due-none o SinkFault b p q = absurd p
+due-none o NoMemory b p q = absurd p
+due-none o a Done p q = absurd q.1
+due-none o a Missing p q = absurd (elim q.1.0 [
+  | inl run ↦ run
+  | inr script ↦ script
+])
+due-none o a BadImage p q = absurd q.2.1
+due-none o a BadScript p q = absurd q.2.1
+due-none o a Refused p q = absurd q
+due-none o a ShelfFault p q = absurd q
+due-none o a SinkFault p q = absurd q
+due-none o a NoMemory p q = absurd q
+
+pub one-due : (o : Outside) (command : Option Command) → HasOneDue o command
+one-due o None files a b told p q = due-none o a b p q
+one-due o (Some command) files a b told p q = due-one-of o files command a b told p q
 
 -- what is answered is due, or a count rose
 pub complete : (o : Outside) (command : Command) (status : Status) → Answers o (Some command) status → IsComplete o (Some command) status

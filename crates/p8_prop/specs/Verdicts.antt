@@ -7,7 +7,7 @@ use Rattle.p8_access.specs.Boots.{ram_of}
 use Rattle.p8_history.specs.Worlds.{Line, World}
 use Rattle.p8_history.specs.Histories.{Ended}
 use Rattle.p8_pins.specs.Scripts.{IsReadAs, IsFault}
-use Rattle.p8_cog.specs.Replay.{IsAsked}
+use Rattle.p8_lives.specs.Lives.{asks}
 use Rattle.p8_report.specs.Text.{text_of}
 use Rattle.p8_io.specs.Counts.{Rose}
 use Rattle.p8_io.specs.Shelves.{Files, IsLacking, IsRead}
@@ -23,7 +23,7 @@ world_of bytes script clocks turns =
 
 -- the text of the ended history of a world, with a dump; there is one such history
 abbrev pub IsTrace : World → Option (ℕ × ℕ) → List ℕ → Type 0
-IsTrace world dump text = (past : List Turn) × Ended IsAsked world past × (text ≡ text_of world past dump)
+IsTrace world dump text = (past : List Turn) × Ended asks world past × (text ≡ text_of world past dump)
 
 -- these are the bytes of a file that fits the hub
 abbrev pub IsImage : Files → (file bytes : List ℕ) → Type 0
@@ -109,6 +109,11 @@ IsDue o command Missing = (name : List ℕ) × IsMissing o.files o.shelf_before 
 IsDue o command BadImage = (name : List ℕ) × (count : ℕ) × HasLength o.files command name count
 IsDue o command BadScript = (name : List ℕ) × (line : ℕ) × HasBadLine o.files command name line
 IsDue o command status = ⊥
+
+-- where the shelf tells its files, no two statuses are due
+abbrev pub HasOneDue : Outside → Option Command → Type 0
+HasOneDue o command =
+    (files : List ℕ → Option (List ℕ)) (a b : Status) → o.files ≡ Some files → IsDue o command a → IsDue o command b → a ≡ b
 
 -- where the shelf tells its files and its count didn't rise, nor that of the output where a text is due,
 -- the status is the one that is due, or it tells want of memory

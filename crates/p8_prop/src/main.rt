@@ -11,7 +11,9 @@ mod tests;
 mod top;
 mod words;
 
+use outcome::Outcome;
 use p8_io::{FileShelf, StdSink};
+use p8_words::NoMemory;
 use status::Status;
 use std::env;
 use std::io::ErrorKind;
@@ -20,20 +22,20 @@ use top::prop_alone;
 
 /// The words after the program's name. Where one of them isn't UTF-8 they are no command, as no words
 /// at all are none.
-fn words_of(rt: &HostRuntime) -> Result<Vec<String>, Status> {
+fn words_of(rt: &HostRuntime) -> Result<Vec<String>, NoMemory> {
     let mut words = Vec::new(rt.alloc());
     match env::args(rt) {
         Ok(args) => {
             for word in args.skip(1) {
                 match words.push(word) {
                     Ok(()) => {}
-                    Err(_) => return Err(Status::NoMemory),
+                    Err(_) => return Err(NoMemory),
                 }
             }
             Ok(words)
         }
         Err(error) => match error.kind() {
-            ErrorKind::OutOfMemory => Err(Status::NoMemory),
+            ErrorKind::OutOfMemory => Err(NoMemory),
             _ => Ok(words),
         },
     }
@@ -45,7 +47,10 @@ fn main(rt: HostRuntime) -> ExitCode {
     let mut faults = StdSink::new(rt.stderr());
     let status = match words_of(&rt) {
         Ok(words) => prop_alone(rt.alloc(), &words, &mut shelf, &mut out, &mut faults),
-        Err(status) => status,
+        Err(NoMemory) => {
+            Outcome::NoMemory.tell(&mut faults);
+            Status::NoMemory
+        }
     };
     ExitCode::from(status.code())
 }

@@ -46,7 +46,8 @@ impl<'a> Outcome<'a> {
     /// Writes the line that tells it, which is empty where all went well. The line is written as far as
     /// the sink takes it.
     pub fn tell<E: Sink>(&self, faults: &mut E)
-        ensures { Wrote (E.faults faults.old) (E.faults faults.new) (E.taken faults.old) (E.taken faults.new) (line_of self.now) }
+        ensures wrote { Wrote (E.faults faults.old) (E.faults faults.new) (E.taken faults.old) (E.taken faults.new) (line_of self.now) }
+        ensures later { E.faults faults.old ≤ E.faults faults.new }
     {
         match self {
             Outcome::Ok => {}
@@ -62,35 +63,40 @@ impl<'a> Outcome<'a> {
 
 /// Writes the line of a file that could not be read.
 fn tell_unread<E: Sink>(file: &str, faults: &mut E)
-    ensures { Wrote (E.faults faults.old) (E.faults faults.new) (E.taken faults.old) (E.taken faults.new) (codes "prop: cannot read " ++ file.now ++ 10 ∷ []) }
+    ensures wrote { Wrote (E.faults faults.old) (E.faults faults.new) (E.taken faults.old) (E.taken faults.new) (codes "prop: cannot read " ++ file.now ++ 10 ∷ []) }
+    ensures later { E.faults faults.old ≤ E.faults faults.new }
 {
     let _ = write_pieces(faults, &[b"prop: cannot read ", file.as_bytes(), b"\n"]);
 }
 
 /// Writes the line of a file that doesn't exist.
 fn tell_missing<E: Sink>(file: &str, faults: &mut E)
-    ensures { Wrote (E.faults faults.old) (E.faults faults.new) (E.taken faults.old) (E.taken faults.new) (codes "prop: " ++ file.now ++ codes " is missing" ++ 10 ∷ []) }
+    ensures wrote { Wrote (E.faults faults.old) (E.faults faults.new) (E.taken faults.old) (E.taken faults.new) (codes "prop: " ++ file.now ++ codes " is missing" ++ 10 ∷ []) }
+    ensures later { E.faults faults.old ≤ E.faults faults.new }
 {
     let _ = write_pieces(faults, &[b"prop: ", file.as_bytes(), b" is missing", b"\n"]);
 }
 
 /// Writes the line of a text that could not be written.
 fn tell_unwritten<E: Sink>(faults: &mut E)
-    ensures { Wrote (E.faults faults.old) (E.faults faults.new) (E.taken faults.old) (E.taken faults.new) (codes "prop: cannot write" ++ 10 ∷ []) }
+    ensures wrote { Wrote (E.faults faults.old) (E.faults faults.new) (E.taken faults.old) (E.taken faults.new) (codes "prop: cannot write" ++ 10 ∷ []) }
+    ensures later { E.faults faults.old ≤ E.faults faults.new }
 {
     let _ = write_pieces(faults, &[b"prop: cannot write", b"\n"]);
 }
 
 /// Writes the line of want of memory.
 fn tell_no_memory<E: Sink>(faults: &mut E)
-    ensures { Wrote (E.faults faults.old) (E.faults faults.new) (E.taken faults.old) (E.taken faults.new) (codes "prop: out of memory" ++ 10 ∷ []) }
+    ensures wrote { Wrote (E.faults faults.old) (E.faults faults.new) (E.taken faults.old) (E.taken faults.new) (codes "prop: out of memory" ++ 10 ∷ []) }
+    ensures later { E.faults faults.old ≤ E.faults faults.new }
 {
     let _ = write_pieces(faults, &[b"prop: out of memory", b"\n"]);
 }
 
 /// Writes the line of a file that has too many bytes.
 fn tell_length<E: Sink>(file: &str, length: usize, faults: &mut E)
-    ensures { Wrote (E.faults faults.old) (E.faults faults.new) (E.taken faults.old) (E.taken faults.new) (codes "prop: " ++ file.now ++ codes ": length " ++ decimal length ++ 10 ∷ []) }
+    ensures wrote { Wrote (E.faults faults.old) (E.faults faults.new) (E.taken faults.old) (E.taken faults.new) (codes "prop: " ++ file.now ++ codes ": length " ++ decimal length ++ 10 ∷ []) }
+    ensures later { E.faults faults.old ≤ E.faults faults.new }
 {
     let mut digits = Buffer::new();
     let _ = write_pieces(
@@ -107,7 +113,8 @@ fn tell_length<E: Sink>(file: &str, length: usize, faults: &mut E)
 
 /// Writes the line of a pin script with a bad line.
 fn tell_bad_line<E: Sink>(file: &str, line: u32, faults: &mut E)
-    ensures { Wrote (E.faults faults.old) (E.faults faults.new) (E.taken faults.old) (E.taken faults.new) (codes "prop: " ++ file.now ++ codes ": line " ++ decimal line ++ 10 ∷ []) }
+    ensures wrote { Wrote (E.faults faults.old) (E.faults faults.new) (E.taken faults.old) (E.taken faults.new) (codes "prop: " ++ file.now ++ codes ": line " ++ decimal line ++ 10 ∷ []) }
+    ensures later { E.faults faults.old ≤ E.faults faults.new }
 {
     let mut digits = Buffer::new();
     let _ = write_pieces(

@@ -117,6 +117,8 @@ fn text_for<'a, S: Shelf>(
     requires { IsWithin command }
     ensures text { IfOk result (λ text. IsAskedFor (S.files shelf.old) (Some (seen command.entry)) text.items) }
     ensures refused { IfErr result (HasNoText (S.files shelf.old) (S.faults shelf.old) (S.faults shelf.new) (seen command.entry)) }
+    ensures later { S.faults shelf.old ≤ S.faults shelf.new }
+    ensures kept { S.files shelf.new ≡ S.files shelf.old }
 {
     let image = image_in(alloc, command.file, shelf)?;
     let script = script_for(alloc, command.options.script, shelf)?;
@@ -138,7 +140,10 @@ pub fn raw<'a, S: Shelf, K: Sink>(
     out: &mut K,
 ) -> Outcome<'a>
     requires { IsWithin command }
-    ensures { Ends (outside (S.files shelf.old) (S.faults shelf.old) (S.faults shelf.new) (K.faults out.old) (K.faults out.new) (K.taken out.old) (K.taken out.new)) (seen command.entry) result }
+    ensures ends { Ends (outside (S.files shelf.old) (S.faults shelf.old) (S.faults shelf.new) (K.faults out.old) (K.faults out.new) (K.taken out.old) (K.taken out.new)) (seen command.entry) result }
+    ensures kept { S.files shelf.new ≡ S.files shelf.old }
+    ensures shelf_later { S.faults shelf.old ≤ S.faults shelf.new }
+    ensures out_later { K.faults out.old ≤ K.faults out.new }
 {
     match text_for(alloc, command, shelf) {
         Ok(text) => match out.write(&text) {

@@ -2,7 +2,7 @@
 ghost use Rattle.std.specs.Prelude.{◌≡◌, ◌≤◌, map, string_bytes, Some};
 ghost use Rattle.p8_prop.specs.Commands.{command_of};
 ghost use Rattle.p8_prop.specs.Seen.{seen, IsWithin};
-ghost use Rattle.p8_prop.specs.Verdicts.{Answers, TellsLine, IsComplete, HasOneText, outside};
+ghost use Rattle.p8_prop.specs.Verdicts.{Answers, TellsLine, IsComplete, HasOneDue, HasOneText, outside};
 
 use crate::raw::raw;
 use crate::status::Status;
@@ -25,8 +25,9 @@ const USAGE: &[u8] =
 /// decimal digits, at least 1, with A + N at most 32,768.
 ///
 /// It waits for nobody and always returns. The words are looked at first, then the file, then the pin
-/// script; then the run is made, and then its trace is written. Every status but `Ok` is told by one line on
-/// `faults`, and before the text is written nothing goes to `out`:
+/// script; then the run is made, and then its trace is written. The shelf's files stay as they were, and no
+/// count of faults falls. Every status but `Ok` is told by one line on `faults`, and before the text is
+/// written nothing goes to `out`:
 ///
 /// - `Usage` exactly where the words are no command;
 /// - `ShelfFault` only where the shelf has counted a fault;
@@ -45,9 +46,17 @@ pub fn prop_alone<S: Shelf, K: Sink, E: Sink>(
     ensures answers { Answers (outside (S.files shelf.old) (S.faults shelf.old) (S.faults shelf.new) (K.faults out.old) (K.faults out.new) (K.taken out.old) (K.taken out.new)) (command_of (map string_bytes words.now)) result }
     ensures tells { TellsLine (outside (S.files shelf.old) (S.faults shelf.old) (S.faults shelf.new) (K.faults out.old) (K.faults out.new) (K.taken out.old) (K.taken out.new)) (command_of (map string_bytes words.now)) result (E.faults faults.old) (E.faults faults.new) (E.taken faults.old) (E.taken faults.new) }
 
-    // Where the shelf tells its files, no two statuses can be due, and one text is asked for.
+    // Where the shelf tells its files, no two statuses are due, the one that is due is answered, and one text
+    // is asked for.
+    ensures one_due { HasOneDue (outside (S.files shelf.old) (S.faults shelf.old) (S.faults shelf.new) (K.faults out.old) (K.faults out.new) (K.taken out.old) (K.taken out.new)) (command_of (map string_bytes words.now)) }
     ensures complete { IsComplete (outside (S.files shelf.old) (S.faults shelf.old) (S.faults shelf.new) (K.faults out.old) (K.faults out.new) (K.taken out.old) (K.taken out.new)) (command_of (map string_bytes words.now)) result }
     ensures one_text { HasOneText (S.files shelf.old) (command_of (map string_bytes words.now)) }
+
+    // The shelf keeps its files, and no count falls.
+    ensures kept { S.files shelf.new ≡ S.files shelf.old }
+    ensures shelf_later { S.faults shelf.old ≤ S.faults shelf.new }
+    ensures out_later { K.faults out.old ≤ K.faults out.new }
+    ensures faults_later { E.faults faults.old ≤ E.faults faults.new }
 {
     match command_in(words) {
         None => {
@@ -69,6 +78,10 @@ fn carried_out<'a, S: Shelf, K: Sink, E: Sink>(
     requires { IsWithin command }
     ensures answers { Answers (outside (S.files shelf.old) (S.faults shelf.old) (S.faults shelf.new) (K.faults out.old) (K.faults out.new) (K.taken out.old) (K.taken out.new)) (Some (seen command.entry)) result }
     ensures tells { TellsLine (outside (S.files shelf.old) (S.faults shelf.old) (S.faults shelf.new) (K.faults out.old) (K.faults out.new) (K.taken out.old) (K.taken out.new)) (Some (seen command.entry)) result (E.faults faults.old) (E.faults faults.new) (E.taken faults.old) (E.taken faults.new) }
+    ensures kept { S.files shelf.new ≡ S.files shelf.old }
+    ensures shelf_later { S.faults shelf.old ≤ S.faults shelf.new }
+    ensures out_later { K.faults out.old ≤ K.faults out.new }
+    ensures faults_later { E.faults faults.old ≤ E.faults faults.new }
 {
     let outcome = raw(alloc, command, shelf, out);
     outcome.tell(faults);
