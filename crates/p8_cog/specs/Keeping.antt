@@ -9,7 +9,7 @@ use Rattle.p8_access.specs.declared.order.Turn.{Turn}
 use Rattle.p8_access.specs.declared.lives.Next.{Next}
 use Rattle.p8_access.specs.declared.lives.Next.TheVariants.{At, Quiet, More}
 use Rattle.p8_access.specs.Proper.{value_of}
-use Rattle.p8_access.specs.Lives.{Loaded, Begun, PasmBegun, SpinBegun, is_last, has_ended, Tells, IsOnTime, IsTurnAt, IsAnnounced, announced_by, IsThorough, IsNear, Spends}
+use Rattle.p8_access.specs.Lives.{Loaded, Begun, PasmBegun, SpinBegun, has_ended, Tells, IsOnTime, IsAnnounced, announced_by, IsThorough, IsNear, Spends}
 use Rattle.p8_cog.specs.declared.state.State.{State}
 use Rattle.p8_cog.specs.declared.ending.Ending.TheVariants.{Ended, Whole}
 use Rattle.p8_cog.specs.declared.progress.Had.{Had}

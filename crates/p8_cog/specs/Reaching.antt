@@ -1,5 +1,5 @@
 -- internal: how far a course goes, and how it ends. No public contract cites it.
-use Rattle.std.proofs.Common.{◌≡◌, ℕ, zero, suc, ◌+◌, ◌<◌, ◌≤◌, ◌^◌, Bool, true, false, List, [], ◌∷◌, ◌++◌, Option, Some, None, refl, sym, ◌∙◌, ap, subst, arith, nat_le, ◌||◌, if◌then◌else◌}
+use Rattle.std.proofs.Common.{◌≡◌, ℕ, ◌+◌, ◌<◌, ◌≤◌, ◌^◌, Bool, true, false, List, [], ◌∷◌, ◌++◌, Option, Some, None, refl, sym, ◌∙◌, ap, subst, arith, nat_le, ◌||◌, if◌then◌else◌}
 use Rattle.p8_access.specs.declared.kinds.Access.{Access}
 use Rattle.p8_access.specs.declared.kinds.Access.TheVariants.{Wait, OutSet, DirSet}
 use Rattle.p8_access.specs.declared.order.Turn.{Turn}
@@ -14,7 +14,7 @@ use Rattle.p8_cog.specs.declared.hub.Request.{Request}
 use Rattle.p8_cog.specs.declared.state.State.{State}
 use Rattle.p8_cog.specs.declared.progress.Had.{Had}
 use Rattle.p8_cog.specs.Instructions.{djnz, kind_of, source_access}
-use Rattle.p8_cog.specs.Replay.{Course, Ask, Go, End, ask, at_hand, destination_value, source_value, sourced_by, sourced, answered, test_of, wait_effect, effect, jumps, computed, compute, result_access, written_by, ends_after, hub_request, ask_hub, use_hub, is_port_wait, wait, does, instruction, played, Outcome, Asks, Goes, Ends, step}
+use Rattle.p8_cog.specs.Replay.{Course, Ask, Go, End, ask, at_hand, destination_value, source_value, sourced_by, sourced, answered, test_of, wait_effect, effect, jumps, computed, compute, result_access, written_by, ends_after, hub_request, ask_hub, use_hub, is_port_wait, wait, does, instruction, played, Outcome, Asks, Goes, Ends}
 use Rattle.p8_cog.specs.Standing.{turns_of, clock_in}
 use Rattle.p8_cog.specs.Stops.{IsFrom, left_of, latest, is_asking, IsHalf, Comes}
 use Rattle.p8_cog.specs.Replaying.{if-holds, source-holds, result-holds, behind_hub, behind_wait, whole-in, came}

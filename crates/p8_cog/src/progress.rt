@@ -2,7 +2,7 @@
 ghost use Rattle.std.specs.Prelude.{ℕ, nat_lt, if◌then◌else◌, ◌≡◌, ◌<◌, ◌≤◌, ◌+◌, ◌*◌, ◌%◌, ◌^◌, ◌++◌, ◌∷◌, [], true};
 ghost use Rattle.p8_access.specs.declared.lives.Next.TheVariants.{At, Quiet};
 ghost use Rattle.p8_access.specs.Lives.{IsMadeNext};
-ghost use Rattle.p8_cog.specs.declared.progress.Had.TheVariants.{Nothing, Two};
+ghost use Rattle.p8_cog.specs.declared.progress.Had.TheVariants.{Nothing, One, Two};
 ghost use Rattle.p8_cog.specs.declared.stage.Stage.TheVariants.{Loading};
 ghost use Rattle.p8_cog.specs.Replay.{Goes, instruction, played, step};
 ghost use Rattle.p8_cog.specs.Standing.{turns_of, running_at, standing_at, clock_in, clock_of};
@@ -201,16 +201,12 @@ impl Progress {
         self.begun.clock = clock + 1;
     }
 
-    /// Goes on by the turns of the instruction at hand, of which `turn` is the last; where that asks
-    /// a further access they are kept as `had`.
-    fn go_on(&mut self, cog: u8, turns: &[Turn], turn: &Turn, had: Had) -> Ending
+    /// Goes on with the instruction at hand by its first turn.
+    fn take_first(&mut self, cog: u8, turn: &Turn) -> Ending
         requires at { self.old.begun.at < 512 }
         requires cog { cog < 8 }
         requires begun { self.old.begun.clock + 1 < 2 ^ 62 }
-        requires latest { latest turns.now < 2 ^ 62 }
-        requires turns { turns.now ≡ turns_of self.old.had ++ turn.now ∷ [] }
-        requires had { turns_of had ≡ turns.now }
-        requires last { clock_in self.old.begun.clock had ≡ turn.now.key.clock }
+        requires had { self.old.had ≡ Nothing }
         requires below { turn.now.key.clock < 2 ^ 62 }
         requires comes { Comes (step cog (running_at self.old)) turn.now }
         ensures takes { Takes cog self.old turn.now self.new result }
@@ -218,7 +214,34 @@ impl Progress {
         ensures clock { clock_of self.new < 2 ^ 62 + 2 ^ 10 }
         ensures half { IsHalf cog self.new }
     {
-        match self.begun.advance(cog, turns) {
+        match self.begun.advance(cog, &[*turn]) {
+            Ending::Ended => {
+                self.close(turn.key.clock);
+                Ending::Ended
+            }
+            Ending::Whole => Ending::Whole,
+            Ending::Half { clock, access } => {
+                self.had = Had::One(*turn);
+                Ending::Half { clock, access }
+            }
+        }
+    }
+
+    /// Goes on with the instruction at hand by its second turn.
+    fn take_second(&mut self, cog: u8, first: Turn, turn: &Turn) -> Ending
+        requires at { self.old.begun.at < 512 }
+        requires cog { cog < 8 }
+        requires begun { self.old.begun.clock + 1 < 2 ^ 62 }
+        requires had { self.old.had ≡ One first }
+        requires first { first.key.clock < 2 ^ 62 }
+        requires below { turn.now.key.clock < 2 ^ 62 }
+        requires comes { Comes (step cog (running_at self.old)) turn.now }
+        ensures takes { Takes cog self.old turn.now self.new result }
+        ensures at { self.new.begun.at < 512 }
+        ensures clock { clock_of self.new < 2 ^ 62 + 2 ^ 10 }
+        ensures half { IsHalf cog self.new }
+    {
+        match self.begun.advance(cog, &[first, *turn]) {
             Ending::Ended => {
                 self.close(turn.key.clock);
                 Ending::Ended
@@ -228,7 +251,7 @@ impl Progress {
                 Ending::Whole
             }
             Ending::Half { clock, access } => {
-                self.had = had;
+                self.had = Had::Two(first, *turn);
                 Ending::Half { clock, access }
             }
         }
@@ -273,8 +296,8 @@ impl Progress {
         ensures half { IsHalf cog self.new }
     {
         match self.had {
-            Had::Nothing => self.go_on(cog, &[*turn], turn, Had::One(*turn)),
-            Had::One(first) => self.go_on(cog, &[first, *turn], turn, Had::Two(first, *turn)),
+            Had::Nothing => self.take_first(cog, turn),
+            Had::One(first) => self.take_second(cog, first, turn),
             Had::Two(first, second) => self.end_by(cog, first, second, turn),
         }
     }

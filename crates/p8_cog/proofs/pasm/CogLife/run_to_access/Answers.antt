@@ -2,9 +2,9 @@ use Rattle.std.proofs.Common.{ℕ, ◌+◌, sym, subst}
 use Rattle.p8_access.specs.Lives.{announced_by, IsThorough}
 use Rattle.p8_cog.specs.declared.stage.Stage.TheVariants.{Loading, Running}
 use Rattle.p8_cog.specs.Replay.{Begins}
-use Rattle.p8_cog.specs.Standing.{standing_at, StandsFor, clock_of}
-use Rattle.p8_cog.specs.Stops.{Announces, Stops}
-use Rattle.p8_cog.specs.Keeping.{stops-tells, stops-thorough, stops-quiet, stops-announces, announces-same, told-spends, over-tells, over-thorough, over-ended, at-stage, again-told, again, led, placed}
+use Rattle.p8_cog.specs.Standing.{standing_at, clock_of}
+use Rattle.p8_cog.specs.Stops.{Stops}
+use Rattle.p8_cog.specs.Keeping.{stops-tells, stops-thorough, stops-quiet, stops-announces, announces-same, told-spends, over-tells, over-thorough, at-stage, again-told, again, led, placed}
 use Rattle.p8_cog.proofs.pasm.CogLife.run_to_access.Goals as goal
 
 -- what a load tells stands where it is

@@ -1,8 +1,7 @@
-use Rattle.std.proofs.Common.{◌≡◌, ℕ, ◌+◌, ◌≤◌, ◌++◌, ◌∷◌, [], subst, arith}
+use Rattle.std.proofs.Common.{◌≡◌, ℕ, ◌+◌, ◌++◌, ◌∷◌, [], subst, arith}
 use Rattle.p8_cog.specs.declared.stage.Stage.TheVariants.{Loading, Over}
-use Rattle.p8_cog.specs.Replay.{step}
-use Rattle.p8_cog.specs.Standing.{running_at, clock_of}
-use Rattle.p8_cog.specs.Stops.{Comes, Loads}
+use Rattle.p8_cog.specs.Standing.{clock_of}
+use Rattle.p8_cog.specs.Stops.{Loads}
 use Rattle.p8_cog.specs.Keeping.{comes-running, comes-never, comes-read, load-holds, load-clock, load-stands, IsLoaded, announces-none, not-in-load, over-stands, whole-stands, half-stands, placed}
 use Rattle.p8_cog.proofs.pasm.CogLife.take_answer.Goals as goal
 
