@@ -1,5 +1,5 @@
 -- What one turn changes of a cog and its life.
-use Rattle.std.proofs.Common.{rules, ◌≡◌, ◌∙◌, ap, sym, refl, ℕ, ◌+◌, ◌==◌, ◌&&◌, Bool, true, false, List, [], ◌∷◌, ◌++◌, Option, Some, None, arith, inl, inr, ◌⊎◌, if◌then◌else◌}
+use Rattle.std.proofs.Common.{◌≡◌, ap, refl, ℕ, ◌==◌, ◌&&◌, Bool, true, false, List, [], ◌∷◌, ◌++◌, Some, None, arith, inl, inr, ◌⊎◌, if◌then◌else◌}
 use Rattle.std.proofs.lemmas.Bool.Decides.{nat_tests}
 use Rattle.p8_access.specs.declared.kinds.Origin.{Origin}
 use Rattle.p8_access.specs.declared.kinds.Access.{Access}
@@ -7,7 +7,7 @@ use Rattle.p8_access.specs.declared.kinds.Access.TheVariants.{Begin, Load, Read,
 use Rattle.p8_access.specs.declared.kinds.Answer.{Answer}
 use Rattle.p8_access.specs.declared.order.Turn.{Turn}
 use Rattle.p8_history.specs.Worlds.{World}
-use Rattle.p8_history.specs.Hub.{is_number, Change, Starts, Runs, Stops, change_by, cog_state, origin_of}
+use Rattle.p8_history.specs.Hub.{is_number, Change, Starts, Runs, change_by, cog_state, origin_of}
 use Rattle.p8_history.specs.Histories.{begins_life, is_begin, begun, begun_at, since_begin}
 
 -- a cog is another one, or the same

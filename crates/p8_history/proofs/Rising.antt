@@ -1,6 +1,5 @@
 -- The keys of a legal history rise.
-use Rattle.std.proofs.Common.{◌≡◌, ◌∙◌, ap, sym, subst, refl, ℕ, ◌+◌, ◌*◌, ◌<◌, ◌≤◌, ◌==◌, ◌&&◌, Bool, true, false, List, [], ◌∷◌, ◌++◌, Option, Some, None, arith, inl, inr, ◌⊎◌, if◌then◌else◌, nat_le}
-use Rattle.std.proofs.lemmas.Bool.Decides.{nat_tests}
+use Rattle.std.proofs.Common.{◌≡◌, ◌∙◌, ap, sym, subst, refl, ℕ, ◌+◌, ◌*◌, ◌<◌, ◌≤◌, ◌==◌, Bool, true, false, List, [], ◌∷◌, ◌++◌, Option, Some, None, arith, inl, inr, ◌⊎◌, if◌then◌else◌, nat_le}
 use Rattle.p8_access.specs.declared.kinds.Origin.{Origin}
 use Rattle.p8_access.specs.declared.kinds.Origin.TheVariants.{Pasm, Spin}
 use Rattle.p8_access.specs.declared.kinds.Access.{Access}
@@ -13,8 +12,8 @@ use Rattle.p8_history.specs.declared.states.CogState.{CogState}
 use Rattle.p8_history.specs.declared.states.CogState.TheVariants.{Stopped, Starting, Running}
 use Rattle.p8_history.specs.Worlds.{World}
 use Rattle.p8_access.specs.declared.kinds.Reason.TheVariants.{Rom}
-use Rattle.p8_history.specs.Hub.{is_number, Change, Starts, Runs, Stops, change_by, change_of, changed, cog_state, origin_of}
-use Rattle.p8_history.specs.Histories.{Legal, IsNext, IsNextIn, IsNextRunning, Extends, IsDue, Rises, begins_life, is_begin, begun, begun_at, since_begin, first_access}
+use Rattle.p8_history.specs.Hub.{Change, Starts, Runs, Stops, change_by, change_of, changed, cog_state, origin_of}
+use Rattle.p8_history.specs.Histories.{Legal, IsNext, IsNextIn, IsNextRunning, Extends, IsDue, Rises, begun, begun_at, since_begin, first_access}
 use Rattle.p8_history.proofs.Nexts.{other_key, due-late, due-on_time, some-injective}
 use Rattle.p8_history.proofs.Changes.{decided, same-cog, differ-cog, starts-at, runs-begins, none-begins, not-picked, begun-same, begun-new, since_begin-new, since_begin-own, since_begin-other}
 
