@@ -1,6 +1,7 @@
 -- internal: what the code's constructors stand for where they hold a vector, or may hold a box.
-use Rattle.std.specs.Prelude.{◌≡◌, ℕ, Bool, List, [], ◌∷◌, ◌++◌, Vec, Box, Option, None, Some, refl}
-use Rattle.std.proofs.Common.{ap, ◌∙◌}
+use Rattle.std.specs.Prelude.{◌≡◌, ℕ, Bool, List, [], ◌∷◌, ◌++◌, map, Vec, Box, Option, None, Some, refl}
+use Rattle.std.specs.List.{fold}
+use Rattle.std.proofs.Common.{ap, ◌∙◌, sym, append_assoc, append-nil}
 use Rattle.std.specs.declared.alloc.Global.{Global}
 use mathlib.Core.Former.{Count}
 use denote.Hole.Carrier
@@ -19,8 +20,9 @@ use Rattle.p8_tree.specs.declared.statements.Stmt.{roll-Stmt}
 use Rattle.p8_tree.specs.declared.statements.Arm as code_arm
 use Rattle.p8_tree.specs.declared.statements.Arm.{roll-Arm}
 use Rattle.p8_tree.specs.declared.statements.Loop as loop
-use Rattle.p8_tree.specs.Expressions.{node, Trees, no_trees, ◌▷◌, Items, no_items, ◌▸◌, Index, no_index, index, Call, Built, Look}
-use Rattle.p8_tree.specs.Statements.{statement, Statements, no_statements, ◌▹◌, Arms, no_arms, ◌⊳◌, arm, Otherwise, nothing_else, otherwise, If, Case, Repeat}
+use Rattle.p8_tree.specs.Expressions.{node, Tree, Item, Trees, no_trees, ◌▷◌, Items, no_items, ◌▸◌, Index, no_index, index, Call, Built, Look}
+use Rattle.p8_tree.specs.Statements.{statement, Statement, Arm, Statements, no_statements, ◌▹◌, Arms, no_arms, ◌⊳◌, arm, Otherwise, nothing_else, otherwise, If, Case, Repeat}
+use Rattle.p8_tree.specs.Lists.{tree_list, fold_trees, item_list, fold_items, arm_list, fold_arms, statement_list, fold_statements}
 use Rattle.p8_tree.specs.Views.{form_of, call_of, index_of, tree_of, trees_from, trees_after, trees_of, items_from, items_after, items_of, item_of, action_of, arm_of, otherwise_of, statement_of, statements_from, statements_after, statements_of, arms_from, arms_after, arms_of, course_of}
 
 -- one more at the end
@@ -159,3 +161,60 @@ case_is e v o =
 
 pub stmt_is : (place : Place) (k : stmt_kind.StmtKind) → statement_of (roll-Stmt (record { place = place; kind = k })) ≡ statement place (action_of k)
 stmt_is place k = refl
+
+-- The trees in their order are those of the code's list, and a fold over them is one over that list.
+pub tree_list_after : (before : Trees) (es : List expr.Expr) → tree_list (trees_after before es) ≡ tree_list before ++ map tree_of es
+tree_list_after before [] = sym (append-nil (tree_list before))
+tree_list_after before (e ∷ es) = tree_list_after (before ▷ tree_of e) es ∙ append_assoc (tree_list before) (tree_of e ∷ []) (map tree_of es)
+
+pub tree_list_of : (es : List expr.Expr) → tree_list (trees_of es) ≡ map tree_of es
+tree_list_of es = tree_list_after no_trees es
+
+pub fold_trees_after : {X : Type 0} (f : X → Tree → X) (a : X) (before : Trees) (es : List expr.Expr) → fold_trees f a (trees_after before es) ≡ fold (λ b e. f b (tree_of e)) (fold_trees f a before) es
+fold_trees_after f a before [] = refl
+fold_trees_after f a before (e ∷ es) = fold_trees_after f a (before ▷ tree_of e) es
+
+pub fold_trees_of : {X : Type 0} (f : X → Tree → X) (a : X) (es : List expr.Expr) → fold_trees f a (trees_of es) ≡ fold (λ b e. f b (tree_of e)) a es
+fold_trees_of f a es = fold_trees_after f a no_trees es
+
+pub item_list_after : (before : Items) (xs : List item.Item) → item_list (items_after before xs) ≡ item_list before ++ map item_of xs
+item_list_after before [] = sym (append-nil (item_list before))
+item_list_after before (x ∷ xs) = item_list_after (before ▸ item_of x) xs ∙ append_assoc (item_list before) (item_of x ∷ []) (map item_of xs)
+
+pub item_list_of : (xs : List item.Item) → item_list (items_of xs) ≡ map item_of xs
+item_list_of xs = item_list_after no_items xs
+
+pub fold_items_after : {X : Type 0} (f : X → Item → X) (a : X) (before : Items) (xs : List item.Item) → fold_items f a (items_after before xs) ≡ fold (λ b x. f b (item_of x)) (fold_items f a before) xs
+fold_items_after f a before [] = refl
+fold_items_after f a before (x ∷ xs) = fold_items_after f a (before ▸ item_of x) xs
+
+pub fold_items_of : {X : Type 0} (f : X → Item → X) (a : X) (xs : List item.Item) → fold_items f a (items_of xs) ≡ fold (λ b x. f b (item_of x)) a xs
+fold_items_of f a xs = fold_items_after f a no_items xs
+
+pub arm_list_after : (before : Arms) (xs : List code_arm.Arm) → arm_list (arms_after before xs) ≡ arm_list before ++ map arm_of xs
+arm_list_after before [] = sym (append-nil (arm_list before))
+arm_list_after before (x ∷ xs) = arm_list_after (before ⊳ arm_of x) xs ∙ append_assoc (arm_list before) (arm_of x ∷ []) (map arm_of xs)
+
+pub arm_list_of : (xs : List code_arm.Arm) → arm_list (arms_of xs) ≡ map arm_of xs
+arm_list_of xs = arm_list_after no_arms xs
+
+pub fold_arms_after : {X : Type 0} (f : X → Arm → X) (a : X) (before : Arms) (xs : List code_arm.Arm) → fold_arms f a (arms_after before xs) ≡ fold (λ b x. f b (arm_of x)) (fold_arms f a before) xs
+fold_arms_after f a before [] = refl
+fold_arms_after f a before (x ∷ xs) = fold_arms_after f a (before ⊳ arm_of x) xs
+
+pub fold_arms_of : {X : Type 0} (f : X → Arm → X) (a : X) (xs : List code_arm.Arm) → fold_arms f a (arms_of xs) ≡ fold (λ b x. f b (arm_of x)) a xs
+fold_arms_of f a xs = fold_arms_after f a no_arms xs
+
+pub statement_list_after : (before : Statements) (ss : List stmt.Stmt) → statement_list (statements_after before ss) ≡ statement_list before ++ map statement_of ss
+statement_list_after before [] = sym (append-nil (statement_list before))
+statement_list_after before (s ∷ ss) = statement_list_after (before ▹ statement_of s) ss ∙ append_assoc (statement_list before) (statement_of s ∷ []) (map statement_of ss)
+
+pub statement_list_of : (ss : List stmt.Stmt) → statement_list (statements_of ss) ≡ map statement_of ss
+statement_list_of ss = statement_list_after no_statements ss
+
+pub fold_statements_after : {X : Type 0} (f : X → Statement → X) (a : X) (before : Statements) (ss : List stmt.Stmt) → fold_statements f a (statements_after before ss) ≡ fold (λ b s. f b (statement_of s)) (fold_statements f a before) ss
+fold_statements_after f a before [] = refl
+fold_statements_after f a before (s ∷ ss) = fold_statements_after f a (before ▹ statement_of s) ss
+
+pub fold_statements_of : {X : Type 0} (f : X → Statement → X) (a : X) (ss : List stmt.Stmt) → fold_statements f a (statements_of ss) ≡ fold (λ b s. f b (statement_of s)) a ss
+fold_statements_of f a ss = fold_statements_after f a no_statements ss

@@ -27,6 +27,9 @@ use Rattle.p8_tree.specs.declared.sources.DatLine.{DatLine}
 use Rattle.p8_tree.specs.declared.sources.Block as block
 use Rattle.p8_tree.specs.declared.sources.Block.TheVariants as block_case
 use Rattle.p8_tree.specs.declared.sources.SourceFile.{SourceFile}
+use Rattle.p8_tree.specs.Projects.{NamedSource}
+use Rattle.p8_tree.specs.declared.projects.ProjectFile.{ProjectFile}
+use Rattle.p8_tree.specs.declared.projects.Project.{Project}
 
 abbrev mutual
   pub form_of : kind.ExprKind → Form
@@ -203,3 +206,10 @@ block_of (block_case.Dat xs) = sources.Dat (map line_of xs)
 
 abbrev pub source_of : SourceFile → Source
 source_of x = map block_of x.blocks
+
+abbrev pub named_source_of : ProjectFile → NamedSource
+named_source_of x = record { name = x.name; tree = source_of x.tree }
+
+-- the files of a project, in order
+abbrev pub named_sources_of : Project → List NamedSource
+named_sources_of x = map named_source_of x.files
