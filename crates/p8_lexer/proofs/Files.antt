@@ -14,11 +14,11 @@ use Rattle.p8_lexer.specs.declared.token.LexFault.{LexFault}
 use Rattle.p8_lexer.specs.declared.token.TokenKind.TheVariants.{Name, Number, Float, Str, Symbol, LineEnd}
 use Rattle.p8_lexer.specs.declared.refusal.Refusal.{Refusal}
 use Rattle.p8_lexer.specs.declared.refusal.Refusal.TheVariants.{BadByte, BadNumber, OpenComment, OpenString, NameTooLong, FileTooLong}
-use Rattle.p8_lexer.specs.declared.place.Place.{Place}
+use Rattle.p8_tree.specs.declared.places.Place.{Place}
 use Rattle.p8_lexer.specs.Characters.{is_utf16, units, text_of, ends_in_half}
-use Rattle.p8_lexer.specs.Places.{place_of}
+use Rattle.p8_lexer.specs.Places.{start, place_of}
 use Rattle.p8_lexer.specs.Refusals.{refusal_number}
-use Rattle.p8_lexer.specs.Lexing.{Is, Cuts, IsGood, Piece, CutsUpTo, IsStuck, token_of, AreTokens, IsRefused, IsFault}
+use Rattle.p8_lexer.specs.Lexing.{Is, Cuts, IsGood, Piece, CutsUpTo, IsStuck, token_of, longest_file, AreTokens, IsRefused, IsFault, too_long, no_tokens}
 use Rattle.p8_lexer.specs.Cutting.{IsCut, piece_tokens, fault_of}
 use Rattle.p8_lexer.proofs.Units.{units-length}
 use Rattle.p8_lexer.proofs.Pieces.{class_of, may, begins, class_at, after_mark}
@@ -240,37 +240,25 @@ stuck_stops half text r (name e (m, d, bad)) k n c g =
     let short = subst (λ k. IsGood k text n) same g in
     omega (arith, long, short, bad)
 
--- a refusal is by the length alone, or by a place
-data Way (bytes : List ℕ) (r : Refusal) (place : Place) : Type 0 where
-  too_long : r ≡ FileTooLong → 1048576 < length bytes → place ≡ record { line = 1; column = 1 } → Way bytes r place
-  stuck : length bytes ≤ 1048576 → (ps : List Piece) (at : ℕ) → CutsUpTo (text_of bytes) 0 ps at → Why (ends_in_half bytes) (drop at (text_of bytes)) r → place ≡ place_of (text_of bytes) at → Way bytes r place
-
-way : (bytes : List ℕ) (r : Refusal) (place : Place) → IsRefused bytes r place → Way bytes r place
-way bytes FileTooLong place h = too_long refl h.0 h.1
-way bytes BadByte place (short, (ps, at, cut, s, p)) = stuck short ps at cut (why BadByte (ends_in_half bytes) (drop at (text_of bytes)) s) p
-way bytes BadNumber place (short, (ps, at, cut, s, p)) = stuck short ps at cut (why BadNumber (ends_in_half bytes) (drop at (text_of bytes)) s) p
-way bytes OpenComment place (short, (ps, at, cut, s, p)) = stuck short ps at cut (why OpenComment (ends_in_half bytes) (drop at (text_of bytes)) s) p
-way bytes OpenString place (short, (ps, at, cut, s, p)) = stuck short ps at cut (why OpenString (ends_in_half bytes) (drop at (text_of bytes)) s) p
-way bytes NameTooLong place (short, (ps, at, cut, s, p)) = stuck short ps at cut (why NameTooLong (ends_in_half bytes) (drop at (text_of bytes)) s) p
-way bytes r place (short, (ps, at, cut, s, p)) = absurd s
-
-same_refusal : (bytes : List ℕ) (r q : Refusal) (a b : Place) → Way bytes r a → Way bytes q b → (r ≡ q) × (a ≡ b)
-same_refusal bytes r q a b (too_long e l p) (too_long f m s) = (e ∙ sym f, p ∙ sym s)
-same_refusal bytes r q a b (too_long e l p) (stuck short ps at cut w s) = absurd (omega arith)
-same_refusal bytes r q a b (stuck short ps at cut w s) (too_long e l p) = absurd (omega arith)
-same_refusal bytes r q a b (stuck short ps at cut w s) (stuck short' qs m cut' v t) =
+same_refusal : (bytes : List ℕ) (r q : Refusal) (a b : Place) → IsRefused bytes r a → IsRefused bytes q b → (r ≡ q) × (a ≡ b)
+same_refusal bytes r q a b (ps, at, cut, stuck, s) (qs, m, cut', stuck', t) =
     let text = text_of bytes in
     let half = ends_in_half bytes in
+    let w = why r half (drop at text) stuck in
+    let v = why q half (drop m text) stuck' in
     let same = one_way text ps qs 0 at m (stuck_stops half (drop at text) r w) (stuck_stops half (drop m text) q v) cut cut' in
     (one_reason r q half (drop at text) w (subst (λ m. Why half (drop m text) q) (sym same.1) v), s ∙ ap (place_of text) same.1 ∙ sym t)
 
 pub one_fault : (bytes : List ℕ) (f g : LexFault) → IsFault bytes f → IsFault bytes g → f ≡ g
-one_fault bytes f g (r, e, h) (q, d, k) =
-    let same = same_refusal bytes r q f.place g.place (way bytes r f.place h) (way bytes q g.place k) in
+one_fault bytes f g (too_long long n p) (too_long long' m q) = same_fault f g (n ∙ sym m) (p ∙ sym q)
+one_fault bytes f g (too_long long n p) (no_tokens short q d k) = absurd (omega arith)
+one_fault bytes f g (no_tokens short r e h) (too_long long n p) = absurd (omega arith)
+one_fault bytes f g (no_tokens short r e h) (no_tokens short' q d k) =
+    let same = same_refusal bytes r q f.place g.place h k in
     same_fault f g (e ∙ ap refusal_number same.0 ∙ sym d) same.1
 
 pub one_list : (bytes : List ℕ) (ts us : List Token) → AreTokens bytes ts → AreTokens bytes us → ts ≡ us
-one_list bytes ts us (a, b, (ps, cut, e)) (c, d, (qs, cut', f)) =
+one_list bytes ts us (a, (ps, cut, e)) (c, (qs, cut', f)) =
     let text = text_of bytes in
     let same = one_way text ps qs 0 (length text) (length text) (end_stops text) (end_stops text) cut cut' in
     e ∙ ap (filter_map (token_of bytes)) same.0 ∙ sym f
@@ -285,47 +273,44 @@ end_not_stuck r (comment e s) = omega (arith, s.0)
 end_not_stuck r (string e s) = omega (arith, s.0)
 end_not_stuck r (name e (n, c, long)) = empty_stops (TokenOf Name) n c
 
-pub never_both : (bytes : List ℕ) (tokens : List Token) (fault : LexFault) → AreTokens bytes tokens → IsFault bytes fault → ⊥
-never_both bytes tokens fault (short, whole, (ps, cut, e)) (r, d, h) = go (way bytes r fault.place h)
-  where
-    text : List ℕ
-    text = text_of bytes
+-- a file has tokens, or nothing more can be cut off it somewhere
+tokens_or_refusal : (bytes : List ℕ) (tokens : List Token) (r : Refusal) (place : Place) → AreTokens bytes tokens → IsRefused bytes r place → ⊥
+tokens_or_refusal bytes tokens r place (whole, (ps, cut, e)) (qs, m, cut', stuck, p) =
+    let text = text_of bytes in
+    let w = why r (ends_in_half bytes) (drop m text) stuck in
+    let same = one_way text ps qs 0 (length text) m (end_stops text) (stuck_stops (ends_in_half bytes) (drop m text) r w) cut cut' in
+    end_not_stuck r (subst (λ t. Why false t r) (ap (λ m. drop m text) (sym same.1) ∙ drop-length text) (subst (λ b. Why b (drop m text) r) whole w))
 
-    at_end : (m : ℕ) → m ≡ length (text_of bytes) → Why (ends_in_half bytes) (drop m (text_of bytes)) r → ⊥
-    at_end m f w = end_not_stuck r (subst (λ t. Why false t r) (ap (λ m. drop m (text_of bytes)) f ∙ drop-length (text_of bytes)) (subst (λ b. Why b (drop m (text_of bytes)) r) whole w))
-
-    go : Way bytes r fault.place → ⊥
-    go (too_long f l p) = omega arith
-    go (stuck short' qs m cut' w p) =
-        let same = one_way (text_of bytes) ps qs 0 (length (text_of bytes)) m (end_stops (text_of bytes)) (stuck_stops (ends_in_half bytes) (drop m (text_of bytes)) r w) cut cut' in
-        at_end m (sym same.1) w
+pub never_both : (bytes : List ℕ) (tokens : List Token) (fault : LexFault) → AreTokens bytes tokens → length bytes ≤ longest_file → IsFault bytes fault → ⊥
+never_both bytes tokens fault are short (too_long long n p) = omega arith
+never_both bytes tokens fault are short (no_tokens short' r d h) = tokens_or_refusal bytes tokens r fault.place are h
 
 -- what a lexer finds at the end of a text
 
-pub whole : (bytes : List ℕ) (at : ℕ) (tokens : List Token) → length bytes ≤ 1048576 → at ≡ length (text_of bytes) → ends_in_half bytes ≡ false → SoFar bytes at tokens → AreTokens bytes tokens
-whole bytes at tokens short e half s = (short, half, (s.pieces, subst (CutsUpTo (text_of bytes) 0 s.pieces) e s.cut, s.are))
+pub whole : (bytes : List ℕ) (at : ℕ) (tokens : List Token) → at ≡ length (text_of bytes) → ends_in_half bytes ≡ false → SoFar bytes at tokens → AreTokens bytes tokens
+whole bytes at tokens e half s = (half, (s.pieces, subst (CutsUpTo (text_of bytes) 0 s.pieces) e s.cut, s.are))
 
 -- which refusals a stuck text can have
-pub stuck_refusal : (bytes : List ℕ) (at : ℕ) (tokens : List Token) (r : Refusal) (place : Place) → length bytes ≤ 1048576 → SoFar bytes at tokens → IsStuck r false (drop at (text_of bytes)) → place ≡ place_of (text_of bytes) at → IsRefused bytes r place
-stuck_refusal bytes at tokens r place short s h p = go (why r false (drop at (text_of bytes)) h)
+pub stuck_refusal : (bytes : List ℕ) (at : ℕ) (tokens : List Token) (r : Refusal) (place : Place) → SoFar bytes at tokens → IsStuck r false (drop at (text_of bytes)) → place ≡ place_of (text_of bytes) at → IsRefused bytes r place
+stuck_refusal bytes at tokens r place s h p = (s.pieces, at, s.cut, go (why r false (drop at (text_of bytes)) h), p)
   where
-    half : Bool
-    half = ends_in_half bytes
-
-    go : Why false (drop at (text_of bytes)) r → IsRefused bytes r place
-    go (byte e (inl b)) = subst (λ r. IsRefused bytes r place) (sym e) (short, (s.pieces, at, s.cut, inl b, p))
+    go : Why false (drop at (text_of bytes)) r → IsStuck r (ends_in_half bytes) (drop at (text_of bytes))
+    go (byte e (inl b)) = subst (λ r. IsStuck r (ends_in_half bytes) (drop at (text_of bytes))) (sym e) (inl b)
     go (byte e (inr b)) = absurd (let no_half = b.1 in cc)
-    go (number e t) = subst (λ r. IsRefused bytes r place) (sym e) (short, (s.pieces, at, s.cut, t, p))
-    go (comment e t) = subst (λ r. IsRefused bytes r place) (sym e) (short, (s.pieces, at, s.cut, t, p))
-    go (string e t) = subst (λ r. IsRefused bytes r place) (sym e) (short, (s.pieces, at, s.cut, t, p))
-    go (name e t) = subst (λ r. IsRefused bytes r place) (sym e) (short, (s.pieces, at, s.cut, t, p))
+    go (number e t) = subst (λ r. IsStuck r (ends_in_half bytes) (drop at (text_of bytes))) (sym e) t
+    go (comment e t) = subst (λ r. IsStuck r (ends_in_half bytes) (drop at (text_of bytes))) (sym e) t
+    go (string e t) = subst (λ r. IsStuck r (ends_in_half bytes) (drop at (text_of bytes))) (sym e) t
+    go (name e t) = subst (λ r. IsStuck r (ends_in_half bytes) (drop at (text_of bytes))) (sym e) t
 
-pub half_refusal : (bytes : List ℕ) (at : ℕ) (tokens : List Token) (place : Place) → length bytes ≤ 1048576 → SoFar bytes at tokens → at ≡ length (text_of bytes) → ends_in_half bytes ≡ true → place ≡ place_of (text_of bytes) at → IsRefused bytes BadByte place
-half_refusal bytes at tokens place short s e half p =
-    (short, (s.pieces, at, s.cut, inr (ap (λ m. drop m (text_of bytes)) e ∙ drop-length (text_of bytes), half), p))
+pub half_refusal : (bytes : List ℕ) (at : ℕ) (tokens : List Token) (place : Place) → SoFar bytes at tokens → at ≡ length (text_of bytes) → ends_in_half bytes ≡ true → place ≡ place_of (text_of bytes) at → IsRefused bytes BadByte place
+half_refusal bytes at tokens place s e half p =
+    (s.pieces, at, s.cut, inr (ap (λ m. drop m (text_of bytes)) e ∙ drop-length (text_of bytes), half), p)
 
-pub fault_is : (bytes : List ℕ) (r : Refusal) (place : Place) (fault : LexFault) → fault ≡ fault_of r place → IsRefused bytes r place → IsFault bytes fault
-fault_is bytes r place fault e h = subst (IsFault bytes) (sym e) (r, refl, h)
+pub length_fault : (bytes : List ℕ) (fault : LexFault) → longest_file < length bytes → fault ≡ fault_of FileTooLong start → IsFault bytes fault
+length_fault bytes fault long e = too_long long (ap (λ f. f.number) e) (ap (λ f. f.place) e)
+
+pub fault_is : (bytes : List ℕ) (r : Refusal) (place : Place) (fault : LexFault) → length bytes ≤ longest_file → fault ≡ fault_of r place → IsRefused bytes r place → IsFault bytes fault
+fault_is bytes r place fault short e h = no_tokens short r (ap (λ f. f.number) e) (subst (IsRefused bytes r) (sym (ap (λ f. f.place) e)) h)
 
 -- a piece has characters
 pub positive : (k : PieceKind) (text : List ℕ) (n : ℕ) → n ≤ length text → Is k text n → 0 < n

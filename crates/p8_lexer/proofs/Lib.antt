@@ -1,6 +1,8 @@
 pub mod Units
 pub mod Symbols
 pub mod Searches
+pub mod TableLemmas
+pub mod ReservedWords
 pub mod PlaceLemmas
 pub mod RunLemmas
 pub mod NumberLemmas

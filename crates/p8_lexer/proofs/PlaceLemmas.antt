@@ -3,7 +3,7 @@ use Rattle.std.proofs.Common.{◌≡◌, ℕ, zero, suc, ◌+◌, ◌-◌, ◌*�
 use Rattle.std.specs.Prelude.{◌==◌, if◌then◌else◌}
 use Rattle.std.proofs.lemmas.Bool.Decides.{nat_tests}
 use Rattle.std.proofs.lemmas.List.{take_more, length-take-le}
-use Rattle.p8_lexer.specs.declared.place.Place.{Place}
+use Rattle.p8_tree.specs.declared.places.Place.{Place}
 use Rattle.p8_lexer.specs.Places.{start, behind, place_behind, place_of}
 
 -- the last of some characters, or the one that stood before them

@@ -1,13 +1,16 @@
 -- A word is found by its first character, and each spelling is of one word.
-use Rattle.std.proofs.Common.{◌≡◌, ℕ, ◌+◌, ◌<◌, ◌≤◌, Bool, true, false, List, [], ◌∷◌, length, map, drop, get_or, Option, Some, None, refl, sym, ap, ◌∙◌, subst, arith}
+use Rattle.std.proofs.Common.{◌≡◌, ℕ, ◌+◌, ◌<◌, ◌≤◌, Bool, true, false, List, [], ◌∷◌, ◌++◌, length, map, drop, get_or, Option, Some, None, refl, sym, ap, ◌∙◌, subst, arith}
 use Rattle.std.specs.Prelude.{◌==◌, ◌&&◌, ◌||◌, if◌then◌else◌}
 use Rattle.std.specs.Borrow.{Bor}
+use Rattle.std.specs.List.{list_all}
 use Rattle.std.proofs.lemmas.Bool.Decides.{nat_tests}
-use Rattle.std.proofs.lemmas.List.{drop_more, drop_all, get_or-map, ext_get_or, length-map}
+use Rattle.std.proofs.lemmas.List.{drop_more, drop_all, get_or-map, ext_get_or, length-map, take-append-drop}
+use Rattle.std.proofs.lemmas.List.Folds.{list_all-append}
 use Rattle.p8_lexer.specs.declared.word.Word.{Word}
 use Rattle.p8_lexer.specs.declared.word.Word.TheVariants as word
-use Rattle.p8_lexer.specs.Words.{spelling, other_spellings, every_word, capital, same, is_among, is_spelled, first_spelled, word_spelled}
-use Rattle.p8_lexer.specs.WordIndex.{words_from, nows}
+use Rattle.p8_lexer.specs.Words.{spelling, other_spellings, symbols, reserved_words, every_word, capital, same, is_among, is_spelled, first_spelled, word_spelled}
+use Rattle.p8_lexer.specs.Lexing.{is_letter}
+use Rattle.p8_lexer.specs.Table.{Row, row_of, rows, symbol_rows, reserved_rows, rows_from, word_in}
 
 -- texts
 
@@ -63,27 +66,27 @@ spells t (v ∷ vs) w e = go (is_spelled v t) refl (spells t vs w)
     go true h later = let e' : Some v ≡ Some w = sym (ap (λ b. if b then Some v else first_spelled t vs) h) ∙ e in let same : v ≡ w = cc in ap (λ v. is_spelled v t) (sym same) ∙ h
     go false h later = later (sym (ap (λ b. if b then Some v else first_spelled t vs) h) ∙ e)
 
--- each spelling reads as its word, and is found by its first character
+-- each spelling reads as its word, and is found among the rows that begin as it does
 
 Reads : Word → List ℕ → Type 0
-Reads w t = (first_spelled t every_word ≡ Some w) × (first_spelled t (words_from (get_or t 0 0)) ≡ Some w)
+Reads w t = (first_spelled t every_word ≡ Some w) × (word_in (rows_from (get_or t 0 0)) t ≡ Some w)
 
 AllRead : Word → List (List ℕ) → Type 0
 AllRead w [] = Unit {0}
 AllRead w (t ∷ ts) = Reads w t × AllRead w ts
 
 first_reads : (w : Word) → (if same (spelling w) [] then Some w else first_spelled (spelling w) every_word) ≡ Some w
-unfolding every_word
+unfolding every_word symbols reserved_words
 first_reads word.PlusPlus = refl
 first_reads _ = refl
 
-first_found : (w : Word) → (if same (spelling w) [] then Some w else first_spelled (spelling w) (words_from (get_or (spelling w) 0 0))) ≡ Some w
-unfolding words_from
+first_found : (w : Word) → (if same (spelling w) [] then Some w else word_in (rows_from (get_or (spelling w) 0 0)) (spelling w)) ≡ Some w
+unfolding rows every_word symbols reserved_words
 first_found word.PlusPlus = refl
 first_found _ = refl
 
 others_read : (w : Word) → AllRead w (other_spellings w)
-unfolding every_word words_from Reads AllRead
+unfolding every_word symbols reserved_words rows Reads AllRead
 others_read word.IfA = ((refl, refl), ((refl, refl), tt))
 others_read word.IfBe = ((refl, refl), ((refl, refl), tt))
 others_read word.IfE = ((refl, refl), tt)
@@ -127,49 +130,76 @@ reads w t long h = go (same (spelling w) t) refl
         let s = same-true (spelling w) t e in
         let some = empty_only (spelling w) (omega (arith, ap length s)) in (
           ap (λ t. first_spelled t every_word) (sym s) ∙ sym (chosen (same (spelling w) []) (Some w) (first_spelled (spelling w) every_word) some) ∙ first_reads w,
-          ap (λ t. first_spelled t (words_from (get_or t 0 0))) (sym s) ∙ sym (chosen (same (spelling w) []) (Some w) (first_spelled (spelling w) (words_from (get_or (spelling w) 0 0))) some) ∙ first_found w,
+          ap (λ t. word_in (rows_from (get_or t 0 0)) t) (sym s) ∙ sym (chosen (same (spelling w) []) (Some w) (word_in (rows_from (get_or (spelling w) 0 0)) (spelling w)) some) ∙ first_found w,
         )
 
 pub read_back : (w : Word) (t : List ℕ) → 0 < length t → is_spelled w t ≡ true → first_spelled t every_word ≡ Some w
 unfolding Reads
 read_back w t long h = (reads w t long h).0
 
-found_back : (w : Word) (t : List ℕ) → 0 < length t → is_spelled w t ≡ true → first_spelled t (words_from (get_or t 0 0)) ≡ Some w
+found_back : (w : Word) (t : List ℕ) → 0 < length t → is_spelled w t ≡ true → word_in (rows_from (get_or t 0 0)) t ≡ Some w
 unfolding Reads
 found_back w t long h = (reads w t long h).1
 
--- so the short search gives what the search of all words gives
-pub same_search : (t : List ℕ) → 0 < length t → first_spelled t (words_from (get_or t 0 0)) ≡ first_spelled t every_word
-same_search t long = go (first_spelled t (words_from (get_or t 0 0))) (first_spelled t every_word) refl refl
+-- a row's spelling is one of its word
+all_spell : list_all (λ r. is_spelled r.1 r.0) rows ≡ true
+unfolding rows every_word symbols reserved_words
+all_spell = refl
+
+spells_in : (t : List ℕ) (rs : List Row) (w : Word) → list_all (λ r. is_spelled r.1 r.0) rs ≡ true → word_in rs t ≡ Some w → is_spelled w t ≡ true
+spells_in t [] w h e = absurd cc
+spells_in t (r ∷ rs) w h e = go (same r.0 t) refl (both (is_spelled r.1 r.0) (list_all (λ r. is_spelled r.1 r.0) rs) h) (spells_in t rs w)
   where
-    go : (a b : Option Word) → first_spelled t (words_from (get_or t 0 0)) ≡ a → first_spelled t every_word ≡ b → first_spelled t (words_from (get_or t 0 0)) ≡ first_spelled t every_word
-    go (Some w) b p q = p ∙ sym (read_back w t long (spells t (words_from (get_or t 0 0)) w p))
+    go : (b : Bool) → same r.0 t ≡ b → (is_spelled r.1 r.0 ≡ true) × (list_all (λ r. is_spelled r.1 r.0) rs ≡ true) → (list_all (λ r. is_spelled r.1 r.0) rs ≡ true → word_in rs t ≡ Some w → is_spelled w t ≡ true) → is_spelled w t ≡ true
+    go true f g later =
+        let found : Some r.1 ≡ Some w = sym (ap (λ b. if b then Some r.1 else word_in rs t) f) ∙ e in
+        let word_is : r.1 ≡ w = cc in
+        ap (λ v. is_spelled v t) (sym word_is) ∙ ap (is_spelled r.1) (sym (same-true r.0 t f)) ∙ g.0
+    go false f g later = later g.1 (sym (ap (λ b. if b then Some r.1 else word_in rs t) f) ∙ e)
+
+spells_from : (t : List ℕ) (c : ℕ) (w : Word) → word_in (rows_from c) t ≡ Some w → is_spelled w t ≡ true
+spells_from t c w = go (is_letter c)
+  where
+    split : list_all (λ r. is_spelled r.1 r.0) (symbol_rows ++ reserved_rows) ≡ true
+    split = ap (list_all (λ r. is_spelled r.1 r.0)) (take-append-drop 71 rows) ∙ all_spell
+
+    parts : (list_all (λ r. is_spelled r.1 r.0) symbol_rows ≡ true) × (list_all (λ r. is_spelled r.1 r.0) reserved_rows ≡ true)
+    parts = both (list_all (λ r. is_spelled r.1 r.0) symbol_rows) (list_all (λ r. is_spelled r.1 r.0) reserved_rows) (sym (list_all-append (λ r. is_spelled r.1 r.0) symbol_rows reserved_rows) ∙ split)
+
+    go : (b : Bool) → word_in (if b then reserved_rows else symbol_rows) t ≡ Some w → is_spelled w t ≡ true
+    go true e = spells_in t reserved_rows w parts.1 e
+    go false e = spells_in t symbol_rows w parts.0 e
+
+-- so the search of some rows gives what the search of all words gives
+same_search : (t : List ℕ) → 0 < length t → word_in (rows_from (get_or t 0 0)) t ≡ first_spelled t every_word
+same_search t long = go (word_in (rows_from (get_or t 0 0)) t) (first_spelled t every_word) refl refl
+  where
+    go : (a b : Option Word) → word_in (rows_from (get_or t 0 0)) t ≡ a → first_spelled t every_word ≡ b → word_in (rows_from (get_or t 0 0)) t ≡ first_spelled t every_word
+    go (Some w) b p q = p ∙ sym (read_back w t long (spells_from t (get_or t 0 0) w p))
     go None (Some w) p q = found_back w t long (spells t every_word w q) ∙ sym q
     go None None p q = p ∙ sym q
 
 pub empty_is_none : word_spelled [] ≡ None
-unfolding every_word
+unfolding every_word symbols reserved_words
 empty_is_none = refl
 
--- the short search of characters
-pub named_is : (text : List ℕ) (r : Option Word) → 0 < length text → r ≡ first_spelled (map capital text) (words_from (capital (get_or text 0 0))) → r ≡ word_spelled text
+-- a small letter is a letter, and so is its capital
+letter_capital : (c : ℕ) → is_letter c ≡ is_letter (capital c)
+letter_capital c = grind (arith, nat_tests)
+
+-- the search of characters
+pub named_is : (text : List ℕ) (r : Option Word) → 0 < length text → r ≡ word_in (rows_from (get_or text 0 0)) (map capital text) → r ≡ word_spelled text
 named_is text r long e =
     let c = get_or-map capital text 0 0 0 long in
-    e ∙ ap (λ c. first_spelled (map capital text) (words_from c)) (sym c) ∙ same_search (map capital text) (omega (arith, length-map text capital))
+    e ∙ ap (λ b. word_in (if b then reserved_rows else symbol_rows) (map capital text)) (letter_capital (get_or text 0 0) ∙ ap is_letter (sym c)) ∙ same_search (map capital text) (omega (arith, length-map text capital))
 
 -- loops
 
-pub first_step : (t : List ℕ) (ws : List Word) (i : ℕ) (w : Word) → i < length ws → get_or ws i w ≡ w → first_spelled t (drop i ws) ≡ (if is_spelled w t then Some w else first_spelled t (drop (i + 1) ws))
-first_step t ws i w lt e = ap (first_spelled t) (drop_more ws i w lt) ∙ ap (λ v. if is_spelled v t then Some v else first_spelled t (drop (i + 1) ws)) e
+pub in_step : (t : List ℕ) (rs : List (Bor (List ℕ) × Word)) (i : ℕ) (r : Bor (List ℕ) × Word) → i < length rs → get_or rs i r ≡ r → word_in (map row_of (drop i rs)) t ≡ (if same r.0.now t then Some r.1 else word_in (map row_of (drop (i + 1) rs)) t)
+in_step t rs i r lt e = ap (λ l. word_in (map row_of l) t) (drop_more rs i r lt) ∙ ap (λ (v : Bor (List ℕ) × Word). if same v.0.now t then Some v.1 else word_in (map row_of (drop (i + 1) rs)) t) e
 
-pub first_end : (t : List ℕ) (ws : List Word) (i : ℕ) → length ws ≤ i → first_spelled t (drop i ws) ≡ None
-first_end t ws i h = ap (first_spelled t) (drop_all i ws h)
-
-pub among_step : (t : List ℕ) (rs : List (Bor (List ℕ))) (i : ℕ) (r : Bor (List ℕ)) → i < length rs → get_or rs i r ≡ r → is_among (nows (drop i rs)) t ≡ (same r.now t || is_among (nows (drop (i + 1) rs)) t)
-among_step t rs i r lt e = ap (λ l. is_among (nows l) t) (drop_more rs i r lt) ∙ ap (λ (v : Bor (List ℕ)). same v.now t || is_among (nows (drop (i + 1) rs)) t) e
-
-pub among_end : (t : List ℕ) (rs : List (Bor (List ℕ))) (i : ℕ) → length rs ≤ i → is_among (nows (drop i rs)) t ≡ false
-among_end t rs i h = ap (λ l. is_among (nows l) t) (drop_all i rs h)
+pub in_end : (t : List ℕ) (rs : List (Bor (List ℕ) × Word)) (i : ℕ) → length rs ≤ i → word_in (map row_of (drop i rs)) t ≡ None
+in_end t rs i h = ap (λ l. word_in (map row_of l) t) (drop_all i rs h)
 
 pub nonempty : (t : List ℕ) → (t ≡ [] → ⊥) → 0 < length t
 nonempty [] h = absurd (h refl)

@@ -1,6 +1,6 @@
 -- internal: what the functions that cut a piece off a text say to each other.
 use Rattle.std.specs.Prelude.{ℕ, ◌+◌, ◌*◌, ◌<◌, ◌≤◌, Bool, false, if◌then◌else◌, List, [], ◌∷◌, length, Option, Some, None, MatchOption, Result, Ok, Err, MatchResult}
-use Rattle.p8_lexer.specs.declared.place.Place.{Place}
+use Rattle.p8_tree.specs.declared.places.Place.{Place}
 use Rattle.p8_lexer.specs.declared.token.Token.{Token}
 use Rattle.p8_lexer.specs.declared.token.LexFault.{LexFault}
 use Rattle.p8_lexer.specs.Refusals.{refusal_number}

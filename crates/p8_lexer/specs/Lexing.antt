@@ -15,7 +15,7 @@ use Rattle.p8_lexer.specs.declared.token.TokenKind.TheVariants.{Name, Number, Fl
 use Rattle.p8_lexer.specs.declared.token.LexFault.{LexFault}
 use Rattle.p8_lexer.specs.declared.refusal.Refusal.{Refusal}
 use Rattle.p8_lexer.specs.declared.refusal.Refusal.TheVariants.{BadByte, BadNumber, OpenComment, OpenString, NameTooLong, FileTooLong}
-use Rattle.p8_lexer.specs.declared.place.Place.{Place}
+use Rattle.p8_tree.specs.declared.places.Place.{Place}
 use Rattle.p8_lexer.specs.declared.word.Word.{Word}
 use Rattle.p8_lexer.specs.Characters.{text_of, ends_in_half, offset_of}
 use Rattle.p8_lexer.specs.Places.{start, place_of}
@@ -185,22 +185,21 @@ token_of bytes p = token_of_kind p.kind
     token_of_kind (TokenOf k) = Some (record { place = place_of (text_of bytes) p.begin; kind = k; begin = offset_of bytes p.begin; end = offset_of bytes p.end })
     token_of_kind _ = None
 
--- a file is cut into pieces, and these are its tokens
+-- a file of any length is cut into pieces, and these are its tokens
 abbrev pub AreTokens : List ℕ → List Token → Type 0
 AreTokens bytes tokens =
-    (length bytes ≤ longest_file) × (ends_in_half bytes ≡ false)
+    (ends_in_half bytes ≡ false)
     × ((ps : List Piece) × CutsUpTo (text_of bytes) 0 ps (length (text_of bytes)) × (tokens ≡ filter_map (token_of bytes) ps))
 
--- a file is refused at a place: it's too long, or behind some pieces nothing more can be cut off
+-- behind some pieces nothing more can be cut off a file of any length, for this reason and at this place
 abbrev pub IsRefused : List ℕ → Refusal → Place → Type 0
-IsRefused bytes FileTooLong place = (longest_file < length bytes) × (place ≡ start)
 IsRefused bytes refusal place =
-    (length bytes ≤ longest_file)
-    × ((ps : List Piece) × (at : ℕ) × CutsUpTo (text_of bytes) 0 ps at × IsStuck refusal (ends_in_half bytes) (drop at (text_of bytes)) × (place ≡ place_of (text_of bytes) at))
+    (ps : List Piece) × (at : ℕ) × CutsUpTo (text_of bytes) 0 ps at × IsStuck refusal (ends_in_half bytes) (drop at (text_of bytes)) × (place ≡ place_of (text_of bytes) at)
 
--- what a lexer tells of a file that is refused
-abbrev pub IsFault : List ℕ → LexFault → Type 0
-IsFault bytes fault = (refusal : Refusal) × (fault.number ≡ refusal_number refusal) × IsRefused bytes refusal fault.place
+-- What a lexer tells of a file that is refused: it's too long, which comes first, or it has no tokens.
+pub data IsFault (bytes : List ℕ) (fault : LexFault) : Type 0 where
+  too_long : longest_file < length bytes → fault.number ≡ refusal_number FileTooLong → fault.place ≡ start → IsFault bytes fault
+  no_tokens : length bytes ≤ longest_file → (refusal : Refusal) → fault.number ≡ refusal_number refusal → IsRefused bytes refusal fault.place → IsFault bytes fault
 
 -- a fact of a refusal, which says nothing of want of memory
 abbrev pub IfRefused : (LexFault → Type 0) → Fail LexFault → Type 0

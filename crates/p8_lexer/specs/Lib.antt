@@ -5,5 +5,5 @@ pub mod Refusals
 pub mod Words
 pub mod Lexing
 -- What only proofs need.
-pub mod WordIndex
+pub mod Table
 pub mod Cutting

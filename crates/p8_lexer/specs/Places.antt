@@ -1,6 +1,6 @@
 -- Where a character stands: lines end at LF, CR LF or CR, and a tab goes to the next column of the form 8k + 1.
 use Rattle.std.specs.Prelude.{ℕ, ◌+◌, ◌-◌, ◌*◌, ◌/◌, ◌==◌, if◌then◌else◌, List, [], ◌∷◌, take}
-use Rattle.p8_lexer.specs.declared.place.Place.{Place}
+use Rattle.p8_tree.specs.declared.places.Place.{Place}
 
 -- the place where a text begins
 abbrev pub start : Place

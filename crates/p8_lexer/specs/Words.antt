@@ -1,6 +1,7 @@
 -- The words of Spin and Propeller Assembly, and how each is spelled (Propeller Manual v1.2, "Reserved Words"
 -- and the operator tables; the symbols with `=` behind an operator are this project's profile).
-use Rattle.std.specs.Prelude.{ℕ, ◌-◌, Bool, true, false, ◌==◌, ◌&&◌, ◌||◌, nat_le, if◌then◌else◌, List, [], ◌∷◌, codes, map, slice_get, Option, Some, None, unwrap_or}
+use Rattle.std.specs.Prelude.{ℕ, ◌-◌, Bool, ◌&&◌, ◌||◌, nat_le, if◌then◌else◌, List, [], ◌∷◌, ◌++◌, codes, map, slice_get, Option, Some, None, unwrap_or}
+pub use Rattle.p8_tree.specs.Names.{same, is_among}
 use Rattle.p8_lexer.specs.declared.word.Word.{Word}
 use Rattle.p8_lexer.specs.declared.word.Word.TheVariants as word
 use Rattle.p8_lexer.specs.declared.token.Token.{Token}
@@ -295,64 +296,41 @@ symbols =
     word.Comma ∷ word.Colon ∷ word.Dot ∷ word.DotDot ∷ word.EqualSign ∷ word.Hash ∷ word.Dollar ∷
     word.Backslash ∷ word.QuestionMark ∷ []
 
+-- the reserved words
+unfoldable pub reserved_words : List Word
+reserved_words =
+    word.Con ∷ word.Var ∷ word.Obj ∷ word.Pub ∷ word.Pri ∷ word.Dat ∷ word.ByteSize ∷ word.WordSize ∷
+    word.LongSize ∷ word.Org ∷ word.Res ∷ word.Fit ∷ word.File ∷ word.If ∷ word.Ifnot ∷ word.Elseif ∷
+    word.Elseifnot ∷ word.Else ∷ word.Repeat ∷ word.Case ∷ word.Other ∷ word.While ∷ word.Until ∷
+    word.From ∷ word.To ∷ word.Step ∷ word.Next ∷ word.Quit ∷ word.Return ∷ word.Abort ∷ word.Not ∷
+    word.And ∷ word.Or ∷ word.Result ∷ word.Par ∷ word.Cnt ∷ word.Ina ∷ word.Inb ∷ word.Outa ∷
+    word.Outb ∷ word.Dira ∷ word.Dirb ∷ word.Ctra ∷ word.Ctrb ∷ word.Frqa ∷ word.Frqb ∷ word.Phsa ∷
+    word.Phsb ∷ word.Vcfg ∷ word.Vscl ∷ word.Spr ∷ word.String ∷ word.Constant ∷ word.Lookup ∷
+    word.Lookupz ∷ word.Lookdown ∷ word.Lookdownz ∷ word.Clkfreq ∷ word.Clkmode ∷ word.Cogid ∷
+    word.Cognew ∷ word.Coginit ∷ word.Cogstop ∷ word.Locknew ∷ word.Lockret ∷ word.Lockset ∷
+    word.Lockclr ∷ word.Waitcnt ∷ word.Waitpeq ∷ word.Waitpne ∷ word.Waitvid ∷ word.Bytefill ∷
+    word.Wordfill ∷ word.Longfill ∷ word.Bytemove ∷ word.Wordmove ∷ word.Longmove ∷ word.Strsize ∷
+    word.Strcomp ∷ word.Clkset ∷ word.Reboot ∷ word.Chipver ∷ word.Float ∷ word.Round ∷ word.Trunc ∷
+    word.Pi ∷ word.Rdbyte ∷ word.Rdword ∷ word.Rdlong ∷ word.Wrbyte ∷ word.Wrword ∷ word.Wrlong ∷
+    word.Hubop ∷ word.Mul ∷ word.Muls ∷ word.Enc ∷ word.Ones ∷ word.Ror ∷ word.Rol ∷ word.Shr ∷
+    word.Shl ∷ word.Rcr ∷ word.Rcl ∷ word.Sar ∷ word.Rev ∷ word.Mins ∷ word.Maxs ∷ word.Min ∷ word.Max ∷
+    word.Movs ∷ word.Movd ∷ word.Movi ∷ word.Jmpret ∷ word.Andn ∷ word.Xor ∷ word.Muxc ∷ word.Muxnc ∷
+    word.Muxz ∷ word.Muxnz ∷ word.Add ∷ word.Sub ∷ word.Addabs ∷ word.Subabs ∷ word.Sumc ∷ word.Sumnc ∷
+    word.Sumz ∷ word.Sumnz ∷ word.Mov ∷ word.Neg ∷ word.Abs ∷ word.Absneg ∷ word.Negc ∷ word.Negnc ∷
+    word.Negz ∷ word.Negnz ∷ word.Cmps ∷ word.Cmpsx ∷ word.Addx ∷ word.Subx ∷ word.Adds ∷ word.Subs ∷
+    word.Addsx ∷ word.Subsx ∷ word.Cmpsub ∷ word.Djnz ∷ word.Tjnz ∷ word.Tjz ∷ word.Test ∷ word.Testn ∷
+    word.Cmp ∷ word.Cmpx ∷ word.Jmp ∷ word.Ret ∷ word.Call ∷ word.Nop ∷ word.Wz ∷ word.Wc ∷ word.Wr ∷
+    word.Nr ∷ word.IfAlways ∷ word.IfNever ∷ word.IfE ∷ word.IfNe ∷ word.IfA ∷ word.IfB ∷ word.IfAe ∷
+    word.IfBe ∷ word.IfNcAndZ ∷ word.IfCAndNz ∷ word.IfCAndZ ∷ word.IfCEqZ ∷ word.IfCNeZ ∷
+    word.IfCOrNz ∷ word.IfNcOrZ ∷ word.IfNcOrNz ∷ []
+
 -- the symbols and the reserved words
 unfoldable pub every_word : List Word
-every_word =
-    word.PlusPlus ∷ word.MinusMinus ∷ word.Tilde ∷ word.TildeTilde ∷ word.At ∷ word.AtAt ∷
-    word.Plus ∷ word.Minus ∷ word.SquareRoot ∷ word.Absolute ∷ word.DecodeBit ∷ word.EncodeBit ∷
-    word.Invert ∷ word.RotateRight ∷ word.RotateLeft ∷ word.ShiftRight ∷ word.ShiftLeft ∷
-    word.ArithmeticShift ∷ word.Reverse ∷ word.BitAnd ∷ word.BitOr ∷ word.BitXor ∷ word.Multiply ∷
-    word.MultiplyHigh ∷ word.Divide ∷ word.Remainder ∷ word.LimitMinimum ∷ word.LimitMaximum ∷
-    word.Less ∷ word.Greater ∷ word.NotEqual ∷ word.Equal ∷ word.LessOrEqual ∷ word.GreaterOrEqual ∷
-    word.Assign ∷ word.RotateRightAssign ∷ word.RotateLeftAssign ∷ word.ShiftRightAssign ∷
-    word.ShiftLeftAssign ∷ word.ArithmeticShiftAssign ∷ word.ReverseAssign ∷ word.BitAndAssign ∷
-    word.BitOrAssign ∷ word.BitXorAssign ∷ word.MultiplyAssign ∷ word.MultiplyHighAssign ∷
-    word.DivideAssign ∷ word.RemainderAssign ∷ word.PlusAssign ∷ word.MinusAssign ∷
-    word.LimitMinimumAssign ∷ word.LimitMaximumAssign ∷ word.LessAssign ∷ word.GreaterAssign ∷
-    word.NotEqualAssign ∷ word.EqualAssign ∷ word.LessOrEqualAssign ∷ word.GreaterOrEqualAssign ∷
-    word.LeftParenthesis ∷ word.RightParenthesis ∷ word.LeftBracket ∷ word.RightBracket ∷
-    word.Comma ∷ word.Colon ∷ word.Dot ∷ word.DotDot ∷ word.EqualSign ∷ word.Hash ∷ word.Dollar ∷
-    word.Backslash ∷ word.QuestionMark ∷ word.Con ∷ word.Var ∷ word.Obj ∷ word.Pub ∷ word.Pri ∷
-    word.Dat ∷ word.ByteSize ∷ word.WordSize ∷ word.LongSize ∷ word.Org ∷ word.Res ∷ word.Fit ∷
-    word.File ∷ word.If ∷ word.Ifnot ∷ word.Elseif ∷ word.Elseifnot ∷ word.Else ∷ word.Repeat ∷
-    word.Case ∷ word.Other ∷ word.While ∷ word.Until ∷ word.From ∷ word.To ∷ word.Step ∷ word.Next ∷
-    word.Quit ∷ word.Return ∷ word.Abort ∷ word.Not ∷ word.And ∷ word.Or ∷ word.Result ∷ word.Par ∷
-    word.Cnt ∷ word.Ina ∷ word.Inb ∷ word.Outa ∷ word.Outb ∷ word.Dira ∷ word.Dirb ∷ word.Ctra ∷
-    word.Ctrb ∷ word.Frqa ∷ word.Frqb ∷ word.Phsa ∷ word.Phsb ∷ word.Vcfg ∷ word.Vscl ∷ word.Spr ∷
-    word.String ∷ word.Constant ∷ word.Lookup ∷ word.Lookupz ∷ word.Lookdown ∷ word.Lookdownz ∷
-    word.Clkfreq ∷ word.Clkmode ∷ word.Cogid ∷ word.Cognew ∷ word.Coginit ∷ word.Cogstop ∷
-    word.Locknew ∷ word.Lockret ∷ word.Lockset ∷ word.Lockclr ∷ word.Waitcnt ∷ word.Waitpeq ∷
-    word.Waitpne ∷ word.Waitvid ∷ word.Bytefill ∷ word.Wordfill ∷ word.Longfill ∷ word.Bytemove ∷
-    word.Wordmove ∷ word.Longmove ∷ word.Strsize ∷ word.Strcomp ∷ word.Clkset ∷ word.Reboot ∷
-    word.Chipver ∷ word.Float ∷ word.Round ∷ word.Trunc ∷ word.Pi ∷ word.Rdbyte ∷ word.Rdword ∷
-    word.Rdlong ∷ word.Wrbyte ∷ word.Wrword ∷ word.Wrlong ∷ word.Hubop ∷ word.Mul ∷ word.Muls ∷
-    word.Enc ∷ word.Ones ∷ word.Ror ∷ word.Rol ∷ word.Shr ∷ word.Shl ∷ word.Rcr ∷ word.Rcl ∷
-    word.Sar ∷ word.Rev ∷ word.Mins ∷ word.Maxs ∷ word.Min ∷ word.Max ∷ word.Movs ∷ word.Movd ∷
-    word.Movi ∷ word.Jmpret ∷ word.Andn ∷ word.Xor ∷ word.Muxc ∷ word.Muxnc ∷ word.Muxz ∷
-    word.Muxnz ∷ word.Add ∷ word.Sub ∷ word.Addabs ∷ word.Subabs ∷ word.Sumc ∷ word.Sumnc ∷
-    word.Sumz ∷ word.Sumnz ∷ word.Mov ∷ word.Neg ∷ word.Abs ∷ word.Absneg ∷ word.Negc ∷ word.Negnc ∷
-    word.Negz ∷ word.Negnz ∷ word.Cmps ∷ word.Cmpsx ∷ word.Addx ∷ word.Subx ∷ word.Adds ∷
-    word.Subs ∷ word.Addsx ∷ word.Subsx ∷ word.Cmpsub ∷ word.Djnz ∷ word.Tjnz ∷ word.Tjz ∷
-    word.Test ∷ word.Testn ∷ word.Cmp ∷ word.Cmpx ∷ word.Jmp ∷ word.Ret ∷ word.Call ∷ word.Nop ∷
-    word.Wz ∷ word.Wc ∷ word.Wr ∷ word.Nr ∷ word.IfAlways ∷ word.IfNever ∷ word.IfE ∷ word.IfNe ∷
-    word.IfA ∷ word.IfB ∷ word.IfAe ∷ word.IfBe ∷ word.IfNcAndZ ∷ word.IfCAndNz ∷ word.IfCAndZ ∷
-    word.IfCEqZ ∷ word.IfCNeZ ∷ word.IfCOrNz ∷ word.IfNcOrZ ∷ word.IfNcOrNz ∷ []
+every_word = symbols ++ reserved_words
 
 -- a character as a capital letter, where it's a small one
 abbrev pub capital : ℕ → ℕ
 capital c = if nat_le 97 c && nat_le c 122 then c - 32 else c
-
--- whether two texts have the same characters
-abbrev pub same : List ℕ → List ℕ → Bool
-same [] [] = true
-same [] (y ∷ ys) = false
-same (x ∷ xs) [] = false
-same (x ∷ xs) (y ∷ ys) = (x == y) && same xs ys
-
--- whether a text is among these
-abbrev pub is_among : List (List ℕ) → List ℕ → Bool
-is_among [] text = false
-is_among (t ∷ ts) text = same t text || is_among ts text
 
 -- whether a word is spelled so
 abbrev pub is_spelled : Word → List ℕ → Bool

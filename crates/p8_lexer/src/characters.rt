@@ -76,6 +76,16 @@ impl<'a> Characters<'a> {
         }
     }
 
+    /// The characters of a plain text, which has no mark of an encoding: its bytes.
+    pub fn of_text(text: &'a [u8]) -> Characters<'a>
+        ensures { result ≡ text.now }
+    {
+        Characters {
+            bytes: text,
+            utf16: false,
+        }
+    }
+
     /// The characters of a token of a file.
     pub fn of_token(bytes: &'a [u8], token: &Token) -> Characters<'a>
         ensures { result ≡ characters bytes.now token.now }

@@ -3,15 +3,16 @@
 ghost use Rattle.std.specs.Prelude.{◌≡◌, ◌+◌, ◌*◌, ◌<◌, ◌≤◌, ◌^◌, ◌++◌, ℕ, List, if◌then◌else◌, length, IfOk, IfErr, OnOk};
 ghost use Rattle.p8_lexer.specs.declared.token.Token as token;
 ghost use Rattle.p8_lexer.specs.declared.token.LexFault as lex_fault;
-ghost use Rattle.p8_lexer.specs.Lexing.{AreTokens, IsFault, IfRefused};
+ghost use Rattle.p8_lexer.specs.Lexing.{longest_file, AreTokens, IsFault, IfRefused};
 ghost use Rattle.p8_lexer.specs.Cutting.{piece_tokens, fault_of};
 
 use crate::characters::{Characters, ends_in_half, is_utf16};
 use crate::cut::first_cut;
 use crate::piece::{Cut, PieceKind};
-use crate::place::{Place, START, place_at};
+use crate::place::{START, place_at};
 use crate::refusal::Refusal;
 use crate::token::{LexFault, Token, Tokens};
+use p8_tree::Place;
 use p8_words::Fail;
 use std::alloc::{AllocError, Global};
 
@@ -20,11 +21,12 @@ const LONGEST_FILE: usize = 1_048_576;
 
 /// Cuts a Spin source into tokens: gives them in their order, or the first refusal and where it stands.
 ///
-/// A file has either tokens or a refusal, and only one answer of its kind. The refusals are those of the numbers 1
-/// to 5, each at the first place of the text where no good piece can be cut off, and 30 for a file of more than
-/// 1,048,576 bytes.
+/// A file of at most 1,048,576 bytes has either tokens or a refusal, and only one answer of its kind. The refusals are
+/// those of the numbers 1 to 5, each at the first place of the text where no good piece can be cut off. A longer file is
+/// refused by 30, whatever stands in it.
 pub fn lex(alloc: Global, bytes: &[u8]) -> Result<Tokens, Fail<LexFault>>
     ensures tokens { IfOk result (AreTokens bytes.now) }
+    ensures short { OnOk result (length bytes.now ≤ longest_file) }
     ensures accepted { OnOk result ((fault : lex_fault.LexFault) → ¬ IsFault bytes.now fault) }
     ensures refused { IfErr result (IfRefused (IsFault bytes.now)) }
 {
@@ -91,10 +93,11 @@ fn offset(utf16: bool, at: usize) -> usize
     if utf16 { 2 * at + 2 } else { at }
 }
 
-/// A file never has both tokens and a refusal, nor two lists of tokens, nor two refusals.
+/// A file of at most 1,048,576 bytes never has both tokens and a refusal, and no file has two lists of tokens or two
+/// refusals.
 pub fn one_answer()
     ensures never_both { (bytes : List ℕ) (tokens : List token.Token) (fault : lex_fault.LexFault)
-        → AreTokens bytes tokens → ¬ IsFault bytes fault }
+        → AreTokens bytes tokens → length bytes ≤ longest_file → ¬ IsFault bytes fault }
     ensures one_list { (bytes : List ℕ) (some others : List token.Token)
         → AreTokens bytes some → AreTokens bytes others → some ≡ others }
     ensures one_fault { (bytes : List ℕ) (one another : lex_fault.LexFault)

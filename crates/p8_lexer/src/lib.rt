@@ -4,7 +4,6 @@
 mod characters;
 mod comment;
 mod cut;
-mod index;
 mod lexer;
 mod lookup;
 mod number;
@@ -12,7 +11,7 @@ mod piece;
 mod place;
 mod refusal;
 mod run;
-mod spelling;
+mod table;
 #[cfg(test)]
 mod tests;
 mod token;
@@ -20,8 +19,8 @@ mod word;
 
 pub use characters::Characters;
 pub use lexer::{lex, one_answer};
-pub use lookup::{named, one_word, word_of};
-pub use place::Place;
+pub use lookup::{named, one_word, reserved_words, word_of};
+pub use p8_tree::Place;
 pub use refusal::{Refusal, refusal_name};
 pub use token::{LexFault, Token, TokenKind, Tokens};
 pub use word::Word;

@@ -1,12 +1,14 @@
 // The word that characters spell, and what a token is.
 
-ghost use Rattle.std.specs.Prelude.{◌≡◌, ◌<◌, ℕ, IsTrue, List, Some, length, map};
+ghost use Rattle.std.specs.Prelude.{◌≡◌, ◌<◌, ◌↔◌, ℕ, false, IsTrue, List, Some, None, length, map};
+ghost use Rattle.p8_tree.specs.Names.{begins_name, is_reserved};
 ghost use Rattle.p8_lexer.specs.declared.word.Word as word_type;
-ghost use Rattle.p8_lexer.specs.Words.{capital, same, is_among, is_spelled, first_spelled, word_spelled, word_of};
-ghost use Rattle.p8_lexer.specs.WordIndex.{nows};
+ghost use Rattle.p8_lexer.specs.Words.{capital, same, is_spelled, word_spelled, word_of};
+ghost use Rattle.p8_lexer.specs.Table.{row_of, word_in, rows_from};
 
 use crate::characters::Characters;
-use crate::index::words_from;
+use crate::run::is_letter;
+use crate::table::{reserved_rows, symbol_rows};
 use crate::token::{Token, TokenKind};
 use crate::word::Word;
 
@@ -34,38 +36,30 @@ pub fn named(text: &Characters) -> Option<Word>
     if text.is_empty() {
         return None;
     }
-    first_spelled(words_from(capital(text.at(0))), text)
+    word_in(rows_from(text.at(0)), text)
 }
 
-// The first of these words that is spelled so.
-fn first_spelled(words: &[Word], text: &Characters) -> Option<Word>
-    ensures { result ≡ first_spelled (map capital text.now) words.now }
+// The rows with the spellings that begin as this character does.
+fn rows_from(first: u8) -> &'static [(&'static str, Word)]
+    ensures { map row_of result.now ≡ rows_from first }
 {
-    for word in words {
-        if is_spelled(*word, text) {
+    if is_letter(first) {
+        reserved_rows()
+    } else {
+        symbol_rows()
+    }
+}
+
+// The word of the first row that is spelled as the characters are.
+fn word_in(rows: &[(&'static str, Word)], text: &Characters) -> Option<Word>
+    ensures { result ≡ word_in (map row_of rows.now) (map capital text.now) }
+{
+    for (spelling, word) in rows {
+        if is_same(spelling.as_bytes(), text) {
             return Some(*word);
         }
     }
     None
-}
-
-// Whether a word is spelled so.
-fn is_spelled(word: Word, text: &Characters) -> bool
-    ensures { result ≡ is_spelled word (map capital text.now) }
-{
-    is_same(word.spelling().as_bytes(), text) || is_among(word.other_spellings(), text)
-}
-
-// Whether one of these spellings is that of the characters.
-fn is_among(spellings: &[&'static [u8]], text: &Characters) -> bool
-    ensures { result ≡ is_among (nows spellings.now) (map capital text.now) }
-{
-    for spelling in spellings {
-        if is_same(spelling, text) {
-            return true;
-        }
-    }
-    false
 }
 
 // Whether a spelling is that of the characters, in letters of any case.
@@ -96,4 +90,11 @@ pub fn one_word()
         → 0 < length text → IsTrue (is_spelled word (map capital text)) → word_spelled text ≡ Some word }
     ensures spelled { (word : word_type.Word) (text : List ℕ)
         → word_spelled text ≡ Some word → IsTrue (is_spelled word (map capital text)) }
+{}
+
+/// The reserved words are those that no name of a tree may be: a text in capitals that begins like a name is reserved
+/// there exactly where it spells a word.
+pub fn reserved_words()
+    ensures { (name : List ℕ) → IsTrue (begins_name name) → map capital name ≡ name
+        → (word_spelled name ≡ None) ↔ (is_reserved name ≡ false) }
 {}

@@ -4,16 +4,7 @@ ghost use Rattle.std.specs.Prelude.{◌≡◌, ◌+◌, ◌*◌, ◌^◌, ◌<�
 ghost use Rattle.p8_lexer.specs.Places.{behind, place_of};
 
 use crate::characters::Characters;
-
-/// Where a character of a source stands.
-///
-/// Lines and columns are counted from 1. A line ends at LF, CR LF or CR, in comments too, and a tab goes to the
-/// next column of the form 8k + 1.
-#[derive(Clone, Copy, Debug, PartialEq, Eq)]
-pub struct Place {
-    pub line: u32,
-    pub column: u32,
-}
+use p8_tree::Place;
 
 /// Where a text begins.
 pub const START: Place = Place { line: 1, column: 1 };

@@ -2,7 +2,7 @@
 
 ghost use Rattle.std.specs.Prelude.{◌≡◌, IsTrue, ◌↔◌, [], length, slice_get};
 
-use crate::place::Place;
+use p8_tree::Place;
 use std::error::Error;
 use std::fmt::{self, Display, Formatter, Write};
 use std::marker::Model;

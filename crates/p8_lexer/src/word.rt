@@ -1,13 +1,16 @@
 // The words of Spin and of Propeller Assembly: what a reader of tokens tells apart.
 
-ghost use Rattle.std.specs.Prelude.{◌≡◌, ◌≢◌, ℕ, Some, MatchOption, slice_get};
-ghost use Rattle.p8_lexer.specs.Words.{symbols};
+ghost use Rattle.std.specs.Prelude.{◌≡◌, ◌≢◌, ℕ, Some, MatchOption, slice_get, option_map};
+ghost use Rattle.p8_lexer.specs.Words.{spelling, symbols};
+
+use crate::table::{SYMBOL_COUNT, symbol_rows, table};
+use std::fmt::{self, Debug, Formatter, Write};
 
 /// What one token is to a reader of Spin: a symbol, a reserved word, or one of five kinds.
 ///
 /// Each symbol and each reserved word of the language and of the assembler stands here once. The symbols come
 /// first, in the order of their numbers.
-#[derive(Clone, Copy, Debug, PartialEq, Eq)]
+#[derive(Clone, Copy, PartialEq, Eq)]
 pub enum Word {
     // Operators before or behind a variable, and addresses.
     /// `++`, adds 1 to a variable
@@ -535,104 +538,31 @@ pub enum Word {
     LineEnd,
 }
 
-/// How many symbols there are.
-const SYMBOL_COUNT: u8 = 71;
-
-/// The symbols, each at its number.
-static SYMBOLS: [Word; SYMBOL_COUNT as usize] = [
-    Word::PlusPlus,
-    Word::MinusMinus,
-    Word::Tilde,
-    Word::TildeTilde,
-    Word::At,
-    Word::AtAt,
-    Word::Plus,
-    Word::Minus,
-    Word::SquareRoot,
-    Word::Absolute,
-    Word::DecodeBit,
-    Word::EncodeBit,
-    Word::Invert,
-    Word::RotateRight,
-    Word::RotateLeft,
-    Word::ShiftRight,
-    Word::ShiftLeft,
-    Word::ArithmeticShift,
-    Word::Reverse,
-    Word::BitAnd,
-    Word::BitOr,
-    Word::BitXor,
-    Word::Multiply,
-    Word::MultiplyHigh,
-    Word::Divide,
-    Word::Remainder,
-    Word::LimitMinimum,
-    Word::LimitMaximum,
-    Word::Less,
-    Word::Greater,
-    Word::NotEqual,
-    Word::Equal,
-    Word::LessOrEqual,
-    Word::GreaterOrEqual,
-    Word::Assign,
-    Word::RotateRightAssign,
-    Word::RotateLeftAssign,
-    Word::ShiftRightAssign,
-    Word::ShiftLeftAssign,
-    Word::ArithmeticShiftAssign,
-    Word::ReverseAssign,
-    Word::BitAndAssign,
-    Word::BitOrAssign,
-    Word::BitXorAssign,
-    Word::MultiplyAssign,
-    Word::MultiplyHighAssign,
-    Word::DivideAssign,
-    Word::RemainderAssign,
-    Word::PlusAssign,
-    Word::MinusAssign,
-    Word::LimitMinimumAssign,
-    Word::LimitMaximumAssign,
-    Word::LessAssign,
-    Word::GreaterAssign,
-    Word::NotEqualAssign,
-    Word::EqualAssign,
-    Word::LessOrEqualAssign,
-    Word::GreaterOrEqualAssign,
-    Word::LeftParenthesis,
-    Word::RightParenthesis,
-    Word::LeftBracket,
-    Word::RightBracket,
-    Word::Comma,
-    Word::Colon,
-    Word::Dot,
-    Word::DotDot,
-    Word::EqualSign,
-    Word::Hash,
-    Word::Dollar,
-    Word::Backslash,
-    Word::QuestionMark,
-];
-
-// The symbols, in the order of their numbers.
-fn symbols() -> &'static [Word]
-    ensures { result.now ≡ symbols }
+// The word of the row of this number.
+fn word_at(rows: &[(&'static str, Word)], number: u8) -> Option<Word>
+    ensures { result ≡ option_map (λ row. row.1) (slice_get rows.now number) }
 {
-    &SYMBOLS
-}
-
-// The word of this number among words.
-fn word_at(words: &[Word], number: u8) -> Option<Word>
-    ensures { result ≡ slice_get words.now number }
-{
-    words.get(usize::from(number)).copied()
+    match rows.get(usize::from(number)).copied() {
+        Some((_, word)) => Some(word),
+        None => None,
+    }
 }
 
 impl Word {
+    /// How this symbol or reserved word is spelled, in capitals; empty where it's neither.
+    ///
+    /// A condition has further spellings, which read as the same word.
+    pub fn spelling(self) -> &'static str
+        ensures { result.now ≡ spelling self }
+    {
+        table()[self as usize].0
+    }
+
     /// The symbol of this number, as a [`TokenKind::Symbol`](crate::TokenKind) has it; None where there is none.
     pub fn symbol(number: u8) -> Option<Word>
         ensures { result ≡ slice_get symbols number }
     {
-        word_at(symbols(), number)
+        word_at(symbol_rows(), number)
     }
 
     /// The number of this symbol; None where it's no symbol.
@@ -645,5 +575,11 @@ impl Word {
         } else {
             None
         }
+    }
+}
+
+impl Debug for Word {
+    fn fmt<W: Write>(&self, f: &mut Formatter<W>) -> Result<(), fmt::Error> {
+        write!(f, "{} {}", *self as u8, self.spelling())
     }
 }

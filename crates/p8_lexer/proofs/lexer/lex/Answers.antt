@@ -1,15 +1,15 @@
-use Rattle.std.proofs.Common.{◌≡◌, ◌∙◌, ◌+◌, ◌++◌, length, drop, refl, sym, ap, subst, false, arith}
+use Rattle.std.proofs.Common.{◌≡◌, ◌∙◌, ◌+◌, ◌++◌, length, drop, sym, ap, subst, false, arith}
 use Rattle.std.proofs.lemmas.List.{length-drop}
-use Rattle.p8_lexer.specs.declared.refusal.Refusal.TheVariants.{BadByte, FileTooLong}
+use Rattle.p8_lexer.specs.declared.refusal.Refusal.TheVariants.{BadByte}
 use Rattle.p8_lexer.specs.Characters.{text_of}
-use Rattle.p8_lexer.specs.Places.{start, place_of}
+use Rattle.p8_lexer.specs.Places.{place_of}
 use Rattle.p8_lexer.specs.Lexing.{IsStuck}
 use Rattle.p8_lexer.specs.Cutting.{IsCut, piece_tokens}
-use Rattle.p8_lexer.proofs.Files.{one_further, text_short, whole, stuck_refusal, half_refusal, never_both, fault_is, positive}
+use Rattle.p8_lexer.proofs.Files.{one_further, text_short, whole, stuck_refusal, half_refusal, never_both, length_fault, fault_is, positive}
 use Rattle.p8_lexer.proofs.lexer.lex.Goals as goal
 
 pub returns-then-bytes-gt-LONGEST_FILE-clause-refused : goal.returns-then-bytes-gt-LONGEST_FILE-clause-refused
-returns-then-bytes-gt-LONGEST_FILE-clause-refused c = fault_is c.args.bytes.now FileTooLong start c.fault.result c.fault.ensures (omega arith, refl)
+returns-then-bytes-gt-LONGEST_FILE-clause-refused c = length_fault c.args.bytes.now c.fault.result (omega arith) c.fault.ensures
 
 pub add-requires : goal.add-requires
 add-requires c =
@@ -49,18 +49,18 @@ returns-in-Err-clause-refused c =
     let bytes = c.args.bytes.now in
     let at = c.pieces.at in
     let rest = c.skip.ensures ∙ ap (drop at) c.of_file-text.ensures in
-    fault_is bytes c.in-Err.refusal c.pieces.place c.fault-in-Err.result c.fault-in-Err.ensures
-    (stuck_refusal bytes at c.pieces.tokens.items c.in-Err.refusal c.pieces.place (omega arith) c.pieces.invariant.so_far (subst (IsStuck c.in-Err.refusal false) rest c.in-Err.ensures) c.pieces.invariant.here)
+    fault_is bytes c.in-Err.refusal c.pieces.place c.fault-in-Err.result (omega arith) c.fault-in-Err.ensures
+    (stuck_refusal bytes at c.pieces.tokens.items c.in-Err.refusal c.pieces.place c.pieces.invariant.so_far (subst (IsStuck c.in-Err.refusal false) rest c.in-Err.ensures) c.pieces.invariant.here)
 
 pub returns-then-ends_in_half-clause-refused : goal.returns-then-ends_in_half-clause-refused
 returns-then-ends_in_half-clause-refused c =
     let bytes = c.args.bytes.now in
     let end : c.pieces.at ≡ length (text_of bytes) = omega (arith, c.pieces-test.false, c.len.ensures, ap length c.of_file-text.ensures, c.pieces.invariant.within) in
-    fault_is bytes BadByte c.pieces.place c.fault-then-ends_in_half.result c.fault-then-ends_in_half.ensures
-    (half_refusal bytes c.pieces.at c.pieces.tokens.items c.pieces.place (omega arith) c.pieces.invariant.so_far end (sym c.if-ends_in_half.ensures) c.pieces.invariant.here)
+    fault_is bytes BadByte c.pieces.place c.fault-then-ends_in_half.result (omega arith) c.fault-then-ends_in_half.ensures
+    (half_refusal bytes c.pieces.at c.pieces.tokens.items c.pieces.place c.pieces.invariant.so_far end (sym c.if-ends_in_half.ensures) c.pieces.invariant.here)
 
 pub returns-clause-accepted : goal.returns-clause-accepted
 returns-clause-accepted c =
     let bytes = c.args.bytes.now in
     let end : c.pieces.at ≡ length (text_of bytes) = omega (arith, c.pieces-test.false, c.len.ensures, ap length c.of_file-text.ensures, c.pieces.invariant.within) in
-    λ fault h. never_both bytes c.pieces.tokens.items fault (whole bytes c.pieces.at c.pieces.tokens.items (omega arith) end (sym c.if-ends_in_half.ensures) c.pieces.invariant.so_far) h
+    λ fault h. never_both bytes c.pieces.tokens.items fault (whole bytes c.pieces.at c.pieces.tokens.items end (sym c.if-ends_in_half.ensures) c.pieces.invariant.so_far) (omega arith) h
