@@ -21,7 +21,7 @@ use Rattle.p8_grammar.specs.Machine.{State, walk, start}
 use Rattle.p8_grammar.proofs.Live.{one_tree, is_front, dead}
 use Rattle.p8_grammar.proofs.Readings.{one_longest, taken_front, shows}
 use Rattle.p8_expr.specs.declared.fault.ParseFault.{ParseFault}
-use Rattle.p8_expr.specs.Words.{token_of, place_of}
+use Rattle.p8_expr.specs.Words.{token_of}
 use Rattle.p8_expr.specs.Refusals.{refusal_of}
 use Rattle.p8_expr.specs.Parsing.{Outcome, tree, refused, Ends, whole, too_high, unfit, broken_off, Parses, IsFault, refusal_at, tokens_from}
 use Rattle.p8_expr.specs.Reading.{HasRead}
@@ -64,7 +64,7 @@ one_fault s limit bytes tokens at f g (r, i, x, (t, e, n, p)) (q, j, y, (u, d, m
     let same : r ≡ q = cc in
     let place : i ≡ j = cc in
     let token : t ≡ u = cc in
-    same_fault f g (n ∙ ap refusal_number same ∙ sym m) (p ∙ ap (λ v. place_of v.place) token ∙ sym z)
+    same_fault f g (n ∙ ap refusal_number same ∙ sym m) (p ∙ ap (λ v. v.place) token ∙ sym z)
 
 -- the run
 

@@ -2,5 +2,6 @@
 pub mod Words
 pub mod Refusals
 pub mod Parsing
+pub mod Sources
 -- internal: the reader of the code.
 pub mod Reading

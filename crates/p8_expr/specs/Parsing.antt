@@ -12,7 +12,7 @@ use Rattle.p8_lexer.specs.Words.{word_of}
 use Rattle.p8_grammar.specs.Lexemes.{Setting, Token}
 use Rattle.p8_grammar.specs.Grammar.{IsExpression, IsLongestFront}
 use Rattle.p8_grammar.specs.Heights.{height, IsTooHigh}
-use Rattle.p8_expr.specs.Words.{place_of, token_of}
+use Rattle.p8_expr.specs.Words.{token_of}
 use Rattle.p8_expr.specs.Refusals.{refusal_of}
 use Rattle.p8_expr.specs.declared.fault.ParseFault.{ParseFault}
 
@@ -53,7 +53,7 @@ Parses s limit bytes tokens at o =
 -- a fault tells this refusal at the token of this number
 abbrev pub IsFaultAt : Refusal → List lexer_token.Token → ℕ → ParseFault → Type 0
 IsFaultAt r tokens i fault =
-    (t : lexer_token.Token) × (slice_get tokens i ≡ Some t) × (fault.number ≡ refusal_number r) × (fault.place ≡ place_of t.place)
+    (t : lexer_token.Token) × (slice_get tokens i ≡ Some t) × (fault.number ≡ refusal_number r) × (fault.place ≡ t.place)
 
 -- reading from the token `at` on is refused so
 abbrev pub IsFault : Setting → ℕ → List ℕ → List lexer_token.Token → ℕ → ParseFault → Type 0

@@ -2,8 +2,6 @@
 -- Reference": "Operators" and the entries of the words). Operators, built-ins and changes have the numbers of their
 -- bytecodes and effect bytes, registers those of their addresses in a cog.
 use Rattle.std.specs.Prelude.{ℕ, ◌-◌, List, map, take, drop, length, Some, None}
-use Rattle.p8_tree.specs.declared.places.Place as tree_place
-use Rattle.p8_lexer.specs.declared.place.Place as lexer_place
 use Rattle.p8_lexer.specs.declared.token.Token as lexer_token
 use Rattle.p8_lexer.specs.declared.token.TokenKind.{TokenKind}
 use Rattle.p8_lexer.specs.declared.token.TokenKind.TheVariants as kind
@@ -155,10 +153,6 @@ lexeme_by_kind text w _ = lexeme_by_word text w
 unfoldable pub lexeme_of_token : List ℕ → lexer_token.Token → Lexeme
 lexeme_of_token bytes t = lexeme_by_kind (characters bytes t) (word_of bytes t) t.kind
 
--- the same place in a tree
-abbrev pub place_of : lexer_place.Place → tree_place.Place
-place_of p = record { line = p.line; column = p.column }
-
 -- a token of a file as the grammar of expressions has it
 unfoldable pub token_of : List ℕ → lexer_token.Token → Token
-token_of bytes t = token (place_of t.place) (lexeme_of_token bytes t)
+token_of bytes t = token t.place (lexeme_of_token bytes t)

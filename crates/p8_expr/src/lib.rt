@@ -2,6 +2,7 @@
 #![tactic(auto)]
 
 mod fault;
+mod laws;
 mod parsing;
 mod refusals;
 #[cfg(test)]
@@ -9,6 +10,7 @@ mod tests;
 mod words;
 
 pub use fault::ParseFault;
+pub use laws::{lexemes_are_proper, read_is_proper, tokens_are_lexemes};
 pub use parsing::{GREATEST_HEIGHT, one_answer, parse_expr, parse_expr_in};
 pub use refusals::refusal_of;
-pub use words::{lexeme, place_of};
+pub use words::lexeme;

@@ -14,7 +14,7 @@ ghost use Rattle.p8_expr.specs.Reading.{HasRead};
 
 use crate::fault::ParseFault;
 use crate::refusals::refusal_of;
-use crate::words::{lexeme, place_of};
+use crate::words::lexeme;
 use p8_grammar::{Reader, Setting};
 use p8_lexer::{Refusal, Token, Tokens, word_of};
 use p8_tree::Expr;
@@ -66,9 +66,11 @@ pub fn parse_expr_in(
 {
     let (reader, end) = longest_run(alloc, bytes, tokens, at, setting, height)?;
     if reader.is_higher_than(height) {
+        reader.discard();
         return Err(Fail::Refused(fault(Refusal::TooNested, tokens, at)));
     }
     if let Some(refusal) = refusal_at(bytes, tokens, end, setting) {
+        reader.discard();
         return Err(Fail::Refused(fault(refusal, tokens, end)));
     }
     match reader.finish(alloc)? {
@@ -99,7 +101,14 @@ fn longest_run(
         if reader.is_higher_than(height) {
             return Ok((reader, end));
         }
-        if !take(alloc, bytes, &token, &mut reader)? {
+        let begins = match take(alloc, bytes, &token, &mut reader) {
+            Ok(begins) => begins,
+            Err(error) => {
+                reader.discard();
+                return Err(error);
+            }
+        };
+        if !begins {
             return Ok((reader, end));
         }
         end += 1;
@@ -114,7 +123,7 @@ fn take(alloc: Global, bytes: &[u8], token: &Token, reader: &mut Reader) -> Resu
     ensures taken { (s : lexemes.Setting) (ts : List lexemes.Token) → HasTaken s ts reader.old → IfOk result (λ b. HasTaken s (if b then ts ++ token_of bytes.now token.now ∷ [] else ts) reader.new) }
 {
     let lexeme = lexeme(alloc, bytes, token)?;
-    let begins = reader.take(alloc, place_of(token.place), lexeme)?;
+    let begins = reader.take(alloc, token.place, lexeme)?;
     Ok(begins)
 }
 
@@ -135,7 +144,7 @@ fn fault(refusal: Refusal, tokens: &Tokens, at: usize) -> ParseFault
     let token = token_at(tokens, at);
     ParseFault {
         number: refusal.number(),
-        place: place_of(token.place),
+        place: token.place,
     }
 }
 

@@ -3,11 +3,11 @@ ghost use Rattle.std.specs.Prelude.{◌≡◌, ◌≢◌, ◌<◌, ◌≤◌, If
 ghost use Rattle.p8_lexer.specs.declared.word.Word.TheVariants as word_case;
 ghost use Rattle.p8_lexer.specs.Words.{capital};
 ghost use Rattle.p8_grammar.specs.Views.{lexeme_of};
-ghost use Rattle.p8_expr.specs.Words.{lexeme_of_word, lexeme_by_word, lexeme_of_token, between_quotes, place_of};
+ghost use Rattle.p8_expr.specs.Words.{lexeme_of_word, lexeme_by_word, lexeme_of_token, between_quotes};
 
 use p8_grammar::{Access, Lexeme, Mark, Operator, Term};
 use p8_lexer::{Characters, Token, TokenKind, Word, word_of};
-use p8_tree::{Place, Text};
+use p8_tree::Text;
 use p8_words::NoMemory;
 use std::alloc::{AllocError, Global};
 
@@ -192,15 +192,5 @@ pub fn lexeme(alloc: Global, bytes: &[u8], token: &Token) -> Result<Lexeme, NoMe
         TokenKind::Name | TokenKind::Float | TokenKind::Symbol(_) | TokenKind::LineEnd => {
             Ok(lexeme_by_word(alloc, word_of(bytes, token), &text)?)
         }
-    }
-}
-
-/// The same place, as trees have it.
-pub fn place_of(place: p8_lexer::Place) -> Place
-    ensures { result ≡ place_of place }
-{
-    Place {
-        line: place.line,
-        column: place.column,
     }
 }

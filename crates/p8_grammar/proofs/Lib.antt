@@ -13,4 +13,4 @@ pub mod Measures
 pub mod Endings
 pub mod Readings
 pub mod Resolving
-pub mod Rows
+mod Proper

@@ -16,12 +16,9 @@ use Rattle.p8_grammar.specs.declared.shapes.Shape as shape
 use Rattle.p8_grammar.specs.declared.shapes.Hole as hole
 use Rattle.p8_grammar.specs.declared.forms.Finished as finished
 use Rattle.p8_grammar.specs.declared.forms.Finished.TheVariants as finished_case
-use Rattle.p8_grammar.specs.declared.forms.Written as written
-use Rattle.p8_grammar.specs.declared.forms.Written.TheVariants as written_case
-use Rattle.p8_grammar.specs.declared.measured.TallTarget.{TallTarget}
 use Rattle.p8_grammar.specs.declared.shapes.Grown as grown
 use Rattle.p8_grammar.specs.declared.shapes.Grown.TheVariants as grown_case
-use Rattle.p8_grammar.specs.Views.{term_of, shape_of, hole_of, target_of, tree_in, Grows, IsWhole, IsTarget}
+use Rattle.p8_grammar.specs.Views.{term_of, shape_of, hole_of, tree_in, Grows, IsWhole}
 use Rattle.p8_grammar.specs.Levels.{Takes}
 use Rattle.p8_grammar.proofs.Walks.{wraps}
 
@@ -141,8 +138,3 @@ whole_is sh (finished_case.Tree t) h = h
 whole_is sh (finished_case.Not x) h = h.0
 
 -- a variable that may be written, or none
-pub written_is : (sh : Shape) (w : written.Written) (v : TallTarget) → IsTarget sh w → w ≡ written_case.Variable v → target sh ≡ Some (target_of v)
-written_is sh w v h is = subst (λ w. IsTarget sh w) is h
-
-pub written_not : (sh : Shape) (w : written.Written) (x : shape.Shape) → IsTarget sh w → w ≡ written_case.Not x → (target sh ≡ None) × (shape_of x ≡ sh)
-written_not sh w x h is = subst (λ w. IsTarget sh w) is h

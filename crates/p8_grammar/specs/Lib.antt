@@ -2,6 +2,7 @@
 pub mod Lexemes
 pub mod Grammar
 pub mod Heights
+pub mod Proper
 pub mod Reading
 -- internal: the reader of the proofs and the code.
 pub mod Machine

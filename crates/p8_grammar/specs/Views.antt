@@ -106,7 +106,7 @@ use_of (use_case.Addressing p) = machine.addressing p
 use_of (use_case.Changing p b) = machine.changing p b
 
 abbrev pub expr_of : Tall → Tree
-expr_of t = tree_of t.tree
+expr_of t = tree_of t.tree.value
 
 abbrev pub target_of : TallTarget → Variable
 target_of t = variable_of t.target

@@ -1,10 +1,10 @@
 // Trees with their heights, from their parts.
 ghost use Rattle.std.specs.Prelude.{◌≡◌, ◌+◌, ◌≤◌, ◌<◌, min, max, IfOk, Option};
-ghost use Rattle.p8_tree.specs.Expressions.{node, Number, Var, Unary, Binary, Assign, Change, Address, ObjectAddress, Built, Look, Named, Part, Memory, Register, no_index, index, whole, bits, single, range, no_trees, ◌▷◌, no_items, ◌▸◌};
-ghost use Rattle.p8_tree.specs.Views.{tree_of, variable_of, trees_of, items_of, item_of};
+ghost use Rattle.p8_tree.specs.Expressions.{node, Number, Unary, Binary, Assign, Change, ObjectAddress, Built, Look, Named, Part, Memory, Register, no_index, index, whole, bits, single, range, no_trees, ◌▷◌, no_items, ◌▸◌};
+ghost use Rattle.p8_tree.specs.Views.{tree_of, form_of, variable_of, item_of};
 ghost use Rattle.p8_grammar.specs.Grammar.{place_of, applied};
 ghost use Rattle.p8_tree.specs.Bridges.{boxed_index};
-ghost use Rattle.p8_grammar.specs.Heights.{height_in_index};
+ghost use Rattle.p8_grammar.specs.Heights.{height, height_in_index, height_of_item};
 ghost use Rattle.p8_grammar.specs.Machine.{used};
 ghost use Rattle.p8_grammar.specs.Views.{expr_of, target_of, list_of, choices_of, use_of, head_of, index_in};
 
@@ -21,15 +21,30 @@ pub fn over(high: u8) -> u8
     if high < TOO_HIGH { high + 1 } else { TOO_HIGH }
 }
 
+impl Tall {
+    /// A form at its place, with its height.
+    pub fn new(alloc: Global, place: Place, kind: ExprKind, high: u8) -> Result<Tall, AllocError>
+        requires { high ≡ min 65 (height (node place (form_of kind))) }
+        ensures { IfOk result (λ e. expr_of e ≡ node place (form_of kind)) }
+    {
+        let tree = Box::new(alloc, Expr { place, kind })?;
+        Ok(Tall { tree, high })
+    }
+
+    /// The tree alone.
+    pub fn into_tree(self) -> Expr
+        ensures { tree_of result ≡ expr_of self }
+    {
+        let Tall { tree, .. } = self;
+        Box::into_inner(tree)
+    }
+}
+
 /// A number.
-pub fn number(place: Place, value: u32) -> Tall
-    ensures { expr_of result ≡ node place (Number value) }
+pub fn number(alloc: Global, place: Place, value: u32) -> Result<Tall, AllocError>
+    ensures { IfOk result (λ e. expr_of e ≡ node place (Number value)) }
 {
-    let tree = Expr {
-        place,
-        kind: ExprKind::Number(value),
-    };
-    Tall { tree, high: 1 }
+    Tall::new(alloc, place, ExprKind::Number(value), 1)
 }
 
 /// An operator before its operand.
@@ -37,11 +52,7 @@ pub fn unary(alloc: Global, place: Place, code: u8, operand: Tall) -> Result<Tal
     ensures { IfOk result (λ e. expr_of e ≡ node place (Unary code (expr_of operand))) }
 {
     let Tall { tree, high } = operand;
-    let kind = ExprKind::Unary(code, Box::new(alloc, tree)?);
-    Ok(Tall {
-        tree: Expr { place, kind },
-        high: over(high),
-    })
+    Tall::new(alloc, place, ExprKind::Unary(code, tree), over(high))
 }
 
 /// `@@` before its operand.
@@ -49,11 +60,7 @@ pub fn at_object(alloc: Global, place: Place, operand: Tall) -> Result<Tall, All
     ensures { IfOk result (λ e. expr_of e ≡ node place (ObjectAddress (expr_of operand))) }
 {
     let Tall { tree, high } = operand;
-    let kind = ExprKind::ObjectAddress(Box::new(alloc, tree)?);
-    Ok(Tall {
-        tree: Expr { place, kind },
-        high: over(high),
-    })
+    Tall::new(alloc, place, ExprKind::ObjectAddress(tree), over(high))
 }
 
 /// An operator between its operands.
@@ -67,12 +74,12 @@ pub fn binary(
     ensures { IfOk result (λ e. expr_of e ≡ node place (Binary code (expr_of left) (expr_of right))) }
 {
     let high = over(left.high.max(right.high));
-    let left = Box::new(alloc, left.tree)?;
-    let kind = ExprKind::Binary(code, left, Box::new(alloc, right.tree)?);
-    Ok(Tall {
-        tree: Expr { place, kind },
+    Tall::new(
+        alloc,
+        place,
+        ExprKind::Binary(code, left.tree, right.tree),
         high,
-    })
+    )
 }
 
 /// An assignment.
@@ -86,24 +93,21 @@ pub fn assignment(
     ensures { IfOk result (λ e. expr_of e ≡ node place (Assign (target_of variable) operator (expr_of value))) }
 {
     let high = over(variable.high.max(value.high));
-    let value = Box::new(alloc, value.tree)?;
-    let kind = ExprKind::Assign(variable.target, operator, value);
-    Ok(Tall {
-        tree: Expr { place, kind },
-        high,
-    })
+    let kind = ExprKind::Assign(variable.target, operator, value.tree);
+    Tall::new(alloc, place, kind, high)
 }
 
 /// A change of a variable.
-pub fn change(place: Place, variable: TallTarget, effect: u8) -> Tall
-    ensures { expr_of result ≡ node place (Change (target_of variable) effect) }
+pub fn change(
+    alloc: Global,
+    place: Place,
+    variable: TallTarget,
+    effect: u8,
+) -> Result<Tall, AllocError>
+    ensures { IfOk result (λ e. expr_of e ≡ node place (Change (target_of variable) effect)) }
 {
-    let high = over(variable.high);
-    let kind = ExprKind::Change(variable.target, effect);
-    Tall {
-        tree: Expr { place, kind },
-        high,
-    }
+    let TallTarget { target, high } = variable;
+    Tall::new(alloc, place, ExprKind::Change(target, effect), over(high))
 }
 
 // The place of a variable's first token.
@@ -119,33 +123,20 @@ fn place_of(target: &Target) -> Place
 }
 
 /// A variable in its use.
-pub fn used(usage: Use, variable: TallTarget) -> Tall
-    ensures { expr_of result ≡ used (use_of usage) (target_of variable) }
+pub fn used(alloc: Global, usage: Use, variable: TallTarget) -> Result<Tall, AllocError>
+    ensures { IfOk result (λ e. expr_of e ≡ used (use_of usage) (target_of variable)) }
 {
-    let high = over(variable.high);
-    let first = place_of(&variable.target);
+    let TallTarget { target, high } = variable;
+    let high = over(high);
     match usage {
-        Use::Reading => Tall {
-            tree: Expr {
-                place: first,
-                kind: ExprKind::Var(variable.target),
-            },
-            high,
-        },
-        Use::Addressing(place) => Tall {
-            tree: Expr {
-                place,
-                kind: ExprKind::Address(variable.target),
-            },
-            high,
-        },
-        Use::Changing(place, effect) => Tall {
-            tree: Expr {
-                place,
-                kind: ExprKind::Change(variable.target, effect),
-            },
-            high,
-        },
+        Use::Reading => {
+            let first = place_of(&target);
+            Tall::new(alloc, first, ExprKind::Var(target), high)
+        }
+        Use::Addressing(place) => Tall::new(alloc, place, ExprKind::Address(target), high),
+        Use::Changing(place, effect) => {
+            Tall::new(alloc, place, ExprKind::Change(target, effect), high)
+        }
     }
 }
 
@@ -160,20 +151,14 @@ pub fn named(place: Place, name: Text) -> TallTarget
 }
 
 /// An element of a variable.
-pub fn element(
-    alloc: Global,
-    place: Place,
-    name: Text,
-    position: Tall,
-) -> Result<TallTarget, AllocError>
-    ensures { IfOk result (λ v. target_of v ≡ Named name (index (expr_of position)) place) }
+pub fn element(place: Place, name: Text, position: Tall) -> TallTarget
+    ensures { target_of result ≡ Named name (index (expr_of position)) place }
 {
     let Tall { tree, high } = position;
-    let tree = Box::new(alloc, tree)?;
-    Ok(TallTarget {
+    TallTarget {
         target: Target::Named(name, Some(tree), place),
         high,
-    })
+    }
 }
 
 /// A part of a variable.
@@ -187,57 +172,36 @@ pub fn part(place: Place, name: Text, size: u8) -> TallTarget
 }
 
 /// An element of a part of a variable.
-pub fn part_element(
-    alloc: Global,
-    place: Place,
-    name: Text,
-    size: u8,
-    position: Tall,
-) -> Result<TallTarget, AllocError>
-    ensures { IfOk result (λ v. target_of v ≡ Part name size (index (expr_of position)) place) }
+pub fn part_element(place: Place, name: Text, size: u8, position: Tall) -> TallTarget
+    ensures { target_of result ≡ Part name size (index (expr_of position)) place }
 {
     let Tall { tree, high } = position;
-    let tree = Box::new(alloc, tree)?;
-    Ok(TallTarget {
+    TallTarget {
         target: Target::Part(name, size, Some(tree), place),
         high,
-    })
+    }
 }
 
 /// Main memory at an address.
-pub fn memory(
-    alloc: Global,
-    place: Place,
-    size: u8,
-    address: Tall,
-) -> Result<TallTarget, AllocError>
-    ensures { IfOk result (λ v. target_of v ≡ Memory size (expr_of address) no_index place) }
+pub fn memory(place: Place, size: u8, address: Tall) -> TallTarget
+    ensures { target_of result ≡ Memory size (expr_of address) no_index place }
 {
     let Tall { tree, high } = address;
-    let tree = Box::new(alloc, tree)?;
-    Ok(TallTarget {
+    TallTarget {
         target: Target::Memory(size, tree, None, place),
         high,
-    })
+    }
 }
 
 /// An element of main memory from an address on.
-pub fn memory_element(
-    alloc: Global,
-    place: Place,
-    size: u8,
-    address: Tall,
-    position: Tall,
-) -> Result<TallTarget, AllocError>
-    ensures { IfOk result (λ v. target_of v ≡ Memory size (expr_of address) (index (expr_of position)) place) }
+pub fn memory_element(place: Place, size: u8, address: Tall, position: Tall) -> TallTarget
+    ensures { target_of result ≡ Memory size (expr_of address) (index (expr_of position)) place }
 {
     let high = address.high.max(position.high);
-    let address = Box::new(alloc, address.tree)?;
-    let position = Box::new(alloc, position.tree)?;
-    Ok(TallTarget {
-        target: Target::Memory(size, address, Some(position), place),
+    TallTarget {
+        target: Target::Memory(size, address.tree, Some(position.tree), place),
         high,
-    })
+    }
 }
 
 /// A whole register.
@@ -250,6 +214,26 @@ pub fn register(place: Place, address: u16) -> TallTarget
     }
 }
 
+// A value as an item.
+fn value(tree: Tall) -> Item
+    ensures { item_of result ≡ single (expr_of tree) }
+{
+    Item {
+        low: tree.into_tree(),
+        high: None,
+    }
+}
+
+// A range as an item.
+fn span(low: Tall, last: Tall) -> Item
+    ensures { item_of result ≡ range (expr_of low) (expr_of last) }
+{
+    Item {
+        low: low.into_tree(),
+        high: Some(last.into_tree()),
+    }
+}
+
 /// A bit of a register.
 pub fn register_bit(
     alloc: Global,
@@ -259,12 +243,8 @@ pub fn register_bit(
 ) -> Result<TallTarget, AllocError>
     ensures { IfOk result (λ v. target_of v ≡ Register address (bits (single (expr_of bit))) place) }
 {
-    let Tall { tree, high } = bit;
-    let item = Item {
-        low: tree,
-        high: None,
-    };
-    let item = Box::new(alloc, item)?;
+    let high = bit.high;
+    let item = Box::new(alloc, value(bit))?;
     Ok(TallTarget {
         target: Target::Register(address, Some(item), place),
         high,
@@ -282,11 +262,7 @@ pub fn register_bits(
     ensures { IfOk result (λ v. target_of v ≡ Register address (bits (range (expr_of low) (expr_of last))) place) }
 {
     let high = low.high.max(last.high);
-    let item = Item {
-        low: low.tree,
-        high: Some(last.tree),
-    };
-    let item = Box::new(alloc, item)?;
+    let item = Box::new(alloc, span(low, last))?;
     Ok(TallTarget {
         target: Target::Register(address, Some(item), place),
         high,
@@ -311,7 +287,7 @@ impl TallList {
         let TallList { trees, high } = self;
         let high = high.max(argument.high);
         let mut trees = trees;
-        trees.push(argument.tree)?;
+        trees.push(argument.into_tree())?;
         Ok(TallList { trees, high })
     }
 }
@@ -327,48 +303,43 @@ impl TallItems {
         }
     }
 
-    /// One more item, a value.
-    pub fn with_value(self, value: Tall) -> Result<TallItems, AllocError>
-        ensures { IfOk result (λ xs. choices_of xs ≡ choices_of self ▸ single (expr_of value)) }
+    // One more item, the last, with its height.
+    fn with(self, item: Item, height: u8) -> Result<TallItems, AllocError>
+        requires { height ≡ min 65 (height_of_item (item_of item)) }
+        ensures { IfOk result (λ xs. choices_of xs ≡ choices_of self ▸ item_of item) }
     {
         let TallItems { items, high } = self;
-        let high = high.max(value.high);
         let mut items = items;
-        items.push(Item {
-            low: value.tree,
-            high: None,
-        })?;
-        Ok(TallItems { items, high })
+        items.push(item)?;
+        Ok(TallItems {
+            items,
+            high: high.max(height),
+        })
+    }
+
+    /// One more item, a value.
+    pub fn with_value(self, tree: Tall) -> Result<TallItems, AllocError>
+        ensures { IfOk result (λ xs. choices_of xs ≡ choices_of self ▸ single (expr_of tree)) }
+    {
+        let high = tree.high;
+        self.with(value(tree), high)
     }
 
     /// One more item, a range.
     pub fn with_range(self, low: Tall, last: Tall) -> Result<TallItems, AllocError>
         ensures { IfOk result (λ xs. choices_of xs ≡ choices_of self ▸ range (expr_of low) (expr_of last)) }
     {
-        let TallItems { items, high } = self;
-        let high = high.max(low.high.max(last.high));
-        let mut items = items;
-        items.push(Item {
-            low: low.tree,
-            high: Some(last.tree),
-        })?;
-        Ok(TallItems { items, high })
+        let high = low.high.max(last.high);
+        self.with(span(low, last), high)
     }
 }
 
 /// A built-in with its arguments.
-pub fn built(place: Place, code: u8, arguments: TallList) -> Tall
-    ensures { expr_of result ≡ node place (Built code (list_of arguments)) }
+pub fn built(alloc: Global, place: Place, code: u8, arguments: TallList) -> Result<Tall, AllocError>
+    ensures { IfOk result (λ e. expr_of e ≡ node place (Built code (list_of arguments))) }
 {
     let TallList { trees, high } = arguments;
-    let tree = Expr {
-        place,
-        kind: ExprKind::Built(code, trees),
-    };
-    Tall {
-        tree,
-        high: over(high),
-    }
+    Tall::new(alloc, place, ExprKind::Built(code, trees), over(high))
 }
 
 /// A `LOOK` function.
@@ -382,12 +353,12 @@ pub fn look(
     ensures { IfOk result (λ e. expr_of e ≡ node place (Look code (expr_of value) (choices_of items))) }
 {
     let high = over(value.high.max(items.high));
-    let value = Box::new(alloc, value.tree)?;
-    let tree = Expr {
+    Tall::new(
+        alloc,
         place,
-        kind: ExprKind::Look(code, value, items.items),
-    };
-    Ok(Tall { tree, high })
+        ExprKind::Look(code, value.tree, items.items),
+        high,
+    )
 }
 
 // The index of a call's object.
@@ -397,23 +368,19 @@ struct Position {
     high: u8,
 }
 
-fn boxed(alloc: Global, element: Option<Tall>) -> Result<Position, AllocError>
-    ensures place { IfOk result (λ x. boxed_index x.index ≡ index_in element) }
-    ensures height { IfOk result (λ x. x.high ≡ min 65 (height_in_index (index_in element))) }
+fn index_of(element: Option<Tall>) -> Position
+    ensures place { boxed_index result.index ≡ index_in element }
+    ensures height { result.high ≡ min 65 (height_in_index (index_in element)) }
 {
     match element {
-        None => Ok(Position {
+        None => Position {
             index: None,
             high: 0,
-        }),
-        Some(tall) => {
-            let high = tall.high;
-            let tree = Box::new(alloc, tall.tree)?;
-            Ok(Position {
-                index: Some(tree),
-                high,
-            })
-        }
+        },
+        Some(Tall { tree, high }) => Position {
+            index: Some(tree),
+            high,
+        },
     }
 }
 
@@ -422,23 +389,19 @@ pub fn applied(alloc: Global, head: Head, arguments: TallList) -> Result<Tall, A
     ensures { IfOk result (λ e. expr_of e ≡ applied (head_of head) (list_of arguments)) }
 {
     match head {
-        Head::Calls(trap, object, index, method, method_place, place) => {
-            let Position { index, high } = boxed(alloc, index)?;
-            let high = over(high.max(arguments.high));
+        Head::Calls(trap, object, element, method, method_place, place) => {
+            let at = index_of(element);
+            let high = over(at.high.max(arguments.high));
             let call = Call {
                 trap,
                 object,
-                index,
+                index: at.index,
                 method,
                 method_place,
                 args: arguments.trees,
             };
-            let tree = Expr {
-                place,
-                kind: ExprKind::Call(call),
-            };
-            Ok(Tall { tree, high })
+            Tall::new(alloc, place, ExprKind::Call(call), high)
         }
-        Head::Built(code, place) => Ok(built(place, code, arguments)),
+        Head::Built(code, place) => built(alloc, place, code, arguments),
     }
 }

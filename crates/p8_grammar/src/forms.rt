@@ -1,7 +1,10 @@
 // What a form is with an expression more, and what a whole form is.
-ghost use Rattle.std.specs.Prelude.{◌≡◌, IfOk, IsSome};
-ghost use Rattle.p8_grammar.specs.Machine.{named_element, at_right_bracket, at_right_parenthesis, at_comma, at_colon, at_range, close, stays};
-ghost use Rattle.p8_grammar.specs.Views.{Closes, IsWhole, IsTarget, expr_of, target_of, shape_of, hole_of, use_of, mark_of};
+ghost use Rattle.std.specs.Prelude.{◌≡◌, IfOk, IsSome, Some};
+ghost use Rattle.p8_tree.specs.Expressions.{◌▷◌};
+ghost use Rattle.p8_grammar.specs.Grammar.{applied};
+ghost use Rattle.p8_grammar.specs.Machine as machine;
+ghost use Rattle.p8_grammar.specs.Machine.{named_element, at_right_bracket, at_right_parenthesis, at_comma, at_colon, at_range, close, stays, opens, done, argument_of};
+ghost use Rattle.p8_grammar.specs.Views.{Closes, IsWhole, IsTarget, expr_of, target_of, shape_of, hole_of, use_of, mark_of, head_of, list_of};
 
 use crate::building;
 use crate::lexemes::{Access, Mark};
@@ -33,98 +36,93 @@ pub enum Written {
     Not(Shape),
 }
 
+// A form with this tree.
+fn with_tree(tree: Result<Tall, AllocError>) -> Result<Finished, AllocError>
+    ensures { (sh : machine.Shape) → IfOk tree (λ e. machine.tree sh ≡ Some (expr_of e)) → IfOk result (λ w. IsWhole sh w) }
+{
+    Ok(Finished::Tree(tree?))
+}
+
 /// The tree of a form, where it is whole.
 pub fn whole(alloc: Global, shape: Shape) -> Result<Finished, AllocError>
     ensures { IfOk result (λ w. IsWhole (shape_of shape) w) }
 {
     match shape {
-        Shape::Named(usage, _, place, name) => Ok(Finished::Tree(building::used(
-            usage,
-            building::named(place, name),
-        ))),
-        Shape::IndexedName(place, name, index) => Ok(Finished::Tree(building::used(
-            Use::Reading,
-            building::element(alloc, place, name, index)?,
-        ))),
-        Shape::Parted(usage, place, name, size) => Ok(Finished::Tree(building::used(
-            usage,
-            building::part(place, name, size),
-        ))),
-        Shape::MemoryWord(usage, place, size, address) => Ok(Finished::Tree(building::used(
-            usage,
-            building::memory(alloc, place, size, address)?,
-        ))),
-        Shape::RegisterWord(usage, place, address, _) => Ok(Finished::Tree(building::used(
-            usage,
-            building::register(place, address),
-        ))),
-        Shape::Ready(usage, variable, _) => Ok(Finished::Tree(building::used(usage, variable))),
+        Shape::Named(usage, _, place, name) => {
+            with_tree(building::used(alloc, usage, building::named(place, name)))
+        }
+        Shape::IndexedName(place, name, index) => {
+            let variable = building::element(place, name, index);
+            with_tree(building::used(alloc, Use::Reading, variable))
+        }
+        Shape::Parted(usage, place, name, size) => {
+            with_tree(building::used(alloc, usage, building::part(place, name, size)))
+        }
+        Shape::MemoryWord(usage, place, size, address) => {
+            with_tree(building::used(alloc, usage, building::memory(place, size, address)))
+        }
+        Shape::RegisterWord(usage, place, address, _) => {
+            drop(shape);
+            with_tree(building::used(alloc, usage, building::register(place, address)))
+        }
+        Shape::Ready(usage, variable, _) => with_tree(building::used(alloc, usage, variable)),
         Shape::TrappedName(place, name) => {
             let head = Head::Calls(true, None, None, name, place, place);
-            let tree = building::applied(alloc, head, TallList::new(alloc))?;
-            Ok(Finished::Tree(tree))
+            with_tree(building::applied(alloc, head, TallList::new(alloc)))
         }
-        Shape::Headed(head) => {
-            let tree = building::applied(alloc, head, TallList::new(alloc))?;
-            Ok(Finished::Tree(tree))
-        }
+        Shape::Headed(head) => with_tree(building::applied(alloc, head, TallList::new(alloc))),
         Shape::Done(tree) => Ok(Finished::Tree(tree)),
         other => Ok(Finished::Not(other)),
     }
 }
 
 /// The variable of a form, where it is one that is read and may be written.
-pub fn target(alloc: Global, shape: Shape) -> Result<Written, AllocError>
-    ensures { IfOk result (λ w. IsTarget (shape_of shape) w) }
+pub fn target(shape: Shape) -> Written
+    ensures { IsTarget (shape_of shape) result }
 {
     match shape {
         Shape::Named(Use::Reading, _, place, name) => {
-            Ok(Written::Variable(building::named(place, name)))
+            Written::Variable(building::named(place, name))
         }
-        Shape::IndexedName(place, name, index) => Ok(Written::Variable(building::element(
-            alloc, place, name, index,
-        )?)),
+        Shape::IndexedName(place, name, index) => {
+            Written::Variable(building::element(place, name, index))
+        }
         Shape::Parted(Use::Reading, place, name, size) => {
-            Ok(Written::Variable(building::part(place, name, size)))
+            Written::Variable(building::part(place, name, size))
         }
-        Shape::MemoryWord(Use::Reading, place, size, address) => Ok(Written::Variable(
-            building::memory(alloc, place, size, address)?,
-        )),
+        Shape::MemoryWord(Use::Reading, place, size, address) => {
+            Written::Variable(building::memory(place, size, address))
+        }
         Shape::RegisterWord(Use::Reading, place, address, access) => {
             if access.is_written() {
-                Ok(Written::Variable(building::register(place, address)))
+                drop(shape);
+                Written::Variable(building::register(place, address))
             } else {
-                Ok(Written::Not(Shape::RegisterWord(Use::Reading, place, address, access)))
+                Written::Not(shape)
             }
         }
         Shape::Ready(Use::Reading, variable, access) => {
             if access.is_written() {
-                Ok(Written::Variable(variable))
+                Written::Variable(variable)
             } else {
-                Ok(Written::Not(Shape::Ready(Use::Reading, variable, access)))
+                Written::Not(Shape::Ready(Use::Reading, variable, access))
             }
         }
-        other => Ok(Written::Not(other)),
+        other => Written::Not(other),
     }
 }
 
 // `]` behind a name's index.
-fn named_element(
-    alloc: Global,
-    usage: Use,
-    plain: bool,
-    place: Place,
-    name: Text,
-    position: Tall,
-) -> Result<Shape, AllocError>
-    ensures { IfOk result (λ x. named_element (use_of usage) plain place name (expr_of position) ≡ stays (shape_of x)) }
+fn named_element(usage: Use, plain: bool, place: Place, name: Text, position: Tall) -> Shape
+    ensures { named_element (use_of usage) plain place name (expr_of position) ≡ stays (shape_of result) }
 {
     match usage {
-        Use::Reading if plain => Ok(Shape::IndexedName(place, name, position)),
-        _ => {
-            let variable = building::element(alloc, place, name, position)?;
-            Ok(Shape::Ready(usage, variable, Access::Memory))
-        }
+        Use::Reading if plain => Shape::IndexedName(place, name, position),
+        _ => Shape::Ready(
+            usage,
+            building::element(place, name, position),
+            Access::Memory,
+        ),
     }
 }
 
@@ -133,21 +131,23 @@ fn at_right_bracket(alloc: Global, hole: Hole, tree: Tall) -> Result<Closed, All
     ensures { IfOk result (λ c. Closes (at_right_bracket (hole_of hole) (expr_of tree)) c) }
 {
     match hole {
-        Hole::NameIndex(usage, plain, place, name) => Ok(Closed::Stays(named_element(
-            alloc, usage, plain, place, name, tree,
-        )?)),
+        Hole::NameIndex(usage, plain, place, name) => {
+            Ok(Closed::Stays(named_element(usage, plain, place, name, tree)))
+        }
         Hole::PartIndex(usage, place, name, size) => {
-            let variable = building::part_element(alloc, place, name, size, tree)?;
+            let variable = building::part_element(place, name, size, tree);
             Ok(Closed::Stays(Shape::Ready(usage, variable, Access::Memory)))
         }
         Hole::MemoryAddress(usage, place, size) => {
+            drop(hole);
             Ok(Closed::Stays(Shape::MemoryWord(usage, place, size, tree)))
         }
         Hole::MemoryIndex(usage, place, size, address) => {
-            let variable = building::memory_element(alloc, place, size, address, tree)?;
+            let variable = building::memory_element(place, size, address, tree);
             Ok(Closed::Stays(Shape::Ready(usage, variable, Access::Memory)))
         }
         Hole::FirstBit(usage, place, address, access) => {
+            drop(hole);
             let variable = building::register_bit(alloc, place, address, tree)?;
             Ok(Closed::Stays(Shape::Ready(usage, variable, access)))
         }
@@ -162,19 +162,50 @@ fn at_right_bracket(alloc: Global, hole: Hole, tree: Tall) -> Result<Closed, All
     }
 }
 
+// A call with one more argument, the last.
+fn called(alloc: Global, head: Head, arguments: TallList, last: Tall) -> Result<Closed, AllocError>
+    ensures { IfOk result (λ c. Closes (Some (stays (done (applied (head_of head) (list_of arguments ▷ expr_of last))))) c) }
+{
+    match arguments.with(last) {
+        Ok(arguments) => {
+            let call = building::applied(alloc, head, arguments)?;
+            Ok(Closed::Stays(Shape::Done(call)))
+        }
+        Err(error) => {
+            drop(head);
+            Err(error)
+        }
+    }
+}
+
+// A call with one more argument, behind which another comes.
+fn another_argument(head: Head, arguments: TallList, tree: Tall) -> Result<Closed, AllocError>
+    ensures { IfOk result (λ c. Closes (Some (opens (argument_of (head_of head) (list_of arguments ▷ expr_of tree)))) c) }
+{
+    match arguments.with(tree) {
+        Ok(arguments) => Ok(Closed::Opens(Hole::ArgumentOf(head, arguments))),
+        Err(error) => {
+            drop(head);
+            Err(error)
+        }
+    }
+}
+
 fn at_right_parenthesis(alloc: Global, hole: Hole, tree: Tall) -> Result<Closed, AllocError>
     requires { IsSome (at_right_parenthesis (hole_of hole) (expr_of tree)) }
     ensures { IfOk result (λ c. Closes (at_right_parenthesis (hole_of hole) (expr_of tree)) c) }
 {
     match hole {
-        Hole::Parenthesis => Ok(Closed::Stays(Shape::Done(tree))),
-        Hole::ArgumentOf(head, arguments) => {
-            let call = building::applied(alloc, head, arguments.with(tree)?)?;
-            Ok(Closed::Stays(Shape::Done(call)))
+        Hole::Parenthesis => {
+            drop(hole);
+            Ok(Closed::Stays(Shape::Done(tree)))
         }
+        Hole::ArgumentOf(head, arguments) => called(alloc, head, arguments, tree),
         Hole::ConstantOf(place) => {
+            drop(hole);
             let arguments = TallList::new(alloc).with(tree)?;
-            Ok(Closed::Stays(Shape::Done(building::built(place, 0, arguments))))
+            let constant = building::built(alloc, place, 0, arguments)?;
+            Ok(Closed::Stays(Shape::Done(constant)))
         }
         Hole::ChoiceOf(place, code, value, items) => {
             let items = items.with_value(tree)?;
@@ -195,10 +226,7 @@ fn at_comma(hole: Hole, tree: Tall) -> Result<Closed, AllocError>
     ensures { IfOk result (λ c. Closes (at_comma (hole_of hole) (expr_of tree)) c) }
 {
     match hole {
-        Hole::ArgumentOf(head, arguments) => {
-            let arguments = arguments.with(tree)?;
-            Ok(Closed::Opens(Hole::ArgumentOf(head, arguments)))
-        }
+        Hole::ArgumentOf(head, arguments) => another_argument(head, arguments, tree),
         Hole::ChoiceOf(place, code, value, items) => {
             let items = items.with_value(tree)?;
             Ok(Closed::Opens(Hole::ChoiceOf(place, code, value, items)))
@@ -217,6 +245,7 @@ fn at_colon(alloc: Global, hole: Hole, tree: Tall) -> Closed
 {
     match hole {
         Hole::LookFor(place, code) => {
+            drop(hole);
             Closed::Opens(Hole::ChoiceOf(place, code, tree, TallItems::new(alloc)))
         }
         _ => unreachable!(),
@@ -229,6 +258,7 @@ fn at_range(hole: Hole, tree: Tall) -> Closed
 {
     match hole {
         Hole::FirstBit(usage, place, address, access) => {
+            drop(hole);
             Closed::Opens(Hole::LastBit(usage, place, address, access, tree))
         }
         Hole::ChoiceOf(place, code, value, items) => {

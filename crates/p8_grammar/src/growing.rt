@@ -1,7 +1,10 @@
 // What a form is with one more word.
 ghost use Rattle.std.specs.Prelude.{◌≡◌, ℕ, ◌∷◌, IfOk, List};
+ghost use Rattle.p8_tree.specs.Expressions.{node, Built, no_trees};
+ghost use Rattle.p8_tree.specs.Views.{form_of};
+ghost use Rattle.p8_grammar.specs.Heights.{height};
 ghost use Rattle.p8_grammar.specs.Views.{Grows, shape_of, access_of, setting_of, use_of, mark_of, term_of};
-ghost use Rattle.p8_grammar.specs.Machine.{takes, begins, on_name, on_result, on_string, on_size, on_register, on_change, on_parenthesis, on_bracket, on_dot, on_hash, on_colon, on_close, on_mark, grow, stays};
+ghost use Rattle.p8_grammar.specs.Machine.{takes, begins, on_name, on_result, on_character, on_string, on_size, on_register, on_change, on_parenthesis, on_bracket, on_dot, on_hash, on_colon, on_close, on_mark, grow, stays, done, using};
 ghost use Rattle.p8_grammar.specs.Lexemes.{in_method, here};
 
 use crate::building::{built, change, number};
@@ -9,7 +12,7 @@ use crate::forms::{Written, target};
 use crate::lexemes::{Access, Mark, Setting, Term};
 use crate::measured::{Tall, TallList};
 use crate::shapes::{Grown, Head, Hole, Shape, Use};
-use p8_tree::{Expr, ExprKind, Place, Text};
+use p8_tree::{ExprKind, Place, Text};
 use std::alloc::{AllocError, Global};
 
 impl Use {
@@ -33,10 +36,35 @@ fn begins(shape: Shape, next: Shape) -> Grown
     ensures { Grows (begins (shape_of shape) (stays (shape_of next))) (shape_of shape) result }
 {
     match shape {
-        Shape::Using(Use::Reading) => Grown::Stays(next),
+        Shape::Using(Use::Reading) => {
+            drop(shape);
+            Grown::Stays(next)
+        }
         other => {
             drop(next);
             Grown::Same(other)
+        }
+    }
+}
+
+// A form that begins an operand and is whole.
+fn begins_whole(
+    alloc: Global,
+    place: Place,
+    kind: ExprKind,
+    shape: Shape,
+) -> Result<Grown, AllocError>
+    requires { height (node place (form_of kind)) ≡ 1 }
+    ensures { IfOk result (λ g. Grows (begins (shape_of shape) (stays (done (node place (form_of kind))))) (shape_of shape) g) }
+{
+    match shape {
+        Shape::Using(Use::Reading) => {
+            drop(shape);
+            Ok(Grown::Stays(Shape::Done(Tall::new(alloc, place, kind, 1)?)))
+        }
+        other => {
+            drop(kind);
+            Ok(Grown::Same(other))
         }
     }
 }
@@ -72,11 +100,8 @@ fn on_name(alloc: Global, place: Place, name: Text, shape: Shape) -> Result<Grow
         )))),
         Shape::Trapping => Ok(Grown::Stays(Shape::TrappedName(place, name))),
         Shape::Hashed(first, object) => {
-            let tree = Expr {
-                place: first,
-                kind: ExprKind::ObjConst(object, name, place),
-            };
-            Ok(Grown::Stays(Shape::Done(Tall { tree, high: 1 })))
+            let constant = ExprKind::ObjConst(object, name, place);
+            Ok(Grown::Stays(Shape::Done(Tall::new(alloc, first, constant, 1)?)))
         }
         other => Ok(Grown::Same(other)),
     }
@@ -87,6 +112,7 @@ fn on_result(alloc: Global, place: Place, shape: Shape) -> Result<Grown, AllocEr
 {
     match shape {
         Shape::Using(usage) => {
+            drop(shape);
             let name = Text::copy_of(alloc, b"RESULT")?;
             Ok(Grown::Stays(Shape::Named(usage, false, place, name)))
         }
@@ -94,22 +120,36 @@ fn on_result(alloc: Global, place: Place, shape: Shape) -> Result<Grown, AllocEr
     }
 }
 
-fn on_string(place: Place, text: Text, shape: Shape) -> Grown
-    ensures { Grows (on_string place text (shape_of shape)) (shape_of shape) result }
+// A string of one character, which is its code.
+fn on_character(alloc: Global, place: Place, text: Text, usage: Use) -> Result<Grown, AllocError>
+    ensures { IfOk result (λ g. Grows (on_character place text (use_of usage)) (using (use_of usage)) g) }
+{
+    match (usage, text.as_slice()) {
+        (Use::Reading, [character]) => {
+            let tree = number(alloc, place, u32::from(*character))?;
+            Ok(Grown::Stays(Shape::Done(tree)))
+        }
+        _ => Ok(Grown::Same(Shape::Using(usage))),
+    }
+}
+
+fn on_string(alloc: Global, place: Place, text: Text, shape: Shape) -> Result<Grown, AllocError>
+    ensures { IfOk result (λ g. Grows (on_string place text (shape_of shape)) (shape_of shape) g) }
 {
     match shape {
-        Shape::Using(Use::Reading) => match text.as_slice() {
-            [character] => Grown::Stays(Shape::Done(number(place, u32::from(*character)))),
-            _ => Grown::Same(Shape::Using(Use::Reading)),
-        },
+        Shape::Using(usage) => {
+            drop(shape);
+            on_character(alloc, place, text, usage)
+        }
         Shape::StringOpened(first) => {
+            drop(shape);
             if text.is_empty() {
-                Grown::Same(Shape::StringOpened(first))
+                Ok(Grown::Same(Shape::StringOpened(first)))
             } else {
-                Grown::Stays(Shape::StringRead(first, text))
+                Ok(Grown::Stays(Shape::StringRead(first, text)))
             }
         }
-        other => Grown::Same(other),
+        other => Ok(Grown::Same(other)),
     }
 }
 
@@ -118,6 +158,7 @@ fn on_size(setting: Setting, place: Place, size: u8, shape: Shape) -> Grown
 {
     match shape {
         Shape::Using(usage) => {
+            drop(shape);
             if setting.allows_index() {
                 Grown::Stays(Shape::Sized(usage, place, size))
             } else {
@@ -136,6 +177,7 @@ fn on_register(setting: Setting, place: Place, address: u16, access: Access, sha
 {
     match shape {
         Shape::Using(usage) => {
+            drop(shape);
             if access.is_in(setting) && usage.takes(access) {
                 Grown::Stays(Shape::RegisterWord(usage, place, address, access))
             } else {
@@ -150,7 +192,10 @@ fn on_parenthesis(alloc: Global, shape: Shape) -> Grown
     ensures { Grows (on_parenthesis (shape_of shape)) (shape_of shape) result }
 {
     match shape {
-        Shape::Using(Use::Reading) => Grown::Opens(Hole::Parenthesis),
+        Shape::Using(Use::Reading) => {
+            drop(shape);
+            Grown::Opens(Hole::Parenthesis)
+        }
         Shape::Named(Use::Reading, true, place, name) => {
             let head = Head::Calls(false, None, None, name, place, place);
             Grown::Opens(Hole::ArgumentOf(head, TallList::new(alloc)))
@@ -160,9 +205,18 @@ fn on_parenthesis(alloc: Global, shape: Shape) -> Grown
             Grown::Opens(Hole::ArgumentOf(head, TallList::new(alloc)))
         }
         Shape::Headed(head) => Grown::Opens(Hole::ArgumentOf(head, TallList::new(alloc))),
-        Shape::StringBegun(place) => Grown::Stays(Shape::StringOpened(place)),
-        Shape::ConstantBegun(place) => Grown::Opens(Hole::ConstantOf(place)),
-        Shape::LookBegun(place, code) => Grown::Opens(Hole::LookFor(place, code)),
+        Shape::StringBegun(place) => {
+            drop(shape);
+            Grown::Stays(Shape::StringOpened(place))
+        }
+        Shape::ConstantBegun(place) => {
+            drop(shape);
+            Grown::Opens(Hole::ConstantOf(place))
+        }
+        Shape::LookBegun(place, code) => {
+            drop(shape);
+            Grown::Opens(Hole::LookFor(place, code))
+        }
         other => Grown::Same(other),
     }
 }
@@ -189,11 +243,15 @@ fn indexed(shape: Shape) -> Grown
         Shape::Parted(usage, place, name, size) => {
             Grown::Opens(Hole::PartIndex(usage, place, name, size))
         }
-        Shape::Sized(usage, place, size) => Grown::Opens(Hole::MemoryAddress(usage, place, size)),
+        Shape::Sized(usage, place, size) => {
+            drop(shape);
+            Grown::Opens(Hole::MemoryAddress(usage, place, size))
+        }
         Shape::MemoryWord(usage, place, size, address) => {
             Grown::Opens(Hole::MemoryIndex(usage, place, size, address))
         }
         Shape::RegisterWord(usage, place, address, access) => {
+            drop(shape);
             if access.has_bits() {
                 Grown::Opens(Hole::FirstBit(usage, place, address, access))
             } else {
@@ -239,6 +297,7 @@ fn on_colon(setting: Setting, place: Place, shape: Shape) -> Grown
 {
     match shape {
         Shape::Using(usage) => {
+            drop(shape);
             if setting.is_dat() {
                 Grown::Stays(Shape::Coloned(usage, place))
             } else {
@@ -249,18 +308,15 @@ fn on_colon(setting: Setting, place: Place, shape: Shape) -> Grown
     }
 }
 
-fn on_close(shape: Shape) -> Grown
-    ensures { Grows (on_close (shape_of shape)) (shape_of shape) result }
+fn on_close(alloc: Global, shape: Shape) -> Result<Grown, AllocError>
+    ensures { IfOk result (λ g. Grows (on_close (shape_of shape)) (shape_of shape) g) }
 {
     match shape {
         Shape::StringRead(place, text) => {
-            let tree = Expr {
-                place,
-                kind: ExprKind::Str(text),
-            };
-            Grown::Stays(Shape::Done(Tall { tree, high: 1 }))
+            let tree = Tall::new(alloc, place, ExprKind::Str(text), 1)?;
+            Ok(Grown::Stays(Shape::Done(tree)))
         }
-        other => Grown::Same(other),
+        other => Ok(Grown::Same(other)),
     }
 }
 
@@ -275,48 +331,65 @@ fn on_change(
 {
     match shape {
         Shape::Using(Use::Reading) => {
+            drop(shape);
             Ok(Grown::Stays(Shape::Using(Use::Changing(place, before))))
         }
-        other => match target(alloc, other)? {
+        other => match target(other) {
             Written::Variable(variable) => Ok(Grown::Stays(Shape::Done(change(
-                place, variable, after,
-            )))),
+                alloc, place, variable, after,
+            )?))),
             Written::Not(shape) => Ok(Grown::Same(shape)),
         },
     }
 }
 
 /// A form with one more mark.
-pub fn on_mark(alloc: Global, setting: Setting, place: Place, mark: Mark, shape: Shape) -> Grown
-    ensures { Grows (on_mark (setting_of setting) place (mark_of mark) (shape_of shape)) (shape_of shape) result }
+pub fn on_mark(
+    alloc: Global,
+    setting: Setting,
+    place: Place,
+    mark: Mark,
+    shape: Shape,
+) -> Result<Grown, AllocError>
+    ensures { IfOk result (λ g. Grows (on_mark (setting_of setting) place (mark_of mark) (shape_of shape)) (shape_of shape) g) }
 {
     match mark {
-        Mark::LeftParenthesis => on_parenthesis(alloc, shape),
-        Mark::RightParenthesis => on_close(shape),
-        Mark::LeftBracket => on_bracket(setting, shape),
-        Mark::Colon => on_colon(setting, place, shape),
-        Mark::Dot => on_dot(shape),
-        Mark::Hash => on_hash(shape),
-        Mark::Backslash => begins(shape, Shape::Trapping),
-        Mark::RightBracket => Grown::Same(shape),
-        Mark::Comma => Grown::Same(shape),
-        Mark::DotDot => Grown::Same(shape),
-        Mark::Equal => Grown::Same(shape),
+        Mark::LeftParenthesis => Ok(on_parenthesis(alloc, shape)),
+        Mark::RightParenthesis => on_close(alloc, shape),
+        Mark::LeftBracket => Ok(on_bracket(setting, shape)),
+        Mark::Colon => Ok(on_colon(setting, place, shape)),
+        Mark::Dot => Ok(on_dot(shape)),
+        Mark::Hash => Ok(on_hash(shape)),
+        Mark::Backslash => Ok(begins(shape, Shape::Trapping)),
+        Mark::RightBracket => Ok(Grown::Same(shape)),
+        Mark::Comma => Ok(Grown::Same(shape)),
+        Mark::DotDot => Ok(Grown::Same(shape)),
+        Mark::Equal => Ok(Grown::Same(shape)),
     }
 }
 
 // `$`
-fn on_here(setting: Setting, place: Place, shape: Shape) -> Grown
-    ensures { Grows (grow (setting_of setting) (shape_of shape) place here) (shape_of shape) result }
+fn on_here(alloc: Global, setting: Setting, place: Place, shape: Shape) -> Result<Grown, AllocError>
+    ensures { IfOk result (λ g. Grows (grow (setting_of setting) (shape_of shape) place here) (shape_of shape) g) }
 {
     if setting.is_dat() {
-        let tree = Expr {
-            place,
-            kind: ExprKind::Here,
-        };
-        begins(shape, Shape::Done(Tall { tree, high: 1 }))
+        begins_whole(alloc, place, ExprKind::Here, shape)
     } else {
-        Grown::Same(shape)
+        Ok(Grown::Same(shape))
+    }
+}
+
+// A built-in that stands alone.
+fn on_value(alloc: Global, place: Place, code: u8, shape: Shape) -> Result<Grown, AllocError>
+    ensures { IfOk result (λ g. Grows (begins (shape_of shape) (stays (done (node place (Built code no_trees))))) (shape_of shape) g) }
+{
+    match shape {
+        Shape::Using(Use::Reading) => {
+            drop(shape);
+            let value = built(alloc, place, code, TallList::new(alloc))?;
+            Ok(Grown::Stays(Shape::Done(value)))
+        }
+        other => Ok(Grown::Same(other)),
     }
 }
 
@@ -331,24 +404,21 @@ pub fn on_term(
     ensures { IfOk result (λ g. Grows (grow (setting_of setting) (shape_of shape) place (term_of term)) (shape_of shape) g) }
 {
     match term {
-        Term::Number(value) => Ok(begins(shape, Shape::Done(number(place, value)))),
+        Term::Number(value) => begins_whole(alloc, place, ExprKind::Number(value), shape),
         Term::Name(name) => on_name(alloc, place, name, shape),
         Term::MethodResult => on_result(alloc, place, shape),
-        Term::Str(text) => Ok(on_string(place, text, shape)),
+        Term::Str(text) => on_string(alloc, place, text, shape),
         Term::Changes(before, after) => on_change(alloc, place, before, after, shape),
         Term::Address => Ok(begins(shape, Shape::Using(Use::Addressing(place)))),
         Term::Size(size) => Ok(on_size(setting, place, size, shape)),
         Term::Register(address, access) => {
             Ok(on_register(setting, place, address, access, shape))
         }
-        Term::Here => Ok(on_here(setting, place, shape)),
+        Term::Here => on_here(alloc, setting, place, shape),
         Term::StringWord => Ok(begins(shape, Shape::StringBegun(place))),
         Term::ConstantWord => Ok(begins(shape, Shape::ConstantBegun(place))),
         Term::Look(code) => Ok(begins(shape, Shape::LookBegun(place, code))),
-        Term::Value(code) => {
-            let value = built(place, code, TallList::new(alloc));
-            Ok(begins(shape, Shape::Done(value)))
-        }
+        Term::Value(code) => on_value(alloc, place, code, shape),
         Term::BuiltIn(code) => Ok(begins(shape, Shape::Headed(Head::Built(code, place)))),
         Term::Other => Ok(Grown::Same(shape)),
     }

@@ -45,10 +45,10 @@ impl Joined {
     }
 
     // The word is an operator, and its right operand comes next.
-    fn operate(self, stack: &mut Stack) -> Result<(), AllocError>
+    fn operate(self, alloc: Global, stack: &mut Stack) -> Result<(), AllocError>
         ensures { OnOk result (frames_in stack.new ≡ operator_frames self (frames_in stack.old)) }
     {
-        let left = used(Use::Reading, self.variable);
+        let left = used(alloc, Use::Reading, self.variable)?;
         stack.push(Frame::Infix(self.lower, self.code, self.place, left))?;
         Ok(())
     }
@@ -64,6 +64,7 @@ impl Joined {
 
 // What a word has made of a form where nothing of the right operand had been read.
 fn begin(
+    alloc: Global,
     setting: Setting,
     joined: Joined,
     grown: Grown,
@@ -72,15 +73,23 @@ fn begin(
     ensures { (o : Option Next) → Grows o fresh grown → IfOk result (λ t. Resolves (entered_all (setting_of setting) (operator_frames joined (frames_in stack.old)) o) (joined_at setting joined (frames_in stack.old)) setting t (frames_in stack.new)) }
 {
     match grown {
-        Grown::Stays(shape) => {
-            joined.operate(stack)?;
-            Ok(Resolved::On(setting, shape))
-        }
-        Grown::Opens(hole) => {
-            joined.operate(stack)?;
-            stack.push(Frame::Inside(setting, hole))?;
-            Ok(Resolved::On(setting.inside(), Shape::Using(Use::Reading)))
-        }
+        Grown::Stays(shape) => match joined.operate(alloc, stack) {
+            Ok(()) => Ok(Resolved::On(setting, shape)),
+            Err(error) => {
+                drop(shape);
+                Err(error)
+            }
+        },
+        Grown::Opens(hole) => match joined.operate(alloc, stack) {
+            Ok(()) => {
+                stack.push(Frame::Inside(setting, hole))?;
+                Ok(Resolved::On(setting.inside(), Shape::Using(Use::Reading)))
+            }
+            Err(error) => {
+                drop(hole);
+                Err(error)
+            }
+        },
         Grown::Same(shape) => {
             drop(shape);
             Ok(Resolved::Dead(joined))
@@ -90,6 +99,7 @@ fn begin(
 
 // An operator before the right operand.
 fn begin_prefix(
+    alloc: Global,
     setting: Setting,
     joined: Joined,
     place: Place,
@@ -99,7 +109,7 @@ fn begin_prefix(
     ensures { IfOk result (λ t. Resolves (prefixed (setting_of setting) (Some (prefix_in operator)) place (operator_frames joined (frames_in stack.old))) (joined_at setting joined (frames_in stack.old)) setting t (frames_in stack.new)) }
 {
     if 2 * u32::from(operator.rank()) + 1 < 2 * (u32::from(joined.lower) + 1) {
-        joined.operate(stack)?;
+        joined.operate(alloc, stack)?;
         stack.push(Frame::Prefix(operator, place))?;
         Ok(Resolved::On(setting, Shape::Using(Use::Reading)))
     } else {
@@ -121,6 +131,7 @@ fn prefix_of(operator: Operator) -> Option<Prefix>
 }
 
 fn resolve_operator(
+    alloc: Global,
     setting: Setting,
     joined: Joined,
     place: Place,
@@ -130,7 +141,7 @@ fn resolve_operator(
     ensures { IfOk result (λ t. Resolves (step (joined_at setting joined (frames_in stack.old)) (token place (operator_of operator))) (joined_at setting joined (frames_in stack.old)) setting t (frames_in stack.new)) }
 {
     match prefix_of(operator) {
-        Some(prefix) => begin_prefix(setting, joined, place, prefix, stack),
+        Some(prefix) => begin_prefix(alloc, setting, joined, place, prefix, stack),
         None => Ok(Resolved::Dead(joined)),
     }
 }
@@ -149,8 +160,13 @@ fn resolve_mark(
         joined.assign(stack)?;
         Ok(Resolved::On(setting, Shape::Using(Use::Reading)))
     } else {
-        let grown = growing::on_mark(alloc, setting, place, mark, Shape::Using(Use::Reading));
-        begin(setting, joined, grown, stack)
+        match growing::on_mark(alloc, setting, place, mark, Shape::Using(Use::Reading)) {
+            Ok(grown) => begin(alloc, setting, joined, grown, stack),
+            Err(error) => {
+                drop(joined);
+                Err(error)
+            }
+        }
     }
 }
 
@@ -167,11 +183,18 @@ pub fn resolve(
 {
     match lexeme {
         Lexeme::Mark(mark) => resolve_mark(alloc, setting, joined, place, mark, stack),
-        Lexeme::Operator(operator) => resolve_operator(setting, joined, place, operator, stack),
+        Lexeme::Operator(operator) => resolve_operator(
+            alloc, setting, joined, place, operator, stack,
+        ),
         Lexeme::Term(term) => {
             let shape = Shape::Using(Use::Reading);
-            let grown = growing::on_term(alloc, setting, place, term, shape)?;
-            begin(setting, joined, grown, stack)
+            match growing::on_term(alloc, setting, place, term, shape) {
+                Ok(grown) => begin(alloc, setting, joined, grown, stack),
+                Err(error) => {
+                    drop(joined);
+                    Err(error)
+                }
+            }
         }
     }
 }

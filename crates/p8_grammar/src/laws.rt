@@ -1,9 +1,11 @@
 // Laws on the grammar of expressions.
 ghost use Rattle.std.specs.Prelude.{◌≡◌, ℕ, ◌<◌, ◌↔◌, ◌++◌, List};
 ghost use Rattle.p8_tree.specs.Expressions.{Tree};
-ghost use Rattle.p8_grammar.specs.Lexemes.{Setting, Token};
+ghost use Rattle.p8_tree.specs.Proper.{IsProperTree};
+ghost use Rattle.p8_grammar.specs.Lexemes.{Setting, is_dat, Token};
 ghost use Rattle.p8_grammar.specs.Grammar.{IsExpression, IsFront, IsLongestFront, OneTree};
 ghost use Rattle.p8_grammar.specs.Heights.{height, IsTooHigh};
+ghost use Rattle.p8_grammar.specs.Proper.{AreProper};
 ghost use Rattle.p8_grammar.specs.Reading.{HasTaken};
 ghost use Rattle.p8_grammar.specs.declared.reader.Reader.{Reader};
 
@@ -31,4 +33,9 @@ pub fn taken_is_front()
 /// An expression is higher than n exactly where each expression that begins with it is.
 pub fn height_shows()
     ensures { (s : Setting) (n : ℕ) (ts : List Token) (e : Tree) → IsExpression s e ts → (IsTooHigh s n ts ↔ n < height e) }
+{}
+
+/// A tree that proper words spell is proper: the texts and the numbers in the words are the only condition.
+pub fn spelled_is_proper()
+    ensures { (s : Setting) (ts : List Token) (e : Tree) → IsExpression s e ts → AreProper ts → IsProperTree (is_dat s) e }
 {}

@@ -6,7 +6,7 @@ ghost use Rattle.p8_grammar.specs.Views.{setting_of, access_of, mark_of};
 use p8_tree::Text;
 
 /// Where an expression stands.
-#[derive(Clone, Copy, Debug, PartialEq, Eq)]
+#[derive(Clone, Copy)]
 pub enum Setting {
     /// In a method.
     Method,
@@ -52,7 +52,7 @@ impl Setting {
 }
 
 /// What may be done with a variable.
-#[derive(Clone, Copy, Debug, PartialEq, Eq)]
+#[derive(Clone, Copy)]
 pub enum Access {
     /// In main memory: it is read and written, and has an address.
     Memory,
@@ -99,7 +99,7 @@ impl Access {
 }
 
 /// A mark between words.
-#[derive(Clone, Copy, Debug, PartialEq, Eq)]
+#[derive(Clone, Copy)]
 pub enum Mark {
     LeftParenthesis,
     RightParenthesis,
@@ -128,7 +128,7 @@ impl Mark {
 }
 
 /// An operator but for those that stand beside a variable.
-#[derive(Clone, Copy, Debug, PartialEq, Eq)]
+#[derive(Clone, Copy)]
 pub enum Operator {
     /// Before its operand: its rank and its bytecode.
     Prefix(u8, u8),

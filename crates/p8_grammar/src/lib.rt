@@ -12,9 +12,10 @@ mod reader;
 mod shapes;
 mod stack;
 mod taking;
-#[cfg(test)]
-mod tests;
 
-pub use laws::{fronts_begin_fronts, height_shows, one_longest_front, one_tree, taken_is_front};
+pub use laws::{
+    fronts_begin_fronts, height_shows, one_longest_front, one_tree, spelled_is_proper,
+    taken_is_front,
+};
 pub use lexemes::{Access, Lexeme, Mark, Operator, Setting, Term};
 pub use reader::Reader;

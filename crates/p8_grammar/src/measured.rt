@@ -8,12 +8,13 @@ use p8_tree::{Expr, Item, Target};
 /// The height from which on heights aren't told apart.
 pub const TOO_HIGH: u8 = 65;
 
-/// An expression with its height, or 65 where it is higher.
+/// An expression with its height, or 65 where it is higher. It lies in a box, so that what holds it
+/// stays small.
 #[derive(Drop)]
 pub struct Tall {
-    pub tree: Expr,
+    pub tree: Box<Expr>,
     pub high: u8,
-    ghost exact: { high ≡ min 65 (height (tree_of tree)) },
+    ghost exact: { high ≡ min 65 (height (tree_of tree.value)) },
 }
 
 /// A variable with the height of the highest expression in it.

@@ -13,7 +13,6 @@ ghost use Rattle.p8_grammar.specs.Reading.{HasTaken, state_of, Steps, least_of};
 
 use crate::joining::{self, Joined, Resolved};
 use crate::lexemes::{Lexeme, Setting};
-use crate::measured::Tall;
 use crate::shapes::{Shape, Use};
 use crate::stack::Stack;
 use crate::taking::{self, Taken};
@@ -87,16 +86,16 @@ impl Reader {
         match taking::take(alloc, self.setting, shape, place, lexeme, &mut self.stack)? {
             Taken::On(setting, shape) => {
                 self.setting = setting;
-                self.stage = Stage::Form(shape);
+                drop(mem::replace(&mut self.stage, Stage::Form(shape)));
                 Ok(true)
             }
             Taken::Joins(setting, joined) => {
                 self.setting = setting;
-                self.stage = Stage::Joined(joined);
+                drop(mem::replace(&mut self.stage, Stage::Joined(joined)));
                 Ok(true)
             }
             Taken::Dead(shape) => {
-                self.stage = Stage::Form(shape);
+                drop(mem::replace(&mut self.stage, Stage::Form(shape)));
                 Ok(false)
             }
         }
@@ -115,11 +114,11 @@ impl Reader {
         match joining::resolve(alloc, self.setting, joined, place, lexeme, &mut self.stack)? {
             Resolved::On(setting, shape) => {
                 self.setting = setting;
-                self.stage = Stage::Form(shape);
+                drop(mem::replace(&mut self.stage, Stage::Form(shape)));
                 Ok(true)
             }
             Resolved::Dead(joined) => {
-                self.stage = Stage::Joined(joined);
+                drop(mem::replace(&mut self.stage, Stage::Joined(joined)));
                 Ok(false)
             }
         }
@@ -152,6 +151,13 @@ impl Reader {
         Ok(tree)
     }
 
+    /// Lets the reader go, where its tree isn't wanted.
+    ///
+    /// A crate above that lets a reader go by this call never sees what a reader is made of.
+    pub fn discard(self) {
+        drop(self);
+    }
+
     // What the machine accepts.
     fn accepted(self, alloc: Global) -> Result<Option<Expr>, AllocError>
         ensures { IfOk result (λ o. option_map tree_of o ≡ accept (state_of self)) }
@@ -164,7 +170,7 @@ impl Reader {
         let mut stack = stack;
         match stage {
             Stage::Form(shape) => match taking::finish(alloc, setting, shape, &mut stack)? {
-                Some(Tall { tree, .. }) => Ok(Some(tree)),
+                Some(tree) => Ok(Some(tree.into_tree())),
                 None => Ok(None),
             },
             Stage::Joined(joined) => {

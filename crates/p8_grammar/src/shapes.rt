@@ -10,7 +10,7 @@ use crate::measured::{Tall, TallItems, TallList, TallTarget};
 use p8_tree::{Place, Text};
 
 /// What a variable is read for.
-#[derive(Clone, Copy, Debug, PartialEq, Eq)]
+#[derive(Clone, Copy)]
 pub enum Use {
     /// Its value.
     Reading,

@@ -191,7 +191,7 @@ fn infix_word(
     if !may_join(rank, stack) {
         return infix(alloc, setting, shape, place, rank, code, stack);
     }
-    match target(alloc, shape)? {
+    match target(shape) {
         Written::Variable(variable) => {
             let joined = Joined {
                 place,
@@ -207,7 +207,6 @@ fn infix_word(
 
 // An assignment.
 fn assign(
-    alloc: Global,
     setting: Setting,
     shape: Shape,
     place: Place,
@@ -219,7 +218,7 @@ fn assign(
     if stack.bar() <= 21 {
         return Ok(Taken::Dead(shape));
     }
-    match target(alloc, shape)? {
+    match target(shape) {
         Written::Variable(variable) => {
             stack.push(Frame::Assign(operator, place, variable))?;
             Ok(Taken::On(setting, Shape::Using(Use::Reading)))
@@ -239,7 +238,7 @@ fn take_mark(
 ) -> Result<Taken, AllocError>
     ensures { IfOk result (λ t. Takes (step (state (setting_of setting) (shape_of shape) (frames_in stack.old)) (token place (mark_word (mark_of mark)))) (state (setting_of setting) (shape_of shape) (frames_in stack.old)) t (frames_in stack.new)) }
 {
-    match growing::on_mark(alloc, setting, place, mark, shape) {
+    match growing::on_mark(alloc, setting, place, mark, shape)? {
         Grown::Stays(shape) => Ok(Taken::On(setting, shape)),
         Grown::Opens(hole) => {
             stack.push(Frame::Inside(setting, hole))?;
@@ -288,7 +287,7 @@ fn take_operator(
         Operator::Sign(before, between) => {
             take_sign(alloc, setting, shape, place, before, between, stack)
         }
-        Operator::Assigns(operator) => assign(alloc, setting, shape, place, operator, stack),
+        Operator::Assigns(operator) => assign(setting, shape, place, operator, stack),
     }
 }
 

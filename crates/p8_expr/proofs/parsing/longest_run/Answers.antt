@@ -21,14 +21,14 @@ returns-then-is_higher_than c =
     run_high s c.args.height c.args.bytes.now c.args.tokens.now c.args.at c.run.end c.run.reader c.run.invariant.ordered c.run.invariant.within c.run.invariant.taken
     (granted c.is_higher_than.result (IsTooHigh s c.args.height ts) c.if-is_higher_than.true (c.is_higher_than.ensures s ts c.run.invariant.taken))
 
-pub returns-then-not-branch : goal.returns-then-not-branch
-returns-then-not-branch c =
+pub returns-then-not-begins : goal.returns-then-not-begins
+returns-then-not-begins c =
     let s = setting_of c.args.setting in
     let ts = take (c.run.end - c.args.at) (tokens_from c.args.bytes.now c.args.tokens.now c.args.at) in
     let us = ts ++ token_of c.args.bytes.now c.token_at-token.result ∷ [] in
     run_stops s c.args.height c.args.bytes.now c.args.tokens.now c.args.at c.run.end c.take.new.reader c.token_at-token.result c.run.invariant.ordered c.token_at-token.ensures
-    (not_taken s ts us c.take.new.reader c.in_ok-take.field-0 c.if-not-branch.true (c.in_ok-take.ensures.taken s ts c.run.invariant.taken))
-    (refuted c.in_ok-take.field-0 (IsFront s us) c.if-not-branch.true (c.in_ok-take.ensures.begins s ts c.run.invariant.taken))
+    (not_taken s ts us c.take.new.reader c.in-Ok.begins c.if-not-begins.true (c.in-Ok.ensures.taken s ts c.run.invariant.taken))
+    (refuted c.in-Ok.begins (IsFront s us) c.if-not-begins.true (c.in-Ok.ensures.begins s ts c.run.invariant.taken))
 
 pub run-preserved : goal.run-preserved
 run-preserved c =
@@ -39,7 +39,7 @@ run-preserved c =
       ordered = omega (arith, c.run.invariant.ordered);
       within = omega (arith, c.run-test.true, c.len.ensures);
       taken = run_goes_on s c.args.bytes.now c.args.tokens.now c.args.at c.run.end c.take.new.reader c.token_at-token.result c.run.invariant.ordered c.token_at-token.ensures
-          (is_taken s ts us c.take.new.reader c.in_ok-take.field-0 c.if-not-branch.false (c.in_ok-take.ensures.taken s ts c.run.invariant.taken));
+          (is_taken s ts us c.take.new.reader c.in-Ok.begins c.if-not-begins.false (c.in-Ok.ensures.taken s ts c.run.invariant.taken));
     }
 
 pub returns : goal.returns

@@ -1,0 +1,246 @@
+-- A tree that proper words spell is proper.
+use Rattle.std.proofs.Common.{◌≡◌, ℕ, suc, ◌^◌, ◌<◌, Bool, true, false, List, [], ◌∷◌, ◌++◌, Option, Some, None, refl, sym, ap, subst, arith}
+use Rattle.std.specs.Prelude.{◌==◌, ◌||◌, IsTrue}
+use Rattle.std.proofs.lemmas.Bool.Decides.{nat_tests}
+use Rattle.std.proofs.lemmas.List.{get_or_append_left, length-append}
+use Rattle.std.proofs.lemmas.List.Elements.{All-head, All-tail}
+use Rattle.p8_tree.specs.declared.places.Place.{Place}
+use Rattle.p8_tree.specs.Expressions.{Tree, Variable, Register, no_index, whole, bits, single, range, Trees, no_trees, ◌▷◌, Items}
+use Rattle.p8_tree.specs.Names.{IsName, IsVariableName, plain_name, result_name, local_label, IsQuoted}
+use Rattle.p8_tree.specs.Proper.{is_one_of, IsProperIndex, is_binary, is_written_register, has_bits as register_has_bits, is_register, is_in_memory, is_written as variable_is_written, arguments_fit, is_value, gives_value, IsProperTree, IsProperForm, IsProperVariable, AreProperTrees, AreProperItems}
+use Rattle.p8_grammar.specs.Lexemes.{Setting, in_method, in_declaration, in_dat, in_data_item, is_dat, inside, Access, memory, pins, input_pins, input, assembly, is_written, has_bits, is_in, mark, equal as equal_mark, assigns, Lexeme, prefix_word, infix_word, sign, object_address, Token, token}
+use Rattle.p8_grammar.specs.Grammar as grammar
+use Rattle.p8_grammar.specs.Grammar.{Piece, word, upto, Row, begin, ◌▹◌, Names, result_word, Variables, named, indexed, part, part_indexed, memory_at, memory_indexed, register_whole, register_bit, register_bits, place_of, Head, calls, built, applied, opening, Heads, trapped, of_object, of_element, of_built_in, Arguments, no_arguments, argument, Choices, no_choices, value_choice, range_choice, Forms, a_number, a_character, the_place, parentheses, variable, changed_before, changed_after, address_of, plain_call, bare_call, full_call, object_constant, a_value, a_string, a_constant, look_value, look_range, Prefix, at_object, unary, with_prefix, prefix_of, infix_of, Reads, operand, before, between, assigned, assigned_by_word, Spells, nothing, a_word, an_expression}
+use Rattle.p8_grammar.specs.Proper.{is_register_for, IsProperLexeme, lexeme_in, AreProper}
+
+-- words one after the other
+
+abbrev Has : Token → Type 0
+Has t = IsProperLexeme (lexeme_in t)
+
+left : (ts us : List Token) → AreProper (ts ++ us) → AreProper ts
+left ts us h k d lt = subst Has (get_or_append_left ts us d k lt) (h k d (omega (arith, lt, length-append ts us)))
+
+right : (ts us : List Token) → AreProper (ts ++ us) → AreProper us
+right [] us h = h
+right (t ∷ ts) us h = right ts us (All-tail Has t (ts ++ us) h)
+
+-- rows
+
+-- the words and the expressions of a row are proper
+abbrev IsProperRow : Bool → Row → Type 0
+IsProperRow dat begin = Unit {0}
+IsProperRow dat (row ▹ word p x) = IsProperRow dat row × IsProperLexeme x
+IsProperRow dat (row ▹ upto e m) = IsProperRow dat row × IsProperTree dat e
+
+names_proper : (s : Setting) {b : Row} {n : List ℕ} {p : Place} {row : Row} → Names s b n p row → IsProperRow (is_dat s) row → IsVariableName (is_dat s) n × IsProperRow (is_dat s) b
+names_proper s grammar.plain_name h = (plain_name h.1, h.0)
+names_proper s result_word h = (result_name, h.0)
+names_proper s (grammar.local_label dat) h = (local_label dat h.1, h.0.0)
+
+-- registers
+
+or_true : (a b : Bool) → IsTrue b → IsTrue (a || b)
+or_true true b h = refl
+or_true false b h = h
+
+or_left : (a b : Bool) → IsTrue a → IsTrue (a || b)
+or_left true b h = refl
+or_left false b h = absurd cc
+
+equal : (x y : ℕ) → (x == y) ≡ true → x ≡ y
+equal x y h = grind (arith, nat_tests)
+
+-- what holds of each of these numbers holds of one of them
+abbrev Each : (ℕ → Type 0) → List ℕ → Type 0
+Each P [] = Unit {0}
+Each P (n ∷ ns) = P n × Each P ns
+
+one_of : (P : ℕ → Type 0) (ns : List ℕ) (a : ℕ) → IsTrue (is_one_of ns a) → Each P ns → P a
+one_of P [] a h e = absurd cc
+one_of P (n ∷ ns) a h e = go (a == n) refl (λ later. one_of P ns a later e.1)
+  where
+    go : (b : Bool) → (a == n) ≡ b → (IsTrue (is_one_of ns a) → P a) → P a
+    go true t others = subst P (sym (equal a n t)) e.0
+    go false f others = others (subst (λ b. IsTrue (b || is_one_of ns a)) f h)
+
+outside : (dat : Bool) (x : Access) (a : ℕ) → IsTrue (is_register_for x a) → (x ≡ assembly → ⊥) → IsTrue (is_register dat a)
+outside dat memory a h n = absurd cc
+outside true pins a h n = one_of (λ a. IsTrue (is_register true a)) (0x1F4 ∷ 0x1F6 ∷ []) a h (refl, (refl, tt))
+outside false pins a h n = one_of (λ a. IsTrue (is_register false a)) (0x1F4 ∷ 0x1F6 ∷ []) a h (refl, (refl, tt))
+outside true input_pins a h n = one_of (λ a. IsTrue (is_register true a)) (0x1F2 ∷ []) a h (refl, tt)
+outside false input_pins a h n = one_of (λ a. IsTrue (is_register false a)) (0x1F2 ∷ []) a h (refl, tt)
+outside true input a h n = one_of (λ a. IsTrue (is_register true a)) (0x1F0 ∷ 0x1F1 ∷ []) a h (refl, (refl, tt))
+outside false input a h n = one_of (λ a. IsTrue (is_register false a)) (0x1F0 ∷ 0x1F1 ∷ []) a h (refl, (refl, tt))
+outside dat assembly a h n = absurd (n refl)
+
+register_in : (s : Setting) (x : Access) (a : ℕ) → IsTrue (is_in s x) → IsTrue (is_register_for x a) → IsTrue (is_register (is_dat s) a)
+register_in s assembly a i h = subst (λ dat. IsTrue (is_register dat a)) (sym i) h
+register_in s x a i h = outside (is_dat s) x a h (λ e. cc)
+
+written_register : (x : Access) (a : ℕ) → IsTrue (is_written x) → IsTrue (is_register_for x a) → IsTrue (is_written_register a)
+written_register memory a w h = absurd cc
+written_register pins a w h = h
+written_register _ a w h = absurd cc
+
+bits_of : (x : Access) (a : ℕ) → IsTrue (has_bits x) → IsTrue (is_register_for x a) → IsTrue (register_has_bits a)
+bits_of pins a b h = one_of (λ a. IsTrue (register_has_bits a)) (0x1F4 ∷ 0x1F6 ∷ []) a h (refl, (refl, tt))
+bits_of input_pins a b h = one_of (λ a. IsTrue (register_has_bits a)) (0x1F2 ∷ []) a h (refl, tt)
+bits_of _ a b h = absurd cc
+
+not_memory : (a : ℕ) → IsTrue (is_register_for memory a) → ⊥
+not_memory a h = cc
+
+-- variables
+
+record ProperVariable (s : Setting) (b : Row) (x : Access) (v : Variable) : Type 0 where
+  is : IsProperVariable (is_dat s) v
+  written : IsTrue (is_written x) → IsTrue (variable_is_written v)
+  in_memory : x ≡ memory → IsTrue (is_in_memory v)
+  rest : IsProperRow (is_dat s) b
+
+in_memory_variable : {s : Setting} {b : Row} {x : Access} {v : Variable} → IsTrue (variable_is_written v) → IsTrue (is_in_memory v) → IsProperVariable (is_dat s) v → IsProperRow (is_dat s) b → ProperVariable s b x v
+in_memory_variable w m is rest = record { is = is; written = λ _. w; in_memory = λ _. m; rest = rest }
+
+register_variable : {s : Setting} {b : Row} {x : Access} {a : ℕ} {p : Place} (i : _) → IsTrue (is_register_for x a) → IsProperVariable (is_dat s) (Register a i p) → IsProperRow (is_dat s) b → ProperVariable s b x (Register a i p)
+register_variable {x = x} {a = a} i h is rest = record { is = is; written = λ w. written_register x a w h; in_memory = λ e. absurd (not_memory a (subst (λ x. IsTrue (is_register_for x a)) e h)); rest = rest }
+
+variables_proper : (s : Setting) {b : Row} {x : Access} {v : Variable} {row : Row} → Variables s b x v row → IsProperRow (is_dat s) row → ProperVariable s b x v
+variables_proper s (named n) h = let r = names_proper s n h in in_memory_variable refl refl (r.0, tt) r.1
+variables_proper s (indexed i n) h = let r = names_proper s n h.0.0 in in_memory_variable refl refl (r.0, h.1) r.1
+variables_proper s (part n) h = let r = names_proper s n h.0.0 in in_memory_variable refl refl (r.0, h.1, tt) r.1
+variables_proper s (part_indexed i n) h = let r = names_proper s n h.0.0.0.0 in in_memory_variable refl refl (r.0, h.0.0.1, h.1) r.1
+variables_proper s (memory_at i) h = in_memory_variable refl refl (h.0.0.1, h.1, tt) h.0.0.0
+variables_proper s (memory_indexed i) h = in_memory_variable refl refl (h.0.0.0.0.1, h.0.0.1, h.1) h.0.0.0.0.0
+variables_proper s (register_whole {a = a} {x = x} i) h = register_variable whole h.1 (register_in s x a i h.1, refl, tt) h.0
+variables_proper s (register_bit {a = a} {x = x} {e = e} j i b) h = register_variable (bits (single e)) h.0.0.1 (register_in s x a i h.0.0.1, bits_of x a b h.0.0.1, h.1) h.0.0.0
+variables_proper s (register_bits {a = a} {x = x} {low = low} {high = high} j i b) h =
+    register_variable (bits (range low high)) h.0.0.0.1 (register_in s x a i h.0.0.0.1, bits_of x a b h.0.0.0.1, (h.0.1, h.1)) h.0.0.0.0
+
+-- calls and built-ins
+
+abbrev IsProperHead : Bool → Head → Type 0
+IsProperHead dat (calls trap (Some object) i n q p) = IsName n × IsName object × IsProperIndex dat i
+IsProperHead dat (calls trap None i n q p) = IsName n × (trap ≡ true) × (i ≡ no_index)
+IsProperHead dat (built k p) = IsTrue (gives_value k)
+
+opening_rest : (dat t : Bool) (o : Place) → IsProperRow dat (opening t o)
+opening_rest dat true o = (tt, tt)
+opening_rest dat false o = tt
+
+heads_proper : (s : Setting) {h : Head} {row : Row} → Heads s h row → IsProperRow (is_dat s) row → IsProperHead (is_dat s) h
+heads_proper s (trapped o) r = (r.1, refl, refl)
+heads_proper s (of_object o) r = (r.1, r.0.0.1, tt)
+heads_proper s (of_element o i) r = (r.1, r.0.0.0.0.1, r.0.0.1)
+heads_proper s of_built_in r = r.1
+
+-- a built-in with arguments
+with_arguments : (es : Trees) (e : Tree) (k : ℕ) → IsTrue (gives_value k) → IsTrue (arguments_fit (es ▷ e) k)
+with_arguments no_trees e k h = or_true (k == 0) (gives_value k) h
+with_arguments (es ▷ d) e k h = h
+
+no_call : (dat : Bool) (h : Head) → IsProperHead dat h → IsProperTree dat (applied h no_trees)
+no_call dat (calls true None no_index n q p) h = (h.0, (refl, refl), tt, tt)
+no_call dat (calls t (Some object) i n q p) h = (h.0, h.1, h.2, tt)
+no_call dat (built k p) h = (or_true (is_value k) (gives_value k) h, tt)
+no_call dat (calls t None i n q p) h = absurd cc
+
+full : (dat : Bool) (h : Head) (es : Trees) (e : Tree) → IsProperHead dat h → AreProperTrees dat (es ▷ e) → IsProperTree dat (applied h (es ▷ e))
+full dat (calls true None no_index n q p) es e h a = (h.0, (refl, refl), tt, a)
+full dat (calls t (Some object) i n q p) es e h a = (h.0, h.1, h.2, a)
+full dat (built k p) es e h a = (with_arguments es e k h, a)
+full dat (calls t None i n q p) es e h a = absurd cc
+
+arguments_proper : (dat : Bool) {b : Row} {es : Trees} {row : Row} → Arguments b es row → IsProperRow dat row → AreProperTrees dat es × IsProperRow dat b
+arguments_proper dat no_arguments h = (tt, h)
+arguments_proper dat (argument a) h = let r = arguments_proper dat a h.0 in ((r.0, h.1), r.1)
+
+choices_proper : (dat : Bool) {b : Row} {xs : Items} {row : Row} → Choices b xs row → IsProperRow dat row → AreProperItems dat xs × IsProperRow dat b
+choices_proper dat no_choices h = (tt, h)
+choices_proper dat (value_choice c) h = let r = choices_proper dat c h.0 in ((r.0, h.1), r.1)
+choices_proper dat (range_choice c) h = let r = choices_proper dat c h.0.0 in ((r.0, (h.0.1, h.1)), r.1)
+
+-- forms
+
+small : (c : ℕ) → c < 256 → c < 2 ^ 32
+small c h = omega arith
+
+forms_proper : (s : Setting) {e : Tree} {row : Row} → Forms s e row → IsProperRow (is_dat s) row → IsProperTree (is_dat s) e
+forms_proper s a_number h = h.1
+forms_proper s (a_character {c = c}) h = small c (All-head IsQuoted c [] h.1).0
+forms_proper s (the_place dat) h = dat
+forms_proper s parentheses h = h.1
+forms_proper s (variable v) h = (variables_proper s v h).is
+forms_proper s (changed_before w v) h = let r = variables_proper s v h in (r.rest.1.0, r.written w, r.is)
+forms_proper s (changed_after w v) h = let r = variables_proper s v h.0 in (h.1.1, r.written w, r.is)
+forms_proper s (address_of v) h = let r = variables_proper s v h in (r.in_memory refl, r.is)
+forms_proper s (plain_call a) h = let r = arguments_proper (is_dat s) a h.0 in (r.1.0.1, (refl, refl), tt, (r.0, h.1))
+forms_proper s (bare_call {h = x} r) h = no_call (is_dat s) x (heads_proper s r h)
+forms_proper s (full_call {h = x} {es = es} {e = e} r a) h = let b = arguments_proper (is_dat s) a h.0 in full (is_dat s) x es e (heads_proper s r b.1.0) (b.0, h.1)
+forms_proper s object_constant h = (h.0.0.1, h.1)
+forms_proper s (a_value {k = k}) h = (or_left (is_value k) (gives_value k) h.1, tt)
+forms_proper s (a_string {c = c} {t = t}) h = (omega arith, h.0.1)
+forms_proper s a_constant h = (refl, (tt, h.1))
+forms_proper s (look_value c) h = let r = choices_proper (is_dat s) c h.0 in (r.1.0.0.1, refl, r.1.1, (r.0, h.1))
+forms_proper s (look_range c) h = let r = choices_proper (is_dat s) c h.0.0 in (r.1.0.0.1, refl, r.1.1, (r.0, (h.0.1, h.1)))
+
+-- operators
+
+prefix_proper : (dat : Bool) (x : Lexeme) (o : Prefix) (e : Tree) → prefix_of x ≡ Some o → IsProperLexeme x → IsProperTree dat e → IsProperForm dat (with_prefix o e)
+prefix_proper dat (prefix_word r k) o e h x p = subst (λ o. IsProperForm dat (with_prefix o e)) (given h) (x, p)
+  where
+    given : Some (unary r k) ≡ Some o → unary r k ≡ o
+    given h = cc
+prefix_proper dat (sign k j) o e h x p = subst (λ o. IsProperForm dat (with_prefix o e)) (given h) (x.0, p)
+  where
+    given : Some (unary 1 k) ≡ Some o → unary 1 k ≡ o
+    given h = cc
+prefix_proper dat object_address o e h x p = subst (λ o. IsProperForm dat (with_prefix o e)) (given h) p
+  where
+    given : Some at_object ≡ Some o → at_object ≡ o
+    given h = cc
+prefix_proper dat x o e h p q = absurd cc
+
+abbrev code_in : Option (ℕ × ℕ) → ℕ
+code_in None = 0
+code_in (Some x) = x.1
+
+infix_proper : (x : Lexeme) (r k : ℕ) → infix_of x ≡ Some (r, k) → IsProperLexeme x → IsTrue (is_binary k)
+infix_proper (infix_word r' k') r k h p = subst (λ k. IsTrue (is_binary k)) (ap code_in h) p
+infix_proper (sign i j) r k h p = subst (λ k. IsTrue (is_binary k)) (ap code_in h) p.1
+infix_proper x r k h p = absurd cc
+
+-- expressions
+
+inside_dat : (s : Setting) → is_dat (inside s) ≡ is_dat s
+inside_dat in_method = refl
+inside_dat in_declaration = refl
+inside_dat in_dat = refl
+inside_dat in_data_item = refl
+
+mutual
+  pub tree_proper : {s : Setting} {l : ℕ} {e : Tree} {ts : List Token} → Reads s l e ts → AreProper ts → IsProperTree (is_dat s) e
+  tree_proper {s = s} (operand f sp) h = forms_proper s f (row_proper sp h)
+  tree_proper {s = s} (before {x = x} {o = o} {p = p} {e = e} {ts = ts} is le r) h = prefix_proper (is_dat s) x o e is (All-head Has (token p x) ts h) (tree_proper r (All-tail Has (token p x) ts h))
+  tree_proper {s = s} (between {r = r} {k = k} {p = p} {ts = ts} {us = us} x is le a b) h =
+      let behind = right ts (token p x ∷ us) h in
+      (infix_proper x (suc r) k is (All-head Has (token p x) us behind), tree_proper a (left ts (token p x ∷ us) h), tree_proper b (All-tail Has (token p x) us behind))
+  tree_proper {s = s} (assigned {o = o} {p = p} {ts = ts} {us = us} x le w v sp r) h =
+      let behind = right ts (token p (assigns o) ∷ us) h in
+      let y = variables_proper s v (row_proper sp (left ts (token p (assigns o) ∷ us) h)) in
+      (All-head Has (token p (assigns o)) us behind, y.written w, y.is, tree_proper r (All-tail Has (token p (assigns o)) us behind))
+  tree_proper {s = s} (assigned_by_word {k = k} {p = p} {ts = ts} {us = us} x r q le w b v sp t) h =
+      let behind = right ts (token p (infix_word r k) ∷ token q (mark equal_mark) ∷ us) h in
+      let y = variables_proper s v (row_proper sp (left ts (token p (infix_word r k) ∷ token q (mark equal_mark) ∷ us) h)) in
+      let last = All-tail Has (token p (infix_word r k)) (token q (mark equal_mark) ∷ us) behind in
+      (All-head Has (token p (infix_word r k)) (token q (mark equal_mark) ∷ us) behind, y.written w, y.is, tree_proper t (All-tail Has (token q (mark equal_mark)) us last))
+
+  row_proper : {s : Setting} {row : Row} {ts : List Token} → Spells s row ts → AreProper ts → IsProperRow (is_dat s) row
+  row_proper nothing h = tt
+  row_proper (a_word {p = p} {x = x} {ts = ts} sp) h = (row_proper sp (left ts (token p x ∷ []) h), All-head Has (token p x) [] (right ts (token p x ∷ []) h))
+  row_proper {s = s} (an_expression {e = e} {m = m} {ts = ts} {us = us} p sp r) h =
+      let behind = right ts (us ++ token p (mark m) ∷ []) h in
+      (row_proper sp (left ts (us ++ token p (mark m) ∷ []) h), subst (λ dat. IsProperTree dat e) (inside_dat s) (tree_proper r (left us (token p (mark m) ∷ []) behind)))
+
+pub spelled_proper : (s : Setting) (ts : List Token) (e : Tree) → Reads s 22 e ts → AreProper ts → IsProperTree (is_dat s) e
+spelled_proper s ts e r h = tree_proper r h
