@@ -230,37 +230,7 @@ fn answer(alloc: Global, rows: &[(u32, Word)]) -> Result<String, NoMemory> {
 }
 
 // Lines, and how many of them fit with the statements that those are.
-static WORKED: [(&[(u32, Word)], &str); 14] = [
-    (&[], "0[]"),
-    (
-        &[(9, Word::Next), (5, Word::Quit), (7, Word::Next)],
-        "3[ 9:next 5:quit 7:next]",
-    ),
-    (
-        &[(3, Word::Repeat), (7, Word::Next), (5, Word::Quit)],
-        "3[ 3:repeat[ 7:next 5:quit]]",
-    ),
-    (
-        &[
-            (3, Word::Repeat),
-            (5, Word::RepeatCount(2)),
-            (7, Word::Next),
-            (5, Word::Quit),
-            (3, Word::Next),
-        ],
-        "5[ 3:repeat[ 5:repeat 2[ 7:next] 5:quit] 3:next]",
-    ),
-    (
-        &[
-            (3, Word::If(1)),
-            (5, Word::Next),
-            (3, Word::ElseIfNot(2)),
-            (5, Word::Quit),
-            (3, Word::Else),
-            (4, Word::Next),
-        ],
-        "6[ 3:if 1[ 5:next] not 2[ 5:quit] else[ 4:next]]",
-    ),
+static WORKED: [(&[(u32, Word)], &str); 6] = [
     (
         &[
             (3, Word::IfNot(1)),
@@ -273,12 +243,13 @@ static WORKED: [(&[(u32, Word)], &str); 14] = [
     (
         &[
             (3, Word::If(1)),
-            (5, Word::If(2)),
-            (7, Word::Next),
-            (3, Word::Else),
+            (5, Word::Next),
+            (3, Word::ElseIfNot(2)),
             (5, Word::Quit),
+            (3, Word::Else),
+            (4, Word::Next),
         ],
-        "5[ 3:if 1[ 5:if 2[ 7:next]] else[ 5:quit]]",
+        "6[ 3:if 1[ 5:next] not 2[ 5:quit] else[ 4:next]]",
     ),
     (
         &[
@@ -306,37 +277,6 @@ static WORKED: [(&[(u32, Word)], &str); 14] = [
     ),
     (
         &[
-            (3, Word::Case(1)),
-            (9, Word::Item(2)),
-            (5, Word::Item(3)),
-            (5, Word::Next),
-            (3, Word::Next),
-        ],
-        "4[ 3:case 1 2[] 3[] 3:next]",
-    ),
-    (
-        &[
-            (3, Word::Case(1)),
-            (5, Word::Other),
-            (5, Word::Item(2)),
-            (5, Word::Other),
-            (6, Word::Next),
-        ],
-        "3[ 3:case 1 else[ 6:next]]",
-    ),
-    (
-        &[
-            (3, Word::If(1)),
-            (5, Word::Next),
-            (5, Word::Else),
-            (3, Word::Else),
-            (3, Word::Else),
-            (3, Word::ElseIf(2)),
-        ],
-        "3[ 3:if 1[ 5:next] else[]]",
-    ),
-    (
-        &[
             (3, Word::RepeatCount(2)),
             (3, Word::Until(1)),
             (3, Word::Else),
@@ -356,92 +296,6 @@ fn reads_worked_lines(rt: HostRuntime) -> Result<(), NoMemory> {
     for (rows, wanted) in worked() {
         let found = answer(rt.alloc(), rows)?;
         assert!(&rt; found.as_str() == *wanted, "{found}");
-    }
-    Ok(())
-}
-
-// What the queries tell of a column: the depth, whether it is in a loop, what may stand there, the
-// chain, and whether a plain loop stands there.
-#[derive(Clone, Copy, Debug, PartialEq, Eq)]
-struct Told(usize, bool, Room, Chain, bool);
-
-// Lines, and what is told of columns behind them.
-static BEHIND: [(&[(u32, Word)], &[(u32, Told)]); 4] = [
-    (
-        &[(3, Word::Repeat), (5, Word::If(1)), (7, Word::Next)],
-        &[
-            (9, Told(3, true, Room::Statement, Chain::Missing, false)),
-            (5, Told(2, true, Room::Statement, Chain::Begun, false)),
-            (4, Told(2, true, Room::Statement, Chain::Missing, false)),
-            (3, Told(1, false, Room::Statement, Chain::Missing, true)),
-            (1, Told(1, false, Room::Statement, Chain::Missing, false)),
-        ],
-    ),
-    (
-        &[(3, Word::Case(1)), (5, Word::Item(2)), (8, Word::Next)],
-        &[
-            (8, Told(3, false, Room::Statement, Chain::Missing, false)),
-            (5, Told(2, false, Room::Item, Chain::Missing, false)),
-            (4, Told(2, false, Room::Item, Chain::Missing, false)),
-            (3, Told(1, false, Room::Statement, Chain::Missing, false)),
-        ],
-    ),
-    (
-        &[
-            (2, Word::RepeatCount(4)),
-            (3, Word::Case(1)),
-            (5, Word::Other),
-            (8, Word::If(1)),
-        ],
-        &[
-            (9, Told(5, true, Room::Statement, Chain::Missing, false)),
-            (8, Told(4, true, Room::Statement, Chain::Begun, false)),
-            (5, Told(3, true, Room::Nothing, Chain::Missing, false)),
-            (3, Told(2, true, Room::Statement, Chain::Missing, false)),
-            (2, Told(1, false, Room::Statement, Chain::Missing, false)),
-        ],
-    ),
-    (
-        &[(3, Word::If(1)), (3, Word::Else)],
-        &[
-            (4, Told(2, false, Room::Statement, Chain::Missing, false)),
-            (3, Told(1, false, Room::Statement, Chain::Ended, false)),
-        ],
-    ),
-];
-
-fn behind() -> &'static [(&'static [(u32, Word)], &'static [(u32, Told)])] {
-    &BEHIND
-}
-
-fn told_at(blocks: &Blocks, column: u32) -> Told {
-    Told(
-        blocks.depth(column),
-        blocks.is_in_loop(column),
-        blocks.room(column),
-        blocks.chain(column),
-        blocks.is_plain_loop(column),
-    )
-}
-
-// The first column of which something else is told.
-fn first_other(blocks: &Blocks, columns: &[(u32, Told)]) -> Option<(u32, Told)> {
-    for (column, wanted) in columns {
-        let found = told_at(blocks, *column);
-        if found != *wanted {
-            return Some((*column, found));
-        }
-    }
-    None
-}
-
-#[test]
-fn tells_what_is_next(rt: HostRuntime) -> Result<(), NoMemory> {
-    for (rows, columns) in behind() {
-        let mut blocks = Blocks::new(rt.alloc());
-        take_all(rt.alloc(), &mut blocks, rows)?;
-        let other = first_other(&blocks, columns);
-        assert!(&rt; other.is_none(), "{other:?}");
     }
     Ok(())
 }

@@ -21,13 +21,14 @@ value [] = Some None
 value (tree e p ∷ []) = Some (Some e)
 value row = None
 
--- How far an item of data is read: its size; its value; `[`; the count; `]`.
+-- How far an item of data is read: its size; its value; `[`; the count; its end, which is `]`, or a string,
+-- which has no count.
 pub data Stage : Type 0 where
   before : Option ℕ → Stage
   behind : Option ℕ → Tree → Stage
   open_bracket : Option ℕ → Tree → Stage
   counted : Option ℕ → Tree → Tree → Stage
-  closed : Option ℕ → Tree → Tree → Stage
+  over : Option ℕ → Tree → Option Tree → Stage
 
 abbrev pub datum : Option ℕ → Tree → Option Tree → Datum
 datum s e c = record { size = s; value = e; count = c }
@@ -36,14 +37,14 @@ datum s e c = record { size = s; value = e; count = c }
 abbrev pub items : List Datum → Stage → List Part → Option (List Datum)
 items read (before None) (size n p ∷ row) = items read (before (Some n)) row
 items read (before s) (tree e p ∷ row) = items read (behind s e) row
-items read (before s) (text t p ∷ row) = items read (behind s (node p (Str t))) row
+items read (before s) (text t p ∷ row) = items read (over s (node p (Str t)) None) row
 items read (behind s e) [] = Some (read ++ datum s e None ∷ [])
 items read (behind s e) (comma ∷ row) = items (read ++ datum s e None ∷ []) (before None) row
 items read (behind s e) (left_bracket ∷ row) = items read (open_bracket s e) row
 items read (open_bracket s e) (tree c p ∷ row) = items read (counted s e c) row
-items read (counted s e c) (right_bracket ∷ row) = items read (closed s e c) row
-items read (closed s e c) [] = Some (read ++ datum s e (Some c) ∷ [])
-items read (closed s e c) (comma ∷ row) = items (read ++ datum s e (Some c) ∷ []) (before None) row
+items read (counted s e c) (right_bracket ∷ row) = items read (over s e (Some c)) row
+items read (over s e c) [] = Some (read ++ datum s e c ∷ [])
+items read (over s e c) (comma ∷ row) = items (read ++ datum s e c ∷ []) (before None) row
 items read stage row = None
 
 -- a size word alone has no items

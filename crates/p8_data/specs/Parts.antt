@@ -1,5 +1,5 @@
 -- What the pieces of a line of DAT are to it (Propeller Manual v1.2, "Propeller Assembly Language Reference").
-use Rattle.std.specs.Prelude.{ℕ, List, [], ◌∷◌, map}
+use Rattle.std.specs.Prelude.{ℕ, List, [], ◌∷◌, Option, Some, None, map}
 use Rattle.p8_tree.specs.declared.places.Place.{Place}
 use Rattle.p8_tree.specs.Expressions.{Tree}
 use Rattle.p8_lexer.specs.declared.word.Word.{Word}
@@ -90,3 +90,8 @@ before_end (x ∷ row) = x ∷ before_end row
 -- the parts of a row of pieces
 abbrev pub parts : List Piece → List Part
 parts row = before_end (map part_of_piece row)
+
+-- the field of a condition
+abbrev pub field_of : Part → Option ℕ
+field_of (condition c) = Some c
+field_of x = None

@@ -1,16 +1,17 @@
 -- What the code's values stand for: internal.
-use Rattle.std.specs.Prelude.{◌≡◌, List, [], ◌∷◌, Option, Some, None}
+use Rattle.std.specs.Prelude.{◌≡◌, List, [], ◌∷◌, Option, Some, None, option_map}
 use Rattle.std.specs.Vec.Iter.{into_iter_items}
 use Rattle.p8_tree.specs.Views.{tree_of}
-use Rattle.p8_tree.specs.Sources.{Datum, Instruction}
+use Rattle.p8_tree.specs.Sources.{Datum, Instruction, Line}
 use Rattle.p8_pieces.specs.Pieces.{pieces_of}
 use Rattle.p8_data.specs.declared.part.Part as code
 use Rattle.p8_data.specs.declared.part.Part.TheVariants as code_case
 use Rattle.p8_data.specs.declared.row.Row.{Row}
+use Rattle.p8_data.specs.declared.lines.Head.{Head}
 use Rattle.p8_data.specs.declared.items.Stage as code_stage
 use Rattle.p8_data.specs.declared.items.Stage.TheVariants as stage_case
 use Rattle.p8_data.specs.Parts.{Part, line_end, colon, comma, hash, left_bracket, right_bracket, size, org, res, fit, condition, effect, jump, other, name, text, tree, parts}
-use Rattle.p8_data.specs.Lines.{Stage, before, behind, open_bracket, counted, closed, items, effects}
+use Rattle.p8_data.specs.Lines.{Stage, before, behind, open_bracket, counted, over, items, effects, blank}
 
 abbrev pub part_of : code.Part → Part
 part_of code_case.LineEnd = line_end
@@ -45,7 +46,7 @@ stage_of (stage_case.Before s) = before s
 stage_of (stage_case.Behind s e) = behind s (tree_of e)
 stage_of (stage_case.OpenBracket s e) = open_bracket s (tree_of e)
 stage_of (stage_case.Counted s e c) = counted s (tree_of e) (tree_of c)
-stage_of (stage_case.Closed s e c) = closed s (tree_of e) (tree_of c)
+stage_of (stage_case.Over s e c) = over s (tree_of e) (option_map tree_of c)
 
 -- A part leads from these items and this stage of the next one to those; or it can't stand there.
 abbrev pub Steps : List Datum → Stage → Part → List Datum → Option Stage → Type 0
@@ -56,3 +57,7 @@ Steps read s x after (Some t) = (row : List Part) → items read s (x ∷ row) �
 abbrev pub Affects : Instruction → Part → Option Instruction → Type 0
 Affects i x None = (row : List Part) → effects i (x ∷ row) ≡ None
 Affects i x (Some j) = (row : List Part) → effects i (x ∷ row) ≡ effects j row
+
+-- a line with nothing behind its label
+abbrev pub begun : Head → Line
+begun head = blank head.place head.label

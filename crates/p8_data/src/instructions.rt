@@ -60,6 +60,7 @@ fn with_effect(mut instr: InstrLine, part: Part) -> Option<InstrLine>
         Part::Comma => Some(instr),
         other => {
             drop(other);
+            drop(instr);
             None
         }
     }
@@ -87,10 +88,29 @@ fn with_immediate(
     ensures { option_map instruction_of result ≡ effects (immediate (instruction_of instr) (tree_of value) place) (rest row) }
 {
     instr.immediate = true;
-    instr.source = Some(value);
+    drop(instr.source.replace(value));
     instr.source_place = place;
     let next = row.next();
     with_effects(instr, next, row)
+}
+
+// The instruction with the local label of this name behind `#`.
+fn with_local_name(
+    alloc: Global,
+    instr: InstrLine,
+    name: &Text,
+    place: Place,
+    row: Row,
+) -> Result<Option<InstrLine>, NoMemory>
+    ensures { IfOk result (λ r. option_map instruction_of r ≡ effects (immediate (instruction_of instr) (label (local name.now) place) place) (rest row)) }
+{
+    match local(alloc, name) {
+        Ok(name) => Ok(with_immediate(instr, label(name, place), place, row)),
+        Err(failed) => {
+            drop(instr);
+            Err(failed)
+        }
+    }
 }
 
 // The instruction with a local label behind `#:`.
@@ -107,10 +127,7 @@ fn with_local_label(
         return Ok(None);
     };
     match part {
-        Part::Name(name, _) => {
-            let target = label(local(alloc, &name)?, place);
-            Ok(with_immediate(instr, target, place, row))
-        }
+        Part::Name(name, _) => with_local_name(alloc, instr, &name, place, row),
         other => {
             drop(other);
             drop(instr);
@@ -143,7 +160,7 @@ fn behind_hash(alloc: Global, instr: InstrLine, mut row: Row) -> Result<Option<I
 fn with_direct(mut instr: InstrLine, value: Expr, place: Place, mut row: Row) -> Option<InstrLine>
     ensures { option_map instruction_of result ≡ effects (direct (instruction_of instr) (tree_of value) place) (rest row) }
 {
-    instr.source = Some(value);
+    drop(instr.source.replace(value));
     instr.source_place = place;
     let next = row.next();
     with_effects(instr, next, row)
@@ -203,7 +220,7 @@ fn operands_from(
 {
     match first {
         Part::Tree(value, place) => {
-            instr.dest = Some(value);
+            drop(instr.dest.replace(value));
             instr.dest_place = place;
             behind_destination(alloc, instr, row)
         }

@@ -3,7 +3,7 @@ ghost use Rattle.std.specs.Prelude.{◌≡◌, [], ◌∷◌, ◌++◌, List, On
 ghost use Rattle.p8_tree.specs.Sources.{Datum};
 ghost use Rattle.p8_tree.specs.Views.{datum_of, tree_of};
 ghost use Rattle.p8_tree.specs.Expressions.{node, Str};
-ghost use Rattle.p8_data.specs.Lines.{before, behind, open_bracket, counted, closed, all_items, items};
+ghost use Rattle.p8_data.specs.Lines.{before, behind, open_bracket, counted, over, datum, all_items, items};
 ghost use Rattle.p8_data.specs.Views.{part_of, rest, stage_of, Steps};
 
 use crate::part::Part;
@@ -23,8 +23,8 @@ pub enum Stage {
     OpenBracket(Option<u8>, Expr),
     // Its count.
     Counted(Option<u8>, Expr, Expr),
-    // The bracket behind its count.
-    Closed(Option<u8>, Expr, Expr),
+    // Its end: the bracket behind its count, or a string, which has none.
+    Over(Option<u8>, Expr, Option<Expr>),
 }
 
 // A string as a value.
@@ -47,7 +47,7 @@ fn from_size(size: Option<u8>, part: Part) -> Option<Stage>
             Some(_) => None,
         },
         Part::Tree(value, _) => Some(Stage::Behind(size, value)),
-        Part::Text(text, place) => Some(Stage::Behind(size, string(text, place))),
+        Part::Text(text, place) => Some(Stage::Over(size, string(text, place), None)),
         other => {
             drop(other);
             None
@@ -56,10 +56,15 @@ fn from_size(size: Option<u8>, part: Part) -> Option<Stage>
 }
 
 // Puts an item behind those that are read.
-fn put(read: &mut List<DatItem>, item: DatItem) -> Result<(), NoMemory>
-    ensures { OnOk result (map datum_of read.new ≡ map datum_of read.old ++ datum_of item ∷ []) }
+fn put(
+    read: &mut List<DatItem>,
+    size: Option<u8>,
+    value: Expr,
+    count: Option<Expr>,
+) -> Result<(), NoMemory>
+    ensures { OnOk result (map datum_of read.new ≡ map datum_of read.old ++ datum size (tree_of value) (option_map tree_of count) ∷ []) }
 {
-    read.push(item)?;
+    read.push(DatItem { size, value, count })?;
     Ok(())
 }
 
@@ -74,19 +79,7 @@ fn from_value(
 {
     match part {
         Part::LeftBracket => Ok(Some(Stage::OpenBracket(size, value))),
-        Part::Comma => {
-            let item = DatItem {
-                size,
-                value,
-                count: None,
-            };
-            put(read, item)?;
-            Ok(Some(Stage::Before(None)))
-        }
-        other => {
-            drop(other);
-            Ok(None)
-        }
+        other => from_end(read, size, value, None, other),
     }
 }
 
@@ -98,6 +91,7 @@ fn from_open_bracket(size: Option<u8>, value: Expr, part: Part) -> Option<Stage>
         Part::Tree(count, _) => Some(Stage::Counted(size, value, count)),
         other => {
             drop(other);
+            drop(value);
             None
         }
     }
@@ -108,36 +102,35 @@ fn from_count(size: Option<u8>, value: Expr, count: Expr, part: Part) -> Option<
     ensures { (read : List Datum) → Steps read (counted size (tree_of value) (tree_of count)) (part_of part) read (option_map stage_of result) }
 {
     match part {
-        Part::RightBracket => Some(Stage::Closed(size, value, count)),
+        Part::RightBracket => Some(Stage::Over(size, value, Some(count))),
         other => {
             drop(other);
+            drop(value);
+            drop(count);
             None
         }
     }
 }
 
-// What stands behind an item with a count.
-fn from_closed_bracket(
+// What stands behind an item.
+fn from_end(
     read: &mut List<DatItem>,
     size: Option<u8>,
     value: Expr,
-    count: Expr,
+    count: Option<Expr>,
     part: Part,
 ) -> Result<Option<Stage>, NoMemory>
-    ensures { IfOk result (λ s. Steps (map datum_of read.old) (closed size (tree_of value) (tree_of count)) (part_of part) (map datum_of read.new) (option_map stage_of s)) }
+    ensures { IfOk result (λ s. Steps (map datum_of read.old) (over size (tree_of value) (option_map tree_of count)) (part_of part) (map datum_of read.new) (option_map stage_of s)) }
 {
     match part {
         Part::Comma => {
-            let item = DatItem {
-                size,
-                value,
-                count: Some(count),
-            };
-            put(read, item)?;
+            put(read, size, value, count)?;
             Ok(Some(Stage::Before(None)))
         }
         other => {
             drop(other);
+            drop(value);
+            drop(count);
             Ok(None)
         }
     }
@@ -153,9 +146,7 @@ impl Stage {
             Stage::Behind(size, value) => from_value(read, size, value, part),
             Stage::OpenBracket(size, value) => Ok(from_open_bracket(size, value, part)),
             Stage::Counted(size, value, count) => Ok(from_count(size, value, count, part)),
-            Stage::Closed(size, value, count) => {
-                from_closed_bracket(read, size, value, count, part)
-            }
+            Stage::Over(size, value, count) => from_end(read, size, value, count, part),
         }
     }
 
@@ -165,21 +156,11 @@ impl Stage {
     {
         match self {
             Stage::Behind(size, value) => {
-                let item = DatItem {
-                    size,
-                    value,
-                    count: None,
-                };
-                put(&mut read, item)?;
+                put(&mut read, size, value, None)?;
                 Ok(Some(read))
             }
-            Stage::Closed(size, value, count) => {
-                let item = DatItem {
-                    size,
-                    value,
-                    count: Some(count),
-                };
-                put(&mut read, item)?;
+            Stage::Over(size, value, count) => {
+                put(&mut read, size, value, count)?;
                 Ok(Some(read))
             }
             other => {

@@ -4,7 +4,7 @@ ghost use Rattle.p8_tree.specs.Views.{tree_of, contents_of, line_of};
 ghost use Rattle.p8_pieces.specs.Pieces.{pieces_of};
 ghost use Rattle.p8_data.specs.Lines.{value, filled, instruction, body, blank, line, line_of_row};
 ghost use Rattle.p8_data.specs.Rows.{outcome_of};
-ghost use Rattle.p8_data.specs.Views.{part_of, rest};
+ghost use Rattle.p8_data.specs.Views.{part_of, rest, begun};
 
 use crate::instructions::{bare, local, operands, source};
 use crate::items::all_items;
@@ -37,7 +37,11 @@ fn value(mut row: Row) -> Option<Option<Expr>>
     match part {
         Part::Tree(tree, _) => match row.next() {
             None => Some(Some(tree)),
-            Some(_) => None,
+            Some(other) => {
+                drop(other);
+                drop(tree);
+                None
+            }
         },
         other => {
             drop(other);
@@ -46,94 +50,108 @@ fn value(mut row: Row) -> Option<Option<Expr>>
     }
 }
 
-// A line with nothing behind its label.
-fn blank(place: Place, label: Option<Text>) -> DatLine
-    ensures { line_of result ≡ blank place label }
-{
-    DatLine {
-        place,
-        label,
-        word_place: place,
-        body: DatBody::Nothing,
-    }
+// Where a line begins, and its label.
+#[derive(Drop)]
+pub struct Head {
+    place: Place,
+    label: Option<Text>,
 }
 
-// The line with these contents, whose word stands here.
-fn filled(mut line: DatLine, place: Place, body: DatBody) -> DatLine
-    ensures { line_of result ≡ filled (line_of line) place (contents_of body) }
-{
-    line.word_place = place;
-    line.body = body;
-    line
+impl Head {
+    fn new(place: Place, label: Option<Text>) -> Head
+        ensures { begun result ≡ blank place label }
+    {
+        Head { place, label }
+    }
+
+    // The line with nothing behind its label.
+    fn alone(self) -> DatLine
+        ensures { line_of result ≡ begun self }
+    {
+        let place = self.place;
+        self.with(place, DatBody::Nothing)
+    }
+
+    // The line with these contents, whose word stands here.
+    fn with(self, word_place: Place, body: DatBody) -> DatLine
+        ensures { line_of result ≡ filled (begun self) word_place (contents_of body) }
+    {
+        DatLine {
+            place: self.place,
+            label: self.label,
+            word_place,
+            body,
+        }
+    }
 }
 
 // The line as one of data.
 fn with_data(
     alloc: Global,
-    line: DatLine,
+    head: Head,
     size: u8,
     place: Place,
     row: Row,
 ) -> Result<Option<DatLine>, NoMemory>
-    ensures { IfOk result (λ r. option_map line_of r ≡ body (line_of line) (part_of (Part.Size size place) ∷ rest row)) }
+    ensures { IfOk result (λ r. option_map line_of r ≡ body (begun head) (part_of (Part.Size size place) ∷ rest row)) }
 {
     let Some(items) = all_items(alloc, row)? else {
         return Ok(None);
     };
-    Ok(Some(filled(line, place, DatBody::Data(size, items))))
+    Ok(Some(head.with(place, DatBody::Data(size, items))))
 }
 
 // The line as one of JMP.
 fn with_jump(
     alloc: Global,
-    line: DatLine,
+    head: Head,
     cond: u8,
     place: Place,
     row: Row,
 ) -> Result<Option<DatLine>, NoMemory>
-    ensures { IfOk result (λ r. option_map line_of r ≡ instruction cond (line_of line) (part_of (Part.Jump place) ∷ rest row)) }
+    ensures { IfOk result (λ r. option_map line_of r ≡ instruction cond (begun head) (part_of (Part.Jump place) ∷ rest row)) }
 {
     let jump = bare(alloc, cond, Word::Jmp, place)?;
     let Some(instr) = source(alloc, jump, row)? else {
         return Ok(None);
     };
-    Ok(Some(filled(line, place, DatBody::Instr(instr))))
+    Ok(Some(head.with(place, DatBody::Instr(instr))))
 }
 
 // The line as one of another instruction.
 fn with_word(
     alloc: Global,
-    line: DatLine,
+    head: Head,
     cond: u8,
     word: Word,
     place: Place,
     row: Row,
 ) -> Result<Option<DatLine>, NoMemory>
-    ensures { IfOk result (λ r. option_map line_of r ≡ instruction cond (line_of line) (part_of (Part.Other word place) ∷ rest row)) }
+    ensures { IfOk result (λ r. option_map line_of r ≡ instruction cond (begun head) (part_of (Part.Other word place) ∷ rest row)) }
 {
     let begun = bare(alloc, cond, word, place)?;
     let Some(instr) = operands(alloc, begun, row)? else {
         return Ok(None);
     };
-    Ok(Some(filled(line, place, DatBody::Instr(instr))))
+    Ok(Some(head.with(place, DatBody::Instr(instr))))
 }
 
 // The line as an instruction under a condition, from the instruction's word on.
 fn with_instruction(
     alloc: Global,
-    line: DatLine,
+    head: Head,
     cond: u8,
     first: Part,
     row: Row,
 ) -> Result<Option<DatLine>, NoMemory>
-    ensures { IfOk result (λ r. option_map line_of r ≡ instruction cond (line_of line) (part_of first ∷ rest row)) }
+    ensures { IfOk result (λ r. option_map line_of r ≡ instruction cond (begun head) (part_of first ∷ rest row)) }
 {
     match first {
-        Part::Jump(place) => with_jump(alloc, line, cond, place, row),
-        Part::Other(word, place) => with_word(alloc, line, cond, word, place, row),
+        Part::Jump(place) => with_jump(alloc, head, cond, place, row),
+        Part::Other(word, place) => with_word(alloc, head, cond, word, place, row),
         other => {
             drop(other);
-            drop(line);
+            drop(head);
             Ok(None)
         }
     }
@@ -142,47 +160,42 @@ fn with_instruction(
 // The line as an instruction, from behind its condition on.
 fn with_condition(
     alloc: Global,
-    line: DatLine,
+    head: Head,
     cond: u8,
     mut row: Row,
 ) -> Result<Option<DatLine>, NoMemory>
-    ensures { IfOk result (λ r. option_map line_of r ≡ instruction cond (line_of line) (rest row)) }
+    ensures { IfOk result (λ r. option_map line_of r ≡ instruction cond (begun head) (rest row)) }
 {
     match row.next() {
         None => {
-            drop(line);
+            drop(head);
             Ok(None)
         }
-        Some(first) => with_instruction(alloc, line, cond, first, row),
+        Some(first) => with_instruction(alloc, head, cond, first, row),
     }
 }
 
 // The line with what stands behind its label, from this part on.
-fn body_from(
-    alloc: Global,
-    line: DatLine,
-    first: Part,
-    row: Row,
-) -> Result<Option<DatLine>, NoMemory>
-    ensures { IfOk result (λ r. option_map line_of r ≡ body (line_of line) (part_of first ∷ rest row)) }
+fn body_from(alloc: Global, head: Head, first: Part, row: Row) -> Result<Option<DatLine>, NoMemory>
+    ensures { IfOk result (λ r. option_map line_of r ≡ body (begun head) (part_of first ∷ rest row)) }
 {
     match first {
-        Part::Size(size, place) => with_data(alloc, line, size, place, row),
-        Part::Org(place) => Ok(value(row).map(|v| filled(line, place, DatBody::Org(v)))),
-        Part::Res(place) => Ok(value(row).map(|v| filled(line, place, DatBody::Res(v)))),
-        Part::Fit(place) => Ok(value(row).map(|v| filled(line, place, DatBody::Fit(v)))),
-        Part::Condition(cond) => with_condition(alloc, line, cond, row),
-        other => with_instruction(alloc, line, 15, other, row),
+        Part::Size(size, place) => with_data(alloc, head, size, place, row),
+        Part::Org(place) => Ok(value(row).map(|v| head.with(place, DatBody::Org(v)))),
+        Part::Res(place) => Ok(value(row).map(|v| head.with(place, DatBody::Res(v)))),
+        Part::Fit(place) => Ok(value(row).map(|v| head.with(place, DatBody::Fit(v)))),
+        Part::Condition(cond) => with_condition(alloc, head, cond, row),
+        other => with_instruction(alloc, head, 15, other, row),
     }
 }
 
 // The line with what stands behind its label.
-fn body(alloc: Global, line: DatLine, mut row: Row) -> Result<Option<DatLine>, NoMemory>
-    ensures { IfOk result (λ r. option_map line_of r ≡ body (line_of line) (rest row)) }
+fn body(alloc: Global, head: Head, mut row: Row) -> Result<Option<DatLine>, NoMemory>
+    ensures { IfOk result (λ r. option_map line_of r ≡ body (begun head) (rest row)) }
 {
     match row.next() {
-        None => Ok(Some(line)),
-        Some(first) => body_from(alloc, line, first, row),
+        None => Ok(Some(head.alone())),
+        Some(first) => body_from(alloc, head, first, row),
     }
 }
 
@@ -201,7 +214,7 @@ fn local_line(
     match part {
         Part::Name(name, _) => {
             let label = local(alloc, &name)?;
-            body(alloc, blank(place, Some(label)), row)
+            body(alloc, Head::new(place, Some(label)), row)
         }
         other => {
             drop(other);
@@ -220,9 +233,9 @@ fn line_from(
     ensures { IfOk result (λ r. option_map line_of r ≡ line place (part_of first ∷ rest row)) }
 {
     match first {
-        Part::Name(name, _) => body(alloc, blank(place, Some(name)), row),
+        Part::Name(name, _) => body(alloc, Head::new(place, Some(name)), row),
         Part::Colon(colon) => local_line(alloc, place, colon, row),
-        other => body_from(alloc, blank(place, None), other, row),
+        other => body_from(alloc, Head::new(place, None), other, row),
     }
 }
 

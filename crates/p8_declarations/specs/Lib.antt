@@ -4,5 +4,6 @@ pub mod Constants
 pub mod Variables
 pub mod Objects
 pub mod Methods
+pub mod Proper
 -- What the code's values stand for: internal.
 pub mod Views

@@ -3,6 +3,7 @@
 #![tactic(auto)]
 
 mod con_line;
+mod laws;
 mod method_head;
 mod obj_line;
 mod part;
@@ -12,6 +13,7 @@ mod tests;
 mod var_line;
 
 pub use con_line::constants;
+pub use laws::declarations_are_proper;
 pub use method_head::method;
 pub use obj_line::object;
 pub use var_line::variables;

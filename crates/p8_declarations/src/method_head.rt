@@ -57,7 +57,10 @@ fn behind_name(alloc: Global, row: Row, method: Method) -> Result<Option<Method>
     match row.next() {
         Some(Part::LeftParenthesis) => with_parameters(alloc, row, method),
         Some(part) => behind_parameters(alloc, part, row, method),
-        None => Ok(None),
+        None => {
+            drop(method);
+            Ok(None)
+        }
     }
 }
 
@@ -70,12 +73,29 @@ fn with_parameters(alloc: Global, row: Row, method: Method) -> Result<Option<Met
     'parameters: loop {
         match row.parameter() {
             Some((name, place, last)) => {
-                add_parameter(&mut method, name, place)?;
+                method = with_parameter(method, name, place)?;
                 if last {
                     return behind_parenthesis(alloc, row, method);
                 }
             }
-            None => return Ok(None),
+            None => {
+                drop(method);
+                return Ok(None);
+            }
+        }
+    }
+}
+
+// The method with one more parameter.
+fn with_parameter(method: Method, name: Text, place: Place) -> Result<Method, AllocError>
+    ensures { IfOk result (λ m. method_of m ≡ with_parameter (method_of method) name place) }
+{
+    let mut method = method;
+    match add_parameter(&mut method, name, place) {
+        Ok(()) => Ok(method),
+        Err(failed) => {
+            drop(method);
+            Err(failed)
         }
     }
 }
@@ -96,7 +116,10 @@ fn behind_parenthesis(alloc: Global, row: Row, method: Method) -> Result<Option<
     let mut row = row;
     match row.next() {
         Some(part) => behind_parameters(alloc, part, row, method),
-        None => Ok(None),
+        None => {
+            drop(method);
+            Ok(None)
+        }
     }
 }
 
@@ -123,7 +146,10 @@ fn with_result(alloc: Global, row: Row, method: Method) -> Result<Option<Method>
     let mut row = row;
     match row.name() {
         Some((name, place)) => behind_result_name(alloc, row, result_named(method, name, place)),
-        None => Ok(None),
+        None => {
+            drop(method);
+            Ok(None)
+        }
     }
 }
 
@@ -144,7 +170,10 @@ fn behind_result_name(alloc: Global, row: Row, method: Method) -> Result<Option<
     let mut row = row;
     match row.next() {
         Some(part) => behind_result(alloc, part, row, method),
-        None => Ok(None),
+        None => {
+            drop(method);
+            Ok(None)
+        }
     }
 }
 
@@ -162,6 +191,7 @@ fn behind_result(
         Part::LineEnd => Ok(ended(&row, method)),
         other => {
             drop(other);
+            drop(method);
             Ok(None)
         }
     }
@@ -172,12 +202,19 @@ fn with_locals(alloc: Global, row: Row, method: Method) -> Result<Option<Method>
     ensures { IfOk result (λ m. option_map method_of m ≡ behind_result (method_of method) (bar ∷ parts_in row)) }
 {
     let mut method = method;
-    match variables_of_size(alloc, row, 4)? {
-        Some(locals) => {
+    match variables_of_size(alloc, row, 4) {
+        Ok(Some(locals)) => {
             method.locals = locals;
             Ok(Some(method))
         }
-        None => Ok(None),
+        Ok(None) => {
+            drop(method);
+            Ok(None)
+        }
+        Err(failed) => {
+            drop(method);
+            Err(failed)
+        }
     }
 }
 
@@ -185,7 +222,12 @@ fn with_locals(alloc: Global, row: Row, method: Method) -> Result<Option<Method>
 fn ended(row: &Row, method: Method) -> Option<Method>
     ensures { option_map method_of result ≡ behind_result (method_of method) (line_end ∷ parts_in row.now) }
 {
-    if row.is_over() { Some(method) } else { None }
+    if row.is_over() {
+        Some(method)
+    } else {
+        drop(method);
+        None
+    }
 }
 
 impl Row {

@@ -46,8 +46,16 @@ fn with_file_name(alloc: Global, item: ObjItem) -> Result<ObjItem, AllocError>
     ensures { IfOk result (λ x. child_of x ≡ child_in item) }
 {
     let mut item = item;
-    item.file = file_name(alloc, &item.file)?;
-    Ok(item)
+    match file_name(alloc, &item.file) {
+        Ok(file) => {
+            item.file = file;
+            Ok(item)
+        }
+        Err(failed) => {
+            drop(item);
+            Err(failed)
+        }
+    }
 }
 
 // The name of a file, by the string for it.

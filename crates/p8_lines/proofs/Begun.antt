@@ -3,7 +3,7 @@ use Rattle.std.proofs.Common.{◌≡◌, ℕ, ◌<◌, ◌≤◌, List, [], ◌�
 use Rattle.p8_tree.specs.declared.places.Place.{Place}
 use Rattle.p8_tree.specs.Expressions.{Tree, node, Number}
 use Rattle.p8_lexer.specs.declared.token.TokenKind.TheVariants as kind
-use Rattle.p8_lexer.specs.Words.{symbols, every_word}
+use Rattle.p8_lexer.specs.Words.{symbols, reserved_words, every_word}
 use Rattle.p8_grammar.specs.Lexemes as lexemes
 use Rattle.p8_grammar.specs.Lexemes.{Setting, Mark, left_parenthesis, right_parenthesis, left_bracket, right_bracket, comma, colon, dot, dot_dot, hash, backslash, equal, Lexeme, number, mark, token}
 use Rattle.p8_grammar.specs.Grammar.{a_number, operand, nothing, a_word, IsExpression, IsFront}
@@ -37,7 +37,7 @@ real_mark p backslash = record { is = record { place = p; text = []; kind = kind
 real_mark p equal = record { is = record { place = p; text = []; kind = kind.Symbol 66 }; same = refl }
 
 real : (p : Place) {x : Lexeme} → IsEnding x → Real (token p x)
-unfolding every_word lexeme_of_word
+unfolding every_word symbols reserved_words lexeme_of_word
 real p live.a_name = record { is = record { place = p; text = 65 ∷ []; kind = kind.Name }; same = refl }
 real p live.a_number = record { is = record { place = p; text = 48 ∷ []; kind = kind.Number 0 }; same = refl }
 real p live.a_string = record { is = record { place = p; text = 34 ∷ 65 ∷ 34 ∷ []; kind = kind.Str }; same = refl }

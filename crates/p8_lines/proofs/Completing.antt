@@ -257,7 +257,7 @@ from_more_effects = by_token line_end refl from_end
 from_more_flags : Completion state.MoreFlags
 from_more_flags = by_token line_end refl from_end
 
-from_test : Completion state.Test
+from_test : Completion state.LastValue
 from_test = by_phrase line_end refl refl from_end
 
 from_to : Completion state.To
@@ -357,7 +357,6 @@ completed state.DatValue = by_token line_end refl from_end
 completed state.FirstData = by_token line_end refl from_end
 completed state.Data = by_phrase line_end refl refl from_end
 completed state.DataValue = by_phrase line_end refl refl from_end
-completed state.DataEnd = by_token line_end refl from_end
 completed state.DataCount = by_phrase right_bracket refl refl from_more_data
 completed state.MoreData = from_more_data
 completed state.Conditioned = by_token nop refl from_line_end
@@ -379,7 +378,7 @@ completed state.FlagEffect = by_token wz refl from_more_flags
 completed state.Statement = by_token name refl from_named
 completed state.ChainLine = by_token an_else refl from_line_end
 completed state.LoopEndLine = by_token while refl from_test
-completed state.Test = from_test
+completed state.LastValue = from_test
 completed state.Repeat = by_token line_end refl from_end
 completed state.From = by_phrase to refl refl from_to
 completed state.To = from_to

@@ -5,7 +5,7 @@ use Rattle.p8_lexer.specs.declared.word.Word.{Word}
 use Rattle.p8_lexer.specs.declared.word.Word.TheVariants as word
 use Rattle.p8_lexer.specs.declared.token.TokenKind.{TokenKind}
 use Rattle.p8_lexer.specs.declared.token.TokenKind.TheVariants as kind
-use Rattle.p8_lexer.specs.Words.{capital, symbols, every_word, is_spelled, first_spelled, word_spelled, word_of_kind}
+use Rattle.p8_lexer.specs.Words.{capital, symbols, reserved_words, every_word, is_spelled, first_spelled, word_spelled, word_of_kind}
 use Rattle.p8_grammar.specs.Lexemes.{left_bracket, right_bracket, left_parenthesis, right_parenthesis, comma, colon, dot_dot, hash, name, string, mark, size, method_result, other}
 use Rattle.p8_expr.specs.Words.{between_quotes, lexeme_by_word, lexeme_by_kind, lexeme_of_word}
 use Rattle.p8_lines.specs.Tokens as tokens
@@ -171,7 +171,7 @@ unfolding symbols
 no_symbol = refl
 
 no_word : IsTrue (without_values every_word)
-unfolding every_word
+unfolding every_word symbols reserved_words
 no_word = refl
 
 pub string_lexeme : (t : LineToken) → tokens.word t ≡ word.Str → lexeme t ≡ string (between_quotes t.text)

@@ -31,7 +31,7 @@ nothing_more us vs ws e = go vs ws (cancel us [] (vs ++ ws) (append-nil us ∙ e
 
 -- One line, and none that is too high.
 
-leads_row : {q : State} {us : List LineToken} {row : List Piece} → Leads q us row state.End → Row q row us
+pub leads_row : {q : State} {us : List LineToken} {row : List Piece} → Leads q us row state.End → Row q row us
 leads_row {q = q} {us = us} {row = row} x = subst (λ l. Row q row l) (append-nil us) (subst (λ r. Row q r (us ++ [])) (append-nil row) (way_row (leads_way x) over))
 
 line_line : {q : State} {us us' : List LineToken} {row row' : List Piece} (rest rest' : List LineToken) → Leads q us row state.End → Leads q us' row' state.End → us ++ rest ≡ us' ++ rest' → read row rest ≡ read row' rest'

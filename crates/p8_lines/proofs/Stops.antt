@@ -19,7 +19,6 @@ use Rattle.p8_grammar.specs.Grammar.{IsExpression, IsFront}
 use Rattle.p8_grammar.specs.Heights as heights
 use Rattle.p8_grammar.specs.Heights.{height}
 use Rattle.p8_expr.specs.declared.fault.ParseFault.{ParseFault}
-use Rattle.p8_expr.specs.Words.{place_of}
 use Rattle.p8_expr.specs.Refusals.{refusal_of}
 use Rattle.p8_expr.specs.Parsing as parsing
 use Rattle.p8_expr.specs.Parsing.{tree, refused, Ends, whole, unfit, broken_off, Parses, refusal_at, IsFault}
@@ -331,7 +330,7 @@ refused_stops s first bytes tokens at q h fault lt p fits unfollowed (r, i, (n, 
             let ours : refusal_of s (line_tokens.word (token_at bytes tokens (at + n))) ≡ None = sym (fits h p (line_tokens.word (token_at bytes tokens (at + n)))) ∙ ap (λ t. refusal_of h.setting (line_tokens.word t)) is ∙ sym (refusal_is h.setting bytes tokens (at + n) u x) ∙ fit in
             stops_as (stops_behind low (λ e z. absurd (no_tree e z)))
             (ap (λ o. refusal_number (unwrap_or o Unexpected)) ours ∙ sym (number ∙ ap refusal_number re))
-            (ap (λ t. t.place) is ∙ ap (λ u. place_of u.place) (sym same_one) ∙ sym place ∙ sym untold)
+            (ap (λ t. t.place) is ∙ ap (λ u. u.place) (sym same_one) ∙ sym place ∙ sym untold)
         there None x =
             let past = none_within tokens (at + n) x in
             let w = y.within in

@@ -9,7 +9,7 @@ use Rattle.p8_lexer.specs.declared.token.Token as lexer_token
 use Rattle.p8_lexer.specs.declared.token.TokenKind.{TokenKind}
 use Rattle.p8_lexer.specs.declared.token.TokenKind.TheVariants as kind
 use Rattle.p8_lexer.specs.Words.{word_of_kind, word_of}
-use Rattle.p8_expr.specs.Words.{place_of, lexeme_of_word, lexeme_by_word, lexeme_by_kind, lexeme_of_token}
+use Rattle.p8_expr.specs.Words.{lexeme_of_word, lexeme_by_word, lexeme_by_kind, lexeme_of_token}
 use Rattle.p8_lines.specs.declared.arrow.Arrow.{Arrow}
 use Rattle.p8_lines.specs.declared.state.State.{State}
 use Rattle.p8_lines.specs.Signs.{Matches}
@@ -26,7 +26,7 @@ use Rattle.p8_lines.proofs.Texts.{none_within, last_is, first_at, is_at, is_end}
 
 -- the last token's place
 
-pub last_there : (bytes : List ℕ) (tokens : List lexer_token.Token) (i : ℕ) (t : lexer_token.Token) → i ≡ length tokens - 1 → slice_get tokens i ≡ Some t → place_of t.place ≡ (text_end (map (line_token bytes) tokens)).place
+pub last_there : (bytes : List ℕ) (tokens : List lexer_token.Token) (i : ℕ) (t : lexer_token.Token) → i ≡ length tokens - 1 → slice_get tokens i ≡ Some t → t.place ≡ (text_end (map (line_token bytes) tokens)).place
 last_there bytes tokens i t e h = let w = slice_get_within tokens i t h in sym (last_is bytes tokens i t (omega (arith, w, e)) h)
 
 pub none_there : (bytes : List ℕ) (tokens : List lexer_token.Token) (i : ℕ) → i ≡ length tokens - 1 → slice_get tokens i ≡ None → record { line = 1; column = 1 } ≡ (text_end (map (line_token bytes) tokens)).place

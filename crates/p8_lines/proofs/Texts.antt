@@ -11,7 +11,7 @@ use Rattle.p8_grammar.specs.Machine.{using, reading, Shape, if_fresh, beyond, St
 use Rattle.p8_tree.specs.Expressions.{Tree}
 use Rattle.p8_grammar.proofs.Live.{dead}
 use Rattle.p8_grammar.proofs.Walks.{walk_append}
-use Rattle.p8_expr.specs.Words.{place_of, token_of, lexeme_of_token, lexeme_of_word}
+use Rattle.p8_expr.specs.Words.{token_of, lexeme_of_token, lexeme_of_word}
 use Rattle.p8_expr.specs.Parsing as parsing
 use Rattle.p8_expr.proofs.Runs.{next_token}
 use Rattle.p8_lines.specs.Tokens.{LineToken, lexeme, term, terms, line_token, last_place, text_end, tokens_from}
@@ -40,15 +40,15 @@ none_within (x ∷ xs) zero h = absurd cc
 none_within (x ∷ xs) (suc at) h = let n = none_within xs at h in omega (arith, n)
 
 -- the place of the text's end is that of its last token
-pub last_is : (bytes : List ℕ) (tokens : List lexer_token.Token) (i : ℕ) (t : lexer_token.Token) → i + 1 ≡ length tokens → slice_get tokens i ≡ Some t → (text_end (map (line_token bytes) tokens)).place ≡ place_of t.place
+pub last_is : (bytes : List ℕ) (tokens : List lexer_token.Token) (i : ℕ) (t : lexer_token.Token) → i + 1 ≡ length tokens → slice_get tokens i ≡ Some t → (text_end (map (line_token bytes) tokens)).place ≡ t.place
 last_is bytes tokens i t h g = go (record { line = 1; column = 1 }) tokens i h g
   where
-    go : (p : Place) (tokens : List lexer_token.Token) (i : ℕ) → i + 1 ≡ length tokens → slice_get tokens i ≡ Some t → last_place p (map (line_token bytes) tokens) ≡ place_of t.place
+    go : (p : Place) (tokens : List lexer_token.Token) (i : ℕ) → i + 1 ≡ length tokens → slice_get tokens i ≡ Some t → last_place p (map (line_token bytes) tokens) ≡ t.place
     go p [] i h g = absurd cc
-    go p (x ∷ []) zero h g = let same : x ≡ t = cc in ap (λ y. place_of y.place) same
+    go p (x ∷ []) zero h g = let same : x ≡ t = cc in ap (λ y. y.place) same
     go p (x ∷ []) (suc i) h g = absurd cc
     go p (x ∷ (y ∷ ys)) zero h g = absurd (omega (arith, h))
-    go p (x ∷ (y ∷ ys)) (suc i) h g = go (place_of x.place) (y ∷ ys) i (omega (arith, h)) g
+    go p (x ∷ (y ∷ ys)) (suc i) h g = go x.place (y ∷ ys) i (omega (arith, h)) g
 
 -- what stands in no expression begins and goes on with none
 no_other : (st : State) (p : Place) → step st (token p other) ≡ None

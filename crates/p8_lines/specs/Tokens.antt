@@ -9,7 +9,7 @@ use Rattle.p8_lexer.specs.Characters.{characters}
 use Rattle.p8_lexer.specs.Words.{word_of_kind}
 use Rattle.p8_grammar.specs.Lexemes as lexemes
 use Rattle.p8_grammar.specs.Lexemes.{Lexeme, token}
-use Rattle.p8_expr.specs.Words.{place_of, lexeme_by_kind, between_quotes}
+use Rattle.p8_expr.specs.Words.{lexeme_by_kind, between_quotes}
 use Rattle.p8_pieces.specs.Pieces as pieces
 use Rattle.p8_pieces.specs.Pieces.{Piece}
 
@@ -47,7 +47,7 @@ abbrev pub piece : LineToken → Piece
 piece t = piece_from (lexeme t) (word t) t.place
 
 abbrev pub line_token : List ℕ → lexer_token.Token → LineToken
-line_token bytes t = record { place = place_of t.place; text = characters bytes t; kind = t.kind }
+line_token bytes t = record { place = t.place; text = characters bytes t; kind = t.kind }
 
 -- the place of the last of these tokens, behind one at another place
 abbrev pub last_place : Place → List LineToken → Place

@@ -3,7 +3,7 @@ use crate::sign::Sign;
 use crate::state::State;
 
 /// A token that may stand next, and the state to which it leads.
-#[derive(Clone, Copy, Debug, PartialEq, Eq)]
+#[derive(Clone, Copy)]
 pub struct Arrow {
     pub sign: Sign,
     pub to: State,

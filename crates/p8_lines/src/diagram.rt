@@ -9,956 +9,172 @@ use crate::state::State;
 use p8_grammar::Setting;
 use p8_lexer::Word;
 
+// The tokens that may stand next, each with the state to which it leads: a word, or in brackets a
+// kind of words.
+macro_rules! arrows {
+    ($($sign:tt => $to:ident),* $(,)?) => {
+        &[$(Arrow { sign: sign!($sign), to: State::$to }),*]
+    };
+}
+
+macro_rules! sign {
+    ([$kind:ident]) => { Sign::$kind };
+    ($word:ident) => { Sign::Word(Word::$word) };
+}
+
 impl State {
     /// The tokens that may stand next.
     pub fn arrows(self) -> &'static [Arrow]
         ensures { result.now ≡ (choices self).arrows }
     {
         match self {
-            State::LineEnd => &[Arrow {
-                sign: Sign::Word(Word::LineEnd),
-                to: State::End,
-            }],
-            State::ConHead => &[
-                Arrow {
-                    sign: Sign::Word(Word::LineEnd),
-                    to: State::End,
-                },
-                Arrow {
-                    sign: Sign::Word(Word::Name),
-                    to: State::ConName,
-                },
-                Arrow {
-                    sign: Sign::Word(Word::Hash),
-                    to: State::ConValue,
-                },
+            // The line has ended.
+            State::LineEnd => arrows![LineEnd => End],
+            // CON: items `name = e`, `#e`, `name` and `name[e]`, with commas between them.
+            State::ConHead => arrows![LineEnd => End, Name => ConName, Hash => ConValue],
+            State::ConItem => arrows![Name => ConName, Hash => ConValue],
+            State::ConName => arrows![
+                EqualSign => ConValue, LeftBracket => ConStep, Comma => ConItem, LineEnd => End,
             ],
-            State::ConItem => &[
-                Arrow {
-                    sign: Sign::Word(Word::Name),
-                    to: State::ConName,
-                },
-                Arrow {
-                    sign: Sign::Word(Word::Hash),
-                    to: State::ConValue,
-                },
+            State::ConMore => arrows![Comma => ConItem, LineEnd => End],
+            // VAR: a size and names with counts in brackets, with commas between them.
+            State::VarHead => arrows![LineEnd => End, [Size] => VarName],
+            State::VarLine => arrows![[Size] => VarName],
+            State::VarName => arrows![Name => VarNamed],
+            State::VarNamed => arrows![LeftBracket => VarCount, Comma => VarName, LineEnd => End],
+            State::VarMore => arrows![Comma => VarName, LineEnd => End],
+            // OBJ: `name : "file"` or `name[e] : "file"`.
+            State::ObjHead => arrows![LineEnd => End, Name => ObjNamed],
+            State::ObjLine => arrows![Name => ObjNamed],
+            State::ObjNamed => arrows![LeftBracket => ObjCount, Colon => ObjFile],
+            State::ObjColon => arrows![Colon => ObjFile],
+            State::ObjFile => arrows![[Text] => LineEnd],
+            // PUB and PRI: a name, parameters in parentheses, `: name` for the result and `| name, name[e]` for locals.
+            State::MethodName => arrows![Name => MethodNamed],
+            State::MethodNamed => arrows![
+                LeftParenthesis => Parameter, Colon => ResultName, BitOr => Local, LineEnd => End,
             ],
-            State::ConName => &[
-                Arrow {
-                    sign: Sign::Word(Word::EqualSign),
-                    to: State::ConValue,
-                },
-                Arrow {
-                    sign: Sign::Word(Word::LeftBracket),
-                    to: State::ConStep,
-                },
-                Arrow {
-                    sign: Sign::Word(Word::Comma),
-                    to: State::ConItem,
-                },
-                Arrow {
-                    sign: Sign::Word(Word::LineEnd),
-                    to: State::End,
-                },
+            State::Parameter => arrows![Name => MoreParameters],
+            State::MoreParameters => arrows![Comma => Parameter, RightParenthesis => Parameters],
+            State::Parameters => arrows![Colon => ResultName, BitOr => Local, LineEnd => End],
+            State::ResultName => arrows![Name => ResultNamed],
+            State::ResultNamed => arrows![BitOr => Local, LineEnd => End],
+            State::Local => arrows![Name => LocalNamed],
+            State::LocalNamed => arrows![LeftBracket => LocalCount, Comma => Local, LineEnd => End],
+            State::MoreLocals => arrows![Comma => Local, LineEnd => End],
+            // DAT: an optional label, then data, ORG, RES, FIT or an instruction.
+            State::DatHead => arrows![
+                LineEnd => End, Name => DatBody, Colon => DatLabel, [Size] => FirstData,
+                Org => DatValue, Res => DatValue, Fit => DatValue, [Condition] => Conditioned,
+                [TwoOperands] => Destination, [Memory] => MemoryDestination,
+                [OneOperand] => OnlyDestination, Jmp => Source, Call => CallHash, Ret => Effects,
+                Nop => LineEnd,
             ],
-            State::ConMore => &[
-                Arrow {
-                    sign: Sign::Word(Word::Comma),
-                    to: State::ConItem,
-                },
-                Arrow {
-                    sign: Sign::Word(Word::LineEnd),
-                    to: State::End,
-                },
+            State::DatLine => arrows![
+                Name => DatBody, Colon => DatLabel, [Size] => FirstData, Org => DatValue,
+                Res => DatValue, Fit => DatValue, [Condition] => Conditioned,
+                [TwoOperands] => Destination, [Memory] => MemoryDestination,
+                [OneOperand] => OnlyDestination, Jmp => Source, Call => CallHash, Ret => Effects,
+                Nop => LineEnd,
             ],
-            State::VarHead => &[
-                Arrow {
-                    sign: Sign::Word(Word::LineEnd),
-                    to: State::End,
-                },
-                Arrow {
-                    sign: Sign::Size,
-                    to: State::VarName,
-                },
+            State::DatLabel => arrows![Name => DatBody],
+            State::DatBody => arrows![
+                LineEnd => End, [Size] => FirstData, Org => DatValue, Res => DatValue,
+                Fit => DatValue, [Condition] => Conditioned, [TwoOperands] => Destination,
+                [Memory] => MemoryDestination, [OneOperand] => OnlyDestination, Jmp => Source,
+                Call => CallHash, Ret => Effects, Nop => LineEnd,
             ],
-            State::VarLine => &[Arrow {
-                sign: Sign::Size,
-                to: State::VarName,
-            }],
-            State::VarName => &[Arrow {
-                sign: Sign::Word(Word::Name),
-                to: State::VarNamed,
-            }],
-            State::VarNamed => &[
-                Arrow {
-                    sign: Sign::Word(Word::LeftBracket),
-                    to: State::VarCount,
-                },
-                Arrow {
-                    sign: Sign::Word(Word::Comma),
-                    to: State::VarName,
-                },
-                Arrow {
-                    sign: Sign::Word(Word::LineEnd),
-                    to: State::End,
-                },
+            State::DatValue => arrows![LineEnd => End],
+            State::FirstData => arrows![
+                LineEnd => End, [Size] => DataValue, [LongText] => MoreData,
             ],
-            State::VarMore => &[
-                Arrow {
-                    sign: Sign::Word(Word::Comma),
-                    to: State::VarName,
-                },
-                Arrow {
-                    sign: Sign::Word(Word::LineEnd),
-                    to: State::End,
-                },
+            State::Data => arrows![[Size] => DataValue, [LongText] => MoreData],
+            State::DataValue => arrows![[LongText] => MoreData],
+            State::MoreData => arrows![Comma => Data, LineEnd => End],
+            State::Conditioned => arrows![
+                [TwoOperands] => Destination, [Memory] => MemoryDestination,
+                [OneOperand] => OnlyDestination, Jmp => Source, Call => CallHash, Ret => Effects,
+                Nop => LineEnd,
             ],
-            State::ObjHead => &[
-                Arrow {
-                    sign: Sign::Word(Word::LineEnd),
-                    to: State::End,
-                },
-                Arrow {
-                    sign: Sign::Word(Word::Name),
-                    to: State::ObjNamed,
-                },
+            State::Source => arrows![Hash => SourceValue],
+            State::MemorySource => arrows![Hash => MemorySourceValue],
+            State::CallHash => arrows![Hash => CallLabel],
+            State::CallLabel => arrows![Name => Effects, Colon => CallLocal],
+            State::CallLocal => arrows![Name => Effects],
+            State::Effects => arrows![
+                [Flag] => MoreEffects, [Write] => MoreEffects, LineEnd => End,
             ],
-            State::ObjLine => &[Arrow {
-                sign: Sign::Word(Word::Name),
-                to: State::ObjNamed,
-            }],
-            State::ObjNamed => &[
-                Arrow {
-                    sign: Sign::Word(Word::LeftBracket),
-                    to: State::ObjCount,
-                },
-                Arrow {
-                    sign: Sign::Word(Word::Colon),
-                    to: State::ObjFile,
-                },
+            State::MoreEffects => arrows![
+                [Flag] => MoreEffects, [Write] => MoreEffects, Comma => Effect, LineEnd => End,
             ],
-            State::ObjColon => &[Arrow {
-                sign: Sign::Word(Word::Colon),
-                to: State::ObjFile,
-            }],
-            State::ObjFile => &[Arrow {
-                sign: Sign::Text,
-                to: State::LineEnd,
-            }],
-            State::MethodName => &[Arrow {
-                sign: Sign::Word(Word::Name),
-                to: State::MethodNamed,
-            }],
-            State::MethodNamed => &[
-                Arrow {
-                    sign: Sign::Word(Word::LeftParenthesis),
-                    to: State::Parameter,
-                },
-                Arrow {
-                    sign: Sign::Word(Word::Colon),
-                    to: State::ResultName,
-                },
-                Arrow {
-                    sign: Sign::Word(Word::BitOr),
-                    to: State::Local,
-                },
-                Arrow {
-                    sign: Sign::Word(Word::LineEnd),
-                    to: State::End,
-                },
+            State::Effect => arrows![[Flag] => MoreEffects, [Write] => MoreEffects],
+            State::MoreFlags => arrows![[Flag] => MoreFlags, Comma => FlagEffect, LineEnd => End],
+            State::FlagEffect => arrows![[Flag] => MoreFlags],
+            // Statements. An action is described below.
+            State::Statement => arrows![
+                If => LastValue, Ifnot => LastValue, Case => LastValue, Repeat => Repeat, Next => LineEnd,
+                Quit => LineEnd, Return => MaybeValue, Abort => MaybeValue, Name => Named,
+                Result => Result, [Size] => Memory, [Pins] => Pins, Backslash => Trap,
+                [Change] => Changed, [Operator] => Changed, [Value] => LineEnd,
+                [BuiltIn] => BuiltIn,
             ],
-            State::Parameter => &[Arrow {
-                sign: Sign::Word(Word::Name),
-                to: State::MoreParameters,
-            }],
-            State::MoreParameters => &[
-                Arrow {
-                    sign: Sign::Word(Word::Comma),
-                    to: State::Parameter,
-                },
-                Arrow {
-                    sign: Sign::Word(Word::RightParenthesis),
-                    to: State::Parameters,
-                },
+            State::ChainLine =>
+                arrows![Else => LineEnd, Elseif => LastValue, Elseifnot => LastValue],
+            State::LoopEndLine => arrows![While => LastValue, Until => LastValue],
+            State::Repeat => arrows![LineEnd => End, While => LastValue, Until => LastValue],
+            State::MaybeValue => arrows![LineEnd => End],
+            State::CaseItem => arrows![Other => OtherColon],
+            State::OtherColon => arrows![Colon => End],
+            // Actions: assignments, changes of a variable, calls and built-ins.
+            State::Named => arrows![
+                LineEnd => End, LeftBracket => NamedIndex, Dot => NamedDot,
+                LeftParenthesis => Arguments, [Assignment] => Assigned,
+                [Boolean] => AssignedByWord, [Change] => LineEnd,
             ],
-            State::Parameters => &[
-                Arrow {
-                    sign: Sign::Word(Word::Colon),
-                    to: State::ResultName,
-                },
-                Arrow {
-                    sign: Sign::Word(Word::BitOr),
-                    to: State::Local,
-                },
-                Arrow {
-                    sign: Sign::Word(Word::LineEnd),
-                    to: State::End,
-                },
+            State::NamedIndexed => arrows![
+                Dot => MethodOf, [Assignment] => Assigned, [Boolean] => AssignedByWord,
+                [Change] => LineEnd,
             ],
-            State::ResultName => &[Arrow {
-                sign: Sign::Word(Word::Name),
-                to: State::ResultNamed,
-            }],
-            State::ResultNamed => &[
-                Arrow {
-                    sign: Sign::Word(Word::BitOr),
-                    to: State::Local,
-                },
-                Arrow {
-                    sign: Sign::Word(Word::LineEnd),
-                    to: State::End,
-                },
+            State::NamedDot => arrows![Name => Method, [Size] => Indexable],
+            State::MethodOf => arrows![Name => Method],
+            State::Method => arrows![LeftParenthesis => Arguments, LineEnd => End],
+            State::Indexable => arrows![
+                LeftBracket => Index, [Assignment] => Assigned, [Boolean] => AssignedByWord,
+                [Change] => LineEnd,
             ],
-            State::Local => &[Arrow {
-                sign: Sign::Word(Word::Name),
-                to: State::LocalNamed,
-            }],
-            State::LocalNamed => &[
-                Arrow {
-                    sign: Sign::Word(Word::LeftBracket),
-                    to: State::LocalCount,
-                },
-                Arrow {
-                    sign: Sign::Word(Word::Comma),
-                    to: State::Local,
-                },
-                Arrow {
-                    sign: Sign::Word(Word::LineEnd),
-                    to: State::End,
-                },
+            State::Indexed => arrows![
+                [Assignment] => Assigned, [Boolean] => AssignedByWord, [Change] => LineEnd,
             ],
-            State::MoreLocals => &[
-                Arrow {
-                    sign: Sign::Word(Word::Comma),
-                    to: State::Local,
-                },
-                Arrow {
-                    sign: Sign::Word(Word::LineEnd),
-                    to: State::End,
-                },
+            State::Result => arrows![
+                LeftBracket => Index, Dot => ResultDot, [Assignment] => Assigned,
+                [Boolean] => AssignedByWord, [Change] => LineEnd,
             ],
-            State::DatHead => &[
-                Arrow {
-                    sign: Sign::Word(Word::LineEnd),
-                    to: State::End,
-                },
-                Arrow {
-                    sign: Sign::Word(Word::Name),
-                    to: State::DatBody,
-                },
-                Arrow {
-                    sign: Sign::Word(Word::Colon),
-                    to: State::DatLabel,
-                },
-                Arrow {
-                    sign: Sign::Size,
-                    to: State::FirstData,
-                },
-                Arrow {
-                    sign: Sign::Word(Word::Org),
-                    to: State::DatValue,
-                },
-                Arrow {
-                    sign: Sign::Word(Word::Res),
-                    to: State::DatValue,
-                },
-                Arrow {
-                    sign: Sign::Word(Word::Fit),
-                    to: State::DatValue,
-                },
-                Arrow {
-                    sign: Sign::Condition,
-                    to: State::Conditioned,
-                },
-                Arrow {
-                    sign: Sign::TwoOperands,
-                    to: State::Destination,
-                },
-                Arrow {
-                    sign: Sign::Memory,
-                    to: State::MemoryDestination,
-                },
-                Arrow {
-                    sign: Sign::OneOperand,
-                    to: State::OnlyDestination,
-                },
-                Arrow {
-                    sign: Sign::Word(Word::Jmp),
-                    to: State::Source,
-                },
-                Arrow {
-                    sign: Sign::Word(Word::Call),
-                    to: State::CallHash,
-                },
-                Arrow {
-                    sign: Sign::Word(Word::Ret),
-                    to: State::Effects,
-                },
-                Arrow {
-                    sign: Sign::Word(Word::Nop),
-                    to: State::LineEnd,
-                },
+            State::ResultDot => arrows![[Size] => Indexable],
+            State::Memory => arrows![LeftBracket => Address],
+            State::Pins => arrows![
+                LeftBracket => FirstPin, [Assignment] => Assigned, [Boolean] => AssignedByWord,
+                [Change] => LineEnd,
             ],
-            State::DatLine => &[
-                Arrow {
-                    sign: Sign::Word(Word::Name),
-                    to: State::DatBody,
-                },
-                Arrow {
-                    sign: Sign::Word(Word::Colon),
-                    to: State::DatLabel,
-                },
-                Arrow {
-                    sign: Sign::Size,
-                    to: State::FirstData,
-                },
-                Arrow {
-                    sign: Sign::Word(Word::Org),
-                    to: State::DatValue,
-                },
-                Arrow {
-                    sign: Sign::Word(Word::Res),
-                    to: State::DatValue,
-                },
-                Arrow {
-                    sign: Sign::Word(Word::Fit),
-                    to: State::DatValue,
-                },
-                Arrow {
-                    sign: Sign::Condition,
-                    to: State::Conditioned,
-                },
-                Arrow {
-                    sign: Sign::TwoOperands,
-                    to: State::Destination,
-                },
-                Arrow {
-                    sign: Sign::Memory,
-                    to: State::MemoryDestination,
-                },
-                Arrow {
-                    sign: Sign::OneOperand,
-                    to: State::OnlyDestination,
-                },
-                Arrow {
-                    sign: Sign::Word(Word::Jmp),
-                    to: State::Source,
-                },
-                Arrow {
-                    sign: Sign::Word(Word::Call),
-                    to: State::CallHash,
-                },
-                Arrow {
-                    sign: Sign::Word(Word::Ret),
-                    to: State::Effects,
-                },
-                Arrow {
-                    sign: Sign::Word(Word::Nop),
-                    to: State::LineEnd,
-                },
+            State::Trap => arrows![Name => Trapped],
+            State::Trapped => arrows![
+                LeftParenthesis => Arguments, LineEnd => End, LeftBracket => TrappedIndex,
+                Dot => MethodOf,
             ],
-            State::DatLabel => &[Arrow {
-                sign: Sign::Word(Word::Name),
-                to: State::DatBody,
-            }],
-            State::DatBody => &[
-                Arrow {
-                    sign: Sign::Word(Word::LineEnd),
-                    to: State::End,
-                },
-                Arrow {
-                    sign: Sign::Size,
-                    to: State::FirstData,
-                },
-                Arrow {
-                    sign: Sign::Word(Word::Org),
-                    to: State::DatValue,
-                },
-                Arrow {
-                    sign: Sign::Word(Word::Res),
-                    to: State::DatValue,
-                },
-                Arrow {
-                    sign: Sign::Word(Word::Fit),
-                    to: State::DatValue,
-                },
-                Arrow {
-                    sign: Sign::Condition,
-                    to: State::Conditioned,
-                },
-                Arrow {
-                    sign: Sign::TwoOperands,
-                    to: State::Destination,
-                },
-                Arrow {
-                    sign: Sign::Memory,
-                    to: State::MemoryDestination,
-                },
-                Arrow {
-                    sign: Sign::OneOperand,
-                    to: State::OnlyDestination,
-                },
-                Arrow {
-                    sign: Sign::Word(Word::Jmp),
-                    to: State::Source,
-                },
-                Arrow {
-                    sign: Sign::Word(Word::Call),
-                    to: State::CallHash,
-                },
-                Arrow {
-                    sign: Sign::Word(Word::Ret),
-                    to: State::Effects,
-                },
-                Arrow {
-                    sign: Sign::Word(Word::Nop),
-                    to: State::LineEnd,
-                },
+            State::TrappedDot => arrows![Dot => MethodOf],
+            State::BuiltIn => arrows![LeftParenthesis => Arguments, LineEnd => End],
+            State::AssignedByWord => arrows![EqualSign => Assigned],
+            // An operator and the variable that it changes.
+            State::Changed => arrows![
+                Name => ChangedName, Result => ChangedName, [Size] => ChangedMemory,
+                [Pins] => ChangedPins,
             ],
-            State::DatValue => &[Arrow {
-                sign: Sign::Word(Word::LineEnd),
-                to: State::End,
-            }],
-            State::FirstData => &[
-                Arrow {
-                    sign: Sign::Word(Word::LineEnd),
-                    to: State::End,
-                },
-                Arrow {
-                    sign: Sign::Size,
-                    to: State::DataValue,
-                },
-                Arrow {
-                    sign: Sign::LongText,
-                    to: State::DataEnd,
-                },
+            State::ChangedName => arrows![
+                LeftBracket => ChangedIndex, Dot => ChangedDot, LineEnd => End,
             ],
-            State::Data => &[
-                Arrow {
-                    sign: Sign::Size,
-                    to: State::DataValue,
-                },
-                Arrow {
-                    sign: Sign::LongText,
-                    to: State::DataEnd,
-                },
-            ],
-            State::DataValue => &[Arrow {
-                sign: Sign::LongText,
-                to: State::DataEnd,
-            }],
-            State::DataEnd => &[
-                Arrow {
-                    sign: Sign::Word(Word::LeftBracket),
-                    to: State::DataCount,
-                },
-                Arrow {
-                    sign: Sign::Word(Word::Comma),
-                    to: State::Data,
-                },
-                Arrow {
-                    sign: Sign::Word(Word::LineEnd),
-                    to: State::End,
-                },
-            ],
-            State::MoreData => &[
-                Arrow {
-                    sign: Sign::Word(Word::Comma),
-                    to: State::Data,
-                },
-                Arrow {
-                    sign: Sign::Word(Word::LineEnd),
-                    to: State::End,
-                },
-            ],
-            State::Conditioned => &[
-                Arrow {
-                    sign: Sign::TwoOperands,
-                    to: State::Destination,
-                },
-                Arrow {
-                    sign: Sign::Memory,
-                    to: State::MemoryDestination,
-                },
-                Arrow {
-                    sign: Sign::OneOperand,
-                    to: State::OnlyDestination,
-                },
-                Arrow {
-                    sign: Sign::Word(Word::Jmp),
-                    to: State::Source,
-                },
-                Arrow {
-                    sign: Sign::Word(Word::Call),
-                    to: State::CallHash,
-                },
-                Arrow {
-                    sign: Sign::Word(Word::Ret),
-                    to: State::Effects,
-                },
-                Arrow {
-                    sign: Sign::Word(Word::Nop),
-                    to: State::LineEnd,
-                },
-            ],
-            State::Source => &[Arrow {
-                sign: Sign::Word(Word::Hash),
-                to: State::SourceValue,
-            }],
-            State::MemorySource => &[Arrow {
-                sign: Sign::Word(Word::Hash),
-                to: State::MemorySourceValue,
-            }],
-            State::CallHash => &[Arrow {
-                sign: Sign::Word(Word::Hash),
-                to: State::CallLabel,
-            }],
-            State::CallLabel => &[
-                Arrow {
-                    sign: Sign::Word(Word::Name),
-                    to: State::Effects,
-                },
-                Arrow {
-                    sign: Sign::Word(Word::Colon),
-                    to: State::CallLocal,
-                },
-            ],
-            State::CallLocal => &[Arrow {
-                sign: Sign::Word(Word::Name),
-                to: State::Effects,
-            }],
-            State::Effects => &[
-                Arrow {
-                    sign: Sign::Flag,
-                    to: State::MoreEffects,
-                },
-                Arrow {
-                    sign: Sign::Write,
-                    to: State::MoreEffects,
-                },
-                Arrow {
-                    sign: Sign::Word(Word::LineEnd),
-                    to: State::End,
-                },
-            ],
-            State::MoreEffects => &[
-                Arrow {
-                    sign: Sign::Flag,
-                    to: State::MoreEffects,
-                },
-                Arrow {
-                    sign: Sign::Write,
-                    to: State::MoreEffects,
-                },
-                Arrow {
-                    sign: Sign::Word(Word::Comma),
-                    to: State::Effect,
-                },
-                Arrow {
-                    sign: Sign::Word(Word::LineEnd),
-                    to: State::End,
-                },
-            ],
-            State::Effect => &[
-                Arrow {
-                    sign: Sign::Flag,
-                    to: State::MoreEffects,
-                },
-                Arrow {
-                    sign: Sign::Write,
-                    to: State::MoreEffects,
-                },
-            ],
-            State::MoreFlags => &[
-                Arrow {
-                    sign: Sign::Flag,
-                    to: State::MoreFlags,
-                },
-                Arrow {
-                    sign: Sign::Word(Word::Comma),
-                    to: State::FlagEffect,
-                },
-                Arrow {
-                    sign: Sign::Word(Word::LineEnd),
-                    to: State::End,
-                },
-            ],
-            State::FlagEffect => &[Arrow {
-                sign: Sign::Flag,
-                to: State::MoreFlags,
-            }],
-            State::Statement => &[
-                Arrow {
-                    sign: Sign::Word(Word::If),
-                    to: State::Test,
-                },
-                Arrow {
-                    sign: Sign::Word(Word::Ifnot),
-                    to: State::Test,
-                },
-                Arrow {
-                    sign: Sign::Word(Word::Case),
-                    to: State::Test,
-                },
-                Arrow {
-                    sign: Sign::Word(Word::Repeat),
-                    to: State::Repeat,
-                },
-                Arrow {
-                    sign: Sign::Word(Word::Next),
-                    to: State::LineEnd,
-                },
-                Arrow {
-                    sign: Sign::Word(Word::Quit),
-                    to: State::LineEnd,
-                },
-                Arrow {
-                    sign: Sign::Word(Word::Return),
-                    to: State::MaybeValue,
-                },
-                Arrow {
-                    sign: Sign::Word(Word::Abort),
-                    to: State::MaybeValue,
-                },
-                Arrow {
-                    sign: Sign::Word(Word::Name),
-                    to: State::Named,
-                },
-                Arrow {
-                    sign: Sign::Word(Word::Result),
-                    to: State::Result,
-                },
-                Arrow {
-                    sign: Sign::Size,
-                    to: State::Memory,
-                },
-                Arrow {
-                    sign: Sign::Pins,
-                    to: State::Pins,
-                },
-                Arrow {
-                    sign: Sign::Word(Word::Backslash),
-                    to: State::Trap,
-                },
-                Arrow {
-                    sign: Sign::Change,
-                    to: State::Changed,
-                },
-                Arrow {
-                    sign: Sign::Operator,
-                    to: State::Changed,
-                },
-                Arrow {
-                    sign: Sign::Value,
-                    to: State::LineEnd,
-                },
-                Arrow {
-                    sign: Sign::BuiltIn,
-                    to: State::BuiltIn,
-                },
-            ],
-            State::ChainLine => &[
-                Arrow {
-                    sign: Sign::Word(Word::Else),
-                    to: State::LineEnd,
-                },
-                Arrow {
-                    sign: Sign::Word(Word::Elseif),
-                    to: State::Test,
-                },
-                Arrow {
-                    sign: Sign::Word(Word::Elseifnot),
-                    to: State::Test,
-                },
-            ],
-            State::LoopEndLine => &[
-                Arrow {
-                    sign: Sign::Word(Word::While),
-                    to: State::Test,
-                },
-                Arrow {
-                    sign: Sign::Word(Word::Until),
-                    to: State::Test,
-                },
-            ],
-            State::Repeat => &[
-                Arrow {
-                    sign: Sign::Word(Word::LineEnd),
-                    to: State::End,
-                },
-                Arrow {
-                    sign: Sign::Word(Word::While),
-                    to: State::Test,
-                },
-                Arrow {
-                    sign: Sign::Word(Word::Until),
-                    to: State::Test,
-                },
-            ],
-            State::MaybeValue => &[Arrow {
-                sign: Sign::Word(Word::LineEnd),
-                to: State::End,
-            }],
-            State::CaseItem => &[Arrow {
-                sign: Sign::Word(Word::Other),
-                to: State::OtherColon,
-            }],
-            State::OtherColon => &[Arrow {
-                sign: Sign::Word(Word::Colon),
-                to: State::End,
-            }],
-            State::Named => &[
-                Arrow {
-                    sign: Sign::Word(Word::LineEnd),
-                    to: State::End,
-                },
-                Arrow {
-                    sign: Sign::Word(Word::LeftBracket),
-                    to: State::NamedIndex,
-                },
-                Arrow {
-                    sign: Sign::Word(Word::Dot),
-                    to: State::NamedDot,
-                },
-                Arrow {
-                    sign: Sign::Word(Word::LeftParenthesis),
-                    to: State::Arguments,
-                },
-                Arrow {
-                    sign: Sign::Assignment,
-                    to: State::Assigned,
-                },
-                Arrow {
-                    sign: Sign::Boolean,
-                    to: State::AssignedByWord,
-                },
-                Arrow {
-                    sign: Sign::Change,
-                    to: State::LineEnd,
-                },
-            ],
-            State::NamedIndexed => &[
-                Arrow {
-                    sign: Sign::Word(Word::Dot),
-                    to: State::MethodOf,
-                },
-                Arrow {
-                    sign: Sign::Assignment,
-                    to: State::Assigned,
-                },
-                Arrow {
-                    sign: Sign::Boolean,
-                    to: State::AssignedByWord,
-                },
-                Arrow {
-                    sign: Sign::Change,
-                    to: State::LineEnd,
-                },
-            ],
-            State::NamedDot => &[
-                Arrow {
-                    sign: Sign::Word(Word::Name),
-                    to: State::Method,
-                },
-                Arrow {
-                    sign: Sign::Size,
-                    to: State::Indexable,
-                },
-            ],
-            State::MethodOf => &[Arrow {
-                sign: Sign::Word(Word::Name),
-                to: State::Method,
-            }],
-            State::Method => &[
-                Arrow {
-                    sign: Sign::Word(Word::LeftParenthesis),
-                    to: State::Arguments,
-                },
-                Arrow {
-                    sign: Sign::Word(Word::LineEnd),
-                    to: State::End,
-                },
-            ],
-            State::Indexable => &[
-                Arrow {
-                    sign: Sign::Word(Word::LeftBracket),
-                    to: State::Index,
-                },
-                Arrow {
-                    sign: Sign::Assignment,
-                    to: State::Assigned,
-                },
-                Arrow {
-                    sign: Sign::Boolean,
-                    to: State::AssignedByWord,
-                },
-                Arrow {
-                    sign: Sign::Change,
-                    to: State::LineEnd,
-                },
-            ],
-            State::Indexed => &[
-                Arrow {
-                    sign: Sign::Assignment,
-                    to: State::Assigned,
-                },
-                Arrow {
-                    sign: Sign::Boolean,
-                    to: State::AssignedByWord,
-                },
-                Arrow {
-                    sign: Sign::Change,
-                    to: State::LineEnd,
-                },
-            ],
-            State::Result => &[
-                Arrow {
-                    sign: Sign::Word(Word::LeftBracket),
-                    to: State::Index,
-                },
-                Arrow {
-                    sign: Sign::Word(Word::Dot),
-                    to: State::ResultDot,
-                },
-                Arrow {
-                    sign: Sign::Assignment,
-                    to: State::Assigned,
-                },
-                Arrow {
-                    sign: Sign::Boolean,
-                    to: State::AssignedByWord,
-                },
-                Arrow {
-                    sign: Sign::Change,
-                    to: State::LineEnd,
-                },
-            ],
-            State::ResultDot => &[Arrow {
-                sign: Sign::Size,
-                to: State::Indexable,
-            }],
-            State::Memory => &[Arrow {
-                sign: Sign::Word(Word::LeftBracket),
-                to: State::Address,
-            }],
-            State::Pins => &[
-                Arrow {
-                    sign: Sign::Word(Word::LeftBracket),
-                    to: State::FirstPin,
-                },
-                Arrow {
-                    sign: Sign::Assignment,
-                    to: State::Assigned,
-                },
-                Arrow {
-                    sign: Sign::Boolean,
-                    to: State::AssignedByWord,
-                },
-                Arrow {
-                    sign: Sign::Change,
-                    to: State::LineEnd,
-                },
-            ],
-            State::Trap => &[Arrow {
-                sign: Sign::Word(Word::Name),
-                to: State::Trapped,
-            }],
-            State::Trapped => &[
-                Arrow {
-                    sign: Sign::Word(Word::LeftParenthesis),
-                    to: State::Arguments,
-                },
-                Arrow {
-                    sign: Sign::Word(Word::LineEnd),
-                    to: State::End,
-                },
-                Arrow {
-                    sign: Sign::Word(Word::LeftBracket),
-                    to: State::TrappedIndex,
-                },
-                Arrow {
-                    sign: Sign::Word(Word::Dot),
-                    to: State::MethodOf,
-                },
-            ],
-            State::TrappedDot => &[Arrow {
-                sign: Sign::Word(Word::Dot),
-                to: State::MethodOf,
-            }],
-            State::AssignedByWord => &[Arrow {
-                sign: Sign::Word(Word::EqualSign),
-                to: State::Assigned,
-            }],
-            State::BuiltIn => &[
-                Arrow {
-                    sign: Sign::Word(Word::LeftParenthesis),
-                    to: State::Arguments,
-                },
-                Arrow {
-                    sign: Sign::Word(Word::LineEnd),
-                    to: State::End,
-                },
-            ],
-            State::Changed => &[
-                Arrow {
-                    sign: Sign::Word(Word::Name),
-                    to: State::ChangedName,
-                },
-                Arrow {
-                    sign: Sign::Word(Word::Result),
-                    to: State::ChangedName,
-                },
-                Arrow {
-                    sign: Sign::Size,
-                    to: State::ChangedMemory,
-                },
-                Arrow {
-                    sign: Sign::Pins,
-                    to: State::ChangedPins,
-                },
-            ],
-            State::ChangedName => &[
-                Arrow {
-                    sign: Sign::Word(Word::LeftBracket),
-                    to: State::ChangedIndex,
-                },
-                Arrow {
-                    sign: Sign::Word(Word::Dot),
-                    to: State::ChangedDot,
-                },
-                Arrow {
-                    sign: Sign::Word(Word::LineEnd),
-                    to: State::End,
-                },
-            ],
-            State::ChangedDot => &[Arrow {
-                sign: Sign::Size,
-                to: State::ChangedIndexable,
-            }],
-            State::ChangedIndexable => &[
-                Arrow {
-                    sign: Sign::Word(Word::LeftBracket),
-                    to: State::ChangedIndex,
-                },
-                Arrow {
-                    sign: Sign::Word(Word::LineEnd),
-                    to: State::End,
-                },
-            ],
-            State::ChangedMemory => &[Arrow {
-                sign: Sign::Word(Word::LeftBracket),
-                to: State::ChangedAddress,
-            }],
-            State::ChangedPins => &[
-                Arrow {
-                    sign: Sign::Word(Word::LeftBracket),
-                    to: State::ChangedFirstPin,
-                },
-                Arrow {
-                    sign: Sign::Word(Word::LineEnd),
-                    to: State::End,
-                },
-            ],
+            State::ChangedDot => arrows![[Size] => ChangedIndexable],
+            State::ChangedIndexable => arrows![LeftBracket => ChangedIndex, LineEnd => End],
+            State::ChangedMemory => arrows![LeftBracket => ChangedAddress],
+            State::ChangedPins => arrows![LeftBracket => ChangedFirstPin, LineEnd => End],
             _ => &[],
         }
     }
@@ -972,7 +188,7 @@ impl State {
                 Setting::Declaration,
             ),
             State::LocalCount
-            | State::Test
+            | State::LastValue
             | State::Repeat
             | State::From
             | State::To
@@ -1032,282 +248,39 @@ impl State {
         ensures { result.now ≡ behind_in (choices self).phrase }
     {
         match self {
-            State::ConValue => &[
-                Arrow {
-                    sign: Sign::Word(Word::Comma),
-                    to: State::ConItem,
-                },
-                Arrow {
-                    sign: Sign::Word(Word::LineEnd),
-                    to: State::End,
-                },
-            ],
-            State::ConStep => &[Arrow {
-                sign: Sign::Word(Word::RightBracket),
-                to: State::ConMore,
-            }],
-            State::VarCount => &[Arrow {
-                sign: Sign::Word(Word::RightBracket),
-                to: State::VarMore,
-            }],
-            State::ObjCount => &[Arrow {
-                sign: Sign::Word(Word::RightBracket),
-                to: State::ObjColon,
-            }],
-            State::LocalCount => &[Arrow {
-                sign: Sign::Word(Word::RightBracket),
-                to: State::MoreLocals,
-            }],
-            State::DatValue => &[Arrow {
-                sign: Sign::Word(Word::LineEnd),
-                to: State::End,
-            }],
-            State::FirstData => &[
-                Arrow {
-                    sign: Sign::Word(Word::LeftBracket),
-                    to: State::DataCount,
-                },
-                Arrow {
-                    sign: Sign::Word(Word::Comma),
-                    to: State::Data,
-                },
-                Arrow {
-                    sign: Sign::Word(Word::LineEnd),
-                    to: State::End,
-                },
-            ],
-            State::Data => &[
-                Arrow {
-                    sign: Sign::Word(Word::LeftBracket),
-                    to: State::DataCount,
-                },
-                Arrow {
-                    sign: Sign::Word(Word::Comma),
-                    to: State::Data,
-                },
-                Arrow {
-                    sign: Sign::Word(Word::LineEnd),
-                    to: State::End,
-                },
-            ],
-            State::DataValue => &[
-                Arrow {
-                    sign: Sign::Word(Word::LeftBracket),
-                    to: State::DataCount,
-                },
-                Arrow {
-                    sign: Sign::Word(Word::Comma),
-                    to: State::Data,
-                },
-                Arrow {
-                    sign: Sign::Word(Word::LineEnd),
-                    to: State::End,
-                },
-            ],
-            State::DataCount => &[Arrow {
-                sign: Sign::Word(Word::RightBracket),
-                to: State::MoreData,
-            }],
-            State::Destination => &[Arrow {
-                sign: Sign::Word(Word::Comma),
-                to: State::Source,
-            }],
-            State::Source => &[
-                Arrow {
-                    sign: Sign::Flag,
-                    to: State::MoreEffects,
-                },
-                Arrow {
-                    sign: Sign::Write,
-                    to: State::MoreEffects,
-                },
-                Arrow {
-                    sign: Sign::Word(Word::LineEnd),
-                    to: State::End,
-                },
-            ],
-            State::SourceValue => &[
-                Arrow {
-                    sign: Sign::Flag,
-                    to: State::MoreEffects,
-                },
-                Arrow {
-                    sign: Sign::Write,
-                    to: State::MoreEffects,
-                },
-                Arrow {
-                    sign: Sign::Word(Word::LineEnd),
-                    to: State::End,
-                },
-            ],
-            State::MemoryDestination => &[Arrow {
-                sign: Sign::Word(Word::Comma),
-                to: State::MemorySource,
-            }],
-            State::MemorySource => &[
-                Arrow {
-                    sign: Sign::Flag,
-                    to: State::MoreFlags,
-                },
-                Arrow {
-                    sign: Sign::Word(Word::LineEnd),
-                    to: State::End,
-                },
-            ],
-            State::MemorySourceValue => &[
-                Arrow {
-                    sign: Sign::Flag,
-                    to: State::MoreFlags,
-                },
-                Arrow {
-                    sign: Sign::Word(Word::LineEnd),
-                    to: State::End,
-                },
-            ],
-            State::OnlyDestination => &[
-                Arrow {
-                    sign: Sign::Flag,
-                    to: State::MoreEffects,
-                },
-                Arrow {
-                    sign: Sign::Write,
-                    to: State::MoreEffects,
-                },
-                Arrow {
-                    sign: Sign::Word(Word::LineEnd),
-                    to: State::End,
-                },
-            ],
-            State::Test => &[Arrow {
-                sign: Sign::Word(Word::LineEnd),
-                to: State::End,
-            }],
-            State::Repeat => &[Arrow {
-                sign: Sign::Word(Word::LineEnd),
-                to: State::End,
-            }],
-            State::From => &[Arrow {
-                sign: Sign::Word(Word::To),
-                to: State::To,
-            }],
-            State::To => &[
-                Arrow {
-                    sign: Sign::Word(Word::Step),
-                    to: State::Test,
-                },
-                Arrow {
-                    sign: Sign::Word(Word::LineEnd),
-                    to: State::End,
-                },
-            ],
-            State::MaybeValue => &[Arrow {
-                sign: Sign::Word(Word::LineEnd),
-                to: State::End,
-            }],
-            State::CaseItem => &[
-                Arrow {
-                    sign: Sign::Word(Word::DotDot),
-                    to: State::CaseRange,
-                },
-                Arrow {
-                    sign: Sign::Word(Word::Comma),
-                    to: State::CaseTest,
-                },
-                Arrow {
-                    sign: Sign::Word(Word::Colon),
-                    to: State::End,
-                },
-            ],
-            State::CaseTest => &[
-                Arrow {
-                    sign: Sign::Word(Word::DotDot),
-                    to: State::CaseRange,
-                },
-                Arrow {
-                    sign: Sign::Word(Word::Comma),
-                    to: State::CaseTest,
-                },
-                Arrow {
-                    sign: Sign::Word(Word::Colon),
-                    to: State::End,
-                },
-            ],
-            State::CaseRange => &[
-                Arrow {
-                    sign: Sign::Word(Word::Comma),
-                    to: State::CaseTest,
-                },
-                Arrow {
-                    sign: Sign::Word(Word::Colon),
-                    to: State::End,
-                },
-            ],
-            State::NamedIndex => &[Arrow {
-                sign: Sign::Word(Word::RightBracket),
-                to: State::NamedIndexed,
-            }],
-            State::Index => &[Arrow {
-                sign: Sign::Word(Word::RightBracket),
-                to: State::Indexed,
-            }],
-            State::Address => &[Arrow {
-                sign: Sign::Word(Word::RightBracket),
-                to: State::Indexable,
-            }],
-            State::FirstPin => &[
-                Arrow {
-                    sign: Sign::Word(Word::DotDot),
-                    to: State::LastPin,
-                },
-                Arrow {
-                    sign: Sign::Word(Word::RightBracket),
-                    to: State::Indexed,
-                },
-            ],
-            State::LastPin => &[Arrow {
-                sign: Sign::Word(Word::RightBracket),
-                to: State::Indexed,
-            }],
-            State::TrappedIndex => &[Arrow {
-                sign: Sign::Word(Word::RightBracket),
-                to: State::TrappedDot,
-            }],
-            State::Arguments => &[
-                Arrow {
-                    sign: Sign::Word(Word::Comma),
-                    to: State::Arguments,
-                },
-                Arrow {
-                    sign: Sign::Word(Word::RightParenthesis),
-                    to: State::LineEnd,
-                },
-            ],
-            State::Assigned => &[Arrow {
-                sign: Sign::Word(Word::LineEnd),
-                to: State::End,
-            }],
-            State::ChangedIndex => &[Arrow {
-                sign: Sign::Word(Word::RightBracket),
-                to: State::LineEnd,
-            }],
-            State::ChangedAddress => &[Arrow {
-                sign: Sign::Word(Word::RightBracket),
-                to: State::ChangedIndexable,
-            }],
-            State::ChangedFirstPin => &[
-                Arrow {
-                    sign: Sign::Word(Word::DotDot),
-                    to: State::ChangedLastPin,
-                },
-                Arrow {
-                    sign: Sign::Word(Word::RightBracket),
-                    to: State::LineEnd,
-                },
-            ],
-            State::ChangedLastPin => &[Arrow {
-                sign: Sign::Word(Word::RightBracket),
-                to: State::LineEnd,
-            }],
+            State::ConValue => arrows![Comma => ConItem, LineEnd => End],
+            State::ConStep => arrows![RightBracket => ConMore],
+            State::VarCount => arrows![RightBracket => VarMore],
+            State::ObjCount => arrows![RightBracket => ObjColon],
+            State::LocalCount => arrows![RightBracket => MoreLocals],
+            State::DatValue
+            | State::LastValue
+            | State::Repeat
+            | State::MaybeValue
+            | State::Assigned => arrows![LineEnd => End],
+            State::FirstData | State::Data | State::DataValue =>
+                arrows![LeftBracket => DataCount, Comma => Data, LineEnd => End],
+            State::DataCount => arrows![RightBracket => MoreData],
+            State::Destination => arrows![Comma => Source],
+            State::Source | State::SourceValue | State::OnlyDestination =>
+                arrows![[Flag] => MoreEffects, [Write] => MoreEffects, LineEnd => End],
+            State::MemoryDestination => arrows![Comma => MemorySource],
+            State::MemorySource | State::MemorySourceValue =>
+                arrows![[Flag] => MoreFlags, LineEnd => End],
+            State::From => arrows![To => To],
+            State::To => arrows![Step => LastValue, LineEnd => End],
+            State::CaseItem | State::CaseTest =>
+                arrows![DotDot => CaseRange, Comma => CaseTest, Colon => End],
+            State::CaseRange => arrows![Comma => CaseTest, Colon => End],
+            State::NamedIndex => arrows![RightBracket => NamedIndexed],
+            State::Index | State::LastPin => arrows![RightBracket => Indexed],
+            State::Address => arrows![RightBracket => Indexable],
+            State::FirstPin => arrows![DotDot => LastPin, RightBracket => Indexed],
+            State::TrappedIndex => arrows![RightBracket => TrappedDot],
+            State::Arguments => arrows![Comma => Arguments, RightParenthesis => LineEnd],
+            State::ChangedIndex | State::ChangedLastPin => arrows![RightBracket => LineEnd],
+            State::ChangedAddress => arrows![RightBracket => ChangedIndexable],
+            State::ChangedFirstPin => arrows![DotDot => ChangedLastPin, RightBracket => LineEnd],
             _ => &[],
         }
     }
@@ -1317,16 +290,7 @@ impl State {
         ensures { result.now ≡ behind_name_in (choices self).phrase }
     {
         match self {
-            State::Repeat => &[
-                Arrow {
-                    sign: Sign::Word(Word::LineEnd),
-                    to: State::End,
-                },
-                Arrow {
-                    sign: Sign::Word(Word::From),
-                    to: State::From,
-                },
-            ],
+            State::Repeat => arrows![LineEnd => End, From => From],
             _ => self.behind(),
         }
     }
@@ -1362,7 +326,6 @@ impl State {
             | State::FirstData
             | State::Data
             | State::DataValue
-            | State::DataEnd
             | State::DataCount
             | State::MoreData
             | State::Conditioned

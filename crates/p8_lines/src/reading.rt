@@ -14,7 +14,7 @@ ghost use Rattle.p8_lines.specs.Stopping.{token_at, run, told_at, FitsSetting, S
 
 use crate::arrow::Arrow;
 use crate::state::State;
-use p8_expr::{GREATEST_HEIGHT, ParseFault, lexeme, parse_expr_in, place_of, refusal_of};
+use p8_expr::{GREATEST_HEIGHT, ParseFault, lexeme, parse_expr_in, refusal_of};
 use p8_grammar::{Lexeme, Setting, Term};
 use p8_lexer::{Characters, Refusal, Tokens, Word, word_of};
 use p8_pieces::Piece;
@@ -276,7 +276,7 @@ fn place_at(bytes: &[u8], tokens: &Tokens, at: usize) -> Place
     ensures { result ≡ (token_at bytes.now tokens.now at).place }
 {
     match tokens.get(at) {
-        Some(token) => place_of(token.place),
+        Some(token) => token.place,
         None => last_place(bytes, tokens),
     }
 }
@@ -286,7 +286,7 @@ fn last_place(bytes: &[u8], tokens: &Tokens) -> Place
     ensures { result ≡ (text_end (map (line_token bytes.now) tokens.now)).place }
 {
     match tokens.get(tokens.len().saturating_sub(1)) {
-        Some(token) => place_of(token.place),
+        Some(token) => token.place,
         None => Place { line: 1, column: 1 },
     }
 }

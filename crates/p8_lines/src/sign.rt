@@ -9,7 +9,7 @@ use crate::words::{
 use p8_lexer::Word;
 
 /// Which tokens an arrow of the diagram stands for.
-#[derive(Clone, Copy, Debug, PartialEq, Eq)]
+#[derive(Clone, Copy)]
 pub enum Sign {
     /// A symbol, a reserved word, a name that isn't reserved, or the end of a line.
     Word(Word),

@@ -3,7 +3,7 @@
 /// A state of the diagram of lines: what has been read of a line, and so what may stand next.
 ///
 /// Each is named by what stands there. [`State::arrows`] and [`State::behind`] are the diagram.
-#[derive(Clone, Copy, Debug, PartialEq, Eq)]
+#[derive(Clone, Copy)]
 pub enum State {
     // The line has ended.
     /// Nothing more belongs to the line.
@@ -89,11 +89,9 @@ pub enum State {
     Data,
     /// What follows an item's own size word.
     DataValue,
-    /// What follows a string of several characters.
-    DataEnd,
     /// What follows an item's `[`.
     DataCount,
-    /// What follows an item's count.
+    /// What follows an item's count, or a string of several characters, which has none.
     MoreData,
     /// What follows a condition.
     Conditioned,
@@ -134,8 +132,8 @@ pub enum State {
     ChainLine,
     /// A line that ends a plain REPEAT.
     LoopEndLine,
-    /// A value, and the end of the line.
-    Test,
+    /// The last value of a line: that of IF, ELSEIF, CASE, WHILE, UNTIL and STEP.
+    LastValue,
     /// What follows REPEAT: a counter is one name.
     Repeat,
     /// What follows FROM.

@@ -12,7 +12,7 @@ use Rattle.p8_lines.specs.Signs.{Matches}
 use Rattle.p8_lines.specs.Diagram.{Phrase, choices}
 use Rattle.p8_lines.specs.Tokens as tokens
 use Rattle.p8_lines.specs.Tokens.{LineToken, string_length, piece}
-use Rattle.p8_lines.specs.Lines.{Follows, here, further, is_name, behind, Row, over, token, phrase, Leads, nowhere, by_token, by_phrase}
+use Rattle.p8_lines.specs.Lines.{Follows, here, further, is_name, behind, Row, over, token, phrase}
 use Rattle.p8_lines.proofs.Arrows.{all_good, all_good_behind, taken, taken_behind}
 
 -- a row has a value
@@ -88,12 +88,3 @@ module _ {P : Type 0} (part : Piece → P) (Each : Sign → (P → Type 0) → T
         by_arrow Goal (map part row) (λ x. Goal q (x ∷ map part row)) f ((keeps q (map part row) h).arrows) (holds y (own_next q r t f h))
     holds (phrase {q = q} {r = r} {h = p} {e = e} {row = row} {first = first} {t = t} others some is f y) h =
         behind_phrase Goal q (map part row) p (first ∷ others) f (subst (λ o. OwesBehind part Each Goal q (map part row) o) some ((keeps q (map part row) h).phrase)) (holds y (own_behind q r p (first ∷ others) t some f h)) e first.place
-
--- what leads to the end of the line is a row
-pub leads_row : {q : State} {us : List LineToken} {row : List Piece} → Leads q us row state.End → Row q row us
-leads_row l = go l refl
-  where
-    go : {q s : State} {us : List LineToken} {row : List Piece} → Leads q us row s → s ≡ state.End → Row q row us
-    go (nowhere {q = q}) e = subst (λ q. Row q [] []) (sym e) over
-    go (by_token f l) e = token f (go l e)
-    go (by_phrase others some is low f l) e = phrase others some is f (go l e)

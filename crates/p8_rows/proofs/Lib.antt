@@ -1,12 +1,15 @@
-mod Pieces
+pub mod Pieces
 mod Following
 mod DeclarationWords
 mod Constants
 mod Variables
 mod Objects
 mod Methods
-mod DataWords
-mod Data
+pub mod DataMade
+pub mod DataWords
+pub mod Data
+mod ProperData
+mod ReadProper
 mod Reading
 mod StatementPieces
 mod StatementRows
@@ -14,3 +17,4 @@ mod StatementGoals
 mod Actions
 mod StatementLines
 mod StatementReads
+mod Assignments

@@ -12,7 +12,7 @@ use Rattle.p8_lines.specs.Tokens.{LineToken, piece_from, piece}
 use Rattle.p8_lines.proofs.Lexemes.{is_plain, plain_lexeme, name_lexeme, string_lexeme}
 
 -- neither a symbol nor a reserved word is a name or a string
-is_word : (w : Word) (p : Place) → piece_from (lexeme_of_word w) w p ≡ pieces.word w p
+pub is_word : (w : Word) (p : Place) → piece_from (lexeme_of_word w) w p ≡ pieces.word w p
 unfolding lexeme_of_word
 is_word word.PlusPlus p = refl
 is_word w p = refl

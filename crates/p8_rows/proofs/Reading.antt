@@ -10,7 +10,8 @@ use Rattle.p8_data.specs.declared.lines.DatRow.{DatRow}
 use Rattle.p8_data.specs.declared.lines.DatRow.TheVariants as row_case
 use Rattle.p8_data.specs.Rows.{outcome_of}
 use Rattle.p8_rows.specs.Values.{HaveValues}
-use Rattle.p8_rows.proofs.Following.{Has, leads_row}
+use Rattle.p8_lines.proofs.Readings.{leads_row}
+use Rattle.p8_rows.proofs.Following.{Has}
 
 -- the row that was read, with its tokens
 record Read (q : State) (row : List Piece) : Type 0 where

@@ -44,9 +44,9 @@ line_end_keeps : (row : List Piece) → Keeps Goal state.LineEnd row
 unfolding role_of
 line_end_keeps row = record { arrows = (λ g p. g) & none; phrase = tt }
 
-test_keeps : (row : List Piece) → Keeps Goal state.Test row
+test_keeps : (row : List Piece) → Keeps Goal state.LastValue row
 unfolding role_of
-test_keeps row = record { arrows = none; phrase = both state.Test row (λ b. ((λ g q e p k. chosen _ (is_empty row) g) & none)) }
+test_keeps row = record { arrows = none; phrase = both state.LastValue row (λ b. ((λ g q e p k. chosen _ (is_empty row) g) & none)) }
 
 -- loops
 
@@ -174,7 +174,7 @@ keeps state.Statement row = statement_keeps row
 keeps state.ChainLine row = chain_line_keeps row
 keeps state.LoopEndLine row = loop_end_keeps row
 keeps state.CaseItem row = case_item_keeps row
-keeps state.Test row = test_keeps row
+keeps state.LastValue row = test_keeps row
 keeps state.Repeat row = repeat_keeps row
 keeps state.From row = from_keeps row
 keeps state.To row = to_keeps row

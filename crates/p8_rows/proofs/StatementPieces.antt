@@ -14,21 +14,10 @@ use Rattle.p8_lines.specs.Signs.{is_size, is_pins, is_assignment, is_boolean, is
 use Rattle.p8_lines.specs.Tokens as tokens
 use Rattle.p8_lines.specs.Tokens.{LineToken, string_length, piece_from, piece}
 use Rattle.p8_lines.proofs.Lexemes.{is_plain, plain_lexeme, name_lexeme}
+use Rattle.p8_rows.proofs.Pieces.{word_piece, name_piece}
 use Rattle.p8_statements.specs.declared.role.Role.{Role}
 use Rattle.p8_statements.specs.declared.role.Role.TheVariants as role
 use Rattle.p8_statements.specs.Roles.{role_of}
-
--- neither a symbol nor a reserved word is a name or a string
-is_word : (w : Word) (p : Place) → piece_from (lexeme_of_word w) w p ≡ pieces.word w p
-unfolding lexeme_of_word
-is_word word.PlusPlus p = refl
-is_word w p = refl
-
-word_piece : (t : LineToken) (w : Word) → IsTrue (is_plain w) → tokens.word t ≡ w → piece t ≡ pieces.word w t.place
-word_piece t w plain h = ap (λ l. piece_from l (tokens.word t) t.place) (plain_lexeme t w plain h) ∙ (ap (λ v. piece_from (lexeme_of_word w) v t.place) h ∙ is_word w t.place)
-
-name_piece : (t : LineToken) → tokens.word t ≡ word.Name → piece t ≡ pieces.name (map capital t.text) t.place
-name_piece t h = ap (λ l. piece_from l (tokens.word t) t.place) (name_lexeme t h)
 
 -- what the words of a sign are to a statement
 

@@ -9,7 +9,7 @@ use Rattle.p8_lines.specs.Tokens.{LineToken}
 use Rattle.p8_lines.specs.Lines.{read, Reads, line}
 use Rattle.p8_statements.specs.Statements.{kind_of_row}
 use Rattle.p8_rows.specs.Values.{HaveKinds, suits, begins_line}
-use Rattle.p8_rows.proofs.StatementRows.{leads_row}
+use Rattle.p8_lines.proofs.Readings.{leads_row}
 use Rattle.p8_rows.proofs.StatementGoals.{HasKind}
 use Rattle.p8_rows.proofs.StatementLines.{statements_have_kinds, chain_lines_have_kinds, loop_ends_have_kinds, case_items_have_kinds}
 

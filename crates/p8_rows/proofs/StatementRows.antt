@@ -13,7 +13,7 @@ use Rattle.p8_lines.specs.declared.state.State.{State}
 use Rattle.p8_lines.specs.declared.state.State.TheVariants as state
 use Rattle.p8_lines.specs.Diagram.{Phrase, choices}
 use Rattle.p8_lines.specs.Tokens.{LineToken, lexeme, terms, piece}
-use Rattle.p8_lines.specs.Lines.{Follows, here, further, is_name_word, is_name, behind, Row, over, token, phrase, Leads, nowhere, by_token, by_phrase}
+use Rattle.p8_lines.specs.Lines.{Follows, here, further, is_name_word, is_name, behind, Row, over, token, phrase}
 use Rattle.p8_statements.specs.Statements.{counter}
 use Rattle.p8_rows.proofs.StatementPieces.{Each, each, each_of}
 
@@ -95,12 +95,3 @@ module _ (Goal : State → List Piece → Type 0) where
     holds (token {q = q} {row = row} f y) = by_arrow row (λ x. Goal q (x ∷ row)) f ((keeps q row).arrows) (holds y)
     holds (phrase {q = q} {h = h} {e = e} {row = row} {first = first} others some is f y) =
         behind_phrase q row h (first ∷ others) f (subst (λ o. OwesBehind Goal q row o) some ((keeps q row).phrase)) (holds y) e first.place (known h.setting e first others is)
-
--- what leads to the end of the line is a row
-pub leads_row : {q : State} {us : List LineToken} {row : List Piece} → Leads q us row state.End → Row q row us
-leads_row {q = q} {us = us} {row = row} l = go state.End refl l
-  where
-    go : {q : State} {us : List LineToken} {row : List Piece} (s : State) → s ≡ state.End → Leads q us row s → Row q row us
-    go s e nowhere = subst (λ q. Row q [] []) (sym e) over
-    go s e (by_token f l) = token f (go s e l)
-    go s e (by_phrase others some is low f l) = phrase others some is f (go s e l)

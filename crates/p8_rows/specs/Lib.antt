@@ -1,2 +1,4 @@
 -- What public contracts cite.
 pub mod Values
+pub mod Agreement
+pub mod Proper

@@ -1,5 +1,6 @@
 // What the calls of this crate rest on: each line has a value.
-ghost use Rattle.std.specs.Prelude.{Bool};
+ghost use Rattle.std.specs.Prelude.{Bool, IsTrue};
+ghost use Rattle.p8_lines.specs.declared.state.State as line_state;
 ghost use Rattle.p8_lines.specs.declared.state.State.TheVariants as state_case;
 ghost use Rattle.p8_declarations.specs.Constants.{constants_of_row};
 ghost use Rattle.p8_declarations.specs.Variables.{variables_of_row};
@@ -7,7 +8,8 @@ ghost use Rattle.p8_declarations.specs.Objects.{objects_of_row};
 ghost use Rattle.p8_declarations.specs.Methods.{method_of_row};
 ghost use Rattle.p8_data.specs.Lines.{line_of_row};
 ghost use Rattle.p8_statements.specs.Statements.{kind_of_row};
-ghost use Rattle.p8_rows.specs.Values.{HaveKinds, HaveValues};
+ghost use Rattle.p8_rows.specs.Proper.{is_in_dat, LinesAreProper, RowsAreProper, MethodRowsAreProper};
+ghost use Rattle.p8_rows.specs.Values.{HaveKinds, HaveValues, begins_line};
 
 /// Each line of `CON` has a value, and so has what follows the word `CON` on its line.
 #[tactic(auto, using(crate::proofs::Constants::from_head, crate::proofs::Constants::from_item))]
@@ -36,10 +38,23 @@ pub fn methods_have_values()
 {}
 
 /// Each line of `DAT` has a value, and so has what follows the word `DAT` on its line.
-#[tactic(auto, using(crate::proofs::Data::from_head, crate::proofs::Data::from_line))]
+#[tactic(auto, using(crate::proofs::ProperData::head_has_value, crate::proofs::ProperData::line_has_value))]
 pub fn data_have_values()
     ensures head { HaveValues line_of_row state_case.DatHead }
     ensures line { HaveValues line_of_row state_case.DatLine }
+{}
+
+/// The pieces of a line are proper, where its tokens are; in a method they are low enough for the tree
+/// of an action, too.
+pub fn rows_are_proper()
+    ensures pieces { (q : line_state.State) → RowsAreProper q (is_in_dat q) }
+    ensures actions { (q : line_state.State) → IsTrue (begins_line q) → MethodRowsAreProper q }
+{}
+
+/// Each line of `DAT` is proper, where its names, strings and expressions are.
+pub fn data_are_proper()
+    ensures head { LinesAreProper state_case.DatHead }
+    ensures line { LinesAreProper state_case.DatLine }
 {}
 
 /// Each row that follows the diagram from the beginning of a statement is a statement.

@@ -4,5 +4,6 @@ pub mod Rows
 pub mod Variables
 pub mod Actions
 pub mod Statements
+pub mod Proper
 -- internal: what the code's values stand for.
 pub mod Views

@@ -2,6 +2,7 @@
 #![tactic(auto)]
 
 mod actions;
+mod laws;
 mod role;
 mod row;
 mod statements;
@@ -9,4 +10,5 @@ mod statements;
 mod tests;
 mod variables;
 
+pub use laws::kinds_are_proper;
 pub use statements::line_kind;

@@ -7,7 +7,7 @@ use p8_lexer::Word;
 /// What a word is to a statement.
 ///
 /// Assignments and built-ins are numbered by their bytecodes, changes by their effect bytes.
-#[derive(Clone, Copy, Debug, PartialEq, Eq)]
+#[derive(Clone, Copy)]
 pub enum Role {
     /// `IF`, or `IFNOT` where the flag is set.
     If(bool),

@@ -12,7 +12,7 @@ use p8_tree::{Expr, Place, Text};
 use std::vec::IntoIter;
 
 /// What a word is to a statement, with its place.
-#[derive(Clone, Copy, Debug, PartialEq, Eq)]
+#[derive(Clone, Copy)]
 pub struct Sign {
     pub role: Role,
     pub place: Place,

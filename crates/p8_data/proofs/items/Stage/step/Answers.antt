@@ -14,5 +14,5 @@ returns-in-OpenBracket c = rw c.in-OpenBracket.is (c.from_open_bracket.ensures (
 pub returns-in-Counted : goal.returns-in-Counted
 returns-in-Counted c = rw c.in-Counted.is (c.from_count.ensures (map datum_of c.args.read.now))
 
-pub returns-in-Closed : goal.returns-in-Closed
-returns-in-Closed c = rw c.in-Closed.is c.from_closed_bracket.ensures
+pub returns-in-Over : goal.returns-in-Over
+returns-in-Over c = rw c.in-Over.is c.from_end.ensures

@@ -1,0 +1,31 @@
+-- Lines whose names, strings and expressions are proper: those that are read of proper tokens are.
+use Rattle.std.specs.Prelude.{◌≡◌, Bool, true, false, List, Some}
+use Rattle.p8_tree.specs.Sources.{Line}
+use Rattle.p8_tree.specs.Proper.{IsProperLine}
+use Rattle.p8_grammar.specs.Lexemes.{is_dat}
+use Rattle.p8_grammar.specs.Proper as grammar
+use Rattle.p8_pieces.specs.Pieces.{Piece}
+use Rattle.p8_pieces.specs.Proper.{AreProper}
+use Rattle.p8_lines.specs.declared.state.State.{State}
+use Rattle.p8_lines.specs.declared.state.State.TheVariants as state
+use Rattle.p8_lines.specs.Diagram.{setting_at}
+use Rattle.p8_lines.specs.Tokens.{LineToken, terms}
+use Rattle.p8_lines.specs.Lines.{Row, Leads}
+use Rattle.p8_statements.specs.Proper.{greatest_height}
+use Rattle.p8_data.specs.Lines.{line_of_row}
+
+-- whether a state is one of a line of DAT
+abbrev pub is_in_dat : State → Bool
+is_in_dat q = is_dat (setting_at q)
+
+-- the pieces of a line from this state on are proper, where its tokens are
+abbrev pub RowsAreProper : State → Bool → Type 0
+RowsAreProper q dat = (us : List LineToken) (row : List Piece) → Leads q us row state.End → grammar.AreProper (terms us) → AreProper dat 64 row
+
+-- and those of an action are low enough for its own tree
+abbrev pub MethodRowsAreProper : State → Type 0
+MethodRowsAreProper q = (us : List LineToken) (row : List Piece) → Leads q us row state.End → grammar.AreProper (terms us) → AreProper false (greatest_height row) row
+
+-- each line of DAT from this state on is proper, where its pieces are
+abbrev pub LinesAreProper : State → Type 0
+LinesAreProper q = (row : List Piece) (ts : List LineToken) (x : Line) → Row q row ts → AreProper true 64 row → line_of_row row ≡ Some (Some x) → IsProperLine x
