@@ -24,13 +24,17 @@ use Rattle.p8_lines.specs.Tokens.{LineToken, word}
 use Rattle.p8_lines.specs.Lines.{Outcome, read, refused, number_of, Reads}
 use Rattle.p8_pieces.specs.Pieces.{Piece}
 use Rattle.p8_rows.specs.Values.{suits}
-use Rattle.p8_blocks.specs.Files.{Part, Position, method, at, from, barred, Enters, goes_on, chain_over, no_chain, loop_end, no_loop, statement, item, after_other, is_chain_word, is_loop_end_word, opens, leaves_loop, HasNoLoop, IsTooDeep, IsRefusedAt, Fails, entry_fails, no_loop_fails, too_deep_fails, line_fails}
+use Rattle.p8_blocks.specs.Reading.{Part, Position, method, at, from, barred, Enters, goes_on, chain_over, no_chain, loop_end, no_loop, statement, item, after_other, opens, leaves_loop, HasNoLoop, IsTooDeep, IsRefusedAt, Fails, entry_fails, no_loop_fails, too_deep_fails, line_fails, is_begun, goes_on_chain, ends_loop}
 use Rattle.p8_blocks.specs.Standing.{Inner, MayRead, TellsTooDeep, too_deep, refused_there}
 use Rattle.p8_blocks.specs.declared.first.First.{First}
 
 pub refused_weaker : (P Q : ParseFault → Type 0) → ((f : ParseFault) → P f → Q f) → (e : Fail ParseFault) → IfRefused P e → IfRefused Q e
 refused_weaker P Q h (fail.Refused f) p = h f p
 refused_weaker P Q h fail.NoMemory p = tt
+
+pub if_refused : {T : Type 0} (P Q : ParseFault → Type 0) → ((f : ParseFault) → P f → Q f) → (r : Result T (Fail ParseFault)) → IfErr r (IfRefused P) → IfErr r (IfRefused Q)
+if_refused P Q h (Ok x) p = tt
+if_refused P Q h (Err e) p = refused_weaker P Q h e p
 
 -- what `?` gives back
 pub told : {T : Type 0} (r : Result T (Fail ParseFault)) (e : Fail ParseFault) (Q : Fail ParseFault → Type 0) → IsErrAnd r (λ y. y ≡ e) → Q e → IfErr r Q
@@ -44,14 +48,14 @@ granted h e = e.0 h
 pub denied : {b : Bool} {P : Type 0} → b ≡ false → IsTrue b ↔ P → ¬ P
 denied h e = λ x. false≢true (sym h ∙ e.1 x)
 
-pub barred_as : (ls : List lines.Line) (t : LineToken) (n m : ℕ) → n ≡ m → Enters ls t (barred m) → Enters ls t (barred n)
-barred_as ls t n m e h = subst (λ n. Enters ls t (barred n)) (sym e) h
+pub barred_as : (ls : List lines.Line) (b : Bool) (t : LineToken) (n m : ℕ) → n ≡ m → Enters ls b t (barred m) → Enters ls b t (barred n)
+barred_as ls b t n m e h = subst (λ n. Enters ls b t (barred n)) (sym e) h
 
 pub numbered : {x : Position} {ts : List LineToken} {n m : ℕ} {p : Place} → n ≡ m → Fails x ts m p → Fails x ts n p
 numbered {x} {ts} {p = p} e h = subst (λ n. Fails x ts n p) (sym e) h
 
 -- each of the entries, by the first token's word and place
-module _ (ls : List lines.Line) (t : LineToken) (w : Word) (p : Place) (sw : word t ≡ w) (sp : t.place ≡ p) where
+module _ (ls : List lines.Line) (b : Bool) (t : LineToken) (w : Word) (p : Place) (sw : word t ≡ w) (sp : t.place ≡ p) where
   same_column : p.column ≡ t.place.column
   same_column = ap (λ (p : Place). p.column) (sym sp)
 
@@ -61,29 +65,29 @@ module _ (ls : List lines.Line) (t : LineToken) (w : Word) (p : Place) (sw : wor
   at_column : (P : ℕ → Type 0) → P p.column → P t.place.column
   at_column P h = subst P same_column h
 
-  pub chain_begun : is_chain_word w ≡ true → HasChain chain.Begun p.column (last_up_to p.column ls) → Enters ls t (from state.ChainLine)
-  chain_begun h c = goes_on (is_word is_chain_word h) (at_column (λ n. HasChain chain.Begun n (last_up_to n ls)) c)
+  pub chain_begun : goes_on_chain b w ≡ true → HasChain chain.Begun p.column (last_up_to p.column ls) → Enters ls b t (from state.ChainLine)
+  chain_begun h c = goes_on (is_word (goes_on_chain b) h) (at_column (λ n. HasChain chain.Begun n (last_up_to n ls)) c)
 
-  pub chain_ended : is_chain_word w ≡ true → HasChain chain.Ended p.column (last_up_to p.column ls) → Enters ls t (barred (number_of in_method w))
-  chain_ended h c = subst (λ w. Enters ls t (barred (number_of in_method w))) sw (chain_over (is_word is_chain_word h) (at_column (λ n. HasChain chain.Ended n (last_up_to n ls)) c))
+  pub chain_ended : goes_on_chain b w ≡ true → HasChain chain.Ended p.column (last_up_to p.column ls) → Enters ls b t (barred (number_of in_method w))
+  chain_ended h c = subst (λ w. Enters ls b t (barred (number_of in_method w))) sw (chain_over (is_word (goes_on_chain b) h) (at_column (λ n. HasChain chain.Ended n (last_up_to n ls)) c))
 
-  pub chain_missing : is_chain_word w ≡ true → HasChain chain.Missing p.column (last_up_to p.column ls) → Enters ls t (barred (refusal_number BadIndent))
-  chain_missing h c = no_chain (is_word is_chain_word h) (at_column (λ n. HasChain chain.Missing n (last_up_to n ls)) c)
+  pub chain_missing : goes_on_chain b w ≡ true → HasChain chain.Missing p.column (last_up_to p.column ls) → Enters ls b t (barred (refusal_number BadIndent))
+  chain_missing h c = no_chain (is_word (goes_on_chain b) h) (at_column (λ n. HasChain chain.Missing n (last_up_to n ls)) c)
 
-  pub loop_ended : is_loop_end_word w ≡ true → IsAt is_plain_repeat p.column (last_up_to p.column ls) → Enters ls t (from state.LoopEndLine)
-  loop_ended h c = loop_end (is_word is_loop_end_word h) (at_column (λ n. IsAt is_plain_repeat n (last_up_to n ls)) c)
+  pub loop_ended : ends_loop b w ≡ true → IsAt is_plain_repeat p.column (last_up_to p.column ls) → Enters ls b t (from state.LoopEndLine)
+  loop_ended h c = loop_end (is_word (ends_loop b) h) (at_column (λ n. IsAt is_plain_repeat n (last_up_to n ls)) c)
 
-  pub loop_missing : is_loop_end_word w ≡ true → ¬ IsAt is_plain_repeat p.column (last_up_to p.column ls) → Enters ls t (barred (refusal_number BadIndent))
-  loop_missing h c = no_loop (is_word is_loop_end_word h) (at_column (λ n. ¬ IsAt is_plain_repeat n (last_up_to n ls)) c)
+  pub loop_missing : ends_loop b w ≡ true → ¬ IsAt is_plain_repeat p.column (last_up_to p.column ls) → Enters ls b t (barred (refusal_number BadIndent))
+  loop_missing h c = no_loop (is_word (ends_loop b) h) (at_column (λ n. ¬ IsAt is_plain_repeat n (last_up_to n ls)) c)
 
-  pub statement_fits : is_chain_word w ≡ false → is_loop_end_word w ≡ false → HasRoom room.Statement (innermost p.column ls) → Enters ls t (from state.Statement)
-  statement_fits h g c = statement (is_word is_chain_word h) (is_word is_loop_end_word g) (at_column (λ n. HasRoom room.Statement (innermost n ls)) c)
+  pub statement_fits : goes_on_chain b w ≡ false → ends_loop b w ≡ false → HasRoom room.Statement (innermost p.column ls) → Enters ls b t (from state.Statement)
+  statement_fits h g c = statement (is_word (goes_on_chain b) h) (is_word (ends_loop b) g) (at_column (λ n. HasRoom room.Statement (innermost n ls)) c)
 
-  pub item_fits : is_chain_word w ≡ false → is_loop_end_word w ≡ false → HasRoom room.Item (innermost p.column ls) → Enters ls t (from state.CaseItem)
-  item_fits h g c = item (is_word is_chain_word h) (is_word is_loop_end_word g) (at_column (λ n. HasRoom room.Item (innermost n ls)) c)
+  pub item_fits : goes_on_chain b w ≡ false → ends_loop b w ≡ false → HasRoom room.Item (innermost p.column ls) → Enters ls b t (from state.CaseItem)
+  item_fits h g c = item (is_word (goes_on_chain b) h) (is_word (ends_loop b) g) (at_column (λ n. HasRoom room.Item (innermost n ls)) c)
 
-  pub nothing_fits : is_chain_word w ≡ false → is_loop_end_word w ≡ false → HasRoom room.Nothing (innermost p.column ls) → Enters ls t (barred (number_of in_method w))
-  nothing_fits h g c = subst (λ w. Enters ls t (barred (number_of in_method w))) sw (after_other (is_word is_chain_word h) (is_word is_loop_end_word g) (at_column (λ n. HasRoom room.Nothing (innermost n ls)) c))
+  pub nothing_fits : goes_on_chain b w ≡ false → ends_loop b w ≡ false → HasRoom room.Nothing (innermost p.column ls) → Enters ls b t (barred (number_of in_method w))
+  nothing_fits h g c = subst (λ w. Enters ls b t (barred (number_of in_method w))) sw (after_other (is_word (goes_on_chain b) h) (is_word (ends_loop b) g) (at_column (λ n. HasRoom room.Nothing (innermost n ls)) c))
 
   -- the two tests on the open blocks
   pub no_loop_is : (q : State) → IsTrue (leaves_loop q w) × (list_any (λ b. is_repeat b.opener.kind) (open_for p.column ls) ≡ false) → HasNoLoop ls q t
@@ -99,7 +103,7 @@ module _ (ls : List lines.Line) (t : LineToken) (w : Word) (p : Place) (sw : wor
   is_too_deep q h = (ap (opens q) (sym sw) ∙ h.0, subst (λ n. 64 ≤ length (open_for n ls) + 1) (sym same_column) h.1)
 
 -- a line that is entered so and is of such a kind fits
-pub fits : {ls : List lines.Line} {t : LineToken} {q : State} (k : Kind) → Enters ls t (from q) → IsTrue (suits q k) → FitsAs k t.place.column ls
+pub fits : {ls : List lines.Line} {b : Bool} {t : LineToken} {q : State} (k : Kind) → Enters ls b t (from q) → IsTrue (suits q k) → FitsAs k t.place.column ls
 fits (ElseIf n e) (goes_on w c) s = c
 fits Else (goes_on w c) s = c
 fits k (goes_on w c) s = absurd cc
@@ -119,30 +123,34 @@ module _ {ts us : List LineToken} {b : Option Place} {first : First} (s : Inner 
   back : {n : ℕ} {p : Place} → Fails (at (method m ls ∷ ps) b) (s.token ∷ us) n p → Fails (at (method m ls ∷ ps) b) ts n p
   back {n} {p} h = subst (λ ts. Fails (at (method m ls ∷ ps) b) ts n p) (sym s.tokens) h
 
-  pub barred_fails : (n : ℕ) → Enters ls s.token (barred n) → Fails (at (method m ls ∷ ps) b) ts n first.place
+  pub barred_fails : (n : ℕ) → Enters ls (is_begun b) s.token (barred n) → Fails (at (method m ls ∷ ps) b) ts n first.place
   barred_fails n e = subst (λ p. Fails (at (method m ls ∷ ps) b) ts n p) s.is.same_place (back (entry_fails s.not_end s.no_head e))
 
-  pub loop_fails : (q : State) → Enters ls s.token (from q) → HasNoLoop ls q s.token → Fails (at (method m ls ∷ ps) b) ts (refusal_number LoopWord) first.place
+  pub loop_fails : (q : State) → Enters ls (is_begun b) s.token (from q) → HasNoLoop ls q s.token → Fails (at (method m ls ∷ ps) b) ts (refusal_number LoopWord) first.place
   loop_fails q e h = subst (λ p. Fails (at (method m ls ∷ ps) b) ts (refusal_number LoopWord) p) s.is.same_place (back (no_loop_fails s.not_end s.no_head e h))
 
   to_tokens : {q : State} {o : Outcome} → Reads q ts o → Reads q (s.token ∷ us) o
   to_tokens {q} {o} r = subst (λ ts. Reads q ts o) s.tokens r
 
-  pub deep_fails : (q : State) (n : ℕ) (p : Place) → Enters ls s.token (from q) → ¬ HasNoLoop ls q s.token → IsTooDeep ls q s.token → TellsTooDeep q ts first.begin n p → Fails (at (method m ls ∷ ps) b) ts n p
+  pub deep_fails : (q : State) (n : ℕ) (p : Place) → Enters ls (is_begun b) s.token (from q) → ¬ HasNoLoop ls q s.token → IsTooDeep ls q s.token → TellsTooDeep q ts first.place first.begin n p → Fails (at (method m ls ∷ ps) b) ts n p
   deep_fails q n p e l d (too_deep {o = o} r h) =
       let same = s.is.same_begin in
       subst (λ p. Fails (at (method m ls ∷ ps) b) ts (refusal_number TooNested) p) same
-      (back (too_deep_fails s.not_end s.no_head e d (to_tokens r) (subst (λ p. ¬ IsRefusedAt p o) (sym same) h)))
-  deep_fails q n p e l d (refused_there p' h r) = back (line_fails s.not_end s.no_head e l (λ _. h ∙ sym s.is.same_begin) (to_tokens r))
+      (back (too_deep_fails s.not_end s.no_head e d (to_tokens r) (subst (λ p. ¬ IsRefusedAt p o) (sym s.is.same_place) h)))
+  deep_fails q n p e l d (refused_there p' h r) = back (line_fails s.not_end s.no_head e l (λ _. h ∙ sym s.is.same_place) (to_tokens r))
 
-  pub reading_fails : (q : State) → MayRead ls s.token q → (f : ParseFault) → Reads q ts (refused f.number f.place) → Fails (at (method m ls ∷ ps) b) ts f.number f.place
+  pub reading_fails : (q : State) → MayRead ls (is_begun b) s.token q → (f : ParseFault) → Reads q ts (refused f.number f.place) → Fails (at (method m ls ∷ ps) b) ts f.number f.place
   reading_fails q r f h = back (line_fails s.not_end s.no_head r.enters r.loops (λ d. absurd (r.shallow d)) (to_tokens h))
 
 -- a line that is too deep
-pub deep_told : {q : State} {ts : List LineToken} {row : List Piece} {rest : List LineToken} (p : Place) → Reads q ts (read row rest) → (f : ParseFault) → (f.number ≡ refusal_number TooNested) × (f.place ≡ p) → TellsTooDeep q ts p f.number f.place
-deep_told {q} {ts} {row} {rest} p r f h =
-    subst (λ n. TellsTooDeep q ts p n f.place) (sym h.0) (subst (λ x. TellsTooDeep q ts p (refusal_number TooNested) x) (sym h.1) (too_deep r (λ x. x)))
+pub deep_told : {q : State} {ts : List LineToken} {row : List Piece} {rest : List LineToken} (o p : Place) → Reads q ts (read row rest) → (f : ParseFault) → (f.number ≡ refusal_number TooNested) × (f.place ≡ p) → TellsTooDeep q ts o p f.number f.place
+deep_told {q} {ts} {row} {rest} o p r f h =
+    subst (λ n. TellsTooDeep q ts o p n f.place) (sym h.0) (subst (λ x. TellsTooDeep q ts o p (refusal_number TooNested) x) (sym h.1) (too_deep r (λ x. x)))
 
-pub deep_elsewhere : {q : State} {ts : List LineToken} (p : Place) (g : ParseFault) → Reads q ts (refused g.number g.place) → ¬ (g.place ≡ p) → (f : ParseFault) → (f.number ≡ refusal_number TooNested) × (f.place ≡ p) → TellsTooDeep q ts p f.number f.place
-deep_elsewhere {q} {ts} p g r n f h =
-    subst (λ n. TellsTooDeep q ts p n f.place) (sym h.0) (subst (λ x. TellsTooDeep q ts p (refusal_number TooNested) x) (sym h.1) (too_deep r n))
+pub deep_elsewhere : {q : State} {ts : List LineToken} (o p : Place) (g : ParseFault) → Reads q ts (refused g.number g.place) → ¬ (g.place ≡ o) → (f : ParseFault) → (f.number ≡ refusal_number TooNested) × (f.place ≡ p) → TellsTooDeep q ts o p f.number f.place
+deep_elsewhere {q} {ts} o p g r n f h =
+    subst (λ n. TellsTooDeep q ts o p n f.place) (sym h.0) (subst (λ x. TellsTooDeep q ts o p (refusal_number TooNested) x) (sym h.1) (too_deep r n))
+
+-- whether its line of the text is begun, as the code has it
+pub may_read : {ts us : List LineToken} {b : Option Place} {first : First} {ls : List lines.Line} {q : State} (s : Inner ts us b first) → MayRead ls first.begun s.token q → MayRead ls (is_begun b) s.token q
+may_read {ls = ls} {q = q} s r = subst (λ c. MayRead ls c s.token q) (sym s.is.same_begun) r

@@ -8,7 +8,8 @@ use Rattle.p8_tree.specs.Statements.{Statements}
 use Rattle.p8_columns.specs.Lines as lines
 use Rattle.p8_columns.specs.Blocks.{AreStatements}
 use Rattle.p8_blocks.specs.declared.growing.Growing.{Growing}
-use Rattle.p8_blocks.specs.Files.{Part, Position, at, method, with_body, AreBlocks, no_blocks, one_more, IsBlock, method_block}
+use Rattle.p8_blocks.specs.Reading.{Part, Position, at, method, AreBlocks, no_blocks, one_more, IsBlock, method_block}
+use Rattle.p8_blocks.specs.Files.{with_body}
 use Rattle.p8_blocks.specs.Standing.{IsOpen, ArePartsOf, StandsFor}
 use Rattle.p8_blocks.specs.declared.growing.Open as opened
 

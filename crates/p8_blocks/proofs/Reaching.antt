@@ -8,7 +8,7 @@ use Rattle.p8_tree.specs.Sources.{Source}
 use Rattle.p8_lexer.specs.declared.word.Word.TheVariants as word_case
 use Rattle.p8_lexer.specs.declared.token.Token as lexer_token
 use Rattle.p8_lines.specs.Tokens.{LineToken, word, line_token, text_end, all_tokens, tokens_from}
-use Rattle.p8_blocks.specs.Files.{Position, at, start, blank, Goes, stay, go_on, Fails, AreBlocks, Parses, whole, fails, source, fault}
+use Rattle.p8_blocks.specs.Reading.{Position, at, start, blank, Goes, stay, go_on, Fails, AreBlocks, Parses, whole, fails, source, fault, is_begun}
 use Rattle.p8_blocks.specs.Standing.{StandsFor, Starts, Continues, Reached}
 use Rattle.p8_blocks.specs.declared.first.First.{First}
 use Rattle.p8_blocks.specs.declared.growing.Growing.{Growing}
@@ -34,11 +34,11 @@ one_token bytes tokens at t h =
     let f : lexer_token.Token → LineToken = line_token bytes in
     drop_mapped f tokens at t (text_end (map f tokens)) h ∙ ap (λ n. f t ∷ tokens_from bytes tokens n) (sym (add-one at))
 
-pub starts : (bytes : List ℕ) (tokens : List lexer_token.Token) (at : ℕ) (b : Option Place) (t : lexer_token.Token) (first : First) → slice_get tokens at ≡ Some t → first.word ≡ word (line_token bytes t) → first.place ≡ (line_token bytes t).place → first.begin ≡ unwrap_or b first.place → Starts (tokens_from bytes tokens at) (tokens_from bytes tokens (at + 1)) b first
-starts bytes tokens at b t first h w p e = record {
+pub starts : (bytes : List ℕ) (tokens : List lexer_token.Token) (at : ℕ) (b : Option Place) (t : lexer_token.Token) (first : First) → slice_get tokens at ≡ Some t → first.word ≡ word (line_token bytes t) → first.place ≡ (line_token bytes t).place → first.begin ≡ unwrap_or b first.place → first.begun ≡ is_begun b → Starts (tokens_from bytes tokens at) (tokens_from bytes tokens (at + 1)) b first
+starts bytes tokens at b t first h w p e g = record {
   token = line_token bytes t;
   tokens = one_token bytes tokens at t h;
-  is = record { same_word = sym w; same_place = sym p; same_begin = ap (unwrap_or b) (sym p) ∙ sym e };
+  is = record { same_begun = sym g; same_word = sym w; same_place = sym p; same_begin = ap (unwrap_or b) (sym p) ∙ sym e };
 }
 
 pub begun_reached : (bytes : List ℕ) (tokens : List lexer_token.Token) (file : Growing) → StandsFor start file → Reached (all_tokens bytes tokens) (tokens_from bytes tokens 0) file

@@ -20,7 +20,7 @@ use Rattle.p8_lines.specs.Tokens.{LineToken, word}
 use Rattle.p8_lines.specs.Lines.{refused, Reads}
 use Rattle.p8_statements.specs.Statements.{kind_of_row}
 use Rattle.p8_rows.specs.Values.{ReadsAs}
-use Rattle.p8_blocks.specs.Files.{Part, method, Position, at, is_block_word, head_state, line_state, declares, is_item, begun_by, Opens, Extends, Step, blank, head, declaration, method_line, Fails, head_fails, declaration_fails}
+use Rattle.p8_blocks.specs.Reading.{Part, method, Position, at, is_block_word, head_state, line_state, declares, begun_by, Opens, Extends, Step, blank, head, declaration, method_line, Fails, head_fails, declaration_fails, is_begun}
 use Rattle.p8_blocks.specs.Standing.{IsOpen, ArePartsOf, StandsFor, word_of_head, Starts, Inner, IsHeadAt, MayRead, Added, Grown, Begins, Continues}
 use Rattle.p8_blocks.specs.declared.words.Head as head_type
 use Rattle.p8_blocks.specs.declared.words.Head.TheVariants as head_case
@@ -29,6 +29,7 @@ use Rattle.p8_blocks.specs.declared.growing.Open as opened
 use Rattle.p8_blocks.specs.declared.growing.Open.TheVariants as open_case
 use Rattle.p8_blocks.specs.declared.growing.Growing.{Growing}
 use Rattle.p8_blocks.specs.declared.lines.Extended.{Extended}
+use Rattle.p8_blocks.specs.Files.{is_item}
 
 -- words that begin blocks
 
@@ -73,7 +74,7 @@ pub same_grown : {ts rest : List LineToken} {b : Option Place} {line : Extended}
 same_grown {ts} {rest} {b} {line} p q ps e h = subst (λ p. Grown (p ∷ ps) ps b ts line rest) (sym e) h
 
 -- a line of a method
-pub method_steps : {ts us rest : List LineToken} {b : Option Place} {first : First} {q : State} {k : Kind} (s : Inner ts us b first) (m : MethodTree) (ls : List lines.Line) (ps : List Part) → MayRead ls s.token q → ReadsAs kind_of_row q ts k rest → Step (at (method m ls ∷ ps) b) ts (at (method m (ls ++ lines.line first.place k ∷ []) ∷ ps) (if is_item k then Some first.begin else None)) rest
+pub method_steps : {ts us rest : List LineToken} {b : Option Place} {first : First} {q : State} {k : Kind} (s : Inner ts us b first) (m : MethodTree) (ls : List lines.Line) (ps : List Part) → MayRead ls (is_begun b) s.token q → ReadsAs kind_of_row q ts k rest → Step (at (method m ls ∷ ps) b) ts (at (method m (ls ++ lines.line first.place k ∷ []) ∷ ps) (if is_item k then Some first.begin else None)) rest
 method_steps {ts} {us} {rest} {b} {first} {q} {k} s m ls ps r h =
     subst (λ ts. Step (at (method m ls ∷ ps) b) ts (at (method m (ls ++ lines.line first.place k ∷ []) ∷ ps) (if is_item k then Some first.begin else None)) rest) (sym s.tokens)
     (subst (λ x. Step (at (method m ls ∷ ps) b) (s.token ∷ us) (at (method m (ls ++ lines.line first.place k ∷ []) ∷ ps) (if is_item k then Some x else None)) rest) s.is.same_begin
@@ -122,7 +123,7 @@ appended_view f xs ys all e = sym (ap (map f) e ∙ go xs)
     go [] = refl
     go (x ∷ xs) = ap (λ zs. f x ∷ zs) (go xs)
 
-pub method_grown : {ts us rest : List LineToken} {b : Option Place} {first : First} {q : State} {k : Kind} {end : ℕ} (s : Inner ts us b first) (m : Method) (ls : List lines.Line) (ps : List Part) → MayRead ls s.token q → ReadsAs kind_of_row q ts k rest → (blocks : Blocks) (begun : Option Place) → begun ≡ (if is_item k then Some first.begin else None) → HasTaken (ls ++ lines.line first.place k ∷ []) blocks → Grown (method (method_of m) ls ∷ ps) ps b ts (record { block = open_case.Method m blocks; begun = begun; end = end }) rest
+pub method_grown : {ts us rest : List LineToken} {b : Option Place} {first : First} {q : State} {k : Kind} {end : ℕ} (s : Inner ts us b first) (m : Method) (ls : List lines.Line) (ps : List Part) → MayRead ls (is_begun b) s.token q → ReadsAs kind_of_row q ts k rest → (blocks : Blocks) (begun : Option Place) → begun ≡ (if is_item k then Some first.begin else None) → HasTaken (ls ++ lines.line first.place k ∷ []) blocks → Grown (method (method_of m) ls ∷ ps) ps b ts (record { block = open_case.Method m blocks; begun = begun; end = end }) rest
 method_grown {ts} {us} {rest} {b} {first} {q} {k} {end} s m ls ps r h blocks begun e t = record {
   part = method (method_of m) (ls ++ lines.line first.place k ∷ []);
   step = subst (λ x. Step (at (method (method_of m) ls ∷ ps) b) ts (at (method (method_of m) (ls ++ lines.line first.place k ∷ []) ∷ ps) x) rest) (sym e) (method_steps s (method_of m) ls ps r h);

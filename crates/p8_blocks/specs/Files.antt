@@ -1,92 +1,120 @@
--- Which tokens are a file, and what reading them answers (Propeller Manual v1.2, "Spin Language Reference": the
--- block designators; what it leaves open is this project's profile).
+-- Which tokens are a file, and with which tree (Propeller Manual v1.2, "Spin Language Reference": the block designators;
+-- what it leaves open is this project's profile).
 --
--- Lines are read one after the other. CON, VAR, OBJ, PUB, PRI and DAT in column 1 begin a block, and what stands
--- before the first of them is a CON. A line of a method is what the open blocks of its column make of it.
-use Rattle.std.specs.Prelude.{◌≡◌, ◌≢◌, ℕ, ◌+◌, ◌≤◌, Bool, true, false, IsTrue, List, [], ◌∷◌, ◌++◌, length, if◌then◌else◌, Option, Some, None, unwrap_or}
-use Rattle.std.specs.List.{list_any}
+-- A file is blocks, one after the other. A block is its word in column 1 with what stands behind it, and further lines.
+-- The lines of a method are its statements by their columns. Ends of lines may stand between lines.
+use Rattle.std.specs.Prelude.{◌≡◌, ℕ, Bool, true, false, ◌&&◌, ◌||◌, IsTrue, List, [], ◌∷◌, ◌++◌, Option, Some, None, option_map}
 use Rattle.p8_tree.specs.declared.places.Place.{Place}
-use Rattle.p8_tree.specs.Sources as trees
+use Rattle.p8_tree.specs.Sources as sources
 use Rattle.p8_tree.specs.Sources.{Constant, Declared, Child, MethodTree, BlockTree, Source}
 use Rattle.p8_tree.specs.Statements.{Statements}
 use Rattle.p8_lexer.specs.declared.word.Word.{Word}
 use Rattle.p8_lexer.specs.declared.word.Word.TheVariants as word_case
-use Rattle.p8_lexer.specs.declared.refusal.Refusal.TheVariants.{BadIndent, TooNested, LoopWord}
-use Rattle.p8_lexer.specs.Refusals.{refusal_number}
-use Rattle.p8_grammar.specs.Lexemes.{in_method}
-use Rattle.p8_columns.specs.declared.room.Room.TheVariants as room
-use Rattle.p8_columns.specs.declared.room.Chain.TheVariants as chain
+use Rattle.p8_grammar.specs.Lexemes.{Setting}
 use Rattle.p8_columns.specs.Lines as lines
-use Rattle.p8_columns.specs.Lines.{Kind, is_repeat, is_plain_repeat}
-use Rattle.p8_columns.specs.Columns.{open_for, innermost, last_up_to, IsAt, HasRoom, HasChain}
+use Rattle.p8_columns.specs.Lines.{Kind}
 use Rattle.p8_columns.specs.Blocks.{AreStatements}
+use Rattle.p8_pieces.specs.Pieces.{Piece}
 use Rattle.p8_lines.specs.declared.state.State.{State}
 use Rattle.p8_lines.specs.declared.state.State.TheVariants as state
 use Rattle.p8_lines.specs.Tokens.{LineToken, word}
-use Rattle.p8_lines.specs.Lines.{Outcome, read, refused, number_of, Reads}
+use Rattle.p8_lines.specs.Lines.{Row, Leads, Reads, refused, number_of}
+use Rattle.p8_lexer.specs.declared.refusal.Refusal.TheVariants.{BadIndent, TooNested, LoopWord}
+use Rattle.p8_lexer.specs.Refusals.{refusal_number}
 use Rattle.p8_declarations.specs.Constants.{constants_of_row}
 use Rattle.p8_declarations.specs.Variables.{variables_of_row}
 use Rattle.p8_declarations.specs.Objects.{objects_of_row}
 use Rattle.p8_declarations.specs.Methods.{method_of_row}
 use Rattle.p8_data.specs.Lines.{line_of_row}
 use Rattle.p8_statements.specs.Statements.{kind_of_row}
-use Rattle.p8_rows.specs.Values.{ReadsAs}
+use Rattle.p8_rows.specs.Values.{begins_line}
+use Rattle.p8_tree.specs.Nesting.{leave_loops}
+use Rattle.p8_blocks.specs.Trees.{IsShallow}
 
--- A block so far. A method has its head, with no body, and its lines.
-pub data Part : Type 0 where
-  constants : List Constant → Part
-  variables : List Declared → Part
-  objects : List Child → Part
-  assembly : List trees.Line → Part
-  method : MethodTree → List lines.Line → Part
+-- whether expressions may be of any height, or of no height that is refused
+pub data Heights : Type 0 where
+  any_height : Heights
+  within_limits : Heights
 
--- The blocks so far, the newest first; and behind the colon of a CASE's item, where its line begins.
-pub record Position : Type 0 where
-  pub parts : List Part
-  pub begun : Option Place
+-- these tokens are a line from this state on, with these pieces
+abbrev pub IsLine : Heights → State → List Piece → List LineToken → Type 0
+IsLine any_height q row ts = Row q row ts
+IsLine within_limits q row ts = Leads q ts row state.End
 
-abbrev pub at : List Part → Option Place → Position
-at parts begun = record { parts = parts; begun = begun }
+-- a line of DAT, if there is one
+abbrev pub lines_in : Option sources.Line → List sources.Line
+lines_in None = []
+lines_in (Some x) = x ∷ []
 
-abbrev pub start : Position
-start = at [] None
+-- the same of a row, if it is such a line
+abbrev pub lines_of_row : List Piece → Option (List sources.Line)
+lines_of_row row = option_map lines_in (line_of_row row)
 
--- the words that begin a block
-abbrev pub is_block_word : Word → Bool
-is_block_word word_case.Con = true
-is_block_word word_case.Var = true
-is_block_word word_case.Obj = true
-is_block_word word_case.Pub = true
-is_block_word word_case.Pri = true
-is_block_word word_case.Dat = true
-is_block_word _ = false
+-- The lines of a block that isn't a method, each read from the same state on, with all that they declare.
+pub data Declare (h : Heights) {X : Type 0} (value : List Piece → Option (List X)) (q : State) : List X → List LineToken → Type 0 where
+  no_line : Declare h value q [] []
+  a_blank : {xs : List X} {ts : List LineToken} (t : LineToken) → word t ≡ word_case.LineEnd → Declare h value q xs ts → Declare h value q xs (ts ++ t ∷ [])
+  a_line : {xs ys : List X} {ts : List LineToken} (us : List LineToken) (row : List Piece) → IsLine h q row us → value row ≡ Some ys → Declare h value q xs ts → Declare h value q (xs ++ ys) (ts ++ us)
 
-abbrev pub IsHead : LineToken → Type 0
-IsHead t = IsTrue (is_block_word (word t)) × (t.place.column ≡ 1)
+-- behind the colon of a CASE's item its line of the text goes on
+abbrev pub is_item : Kind → Bool
+is_item (lines.Item xs) = true
+is_item lines.Other = true
+is_item k = false
 
--- what may follow a block's word on its line
-abbrev pub head_state : Word → State
-head_state word_case.Con = state.ConHead
-head_state word_case.Var = state.VarHead
-head_state word_case.Obj = state.ObjHead
-head_state word_case.Dat = state.DatHead
-head_state _ = state.MethodName
+-- a line that goes on with a chain, or ends a loop, is a line of the text
+abbrev pub begins_text : State → Bool
+begins_text state.ChainLine = true
+begins_text state.LoopEndLine = true
+begins_text q = false
 
--- a line of a block that isn't a method
-abbrev pub line_state : List Part → State
-line_state [] = state.ConItem
-line_state (constants xs ∷ ps) = state.ConItem
-line_state (variables xs ∷ ps) = state.VarLine
-line_state (objects xs ∷ ps) = state.ObjLine
-line_state (assembly xs ∷ ps) = state.DatLine
-line_state (method m ls ∷ ps) = state.Statement
+-- The lines of a method, each with the place of its first token, and whether a line of the text is begun: behind the
+-- colon of a CASE's item a line may begin on the same line of the text.
+pub data AreLines (h : Heights) : List lines.Line → Bool → List LineToken → Type 0 where
+  no_line : AreLines h [] false []
+  a_blank : {ls : List lines.Line} {b : Bool} {ts : List LineToken} (t : LineToken) → word t ≡ word_case.LineEnd → AreLines h ls b ts → AreLines h ls false (ts ++ t ∷ [])
+  a_line : {ls : List lines.Line} {b : Bool} {ts : List LineToken} {k : Kind} (q : State) (row : List Piece) (t : LineToken) (us : List LineToken) → IsTrue (begins_line q) → begins_text q && b ≡ false → IsLine h q row (t ∷ us) → kind_of_row row ≡ Some k → AreLines h ls b ts → AreLines h (ls ++ lines.line t.place k ∷ []) (is_item k) (ts ++ t ∷ us)
 
--- whether a line is one of such a block
-abbrev pub declares : List Part → Bool
-declares (method m ls ∷ ps) = false
-declares ps = true
+-- a block's word, in column 1
+pub record IsHead (w : Word) (t : LineToken) : Type 0 where
+  pub is : word t ≡ w
+  pub first : t.place.column ≡ 1
 
--- a line of a method that begins with an ELSE kind, and one that begins with WHILE or UNTIL
+abbrev pub method_word : Bool → Word
+method_word true = word_case.Pub
+method_word false = word_case.Pri
+
+-- a method with this body
+abbrev pub with_body : MethodTree → Statements → MethodTree
+with_body m ss = record { place = m.place; public = m.public; name = m.name; params = m.params; param_places = m.param_places; result_name = m.result_name; result_place = m.result_place; locals = m.locals; body = ss }
+
+-- these tokens are this block
+pub data IsBlock (h : Heights) : BlockTree → List LineToken → Type 0 where
+  con : {xs ys : List Constant} {vs : List LineToken} (t : LineToken) (us : List LineToken) (row : List Piece) → IsHead word_case.Con t → IsLine h state.ConHead row us → constants_of_row row ≡ Some xs → Declare h constants_of_row state.ConItem ys vs → IsBlock h (sources.Con (xs ++ ys)) (t ∷ (us ++ vs))
+  var : {xs ys : List Declared} {vs : List LineToken} (t : LineToken) (us : List LineToken) (row : List Piece) → IsHead word_case.Var t → IsLine h state.VarHead row us → variables_of_row row ≡ Some xs → Declare h variables_of_row state.VarLine ys vs → IsBlock h (sources.Var (xs ++ ys)) (t ∷ (us ++ vs))
+  obj : {xs ys : List Child} {vs : List LineToken} (t : LineToken) (us : List LineToken) (row : List Piece) → IsHead word_case.Obj t → IsLine h state.ObjHead row us → objects_of_row row ≡ Some xs → Declare h objects_of_row state.ObjLine ys vs → IsBlock h (sources.Obj (xs ++ ys)) (t ∷ (us ++ vs))
+  dat : {xs ys : List sources.Line} {vs : List LineToken} (t : LineToken) (us : List LineToken) (row : List Piece) → IsHead word_case.Dat t → IsLine h state.DatHead row us → lines_of_row row ≡ Some xs → Declare h lines_of_row state.DatLine ys vs → IsBlock h (sources.Dat (xs ++ ys)) (t ∷ (us ++ vs))
+  method : {m : MethodTree} {ls : List lines.Line} {b : Bool} {ss : Statements} {vs : List LineToken} (public : Bool) (t : LineToken) (us : List LineToken) (row : List Piece) → IsHead (method_word public) t → IsLine h state.MethodName row us → method_of_row public row ≡ Some m → AreLines h ls b vs → AreStatements ss ls → IsTrue (leave_loops false ss) → IsBlock h (sources.Method (with_body m ss)) (t ∷ (us ++ vs))
+
+-- what stands before the first block's word is a CON, if it declares anything
+abbrev pub first_block : List Constant → Source
+first_block [] = []
+first_block xs = sources.Con xs ∷ []
+
+-- these tokens are a file with this tree
+pub data IsFile (h : Heights) : Source → List LineToken → Type 0 where
+  first : {xs : List Constant} {ts : List LineToken} → Declare h constants_of_row state.ConItem xs ts → IsFile h (first_block xs) ts
+  one_more : {bs : Source} {b : BlockTree} {ts us : List LineToken} → IsFile h bs ts → IsBlock h b us → IsFile h (bs ++ b ∷ []) (ts ++ us)
+
+-- these tokens are a file with this tree, no expression is too high, and no line opens a block too many
+abbrev pub IsFileWithinLimits : Source → List LineToken → Type 0
+IsFileWithinLimits s ts = IsFile within_limits s ts × IsShallow s
+
+-- some file begins with these tokens
+abbrev pub Begins : List LineToken → Type 0
+Begins ts = (rest : List LineToken) × (s : Source) × IsFile any_height s (ts ++ rest)
+
+-- the ELSE kinds, the words that end a loop, and those that leave one
 abbrev pub is_chain_word : Word → Bool
 is_chain_word word_case.Else = true
 is_chain_word word_case.Elseif = true
@@ -98,141 +126,56 @@ is_loop_end_word word_case.While = true
 is_loop_end_word word_case.Until = true
 is_loop_end_word _ = false
 
--- where a line of a method is read from, or the refusal of its first token
-pub data Entry : Type 0 where
-  from : State → Entry
-  barred : ℕ → Entry
-
--- After these lines of a method, a line whose first token is this one is entered so.
-pub data Enters (ls : List lines.Line) (t : LineToken) : Entry → Type 0 where
-  -- an ELSE kind goes on with the chain at its column, unless that has its ELSE
-  goes_on : IsTrue (is_chain_word (word t)) → HasChain chain.Begun t.place.column (last_up_to t.place.column ls) → Enters ls t (from state.ChainLine)
-  chain_over : IsTrue (is_chain_word (word t)) → HasChain chain.Ended t.place.column (last_up_to t.place.column ls) → Enters ls t (barred (number_of in_method (word t)))
-  no_chain : IsTrue (is_chain_word (word t)) → HasChain chain.Missing t.place.column (last_up_to t.place.column ls) → Enters ls t (barred (refusal_number BadIndent))
-  -- WHILE and UNTIL end the plain REPEAT at their column
-  loop_end : IsTrue (is_loop_end_word (word t)) → IsAt is_plain_repeat t.place.column (last_up_to t.place.column ls) → Enters ls t (from state.LoopEndLine)
-  no_loop : IsTrue (is_loop_end_word (word t)) → ¬ IsAt is_plain_repeat t.place.column (last_up_to t.place.column ls) → Enters ls t (barred (refusal_number BadIndent))
-  -- any other line is a statement, or an item directly under a CASE, which takes nothing more after its OTHER
-  statement : is_chain_word (word t) ≡ false → is_loop_end_word (word t) ≡ false → HasRoom room.Statement (innermost t.place.column ls) → Enters ls t (from state.Statement)
-  item : is_chain_word (word t) ≡ false → is_loop_end_word (word t) ≡ false → HasRoom room.Item (innermost t.place.column ls) → Enters ls t (from state.CaseItem)
-  after_other : is_chain_word (word t) ≡ false → is_loop_end_word (word t) ≡ false → HasRoom room.Nothing (innermost t.place.column ls) → Enters ls t (barred (number_of in_method (word t)))
-
--- a line that opens a block
-abbrev pub is_opener_word : Word → Bool
-is_opener_word word_case.If = true
-is_opener_word word_case.Ifnot = true
-is_opener_word word_case.Case = true
-is_opener_word word_case.Repeat = true
-is_opener_word _ = false
-
-abbrev pub opens : State → Word → Bool
-opens state.Statement w = is_opener_word w
-opens state.CaseItem w = true
-opens q w = false
-
--- how many blocks may be open, the method counted
-abbrev pub greatest_depth : ℕ
-greatest_depth = 64
-
--- the line would open one block too many
-abbrev pub IsTooDeep : List lines.Line → State → LineToken → Type 0
-IsTooDeep ls q t = IsTrue (opens q (word t)) × (greatest_depth ≤ length (open_for t.place.column ls) + 1)
-
 abbrev pub is_loop_word : Word → Bool
 is_loop_word word_case.Next = true
 is_loop_word word_case.Quit = true
 is_loop_word _ = false
 
-abbrev pub leaves_loop : State → Word → Bool
-leaves_loop state.Statement w = is_loop_word w
-leaves_loop q w = false
+-- The number of the refusal of a token that can't stand where it does: 7 for an ELSE kind, WHILE or UNTIL with no opener,
+-- 11 for NEXT and QUIT outside REPEAT, 9 for floating point, 10 for what the machine doesn't carry out, 6 for all others.
+pub data NumberOf (w : Word) : ℕ → Type 0 where
+  no_opener : IsTrue (is_chain_word w || is_loop_end_word w) → NumberOf w (refusal_number BadIndent)
+  outside_loop : IsTrue (is_loop_word w) → NumberOf w (refusal_number LoopWord)
+  by_word : (s : Setting) → NumberOf w (number_of s w)
 
--- NEXT or QUIT, and no REPEAT is open there
-abbrev pub HasNoLoop : List lines.Line → State → LineToken → Type 0
-HasNoLoop ls q t = IsTrue (leaves_loop q (word t)) × (list_any (λ b. is_repeat b.opener.kind) (open_for t.place.column ls) ≡ false)
+-- this refusal stands at the first token up to which no file begins so
+pub record StopsAt (ts : List LineToken) (n : ℕ) (p : Place) : Type 0 where
+  pub before : List LineToken
+  pub token : LineToken
+  pub after : List LineToken
+  pub split : ts ≡ before ++ token ∷ after
+  pub place : token.place ≡ p
+  pub number : NumberOf (word token) n
+  pub begins : Begins before
+  pub stops : ¬ Begins (before ++ token ∷ [])
 
--- where the line at hand begins
-abbrev pub begin : Option Place → LineToken → Place
-begin b t = unwrap_or b t.place
+-- Behind these tokens the lines that begin with this one are those that are read from this state.
+pub record LinesFrom (ts : List LineToken) (t : LineToken) (q : State) : Type 0 where
+  pub may : (row : List Piece) (us : List LineToken) → Row q row (t ∷ us) → (s : Source) × IsFile any_height s (ts ++ t ∷ us)
+  pub must : (rest : List LineToken) (s : Source) → IsFile any_height s (ts ++ t ∷ rest) → (row : List Piece) × (us : List LineToken) × (vs : List LineToken) × Row q row (t ∷ us) × (us ++ vs ≡ rest)
 
--- behind the colon of a CASE's item its line goes on
-abbrev pub is_item : Kind → Bool
-is_item (lines.Item xs) = true
-is_item lines.Other = true
-is_item k = false
+-- some of these tokens, from the first one, begin a file, and each file that begins so goes past the limits
+pub record PassesLimits (ts : List LineToken) : Type 0 where
+  pub front : List LineToken
+  pub rest : List LineToken
+  pub split : ts ≡ front ++ rest
+  pub begins : Begins front
+  pub passes : (more : List LineToken) (s : Source) → ¬ IsFileWithinLimits s (front ++ more)
 
-abbrev pub begun_by : Kind → Option Place → LineToken → Option Place
-begun_by k b t = if is_item k then Some (begin b t) else None
+-- these tokens are none, or end with the end of a line
+pub data EndsLine : List LineToken → Type 0 where
+  nothing : EndsLine []
+  line_end : (ts : List LineToken) (t : LineToken) → word t ≡ word_case.LineEnd → EndsLine (ts ++ t ∷ [])
 
--- a line of DAT, if there is one
-abbrev pub lines_in : Option trees.Line → List trees.Line
-lines_in None = []
-lines_in (Some x) = x ∷ []
+-- Behind these tokens the line of the text on which this one stands begins at this place: there, or where the CASE's item
+-- begins behind whose colon it stands.
+pub data LineBegins : List LineToken → LineToken → Place → Type 0 where
+  here : {ts : List LineToken} {t : LineToken} → EndsLine ts → LineBegins ts t t.place
+  behind_item : {ts : List LineToken} {t u : LineToken} {p : Place} {row : List Piece} (us : List LineToken) → LinesFrom ts u state.CaseItem → Row state.CaseItem row (u ∷ us) → LineBegins ts u p → LineBegins (ts ++ u ∷ us) t p
 
--- a block's word and what follows it on its line begin this part
-pub data Opens (t : LineToken) (ts : List LineToken) : Part → List LineToken → Type 0 where
-  con : {xs : List Constant} {rest : List LineToken} → word t ≡ word_case.Con → ReadsAs constants_of_row state.ConHead ts xs rest → Opens t ts (constants xs) rest
-  var : {xs : List Declared} {rest : List LineToken} → word t ≡ word_case.Var → ReadsAs variables_of_row state.VarHead ts xs rest → Opens t ts (variables xs) rest
-  obj : {xs : List Child} {rest : List LineToken} → word t ≡ word_case.Obj → ReadsAs objects_of_row state.ObjHead ts xs rest → Opens t ts (objects xs) rest
-  pub_method : {m : MethodTree} {rest : List LineToken} → word t ≡ word_case.Pub → ReadsAs (method_of_row true) state.MethodName ts m rest → Opens t ts (method m []) rest
-  pri_method : {m : MethodTree} {rest : List LineToken} → word t ≡ word_case.Pri → ReadsAs (method_of_row false) state.MethodName ts m rest → Opens t ts (method m []) rest
-  dat : {o : Option trees.Line} {rest : List LineToken} → word t ≡ word_case.Dat → ReadsAs line_of_row state.DatHead ts o rest → Opens t ts (assembly (lines_in o)) rest
-
--- a line of a block that isn't a method is added to it
-pub data Extends (ts : List LineToken) : List Part → List Part → List LineToken → Type 0 where
-  first_constants : {xs : List Constant} {rest : List LineToken} → ReadsAs constants_of_row state.ConItem ts xs rest → Extends ts [] (constants xs ∷ []) rest
-  more_constants : {xs ys : List Constant} {ps : List Part} {rest : List LineToken} → ReadsAs constants_of_row state.ConItem ts ys rest → Extends ts (constants xs ∷ ps) (constants (xs ++ ys) ∷ ps) rest
-  more_variables : {xs ys : List Declared} {ps : List Part} {rest : List LineToken} → ReadsAs variables_of_row state.VarLine ts ys rest → Extends ts (variables xs ∷ ps) (variables (xs ++ ys) ∷ ps) rest
-  more_objects : {xs ys : List Child} {ps : List Part} {rest : List LineToken} → ReadsAs objects_of_row state.ObjLine ts ys rest → Extends ts (objects xs ∷ ps) (objects (xs ++ ys) ∷ ps) rest
-  more_assembly : {xs : List trees.Line} {o : Option trees.Line} {ps : List Part} {rest : List LineToken} → ReadsAs line_of_row state.DatLine ts o rest → Extends ts (assembly xs ∷ ps) (assembly (xs ++ lines_in o) ∷ ps) rest
-
--- One line without a refusal leads from a position, with these tokens to come, to another.
-pub data Step : Position → List LineToken → Position → List LineToken → Type 0 where
-  -- a line's end, where no line begins
-  blank : {ps : List Part} {b : Option Place} {t : LineToken} {ts : List LineToken} → word t ≡ word_case.LineEnd → Step (at ps b) (t ∷ ts) (at ps None) ts
-  head : {ps : List Part} {p : Part} {b : Option Place} {t : LineToken} {ts rest : List LineToken} → IsHead t → Opens t ts p rest → Step (at ps b) (t ∷ ts) (at (p ∷ ps) None) rest
-  declaration : {ps qs : List Part} {b : Option Place} {t : LineToken} {ts rest : List LineToken} → word t ≢ word_case.LineEnd → ¬ IsHead t → Extends (t ∷ ts) ps qs rest → Step (at ps b) (t ∷ ts) (at qs None) rest
-  method_line : {m : MethodTree} {ls : List lines.Line} {ps : List Part} {b : Option Place} {t : LineToken} {ts rest : List LineToken} {q : State} {k : Kind} → word t ≢ word_case.LineEnd → ¬ IsHead t → Enters ls t (from q) → ¬ HasNoLoop ls q t → ¬ IsTooDeep ls q t → ReadsAs kind_of_row q (t ∷ ts) k rest → Step (at (method m ls ∷ ps) b) (t ∷ ts) (at (method m (ls ++ lines.line t.place k ∷ []) ∷ ps) (begun_by k b t)) rest
-
--- Lines without a refusal lead from a position to another.
-pub data Goes : Position → List LineToken → Position → List LineToken → Type 0 where
-  stay : {x : Position} {ts : List LineToken} → Goes x ts x ts
-  go_on : {x y z : Position} {ts us vs : List LineToken} → Goes x ts y us → Step y us z vs → Goes x ts z vs
-
-abbrev pub IsRefusedAt : Place → Outcome → Type 0
-IsRefusedAt p (read row rest) = ⊥
-IsRefusedAt p (refused n q) = q ≡ p
-
--- The line that begins with the first of these tokens has this refusal first.
-pub data Fails : Position → List LineToken → ℕ → Place → Type 0 where
-  head_fails : {ps : List Part} {b : Option Place} {t : LineToken} {ts : List LineToken} {n : ℕ} {p : Place} → IsHead t → Reads (head_state (word t)) ts (refused n p) → Fails (at ps b) (t ∷ ts) n p
-  declaration_fails : {ps : List Part} {b : Option Place} {t : LineToken} {ts : List LineToken} {n : ℕ} {p : Place} → word t ≢ word_case.LineEnd → ¬ IsHead t → IsTrue (declares ps) → Reads (line_state ps) (t ∷ ts) (refused n p) → Fails (at ps b) (t ∷ ts) n p
-  entry_fails : {m : MethodTree} {ls : List lines.Line} {ps : List Part} {b : Option Place} {t : LineToken} {ts : List LineToken} {n : ℕ} → word t ≢ word_case.LineEnd → ¬ IsHead t → Enters ls t (barred n) → Fails (at (method m ls ∷ ps) b) (t ∷ ts) n t.place
-  no_loop_fails : {m : MethodTree} {ls : List lines.Line} {ps : List Part} {b : Option Place} {t : LineToken} {ts : List LineToken} {q : State} → word t ≢ word_case.LineEnd → ¬ IsHead t → Enters ls t (from q) → HasNoLoop ls q t → Fails (at (method m ls ∷ ps) b) (t ∷ ts) (refusal_number LoopWord) t.place
-  -- one block too many is told where the line begins, unless the line is refused there itself
-  too_deep_fails : {m : MethodTree} {ls : List lines.Line} {ps : List Part} {b : Option Place} {t : LineToken} {ts : List LineToken} {q : State} {o : Outcome} → word t ≢ word_case.LineEnd → ¬ IsHead t → Enters ls t (from q) → IsTooDeep ls q t → Reads q (t ∷ ts) o → ¬ IsRefusedAt (begin b t) o → Fails (at (method m ls ∷ ps) b) (t ∷ ts) (refusal_number TooNested) (begin b t)
-  line_fails : {m : MethodTree} {ls : List lines.Line} {ps : List Part} {b : Option Place} {t : LineToken} {ts : List LineToken} {q : State} {n : ℕ} {p : Place} → word t ≢ word_case.LineEnd → ¬ IsHead t → Enters ls t (from q) → ¬ HasNoLoop ls q t → (IsTooDeep ls q t → p ≡ begin b t) → Reads q (t ∷ ts) (refused n p) → Fails (at (method m ls ∷ ps) b) (t ∷ ts) n p
-
-abbrev pub with_body : MethodTree → Statements → MethodTree
-with_body m ss = record { place = m.place; public = m.public; name = m.name; params = m.params; param_places = m.param_places; result_name = m.result_name; result_place = m.result_place; locals = m.locals; body = ss }
-
--- a part as a block of the tree: the lines of a method are its statements
-pub data IsBlock : Part → BlockTree → Type 0 where
-  con_block : {xs : List Constant} → IsBlock (constants xs) (trees.Con xs)
-  var_block : {xs : List Declared} → IsBlock (variables xs) (trees.Var xs)
-  obj_block : {xs : List Child} → IsBlock (objects xs) (trees.Obj xs)
-  dat_block : {xs : List trees.Line} → IsBlock (assembly xs) (trees.Dat xs)
-  method_block : {m : MethodTree} {ls : List lines.Line} {ss : Statements} → AreStatements ss ls → IsBlock (method m ls) (trees.Method (with_body m ss))
-
-pub data AreBlocks : List Part → Source → Type 0 where
-  no_blocks : AreBlocks [] []
-  one_more : {ps : List Part} {p : Part} {bs : Source} {b : BlockTree} → AreBlocks ps bs → IsBlock p b → AreBlocks (p ∷ ps) (bs ++ b ∷ [])
-
-pub data Answer : Type 0 where
-  source : Source → Answer
-  fault : ℕ → Place → Answer
-
--- Reading these tokens as a file answers so.
-pub data Parses (ts : List LineToken) : Answer → Type 0 where
-  whole : {x : Position} {s : Source} → Goes start ts x [] → AreBlocks x.parts s → Parses ts (source s)
-  fails : {x : Position} {us : List LineToken} {n : ℕ} {p : Place} → Goes start ts x us → Fails x us n p → Parses ts (fault n p)
+-- what goes past the limits begins at this place
+pub data PassesAt (ts : List LineToken) (p : Place) : Type 0 where
+  -- an expression that is too high
+  by_height : (before : List LineToken) (t : LineToken) (us : List LineToken) (q : State) → ts ≡ before ++ t ∷ us → LinesFrom before t q → Reads q (t ∷ us) (refused (refusal_number TooNested) p) → PassesAt ts p
+  -- the line of the text with the token that opens a block too many
+  by_depth : (before : List LineToken) (t : LineToken) (us : List LineToken) → ts ≡ before ++ t ∷ us → Begins (before ++ t ∷ []) → ((rest : List LineToken) (s : Source) → IsFile any_height s (before ++ t ∷ rest) → ¬ IsShallow s) → LineBegins before t p → PassesAt ts p

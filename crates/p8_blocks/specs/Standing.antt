@@ -13,7 +13,7 @@ use Rattle.p8_lines.specs.declared.state.State.{State}
 use Rattle.p8_lines.specs.Tokens.{LineToken, word}
 use Rattle.p8_lines.specs.Lines.{Outcome, refused, Reads}
 use Rattle.p8_rows.specs.Values.{begins_line}
-use Rattle.p8_blocks.specs.Files.{Part, constants, variables, objects, assembly, method, Position, at, AreBlocks, Entry, from, barred, Enters, HasNoLoop, IsTooDeep, IsHead, is_block_word, begin, Opens, Extends, Step, Goes, start, IsRefusedAt}
+use Rattle.p8_blocks.specs.Reading.{Part, constants, variables, objects, assembly, method, Position, at, AreBlocks, Entry, from, barred, Enters, HasNoLoop, IsTooDeep, IsHead, is_block_word, is_begun, begin, Opens, Extends, Step, Goes, start, IsRefusedAt}
 use Rattle.p8_blocks.specs.declared.words.Head as head
 use Rattle.p8_blocks.specs.declared.words.Head.TheVariants as head_case
 use Rattle.p8_blocks.specs.declared.first.First.{First}
@@ -62,6 +62,7 @@ head_of _ = None
 
 -- the code's first token of a line is this one, after what was begun
 pub record IsFirst (b : Option Place) (t : LineToken) (first : First) : Type 0 where
+  pub same_begun : is_begun b ≡ first.begun
   pub same_word : word t ≡ first.word
   pub same_place : t.place ≡ first.place
   pub same_begin : begin b t ≡ first.begin
@@ -99,15 +100,15 @@ begins_entry (from q) = begins_line q
 begins_entry (barred n) = true
 
 -- a line of a method may be read so
-pub record MayRead (ls : List lines.Line) (t : LineToken) (q : State) : Type 0 where
-  pub enters : Enters ls t (from q)
+pub record MayRead (ls : List lines.Line) (b : Bool) (t : LineToken) (q : State) : Type 0 where
+  pub enters : Enters ls b t (from q)
   pub loops : ¬ HasNoLoop ls q t
   pub shallow : ¬ IsTooDeep ls q t
 
--- the refusal of a line that is too deep and begins at this place
-pub data TellsTooDeep (q : State) (ts : List LineToken) (p : Place) : ℕ → Place → Type 0 where
-  too_deep : {o : Outcome} → Reads q ts o → ¬ IsRefusedAt p o → TellsTooDeep q ts p (refusal_number TooNested) p
-  refused_there : {n : ℕ} (p' : Place) → p' ≡ p → Reads q ts (refused n p') → TellsTooDeep q ts p n p'
+-- the refusal of a line that is too deep: its first token stands at the first place, and it begins at the other
+pub data TellsTooDeep (q : State) (ts : List LineToken) (first begin : Place) : ℕ → Place → Type 0 where
+  too_deep : {o : Outcome} → Reads q ts o → ¬ IsRefusedAt first o → TellsTooDeep q ts first begin (refusal_number TooNested) begin
+  refused_there : {n : ℕ} (p : Place) → p ≡ first → Reads q ts (refused n p) → TellsTooDeep q ts first begin n p
 
 -- a block's word and what follows it begin this block
 pub record Begins (t : LineToken) (ts : List LineToken) (o : opened.Open) (rest : List LineToken) : Type 0 where

@@ -12,11 +12,11 @@ ghost use Rattle.p8_lexer.specs.Refusals.{refusal_number};
 ghost use Rattle.p8_lines.specs.declared.state.State as line_state;
 ghost use Rattle.p8_lines.specs.Lines.{number_of, refused, Reads};
 ghost use Rattle.p8_rows.specs.Values.{begins_line};
-ghost use Rattle.p8_blocks.specs.Files.{Part, method, at as position, from, Enters, HasNoLoop, IsTooDeep, Fails, is_chain_word, is_loop_end_word};
+ghost use Rattle.p8_blocks.specs.Reading.{Part, method, at as position, from, Enters, HasNoLoop, IsTooDeep, Fails, goes_on_chain, ends_loop};
 ghost use Rattle.p8_blocks.specs.Standing.{Inner, MayRead, TellsTooDeep, begins_entry, entry_of};
 
 use crate::first::First;
-use crate::words::{is_chain_word, is_loop_end_word, leaves_loop, opens};
+use crate::words::{ends_loop, goes_on_chain, leaves_loop, opens};
 use p8_columns::{Blocks, Chain, Room};
 use p8_expr::{ParseFault, refusal_of};
 use p8_grammar::Setting;
@@ -47,9 +47,9 @@ fn number_of(word: Word) -> u8
 
 // An `ELSE` kind goes on with the chain at its column, unless that has its `ELSE`.
 fn chain_entry(blocks: &Blocks, first: First) -> Entry
-    requires { IsTrue (is_chain_word first.word) }
+    requires { IsTrue (goes_on_chain first.begun first.word) }
     ensures begins { IsTrue (begins_entry (entry_of result)) }
-    ensures enters { (ls : List lines.Line) (t : LineToken) → HasTaken ls blocks.now → word t ≡ first.word → t.place ≡ first.place → Enters ls t (entry_of result) }
+    ensures enters { (ls : List lines.Line) (t : LineToken) → HasTaken ls blocks.now → word t ≡ first.word → t.place ≡ first.place → Enters ls first.begun t (entry_of result) }
 {
     match blocks.chain(first.place.column) {
         Chain::Begun => Entry::From(State::ChainLine),
@@ -60,9 +60,9 @@ fn chain_entry(blocks: &Blocks, first: First) -> Entry
 
 // `WHILE` and `UNTIL` end the plain `REPEAT` at their column.
 fn loop_end_entry(blocks: &Blocks, first: First) -> Entry
-    requires { IsTrue (is_loop_end_word first.word) }
+    requires { IsTrue (ends_loop first.begun first.word) }
     ensures begins { IsTrue (begins_entry (entry_of result)) }
-    ensures enters { (ls : List lines.Line) (t : LineToken) → HasTaken ls blocks.now → word t ≡ first.word → t.place ≡ first.place → Enters ls t (entry_of result) }
+    ensures enters { (ls : List lines.Line) (t : LineToken) → HasTaken ls blocks.now → word t ≡ first.word → t.place ≡ first.place → Enters ls first.begun t (entry_of result) }
 {
     if blocks.is_plain_loop(first.place.column) {
         Entry::From(State::LoopEndLine)
@@ -75,10 +75,10 @@ fn loop_end_entry(blocks: &Blocks, first: First) -> Entry
 // Any other line is a statement, or an item directly under a `CASE`, which takes nothing more after
 // its `OTHER`.
 fn room_entry(blocks: &Blocks, first: First) -> Entry
-    requires no_chain { is_chain_word first.word ≡ false }
-    requires no_loop_end { is_loop_end_word first.word ≡ false }
+    requires no_chain { goes_on_chain first.begun first.word ≡ false }
+    requires no_loop_end { ends_loop first.begun first.word ≡ false }
     ensures begins { IsTrue (begins_entry (entry_of result)) }
-    ensures enters { (ls : List lines.Line) (t : LineToken) → HasTaken ls blocks.now → word t ≡ first.word → t.place ≡ first.place → Enters ls t (entry_of result) }
+    ensures enters { (ls : List lines.Line) (t : LineToken) → HasTaken ls blocks.now → word t ≡ first.word → t.place ≡ first.place → Enters ls first.begun t (entry_of result) }
 {
     match blocks.room(first.place.column) {
         Room::Statement => Entry::From(State::Statement),
@@ -90,11 +90,11 @@ fn room_entry(blocks: &Blocks, first: First) -> Entry
 /// Where a line that begins so is read from, after the lines that the blocks have taken.
 pub fn entry_at(blocks: &Blocks, first: First) -> Entry
     ensures begins { IsTrue (begins_entry (entry_of result)) }
-    ensures enters { (ls : List lines.Line) (t : LineToken) → HasTaken ls blocks.now → word t ≡ first.word → t.place ≡ first.place → Enters ls t (entry_of result) }
+    ensures enters { (ls : List lines.Line) (t : LineToken) → HasTaken ls blocks.now → word t ≡ first.word → t.place ≡ first.place → Enters ls first.begun t (entry_of result) }
 {
-    if is_chain_word(first.word) {
+    if goes_on_chain(first.begun, first.word) {
         chain_entry(blocks, first)
-    } else if is_loop_end_word(first.word) {
+    } else if ends_loop(first.begun, first.word) {
         loop_end_entry(blocks, first)
     } else {
         room_entry(blocks, first)
@@ -132,42 +132,42 @@ fn is_same(one: Place, other: Place) -> bool
     one == other
 }
 
-// The refusal of a line that is too deep, begins at a place and is refused itself: its own, if that
-// stands there.
-fn first_refusal(fail: Fail<ParseFault>, begin: Place) -> Fail<ParseFault>
-    ensures { (q : line_state.State) (ts : List LineToken) → IfRefused (λ f. Reads q ts (refused f.number f.place)) fail → IfRefused (λ f. TellsTooDeep q ts begin f.number f.place) result }
+// The refusal of a line that is too deep and is refused itself: its own, if that stands at its first
+// token.
+fn first_refusal(fail: Fail<ParseFault>, first: First) -> Fail<ParseFault>
+    ensures { (q : line_state.State) (ts : List LineToken) → IfRefused (λ f. Reads q ts (refused f.number f.place)) fail → IfRefused (λ f. TellsTooDeep q ts first.place first.begin f.number f.place) result }
 {
     match fail {
         Fail::Refused(fault) => {
-            if is_same(fault.place, begin) {
+            if is_same(fault.place, first.place) {
                 Fail::Refused(fault)
             } else {
-                too_nested(begin)
+                too_nested(first.begin)
             }
         }
         Fail::NoMemory => Fail::NoMemory,
     }
 }
 
-// The refusal of a line that is too deep and begins at a place.
+// The refusal of a line that is too deep.
 fn too_deep(
     alloc: Global,
     bytes: &[u8],
     tokens: &Tokens,
     at: usize,
+    first: First,
     state: State,
-    begin: Place,
 ) -> Fail<ParseFault>
     requires within { at < length tokens.now }
     requires begins { IsTrue (begins_line state) }
-    ensures { IfRefused (λ f. TellsTooDeep state (tokens_from bytes.now tokens.now at) begin f.number f.place) result }
+    ensures { IfRefused (λ f. TellsTooDeep state (tokens_from bytes.now tokens.now at) first.place first.begin f.number f.place) result }
 {
     match read_statement(alloc, bytes, tokens, at, state) {
         Ok(read) => {
             drop(read);
-            too_nested(begin)
+            too_nested(first.begin)
         }
-        Err(fail) => first_refusal(fail, begin),
+        Err(fail) => first_refusal(fail, first),
     }
 }
 
@@ -184,8 +184,8 @@ fn within_depth(
     requires within { at < length tokens.now }
     requires begins { IsTrue (begins_line state) }
     ensures same { IfOk result (λ q. q ≡ state) }
-    ensures read { (ls : List lines.Line) (t : LineToken) → HasTaken ls blocks.now → word t ≡ first.word → t.place ≡ first.place → Enters ls t (from state) → IfOk result (λ q. MayRead ls t q) }
-    ensures refused { (b : Option tree_place.Place) (m : MethodTree) (ls : List lines.Line) (ps : List Part) → Inner (tokens_from bytes.now tokens.now at) (tokens_from bytes.now tokens.now (at + 1)) b first → HasTaken ls blocks.now → ((t : LineToken) → word t ≡ first.word → t.place ≡ first.place → Enters ls t (from state)) → IfErr result (IfRefused (λ f. Fails (position (method m ls ∷ ps) b) (tokens_from bytes.now tokens.now at) f.number f.place)) }
+    ensures read { (ls : List lines.Line) (t : LineToken) → HasTaken ls blocks.now → word t ≡ first.word → t.place ≡ first.place → Enters ls first.begun t (from state) → IfOk result (λ q. MayRead ls first.begun t q) }
+    ensures refused { (b : Option tree_place.Place) (m : MethodTree) (ls : List lines.Line) (ps : List Part) → Inner (tokens_from bytes.now tokens.now at) (tokens_from bytes.now tokens.now (at + 1)) b first → HasTaken ls blocks.now → ((t : LineToken) → word t ≡ first.word → t.place ≡ first.place → Enters ls first.begun t (from state)) → IfErr result (IfRefused (λ f. Fails (position (method m ls ∷ ps) b) (tokens_from bytes.now tokens.now at) f.number f.place)) }
 {
     if has_no_loop(blocks, first, state) {
         Err(Fail::Refused(ParseFault {
@@ -193,7 +193,7 @@ fn within_depth(
             place: first.place,
         }))
     } else if is_too_deep(blocks, first, state) {
-        Err(too_deep(alloc, bytes, tokens, at, state, first.begin))
+        Err(too_deep(alloc, bytes, tokens, at, first, state))
     } else {
         Ok(state)
     }
@@ -211,7 +211,7 @@ pub fn state_of_line(
 ) -> Result<State, Fail<ParseFault>>
     requires { at < length tokens.now }
     ensures begins { IfOk result (λ q. IsTrue (begins_line q)) }
-    ensures read { (ls : List lines.Line) (t : LineToken) → HasTaken ls blocks.now → word t ≡ first.word → t.place ≡ first.place → IfOk result (λ q. MayRead ls t q) }
+    ensures read { (ls : List lines.Line) (t : LineToken) → HasTaken ls blocks.now → word t ≡ first.word → t.place ≡ first.place → IfOk result (λ q. MayRead ls first.begun t q) }
     ensures refused { (b : Option tree_place.Place) (m : MethodTree) (ls : List lines.Line) (ps : List Part) → Inner (tokens_from bytes.now tokens.now at) (tokens_from bytes.now tokens.now (at + 1)) b first → HasTaken ls blocks.now → IfErr result (IfRefused (λ f. Fails (position (method m ls ∷ ps) b) (tokens_from bytes.now tokens.now at) f.number f.place)) }
 {
     match entry_at(blocks, first) {

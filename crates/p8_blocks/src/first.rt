@@ -2,10 +2,10 @@
 ghost use Rattle.std.specs.Prelude.{◌≡◌, ◌<◌, ◌+◌, ◌↔◌, IsTrue, MatchOption, Some, length, slice_get};
 ghost use Rattle.p8_lexer.specs.declared.word.Word.TheVariants as word_case;
 ghost use Rattle.p8_lines.specs.Tokens.{tokens_from};
+ghost use Rattle.p8_blocks.specs.Reading.{is_begun};
 ghost use Rattle.p8_blocks.specs.Standing.{IsHeadAt, Starts, word_of_head};
 
 use crate::words::{Head, head_of};
-use p8_expr::place_of;
 use p8_lexer::{Token, Tokens, Word, word_of};
 use p8_tree::Place;
 
@@ -16,6 +16,18 @@ pub struct First {
     pub place: Place,
     /// Where the line begins. Behind the colon of a `CASE`'s item that is where the item begins.
     pub begin: Place,
+    /// Whether it goes on behind the colon of a `CASE`'s item.
+    pub begun: bool,
+}
+
+// Whether a line of the text is begun, behind the colon of a `CASE`'s item.
+fn is_begun(begun: Option<Place>) -> bool
+    ensures { result ≡ is_begun begun }
+{
+    match begun {
+        Some(_) => true,
+        None => false,
+    }
 }
 
 // The token of this number.
@@ -33,11 +45,12 @@ impl First {
         ensures { Starts (tokens_from bytes.now tokens.now at) (tokens_from bytes.now tokens.now (at + 1)) begun result }
     {
         let token = token_at(tokens, at);
-        let place = place_of(token.place);
+        let place = token.place;
         First {
             word: word_of(bytes, &token),
             place,
             begin: begun.unwrap_or(place),
+            begun: is_begun(begun),
         }
     }
 

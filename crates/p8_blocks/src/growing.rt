@@ -4,7 +4,8 @@ ghost use Rattle.p8_tree.specs.Views.{block_of, method_of, source_of, statements
 ghost use Rattle.p8_lexer.specs.declared.word.Word.TheVariants as word_case;
 ghost use Rattle.p8_expr.specs.Parsing.{IfRefused};
 ghost use Rattle.p8_lines.specs.Tokens.{tokens_from};
-ghost use Rattle.p8_blocks.specs.Files.{Part, Position, start, at as position, Fails, AreBlocks, IsBlock, with_body};
+ghost use Rattle.p8_blocks.specs.Reading.{Part, Position, start, at as position, Fails, AreBlocks, IsBlock};
+ghost use Rattle.p8_blocks.specs.Files.{with_body};
 ghost use Rattle.p8_blocks.specs.Standing.{Continues, IsHeadAt, IsOpen, StandsFor, Starts, word_of_head};
 
 use crate::first::First;

@@ -4,11 +4,13 @@
 mod entry;
 mod first;
 mod growing;
+mod laws;
 mod lines;
 mod parsing;
 #[cfg(test)]
 mod tests;
 mod words;
 
+pub use laws::{files_are_proper, tokens_are_proper};
 pub use p8_expr::ParseFault;
 pub use parsing::parse;

@@ -9,7 +9,8 @@ ghost use Rattle.p8_expr.specs.Parsing.{IfRefused};
 ghost use Rattle.p8_lines.specs.declared.state.State.TheVariants as state_case;
 ghost use Rattle.p8_lines.specs.Tokens.{LineToken, tokens_from, word};
 ghost use Rattle.p8_lines.specs.Lines.{refused, Reads};
-ghost use Rattle.p8_blocks.specs.Files.{Part, constants, variables, objects, assembly, method as method_part, at as position, Fails, head_state, is_item, lines_in};
+ghost use Rattle.p8_blocks.specs.Reading.{Part, constants, variables, objects, assembly, method as method_part, at as position, Fails, head_state};
+ghost use Rattle.p8_blocks.specs.Files.{lines_in, is_item};
 ghost use Rattle.p8_blocks.specs.Standing.{Added, Begins, Grown, Inner, IsOpen, IsToken, word_of_head};
 
 use crate::entry::state_of_line;

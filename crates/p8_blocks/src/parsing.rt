@@ -1,16 +1,38 @@
 // Reading a file from its tokens.
-ghost use Rattle.std.specs.Prelude.{IfOk, IfErr};
+ghost use Rattle.std.specs.Prelude.{◌≡◌, ◌≢◌, IfOk, IfErr};
+ghost use Rattle.p8_tree.specs.Sources.{Source};
+ghost use Rattle.p8_tree.specs.Proper.{IsProperFile};
+ghost use Rattle.p8_grammar.specs.Proper.{AreProper};
 ghost use Rattle.p8_tree.specs.Views.{source_of};
+ghost use Rattle.p8_lexer.specs.declared.refusal.Refusal.TheVariants.{TooNested};
+ghost use Rattle.p8_lexer.specs.Refusals.{refusal_number};
 ghost use Rattle.p8_expr.specs.Parsing.{IfRefused};
-ghost use Rattle.p8_lines.specs.Tokens.{all_tokens};
-ghost use Rattle.p8_blocks.specs.Files.{Parses, source, fault};
+ghost use Rattle.p8_lines.specs.Tokens.{all_tokens, terms};
+ghost use Rattle.p8_blocks.specs.Files.{IsFileWithinLimits, StopsAt, PassesLimits, PassesAt};
+ghost use Rattle.p8_blocks.specs.Reading.{Parses, source, fault};
 
 use crate::growing::Growing;
+use crate::laws::{
+    files_are_proper, files_are_read, one_answer, refusals_pass_limits, refusals_stand_first,
+};
 use p8_expr::ParseFault;
 use p8_lexer::Tokens;
 use p8_tree::SourceFile;
 use p8_words::Fail;
 use std::alloc::Global;
+
+// Reads the lines of a file one after the other.
+fn read_lines(alloc: Global, bytes: &[u8], tokens: &Tokens) -> Result<SourceFile, Fail<ParseFault>>
+    ensures read { IfOk result (λ file. Parses (all_tokens bytes.now tokens.now) (source (source_of file))) }
+    ensures refused { IfErr result (IfRefused (λ f. Parses (all_tokens bytes.now tokens.now) (fault f.number f.place))) }
+{
+    let mut file = Growing::new(alloc);
+    let mut at = 0;
+    'lines: while at < tokens.len() {
+        at = file.line(alloc, bytes, tokens, at)?;
+    }
+    Ok(file.finish(alloc)?)
+}
 
 /// Reads a file from its tokens, in one pass: gives its tree, or the first refusal and its place.
 ///
@@ -25,13 +47,18 @@ use std::alloc::Global;
 /// or `UNTIL` with no opener at its column; 8 at an expression higher than 64, and where a line begins
 /// that would open one block more than 64, the method counted; 11 at `NEXT` or `QUIT` outside `REPEAT`.
 pub fn parse(alloc: Global, bytes: &[u8], tokens: &Tokens) -> Result<SourceFile, Fail<ParseFault>>
-    ensures read { IfOk result (λ file. Parses (all_tokens bytes.now tokens.now) (source (source_of file))) }
-    ensures refused { IfErr result (IfRefused (λ f. Parses (all_tokens bytes.now tokens.now) (fault f.number f.place))) }
+    ensures read { IfOk result (λ file. IsFileWithinLimits (source_of file) (all_tokens bytes.now tokens.now)) }
+    ensures proper { AreProper (terms (all_tokens bytes.now tokens.now)) → IfOk result (λ file. IsProperFile (source_of file)) }
+    ensures one_tree { IfOk result (λ file. (s : Source) → IsFileWithinLimits s (all_tokens bytes.now tokens.now) → s ≡ source_of file) }
+    ensures no_file { IfErr result (IfRefused (λ f. (s : Source) → ¬ IsFileWithinLimits s (all_tokens bytes.now tokens.now))) }
+    ensures stops { IfErr result (IfRefused (λ f. f.number ≢ refusal_number TooNested → StopsAt (all_tokens bytes.now tokens.now) f.number f.place)) }
+    ensures passes { IfErr result (IfRefused (λ f. f.number ≡ refusal_number TooNested → PassesLimits (all_tokens bytes.now tokens.now))) }
+    ensures passes_there { IfErr result (IfRefused (λ f. f.number ≡ refusal_number TooNested → PassesAt (all_tokens bytes.now tokens.now) f.place)) }
 {
-    let mut file = Growing::new(alloc);
-    let mut at = 0;
-    'lines: while at < tokens.len() {
-        at = file.line(alloc, bytes, tokens, at)?;
-    }
-    Ok(file.finish(alloc)?)
+    files_are_read();
+    files_are_proper();
+    one_answer();
+    refusals_stand_first();
+    refusals_pass_limits();
+    read_lines(alloc, bytes, tokens)
 }

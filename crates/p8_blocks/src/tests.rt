@@ -57,102 +57,25 @@ fn answer(rt: &HostRuntime, text: &str) -> Result<String, AllocError> {
 #[test]
 fn reads_sources(rt: HostRuntime) -> Result<(), AllocError> {
     let table = [
-        ("", ""),
-        ("\n\n", ""),
-        ("x = 1\n  y = 2, z\nPUB main", "con 3;pub;"),
         (
-            "CON a = 1\n\n  b\nVAR long c\n  byte d, e[4]",
-            "con 2;var 3;",
+            "x = 1\n  y = 2, z\nVAR long c\nOBJ o : \"f\"\nDAT\n  long 1",
+            "con 3;var 1;obj 1;dat 1;",
         ),
         (
-            "OBJ o : \"f\"\n  p : \"g\"\nDAT\n  long 1\nx\n",
-            "obj 2;dat 2;",
-        ),
-        (
-            "PRI a\n  return\nPUB b\n  abort\n  return",
-            "pri plain;pub plain plain;",
-        ),
-        ("PUB main\n  repeat\n      main\n    main", "pub repeat 2;"),
-        (
-            "PUB main\n  repeat\n    next\n  while 1\n  main",
-            "pub repeat 1 plain;",
-        ),
-        (
-            "PUB main\n  if 0\n    main\n  elseif 1\n  else\n    main\n  main",
-            "pub if plain;",
+            "PRI a\n  return\nPUB b\n  repeat\n    next\n  while 1\n  return",
+            "pri plain;pub repeat 1 plain;",
         ),
         (
             "PUB main\n  case 1\n    1: if 0\n         main\n    other: main\n  main",
             "pub case plain;",
         ),
-        // Refusals.
-        ("CON\n  x = 1.5", "2:7: 9 Float"),
-        ("CON\n  x = 1,\n  y = 2", "2:9: 6 Unexpected"),
-        ("PUB main\n pub other", "2:2: 6 Unexpected"),
         ("PUB main\n  if 0\n    main\n   else", "4:4: 7 BadIndent"),
-        ("PUB main\n  if 0\n  else\n  else", "4:3: 6 Unexpected"),
-        ("PUB main\n  while 1", "2:3: 7 BadIndent"),
-        (
-            "PUB main\n  repeat 3\n    main\n  until 1",
-            "4:3: 7 BadIndent",
-        ),
+        ("PUB main\n  case 1\n    1: else", "3:8: 6 Unexpected"),
         ("PUB main\n  next", "2:3: 11 LoopWord"),
-        ("PUB main\n  repeat\n    main\n  quit", "4:3: 11 LoopWord"),
-        (
-            "PUB main\n  case 1\n    other: main\n    1: main",
-            "4:5: 6 Unexpected",
-        ),
     ];
     for (text, wanted) in table {
         let found = answer(&rt, text)?;
         assert_eq!(&rt; found.as_str(), wanted, "{text}");
-    }
-    Ok(())
-}
-
-// A method with so many nested `IF`s, each a column to the right of the one before it, and a text
-// behind the last at the next column.
-fn nested(rt: &HostRuntime, count: usize, text: &str) -> Result<String, AllocError> {
-    let mut whole = String::new(rt.alloc());
-    let mut indent = String::new(rt.alloc());
-    whole.push_str("PUB main\n")?;
-    for _ in 0..count {
-        indent.push_str(" ")?;
-        whole.push_str(indent.as_str())?;
-        whole.push_str("if 0\n")?;
-    }
-    whole.push_str(indent.as_str())?;
-    whole.push_str(text)?;
-    answer(rt, whole.as_str())
-}
-
-#[test]
-fn counts_nested_blocks(rt: HostRuntime) -> Result<(), AllocError> {
-    let table = [
-        (63, "", "pub if;"),
-        (63, " main", "pub if;"),
-        (64, "", "65:65: 8 TooNested"),
-        (63, " repeat", "65:65: 8 TooNested"),
-        (63, " repeat 1.5", "65:65: 8 TooNested"),
-        (
-            61,
-            " case 1\n                                                                     0: main",
-            "pub if;",
-        ),
-        (
-            61,
-            " case 1\n                                                                     0: if 0",
-            "64:70: 8 TooNested",
-        ),
-        (
-            62,
-            " case 1\n                                                                     0: main",
-            "65:70: 8 TooNested",
-        ),
-    ];
-    for (count, text, wanted) in table {
-        let found = nested(&rt, count, text)?;
-        assert_eq!(&rt; found.as_str(), wanted, "{count} and {text}");
     }
     Ok(())
 }

@@ -1,7 +1,8 @@
 // Which words begin lines of which kinds.
 ghost use Rattle.std.specs.Prelude.{◌≡◌};
-ghost use Rattle.p8_blocks.specs.Files.{is_chain_word, is_loop_end_word, opens, leaves_loop};
+ghost use Rattle.p8_blocks.specs.Reading.{goes_on_chain, ends_loop, opens, leaves_loop};
 ghost use Rattle.p8_blocks.specs.Standing.{head_of};
+ghost use Rattle.p8_blocks.specs.Files.{is_chain_word, is_loop_end_word};
 
 use p8_lexer::Word;
 use p8_lines::State;
@@ -32,18 +33,33 @@ pub fn head_of(word: Word) -> Option<Head>
     }
 }
 
-/// Whether the word goes on with an `IF` chain.
-pub fn is_chain_word(word: Word) -> bool
+// Whether the word goes on with an `IF` chain.
+fn is_chain_word(word: Word) -> bool
     ensures { result ≡ is_chain_word word }
 {
     matches!(word, Word::Else | Word::Elseif | Word::Elseifnot)
 }
 
-/// Whether the word ends a plain `REPEAT`.
-pub fn is_loop_end_word(word: Word) -> bool
+// Whether the word ends a plain `REPEAT`.
+fn is_loop_end_word(word: Word) -> bool
     ensures { result ≡ is_loop_end_word word }
 {
     matches!(word, Word::While | Word::Until)
+}
+
+/// Whether a line that begins with the word goes on with a chain, where it doesn't go on behind the
+/// colon of a `CASE`'s item.
+pub fn goes_on_chain(begun: bool, word: Word) -> bool
+    ensures { result ≡ goes_on_chain begun word }
+{
+    !begun && is_chain_word(word)
+}
+
+/// Whether such a line ends a loop.
+pub fn ends_loop(begun: bool, word: Word) -> bool
+    ensures { result ≡ ends_loop begun word }
+{
+    !begun && is_loop_end_word(word)
 }
 
 /// Whether a line that is read from this state and begins with this word opens a block.

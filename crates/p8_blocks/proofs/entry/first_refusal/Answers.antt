@@ -12,5 +12,5 @@ returns-then-is_same c = λ q ts r.
 pub returns-else-is_same : goal.returns-else-is_same
 returns-else-is_same c = λ q ts r.
     let g = c.in-Refused.fault in
-    refused_weaker _ (λ f. TellsTooDeep q ts c.args.begin f.number f.place)
-    (deep_elsewhere c.args.begin g (subst (λ x. IfRefused (λ f. Reads q ts (refused f.number f.place)) x) c.in-Refused.is r) (denied c.if-is_same.false c.is_same.ensures)) c.too_nested.result c.too_nested.ensures
+    refused_weaker _ (λ f. TellsTooDeep q ts c.args.first.place c.args.first.begin f.number f.place)
+    (deep_elsewhere c.args.first.place c.args.first.begin g (subst (λ x. IfRefused (λ f. Reads q ts (refused f.number f.place)) x) c.in-Refused.is r) (denied c.if-is_same.false c.is_same.ensures)) c.too_nested.result c.too_nested.ensures

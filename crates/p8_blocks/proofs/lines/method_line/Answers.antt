@@ -5,8 +5,8 @@ use Rattle.p8_columns.specs.Columns.{FitsAs}
 use Rattle.p8_columns.specs.Views.{kind_of}
 use Rattle.p8_lines.specs.Tokens.{tokens_from}
 use Rattle.p8_lines.specs.Lines.{refused, Reads}
-use Rattle.p8_blocks.specs.Files.{at, method, Fails}
-use Rattle.p8_blocks.proofs.Entering.{fits, refused_weaker, reading_fails, told}
+use Rattle.p8_blocks.specs.Reading.{at, method, Fails}
+use Rattle.p8_blocks.proofs.Entering.{fits, may_read, refused_weaker, reading_fails, told}
 use Rattle.p8_blocks.proofs.Stepping.{method_grown}
 use Rattle.p8_blocks.proofs.lines.method_line.Goals as goal
 
@@ -22,7 +22,7 @@ returns-in_err-kind-clause-refused c = λ b ls ps s h.
     let m = method_of c.args.method in
     told c.from_residual-in_err-kind.result _ (IfRefused (λ f. Fails (at (method m ls ∷ ps) b) ts f.number f.place)) c.from_residual-in_err-kind.ensures.1
     (refused_weaker (λ f. Reads q ts (refused f.number f.place)) (λ f. Fails (at (method m ls ∷ ps) b) ts f.number f.place)
-    (reading_fails s m ls ps q (c.in_ok-state.ensures.read ls s.token h s.is.same_word s.is.same_place)) _ c.in_err-kind.ensures.refused)
+    (reading_fails s m ls ps q (may_read s (c.in_ok-state.ensures.read ls s.token h s.is.same_word s.is.same_place))) _ c.in_err-kind.ensures.refused)
 
 pub returns-in_err-state-clause-refused : goal.returns-in_err-state-clause-refused
 returns-in_err-state-clause-refused c = λ b ls ps s h.
@@ -34,4 +34,4 @@ pub returns-clause-read : goal.returns-clause-read
 returns-clause-read c = λ b ls ps s h.
     let m = method_of c.args.method in
     let q = c.in_ok-state.state in
-    method_grown s c.args.method ls ps (c.in_ok-state.ensures.read ls s.token h s.is.same_word s.is.same_place) c.in_ok-kind.ensures.read c.take.new.self c.begun_by-begun.result c.begun_by-begun.ensures (c.in_ok-take.ensures ls h)
+    method_grown s c.args.method ls ps (may_read s (c.in_ok-state.ensures.read ls s.token h s.is.same_word s.is.same_place)) c.in_ok-kind.ensures.read c.take.new.self c.begun_by-begun.result c.begun_by-begun.ensures (c.in_ok-take.ensures ls h)

@@ -1,8 +1,8 @@
 use Rattle.std.proofs.Common.{map, ◌++◌, ◌∷◌, ap}
 use Rattle.p8_tree.specs.Views.{constant_of}
 use Rattle.p8_lines.specs.Tokens.{tokens_from}
-use Rattle.p8_blocks.specs.Files as files
-use Rattle.p8_blocks.specs.Files.{constants}
+use Rattle.p8_blocks.specs.Reading as files
+use Rattle.p8_blocks.specs.Reading.{constants}
 use Rattle.p8_blocks.proofs.Stepping.{added, appended_view}
 use Rattle.p8_blocks.proofs.lines.more_constants.Goals as goal
 

@@ -2,8 +2,9 @@ use Rattle.std.proofs.Common.{map, ◌++◌, ◌∷◌, ap, sym, ◌∙◌}
 use Rattle.std.specs.Prelude.{option_map}
 use Rattle.p8_tree.specs.Views.{line_of}
 use Rattle.p8_lines.specs.Tokens.{tokens_from}
-use Rattle.p8_blocks.specs.Files as files
-use Rattle.p8_blocks.specs.Files.{assembly, lines_in}
+use Rattle.p8_blocks.specs.Reading as files
+use Rattle.p8_blocks.specs.Reading.{assembly}
+use Rattle.p8_blocks.specs.Files.{lines_in}
 use Rattle.p8_blocks.proofs.Stepping.{added, appended_view}
 use Rattle.p8_blocks.proofs.lines.more_data.Goals as goal
 

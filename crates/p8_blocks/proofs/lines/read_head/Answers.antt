@@ -1,7 +1,8 @@
 use Rattle.std.proofs.Common.{◌∙◌, [], ap, sym, refl, map}
 use Rattle.std.specs.Prelude.{option_map}
 use Rattle.p8_tree.specs.Views.{constant_of, declared_of, child_of, line_of, method_of}
-use Rattle.p8_blocks.specs.Files.{constants, variables, objects, assembly, method, con, var, obj, pub_method, pri_method, dat, lines_in}
+use Rattle.p8_blocks.specs.Reading.{constants, variables, objects, assembly, method, con, var, obj, pub_method, pri_method, dat}
+use Rattle.p8_blocks.specs.Files.{lines_in}
 use Rattle.p8_blocks.specs.Standing.{word_of_head}
 use Rattle.p8_blocks.proofs.lines.read_head.Goals as goal
 

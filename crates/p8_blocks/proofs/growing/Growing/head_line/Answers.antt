@@ -2,7 +2,7 @@ use Rattle.std.proofs.Common.{◌∙◌, sym, subst}
 use Rattle.p8_expr.specs.Parsing.{IfRefused}
 use Rattle.p8_lines.specs.Tokens.{tokens_from}
 use Rattle.p8_lines.specs.Lines.{refused, Reads}
-use Rattle.p8_blocks.specs.Files.{Fails, head_state}
+use Rattle.p8_blocks.specs.Reading.{Fails, head_state}
 use Rattle.p8_blocks.specs.Standing.{Starts, word_of_head}
 use Rattle.p8_blocks.proofs.Entering.{refused_weaker, told}
 use Rattle.p8_blocks.proofs.Stepping.{head_continues, head_refused}

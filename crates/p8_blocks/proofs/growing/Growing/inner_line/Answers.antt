@@ -4,7 +4,7 @@ use Rattle.p8_expr.specs.Parsing.{IfRefused}
 use Rattle.p8_lines.specs.declared.state.State.TheVariants as state
 use Rattle.p8_lines.specs.Tokens.{tokens_from}
 use Rattle.p8_lines.specs.Lines.{refused, Reads}
-use Rattle.p8_blocks.specs.Files.{at, AreBlocks, no_blocks, Fails}
+use Rattle.p8_blocks.specs.Reading.{at, AreBlocks, no_blocks, Fails}
 use Rattle.p8_blocks.specs.Standing.{Continues}
 use Rattle.p8_blocks.proofs.Entering.{refused_weaker, told}
 use Rattle.p8_blocks.proofs.Stepping.{inner, continues, first_grown, moved_fails, declaration_refused}

@@ -4,7 +4,7 @@ use Rattle.std.proofs.lemmas.Result.{IfOk-weaker}
 use Rattle.p8_tree.specs.Views.{constant_of, declared_of, child_of, line_of, method_of}
 use Rattle.p8_expr.specs.Parsing.{IfRefused}
 use Rattle.p8_lines.specs.Tokens.{tokens_from}
-use Rattle.p8_blocks.specs.Files.{at, constants, variables, objects, assembly, method, Fails}
+use Rattle.p8_blocks.specs.Reading.{at, constants, variables, objects, assembly, method, Fails}
 use Rattle.p8_blocks.specs.Standing.{Grown, IsOpen}
 use Rattle.p8_blocks.proofs.Stepping.{same_grown, grown_all, refused_all}
 use Rattle.p8_blocks.proofs.growing.Open.extended.Goals as goal

@@ -1,6 +1,6 @@
 use Rattle.std.proofs.Common.{sym, subst}
 use Rattle.p8_tree.specs.Views.{method_of, statements_of, block_of}
-use Rattle.p8_blocks.specs.Files.{IsBlock, con_block, var_block, obj_block, dat_block}
+use Rattle.p8_blocks.specs.Reading.{IsBlock, con_block, var_block, obj_block, dat_block}
 use Rattle.p8_blocks.specs.Standing.{IsOpen}
 use Rattle.p8_tree.specs.declared.sources.Block.TheVariants as block_case
 use Rattle.p8_blocks.proofs.Finishing.{method_done}

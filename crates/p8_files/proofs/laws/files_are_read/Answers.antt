@@ -1,5 +1,0 @@
-use Rattle.p8_files.proofs.Agreeing.{files_are_read}
-use Rattle.p8_files.proofs.laws.files_are_read.Goals as goal
-
-pub returns : goal.returns
-returns c = files_are_read c.lines_have_kinds.ensures
