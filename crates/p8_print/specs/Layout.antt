@@ -10,10 +10,10 @@ use Rattle.p8_tree.specs.Sources as sources
 use Rattle.p8_tree.specs.Sources.{BlockTree, Source, MethodTree}
 use Rattle.p8_lexer.specs.declared.word.Word.TheVariants as word
 use Rattle.p8_columns.specs.Lines.{Kind, Plain, If, ElseIf, Else, Repeat, End, Case, Item, Other}
-use Rattle.p8_spelling.specs.Spelled.{Spelled, reserved, SpelledLine}
-use Rattle.p8_statement_words.specs.Words.{words_of_kind}
-use Rattle.p8_declaration_words.specs.Words.{words_of_constant, words_of_variable, words_of_child, words_of_head}
-use Rattle.p8_data_words.specs.Words.{words_of_line}
+use Rattle.p8_print.specs.Spelled.{Spelled, reserved, SpelledLine}
+use Rattle.p8_print.specs.StatementWords.{words_of_kind}
+use Rattle.p8_print.specs.DeclarationWords.{words_of_constant, words_of_variable, words_of_child, words_of_head}
+use Rattle.p8_print.specs.DataWords.{words_of_line}
 
 -- a line of a method, with the blanks before it
 pub record Indented : Type 0 where

@@ -1,15 +1,19 @@
 //! The text of a source's tree.
 //!
-//! What [`print_tree`] writes is said by the lines of a tree, each of them words behind some blanks. A law says that the
-//! tree of a file is read from this text, but for places.
+//! What [`print_tree`] writes is said by the lines of a tree, each of them words behind some blanks: words of expressions,
+//! of declarations, of lines of methods and of lines of `DAT`. That the tree of a file is read from this text, but for
+//! places, is a law of the crate `p8_printed`.
 #![tactic(auto)]
 
-mod laws;
+mod assembly;
+mod declarations;
+mod expressions;
+mod instructions;
+mod lines;
 mod printing;
+mod script;
 mod statements;
-#[cfg(test)]
-mod tests;
+mod tables;
 mod words;
 
-pub use laws::printed_reads_back;
 pub use printing::print_tree;

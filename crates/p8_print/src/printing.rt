@@ -3,26 +3,26 @@
 ghost use Rattle.std.specs.Prelude.{◌≡◌, ◌++◌, ◌∷◌, [], if◌then◌else◌, IfOk, OnOk, map};
 ghost use Rattle.p8_lexer.specs.declared.word.Word.TheVariants as word_case;
 ghost use Rattle.p8_tree.specs.Views.{constant_of, declared_of, child_of, method_of, line_of, block_of, source_of};
-ghost use Rattle.p8_spelling.specs.Spelled.{reserved, text_of_line, text_of_lines};
-ghost use Rattle.p8_declaration_words.specs.Words.{words_of_constant, words_of_variable, words_of_child, words_of_head};
-ghost use Rattle.p8_data_words.specs.Words.{words_of_line};
+ghost use Rattle.p8_print.specs.Spelled.{reserved, text_of_line, text_of_lines};
+ghost use Rattle.p8_print.specs.DeclarationWords.{words_of_constant, words_of_variable, words_of_child, words_of_head};
+ghost use Rattle.p8_print.specs.DataWords.{words_of_line};
 ghost use Rattle.p8_print.specs.Layout.{line, lines_of_method, lines_of_block, lines_of};
 
+use crate::assembly::write_line;
+use crate::declarations::{write_constant, write_head, write_object, write_variable};
+use crate::lines::write_word_line;
+use crate::script::Script;
 use crate::statements::write_statements;
-use crate::words::write_word_line;
-use p8_data_words::write_line;
-use p8_declaration_words::{write_constant, write_head, write_object, write_variable};
+use crate::words::write_word;
 use p8_lexer::Word;
-use p8_spelling::Script;
 use p8_tree::{Block, ConItem, DatLine, Method, ObjItem, SourceFile, VarItem};
-use p8_wording::write_word;
 use p8_words::NoMemory;
 use std::alloc::Global;
 
 /// The text of a tree: each block's word on a line of its own, two blanks before each item, and two more before the
 /// statements of each block in another.
 ///
-/// That the tree is read from this text is said by [`printed_reads_back`](crate::printed_reads_back).
+/// That the tree is read from this text is said by a law of its own, `printed_reads_back` in `p8_printed`.
 pub fn print_tree(alloc: Global, file: &SourceFile) -> Result<Vec<u8>, NoMemory>
     ensures { IfOk result (λ text. text.items ≡ text_of_lines (lines_of (source_of file.now))) }
 {

@@ -6,12 +6,12 @@ ghost use Rattle.p8_tree.specs.Statements.{otherwise};
 ghost use Rattle.p8_print.specs.Layout.{lines_of_statements, lines_of_statement, lines_of_arms, lines_of_else, lines_of_items, lines_of_other};
 ghost use Rattle.p8_print.specs.Writing.{text_of, lines_of_arm, lines_of_item};
 
-use crate::words::{
+use crate::lines::{
     arm_word, write_arm_line, write_end, write_expr_line, write_headed_line, write_item_line,
     write_other_line, write_repeat_line, write_value_line, write_word_line,
 };
+use crate::script::Script;
 use p8_lexer::Word;
-use p8_spelling::Script;
 use p8_tree::{Arm, Stmt, StmtKind};
 use p8_words::NoMemory;
 use std::alloc::Global;

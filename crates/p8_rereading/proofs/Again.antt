@@ -21,10 +21,10 @@ use Rattle.p8_lines.specs.Lines.{Follows, is_name, behind, greatest_height, Lead
 use Rattle.p8_lines.proofs.Settings.{keeps_setting, keeps_setting_behind}
 use Rattle.p8_lines.proofs.Lexemes.{line_end_lexeme, from_lexeme}
 use Rattle.p8_lines.proofs.Begun.{not_nothing}
-use Rattle.p8_spelling.specs.Spelled.{Spelled}
-use Rattle.p8_wording.specs.Wording.{words_of, wrapped}
-use Rattle.p8_wording.proofs.Back.{IsPrinted}
-use Rattle.p8_wording.proofs.Printed.{printed, wrapped_printed, wrapped_back, bare_back}
+use Rattle.p8_print.specs.Spelled.{Spelled}
+use Rattle.p8_print.specs.Wording.{words_of, wrapped}
+use Rattle.p8_rereading.proofs.TableWords.{IsPrinted}
+use Rattle.p8_rereading.proofs.Printed.{printed, wrapped_printed, wrapped_back, bare_back}
 use Rattle.p8_rereading.specs.Written.{Written, nothing, line_end, a_word, a_name, a_text, enclosed, as_it_is, begins_from, ends_line, piece_anywhere, IsSameRow}
 use Rattle.p8_rereading.specs.Rereading.{AreOfSource, with_line_end}
 use Rattle.p8_rereading.proofs.Following.{IsLike, still_follows, follows_again}

@@ -1,3 +1,14 @@
+pub mod SpelledWords
+pub mod WordCuts
+pub mod Runs
+pub mod SpelledLines
+pub mod TableWords
+pub mod Alike
+pub mod WordTokens
+pub mod OperandWords
+pub mod Heights
+pub mod Printed
+pub mod ReadWords
 pub mod Following
 pub mod Taken
 pub mod Tokens

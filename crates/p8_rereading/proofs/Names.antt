@@ -10,11 +10,12 @@ use Rattle.p8_grammar.proofs.Live.{one_tree}
 use Rattle.p8_expr.specs.Words.{lexeme_of_word}
 use Rattle.p8_lines.specs.Tokens.{LineToken, lexeme, terms}
 use Rattle.p8_lines.specs.Lines.{is_name_word, is_name}
-use Rattle.p8_spelling.specs.Spelled as spelled
-use Rattle.p8_spelling.specs.Spelled.{Spelled}
-use Rattle.p8_wording.specs.Wording.{words_of}
-use Rattle.p8_wording.specs.Lexemes.{lexeme_of_spelled, IsLexeme}
-use Rattle.p8_wording.proofs.Rows.{plain_words}
+use Rattle.p8_print.specs.Spelled as spelled
+use Rattle.p8_print.specs.Spelled.{Spelled}
+use Rattle.p8_print.specs.Wording.{words_of}
+use Rattle.p8_expr.specs.Sources.{IsLexeme}
+use Rattle.p8_rereading.specs.Lexemes.{lexeme_of_spelled}
+use Rattle.p8_rereading.proofs.OperandWords.{plain_words}
 use Rattle.p8_rereading.specs.Rereading.{AreOfSource}
 use Rattle.p8_rereading.proofs.Tokens.{AreRead, first_source}
 

@@ -15,11 +15,12 @@ use Rattle.p8_pieces.specs.Pieces as pieces
 use Rattle.p8_pieces.specs.Pieces.{Piece}
 use Rattle.p8_lines.specs.Tokens.{LineToken, word, lexeme, piece_from, piece}
 use Rattle.p8_lines.proofs.Lexemes.{is_plain, plain_lexeme}
-use Rattle.p8_spelling.specs.Spelled as spelled
-use Rattle.p8_spelling.specs.Spelled.{Spelled, IsReadable, is_free}
-use Rattle.p8_spelling.specs.Reading.{word_read}
-use Rattle.p8_wording.specs.Wording.{words_of, wrapped}
-use Rattle.p8_wording.specs.Lexemes.{lexeme_of_spelled, IsInCapitals, IsLexeme}
+use Rattle.p8_print.specs.Spelled as spelled
+use Rattle.p8_print.specs.Spelled.{Spelled, IsReadable, is_free}
+use Rattle.p8_rereading.specs.Reading.{word_read}
+use Rattle.p8_print.specs.Wording.{words_of, wrapped}
+use Rattle.p8_expr.specs.Sources.{IsLexeme}
+use Rattle.p8_rereading.specs.Lexemes.{lexeme_of_spelled, IsInCapitals}
 use Rattle.p8_rereading.specs.Written.{Written, nothing, line_end, a_word, a_name, a_text, enclosed, as_it_is, begins_from, ends_line}
 
 -- what is written of a row, by its first piece

@@ -5,12 +5,14 @@ use Rattle.std.proofs.lemmas.List.Elements.{All-head, All-tail}
 use Rattle.p8_grammar.specs.Lexemes.{Token}
 use Rattle.p8_lines.specs.Tokens.{LineToken, word, lexeme, term, terms}
 use Rattle.p8_lines.proofs.Ways.{terms_append}
-use Rattle.p8_spelling.specs.Spelled.{Spelled}
-use Rattle.p8_spelling.specs.Reading.{word_read}
-use Rattle.p8_wording.specs.Lexemes.{lexeme_of_spelled, lexeme_in, AreWords, IsLexeme}
-use Rattle.p8_wording.proofs.Back.{IsPrinted}
-use Rattle.p8_wording.proofs.Read.{lexeme_is}
-use Rattle.p8_wording.proofs.Tokens.{all_left, all_right}
+use Rattle.p8_print.specs.Spelled.{Spelled}
+use Rattle.p8_rereading.specs.Reading.{word_read}
+use Rattle.p8_grammar.specs.Proper.{lexeme_in}
+use Rattle.p8_expr.specs.Sources.{IsLexeme}
+use Rattle.p8_rereading.specs.Lexemes.{lexeme_of_spelled, AreWords}
+use Rattle.p8_rereading.proofs.TableWords.{IsPrinted}
+use Rattle.p8_rereading.proofs.ReadWords.{lexeme_is}
+use Rattle.p8_rereading.proofs.WordTokens.{all_left, all_right}
 use Rattle.p8_rereading.specs.Rereading.{AreSpelled, AreOfSource}
 
 -- a token is to a line what this word is

@@ -6,9 +6,10 @@ use Rattle.p8_lines.specs.declared.state.State.{State}
 use Rattle.p8_lines.specs.declared.state.State.TheVariants as state
 use Rattle.p8_lines.specs.Tokens.{LineToken, word, terms}
 use Rattle.p8_lines.specs.Lines.{Leads}
-use Rattle.p8_spelling.specs.Spelled.{Spelled, IsReadable, spell}
-use Rattle.p8_spelling.specs.Reading.{IsKind, word_read}
-use Rattle.p8_wording.specs.Lexemes.{IsInCapitals, AreLexemes}
+use Rattle.p8_print.specs.Spelled.{Spelled, IsReadable, spell}
+use Rattle.p8_rereading.specs.Reading.{IsKind, word_read}
+use Rattle.p8_expr.specs.Sources.{AreLexemes}
+use Rattle.p8_rereading.specs.Lexemes.{IsInCapitals}
 use Rattle.p8_rereading.specs.Written.{ends_line}
 
 -- a token is this word

@@ -6,9 +6,9 @@ use Rattle.p8_tree.specs.Forgetting.{anywhere, tree_anywhere}
 use Rattle.p8_lexer.specs.declared.word.Word.{Word}
 use Rattle.p8_lexer.specs.declared.word.Word.TheVariants as word_case
 use Rattle.p8_pieces.specs.Pieces.{Piece, word, name, text, tree}
-use Rattle.p8_spelling.specs.Spelled as spelled
-use Rattle.p8_spelling.specs.Spelled.{Spelled, is_free}
-use Rattle.p8_wording.specs.Wording.{words_of, wrapped}
+use Rattle.p8_print.specs.Spelled as spelled
+use Rattle.p8_print.specs.Spelled.{Spelled, is_free}
+use Rattle.p8_print.specs.Wording.{words_of, wrapped}
 
 -- whether FROM stands next, behind the name of a loop's counter
 abbrev pub begins_from : List Piece → Bool

@@ -1,4 +1,4 @@
-use Rattle.p8_print.proofs.Written.{block_written}
+use Rattle.p8_print.proofs.WrittenItems.{block_written}
 use Rattle.p8_print.proofs.printing.write_blocks.Goals as goal
 
 pub loop-block-preserved : goal.loop-block-preserved

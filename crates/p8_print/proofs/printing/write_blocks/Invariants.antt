@@ -1,6 +1,6 @@
 use Rattle.std.proofs.Common.{◌≡◌, ◌++◌, map, take}
 use Rattle.p8_tree.specs.Views.{block_of}
-use Rattle.p8_spelling.specs.Spelled.{text_of_lines}
+use Rattle.p8_print.specs.Spelled.{text_of_lines}
 use Rattle.p8_print.specs.Layout.{lines_of}
 use Rattle.p8_print.proofs.printing.write_blocks.Given as goal
 

@@ -1,7 +1,7 @@
 use Rattle.std.proofs.Common.{◌≡◌, ◌++◌, map, take}
 use Rattle.p8_tree.specs.Views.{constant_of}
-use Rattle.p8_spelling.specs.Spelled.{text_of_lines}
-use Rattle.p8_declaration_words.specs.Words.{words_of_constant}
+use Rattle.p8_print.specs.Spelled.{text_of_lines}
+use Rattle.p8_print.specs.DeclarationWords.{words_of_constant}
 use Rattle.p8_print.specs.Layout as layout
 use Rattle.p8_print.proofs.printing.write_constants.Given as goal
 

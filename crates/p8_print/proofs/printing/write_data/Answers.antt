@@ -1,6 +1,6 @@
 use Rattle.p8_tree.specs.Views.{line_of}
-use Rattle.p8_data_words.specs.Words.{words_of_line}
-use Rattle.p8_print.proofs.Written.{line_written}
+use Rattle.p8_print.specs.DataWords.{words_of_line}
+use Rattle.p8_print.proofs.WrittenItems.{line_written}
 use Rattle.p8_print.proofs.printing.write_data.Goals as goal
 
 pub loop-line-preserved : goal.loop-line-preserved

@@ -1,7 +1,7 @@
 use Rattle.std.proofs.Common.{◌≡◌, ◌++◌, map, take}
 use Rattle.p8_tree.specs.Views.{line_of}
-use Rattle.p8_spelling.specs.Spelled.{text_of_lines}
-use Rattle.p8_data_words.specs.Words.{words_of_line}
+use Rattle.p8_print.specs.Spelled.{text_of_lines}
+use Rattle.p8_print.specs.DataWords.{words_of_line}
 use Rattle.p8_print.specs.Layout as layout
 use Rattle.p8_print.proofs.printing.write_data.Given as goal
 

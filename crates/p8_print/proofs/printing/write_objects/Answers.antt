@@ -1,6 +1,6 @@
 use Rattle.p8_tree.specs.Views.{child_of}
-use Rattle.p8_declaration_words.specs.Words.{words_of_child}
-use Rattle.p8_print.proofs.Written.{line_written}
+use Rattle.p8_print.specs.DeclarationWords.{words_of_child}
+use Rattle.p8_print.proofs.WrittenItems.{line_written}
 use Rattle.p8_print.proofs.printing.write_objects.Goals as goal
 
 pub loop-item-preserved : goal.loop-item-preserved

@@ -1,7 +1,7 @@
 use Rattle.std.proofs.Common.{refl}
 use Rattle.std.proofs.lemmas.Result.{on_ok_weaker}
 use Rattle.p8_print.specs.Layout.{lines_of_else, lines_of_other}
-use Rattle.p8_print.proofs.WrittenLines.{no_rest, some_rest, arm_written, item_written, statement_written, one_arm_written, one_item_written, if_written, case_written, repeat_written}
+use Rattle.p8_print.proofs.WrittenStatements.{no_rest, some_rest, arm_written, item_written, statement_written, one_arm_written, one_item_written, if_written, case_written, repeat_written}
 use Rattle.p8_print.proofs.statements.+lines.Goals as goal
 
 pub write_arm-returns : goal.write_arm-returns

@@ -1,4 +1,0 @@
--- What public contracts cite.
-pub mod Words
--- internal: what the code asks.
-pub mod Writing

@@ -1,7 +1,0 @@
-use Rattle.std.proofs.Common.{◌≡◌, ◌++◌, take}
-use Rattle.p8_spelling.specs.Spelled.{text_of_words}
-use Rattle.p8_declaration_words.specs.Words.{more_names}
-use Rattle.p8_declaration_words.proofs.writing.write_more_names.Given as goal
-
-abbrev pub invariant-loop-name : goal.invariant-loop-name
-invariant-loop-name l = l.script ≡ l.initial.script ++ text_of_words (more_names (take l.name-index l.names))

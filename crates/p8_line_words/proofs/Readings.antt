@@ -1,0 +1,25 @@
+-- What a source can have: names, sizes, and expressions that were read.
+use Rattle.std.proofs.Common.{ℕ, ◌≤◌, List}
+use Rattle.p8_tree.specs.Expressions.{Tree}
+use Rattle.p8_grammar.specs.Lexemes as lexemes
+use Rattle.p8_grammar.specs.Lexemes.{Setting, Token}
+use Rattle.p8_grammar.specs.Grammar.{IsExpression}
+use Rattle.p8_grammar.specs.Heights.{height}
+use Rattle.p8_expr.specs.Sources.{IsLexeme, AreLexemes}
+
+-- an expression that was read from tokens of a source
+pub record IsRead (s : Setting) (e : Tree) : Type 0 where
+  pub tokens : List Token
+  pub is : IsExpression s e tokens
+  pub good : AreLexemes tokens
+  pub low : height e ≤ 64
+
+-- a name that isn't reserved, in capitals
+abbrev pub IsName : List ℕ → Type 0
+IsName n = IsLexeme (lexemes.name n)
+
+-- BYTE, WORD and LONG
+pub data IsSize : ℕ → Type 0 where
+  byte_size : IsSize 1
+  word_size : IsSize 2
+  long_size : IsSize 4

@@ -1,0 +1,15 @@
+-- Lines of methods without their places.
+use Rattle.p8_tree.specs.Forgetting.{tree_anywhere, items_anywhere, course_anywhere, action_anywhere}
+use Rattle.p8_columns.specs.Lines.{Kind, Plain, If, ElseIf, Else, Repeat, End, Case, Item as ItemLine, Other}
+
+-- a line of a method without its places
+abbrev pub kind_anywhere : Kind → Kind
+kind_anywhere (Plain a) = Plain (action_anywhere a)
+kind_anywhere (If negated test) = If negated (tree_anywhere test)
+kind_anywhere (ElseIf negated test) = ElseIf negated (tree_anywhere test)
+kind_anywhere Else = Else
+kind_anywhere (Repeat course) = Repeat (course_anywhere course)
+kind_anywhere (End until test) = End until (tree_anywhere test)
+kind_anywhere (Case value) = Case (tree_anywhere value)
+kind_anywhere (ItemLine tests) = ItemLine (items_anywhere tests)
+kind_anywhere Other = Other

@@ -1,0 +1,13 @@
+mod Elements
+mod Found
+mod Forgotten
+mod Rebuilt
+mod Below
+mod Keeping
+mod Values
+mod ItemEnds
+mod Spelt
+mod Lines
+mod Printable
+mod Reread
+mod Files

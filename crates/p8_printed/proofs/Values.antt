@@ -1,0 +1,155 @@
+-- What rows of pieces have as values: lines that can be printed, and heads of methods with the word before them.
+use Rattle.std.proofs.Common.{◌≡◌, ℕ, List, [], ◌∷◌, Option, Some, None, Bool, true, false, IsTrue, refl, subst}
+use Rattle.std.specs.Prelude.{if◌then◌else◌, option_map, option_and_then}
+use Rattle.p8_tree.specs.declared.places.Place.{Place}
+use Rattle.p8_tree.specs.Expressions.{Tree}
+use Rattle.p8_tree.specs.Statements.{Course, Forever, Count, Before, From, Do, Next, Quit, Return, Abort}
+use Rattle.p8_tree.specs.Sources.{MethodTree}
+use Rattle.p8_columns.specs.Lines.{Kind, Plain, If, ElseIf, Else, Repeat, End, Case, Item, Other}
+use Rattle.p8_pieces.specs.Pieces.{Piece, word, name, tree}
+use Rattle.p8_declarations.specs.Parts as parts
+use Rattle.p8_declarations.specs.Parts.{Part}
+use Rattle.p8_declarations.specs.Variables.{variables}
+use Rattle.p8_declarations.specs.Methods.{bare, with_parameter, with_result, with_locals, behind_result, result_named, behind_parameters, parameters, behind_parameter, behind_name, head, method_of_row}
+use Rattle.p8_statements.specs.declared.role.Role.{Role}
+use Rattle.p8_statements.specs.declared.role.Role.TheVariants as role
+use Rattle.p8_statements.specs.Roles.{role_of, is_to, is_step, is_from, begins_action}
+use Rattle.p8_statements.specs.Rows.{Reading, ◌▶◌, word_in, phrase, is_empty, is_end, ended, ends, ending, value_in}
+use Rattle.p8_statements.specs.Actions.{action, named_action}
+use Rattle.p8_statements.specs.Statements.{maybe_value, counted, counting, counter, course_by, course_before, course, is_last_colon, tests_after, line, doing, is_item, statement, kind_of_row}
+use Rattle.p8_printed.proofs.Rebuilt.{is_headed, is_line}
+
+-- what is there has this property
+abbrev pub Where : {X : Type 0} → (X → Type 0) → Option X → Type 0
+Where P None = Unit {0}
+Where P (Some x) = P x
+
+pub where_is : {X : Type 0} (P : X → Type 0) (o : Option X) (x : X) → Where P o → o ≡ Some x → P x
+where_is P o x h e = subst (Where P) e h
+
+-- combinators
+
+pub where_if : {X : Type 0} (P : X → Type 0) (b : Bool) (o o' : Option X) → Where P o → Where P o' → Where P (if b then o else o')
+where_if P true o o' h k = h
+where_if P false o o' h k = k
+
+pub where_map : {X Y : Type 0} (P : Y → Type 0) (f : X → Y) → ((x : X) → P (f x)) → (o : Option X) → Where P (option_map f o)
+where_map P f h None = tt
+where_map P f h (Some x) = h x
+
+where_and : {X Y : Type 0} (P : Y → Type 0) (f : X → Option Y) → ((x : X) → Where P (f x)) → (o : Option X) → Where P (option_and_then f o)
+where_and P f h None = tt
+where_and P f h (Some x) = h x
+
+pub where_after : {X Y : Type 0} (P : Y → Type 0) (f : X → List Piece → Option Y) → ((x : X) (row : List Piece) → Where P (f x row)) → (o : Reading X) → Where P (o ▶ f)
+where_after P f h None = tt
+where_after P f h (Some (x, row)) = h x row
+
+where_ended : {X : Type 0} (P : X → Type 0) (x : X) (r : Role) (row : List Piece) → P x → Where P (ended x r row)
+where_ended P x r row h = where_if P (is_end r row) (Some x) None h tt
+
+pub where_ending : {X : Type 0} (P : X → Type 0) (x : X) (row : List Piece) → P x → Where P (ending x row)
+where_ending P x row h = where_if P (ends row) (Some x) None h tt
+
+-- what stands behind REPEAT
+
+abbrev Heads : Course → Type 0
+Heads c = IsTrue (is_headed c)
+
+heads_counting : (n : List ℕ) (p : Place) (row : List Piece) → Where Heads (counting n p row)
+heads_counting n p row = where_after Heads _ (λ a row. where_if Heads (is_to a.1) _ None (where_after Heads _ (λ b row. last a.0 b.0 b.1 row) (phrase row)) tt) (phrase row)
+  where
+    last : (a b : Tree) (r : Role) (row : List Piece) → Where Heads (counted n p a b r row)
+    last a b r row = where_if Heads (is_step r) _ _ (where_map Heads (λ c. From n a b (Some c) p) (λ c. refl) (value_in row)) (where_ended Heads (From n a b None p) r row refl)
+
+heads_by : (e : Tree) (r : Role) (row : List Piece) → Where Heads (course_by e r row)
+heads_by e r row = where_if Heads (is_from r) _ _ (where_and Heads (λ c. counting c.0 c.1 row) (λ c. heads_counting c.0 c.1 row) (counter e)) (where_ended Heads (Count e) r row refl)
+
+heads_before : (r : Role) (row : List Piece) → Where Heads (course_before r row)
+heads_before (role.End until) row = where_map Heads (Before until) (λ e. refl) (value_in row)
+heads_before role.LineEnd row = where_if Heads (is_empty row) (Some Forever) None refl tt
+heads_before r row = tt
+
+heads : (row : List Piece) → Where Heads (course row)
+heads (word w p ∷ row) = heads_before (role_of w) row
+heads (tree e p ∷ row) = where_after Heads _ (λ s row. heads_by e s.role row) (word_in row)
+heads row = tt
+
+-- lines
+
+abbrev IsLineKind : Kind → Type 0
+IsLineKind k = IsTrue (is_line k)
+
+repeats : (o : Option Course) → Where Heads o → Where IsLineKind (option_map Repeat o)
+repeats None h = tt
+repeats (Some c) h = h
+
+lines : (r : Role) (row : List Piece) → Where IsLineKind (line r row)
+lines (role.If negated) row = where_map IsLineKind (If negated) (λ e. refl) (value_in row)
+lines (role.ElseIf negated) row = where_map IsLineKind (ElseIf negated) (λ e. refl) (value_in row)
+lines role.Else row = where_ending IsLineKind Else row refl
+lines role.Case row = where_map IsLineKind Case (λ e. refl) (value_in row)
+lines role.Other row = where_after IsLineKind _ (λ s row. where_if IsLineKind (is_last_colon s.role row) (Some Other) None refl tt) (word_in row)
+lines role.Repeat row = repeats (course row) (heads row)
+lines (role.End until) row = where_map IsLineKind (End until) (λ e. refl) (value_in row)
+lines role.Next row = where_ending IsLineKind (Plain Next) row refl
+lines role.Quit row = where_ending IsLineKind (Plain Quit) row refl
+lines role.Return row = where_map IsLineKind (λ e. Plain (Return e)) (λ e. refl) (maybe_value row)
+lines role.Abort row = where_map IsLineKind (λ e. Plain (Abort e)) (λ e. refl) (maybe_value row)
+lines r row = tt
+
+does : (o : Option Tree) → Where IsLineKind (doing o)
+does o = where_map IsLineKind (λ e. Plain (Do e)) (λ e. refl) o
+
+statements : (row : List Piece) → Where IsLineKind (statement row)
+statements (word w p ∷ row) = where_if IsLineKind (begins_action (role_of w)) _ _ (does (action (role_of w) p row)) (lines (role_of w) row)
+statements (name n p ∷ row) = where_after IsLineKind _ (λ s row. does (named_action n p s row)) (word_in row)
+statements row = tt
+
+pub row_is_line : (row : List Piece) (k : Kind) → kind_of_row row ≡ Some k → IsTrue (is_line k)
+row_is_line row k e = where_is IsLineKind (kind_of_row row) k (where_if IsLineKind (is_item row) _ _ (where_map IsLineKind Item (λ ts. refl) (tests_after _ None row)) (statements row)) e
+
+-- heads of methods
+
+module _ (b : Bool) where
+  abbrev HasWord : MethodTree → Type 0
+  HasWord m = m.public ≡ b
+
+  behind : (m : MethodTree) (rest : List Part) → HasWord m → Where HasWord (behind_result m rest)
+  behind m (parts.bar ∷ rest) h = where_map HasWord (with_locals m) (λ xs. h) (variables 4 rest)
+  behind m (parts.line_end ∷ []) h = h
+  behind m rest h = tt
+
+  result : (m : MethodTree) (rest : List Part) → HasWord m → Where HasWord (result_named m rest)
+  result m (parts.name n p ∷ rest) h = behind (with_result m n p) rest h
+  result m rest h = tt
+
+  results : (m : MethodTree) (rest : List Part) → HasWord m → Where HasWord (behind_parameters m rest)
+  results m (parts.colon ∷ rest) h = result m rest h
+  results m (parts.bar ∷ rest) h = behind m (parts.bar ∷ rest) h
+  results m (parts.line_end ∷ rest) h = behind m (parts.line_end ∷ rest) h
+  results m rest h = tt
+
+  mutual
+    more : (m : MethodTree) (rest : List Part) → HasWord m → Where HasWord (parameters m rest)
+    more m (parts.name n p ∷ rest) h = further (with_parameter m n p) rest h
+    more m rest h = tt
+
+    further : (m : MethodTree) (rest : List Part) → HasWord m → Where HasWord (behind_parameter m rest)
+    further m (parts.comma ∷ rest) h = more m rest h
+    further m (parts.right_parenthesis ∷ rest) h = results m rest h
+    further m rest h = tt
+
+  named : (m : MethodTree) (rest : List Part) → HasWord m → Where HasWord (behind_name m rest)
+  named m (parts.left_parenthesis ∷ rest) h = more m rest h
+  named m (parts.colon ∷ rest) h = results m (parts.colon ∷ rest) h
+  named m (parts.bar ∷ rest) h = results m (parts.bar ∷ rest) h
+  named m (parts.line_end ∷ rest) h = results m (parts.line_end ∷ rest) h
+  named m rest h = tt
+
+  headed : (rest : List Part) → Where HasWord (head b rest)
+  headed (parts.name n p ∷ rest) = named (bare b n p) rest refl
+  headed rest = tt
+
+pub word_is : (b : Bool) (row : List Piece) (m : MethodTree) → method_of_row b row ≡ Some m → m.public ≡ b
+word_is b row m e = where_is (λ m. m.public ≡ b) (method_of_row b row) m (headed b (parts.parts row)) e

@@ -1,4 +1,0 @@
-pub mod Words
-pub mod WordCuts
-pub mod Runs
-pub mod Lines

@@ -1,3 +1,0 @@
--- What public contracts cite.
-pub mod Spelled
-pub mod Reading

@@ -1,9 +1,0 @@
-mod Forgetting
-mod ForgettingActions
-mod ForgettingLines
-mod Names
-mod RoleWords
-mod WrittenRows
-mod WrittenVariables
-mod WrittenActions
-mod WrittenLines

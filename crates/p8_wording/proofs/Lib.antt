@@ -1,9 +1,0 @@
-pub mod Back
-pub mod Alike
-pub mod Tokens
-pub mod Rows
-pub mod Heights
-pub mod Printed
-pub mod Read
-pub mod Sources
-pub mod Written

@@ -1,5 +1,0 @@
-use Rattle.p8_wording.proofs.Read.{lexeme_kept}
-use Rattle.p8_wording.proofs.laws.word_is_lexeme.Goals as goal
-
-pub returns : goal.returns
-returns c = λ bytes line column w t readable capitals is. lexeme_kept bytes line column w t is readable capitals
