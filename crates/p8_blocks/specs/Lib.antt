@@ -1,6 +1,6 @@
 -- What public contracts cite.
 pub mod Trees
 pub mod Files
--- internal: what the code does, line by line, and what its blocks so far stand for.
 pub mod Reading
+-- internal: what the code's blocks so far stand for.
 pub mod Standing

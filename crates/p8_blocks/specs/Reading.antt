@@ -1,4 +1,4 @@
--- internal: reading a file, line by line.
+-- Reading a file line by line: which tree or which refusal its tokens have. `Files` says without a reader what that means.
 --
 -- Lines are read one after the other. CON, VAR, OBJ, PUB, PRI and DAT in column 1 begin a block, and what stands
 -- before the first of them is a CON. A line of a method is what the open blocks of its column make of it.

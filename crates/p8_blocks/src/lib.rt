@@ -11,6 +11,6 @@ mod parsing;
 mod tests;
 mod words;
 
-pub use laws::{files_are_proper, tokens_are_proper};
+pub use laws::{files_are_proper, one_answer, tokens_are_proper};
 pub use p8_expr::ParseFault;
 pub use parsing::parse;

@@ -46,7 +46,12 @@ fn read_lines(alloc: Global, bytes: &[u8], tokens: &Tokens) -> Result<SourceFile
 /// does, 9 at floating point and 10 at what the machine doesn't carry out; 7 at an `ELSE` kind, `WHILE`
 /// or `UNTIL` with no opener at its column; 8 at an expression higher than 64, and where a line begins
 /// that would open one block more than 64, the method counted; 11 at `NEXT` or `QUIT` outside `REPEAT`.
+///
+/// The first two clauses are exact: tokens have one answer, line by line ([`one_answer`](crate::one_answer)). The others say
+/// without a reader what it means.
 pub fn parse(alloc: Global, bytes: &[u8], tokens: &Tokens) -> Result<SourceFile, Fail<ParseFault>>
+    ensures lines_read { IfOk result (λ file. Parses (all_tokens bytes.now tokens.now) (source (source_of file))) }
+    ensures lines_refused { IfErr result (IfRefused (λ f. Parses (all_tokens bytes.now tokens.now) (fault f.number f.place))) }
     ensures read { IfOk result (λ file. IsFileWithinLimits (source_of file) (all_tokens bytes.now tokens.now)) }
     ensures proper { AreProper (terms (all_tokens bytes.now tokens.now)) → IfOk result (λ file. IsProperFile (source_of file)) }
     ensures one_tree { IfOk result (λ file. (s : Source) → IsFileWithinLimits s (all_tokens bytes.now tokens.now) → s ≡ source_of file) }

@@ -45,7 +45,7 @@ fn is_body(statement: &Stmt) -> bool {
 fn counts_to_two(course: &Loop) -> bool {
     match course {
         Loop::From(name, first, last, None, _) => {
-            name.as_slice() == b"I" && is_number(first, 0) && is_number(last, 2)
+            name.as_slice() == b"I".as_slice() && is_number(first, 0) && is_number(last, 2)
         }
         _ => false,
     }
@@ -66,7 +66,7 @@ fn is_long(variable: &VarItem, expected: &[u8]) -> bool {
 }
 
 fn is_main(method: &Method) -> bool {
-    let named = method.public && method.name.as_slice() == b"MAIN";
+    let named = method.public && method.name.as_slice() == b"MAIN".as_slice();
     match (method.locals.as_slice(), method.body.as_slice()) {
         ([local], [only]) => named && is_long(local, b"I") && is_loop(only),
         _ => false,
