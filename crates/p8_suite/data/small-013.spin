@@ -1,0 +1,18 @@
+DAT
+t       long 5
+  byte 1, 2
+  long 3
+PRI one(n)
+  return n + 1
+OBJ
+CON
+  K = 23
+  K2 = K + 1
+VAR
+  long a
+  word pad9[100]
+  word far
+PUB main
+  a := K
+  one(a)
+  a := %12

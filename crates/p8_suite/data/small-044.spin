@@ -1,0 +1,22 @@
+{ two
+  lines }
+VAR
+  long a
+  word pad9[100]
+  word far
+OBJ
+  kid : "kid"
+DAT
+t       long 5
+  byte 1, 2
+  long 3
+PUB main
+  a := K
+  one(a)
+  kid.set(1)
+  a +
+CON
+  K = 15
+  K2 = K + 1
+PRI one(n)
+  return n + 1

@@ -1,0 +1,19 @@
+
+DAT
+t       long 5
+  byte 1, 2
+  long 3
+CON
+  K = 9
+  K2 = K + 1
+OBJ
+VAR
+  long a
+  word pad9[100]
+  word far
+PUB main
+  a := K
+  one(a)
+  if
+PRI one(n)
+  return n + 1

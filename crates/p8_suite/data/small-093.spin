@@ -1,0 +1,20 @@
+{ two
+  lines }
+DAT
+t       long 5
+  byte 1, 2
+  long 3
+VAR
+  long a
+  word pad9[100]
+  word far
+CON
+  K = 25
+  mov = 3
+  K2 = K + 1
+PUB main
+  a := K
+  one(a)
+PRI one(n)
+  return n + 1
+OBJ

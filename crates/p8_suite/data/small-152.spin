@@ -1,0 +1,23 @@
+{{ doc }}
+
+OBJ
+PUB main
+  a := K
+  one(a)
+VAR
+  long a
+  word pad9[100]
+  word far
+CON
+  K = 6
+  K2 = K + 1
+PRI one(n)
+  return n + 1
+DAT
+t       long 5
+  byte 1, 2
+  long 3
+PUB q1
+  repeat
+    a++
+   while a

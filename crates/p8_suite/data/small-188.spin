@@ -1,0 +1,19 @@
+' a file
+VAR
+  long a
+  word pad9[100]
+  word far
+OBJ
+CON
+  K = 20
+  K2 = K + 1
+DAT
+t       long 5
+  byte 1, 2
+  long 3
+PUB main
+  a := K
+  one(a)
+  a := chipver
+PRI one(n)
+  return n + 1

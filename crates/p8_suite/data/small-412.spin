@@ -1,0 +1,20 @@
+{{ doc }}
+
+PUB main
+  a := K
+  one(a)
+  a<=2
+VAR
+  long a
+  word pad9[100]
+  word far
+CON
+  K = 41
+  K2 = K + 1
+PRI one(n)
+  return n + 1
+DAT
+t       long 5
+  byte 1, 2
+  long 3
+OBJ

@@ -1,0 +1,2 @@
+PUB main
+  repeat main from 1 to

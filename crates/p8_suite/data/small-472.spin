@@ -1,0 +1,3 @@
+CON q1 = 1,
+ q2 = 2
+PUB main

@@ -1,0 +1,3 @@
+PUB main
+  case 1
+    1: else

@@ -1,0 +1,31 @@
+// The line of a case.
+use crate::runs::Run;
+use crate::sources::Source;
+use anyhow::anyhow;
+
+/// A case: what is run, and what is expected of it.
+#[derive(Clone, Copy)]
+pub enum Case<'a> {
+    /// `source FILE VERDICT`: a source, and what reading it answers.
+    Source(Source<'a>),
+    /// `run IMAGE TRACE CLOCKS TURNS PINS DUMP`: an image as hub memory, and its trace.
+    Run(Run<'a>),
+}
+
+impl<'a> Case<'a> {
+    /// The case of a line.
+    ///
+    /// # Errors
+    ///
+    /// A line that is of no kind, or whose numbers are none or too great.
+    pub fn of_line(line: &'a str) -> anyhow::Result<Case<'a>> {
+        let (kind, rest) = line
+            .split_once(' ')
+            .ok_or_else(|| anyhow!("a case without files"))?;
+        match kind {
+            "source" => Ok(Case::Source(Source::of_words(rest)?)),
+            "run" => Ok(Case::Run(Run::of_words(rest)?)),
+            _ => Err(anyhow!("a case of no kind: {kind}")),
+        }
+    }
+}

@@ -1,0 +1,66 @@
+//! Runs cases that lie in files, and prints how many agree with what is expected of them.
+//!
+//! The file `cases.txt` has a line for each case: its kind, the files that it is made of, and what is expected.
+//! Where cases disagree, each has a line, and the program ends with status 1.
+#![tactic(auto)]
+
+mod cases;
+mod runs;
+mod sources;
+
+use cases::Case;
+use std::alloc::Global;
+use std::fs::{self, Files};
+use std::process::ExitCode;
+
+/// How many cases of a kind there were, and how many of them agreed.
+#[derive(Clone, Copy)]
+struct Tally {
+    agreed: u64,
+    all: u64,
+}
+
+impl Tally {
+    fn count(&mut self, agrees: bool) {
+        self.all = self.all.saturating_add(1);
+        if agrees {
+            self.agreed = self.agreed.saturating_add(1);
+        }
+    }
+}
+
+/// Whether a case agrees with what is expected of it.
+fn agrees<R: Files + Alloc<A = Global>>(rt: &R, case: &Case) -> anyhow::Result<bool> {
+    match case {
+        Case::Source(source) => source.agrees(rt),
+        Case::Run(run) => run.agrees(rt),
+    }
+}
+
+fn suite(rt: &HostRuntime) -> anyhow::Result<bool> {
+    let mut sources = Tally { agreed: 0, all: 0 };
+    let mut runs = Tally { agreed: 0, all: 0 };
+    let lines = fs::read_to_string(rt, "cases.txt")?;
+    for line in lines.lines() {
+        let case = Case::of_line(line)?;
+        let agrees = agrees(rt, &case)?;
+        if !agrees {
+            println!(rt; "differs: {line}")?;
+        }
+        match case {
+            Case::Source(_) => sources.count(agrees),
+            Case::Run(_) => runs.count(agrees),
+        }
+    }
+    println!(rt; "sources: {} of {} agree", sources.agreed, sources.all)?;
+    println!(rt; "runs: {} of {} agree", runs.agreed, runs.all)?;
+    Ok(sources.agreed == sources.all && runs.agreed == runs.all)
+}
+
+fn main(rt: HostRuntime) -> anyhow::Result<ExitCode> {
+    if suite(&rt)? {
+        Ok(ExitCode::from(0))
+    } else {
+        Ok(ExitCode::from(1))
+    }
+}

@@ -1,0 +1,101 @@
+// Images and their traces.
+use anyhow::anyhow;
+use p8_access::Boot;
+use p8_machine::{Ended, Limits, run_alone};
+use p8_pins::PinScript;
+use p8_report::trace;
+use p8_words::Fail;
+use std::alloc::Global;
+use std::fs::{self, Files};
+
+/// How many bytes the hub has.
+const HUB_BYTES: usize = 32_768;
+
+/// The greatest limits of a run.
+const MOST_CLOCKS: u64 = 100_000_000;
+
+const MOST_TURNS: u64 = 1_000_000;
+
+/// A run of an image as hub memory, with the file of its whole trace.
+#[derive(Clone, Copy)]
+pub struct Run<'a> {
+    image: &'a str,
+    trace: &'a str,
+    limits: Limits,
+    /// The file of the pin script, or `-` for none.
+    pins: &'a str,
+    /// Where the dump begins, and how many bytes it has.
+    dump: Option<(u16, u16)>,
+}
+
+/// A dump `ADDRESS:COUNT` in decimal digits, or `-` for none.
+fn dump(word: &str) -> anyhow::Result<Option<(u16, u16)>> {
+    if word == "-" {
+        return Ok(None);
+    }
+    let (address, count) = word
+        .split_once(':')
+        .ok_or_else(|| anyhow!("a dump without a count"))?;
+    Ok(Some((address.parse()?, count.parse()?)))
+}
+
+impl<'a> Run<'a> {
+    /// The run of a case's words.
+    pub fn of_words(words: &'a str) -> anyhow::Result<Run<'a>> {
+        let mut words = words.split(' ');
+        let mut word = || words.next().ok_or_else(|| anyhow!("a run lacks a word"));
+        Ok(Run {
+            image: word()?,
+            trace: word()?,
+            limits: Limits {
+                clocks: word()?.parse()?,
+                turns: word()?.parse()?,
+            },
+            pins: word()?,
+            dump: dump(word()?)?,
+        })
+    }
+
+    /// The pin script of the run.
+    fn script<R: Files + Alloc<A = Global>>(&self, rt: &R) -> anyhow::Result<PinScript> {
+        if self.pins == "-" {
+            return Ok(PinScript::empty(rt.alloc()));
+        }
+        let bytes = fs::read(rt, self.pins)?;
+        match PinScript::read(rt.alloc(), &bytes) {
+            Ok(script) => Ok(script),
+            Err(Fail::Refused(fault)) => Err(anyhow!("a bad line of a script: {}", fault.line)),
+            Err(Fail::NoMemory) => Err(anyhow!("out of memory")),
+        }
+    }
+
+    /// The text of an ended history, with the dump.
+    fn text(&self, alloc: Global, ended: &Ended) -> anyhow::Result<Vec<u8>> {
+        let Some((address, count)) = self.dump else {
+            return Ok(trace(alloc, ended, None)?);
+        };
+        let behind = HUB_BYTES.saturating_sub(usize::from(address));
+        if count == 0 || usize::from(count) > behind {
+            return Err(anyhow!("a dump that isn't in RAM"));
+        }
+        Ok(trace(alloc, ended, Some((address, count)))?)
+    }
+
+    /// Whether the trace of the run is the one of the file.
+    pub fn agrees<R: Files + Alloc<A = Global>>(&self, rt: &R) -> anyhow::Result<bool> {
+        let alloc = rt.alloc();
+        let image = fs::read(rt, self.image)?;
+        if image.len() > HUB_BYTES {
+            return Err(anyhow!("an image that the hub can't hold"));
+        }
+        let limits = self.limits;
+        if limits.clocks > MOST_CLOCKS || limits.turns > MOST_TURNS {
+            return Err(anyhow!("limits that no run may have"));
+        }
+        let boot = Boot::raw(alloc, &image)?;
+        let ended = run_alone(alloc, boot, self.script(rt)?, limits)?;
+        let text = self.text(alloc, &ended)?;
+        let expected = fs::read(rt, self.trace)?;
+        Ok(text == expected)
+    }
+}
