@@ -2,7 +2,6 @@
 use Rattle.std.proofs.Common.{◌≡◌, ℕ, suc, ◌+◌, List, [], ◌∷◌, ◌++◌, map, refl, sym, ap, ◌∙◌, subst, append_assoc, arith}
 use Rattle.p8_lexer.specs.declared.token.Token as lexer_token
 use Rattle.p8_lexer.specs.declared.word.Word.TheVariants as word_case
-use Rattle.p8_expr.specs.Words.{place_of}
 use Rattle.p8_lines.specs.Tokens.{LineToken, word, line_token}
 use Rattle.p8_print.specs.Spelled.{Spelled, SpelledLine, spell}
 use Rattle.p8_rereading.specs.Reading.{column_behind, IsWord, AreWords, AreLines}
@@ -43,7 +42,7 @@ module _ (bytes : List ℕ) (n : ℕ) where
         end = rest.end;
         split = ap (λ l. line_token bytes t ∷ l) rest.split;
         spelled = (word_spelled c w t h.0, rest.spelled);
-        begins = ap (λ p. (place_of p).column) h.0.place;
+        begins = ap (λ p. p.column) h.0.place;
         ends = rest.ends;
       }
 
