@@ -10,10 +10,10 @@ use Rattle.p8_tree.specs.Proper.{IsProperTree}
 use Rattle.p8_lexer.specs.declared.word.Word.{Word}
 use Rattle.p8_lexer.specs.declared.word.Word.TheVariants as word
 use Rattle.p8_grammar.specs.Lexemes as lexemes
-use Rattle.p8_grammar.specs.Lexemes.{Lexeme, is_dat}
+use Rattle.p8_grammar.specs.Lexemes.{Setting, Lexeme, Token, is_dat}
 use Rattle.p8_grammar.specs.Proper as grammar
 use Rattle.p8_grammar.specs.Proper.{IsProperLexeme, lexeme_in}
-use Rattle.p8_grammar.proofs.Proper.{spelled_proper}
+use Rattle.p8_grammar.specs.Grammar.{IsExpression}
 use Rattle.p8_expr.specs.Words.{between_quotes, lexeme_of_word}
 use Rattle.p8_pieces.specs.Pieces as pieces
 use Rattle.p8_pieces.specs.Pieces.{Piece}
@@ -258,7 +258,11 @@ low_enough true false n h l = absurd cc
 low_enough false true n h l = omega (arith, l)
 low_enough false false n h l = l
 
-module _ (own : State → Bool) (dat inner : Bool) (closed : (q : State) → IsTrue (is_closed own q)) (fitting : (q : State) → IsTrue (fits_at own dat inner q)) where
+-- what proper tokens spell is a proper tree: a law of the grammar, which comes from its call
+abbrev pub SpelledAreProper : Type 0
+SpelledAreProper = (s : Setting) (ts : List Token) (e : Tree) → IsExpression s e ts → grammar.AreProper ts → IsProperTree (is_dat s) e
+
+module _ (spelled : SpelledAreProper) (own : State → Bool) (dat inner : Bool) (closed : (q : State) → IsTrue (is_closed own q)) (fitting : (q : State) → IsTrue (fits_at own dat inner q)) where
   own_choices : (q : State) → IsTrue (own q) → (all_good (λ a. own a.to) (choices q).arrows ≡ true) × (all_own own (choices q).phrase ≡ true)
   own_choices q h = halves (all_good (λ a. own a.to) (choices q).arrows) (all_own own (choices q).phrase) (subst (λ b. IsTrue (if b then (if all_good (λ a. own a.to) (choices q).arrows then all_own own (choices q).phrase else false) else true)) h (closed q))
 
@@ -285,7 +289,7 @@ module _ (own : State → Bool) (dat inner : Bool) (closed : (q : State) → IsT
       joined dat (limit inner) (piece t) row (token_proper q r t f (All-head IsToken (term t) (terms ts) a)) (rows y (All-tail IsToken (term t) (terms ts) a) (own_next q r t f o))
   rows (by_phrase {q = q} {r = r} {h = p} {e = e} {row = row} {first = first} {t = t} others {ts = ts} some is low f y) a o =
       let rest = right (first ∷ others) (t ∷ ts) a in (
-        tree_proper q p e some o (spelled_proper p.setting (terms (first ∷ others)) e is (left (first ∷ others) (t ∷ ts) a)) low,
+        tree_proper q p e some o (spelled p.setting (terms (first ∷ others)) e is (left (first ∷ others) (t ∷ ts) a)) low,
         joined dat (limit inner) (piece t) row (token_behind_proper q r p (first ∷ others) t some f (All-head IsToken (term t) (terms ts) rest)) (rows y (All-tail IsToken (term t) (terms ts) rest) (own_behind q r p (first ∷ others) t some f o)),
       )
 
@@ -366,14 +370,14 @@ action_fits : (q : State) → IsTrue (fits_at in_action false true q)
 action_fits state.End = refl
 action_fits q = refl
 
-pub rows_proper : (q : State) (dat : Bool) → is_in_dat q ≡ dat → RowsAreProper q dat
-rows_proper q true e us row l a = rows in_dat true false dat_closed dat_fits l a (own_dat q e)
+pub rows_proper : SpelledAreProper → (q : State) (dat : Bool) → is_in_dat q ≡ dat → RowsAreProper q dat
+rows_proper spelled q true e us row l a = rows spelled in_dat true false dat_closed dat_fits l a (own_dat q e)
   where
     own_dat : (q : State) → is_dat (setting_at q) ≡ true → IsTrue (in_dat q)
     own_dat state.End h = refl
     own_dat state.LineEnd h = refl
     own_dat q h = h
-rows_proper q false e us row l a = rows elsewhere false false others_closed others_fit l a (own_other q e)
+rows_proper spelled q false e us row l a = rows spelled elsewhere false false others_closed others_fit l a (own_other q e)
   where
     own_other : (q : State) → is_dat (setting_at q) ≡ false → IsTrue (elsewhere q)
     own_other state.End h = refl
@@ -414,19 +418,19 @@ first_action q r t row b f e =
         absurd (not_both (begins_action (role_of w)) (subst (λ y. statements.is_action (y ∷ row) ≡ true) (word_piece t w x.0 m) e) x.1)
     go s m (inr h) k = absurd cc
 
-action_row : {q s : State} {us : List LineToken} {row : List Piece} → Leads q us row s → IsTrue (begins_line q) → grammar.AreProper (terms us) → statements.is_action row ≡ true → AreProper false 63 row
-action_row nowhere b a e = absurd cc
-action_row (by_token {q = q} {r = r} {row = row} {t = t} {ts = ts} f y) b a e =
-    joined false 63 (piece t) row (token_proper q r t f (All-head IsToken (term t) (terms ts) a)) (rows in_action false true action_closed action_fits y (All-tail IsToken (term t) (terms ts) a) (first_action q r t row b f e))
-action_row (by_phrase others some is low f y) b a e = absurd cc
+action_row : SpelledAreProper → {q s : State} {us : List LineToken} {row : List Piece} → Leads q us row s → IsTrue (begins_line q) → grammar.AreProper (terms us) → statements.is_action row ≡ true → AreProper false 63 row
+action_row spelled nowhere b a e = absurd cc
+action_row spelled (by_token {q = q} {r = r} {row = row} {t = t} {ts = ts} f y) b a e =
+    joined false 63 (piece t) row (token_proper q r t f (All-head IsToken (term t) (terms ts) a)) (rows spelled in_action false true action_closed action_fits y (All-tail IsToken (term t) (terms ts) a) (first_action q r t row b f e))
+action_row spelled (by_phrase others some is low f y) b a e = absurd cc
 
 begins_elsewhere : (q : State) → IsTrue (if begins_line q then elsewhere q else true)
 begins_elsewhere state.Statement = refl
 begins_elsewhere q = refl
 
-pub method_rows_proper : (q : State) → IsTrue (begins_line q) → MethodRowsAreProper q
-method_rows_proper q b us row l a = go (statements.is_action row) refl
+pub method_rows_proper : SpelledAreProper → (q : State) → IsTrue (begins_line q) → MethodRowsAreProper q
+method_rows_proper spelled q b us row l a = go (statements.is_action row) refl
   where
     go : (c : Bool) → statements.is_action row ≡ c → AreProper false (if c then 63 else 64) row
-    go true e = action_row l b a e
-    go false e = rows elsewhere false false others_closed others_fit l a (subst (λ b. IsTrue (if b then elsewhere q else true)) b (begins_elsewhere q))
+    go true e = action_row spelled l b a e
+    go false e = rows spelled elsewhere false false others_closed others_fit l a (subst (λ b. IsTrue (if b then elsewhere q else true)) b (begins_elsewhere q))

@@ -49,7 +49,9 @@ pub fn data_have_values()
 pub fn rows_are_proper()
     ensures pieces { (q : line_state.State) → RowsAreProper q (is_in_dat q) }
     ensures actions { (q : line_state.State) → IsTrue (begins_line q) → MethodRowsAreProper q }
-{}
+{
+    p8_grammar::spelled_is_proper();
+}
 
 /// Each line of `DAT` is proper, where its names, strings and expressions are.
 pub fn data_are_proper()
