@@ -1,0 +1,15 @@
+//! The bytecodes of Spin: which bytes stand after each, how one is read from the bytes of a program,
+//! and the one spelling in which a compiler writes it.
+#![tactic(auto)]
+
+mod op;
+mod operands;
+mod reading;
+mod writing;
+#[cfg(test)]
+mod tests;
+
+pub use op::Op;
+pub use operands::{Operands, is_effect, is_register, operands_of};
+pub use reading::take_op;
+pub use writing::put_op;

@@ -1,0 +1,3 @@
+// Bytecodes whose bytes are known from worked programs.
+use super::*;
+use std::test::Fail;
