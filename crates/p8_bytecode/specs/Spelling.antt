@@ -52,12 +52,12 @@ pub record IsOp (op : Op) : Type 0 where
 -- ---- the spelling
 
 abbrev pub offset_bytes : Bool → ℕ → List ℕ
-offset_bytes false offset = offset % 128 ∷ []
-offset_bytes true offset = 128 + offset / 256 % 128 ∷ offset % 256 ∷ []
+offset_bytes false offset = (offset % 128) ∷ []
+offset_bytes true offset = (128 + offset / 256 % 128) ∷ (offset % 256) ∷ []
 
 -- the bytes of a variable's offset, in the form of two bytes or of one
 abbrev pub place_bytes : Bool → ℕ → List ℕ
-place_bytes true place = 128 + place / 256 ∷ place % 256 ∷ []
+place_bytes true place = (128 + place / 256) ∷ (place % 256) ∷ []
 place_bytes false place = place ∷ []
 
 abbrev pub effect_bytes : Bool → Op → List ℕ
@@ -73,9 +73,9 @@ operand_bytes (Some OneByte) long_place op = op.first ∷ []
 operand_bytes (Some TwoBytes) long_place op = op.first ∷ op.second ∷ []
 operand_bytes (Some ThreeBytes) long_place op = op.first ∷ op.second ∷ op.third ∷ []
 operand_bytes (Some SevenBits) long_place op = op.first ∷ []
-operand_bytes (Some Word) long_place op = op.first / 2 ^ 8 ∷ op.first % 2 ^ 8 ∷ []
-operand_bytes (Some Triple) long_place op = op.first / 2 ^ 16 ∷ op.first / 2 ^ 8 % 2 ^ 8 ∷ op.first % 2 ^ 8 ∷ []
-operand_bytes (Some Long) long_place op = op.first / 2 ^ 24 ∷ op.first / 2 ^ 16 % 2 ^ 8 ∷ op.first / 2 ^ 8 % 2 ^ 8 ∷ op.first % 2 ^ 8 ∷ []
+operand_bytes (Some Word) long_place op = (op.first / 2 ^ 8) ∷ (op.first % 2 ^ 8) ∷ []
+operand_bytes (Some Triple) long_place op = (op.first / 2 ^ 16) ∷ (op.first / 2 ^ 8 % 2 ^ 8) ∷ (op.first % 2 ^ 8) ∷ []
+operand_bytes (Some Long) long_place op = (op.first / 2 ^ 24) ∷ (op.first / 2 ^ 16 % 2 ^ 8) ∷ (op.first / 2 ^ 8 % 2 ^ 8) ∷ (op.first % 2 ^ 8) ∷ []
 operand_bytes (Some Register) long_place op = op.first ∷ effect_bytes (changes_register op.first) op
 operand_bytes (Some ShortVariable) long_place op = effect_bytes (changes_variable op.code) op
 operand_bytes (Some Variable) long_place op =

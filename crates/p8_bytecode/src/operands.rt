@@ -33,6 +33,7 @@ pub enum Operands {
 }
 
 /// What stands after a bytecode's byte; `None` exactly where no bytecode has that byte.
+#[tactic(auto, unfolding(crate::specs::Table::rows))]
 pub fn operands_of(code: u8) -> Option<Operands>
     ensures { result ≡ operands_of code }
 {

@@ -1,5 +1,5 @@
 // Bytecodes read from bytes.
-ghost use Rattle.std.specs.Prelude.{◌≡◌, ◌/◌, ◌%◌, ◌<◌};
+ghost use Rattle.std.specs.Prelude.{◌≡◌, ◌+◌, ◌^◌, ◌<◌, ◌≤◌, length, IfSome};
 ghost use Rattle.p8_bytecode.specs.Reading.{sign_extended, offset_in, effect_in, changing, variable_in, jump_in, operands_in, op_at, bare, offset_size};
 ghost use Rattle.p8_bytecode.specs.declared.operands.Operands.TheVariants.{OneByte, TwoBytes, ThreeBytes, SevenBits, Word, Triple, Long, Register};
 
@@ -13,7 +13,8 @@ use crate::operands::{
 /// tables, bit 7 of a packed constant is 1, or the bytes end before the bytecode does.
 #[inline]
 pub fn take_op(bytes: &[u8], at: usize) -> Option<(Op, usize)>
-    ensures { result ≡ op_at bytes.now at }
+    ensures value { result ≡ op_at bytes.now at }
+    ensures within { IfSome result (λ taken. (at < taken.1) × (taken.1 ≤ length bytes.now)) }
 {
     let [code, operands @ ..] = bytes.get(at..)? else {
         return None;
@@ -24,7 +25,8 @@ pub fn take_op(bytes: &[u8], at: usize) -> Option<(Op, usize)>
 
 // A bytecode with the operands at the head of these bytes, and how many bytes they have.
 fn operands_in(operands: Operands, code: u8, bytes: &[u8]) -> Option<(Op, usize)>
-    ensures { result ≡ operands_in operands code bytes.now }
+    ensures value { result ≡ operands_in operands code bytes.now }
+    ensures within { IfSome result (λ read. read.1 ≤ length bytes.now) }
 {
     match operands {
         Operands::Nothing => Some((Op::bare(code), 0)),
@@ -44,7 +46,8 @@ fn operands_in(operands: Operands, code: u8, bytes: &[u8]) -> Option<(Op, usize)
 }
 
 fn one_byte_in(code: u8, bytes: &[u8]) -> Option<(Op, usize)>
-    ensures { result ≡ operands_in OneByte code bytes.now }
+    ensures value { result ≡ operands_in OneByte code bytes.now }
+    ensures within { IfSome result (λ read. read.1 ≤ length bytes.now) }
 {
     let [a, ..] = bytes else {
         return None;
@@ -53,7 +56,8 @@ fn one_byte_in(code: u8, bytes: &[u8]) -> Option<(Op, usize)>
 }
 
 fn two_bytes_in(code: u8, bytes: &[u8]) -> Option<(Op, usize)>
-    ensures { result ≡ operands_in TwoBytes code bytes.now }
+    ensures value { result ≡ operands_in TwoBytes code bytes.now }
+    ensures within { IfSome result (λ read. read.1 ≤ length bytes.now) }
 {
     let [a, b, ..] = bytes else {
         return None;
@@ -66,7 +70,8 @@ fn two_bytes_in(code: u8, bytes: &[u8]) -> Option<(Op, usize)>
 }
 
 fn three_bytes_in(code: u8, bytes: &[u8]) -> Option<(Op, usize)>
-    ensures { result ≡ operands_in ThreeBytes code bytes.now }
+    ensures value { result ≡ operands_in ThreeBytes code bytes.now }
+    ensures within { IfSome result (λ read. read.1 ≤ length bytes.now) }
 {
     let [a, b, c, ..] = bytes else {
         return None;
@@ -80,7 +85,8 @@ fn three_bytes_in(code: u8, bytes: &[u8]) -> Option<(Op, usize)>
 }
 
 fn seven_bits_in(code: u8, bytes: &[u8]) -> Option<(Op, usize)>
-    ensures { result ≡ operands_in SevenBits code bytes.now }
+    ensures value { result ≡ operands_in SevenBits code bytes.now }
+    ensures within { IfSome result (λ read. read.1 ≤ length bytes.now) }
 {
     match bytes {
         [a, ..] if *a < 128 => Some((with_first(code, u32::from(*a)), 1)),
@@ -89,7 +95,8 @@ fn seven_bits_in(code: u8, bytes: &[u8]) -> Option<(Op, usize)>
 }
 
 fn word_in(code: u8, bytes: &[u8]) -> Option<(Op, usize)>
-    ensures { result ≡ operands_in Word code bytes.now }
+    ensures value { result ≡ operands_in Word code bytes.now }
+    ensures within { IfSome result (λ read. read.1 ≤ length bytes.now) }
 {
     let [a, b, ..] = bytes else {
         return None;
@@ -99,7 +106,8 @@ fn word_in(code: u8, bytes: &[u8]) -> Option<(Op, usize)>
 }
 
 fn triple_in(code: u8, bytes: &[u8]) -> Option<(Op, usize)>
-    ensures { result ≡ operands_in Triple code bytes.now }
+    ensures value { result ≡ operands_in Triple code bytes.now }
+    ensures within { IfSome result (λ read. read.1 ≤ length bytes.now) }
 {
     let [a, b, c, ..] = bytes else {
         return None;
@@ -109,7 +117,8 @@ fn triple_in(code: u8, bytes: &[u8]) -> Option<(Op, usize)>
 }
 
 fn long_in(code: u8, bytes: &[u8]) -> Option<(Op, usize)>
-    ensures { result ≡ operands_in Long code bytes.now }
+    ensures value { result ≡ operands_in Long code bytes.now }
+    ensures within { IfSome result (λ read. read.1 ≤ length bytes.now) }
 {
     let [a, b, c, d, ..] = bytes else {
         return None;
@@ -122,7 +131,8 @@ fn long_in(code: u8, bytes: &[u8]) -> Option<(Op, usize)>
 }
 
 fn register_in(code: u8, bytes: &[u8]) -> Option<(Op, usize)>
-    ensures { result ≡ operands_in Register code bytes.now }
+    ensures value { result ≡ operands_in Register code bytes.now }
+    ensures within { IfSome result (λ read. read.1 ≤ length bytes.now) }
 {
     match bytes {
         [byte, rest @ ..] if is_register(code, *byte) => {
@@ -135,7 +145,8 @@ fn register_in(code: u8, bytes: &[u8]) -> Option<(Op, usize)>
 
 // A bytecode of memory with a base: a variable's offset, and the effect where the bytecode says "change".
 fn variable_in(code: u8, bytes: &[u8]) -> Option<(Op, usize)>
-    ensures { result ≡ variable_in code bytes.now }
+    ensures value { result ≡ variable_in code bytes.now }
+    ensures within { IfSome result (λ read. read.1 ≤ length bytes.now) }
 {
     match bytes {
         [byte, rest @ ..] if *byte < 128 => changing(
@@ -154,7 +165,8 @@ fn variable_in(code: u8, bytes: &[u8]) -> Option<(Op, usize)>
 
 // A jump with its offset.
 fn jump_in(code: u8, bytes: &[u8]) -> Option<(Op, usize)>
-    ensures { result ≡ jump_in code (offset_in bytes.now) }
+    ensures value { result ≡ jump_in code (offset_in bytes.now) }
+    ensures within { IfSome result (λ read. read.1 ≤ length bytes.now) }
 {
     let (offset, long_form) = offset_in(bytes)?;
     let op = Op {
@@ -168,7 +180,8 @@ fn jump_in(code: u8, bytes: &[u8]) -> Option<(Op, usize)>
 // before them.
 fn changing(changes: bool, op: Op, size: usize, bytes: &[u8]) -> Option<(Op, usize)>
     requires { size < 8 }
-    ensures { result ≡ changing changes op size bytes.now }
+    ensures value { result ≡ changing changes op size bytes.now }
+    ensures within { IfSome result (λ read. read.1 ≤ size + length bytes.now) }
 {
     if changes {
         effect_in(op, size, bytes)
@@ -179,7 +192,8 @@ fn changing(changes: bool, op: Op, size: usize, bytes: &[u8]) -> Option<(Op, usi
 
 fn effect_in(op: Op, size: usize, bytes: &[u8]) -> Option<(Op, usize)>
     requires { size < 8 }
-    ensures { result ≡ effect_in op size bytes.now }
+    ensures value { result ≡ effect_in op size bytes.now }
+    ensures within { IfSome result (λ read. read.1 ≤ size + length bytes.now) }
 {
     match bytes {
         [effect @ (0x02 | 0x06), rest @ ..] => {
@@ -205,7 +219,8 @@ fn effect_in(op: Op, size: usize, bytes: &[u8]) -> Option<(Op, usize)>
 
 // The offset of a jump as a word, and whether it has two bytes.
 fn offset_in(bytes: &[u8]) -> Option<(u32, bool)>
-    ensures { result ≡ offset_in bytes.now }
+    ensures value { result ≡ offset_in bytes.now }
+    ensures within { IfSome result (λ read. offset_size read.1 ≤ length bytes.now) }
 {
     match bytes {
         [byte, ..] if *byte < 128 => Some((sign_extended(u32::from(*byte), 7), false)),
