@@ -1,6 +1,7 @@
 // Bytecodes written as a compiler writes them.
-ghost use Rattle.std.specs.Prelude.{◌≡◌, ◌++◌, ◌<◌, OnOk, Some};
-ghost use Rattle.p8_bytecode.specs.Spelling.{IsOp, FitsOperands, IsOffset, IsChange, IsPlace, offset_bytes, place_bytes, effect_bytes, operand_bytes, has_long_place, spelled};
+ghost use Rattle.std.specs.Prelude.{◌≡◌, ◌++◌, [], Some, if◌then◌else◌, OnOk};
+ghost use Rattle.p8_bytecode.specs.Spelling.{IsOp, FitsOperands, IsChange, IsPlace, offset_bytes, place_bytes, effect_bytes, operand_bytes, has_long_place, spelled};
+ghost use Rattle.p8_bytecode.specs.Reading.{has_base};
 
 use crate::op::Op;
 use crate::operands::{
@@ -53,7 +54,7 @@ fn put_operands(operands: Operands, op: &Op, out: &mut Vec<u8>) -> Result<(), No
 
 // Appends a variable's offset where the bytecode has a base.
 fn put_place(op: &Op, out: &mut Vec<u8>) -> Result<(), NoMemory>
-    requires { op.now.first < 2 ^ 15 }
+    requires { IsPlace (has_base op.now.code) op.now.first }
     ensures { OnOk result (out.new.items ≡ out.old.items ++ (if has_base op.now.code then place_bytes (has_long_place op.now) op.now.first else [])) }
 {
     if !has_base(op.code) {
