@@ -1,6 +1,6 @@
 -- How a bytecode is spelled, and the one spelling that a compiler writes.
 -- Source: the public Spin bytecode listing of the Propeller P8X32A; that a variable's offset has two bytes after $87 is this project's profile.
-use Rattle.std.specs.Prelude.{◌≡◌, ℕ, ◌+◌, ◌*◌, ◌/◌, ◌%◌, ◌^◌, ◌<◌, Bool, true, false, ◌||◌, nat_le, ◌==◌, if◌then◌else◌, List, [], ◌∷◌, ◌++◌, Option, Some, None, IsTrue}
+use Rattle.std.specs.Prelude.{◌≡◌, ℕ, ◌+◌, ◌*◌, ◌/◌, ◌%◌, ◌^◌, ◌<◌, Bool, true, false, ◌||◌, nat_le, ◌==◌, if◌then◌else◌, List, [], ◌∷◌, ◌++◌, length, Option, Some, None, IsTrue}
 use Rattle.p8_bytecode.specs.declared.op.Op.{Op}
 use Rattle.p8_bytecode.specs.declared.operands.Operands.{Operands}
 use Rattle.p8_bytecode.specs.declared.operands.Operands.TheVariants.{Nothing, Offset, OneByte, TwoBytes, ThreeBytes, SevenBits, Word, Triple, Long, Register, ShortVariable, Variable}
@@ -81,10 +81,24 @@ operand_bytes (Some ShortVariable) long_place op = effect_bytes (changes_variabl
 operand_bytes (Some Variable) long_place op =
     (if has_base op.code then place_bytes long_place op.first else []) ++ effect_bytes (changes_variable op.code) op
 
+-- the bytes of an operation, with a variable's offset in this form
+abbrev pub spelling : Bool → Op → List ℕ
+spelling long_place op = op.code ∷ operand_bytes (operands_of op.code) long_place op
+
+-- that an operation stands whole at the head of these bytes, and has so many of them
+pub record Stands (bytes : List ℕ) (op : Op) (size : ℕ) : Type 0 where
+  pub is_op : IsOp op
+  pub long_place : Bool
+  pub fits : long_place ≡ false → op.first < 128
+  pub rest : List ℕ
+  pub spelled : bytes ≡ spelling long_place op ++ rest
+  pub ends : size ≡ length (spelling long_place op)
+
+-- ---- the one spelling that a compiler writes
+
 -- a variable's offset has two bytes where it is 128 or more, and after $87 always, so that no method's length depends on where a text stands
 abbrev pub has_long_place : Op → Bool
 has_long_place op = op.code == 0x87 || nat_le 128 op.first
 
--- the spelling that a compiler writes
 abbrev pub spelled : Op → List ℕ
-spelled op = op.code ∷ operand_bytes (operands_of op.code) (has_long_place op) op
+spelled op = spelling (has_long_place op) op

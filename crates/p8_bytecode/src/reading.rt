@@ -1,6 +1,7 @@
 // Bytecodes read from bytes.
-ghost use Rattle.std.specs.Prelude.{◌≡◌, ◌+◌, ◌^◌, ◌<◌, ◌≤◌, length, IfSome};
-ghost use Rattle.p8_bytecode.specs.Reading.{sign_extended, offset_in, effect_in, changing, variable_in, jump_in, operands_in, op_at, bare, offset_size};
+ghost use Rattle.std.specs.Prelude.{◌≡◌, ℕ, ◌+◌, ◌^◌, ◌<◌, ◌≤◌, length, drop, Some, IfSome};
+ghost use Rattle.p8_bytecode.specs.Reading.{sign_extended, offset_in, effect_in, changing, variable_in, jump_in, operands_in, op_in, op_at, bare, offset_size};
+ghost use Rattle.p8_bytecode.specs.Spelling.{Stands};
 ghost use Rattle.p8_bytecode.specs.declared.operands.Operands.TheVariants.{OneByte, TwoBytes, ThreeBytes, SevenBits, Word, Triple, Long, Register};
 
 use crate::op::Op;
@@ -15,12 +16,23 @@ use crate::operands::{
 pub fn take_op(bytes: &[u8], at: usize) -> Option<(Op, usize)>
     ensures value { result ≡ op_at bytes.now at }
     ensures within { IfSome result (λ taken. (at < taken.1) × (taken.1 ≤ length bytes.now)) }
+    ensures stands { (op : Op) (size : ℕ) → Stands (drop at bytes.now) op size → result ≡ Some (op, at + size) }
 {
-    let [code, operands @ ..] = bytes.get(at..)? else {
+    let (op, size) = op_in(bytes.get(at..)?)?;
+    Some((op, at + size))
+}
+
+// The bytecode at the head of these bytes, and the number of its bytes.
+#[inline]
+fn op_in(bytes: &[u8]) -> Option<(Op, usize)>
+    ensures value { result ≡ op_in bytes.now }
+    ensures within { IfSome result (λ read. (0 < read.1) × (read.1 ≤ length bytes.now)) }
+{
+    let [code, operands @ ..] = bytes else {
         return None;
     };
     let (op, size) = operands_in(operands_of(*code)?, *code, operands)?;
-    Some((op, at + 1 + size))
+    Some((op, 1 + size))
 }
 
 // A bytecode with the operands at the head of these bytes, and how many bytes they have.

@@ -1,7 +1,7 @@
 // Bytecodes written as a compiler writes them.
-ghost use Rattle.std.specs.Prelude.{◌≡◌, ◌++◌, [], Some, if◌then◌else◌, OnOk};
+ghost use Rattle.std.specs.Prelude.{◌≡◌, ℕ, ◌++◌, List, [], length, Some, if◌then◌else◌, OnOk};
 ghost use Rattle.p8_bytecode.specs.Spelling.{IsOp, FitsOperands, IsChange, IsPlace, offset_bytes, place_bytes, effect_bytes, operand_bytes, has_long_place, spelled};
-ghost use Rattle.p8_bytecode.specs.Reading.{has_base};
+ghost use Rattle.p8_bytecode.specs.Reading.{has_base, op_in};
 
 use crate::op::Op;
 use crate::operands::{
@@ -18,6 +18,7 @@ use p8_words::NoMemory;
 pub fn put_op(op: &Op, out: &mut Vec<u8>) -> Result<(), NoMemory>
     requires { IsOp op.now }
     ensures written { OnOk result (out.new.items ≡ out.old.items ++ spelled op.now) }
+    ensures read_back { (rest : List ℕ) → op_in (spelled op.now ++ rest) ≡ Some (op.now, length (spelled op.now)) }
 {
     out.extend_from_slice(&[op.code])?;
     match operands_of(op.code) {
