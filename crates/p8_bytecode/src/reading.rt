@@ -1,5 +1,5 @@
 // Bytecodes read from bytes.
-ghost use Rattle.std.specs.Prelude.{◌≡◌, ℕ, ◌+◌, ◌^◌, ◌<◌, ◌≤◌, length, drop, Some, IfSome};
+ghost use Rattle.std.specs.Prelude.{◌≡◌, ℕ, ◌+◌, ◌-◌, ◌^◌, ◌<◌, ◌≤◌, length, drop, Some, IfSome};
 ghost use Rattle.p8_bytecode.specs.Reading.{sign_extended, offset_in, effect_in, changing, variable_in, jump_in, operands_in, op_in, op_at, bare, offset_size};
 ghost use Rattle.p8_bytecode.specs.Spelling.{Stands};
 ghost use Rattle.p8_bytecode.specs.declared.operands.Operands.TheVariants.{OneByte, TwoBytes, ThreeBytes, SevenBits, Word, Triple, Long, Register};
@@ -16,6 +16,7 @@ use crate::operands::{
 pub fn take_op(bytes: &[u8], at: usize) -> Option<(Op, usize)>
     ensures value { result ≡ op_at bytes.now at }
     ensures within { IfSome result (λ taken. (at < taken.1) × (taken.1 ≤ length bytes.now)) }
+    ensures whole { IfSome result (λ taken. Stands (drop at bytes.now) taken.0 (taken.1 - at)) }
     ensures stands { (op : Op) (size : ℕ) → Stands (drop at bytes.now) op size → result ≡ Some (op, at + size) }
 {
     let (op, size) = op_in(bytes.get(at..)?)?;
@@ -27,6 +28,7 @@ pub fn take_op(bytes: &[u8], at: usize) -> Option<(Op, usize)>
 fn op_in(bytes: &[u8]) -> Option<(Op, usize)>
     ensures value { result ≡ op_in bytes.now }
     ensures within { IfSome result (λ read. (0 < read.1) × (read.1 ≤ length bytes.now)) }
+    ensures whole { IfSome result (λ read. Stands bytes.now read.0 read.1) }
 {
     let [code, operands @ ..] = bytes else {
         return None;
