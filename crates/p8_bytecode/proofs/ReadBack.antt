@@ -88,7 +88,7 @@ place-read false code place start (b ∷ rest) within short same = rw (cond-true
 place-read true code place start rest within short same =
     cond-false (nat_lt (128 + place / 256) 128) _ _ (not-below (128 + place / 256) 128 (omega arith))
     ∙ ap (λ n. changing (changes_variable code) (record (bare code) { first = n }) 2 rest)
-        (let e : (128 + place / 256) % 128 * 256 + place % 256 ≡ place = omega arith in e)
+    (let e : (128 + place / 256) % 128 * 256 + place % 256 ≡ place = omega arith in e)
     ∙ ap (λ s. changing (changes_variable code) s 2 rest) (sym same)
 
 based-read : (based : Bool) (op : Op) (long_place : Bool) (rest : List ℕ) → op.third ≡ 0 → IsPlace based op.first
@@ -124,11 +124,11 @@ operands-read (Some Word) op long_place rest h short =
     ∙ some (sym h.0) refl
 operands-read (Some Triple) op long_place rest h short =
     ap (λ n. Some (record (bare op.code) { first = n }, 3))
-        (let e : op.first / 2 ^ 16 * 2 ^ 16 + op.first / 2 ^ 8 % 2 ^ 8 * 2 ^ 8 + op.first % 2 ^ 8 ≡ op.first = omega arith in e)
+    (let e : op.first / 2 ^ 16 * 2 ^ 16 + op.first / 2 ^ 8 % 2 ^ 8 * 2 ^ 8 + op.first % 2 ^ 8 ≡ op.first = omega arith in e)
     ∙ some (sym h.0) refl
 operands-read (Some Long) op long_place rest h short =
     ap (λ n. Some (record (bare op.code) { first = n }, 4))
-        (let e : op.first / 2 ^ 24 * 2 ^ 24 + op.first / 2 ^ 16 % 2 ^ 8 * 2 ^ 16 + op.first / 2 ^ 8 % 2 ^ 8 * 2 ^ 8 + op.first % 2 ^ 8 ≡ op.first = omega arith in e)
+    (let e : op.first / 2 ^ 24 * 2 ^ 24 + op.first / 2 ^ 16 % 2 ^ 8 * 2 ^ 16 + op.first / 2 ^ 8 % 2 ^ 8 * 2 ^ 8 + op.first % 2 ^ 8 ≡ op.first = omega arith in e)
     ∙ some (sym h.0) refl
 operands-read (Some Register) op long_place rest h short =
     cond-true (is_register op.code op.first) _ _ h.1 ∙ change-read (changes_register op.first) op 1 rest h.0 h.2 ∙ some refl (omega arith)

@@ -62,9 +62,9 @@ long-offset high low rest h h2 l =
       is_offset = ap (sign_extended 15) (sym below);
       rest = rest;
       spelled =
-        let both : (high ≡ 128 + sign_extended 15 number / 256 % 128) × (low ≡ sign_extended 15 number % 256) =
-            long-bytes (sign_extended 15 number) high low below h h2 l in
-        two-bytes high low _ _ rest both.0 both.1;
+          let both : (high ≡ 128 + sign_extended 15 number / 256 % 128) × (low ≡ sign_extended 15 number % 256) =
+          long-bytes (sign_extended 15 number) high low below h h2 l in
+          two-bytes high low _ _ rest both.0 both.1;
     }
 
 offset-stands : (bytes : List ℕ) → AreBytes bytes → IfSome (offset_in bytes) (λ read. HasOffset bytes read.0 read.1)
@@ -226,7 +226,7 @@ long-variable code high low bytes op end h h2 l c =
       fits = λ e. absurd (cc);
       rest = c.rest;
       spelled =
-        two-bytes high low _ _ bytes both.0 both.1 ∙ ap (λ bs. (128 + op.first / 256) ∷ (op.first % 256) ∷ bs) c.spelled;
+          two-bytes high low _ _ bytes both.0 both.1 ∙ ap (λ bs. (128 + op.first / 256) ∷ (op.first % 256) ∷ bs) c.spelled;
       ends = c.ends ∙ omega arith;
     }
 

@@ -17,31 +17,31 @@ in_rows (row ∷ rows) code = if is_within row.0 row.1 code then Some row.2 else
 
 unfoldable pub rows : List (ℕ × ℕ × Operands)
 rows =
-    (0x00, 0x03, Nothing) ∷             -- marks of a call
-    (0x04, 0x04, Offset) ∷              -- jump
-    (0x05, 0x05, OneByte) ∷             -- call: a method
-    (0x06, 0x06, TwoBytes) ∷            -- call in an object: its place, a method
-    (0x07, 0x07, ThreeBytes) ∷          -- call in an array of objects: its place, their number, a method
-    (0x08, 0x0B, Offset) ∷              -- loops by count, jumps by a test
-    (0x0C, 0x0C, Nothing) ∷             -- end of CASE tests
-    (0x0D, 0x0E, Offset) ∷              -- CASE tests
-    (0x0F, 0x0F, Nothing) ∷             -- end of LOOK tests
-    (0x10, 0x13, Offset) ∷              -- LOOK tests
-    (0x14, 0x14, Nothing) ∷             -- a value dropped
-    (0x15, 0x15, TwoBytes) ∷            -- start of a method in a cog: the method, the number of its arguments
-    (0x16, 0x1F, Nothing) ∷             -- texts, fills, moves, waits
-    (0x21, 0x23, Nothing) ∷             -- COGSTOP, LOCKRET, WAITCNT
-    (0x28, 0x2F, Nothing) ∷             -- COGINIT, LOCKNEW, LOCKSET, LOCKCLR
-    (0x30, 0x36, Nothing) ∷             -- ABORT, RETURN, the constants -1, 0 and 1
-    (0x37, 0x37, SevenBits) ∷           -- a packed constant
-    (0x38, 0x38, OneByte) ∷             -- constants of one to four bytes
+    (0x00, 0x03, Nothing) ∷  -- marks of a call
+    (0x04, 0x04, Offset) ∷  -- jump
+    (0x05, 0x05, OneByte) ∷  -- call: a method
+    (0x06, 0x06, TwoBytes) ∷  -- call in an object: its place, a method
+    (0x07, 0x07, ThreeBytes) ∷  -- call in an array of objects: its place, their number, a method
+    (0x08, 0x0B, Offset) ∷  -- loops by count, jumps by a test
+    (0x0C, 0x0C, Nothing) ∷  -- end of CASE tests
+    (0x0D, 0x0E, Offset) ∷  -- CASE tests
+    (0x0F, 0x0F, Nothing) ∷  -- end of LOOK tests
+    (0x10, 0x13, Offset) ∷  -- LOOK tests
+    (0x14, 0x14, Nothing) ∷  -- a value dropped
+    (0x15, 0x15, TwoBytes) ∷  -- start of a method in a cog: the method, the number of its arguments
+    (0x16, 0x1F, Nothing) ∷  -- texts, fills, moves, waits
+    (0x21, 0x23, Nothing) ∷  -- COGSTOP, LOCKRET, WAITCNT
+    (0x28, 0x2F, Nothing) ∷  -- COGINIT, LOCKNEW, LOCKSET, LOCKCLR
+    (0x30, 0x36, Nothing) ∷  -- ABORT, RETURN, the constants -1, 0 and 1
+    (0x37, 0x37, SevenBits) ∷  -- a packed constant
+    (0x38, 0x38, OneByte) ∷  -- constants of one to four bytes
     (0x39, 0x39, Word) ∷
     (0x3A, 0x3A, Triple) ∷
     (0x3B, 0x3B, Long) ∷
-    (0x3D, 0x3F, Register) ∷            -- pins of a register, a register
-    (0x40, 0x7F, ShortVariable) ∷       -- a long variable by its number
-    (0x80, 0xDF, Variable) ∷            -- memory
-    (0xE0, 0xFF, Nothing) ∷             -- operators
+    (0x3D, 0x3F, Register) ∷  -- pins of a register, a register
+    (0x40, 0x7F, ShortVariable) ∷  -- a long variable by its number
+    (0x80, 0xDF, Variable) ∷  -- memory
+    (0xE0, 0xFF, Nothing) ∷  -- operators
     []
 
 -- what stands after a bytecode's byte, or nothing where no bytecode has it

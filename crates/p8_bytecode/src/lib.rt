@@ -5,11 +5,11 @@
 mod op;
 mod operands;
 mod reading;
-mod writing;
 #[cfg(test)]
 mod tests;
+mod writing;
 
 pub use op::Op;
-pub use operands::{Operands, is_effect, is_register, operands_of};
+pub use operands::{Operands, operands_of};
 pub use reading::take_op;
 pub use writing::put_op;

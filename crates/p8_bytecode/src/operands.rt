@@ -4,6 +4,8 @@ ghost use Rattle.p8_bytecode.specs.Table.{operands_of, is_register, is_effect};
 ghost use Rattle.p8_bytecode.specs.Reading.{changes_variable, has_base, changes_register};
 
 /// What stands after the byte of a bytecode, in the order of the bytes.
+///
+/// Source: the public Spin bytecode listing of the Propeller P8X32A.
 #[derive(Clone, Copy, Debug, PartialEq, Eq)]
 pub enum Operands {
     /// Nothing.
@@ -66,9 +68,9 @@ pub fn operands_of(code: u8) -> Option<Operands>
     }
 }
 
-/// Whether a byte names a register after this bytecode: $90, $B0 or $D0 (push, pop, change) plus the
-/// register's address less $1F0; and $89 after $3F, which is COGID.
-pub fn is_register(code: u8, byte: u8) -> bool
+// Whether a byte names a register after this bytecode: $90, $B0 or $D0 (push, pop, change) plus the
+// register's address less $1F0; and $89 after $3F, which is COGID.
+pub(crate) fn is_register(code: u8, byte: u8) -> bool
     ensures { result ≡ is_register code byte }
 {
     match byte {
@@ -78,9 +80,9 @@ pub fn is_register(code: u8, byte: u8) -> bool
     }
 }
 
-/// Whether a byte is an effect. Bit 7 says that a value is left, but for 02 and 06, the steps of REPEAT,
-/// which leave none.
-pub fn is_effect(byte: u8) -> bool
+// Whether a byte is an effect. Bit 7 says that a value is left, but for 02 and 06, the steps of REPEAT,
+// which leave none.
+pub(crate) fn is_effect(byte: u8) -> bool
     ensures { result ≡ is_effect byte }
 {
     match byte {

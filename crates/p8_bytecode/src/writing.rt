@@ -4,9 +4,7 @@ ghost use Rattle.p8_bytecode.specs.Spelling.{IsOp, FitsOperands, IsChange, IsPla
 ghost use Rattle.p8_bytecode.specs.Reading.{has_base, op_in};
 
 use crate::op::Op;
-use crate::operands::{
-    Operands, changes_register, changes_variable, has_base, operands_of,
-};
+use crate::operands::{Operands, changes_register, changes_variable, has_base, operands_of};
 use p8_words::NoMemory;
 
 /// Appends a bytecode: its byte, its operands and its effect. The offset of a jump has the form that
@@ -86,7 +84,10 @@ fn put_offset(long_form: bool, offset: u32, out: &mut Vec<u8>) -> Result<(), NoM
     ensures { OnOk result (out.new.items ≡ out.old.items ++ offset_bytes long_form offset) }
 {
     if long_form {
-        put(&[128 + (offset / 256 % 128) as u8, (offset % 256) as u8], out)
+        put(
+            &[128 + (offset / 256 % 128) as u8, (offset % 256) as u8],
+            out,
+        )
     } else {
         put(&[(offset % 128) as u8], out)
     }
