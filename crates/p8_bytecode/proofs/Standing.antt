@@ -1,13 +1,13 @@
 -- What is read at the head of some bytes stands there, spelled whole.
-use Rattle.std.proofs.Common.{◌≡◌, ℕ, zero, suc, ◌+◌, ◌-◌, ◌*◌, ◌/◌, ◌%◌, ◌^◌, ◌<◌, ◌≤◌, Bool, true, false, cond, if◌then◌else◌, ◌||◌, ◌==◌, nat_lt, nat_le, List, [], ◌∷◌, ◌++◌, length, drop, get_or, Option, Some, None, option_map, IsTrue, IfSome, refl, sym, ap, ◌∙◌, subst, arith, append_assoc, length-append}
+use Rattle.std.proofs.Common.{◌≡◌, ℕ, suc, ◌+◌, ◌*◌, ◌/◌, ◌%◌, ◌^◌, ◌<◌, ◌≤◌, Bool, true, false, cond, if◌then◌else◌, ◌||◌, nat_lt, List, [], ◌∷◌, ◌++◌, length, get_or, Option, Some, None, option_map, IfSome, refl, sym, ap, ◌∙◌, subst, arith}
 use Rattle.std.proofs.lemmas.Bool.Decides.{nat_tests}
 use Rattle.std.proofs.lemmas.Option.{IfSome_then}
 use Rattle.p8_bytecode.specs.declared.op.Op.{Op}
 use Rattle.p8_bytecode.specs.declared.operands.Operands.{Operands}
 use Rattle.p8_bytecode.specs.declared.operands.Operands.TheVariants.{Nothing, Offset, OneByte, TwoBytes, ThreeBytes, SevenBits, Word, Triple, Long, Register, ShortVariable, Variable}
 use Rattle.p8_bytecode.specs.Table.{operands_of, is_register, is_effect, is_step}
-use Rattle.p8_bytecode.specs.Reading.{bare, sign_extended, offset_in, offset_size, stepping, effect_in, changing, changes_variable, has_base, changes_register, variable_in, jump_in, operands_in, coded, op_in, op_at}
-use Rattle.p8_bytecode.specs.Spelling.{IsOffset, IsStep, IsChange, IsPlace, FitsOperands, IsOp, offset_bytes, place_bytes, effect_bytes, operand_bytes, spelling, Stands}
+use Rattle.p8_bytecode.specs.Reading.{bare, sign_extended, offset_in, offset_size, stepping, changing, changes_variable, has_base, changes_register, variable_in, jump_in, coded, op_in}
+use Rattle.p8_bytecode.specs.Spelling.{IsOffset, IsStep, IsChange, IsPlace, FitsOperands, offset_bytes, place_bytes, effect_bytes, operand_bytes, Stands}
 
 -- each of these numbers is a byte
 abbrev pub AreBytes : List ℕ → Type 0

@@ -1,7 +1,5 @@
-use Rattle.std.proofs.Common.{◌≡◌, ◌∙◌, ◌+◌, ℕ, Some, Option, arith}
+use Rattle.std.proofs.Common.{◌∙◌, arith}
 use Rattle.std.proofs.lemmas.Grind.{common_steps}
-use Rattle.p8_bytecode.specs.declared.op.Op.{Op}
-use Rattle.p8_bytecode.specs.Reading.{op_at}
 use Rattle.p8_bytecode.proofs.ReadBack.{placed}
 use Rattle.p8_bytecode.proofs.reading.take_op.Goals as goal
 
