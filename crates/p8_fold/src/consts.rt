@@ -1,0 +1,125 @@
+// The table of what names mean.
+ghost use Rattle.std.specs.Prelude.{◌≡◌, ℕ, List, Option, Some, None, OnOk, OnErr, option_map};
+ghost use Rattle.p8_fold.specs.Meanings.{entry, meaning_of, value_of_meaning, address_of_meaning, given};
+ghost use Rattle.p8_fold.specs.Entries.{setting_of, at_bytes, at_both};
+
+use crate::meanings::Meaning;
+use p8_tree::Text;
+use p8_words::NoMemory;
+use std::alloc::{AllocError, Global};
+use std::collections::BTreeMap;
+
+type Names = BTreeMap<Vec<u8>, Meaning>;
+type Objects = BTreeMap<Vec<u8>, Names>;
+
+/// What the names of an expression mean: those that stand alone, those behind an object's name and `#`, and `$`.
+#[derive(Drop)]
+pub struct Consts {
+    alloc: Global,
+    names: Names,
+    objects: Objects,
+    here: Option<u32>,
+}
+
+impl Consts {
+    /// A table without entries, in which `$` has no value. It takes no memory.
+    pub fn new(alloc: Global) -> Consts
+        ensures empty { (object : Option (List ℕ)) → (name : List ℕ) → entry (setting_of result) object name ≡ None }
+        ensures here { (setting_of result).here ≡ None }
+    {
+        Consts {
+            alloc,
+            names: BTreeMap::new(alloc),
+            objects: BTreeMap::new(alloc),
+            here: None,
+        }
+    }
+
+    /// Says what a name means, of an object's constants or by itself. It replaces what stood there.
+    ///
+    /// Where there is no memory, all names mean what they meant.
+    pub fn set(
+        &mut self,
+        object: Option<&Text>,
+        name: &Text,
+        meaning: Meaning,
+    ) -> Result<(), NoMemory>
+        ensures entered { OnOk result (entry (setting_of self.new) (option_map (λ o. o.now) object.entry) name.now ≡ Some meaning) }
+        ensures others { (o : Option (List ℕ)) → (n : List ℕ) → ¬ ((o ≡ option_map (λ x. x.now) object.entry) × (n ≡ name.now)) → entry (setting_of self.new) o n ≡ entry (setting_of self.old) o n }
+        ensures unchanged { OnErr result ((o : Option (List ℕ)) → (n : List ℕ) → entry (setting_of self.new) o n ≡ entry (setting_of self.old) o n) }
+        ensures here { (setting_of self.new).here ≡ (setting_of self.old).here }
+    {
+        match object {
+            None => {
+                enter(self.alloc, &mut self.names, name, meaning)?;
+                Ok(())
+            }
+            Some(object) => {
+                enter_constant(self.alloc, &mut self.objects, object, name, meaning)?;
+                Ok(())
+            }
+        }
+    }
+
+    /// Says what `$` is. It takes no memory.
+    pub fn here(&mut self, at: Option<u32>)
+        ensures here { (setting_of self.new).here ≡ at }
+        ensures names { (o : Option (List ℕ)) → (n : List ℕ) → entry (setting_of self.new) o n ≡ entry (setting_of self.old) o n }
+    {
+        self.here = at;
+    }
+}
+
+// Puts a meaning at a name.
+fn enter(
+    alloc: Global,
+    names: &mut Names,
+    name: &Text,
+    meaning: Meaning,
+) -> Result<(), AllocError>
+    ensures entered { OnOk result (at_bytes name.now names.new ≡ Some meaning) }
+    ensures others { (n : List ℕ) → ¬ (n ≡ name.now) → at_bytes n names.new ≡ at_bytes n names.old }
+    ensures unchanged { OnErr result ((n : List ℕ) → at_bytes n names.new ≡ at_bytes n names.old) }
+{
+    let key = name.as_slice().to_vec(alloc)?;
+    names.insert(key, meaning)?;
+    Ok(())
+}
+
+// Puts a meaning at a name of an object.
+fn enter_constant(
+    alloc: Global,
+    objects: &mut Objects,
+    object: &Text,
+    name: &Text,
+    meaning: Meaning,
+) -> Result<(), AllocError>
+    ensures entered { OnOk result (at_both name.now (at_bytes object.now objects.new) ≡ Some meaning) }
+    ensures others { (o n : List ℕ) → ¬ ((o ≡ object.now) × (n ≡ name.now)) → at_both n (at_bytes o objects.new) ≡ at_both n (at_bytes o objects.old) }
+    ensures unchanged { OnErr result ((o n : List ℕ) → at_both n (at_bytes o objects.new) ≡ at_both n (at_bytes o objects.old)) }
+{
+    match objects.get_mut(object.as_slice()) {
+        Some(names) => enter(alloc, names, name, meaning),
+        None => enter_first(alloc, objects, object, name, meaning),
+    }
+}
+
+// Puts a meaning at a name of an object that has none yet.
+fn enter_first(
+    alloc: Global,
+    objects: &mut Objects,
+    object: &Text,
+    name: &Text,
+    meaning: Meaning,
+) -> Result<(), AllocError>
+    requires { at_bytes object.now objects.old ≡ None }
+    ensures entered { OnOk result (at_both name.now (at_bytes object.now objects.new) ≡ Some meaning) }
+    ensures others { (o n : List ℕ) → ¬ ((o ≡ object.now) × (n ≡ name.now)) → at_both n (at_bytes o objects.new) ≡ at_both n (at_bytes o objects.old) }
+    ensures unchanged { OnErr result ((o n : List ℕ) → at_both n (at_bytes o objects.new) ≡ at_both n (at_bytes o objects.old)) }
+{
+    let key = object.as_slice().to_vec(alloc)?;
+    let mut names = BTreeMap::new(alloc);
+    enter(alloc, &mut names, name, meaning)?;
+    objects.insert(key, names)?;
+    Ok(())
+}

@@ -1,0 +1,9 @@
+//! The values of constant expressions.
+#![tactic(auto)]
+
+mod consts;
+mod meanings;
+mod operators;
+
+pub use consts::Consts;
+pub use meanings::Meaning;

@@ -1,0 +1,15 @@
+// What a name may mean to an expression.
+
+/// What a name means where a constant is needed.
+#[derive(Clone, Copy, Debug, PartialEq, Eq)]
+pub enum Meaning {
+    /// A constant, with its value.
+    Value(u32),
+    /// A label of DAT: its cog address in longs, which is its value, and its offset in the object, which is the value of
+    /// `@` before it.
+    Label { cog: u32, offset: u32 },
+    /// An object, whose constants stand behind `#`.
+    Object,
+    /// Anything else: a variable, a method, or a word of a method.
+    Other,
+}
