@@ -1,2 +1,4 @@
 pub mod Rotations
 pub mod Bytes
+pub mod Rows
+pub mod Judging

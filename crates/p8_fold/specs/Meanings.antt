@@ -1,6 +1,7 @@
 -- What names mean to the expressions that stand where a constant is needed.
-use Rattle.std.specs.Prelude.{◌≡◌, ℕ, List, Option, Some, None, if◌then◌else◌}
-use Rattle.p8_tree.specs.Names.{same, result_word}
+use Rattle.std.specs.Prelude.{ℕ, List, Option, Some, None, if◌then◌else◌}
+use Rattle.std.specs.Str.{bytes_eq}
+use Rattle.p8_tree.specs.Names.{result_word}
 use Rattle.p8_fold.specs.declared.meanings.Meaning.{Meaning}
 use Rattle.p8_fold.specs.declared.meanings.Meaning.TheVariants as meaning_case
 
@@ -19,7 +20,7 @@ entry s (Some object) name = s.constant object name
 
 -- the meaning of a name in an expression; RESULT is a word and no name, so it has no entry, and it is no constant
 abbrev pub meaning_of : Setting → List ℕ → Option Meaning
-meaning_of s name = if same result_word name then Some meaning_case.Other else s.name name
+meaning_of s name = if bytes_eq name result_word then Some meaning_case.Other else s.name name
 
 -- the value of what a name means: that of a constant, and the cog address, in longs, of a label
 abbrev pub value_of_meaning : Meaning → Option ℕ

@@ -1,5 +1,9 @@
 -- internal: what the code computes, the value or the first fault at once.
-use Rattle.std.specs.Prelude.{ℕ, Bool, ◌==◌, if◌then◌else◌, List, Option, Some, None, Result, Ok, Err}
+use Rattle.std.specs.Prelude.{ℕ, Bool, ◌==◌, if◌then◌else◌, List, Option, Some, None, Result, Ok, Err, Box}
+use Rattle.std.specs.Result.{result_err}
+use Rattle.std.specs.declared.alloc.Global.{Global}
+use Rattle.p8_tree.specs.declared.expressions.Item as item
+use Rattle.p8_tree.specs.Views.{item_of}
 use Rattle.p8_tree.specs.declared.places.Place.{Place}
 use Rattle.p8_tree.specs.Expressions.{Tree, node, Form, Number, Str, Here, Var, Call, Unary, Binary, Assign, Change, Address, ObjectAddress, ObjConst, Built, Look, Variable, Named, Part, Memory, Register, Index, no_index, index, Bits, whole, bits, Item, single, range, Trees, no_trees, ◌▷◌, Items, no_items, ◌▸◌}
 use Rattle.p8_faults.specs.declared.faults.Fault.{Fault}
@@ -19,11 +23,6 @@ with_further f (Some g) = earlier f g
 abbrev pub first_of_two : Option Fault → Option Fault → Option Fault
 first_of_two None g = g
 first_of_two (Some f) g = Some (with_further f g)
-
--- the fault of what is refused
-abbrev pub refusal : Result ℕ Fault → Option Fault
-refusal (Ok v) = None
-refusal (Err f) = Some f
 
 -- the value, or else the fault
 abbrev pub or_fault : Option ℕ → Fault → Result ℕ Fault
@@ -52,6 +51,11 @@ verdict_of_constant s (Some meaning_case.Object) object name first second =
     or_fault (given value_of_meaning (s.constant object name)) (fault_of_name (s.constant object name) second)
 verdict_of_constant s (Some m) object name first second = Err (fault 16 first)
 
+-- CONSTANT of one argument, with its verdict, or else a refusal
+abbrev pub built : ℕ → Option (Result ℕ Fault) → Result ℕ Fault → Result ℕ Fault
+built code None refused = refused
+built code (Some verdict) refused = if code == 0 then verdict else refused
+
 abbrev mutual
   pub verdict : Setting → Tree → Result ℕ Fault
   verdict s (node p form) = verdict_of_form s p form
@@ -66,43 +70,49 @@ abbrev mutual
       Err (with_further (with_further (fault_of_call s object method p place) (first_in_index s i)) (first_in_trees s args))
   verdict_of_form s p (Unary operator e) = verdict_before operator p (verdict s e)
   verdict_of_form s p (Binary operator a b) = verdict_between operator p (verdict s a) (verdict s b)
-  verdict_of_form s p (Assign v operator e) = Err (with_further (fault_at s v) (refusal (verdict s e)))
+  verdict_of_form s p (Assign v operator e) = Err (with_further (fault_at s v) (result_err (verdict s e)))
   verdict_of_form s p (Change v effect) = Err (fault_at s v)
-  verdict_of_form s p (ObjectAddress e) = Err (with_further (fault 12 p) (refusal (verdict s e)))
+  verdict_of_form s p (ObjectAddress e) = Err (with_further (fault 12 p) (result_err (verdict s e)))
   verdict_of_form s p (ObjConst object name place) = verdict_of_constant s (meaning_of s object) object name p place
-  verdict_of_form s p (Built code args) =
-      let refused : Result ℕ Fault = Err (with_further (fault 12 p) (first_in_trees s args)) in
-      if code == 0 then verdict_of_one s args refused else refused
-  verdict_of_form s p (Look code e xs) = Err (with_further (with_further (fault 12 p) (refusal (verdict s e))) (first_in_items s xs))
+  verdict_of_form s p (Built code args) = built code (verdict_of_one s args) (Err (with_further (fault 12 p) (first_in_trees s args)))
+  verdict_of_form s p (Look code e xs) = Err (with_further (with_further (fault 12 p) (result_err (verdict s e))) (first_in_items s xs))
 
-  -- of one argument, or else this
-  pub verdict_of_one : Setting → Trees → Result ℕ Fault → Result ℕ Fault
-  verdict_of_one s (no_trees ▷ e) refused = verdict s e
-  verdict_of_one s _ refused = refused
+  -- of one argument
+  pub verdict_of_one : Setting → Trees → Option (Result ℕ Fault)
+  verdict_of_one s (no_trees ▷ e) = Some (verdict s e)
+  verdict_of_one s _ = None
 
   -- the first fault of a variable that is no constant
   pub fault_at : Setting → Variable → Fault
   fault_at s (Named name i place) = with_further (fault_of_name (meaning_of s name) place) (first_in_index s i)
   fault_at s (Part name size i place) = with_further (fault_of_name (meaning_of s name) place) (first_in_index s i)
-  fault_at s (Memory size e i place) = with_further (with_further (fault 12 place) (refusal (verdict s e))) (first_in_index s i)
+  fault_at s (Memory size e i place) = with_further (with_further (fault 12 place) (result_err (verdict s e))) (first_in_index s i)
   fault_at s (Register address x place) = with_further (fault 12 place) (first_in_bits s x)
 
   pub first_in_index : Setting → Index → Option Fault
   first_in_index s no_index = None
-  first_in_index s (index e) = refusal (verdict s e)
+  first_in_index s (index e) = result_err (verdict s e)
 
   pub first_in_bits : Setting → Bits → Option Fault
   first_in_bits s whole = None
   first_in_bits s (bits x) = first_in_item s x
 
   pub first_in_item : Setting → Item → Option Fault
-  first_in_item s (single e) = refusal (verdict s e)
-  first_in_item s (range low high) = first_of_two (refusal (verdict s low)) (refusal (verdict s high))
+  first_in_item s (single e) = result_err (verdict s e)
+  first_in_item s (range low high) = first_of_two (result_err (verdict s low)) (result_err (verdict s high))
 
   pub first_in_trees : Setting → Trees → Option Fault
   first_in_trees s no_trees = None
-  first_in_trees s (es ▷ e) = first_of_two (first_in_trees s es) (refusal (verdict s e))
+  first_in_trees s (es ▷ e) = first_of_two (first_in_trees s es) (result_err (verdict s e))
 
   pub first_in_items : Setting → Items → Option Fault
   first_in_items s no_items = None
   first_in_items s (xs ▸ x) = first_of_two (first_in_items s xs) (first_in_item s x)
+
+-- the bits in a box, or all
+abbrev pub boxed_bits : Option (Box item.Item Global) → Bits
+boxed_bits None = whole
+boxed_bits (Some b) = bits (item_of b.value)
+
+abbrev pub verdict_of_built : Setting → Place → ℕ → Trees → Result ℕ Fault
+verdict_of_built s p code args = verdict_of_form s p (Built code args)

@@ -1,5 +1,7 @@
 // The table of what names mean.
 ghost use Rattle.std.specs.Prelude.{◌≡◌, ℕ, List, Option, Some, None, OnOk, OnErr, option_map};
+ghost use Rattle.std.specs.Str.{bytes_eq};
+ghost use Rattle.p8_tree.specs.Names.{result_word};
 ghost use Rattle.p8_fold.specs.Meanings.{entry, meaning_of, value_of_meaning, address_of_meaning, given};
 ghost use Rattle.p8_fold.specs.Entries.{setting_of, at_bytes, at_both};
 
@@ -68,6 +70,41 @@ impl Consts {
     {
         self.here = at;
     }
+
+    // What a name alone means.
+    pub(crate) fn meaning(&self, name: &Text) -> Option<Meaning>
+        ensures { result ≡ meaning_of (setting_of self.now) name.now }
+    {
+        if is_result(name) {
+            Some(Meaning::Other)
+        } else {
+            self.names.get(name.as_slice()).copied()
+        }
+    }
+
+    // What a name behind an object's name and `#` means.
+    pub(crate) fn constant(&self, object: &Text, name: &Text) -> Option<Meaning>
+        ensures { result ≡ (setting_of self.now).constant object.now name.now }
+    {
+        match self.objects.get(object.as_slice()) {
+            Some(names) => names.get(name.as_slice()).copied(),
+            None => None,
+        }
+    }
+
+    // What `$` is.
+    pub(crate) fn place(&self) -> Option<u32>
+        ensures { result ≡ (setting_of self.now).here }
+    {
+        self.here
+    }
+}
+
+// Whether a name is the word RESULT.
+fn is_result(name: &Text) -> bool
+    ensures { result ≡ bytes_eq name.now result_word }
+{
+    name.as_slice() == b"RESULT".as_slice()
 }
 
 // Puts a meaning at a name.

@@ -2,6 +2,7 @@
 #![tactic(auto)]
 
 mod consts;
+mod folding;
 mod meanings;
 mod operators;
 
