@@ -2,3 +2,4 @@ pub mod Rotations
 pub mod Bytes
 pub mod Rows
 pub mod Judging
+pub mod Judged
