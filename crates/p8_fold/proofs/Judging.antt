@@ -2,7 +2,7 @@
 use Rattle.std.proofs.Common.{◌≡◌, ◌⊎◌, inl, inr, ℕ, Bool, true, false, ◌==◌, ◌&&◌, List, [], ◌∷◌, Option, Some, None, Result, Ok, Err, refl, sym, ap, ◌∙◌, subst, cond, arith}
 use Rattle.std.proofs.lemmas.Bool.{cases_eq}
 use Rattle.std.proofs.lemmas.Bool.Decides.{nat_tests}
-use Rattle.std.specs.Prelude.{MatchOption, if◌then◌else◌, not, is_some, map, ◌||◌}
+use Rattle.std.specs.Prelude.{IfOk, IfErr, OnOk, OnErr, MatchOption, if◌then◌else◌, not, is_some, map, ◌||◌}
 use Rattle.std.specs.Result.{result_err}
 use Rattle.std.proofs.Math.Logic.{⊎_elim}
 use Rattle.p8_tree.specs.declared.places.Place.{Place}
@@ -201,3 +201,20 @@ judged_between S T k p (Err f) (Ok b) o q (is, first) (too, none) =
 judged_between S T k p (Err f) (Err g) o q (is, first) (too, other) =
     subst (λ q. Judges (verdict_between k p (Err f) (Err g)) (between k o q) (λ x. (fault_between k p q ≡ Some x) ⊎ (S x ⊎ T x))) (sym too)
     (ap (λ o. between k o None) is, IsFirstFault-along (λ x. turned) (λ x. turned) (further_told (λ x. S x ⊎ T x) (λ x. fault_between k p None ≡ Some x) (earlier f g) (fault_between k p None) (IsFirstFault-earlier S T f g first other) (own_told (fault_between k p None))))
+
+-- what a verdict says, outcome by outcome
+pub judged_value : (S : Fault → Type 0) (r : Result ℕ Fault) (o : Option ℕ) → Judges r o S → IfOk r (λ v. o ≡ Some v)
+judged_value S (Ok v) o h = h.0
+judged_value S (Err f) o h = tt
+
+pub judged_clean : (S : Fault → Type 0) (r : Result ℕ Fault) (o : Option ℕ) → Judges r o S → OnOk r ((f : Fault) → ¬ S f)
+judged_clean S (Ok v) o h = h.1
+judged_clean S (Err f) o h = tt
+
+pub judged_refused : (S : Fault → Type 0) (r : Result ℕ Fault) (o : Option ℕ) → Judges r o S → IfErr r (IsFirstFault S)
+judged_refused S (Ok v) o h = tt
+judged_refused S (Err f) o h = h.1
+
+pub judged_no_value : (S : Fault → Type 0) (r : Result ℕ Fault) (o : Option ℕ) → Judges r o S → OnErr r (o ≡ None)
+judged_no_value S (Ok v) o h = tt
+judged_no_value S (Err f) o h = h.0

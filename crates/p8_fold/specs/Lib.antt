@@ -3,5 +3,6 @@ pub mod Meanings
 pub mod Entries
 pub mod Operators
 pub mod Values
+pub mod Agreement
 -- What the code computes, a value or the first fault at once: internal.
 pub mod Verdicts

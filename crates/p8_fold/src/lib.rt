@@ -5,6 +5,8 @@ mod consts;
 mod folding;
 mod meanings;
 mod operators;
+mod values;
 
 pub use consts::Consts;
 pub use meanings::Meaning;
+pub use values::{FoldFault, value_of};
