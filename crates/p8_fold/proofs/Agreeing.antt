@@ -1,17 +1,16 @@
 -- What a tree mentions decides its verdict: by induction over trees.
-use Rattle.std.proofs.Common.{◌≡◌, ◌⊎◌, ◌↔◌, ◌==◌, ℕ, Option, Some, None, List, Result, Ok, Err, refl, sym, ap, ◌∙◌}
+use Rattle.std.proofs.Common.{◌≡◌, ◌⊎◌, ◌↔◌, ◌==◌, ℕ, Option, Some, None, List, refl, ap, ◌∙◌}
 use Rattle.std.specs.Prelude.{if◌then◌else◌}
 use Rattle.std.specs.Str.{bytes_eq}
-use Rattle.std.specs.Result.{result_err}
 use Rattle.p8_tree.specs.declared.places.Place.{Place}
 use Rattle.p8_tree.specs.Names.{result_word}
 use Rattle.p8_tree.specs.Expressions.{Tree, node, Form, Number, Str, Here, Var, Call, Unary, Binary, Assign, Change, Address, ObjectAddress, ObjConst, Built, Look, Variable, Named, Part, Memory, Register, Index, no_index, index, Bits, whole, bits, Item, single, range, Trees, no_trees, ◌▷◌, Items, no_items, ◌▸◌}
 use Rattle.p8_faults.specs.declared.faults.Fault.{Fault}
-use Rattle.p8_faults.specs.Faults.{IsFirstFault, fault}
+use Rattle.p8_faults.specs.Faults.{fault}
 use Rattle.p8_fold.specs.declared.meanings.Meaning.{Meaning}
 use Rattle.p8_fold.specs.declared.meanings.Meaning.TheVariants as meaning_case
 use Rattle.p8_fold.specs.Meanings.{Setting, meaning_of, value_of_meaning, address_of_meaning, given}
-use Rattle.p8_fold.specs.Values.{value, value_of_form, value_of_variable, address_of, value_of_one, constant_of, before, between, fault_of_name, unless, where_so, fault_of_variable, fault_of_constant, fault_of_call, fault_before, fault_between, is_constant_word, own_fault, FaultIn, FaultInside, FaultInVariable, FaultInIndex, FaultInBits, FaultInItem, FaultInTrees, FaultInItems}
+use Rattle.p8_fold.specs.Values.{value, value_of_form, value_of_variable, address_of, constant_of, before, between, fault_of_name, unless, fault_of_variable, fault_of_constant, fault_of_call, fault_between, own_fault, FaultIn, FaultInside, FaultInVariable, FaultInIndex, FaultInBits, FaultInItem, FaultInTrees, FaultInItems}
 use Rattle.p8_fold.specs.Agreement.{AgreeOn, AgreeOnForm, AgreeOnVariable, AgreeOnIndex, AgreeOnBits, AgreeOnItem, AgreeOnTrees, AgreeOnItems, AgreeOnCalled}
 
 meaning_same : (s t : Setting) (name : List ℕ) → s.name name ≡ t.name name → meaning_of s name ≡ meaning_of t name

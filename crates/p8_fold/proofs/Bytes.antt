@@ -1,5 +1,5 @@
 -- Maps whose keys are looked up by their bytes.
-use Rattle.std.proofs.Common.{◌≡◌, ℕ, Bool, true, false, List, [], Option, Some, None, inl, inr, refl, sym, subst, ◌∙◌, ap}
+use Rattle.std.proofs.Common.{◌≡◌, ℕ, Bool, true, false, List, [], Option, Some, None, inl, inr, sym, ◌∙◌, ap}
 use Rattle.std.specs.Prelude.{Vec, Result, Ok, Err, OnErr}
 use Rattle.std.specs.declared.cmp.Ordering.{Ordering}
 use Rattle.std.specs.BTreeMap.{BTreeMap, UpdatesBy, is_at}

@@ -1,5 +1,5 @@
 -- The verdict on a tree: by induction over trees, a line for each form.
-use Rattle.std.proofs.Common.{◌≡◌, ◌⊎◌, inl, inr, ℕ, Bool, true, false, ◌==◌, Option, Some, None, Result, Ok, Err, refl, sym, ap, ◌∙◌, subst}
+use Rattle.std.proofs.Common.{◌≡◌, ◌⊎◌, inr, ℕ, Bool, true, false, ◌==◌, Option, Some, None, Result, Ok, Err, refl}
 use Rattle.std.specs.Prelude.{if◌then◌else◌, not}
 use Rattle.std.specs.Result.{result_err}
 use Rattle.std.proofs.Math.Logic.{⊎_elim}
@@ -9,8 +9,8 @@ use Rattle.p8_faults.specs.declared.faults.Fault.{Fault}
 use Rattle.p8_faults.specs.Faults.{IsFirstFault, fault}
 use Rattle.p8_faults.proofs.Firsts.{IsFirstFault-along}
 use Rattle.p8_fold.specs.Meanings.{Setting, meaning_of, value_of_meaning, address_of_meaning, given}
-use Rattle.p8_fold.specs.Values.{value, value_of_form, value_of_variable, address_of, value_of_one, fault_of_name, unless, where_so, fault_of_variable, fault_of_call, fault_before, fault_between, is_constant_word, own_fault, FaultIn, FaultInside, FaultInVariable, FaultInIndex, FaultInBits, FaultInItem, FaultInTrees, FaultInItems}
-use Rattle.p8_fold.specs.Verdicts.{with_further, first_of_two, or_fault, verdict, verdict_of_form, verdict_of_one, built, fault_at, first_in_index, first_in_bits, first_in_item, first_in_trees, first_in_items}
+use Rattle.p8_fold.specs.Values.{value, value_of_form, fault_of_name, where_so, fault_of_variable, fault_of_call, own_fault, FaultIn, FaultInside, FaultInVariable, FaultInIndex, FaultInBits, FaultInItem, FaultInTrees, FaultInItems, HasValue, IsRefused}
+use Rattle.p8_fold.specs.Verdicts.{with_further, verdict, verdict_of_form, fault_at, first_in_index, first_in_bits, first_in_item, first_in_trees, first_in_items}
 use Rattle.p8_fold.proofs.Judging.{Tells, Judges, fault_told, further_told, two_told, is_one, one_told, judges, to_right, to_left, refused, refused_twice, value_or_one, constant_judged, judged_before, judged_between}
 
 -- a number, which has no fault
@@ -97,3 +97,10 @@ mutual
   pub in_items : (s : Setting) (xs : Items) → Tells (first_in_items s xs) (FaultInItems s xs)
   in_items s no_items = λ x b. b
   in_items s (xs ▸ x) = two_told (FaultInItems s xs) (FaultInItem s x) (first_in_items s xs) (first_in_item s x) (in_items s xs) (in_item s x)
+
+outcome : (s : Setting) (e : Tree) (r : Result ℕ Fault) → Judges r (value s e) (FaultIn s e) → HasValue s e ⊎ IsRefused s e
+outcome s e (Ok v) h = inl (record { number = v; is = h.0; clean = h.1 })
+outcome s e (Err f) h = inr (record { first = f; none = h.0; told = h.1 })
+
+pub one_outcome : (s : Setting) (e : Tree) → HasValue s e ⊎ IsRefused s e
+one_outcome s e = outcome s e (verdict s e) (judged s e)

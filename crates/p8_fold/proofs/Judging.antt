@@ -1,21 +1,20 @@
 -- A verdict is the value, and no fault, or no value and the first fault.
-use Rattle.std.proofs.Common.{◌≡◌, ◌⊎◌, inl, inr, ℕ, Bool, true, false, ◌==◌, ◌&&◌, List, [], ◌∷◌, Option, Some, None, Result, Ok, Err, refl, sym, ap, ◌∙◌, subst, cond, arith}
+use Rattle.std.proofs.Common.{◌≡◌, ◌⊎◌, inl, inr, ℕ, Bool, true, false, ◌==◌, ◌&&◌, List, [], ◌∷◌, Option, Some, None, Result, Ok, Err, refl, sym, ap, ◌∙◌, subst, arith}
 use Rattle.std.proofs.lemmas.Bool.{cases_eq}
 use Rattle.std.proofs.lemmas.Bool.Decides.{nat_tests}
-use Rattle.std.specs.Prelude.{IfOk, IfErr, OnOk, OnErr, MatchOption, if◌then◌else◌, not, is_some, map, ◌||◌}
+use Rattle.std.specs.Prelude.{IfOk, IfErr, OnOk, OnErr, MatchOption, if◌then◌else◌, is_some, map, ◌||◌}
 use Rattle.std.specs.Result.{result_err}
 use Rattle.std.proofs.Math.Logic.{⊎_elim}
 use Rattle.p8_tree.specs.declared.places.Place.{Place}
-use Rattle.p8_tree.specs.Expressions.{Tree, node, Form, Number, Str, Here, Var, Call, Unary, Binary, Assign, Change, Address, ObjectAddress, ObjConst, Built, Look, Variable, Named, Part, Memory, Register, Index, no_index, index, Bits, whole, bits, Item, single, range, Trees, no_trees, ◌▷◌, Items, no_items, ◌▸◌}
 use Rattle.p8_faults.specs.declared.faults.Fault.{Fault}
 use Rattle.p8_faults.specs.Faults.{FaultBefore, IsFirstFault, fault, earlier}
 use Rattle.p8_faults.proofs.Firsts.{IsFirstFault-along, IsFirstFault-earlier}
 use Rattle.p8_fold.specs.declared.meanings.Meaning.{Meaning}
 use Rattle.p8_fold.specs.declared.meanings.Meaning.TheVariants as meaning_case
-use Rattle.p8_fold.specs.Meanings.{Setting, meaning_of, value_of_meaning, address_of_meaning, given}
+use Rattle.p8_fold.specs.Meanings.{Setting, value_of_meaning, given}
 use Rattle.p8_fold.specs.Operators.{beside, unary_values, binary_values, unary_value, binary_value, divides}
-use Rattle.p8_fold.specs.Values.{value, value_of_form, value_of_variable, address_of, value_of_one, constant_of, before, between, fault_of_name, unless, where_so, fault_of_variable, fault_of_constant, fault_of_call, is_zero, fault_before, fault_between, is_constant_word, own_fault, FaultIn, FaultInside, FaultInVariable, FaultInIndex, FaultInBits, FaultInItem, FaultInTrees, FaultInItems}
-use Rattle.p8_fold.specs.Verdicts.{with_further, first_of_two, or_fault, verdict_before, verdict_of_values, verdict_between, verdict_of_constant, verdict, verdict_of_form, verdict_of_one, built, fault_at, first_in_index, first_in_bits, first_in_item, first_in_trees, first_in_items}
+use Rattle.p8_fold.specs.Values.{constant_of, before, between, fault_of_name, unless, where_so, fault_of_constant, fault_before, fault_between}
+use Rattle.p8_fold.specs.Verdicts.{with_further, first_of_two, or_fault, verdict_before, verdict_of_values, verdict_between, verdict_of_constant}
 
 -- what is told of a set of faults: its first, or that it has none
 abbrev pub Tells : Option Fault → (Fault → Type 0) → Type 0
@@ -132,7 +131,6 @@ unless_alike None None f e = refl
 unless_alike None (Some q) f e = absurd cc
 unless_alike (Some o) None f e = absurd cc
 unless_alike (Some o) (Some q) f e = refl
-
 
 pub judged_before : (S : Fault → Type 0) (k : ℕ) (p : Place) (r : Result ℕ Fault) (o : Option ℕ) → Judges r o S → Judges (verdict_before k p r) (before k o) (λ x. (fault_before k p ≡ Some x) ⊎ S x)
 judged_before S k p (Ok a) o (is, none) =

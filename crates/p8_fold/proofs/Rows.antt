@@ -1,5 +1,5 @@
 -- What the trees and the items of a list give, one after the other; and a call, a built-in and a LOOK as the code has them.
-use Rattle.std.proofs.Common.{◌≡◌, ℕ, ◌+◌, ◌<◌, Option, None, refl, List, [], ◌∷◌, ◌++◌, length, take, get_or, sym, ap, ◌∙◌}
+use Rattle.std.proofs.Common.{◌≡◌, ℕ, ◌+◌, ◌<◌, None, refl, List, [], ◌∷◌, length, take, get_or, sym, ap, ◌∙◌}
 use Rattle.std.proofs.lemmas.List.{take_more}
 use Rattle.std.specs.Result.{result_err}
 use Rattle.p8_tree.specs.declared.expressions.Expr as expr

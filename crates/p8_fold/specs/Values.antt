@@ -8,7 +8,7 @@ use Rattle.std.specs.Prelude.{◌≡◌, ◌⊎◌, ℕ, Bool, false, ◌==◌, 
 use Rattle.p8_tree.specs.declared.places.Place.{Place}
 use Rattle.p8_tree.specs.Expressions.{Tree, node, Form, Number, Str, Here, Var, Call, Unary, Binary, Assign, Change, Address, ObjectAddress, ObjConst, Built, Look, Variable, Named, Part, Memory, Register, Index, no_index, index, Bits, whole, bits, Item, single, range, Trees, no_trees, ◌▷◌, Items, no_items, ◌▸◌}
 use Rattle.p8_faults.specs.declared.faults.Fault.{Fault}
-use Rattle.p8_faults.specs.Faults.{fault}
+use Rattle.p8_faults.specs.Faults.{fault, IsFirstFault}
 use Rattle.p8_fold.specs.declared.meanings.Meaning.{Meaning}
 use Rattle.p8_fold.specs.declared.meanings.Meaning.TheVariants as meaning_case
 use Rattle.p8_fold.specs.Meanings.{Setting, meaning_of, value_of_meaning, address_of_meaning, given}
@@ -177,3 +177,15 @@ abbrev mutual
   pub FaultInItems : Setting → Items → Fault → Type 0
   FaultInItems s no_items f = ⊥
   FaultInItems s (xs ▸ x) f = FaultInItems s xs f ⊎ FaultInItem s x f
+
+-- ---- the two outcomes
+
+pub record HasValue (s : Setting) (e : Tree) : Type 0 where
+  pub number : ℕ
+  pub is : value s e ≡ Some number
+  pub clean : (f : Fault) → ¬ FaultIn s e f
+
+pub record IsRefused (s : Setting) (e : Tree) : Type 0 where
+  pub first : Fault
+  pub none : value s e ≡ None
+  pub told : IsFirstFault (FaultIn s e) first

@@ -12,6 +12,7 @@ use std::alloc::{AllocError, Global};
 use std::collections::BTreeMap;
 
 type Names = BTreeMap<Vec<u8>, Meaning>;
+
 type Objects = BTreeMap<Vec<u8>, Names>;
 
 /// What the names of an expression mean: those that stand alone, those behind an object's name and `#`, and `$`.
@@ -108,12 +109,7 @@ fn is_result(name: &Text) -> bool
 }
 
 // Puts a meaning at a name.
-fn enter(
-    alloc: Global,
-    names: &mut Names,
-    name: &Text,
-    meaning: Meaning,
-) -> Result<(), AllocError>
+fn enter(alloc: Global, names: &mut Names, name: &Text, meaning: Meaning) -> Result<(), AllocError>
     ensures entered { OnOk result (at_bytes name.now names.new ≡ Some meaning) }
     ensures others { (n : List ℕ) → ¬ (n ≡ name.now) → at_bytes n names.new ≡ at_bytes n names.old }
     ensures unchanged { OnErr result ((n : List ℕ) → at_bytes n names.new ≡ at_bytes n names.old) }

@@ -72,11 +72,7 @@ fn fault_before(operator: u8, place: Place) -> Option<Fault>
     }
 }
 
-fn verdict_before(
-    operator: u8,
-    place: Place,
-    operand: Result<u32, Fault>,
-) -> Result<u32, Fault>
+fn verdict_before(operator: u8, place: Place, operand: Result<u32, Fault>) -> Result<u32, Fault>
     ensures { result ≡ verdict_before operator place operand }
 {
     match operand {
@@ -300,10 +296,7 @@ fn verdict_of_built(
     if arguments.len() == 1 {
         verdict_of_one(code, place, verdict(consts, &arguments[0]))
     } else {
-        Err(with_further(
-            not_constant(place),
-            first_in_trees(consts, arguments),
-        ))
+        Err(with_further(not_constant(place), first_in_trees(consts, arguments)))
     }
 }
 

@@ -1,12 +1,16 @@
-//! The values of constant expressions.
+//! The values of constant expressions: what names mean to them, their value, and what is wrong where they have none.
 #![tactic(auto)]
 
 mod consts;
 mod folding;
+mod laws;
 mod meanings;
 mod operators;
+#[cfg(test)]
+mod tests;
 mod values;
 
 pub use consts::Consts;
+pub use laws::{other_has_no_value, value_or_fault};
 pub use meanings::Meaning;
 pub use values::{FoldFault, value_of};

@@ -3,9 +3,7 @@ ghost use Rattle.std.specs.Prelude.{◌≡◌, ◌<◌, ◌-◌, ◌^◌, pos, n
 ghost use Rattle.p8_words.specs.Words.{word_of, signed_value, shifted_right_signed, rotated_left, rotated_right};
 ghost use Rattle.p8_fold.specs.Operators.{truth, is_below, unary_value, binary_value, divides};
 
-use p8_words::{
-    add_wrap, decode, divide, encode, high_signed, remainder, reverse, root, signed,
-};
+use p8_words::{add_wrap, decode, divide, encode, high_signed, remainder, reverse, root, signed};
 
 // -1 for true, 0 for false.
 fn truth(is_so: bool) -> u32

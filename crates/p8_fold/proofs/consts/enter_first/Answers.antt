@@ -1,4 +1,4 @@
-use Rattle.std.proofs.Common.{◌≡◌, ◌∙◌, ap, sym, subst, rules, Some, None}
+use Rattle.std.proofs.Common.{◌≡◌, ◌∙◌, ap, sym, rules, Some}
 use Rattle.p8_fold.specs.Entries.{at_bytes, at_both}
 use Rattle.p8_fold.proofs.Bytes.{at_others, at_other_names, at_bytes-empty}
 use Rattle.p8_fold.proofs.consts.enter_first.Goals as goal
