@@ -1,5 +1,4 @@
 use Rattle.std.proofs.Common.{ap, inl}
-use Rattle.p8_faults.specs.Faults.{fault}
 use Rattle.p8_fold.specs.Meanings.{value_of_meaning, given}
 use Rattle.p8_fold.specs.Values.{unless, fault_of_name}
 use Rattle.p8_fold.proofs.laws.other_has_no_value.Goals as goal
