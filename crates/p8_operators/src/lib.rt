@@ -1,0 +1,8 @@
+//! The values of Spin's operators, by their bytecodes.
+#![tactic(auto)]
+
+mod operators;
+#[cfg(test)]
+mod tests;
+
+pub use operators::{binary, binary_result, divides, is_unary, unary, unary_result};
