@@ -22,8 +22,6 @@ mod line;
 mod room;
 mod stack;
 mod statements;
-#[cfg(test)]
-mod tests;
 
 pub use blocks::Blocks;
 pub use laws::{fit_together, method_is_innermost, one_reading, opener_is_innermost};

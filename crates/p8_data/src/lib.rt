@@ -7,8 +7,6 @@ mod laws;
 mod lines;
 mod part;
 mod row;
-#[cfg(test)]
-mod tests;
 
 pub use laws::{conditions_agree, instructions_agree};
 pub use lines::{DatRow, dat_line};

@@ -8,8 +8,6 @@ mod method_head;
 mod obj_line;
 mod part;
 mod row;
-#[cfg(test)]
-mod tests;
 mod var_line;
 
 pub use con_line::constants;

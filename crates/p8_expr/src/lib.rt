@@ -5,8 +5,6 @@ mod fault;
 mod laws;
 mod parsing;
 mod refusals;
-#[cfg(test)]
-mod tests;
 mod words;
 
 pub use fault::ParseFault;

@@ -12,8 +12,6 @@ mod place;
 mod refusal;
 mod run;
 mod table;
-#[cfg(test)]
-mod tests;
 mod token;
 mod word;
 

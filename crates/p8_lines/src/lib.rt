@@ -6,8 +6,6 @@ mod diagram;
 mod reading;
 mod sign;
 mod state;
-#[cfg(test)]
-mod tests;
 mod words;
 
 pub use arrow::Arrow;

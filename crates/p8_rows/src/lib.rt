@@ -4,8 +4,6 @@
 mod agreement;
 mod declarations;
 mod laws;
-#[cfg(test)]
-mod statement_tests;
 mod statements;
 
 pub use agreement::assignments_agree;

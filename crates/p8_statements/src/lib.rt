@@ -6,8 +6,6 @@ mod laws;
 mod role;
 mod row;
 mod statements;
-#[cfg(test)]
-mod tests;
 mod variables;
 
 pub use laws::kinds_are_proper;

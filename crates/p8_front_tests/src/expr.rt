@@ -1,5 +1,5 @@
 // Worked expressions, read with ample memory.
-use crate::{GREATEST_HEIGHT, ParseFault, parse_expr, parse_expr_in};
+use p8_expr::{GREATEST_HEIGHT, ParseFault, parse_expr, parse_expr_in};
 use p8_grammar::Setting;
 use p8_lexer::lex;
 use p8_tree::{Expr, ExprKind};

@@ -1,5 +1,5 @@
 // A line of data and an instruction.
-use crate::{DatRow, dat_line};
+use p8_data::{DatRow, dat_line};
 use p8_lexer::Word;
 use p8_pieces::Piece;
 use p8_tree::{DatBody, DatLine, Place, Text};

@@ -1,5 +1,5 @@
 // Worked values of the lexer.
-use super::*;
+use p8_lexer::{Place, Word, lex, refusal_name, word_of};
 use p8_words::Fail;
 
 // Whether a file is refused so.

@@ -4,7 +4,7 @@ ghost use Rattle.p8_columns.specs.Columns.{Fits};
 ghost use Rattle.p8_columns.specs.Views.{line_of};
 ghost use Rattle.p8_columns.specs.Taken.{Lines, HasTaken};
 
-use crate::{Action, Blocks, Chain, Line, LineKind, Room};
+use p8_columns::{Action, Blocks, Chain, Line, LineKind, Room};
 use p8_tree::{Arm, Expr, ExprKind, Item, List, Loop, Place, Stmt, StmtKind};
 use p8_words::NoMemory;
 use std::alloc::{AllocError, Global};

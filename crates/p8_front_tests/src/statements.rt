@@ -1,8 +1,8 @@
 // A line with a value, and an action.
-use super::*;
 use p8_columns::{Action, LineKind};
 use p8_lexer::Word;
 use p8_pieces::Piece;
+use p8_statements::line_kind;
 use p8_tree::{Expr, ExprKind, Place, Text};
 use p8_words::NoMemory;
 use std::alloc::{AllocError, Global};

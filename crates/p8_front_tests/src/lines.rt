@@ -1,6 +1,6 @@
 // A line that is read, and one that is refused.
-use crate::{State, read_line};
 use p8_lexer::lex;
+use p8_lines::{State, read_line};
 use p8_words::Fail;
 use std::alloc::AllocError;
 

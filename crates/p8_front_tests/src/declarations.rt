@@ -1,5 +1,5 @@
 // A row of each kind, and what it declares.
-use super::*;
+use p8_declarations::{constants, method, object, variables};
 use p8_lexer::Word;
 use p8_pieces::Piece;
 use p8_tree::{Place, Text};

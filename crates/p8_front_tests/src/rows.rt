@@ -1,8 +1,8 @@
 // Lines of methods: what each is and how many tokens it has, or its refusal.
-use crate::read_statement;
 use p8_columns::{Action, LineKind};
 use p8_lexer::lex;
 use p8_lines::State::{self, CaseItem, ChainLine, LoopEndLine, Statement};
+use p8_rows::read_statement;
 use p8_tree::Loop;
 use p8_words::Fail;
 use std::alloc::AllocError;
