@@ -1,5 +1,5 @@
 -- A line ends with the end of a line of the text; an item of a CASE, and OTHER, with a colon.
-use Rattle.std.proofs.Common.{◌≡◌, ℕ, List, [], ◌∷◌, ◌++◌, Option, Some, None, Bool, true, false, refl, sym, ap, ◌∙◌, subst}
+use Rattle.std.proofs.Common.{◌≡◌, ℕ, List, [], ◌∷◌, ◌++◌, Option, Some, None, Bool, true, false, refl, ap, subst}
 use Rattle.std.specs.Prelude.{IsTrue, if◌then◌else◌}
 use Rattle.p8_lexer.specs.declared.word.Word.{Word}
 use Rattle.p8_lexer.specs.declared.word.Word.TheVariants as word_case
@@ -97,7 +97,7 @@ pub behind_all : {ts : List LineToken} {w : Word} (us : List LineToken) → Last
 behind_all [] l = l
 behind_all (u ∷ us) l = behind u (behind_all us l)
 
-none_left : {q : State} {row : List Piece} {ts : List LineToken} → Row q row ts → IsTrue (is_over q) → ts ≡ []
+pub none_left : {q : State} {row : List Piece} {ts : List LineToken} → Row q row ts → IsTrue (is_over q) → ts ≡ []
 none_left over h = refl
 none_left (token {q = state.End} f x) h = absurd (nothing f)
   where

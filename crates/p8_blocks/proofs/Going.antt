@@ -20,7 +20,7 @@ use Rattle.p8_rows.specs.Values.{ReadsAs, begins_line}
 use Rattle.p8_lines.proofs.Readings.{leads_row}
 use Rattle.p8_blocks.specs.Reading as blocks
 use Rattle.p8_blocks.specs.Reading.{Part, constants, variables, objects, assembly, method, Position, at, start, IsHead, opens, IsTooDeep, HasNoLoop, Enters, from, begin, begun_by, is_begun, Opens, Extends, Step, Goes, stay, go_on, AreBlocks, no_blocks, con_block, var_block, obj_block, dat_block, method_block}
-use Rattle.p8_blocks.specs.Files.{Heights, within_limits, lines_in, is_item}
+use Rattle.p8_blocks.specs.Files.{Heights, within_limits, is_item}
 use Rattle.p8_blocks.specs.Trees.{IsShallowBlock, IsShallow}
 use Rattle.p8_blocks.proofs.After.{After, after_first, after_rest, after_more}
 use Rattle.p8_blocks.proofs.Depths.{line_depth, Shallow, all_shallow}
@@ -158,7 +158,7 @@ pub record Stepped (x : Position) (ts : List LineToken) (y : Position) (rest : L
   pub line : Line within_limits (x.parts, is_begun x.begun) tokens (y.parts, is_begun y.begun)
   pub deep : AllShallow x.parts → AllShallow y.parts
 
-opened_shallow : (w : Word) (us : List LineToken) (p : Part) → OpensAs within_limits w us p → PartShallow p
+pub opened_shallow : (w : Word) (us : List LineToken) (p : Part) → OpensAs within_limits w us p → PartShallow p
 opened_shallow word_case.Con us p x = subst PartShallow (sym x.2) tt
 opened_shallow word_case.Var us p x = subst PartShallow (sym x.2) tt
 opened_shallow word_case.Obj us p x = subst PartShallow (sym x.2) tt
@@ -167,7 +167,7 @@ opened_shallow word_case.Pri us p x = subst PartShallow (sym x.2) tt
 opened_shallow word_case.Dat us p x = subst PartShallow (sym x.2) tt
 opened_shallow w us p x = absurd x
 
-added_shallow : {us : List LineToken} {ps qs : List Part} → Adds within_limits us ps qs → AllShallow ps → AllShallow qs
+pub added_shallow : {us : List LineToken} {ps qs : List Part} → Adds within_limits us ps qs → AllShallow ps → AllShallow qs
 added_shallow (first_constants v) h = (tt, tt)
 added_shallow (more_constants v) h = (tt, h.1)
 added_shallow (more_variables v) h = (tt, h.1)

@@ -48,11 +48,11 @@ entered_begins ls b t q (loop_end h c) = refl
 entered_begins ls b t q (statement h g c) = refl
 entered_begins ls b t q (item h g c) = refl
 
-not_begun : (b : Bool) (w : Word) → IsTrue (goes_on_chain b w) → b ≡ false
+pub not_begun : (b : Bool) (w : Word) → IsTrue (goes_on_chain b w) → b ≡ false
 not_begun true w h = absurd cc
 not_begun false w h = refl
 
-not_begun_either : (b : Bool) (w : Word) → IsTrue (ends_loop b w) → b ≡ false
+pub not_begun_either : (b : Bool) (w : Word) → IsTrue (ends_loop b w) → b ≡ false
 not_begun_either true w h = absurd cc
 not_begun_either false w h = refl
 

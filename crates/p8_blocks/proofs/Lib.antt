@@ -24,3 +24,13 @@ pub mod Limits
 pub mod ProperLines
 pub mod ProperFiles
 pub mod ProperTokens
+pub mod Lows
+pub mod Ending
+pub mod Inside
+pub mod Settings
+pub mod Prefixes
+pub mod Fitting
+pub mod Refusing
+pub mod OneRefusal
+pub mod TextLines
+pub mod LastBlocks

@@ -1,5 +1,5 @@
 -- A refusal of what is too high or too deep: where it comes, and where it stands.
-use Rattle.std.proofs.Common.{◌≡◌, ℕ, List, [], ◌∷◌, ◌++◌, Option, Some, None, Bool, true, false, refl, sym, ap, ◌∙◌, subst, append_assoc, append-nil}
+use Rattle.std.proofs.Common.{◌≡◌, ℕ, List, [], ◌∷◌, ◌++◌, Option, Some, None, Bool, true, false, refl, sym, ap, ◌∙◌, subst, append_assoc}
 use Rattle.std.specs.Prelude.{IsTrue, if◌then◌else◌, ◌≢◌}
 use Rattle.p8_tree.specs.declared.places.Place.{Place}
 use Rattle.p8_tree.specs.Sources.{MethodTree, Source}
@@ -17,21 +17,19 @@ use Rattle.p8_lines.specs.Diagram.{setting_at}
 use Rattle.p8_lines.specs.Tokens.{LineToken, word}
 use Rattle.p8_lines.specs.Lines as line_specs
 use Rattle.p8_lines.specs.Lines.{Row, Outcome, Reads, refused, too_high, stopped}
-use Rattle.p8_lines.proofs.Ways.{cancel}
 use Rattle.p8_rows.specs.Values.{suits, begins_line}
-use Rattle.p8_statements.specs.Statements.{kind_of_row}
 use Rattle.p8_blocks.specs.Reading as reading
 use Rattle.p8_blocks.specs.Reading.{Part, method, Position, at, start, IsHead, head_state, line_state, declares, is_begun, begin, begun_by, Enters, chain_over, no_chain, no_loop, after_other, from, barred, HasNoLoop, IsTooDeep, IsRefusedAt, Step, Goes, stay, go_on, Fails, head_fails, declaration_fails, entry_fails, no_loop_fails, too_deep_fails, line_fails, Parses, fails, source, fault}
 use Rattle.p8_blocks.specs.Trees.{IsShallow}
 use Rattle.p8_blocks.specs.Files.{Heights, any_height, within_limits, is_item, IsFile, IsFileWithinLimits, Begins, LinesFrom, PassesLimits, EndsLine, nothing, line_end, LineBegins, here, behind_item, PassesAt, by_height, by_depth}
-use Rattle.p8_blocks.proofs.Entries.{one_state, not_barred}
-use Rattle.p8_blocks.proofs.Walks.{Valued, OpensAs, row_of_line, Progress, Line, blank, head, declaration, method_line, Walk, more, line_any, walk_any, not_added}
+use Rattle.p8_blocks.proofs.Entries.{one_state}
+use Rattle.p8_blocks.proofs.Walks.{Progress, Line, blank, head, declaration, method_line, Walk, more, line_any, walk_any, not_added}
 use Rattle.p8_blocks.proofs.Runs.{takes_some, next_line, next_run}
-use Rattle.p8_blocks.proofs.Keeping.{AllKinds, entered_begins, suited}
+use Rattle.p8_blocks.proofs.Keeping.{entered_begins, suited}
 use Rattle.p8_blocks.proofs.Walking.{file_walk, first_token}
 use Rattle.p8_blocks.proofs.Depths.{Shallow}
 use Rattle.p8_blocks.proofs.After.{after_rest}
-use Rattle.p8_blocks.proofs.Going.{AllShallow, depths, gone, goes, before, not_shallow, Stepped, stepped, begun_behind, run_before}
+use Rattle.p8_blocks.proofs.Going.{AllShallow, depths, gone, goes, not_shallow, Stepped, stepped, begun_behind, run_before}
 use Rattle.p8_blocks.proofs.Agreeing.{files_are_read}
 use Rattle.p8_blocks.proofs.Answering.{one_answer, loop_or_deep}
 use Rattle.p8_blocks.proofs.Stopping.{AllValues, walk_file, walk_begins, head_line, opening_row, row_opens, added_row, declaration_row, row_adds, method_row}
@@ -92,7 +90,7 @@ module _ (all : AllValues) where
   declared_lines : {ps : List Part} {b : Bool} {ts : List LineToken} → Walk any_height (ps, b) ts → (t : LineToken) → word t ≢ word_case.LineEnd → ¬ IsHead t → IsTrue (declares ps) → LinesFrom ts t (line_state ps)
   declared_lines {ps} {b} w t n i d = lines_from w t (line_state ps) (declaration_row all t n i d) (λ row us r. (let x = row_adds all ps d row (t ∷ us) r in ((x.0, false), declaration t n i x.1)))
 
-  completes : {m : MethodTree} {ls : List lines.Line} {ps : List Part} {b : Bool} (t : LineToken) (q : State) → word t ≢ word_case.LineEnd → ¬ IsHead t → Enters ls b t (from q) → ¬ HasNoLoop ls q t → (row : List Piece) (us : List LineToken) → Row q row (t ∷ us) → (y : Progress) × Line any_height (method m ls ∷ ps, b) (t ∷ us) y
+  pub completes : {m : MethodTree} {ls : List lines.Line} {ps : List Part} {b : Bool} (t : LineToken) (q : State) → word t ≢ word_case.LineEnd → ¬ IsHead t → Enters ls b t (from q) → ¬ HasNoLoop ls q t → (row : List Piece) (us : List LineToken) → Row q row (t ∷ us) → (y : Progress) × Line any_height (method m ls ∷ ps, b) (t ∷ us) y
   completes {m} {ls} {ps} {b} t q n i e l row us r =
       let k = all.kinds q (entered_begins ls b t q e) row (t ∷ us) r in
       ((method m (ls ++ lines.line t.place k.0 ∷ []) ∷ ps, is_item k.0), method_line t q n i e l (record { row = row; line = r; is = k.1 }))
@@ -162,7 +160,7 @@ module _ (all : AllValues) where
   abbrev LinesBegin : List LineToken → Option Place → Type 0
   LinesBegin ts b = (t : LineToken) → LineBegins ts t (begin b t)
 
-  line_ends : {x y : Progress} {us : List LineToken} → Line any_height x us y → y.1 ≡ false → (ts : List LineToken) → EndsLine (ts ++ us)
+  pub line_ends : {x y : Progress} {us : List LineToken} → Line any_height x us y → y.1 ≡ false → (ts : List LineToken) → EndsLine (ts ++ us)
   line_ends (blank t e) o ts = line_end ts t e
   line_ends (head {p = p} {us = us} t i o) f ts = let r = opening_row all (word t) us p o in ends_row ts (t ∷ []) us r.1 (head_goes (word t)) (head_outside (word t))
   line_ends (declaration {ps = ps} {us = us} t n i x) f ts = let r = added_row all x in ends_row ts [] (t ∷ us) r.1 (line_goes ps) (line_outside ps)
@@ -170,15 +168,15 @@ module _ (all : AllValues) where
       let g = entered_begins ls b t q e in
       ends_row ts [] (t ∷ us) v.line (entered_goes q g) (no_item_state q k g (suited all.kinds q v.row (t ∷ us) k g v.line v.is) f)
 
-  record AnItem (ts us : List LineToken) : Type 0 where
-    first : LineToken
-    others : List LineToken
-    are : us ≡ first ∷ others
-    from_there : LinesFrom ts first state.CaseItem
-    row : List Piece
-    is : Row state.CaseItem row (first ∷ others)
+  pub record AnItem (ts us : List LineToken) : Type 0 where
+    pub first : LineToken
+    pub others : List LineToken
+    pub are : us ≡ first ∷ others
+    pub from_there : LinesFrom ts first state.CaseItem
+    pub row : List Piece
+    pub is : Row state.CaseItem row (first ∷ others)
 
-  item_line : {x y : Progress} {ts us : List LineToken} → Walk any_height x ts → Line any_height x us y → y.1 ≡ true → AnItem ts us
+  pub item_line : {x y : Progress} {ts us : List LineToken} → Walk any_height x ts → Line any_height x us y → y.1 ≡ true → AnItem ts us
   item_line w (blank t e) f = absurd cc
   item_line w (head t i o) f = absurd cc
   item_line w (declaration t n i x) f = absurd cc
@@ -231,11 +229,11 @@ module _ (all : AllValues) where
 
   module _ {m : MethodTree} {ls : List lines.Line} {ps : List Part} {b : Bool} {ts : List LineToken} (w : Walk any_height (method m ls ∷ ps, b) ts) (t : LineToken) (q : State) (n : word t ≢ word_case.LineEnd) (i : ¬ IsHead t) (e : Enters ls b t (from q)) where
     -- a line that goes on with these tokens
-    goes_on_with : ¬ HasNoLoop ls q t → (us : List LineToken) → line_specs.Begins q (t ∷ us) → Begins (ts ++ t ∷ us)
+    pub goes_on_with : ¬ HasNoLoop ls q t → (us : List LineToken) → line_specs.Begins q (t ∷ us) → Begins (ts ++ t ∷ us)
     goes_on_with l us (rest, row, r) = walk_begins all (ts ++ t ∷ us) rest (subst (λ z. Walk any_height (completes {m = m} {ps = ps} t q n i e l row (us ++ rest) r).0 z) (sym (append_assoc ts (t ∷ us) rest)) (more w (completes t q n i e l row (us ++ rest) r).1))
 
     -- no file with it is shallow, where it opens a block too many
-    is_deep : IsTooDeep ls q t → {h : Heights} (rest : List LineToken) (s : Source) → IsFile h s (ts ++ t ∷ rest) → ¬ IsShallow s
+    pub is_deep : IsTooDeep ls q t → {h : Heights} (rest : List LineToken) (s : Source) → IsFile h s (ts ++ t ∷ rest) → ¬ IsShallow s
     is_deep d {h} rest s f shallow =
         let v = file_walk all.kinds f in
         let y = next_run t rest w (walk_any h v.walk) in
@@ -251,7 +249,7 @@ module _ (all : AllValues) where
             let s : Shallow ls (lines.line u.place k) = (after_rest Shallow [] ls (lines.line u.place k ∷ []) a.0).0 in
             not_shallow all.kinds ls u us r k e' v s (subst (λ u. IsTooDeep ls r u) (sym firsts) (subst (λ q. IsTooDeep ls q t) states d))
 
-  too_deep_begins : {ls : List lines.Line} {m : MethodTree} {ps : List Part} {b : Bool} {ts us : List LineToken} {q : State} {o : Outcome} (t : LineToken) → Walk any_height (method m ls ∷ ps, b) ts → word t ≢ word_case.LineEnd → ¬ IsHead t → Enters ls b t (from q) → IsTooDeep ls q t → Reads q (t ∷ us) o → ¬ IsRefusedAt t.place o → Begins (ts ++ t ∷ [])
+  pub too_deep_begins : {ls : List lines.Line} {m : MethodTree} {ps : List Part} {b : Bool} {ts us : List LineToken} {q : State} {o : Outcome} (t : LineToken) → Walk any_height (method m ls ∷ ps, b) ts → word t ≢ word_case.LineEnd → ¬ IsHead t → Enters ls b t (from q) → IsTooDeep ls q t → Reads q (t ∷ us) o → ¬ IsRefusedAt t.place o → Begins (ts ++ t ∷ [])
   too_deep_begins {ls = ls} {b = b} {q = q} t w n i e d r o = goes_on_with w t q n i e (λ l. loop_or_deep ls q q t refl l d) [] (begins_line_so (entered_goes q (entered_begins ls b t q e)) r o)
 
   passes_at : {x : Position} {ts us : List LineToken} {n : ℕ} {p : Place} → Walk any_height (x.parts, is_begun x.begun) ts → LinesBegin ts x.begun → Fails x us n p → n ≡ refusal_number TooNested → PassesAt (ts ++ us) p

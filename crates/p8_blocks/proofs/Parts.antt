@@ -105,7 +105,7 @@ method_part {h} {m} t ws q k b o (a_method {ls = ls} {vs = vs} public s us i x d
 
 -- no other part stands before the first block's word
 
-one_part : {p : Part} {ps : List Part} (xs : List Constant) → p ∷ ps ≡ first_part xs → (p ≡ constants xs) × (ps ≡ []) × Filled xs
+pub one_part : {p : Part} {ps : List Part} (xs : List Constant) → p ∷ ps ≡ first_part xs → (p ≡ constants xs) × (ps ≡ []) × Filled xs
 one_part [] e = absurd cc
 one_part (x ∷ xs) e = (cc, cc, record { first = x; others = xs; is = refl })
 

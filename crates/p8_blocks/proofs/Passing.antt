@@ -1,8 +1,7 @@
 -- Where tokens go past the limits on heights and on how deep blocks stand.
-use Rattle.std.proofs.Common.{◌≡◌, ℕ, ◌<◌, List, [], ◌∷◌, ◌++◌, Option, Some, None, Bool, true, false, refl, sym, ap, ◌∙◌, subst, append_assoc, append-nil, arith}
+use Rattle.std.proofs.Common.{◌≡◌, ℕ, ◌<◌, List, [], ◌∷◌, ◌++◌, Option, Some, None, Bool, true, false, refl, sym, ap, ◌∙◌, subst, append_assoc, arith}
 use Rattle.std.specs.Prelude.{IsTrue, if◌then◌else◌, unwrap_or}
 use Rattle.p8_tree.specs.declared.places.Place.{Place}
-use Rattle.p8_tree.specs.Sources.{MethodTree, Source}
 use Rattle.p8_lexer.specs.declared.word.Word.{Word}
 use Rattle.p8_lexer.specs.declared.word.Word.TheVariants as word_case
 use Rattle.p8_lexer.specs.declared.refusal.Refusal.{Refusal}
@@ -12,18 +11,15 @@ use Rattle.p8_grammar.specs.Grammar.{IsFront}
 use Rattle.p8_grammar.specs.Heights as heights
 use Rattle.p8_grammar.specs.Lexemes.{Setting, in_method, in_declaration, in_dat, in_data_item}
 use Rattle.p8_expr.specs.Refusals.{refusal_of}
-use Rattle.p8_columns.specs.Lines as lines
-use Rattle.p8_columns.specs.Lines.{Kind}
 use Rattle.p8_pieces.specs.Pieces.{Piece}
 use Rattle.p8_lines.specs.declared.state.State.{State}
-use Rattle.p8_lines.specs.declared.state.State.TheVariants as state
 use Rattle.p8_lines.specs.Diagram.{Phrase, choices, setting_at}
 use Rattle.p8_lines.specs.Tokens.{LineToken, word, terms}
 use Rattle.p8_lines.specs.Lines as line_specs
 use Rattle.p8_lines.specs.Lines.{Row, Leads, Outcome, read, Reads, refused, line, too_high, stopped, number_of, greatest_height, IsTooHigh}
 use Rattle.p8_lines.proofs.Begun.{nothing_high}
 use Rattle.p8_lines.proofs.Rows.{leads_way, begun, way_begins, front_begins}
-use Rattle.p8_blocks.specs.Reading.{Part, method, Position, at, IsHead, IsRefusedAt}
+use Rattle.p8_blocks.specs.Reading.{IsRefusedAt}
 use Rattle.p8_lines.proofs.Readings.{leads_row}
 use Rattle.p8_blocks.proofs.Ends.{is_over, Last, row_ends}
 
@@ -50,6 +46,16 @@ pub not_nested : (s : Setting) (w : Word) → number_of s w ≡ refusal_number r
 not_nested s w e = go (refusal_of s w) (words_refused s w) e
   where
     go : (o : Option Refusal) → IsTrue (is_of_words o) → refusal_number (unwrap_or o refusal.Unexpected) ≡ refusal_number refusal.TooNested → ⊥
+    go None h e = absurd cc
+    go (Some refusal.Float) h e = absurd cc
+    go (Some refusal.Unsupported) h e = absurd cc
+    go (Some r) h e = absurd cc
+
+-- nor as one without its opener
+pub not_indent : (s : Setting) (w : Word) → number_of s w ≡ refusal_number refusal.BadIndent → ⊥
+not_indent s w e = go (refusal_of s w) (words_refused s w) e
+  where
+    go : (o : Option Refusal) → IsTrue (is_of_words o) → refusal_number (unwrap_or o refusal.Unexpected) ≡ refusal_number refusal.BadIndent → ⊥
     go None h e = absurd cc
     go (Some refusal.Float) h e = absurd cc
     go (Some refusal.Unsupported) h e = absurd cc

@@ -53,7 +53,7 @@ valued : {V : Type 0} (value : List Piece → Option V) (q : State) → HaveValu
 valued value q h row us r = let x = h row us r in (x.0, record { row = row; line = r; is = x.1 })
 
 -- A line that begins with these tokens, which aren't a line, goes on as they do.
-row_stops : {q : State} {row : List Piece} {xs : List LineToken} (us ys zs : List LineToken) (t : LineToken) → Row q row xs → xs ++ ys ≡ us ++ t ∷ zs → line_specs.Begins q us → ((row : List Piece) → ¬ Row q row us) → ¬ line_specs.Begins q (us ++ t ∷ []) → ⊥
+pub row_stops : {q : State} {row : List Piece} {xs : List LineToken} (us ys zs : List LineToken) (t : LineToken) → Row q row xs → xs ++ ys ≡ us ++ t ∷ zs → line_specs.Begins q us → ((row : List Piece) → ¬ Row q row us) → ¬ line_specs.Begins q (us ++ t ∷ []) → ⊥
 row_stops {q} {row} {xs} us ys zs t r split begins no_line ends = go (compare xs ys us (t ∷ zs) split)
   where
     go : Compared xs ys us (t ∷ zs) → ⊥
@@ -67,7 +67,7 @@ row_stops {q} {row} {xs} us ys zs t r split begins no_line ends = go (compare xs
         let nothing : u ∷ (ws ++ begins.0) ≡ [] = cancel xs (u ∷ (ws ++ begins.0)) [] (sym whole ∙ sym z.tokens ∙ sym (append-nil xs)) in
         cc
 
-inside : (b c : Bool) → IsTrue (not b && c) → IsTrue c
+pub inside : (b c : Bool) → IsTrue (not b && c) → IsTrue c
 inside true c h = absurd cc
 inside false c h = h
 
@@ -89,7 +89,7 @@ module _ (all : AllValues) where
   itself {x} {ts} w = walk_begins ts [] (subst (λ ts. Walk any_height x ts) (sym (append-nil ts)) w)
 
   -- where no line from these blocks on takes these tokens, no file begins so
-  none_begins : {x : Progress} {ts : List LineToken} (t : LineToken) (us : List LineToken) → Walk any_height x ts → ((y : Progress) (xs ys rest : List LineToken) → Line any_height x xs y → xs ++ ys ≡ t ∷ (us ++ rest) → ⊥) → ¬ Begins (ts ++ t ∷ us)
+  pub none_begins : {x : Progress} {ts : List LineToken} (t : LineToken) (us : List LineToken) → Walk any_height x ts → ((y : Progress) (xs ys rest : List LineToken) → Line any_height x xs y → xs ++ ys ≡ t ∷ (us ++ rest) → ⊥) → ¬ Begins (ts ++ t ∷ us)
   none_begins {ts = ts} t us w no_line (rest, s, f) =
       let v = file_walk all.kinds f in
       let x = next_line t (us ++ rest) w (subst (λ l. Walk any_height (v.parts, v.begun) l) (append_assoc ts (t ∷ us) rest) v.walk) in
@@ -233,17 +233,8 @@ module _ (all : AllValues) where
 
   -- a line of a method that is refused before it is read
 
-  unread : {m : MethodTree} {ls : List lines.Line} {ps : List Part} {b : Bool} {ts : List LineToken} (t : LineToken) (us : List LineToken) → Walk any_height (method m ls ∷ ps, b) ts → word t ≢ word_case.LineEnd → ¬ IsHead t → {n : ℕ} → NumberOf (word t) n → ((q : State) → Enters ls b t (from q) → ¬ HasNoLoop ls q t → ⊥) → StopsAt (ts ++ t ∷ us) n t.place
-  unread {m} {ls} {ps} {b} {ts} t us w n i number never = record {
-    before = ts;
-    token = t;
-    after = us;
-    split = refl;
-    place = refl;
-    number = number;
-    begins = itself w;
-    stops = none_begins t [] w (λ qs xs ys rest l e. no_line ys rest l e);
-  }
+  pub unread_ends : {m : MethodTree} {ls : List lines.Line} {ps : List Part} {b : Bool} {ts : List LineToken} (t : LineToken) → Walk any_height (method m ls ∷ ps, b) ts → word t ≢ word_case.LineEnd → ¬ IsHead t → ((q : State) → Enters ls b t (from q) → ¬ HasNoLoop ls q t → ⊥) → ¬ Begins (ts ++ t ∷ [])
+  unread_ends {m} {ls} {ps} {b} t w n i never = none_begins t [] w (λ qs xs ys rest l e. no_line ys rest l e)
     where
       no_line : {y : Progress} {xs : List LineToken} (ys rest : List LineToken) → Line any_height (method m ls ∷ ps, b) xs y → xs ++ ys ≡ t ∷ rest → ⊥
       no_line ys rest (blank u f) split = let firsts : u ≡ t = cc in n (ap word (sym firsts) ∙ f)
@@ -251,15 +242,27 @@ module _ (all : AllValues) where
       no_line ys rest (declaration u n' i' x) split = not_added x
       no_line ys rest (method_line u q n' i' e l v) split = let firsts : u ≡ t = cc in never q (subst (λ u. Enters ls b u (from q)) firsts e) (subst (λ u. ¬ HasNoLoop ls q u) firsts l)
 
+  unread : {m : MethodTree} {ls : List lines.Line} {ps : List Part} {b : Bool} {ts : List LineToken} (t : LineToken) (us : List LineToken) → Walk any_height (method m ls ∷ ps, b) ts → word t ≢ word_case.LineEnd → ¬ IsHead t → {n : ℕ} → NumberOf (word t) n → ((q : State) → Enters ls b t (from q) → ¬ HasNoLoop ls q t → ⊥) → StopsAt (ts ++ t ∷ us) n t.place
+  unread {ts = ts} t us w n i number never = record {
+    before = ts;
+    token = t;
+    after = us;
+    split = refl;
+    place = refl;
+    number = number;
+    begins = itself w;
+    stops = unread_ends t w n i never;
+  }
+
   -- refusals
 
-  barred_number : {ls : List lines.Line} {b : Bool} {t : LineToken} {n : ℕ} → Enters ls b t (barred n) → NumberOf (word t) n
+  pub barred_number : {ls : List lines.Line} {b : Bool} {t : LineToken} {n : ℕ} → Enters ls b t (barred n) → NumberOf (word t) n
   barred_number (chain_over h c) = by_word in_method
   barred_number {b = b} {t = t} (no_chain h c) = no_opener (either (is_chain_word (word t)) (is_loop_end_word (word t)) (inl (inside b (is_chain_word (word t)) h)))
   barred_number {b = b} {t = t} (no_loop h c) = no_opener (either (is_chain_word (word t)) (is_loop_end_word (word t)) (inr (inside b (is_loop_end_word (word t)) h)))
   barred_number (after_other h g c) = by_word in_method
 
-  loop_word : (q : State) (w : Word) → IsTrue (leaves_loop q w) → IsTrue (is_loop_word w)
+  pub loop_word : (q : State) (w : Word) → IsTrue (leaves_loop q w) → IsTrue (is_loop_word w)
   loop_word state.Statement w h = h
   loop_word q w h = absurd cc
 

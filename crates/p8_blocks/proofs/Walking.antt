@@ -100,11 +100,11 @@ fit_last before [] l h = subst (λ b. Fits b l) (sym (append-nil before)) h.0
 fit_last before (x ∷ xs) l h = subst (λ b. Fits b l) (append_assoc before (x ∷ []) xs) (fit_last (before ++ x ∷ []) xs l h.1)
 
 -- a line that isn't one of the text goes on with no chain and ends no loop
-not_chain : (b : Bool) (w : Word) → is_chain_word w ≡ false → goes_on_chain b w ≡ false
+pub not_chain : (b : Bool) (w : Word) → is_chain_word w ≡ false → goes_on_chain b w ≡ false
 not_chain true w e = refl
 not_chain false w e = e
 
-not_loop_end : (b : Bool) (w : Word) → is_loop_end_word w ≡ false → ends_loop b w ≡ false
+pub not_loop_end : (b : Bool) (w : Word) → is_loop_end_word w ≡ false → ends_loop b w ≡ false
 not_loop_end true w e = refl
 not_loop_end false w e = e
 
@@ -154,7 +154,7 @@ method_walk kinds {h} m ls q row t us k b l e f g {c} o w =
     (not_left (leaves_loop q (word t)) (is_in_loop t.place.column ls) (sym (says.loops (is_in_loop t.place.column ls)) ∙ g))
     (record { row = row; line = l; is = e }))
 
-lines_walk : AllKinds → {h : Heights} (m : MethodTree) (ps : List Part) (ts : List LineToken) {ls : List lines.Line} {b : Bool} {vs : List LineToken} → AreLines h ls b vs → AllFit ls → After Leaves [] ls → Walk h (method m [] ∷ ps, false) ts → Walk h (method m ls ∷ ps, b) (ts ++ vs)
+pub lines_walk : AllKinds → {h : Heights} (m : MethodTree) (ps : List Part) (ts : List LineToken) {ls : List lines.Line} {b : Bool} {vs : List LineToken} → AreLines h ls b vs → AllFit ls → After Leaves [] ls → Walk h (method m [] ∷ ps, false) ts → Walk h (method m ls ∷ ps, b) (ts ++ vs)
 lines_walk kinds {h} m ps ts files.no_line f g w = subst (λ ts. Walk h (method m [] ∷ ps, false) ts) (sym (append-nil ts)) w
 lines_walk kinds {h} m ps ts (files.a_blank {ls = ls} {ts = vs} t e d) f g w = subst (λ l. Walk h (method m ls ∷ ps, false) l) (append_assoc ts vs (t ∷ [])) (more (lines_walk kinds m ps ts d f g w) (blank t e))
 lines_walk kinds {h} m ps ts (files.a_line {ls = ls} {ts = vs} {k = k} q row t us b o l e d) f g w =
@@ -171,7 +171,7 @@ begins_block w t i e = (ap is_block_word i.is ∙ e, i.first)
 head_walk : {h : Heights} {ps : List Part} {ts : List LineToken} (w : Word) (t : LineToken) → IsHead w t → is_block_word w ≡ true → (us : List LineToken) (p : Part) → OpensAs h w us p → {b : Bool} → Walk h (ps, b) ts → Walk h (p ∷ ps, false) (ts ++ t ∷ us)
 head_walk {h} w t i b us p x y = more y (head t (begins_block w t i b) (subst (λ w. OpensAs h w us p) (sym i.is) x))
 
-gathered : {h : Heights} {x : Progress} (ts : List LineToken) (t : LineToken) (us vs : List LineToken) → Walk h x ((ts ++ t ∷ us) ++ vs) → Walk h x (ts ++ t ∷ (us ++ vs))
+pub gathered : {h : Heights} {x : Progress} (ts : List LineToken) (t : LineToken) (us vs : List LineToken) → Walk h x ((ts ++ t ∷ us) ++ vs) → Walk h x (ts ++ t ∷ (us ++ vs))
 gathered {h} {x} ts t us vs w = subst (λ l. Walk h x l) (append_assoc ts (t ∷ us) vs) w
 
 pub record Block (h : Heights) (b : BlockTree) (ps : List Part) (ts : List LineToken) : Type 0 where
@@ -180,7 +180,7 @@ pub record Block (h : Heights) (b : BlockTree) (ps : List Part) (ts : List LineT
   pub walk : Walk h (part ∷ ps, begun) ts
   pub is : blocks.IsBlock part b
 
-head_method : {h : Heights} {ps : List Part} {ts : List LineToken} (public : Bool) (t : LineToken) (us : List LineToken) (m : MethodTree) → IsHead (method_word public) t → Valued h (method_of_row public) state.MethodName us m → {b : Bool} → Walk h (ps, b) ts → Walk h (method m [] ∷ ps, false) (ts ++ t ∷ us)
+pub head_method : {h : Heights} {ps : List Part} {ts : List LineToken} (public : Bool) (t : LineToken) (us : List LineToken) (m : MethodTree) → IsHead (method_word public) t → Valued h (method_of_row public) state.MethodName us m → {b : Bool} → Walk h (ps, b) ts → Walk h (method m [] ∷ ps, false) (ts ++ t ∷ us)
 head_method true t us m i v w = head_walk word_case.Pub t i refl us (method m []) (m, v, refl) w
 head_method false t us m i v w = head_walk word_case.Pri t i refl us (method m []) (m, v, refl) w
 

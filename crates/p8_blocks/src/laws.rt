@@ -15,6 +15,7 @@ ghost use Rattle.p8_statements.specs.Statements.{kind_of_row};
 ghost use Rattle.p8_rows.specs.Values.{HaveKinds, begins_line};
 ghost use Rattle.p8_blocks.specs.Reading.{Answer, source, fault, Parses};
 ghost use Rattle.p8_blocks.specs.Files.{IsFileWithinLimits, StopsAt, PassesLimits, PassesAt};
+ghost use Rattle.p8_blocks.specs.Refusals.{IsRefused};
 
 /// Each line of a method has a kind that suits the state from which it is read.
 fn lines_have_kinds()
@@ -64,6 +65,36 @@ pub fn refusals_pass_limits()
     p8_rows::methods_have_values();
     lines_have_kinds();
 }
+
+/// What reading refuses has that refusal: it is told by the files that begin so.
+pub fn refusals_are_read()
+    ensures { (ts : List LineToken) (n : ℕ) (p : place.Place) → Parses ts (fault n p) → IsRefused ts n p }
+{
+    p8_rows::constants_have_values();
+    p8_rows::variables_have_values();
+    p8_rows::objects_have_values();
+    p8_rows::data_have_values();
+    p8_rows::methods_have_values();
+    lines_have_kinds();
+}
+
+/// Tokens have one refusal: one number at one place.
+pub fn one_refusal()
+    ensures number { (ts : List LineToken) (n k : ℕ) (p q : place.Place) → IsRefused ts n p → IsRefused ts k q → n ≡ k }
+    ensures place { (ts : List LineToken) (n k : ℕ) (p q : place.Place) → IsRefused ts n p → IsRefused ts k q → p ≡ q }
+{
+    p8_rows::constants_have_values();
+    p8_rows::variables_have_values();
+    p8_rows::objects_have_values();
+    p8_rows::data_have_values();
+    p8_rows::methods_have_values();
+    lines_have_kinds();
+}
+
+/// A file within the limits on heights and depths has no refusal.
+pub fn files_are_not_refused()
+    ensures { (ts : List LineToken) (s : Source) (n : ℕ) (p : place.Place) → IsFileWithinLimits s ts → ¬ IsRefused ts n p }
+{}
 
 /// A file of proper words is proper.
 pub fn files_are_proper()

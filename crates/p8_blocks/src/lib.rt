@@ -7,10 +7,10 @@ mod growing;
 mod laws;
 mod lines;
 mod parsing;
-#[cfg(test)]
-mod tests;
 mod words;
 
-pub use laws::{files_are_proper, one_answer, tokens_are_proper};
+pub use laws::{
+    files_are_not_refused, files_are_proper, one_answer, one_refusal, tokens_are_proper,
+};
 pub use p8_expr::ParseFault;
 pub use parsing::parse;

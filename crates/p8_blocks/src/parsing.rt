@@ -1,5 +1,6 @@
 // Reading a file from its tokens.
-ghost use Rattle.std.specs.Prelude.{◌≡◌, ◌≢◌, IfOk, IfErr};
+ghost use Rattle.std.specs.Prelude.{◌≡◌, ◌≢◌, ℕ, IfOk, IfErr};
+ghost use Rattle.p8_tree.specs.declared.places.Place as place;
 ghost use Rattle.p8_tree.specs.Sources.{Source};
 ghost use Rattle.p8_tree.specs.Proper.{IsProperFile};
 ghost use Rattle.p8_grammar.specs.Proper.{AreProper};
@@ -10,10 +11,12 @@ ghost use Rattle.p8_expr.specs.Parsing.{IfRefused};
 ghost use Rattle.p8_lines.specs.Tokens.{all_tokens, terms};
 ghost use Rattle.p8_blocks.specs.Files.{IsFileWithinLimits, StopsAt, PassesLimits, PassesAt};
 ghost use Rattle.p8_blocks.specs.Reading.{Parses, source, fault};
+ghost use Rattle.p8_blocks.specs.Refusals.{IsRefused};
 
 use crate::growing::Growing;
 use crate::laws::{
-    files_are_proper, files_are_read, one_answer, refusals_pass_limits, refusals_stand_first,
+    files_are_not_refused, files_are_proper, files_are_read, one_answer, one_refusal,
+    refusals_are_read, refusals_pass_limits, refusals_stand_first,
 };
 use p8_expr::ParseFault;
 use p8_lexer::Tokens;
@@ -47,8 +50,9 @@ fn read_lines(alloc: Global, bytes: &[u8], tokens: &Tokens) -> Result<SourceFile
 /// or `UNTIL` with no opener at its column; 8 at an expression higher than 64, and where a line begins
 /// that would open one block more than 64, the method counted; 11 at `NEXT` or `QUIT` outside `REPEAT`.
 ///
-/// The first two clauses are exact: tokens have one answer, line by line ([`one_answer`](crate::one_answer)). The others say
-/// without a reader what it means.
+/// The first two clauses say line by line what comes: tokens have one answer ([`one_answer`](crate::one_answer)). The others
+/// say it by the files that begin so, exactly: tokens are a file within the limits, or have one refusal
+/// ([`one_refusal`](crate::one_refusal)).
 pub fn parse(alloc: Global, bytes: &[u8], tokens: &Tokens) -> Result<SourceFile, Fail<ParseFault>>
     ensures lines_read { IfOk result (λ file. Parses (all_tokens bytes.now tokens.now) (source (source_of file))) }
     ensures lines_refused { IfErr result (IfRefused (λ f. Parses (all_tokens bytes.now tokens.now) (fault f.number f.place))) }
@@ -56,6 +60,10 @@ pub fn parse(alloc: Global, bytes: &[u8], tokens: &Tokens) -> Result<SourceFile,
     ensures proper { AreProper (terms (all_tokens bytes.now tokens.now)) → IfOk result (λ file. IsProperFile (source_of file)) }
     ensures one_tree { IfOk result (λ file. (s : Source) → IsFileWithinLimits s (all_tokens bytes.now tokens.now) → s ≡ source_of file) }
     ensures no_file { IfErr result (IfRefused (λ f. (s : Source) → ¬ IsFileWithinLimits s (all_tokens bytes.now tokens.now))) }
+    ensures refused { IfErr result (IfRefused (λ f. IsRefused (all_tokens bytes.now tokens.now) f.number f.place)) }
+    ensures one_number { IfErr result (IfRefused (λ f. (n : ℕ) (p : place.Place) → IsRefused (all_tokens bytes.now tokens.now) n p → n ≡ f.number)) }
+    ensures one_place { IfErr result (IfRefused (λ f. (n : ℕ) (p : place.Place) → IsRefused (all_tokens bytes.now tokens.now) n p → p ≡ f.place)) }
+    ensures none_refused { IfOk result (λ file. (n : ℕ) (p : place.Place) → ¬ IsRefused (all_tokens bytes.now tokens.now) n p) }
     ensures stops { IfErr result (IfRefused (λ f. f.number ≢ refusal_number TooNested → StopsAt (all_tokens bytes.now tokens.now) f.number f.place)) }
     ensures passes { IfErr result (IfRefused (λ f. f.number ≡ refusal_number TooNested → PassesLimits (all_tokens bytes.now tokens.now))) }
     ensures passes_there { IfErr result (IfRefused (λ f. f.number ≡ refusal_number TooNested → PassesAt (all_tokens bytes.now tokens.now) f.place)) }
@@ -65,5 +73,8 @@ pub fn parse(alloc: Global, bytes: &[u8], tokens: &Tokens) -> Result<SourceFile,
     one_answer();
     refusals_stand_first();
     refusals_pass_limits();
+    refusals_are_read();
+    one_refusal();
+    files_are_not_refused();
     read_lines(alloc, bytes, tokens)
 }
