@@ -22,7 +22,7 @@ use Rattle.p8_line_words.proofs.PartSources.{AreGood, declarations_closed, leads
 use Rattle.p8_line_words.proofs.Steps.{Back, ends, a_word, a_name, last, before, reads_back}
 
 -- an item that was read from tokens of a source
-data IsItem : Constant → Type 0 where
+pub data IsItem : Constant → Type 0 where
   sets : {p : Place} {e : Tree} → IsRead in_declaration e → IsItem (setting p e)
   alone : {n : List ℕ} {p : Place} → IsName n → IsItem (constant n p None None)
   valued : {n : List ℕ} {p : Place} {e : Tree} → IsName n → IsRead in_declaration e → IsItem (constant n p (Some e) None)
@@ -76,7 +76,7 @@ item_back _ (stepped {n = n} {e = e} y r) =
 abbrev pub IsReadBack : Constant → Type 0
 IsReadBack x = ReadsBack constants_of_row (map constant_anywhere) state.ConItem (words_of_constant x) (x ∷ [])
 
-read_back : (x : Constant) → IsItem x → IsReadBack x
+pub read_back : (x : Constant) → IsItem x → IsReadBack x
 read_back x y = reads_back constants_of_row constants_of_parts (map constant_anywhere) state.ConItem (words_of_constant x) (x ∷ []) (λ row. refl) (item_back x y)
 
 of_line : (row : List Piece) (xs : List Constant) → AreGood in_declaration (parts row) → constants_of_row row ≡ Some xs → All IsReadBack xs

@@ -17,7 +17,7 @@ use Rattle.p8_rereading.proofs.Printed.{wrapped_printed}
 use Rattle.p8_line_words.proofs.DataLinesRead.{reread}
 use Rattle.p8_line_words.proofs.DataWordsAll.{all_line}
 
-reads_back : (x : Line) → IsLine x → ReadsBack line_of_row (option_map line_anywhere) state.DatLine (words_of_line x) (Some x)
+pub reads_back : (x : Line) → IsLine x → ReadsBack line_of_row (option_map line_anywhere) state.DatLine (words_of_line x) (Some x)
 reads_back x is = record {
   readable = all_line IsReadable (λ w free. free) (λ n named. named.0) (λ s e was. λ k d lt. (wrapped_printed was.is was.good k d lt).0) x is;
   capitals = all_line IsInCapitals (λ w free. tt) (λ n named. named.1) (λ s e was. λ k d lt. (wrapped_printed was.is was.good k d lt).1) x is;

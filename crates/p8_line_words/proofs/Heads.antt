@@ -27,7 +27,7 @@ use Rattle.p8_line_words.proofs.Variables.{IsVariable, items, Names, names_back}
 use Rattle.p8_line_words.proofs.Steps.{Back, weaker, same_words, LeadsTo, ends, a_word, a_name, reads_back}
 
 -- a method with this head and without lines, anywhere
-abbrev made : Bool → List ℕ → List (List ℕ) → Option (List ℕ) → List Declared → MethodTree
+abbrev pub made : Bool → List ℕ → List (List ℕ) → Option (List ℕ) → List Declared → MethodTree
 made public n ns r xs = record {
   place = anywhere;
   public = public;
@@ -48,16 +48,16 @@ made_parameter public n ns r xs m k p h =
 
 -- heads that were read from tokens of a source
 
-abbrev IsMaybeName : Option (List ℕ) → Type 0
+abbrev pub IsMaybeName : Option (List ℕ) → Type 0
 IsMaybeName None = Unit {0}
 IsMaybeName (Some n) = IsName n
 
-record IsHead (public : Bool) (m : MethodTree) : Type 0 where
-  name : IsName m.name
-  params : AllByRecursion IsName m.params
-  result : IsMaybeName m.result_name
-  locals : AllByRecursion (IsVariable in_method 4) m.locals
-  same : method_anywhere m ≡ made public m.name m.params m.result_name m.locals
+pub record IsHead (public : Bool) (m : MethodTree) : Type 0 where
+  pub name : IsName m.name
+  pub params : AllByRecursion IsName m.params
+  pub result : IsMaybeName m.result_name
+  pub locals : AllByRecursion (IsVariable in_method 4) m.locals
+  pub same : method_anywhere m ≡ made public m.name m.params m.result_name m.locals
 
 each_push : {X : Type 0} (P : X → Type 0) (xs : List X) (x : X) → AllByRecursion P xs → P x → AllByRecursion P (xs ++ x ∷ [])
 each_push P [] x h p = (p, tt)
@@ -205,7 +205,8 @@ head_back public m h =
     (weaker (λ ps v p. subst (λ M. Is M (head public (name m.name p ∷ ps))) (sym h.same) (v (bare public m.name p) refl))
     (name_back public m.name m.result_name m.locals h.result h.locals m.params h.params))
 
+pub read_back : (public : Bool) (m : MethodTree) → IsHead public m → ReadsBack (method_of_row public) method_anywhere state.MethodName (words_of_head m) m
+read_back public m h = reads_back (method_of_row public) (head public) method_anywhere state.MethodName (words_of_head m) m (λ row. refl) (head_back public m h)
+
 pub from_name : (public : Bool) (us : List LineToken) (row : List Piece) (m : MethodTree) → Leads state.MethodName us row state.End → AreOfSource us → method_of_row public row ≡ Some m → ReadsBack (method_of_row public) method_anywhere state.MethodName (words_of_head m) m
-from_name public us row m w g h =
-    reads_back (method_of_row public) (head public) method_anywhere state.MethodName (words_of_head m) m (λ row. refl)
-    (head_back public m (head_is public m (parts row) (leads_good in_method methods_closed w refl g) h))
+from_name public us row m w g h = read_back public m (head_is public m (parts row) (leads_good in_method methods_closed w refl g) h)

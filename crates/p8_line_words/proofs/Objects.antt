@@ -90,7 +90,7 @@ text_of t good some u h =
     here (h.word, subst (λ t. 0 < length t) same some)
 
 -- an object that was read from tokens of a source
-data IsObject : Child → Type 0 where
+pub data IsObject : Child → Type 0 where
   single : {n : List ℕ} {p : Place} (t : List ℕ) {q : Place} → IsName n → IsText t → IsObject (child n p None t q)
   counted : {n : List ℕ} {p : Place} {e : Tree} (t : List ℕ) {q : Place} → IsName n → IsRead in_declaration e → IsText t → IsObject (child n p (Some e) t q)
 
@@ -151,7 +151,7 @@ object_back _ (counted {n = n} {e = e} t y r good) =
 abbrev pub IsReadBack : Child → Type 0
 IsReadBack x = ReadsBack objects_of_row (map child_anywhere) state.ObjLine (words_of_child x) (x ∷ [])
 
-read_back : (x : Child) → IsObject x → IsReadBack x
+pub read_back : (x : Child) → IsObject x → IsReadBack x
 read_back x y = reads_back objects_of_row objects_of_parts (map child_anywhere) state.ObjLine (words_of_child x) (x ∷ []) (λ row. refl) (object_back x y)
 
 of_line : (row : List Piece) (xs : List Child) → AreGood in_declaration (parts row) → objects_of_row row ≡ Some xs → All IsReadBack xs

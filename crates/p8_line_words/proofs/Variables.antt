@@ -143,7 +143,7 @@ variable_back x long_size y = sized x y (by_size 4 word_case.LongSize x refl (λ
 abbrev pub IsReadBack : Declared → Type 0
 IsReadBack x = ReadsBack variables_of_row (map declared_anywhere) state.VarLine (words_of_variable x) (x ∷ [])
 
-read_back : {z : ℕ} (x : Declared) → IsSize z → IsVariable in_declaration z x → IsReadBack x
+pub read_back : {z : ℕ} (x : Declared) → IsSize z → IsVariable in_declaration z x → IsReadBack x
 read_back x k y = reads_back variables_of_row variables_of_parts (map declared_anywhere) state.VarLine (words_of_variable x) (x ∷ []) (λ row. refl) (variable_back x k y)
 
 all_read_back : {z : ℕ} (xs : List Declared) → IsSize z → AllByRecursion (IsVariable in_declaration z) xs → AllByRecursion IsReadBack xs

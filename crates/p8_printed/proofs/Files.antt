@@ -11,6 +11,7 @@ use Rattle.p8_lexer.specs.Lexing.{AreTokens}
 use Rattle.p8_grammar.specs.Lexemes.{other}
 use Rattle.p8_expr.specs.Words.{token_of, lexeme_of_token, lexeme_of_word}
 use Rattle.p8_lines.specs.Tokens.{LineToken, lexeme, line_token, text_end, all_tokens}
+use Rattle.p8_blocks.specs.Trees.{IsShallow}
 use Rattle.p8_blocks.specs.Files.{IsFileWithinLimits}
 use Rattle.p8_lines.proofs.Texts.{text_end_other}
 use Rattle.p8_print.specs.Spelled.{text_of_lines}
@@ -22,7 +23,7 @@ use Rattle.p8_printed.specs.Trees.{IsOfFile}
 use Rattle.p8_printed.proofs.Elements.{each_append}
 use Rattle.p8_printed.proofs.Below.{Lexemes, Laws}
 use Rattle.p8_printed.proofs.Spelt.{spelled_lines}
-use Rattle.p8_printed.proofs.Printable.{IsOfSource, of_source, each_of_source, file_printable, source_readable}
+use Rattle.p8_printed.proofs.Printable.{IsPrintable, IsOfSource, of_source, each_of_source, file_printable, source_readable}
 use Rattle.p8_printed.proofs.Reread.{reread}
 
 same_lexeme : (bytes : List ℕ) (t : lexer_token.Token) → lexeme_in (token_of bytes t) ≡ lexeme (line_token bytes t)
@@ -46,11 +47,14 @@ tree_of_file are_lexemes bytes tokens s small are file =
     let lexemes = of_tokens bytes tokens (recursion_from_All (λ t. IsLexeme (lexeme_in t)) (map (token_of bytes) tokens) (are_lexemes bytes tokens small are)) in
     record { tokens = all_tokens bytes tokens; of_source = of_source (all_tokens bytes tokens) (each_append IsOfSource ts (text_end ts ∷ []) lexemes (end_of_source ts, tt)); file = file }
 
-pub printed_again : Laws → (s : Source) → IsOfFile s → (tokens : List lexer_token.Token) × (s' : Source) × AreTokens (text_of_lines (lines_of s)) tokens × IsFileWithinLimits s' (all_tokens (text_of_lines (lines_of s)) tokens) × IsSameSource s' s
-printed_again laws s is =
-    let printable = file_printable laws is.file.0 (each_of_source is.tokens is.of_source) in
+-- a tree whose blocks can be printed
+pub printable_again : (s : Source) → Each IsPrintable s → IsShallow s → (tokens : List lexer_token.Token) × (s' : Source) × AreTokens (text_of_lines (lines_of s)) tokens × IsFileWithinLimits s' (all_tokens (text_of_lines (lines_of s)) tokens) × IsSameSource s' s
+printable_again s printable shallow =
     let text = text_of_lines (lines_of s) in
     let again = read_back (lines_of s) (source_readable s printable) in
     let us = map (line_token text) again.0 in
-    let read = reread s us (text_end us) printable is.file.1 (spelled_lines text 1 (lines_of s) again.0 again.2) refl in
+    let read = reread s us (text_end us) printable shallow (spelled_lines text 1 (lines_of s) again.0 again.2) refl in
     (again.0, read.source, again.1, (read.file, read.shallow), read.same)
+
+pub printed_again : Laws → (s : Source) → IsOfFile s → (tokens : List lexer_token.Token) × (s' : Source) × AreTokens (text_of_lines (lines_of s)) tokens × IsFileWithinLimits s' (all_tokens (text_of_lines (lines_of s)) tokens) × IsSameSource s' s
+printed_again laws s is = printable_again s (file_printable laws is.file.0 (each_of_source is.tokens is.of_source)) is.file.1

@@ -1,13 +1,13 @@
-mod Elements
-mod Found
-mod Forgotten
-mod Rebuilt
-mod Below
-mod Keeping
-mod Values
-mod ItemEnds
-mod Spelt
-mod Lines
-mod Printable
-mod Reread
-mod Files
+pub mod Elements
+pub mod Found
+pub mod Forgotten
+pub mod Rebuilt
+pub mod Below
+pub mod Keeping
+pub mod Values
+pub mod ItemEnds
+pub mod Spelt
+pub mod Lines
+pub mod Printable
+pub mod Reread
+pub mod Files

@@ -5,7 +5,5 @@
 #![tactic(auto)]
 
 mod laws;
-#[cfg(test)]
-mod tests;
 
 pub use laws::{printed_reads_back, trees_are_of_files};

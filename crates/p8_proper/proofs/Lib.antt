@@ -1,0 +1,16 @@
+mod Names
+mod Tables
+mod Rows
+mod Expressions
+mod Placeless
+mod PlacelessLines
+mod LineTokens
+mod Lines
+mod MethodLines
+mod ActionWords
+mod ActionVariables
+mod Actions
+mod Again
+mod AgainData
+mod AgainStatements
+mod ProperFiles
