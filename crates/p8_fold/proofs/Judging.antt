@@ -12,7 +12,7 @@ use Rattle.p8_faults.proofs.Firsts.{IsFirstFault-along, IsFirstFault-earlier}
 use Rattle.p8_fold.specs.declared.meanings.Meaning.{Meaning}
 use Rattle.p8_fold.specs.declared.meanings.Meaning.TheVariants as meaning_case
 use Rattle.p8_fold.specs.Meanings.{Setting, value_of_meaning, given}
-use Rattle.p8_fold.specs.Operators.{beside, unary_values, binary_values, unary_value, binary_value, divides}
+use Rattle.p8_operators.specs.Operators.{beside, unary_values, binary_values, unary_result, binary_result, divides}
 use Rattle.p8_fold.specs.Values.{constant_of, before, between, fault_of_name, unless, where_so, fault_of_constant, fault_before, fault_between}
 use Rattle.p8_fold.specs.Verdicts.{with_further, first_of_two, or_fault, verdict_before, verdict_of_values, verdict_between, verdict_of_constant}
 
@@ -118,11 +118,11 @@ some_is_key k (l ∷ ls) = some_is_key_by (l.0 == k) k l ls (some_is_key k ls)
     some_is_key_by true k l ls h = refl
     some_is_key_by false k l ls h = h
 
-unary_alike : (k a : ℕ) → is_some (unary_value k a) ≡ is_some (unary_value k 0)
+unary_alike : (k a : ℕ) → is_some (unary_result k a) ≡ is_some (unary_result k 0)
 unfolding unary_values
 unary_alike k a = some_is_key k (unary_values a) ∙ sym (some_is_key k (unary_values 0))
 
-binary_alike : (k a b : ℕ) → is_some (binary_value k a b) ≡ is_some (binary_value k 0 0)
+binary_alike : (k a b : ℕ) → is_some (binary_result k a b) ≡ is_some (binary_result k 0 0)
 unfolding binary_values
 binary_alike k a b = some_is_key k (binary_values a b) ∙ sym (some_is_key k (binary_values 0 0))
 
@@ -134,20 +134,20 @@ unless_alike (Some o) (Some q) f e = refl
 
 pub judged_before : (S : Fault → Type 0) (k : ℕ) (p : Place) (r : Result ℕ Fault) (o : Option ℕ) → Judges r o S → Judges (verdict_before k p r) (before k o) (λ x. (fault_before k p ≡ Some x) ⊎ S x)
 judged_before S k p (Ok a) o (is, none) =
-    let alike : unless (unary_value k a) (fault 12 p) ≡ fault_before k p = unless_alike (unary_value k a) (unary_value k 0) (fault 12 p) (unary_alike k a) in
+    let alike : unless (unary_result k a) (fault 12 p) ≡ fault_before k p = unless_alike (unary_result k a) (unary_result k 0) (fault 12 p) (unary_alike k a) in
     subst (λ o. Judges (verdict_before k p (Ok a)) (before k o) (λ x. (fault_before k p ≡ Some x) ⊎ S x)) (sym is)
-    (judges (λ x. (unless (unary_value k a) (fault 12 p) ≡ Some x) ⊎ ⊥) (λ x. (fault_before k p ≡ Some x) ⊎ S x) (or_fault (unary_value k a) (fault 12 p)) (unary_value k a)
-    (λ x. ⊎_elim (λ e. inl (sym alike ∙ e)) (λ b. absurd b)) (λ x. ⊎_elim (λ e. inl (alike ∙ e)) (λ b. absurd (none x b))) (value_or_one (unary_value k a) (fault 12 p)))
+    (judges (λ x. (unless (unary_result k a) (fault 12 p) ≡ Some x) ⊎ ⊥) (λ x. (fault_before k p ≡ Some x) ⊎ S x) (or_fault (unary_result k a) (fault 12 p)) (unary_result k a)
+    (λ x. ⊎_elim (λ e. inl (sym alike ∙ e)) (λ b. absurd b)) (λ x. ⊎_elim (λ e. inl (alike ∙ e)) (λ b. absurd (none x b))) (value_or_one (unary_result k a) (fault 12 p)))
 judged_before S k p (Err f) o (is, first) =
     (ap (before k) is, IsFirstFault-along (λ x. turned) (λ x. turned) (further_told S (λ x. fault_before k p ≡ Some x) f (fault_before k p) first (own_told (fault_before k p))))
 
 -- `/` and `//` are in the table
-divides_listed : (k a b : ℕ) → divides k ≡ true → is_some (binary_value k a b) ≡ true
+divides_listed : (k a b : ℕ) → divides k ≡ true → is_some (binary_result k a b) ≡ true
 unfolding binary_values
 divides_listed k a b h =
     elim (cases_eq k 0xF6) [
-      | inl quotient ↦ subst (λ k. is_some (binary_value k a b) ≡ true) (sym quotient) refl
-      | inr other ↦ let rest : k ≡ 0xF7 = grind (arith, nat_tests) in subst (λ k. is_some (binary_value k a b) ≡ true) (sym rest) refl
+      | inl quotient ↦ subst (λ k. is_some (binary_result k a b) ≡ true) (sym quotient) refl
+      | inr other ↦ let rest : k ≡ 0xF7 = grind (arith, nat_tests) in subst (λ k. is_some (binary_result k a b) ≡ true) (sym rest) refl
     ]
 
 nothing_inside : (x : Fault) → (None ≡ Some x) ⊎ (⊥ ⊎ ⊥) → ⊥
@@ -165,8 +165,8 @@ valued (Some v) o f some is = (is, nothing_inside)
 valued None o f some is = absurd cc
 
 -- two values: a fault of the operator, or else the value
-judged_values : (k a b : ℕ) (p : Place) (own : Option Fault) (o : Option ℕ) → MatchOption own (is_some (binary_value k a b) ≡ true × (o ≡ binary_value k a b)) (λ f. o ≡ None) → Judges (verdict_of_values k p a b own) o (λ x. (own ≡ Some x) ⊎ (⊥ ⊎ ⊥))
-judged_values k a b p None o (some, is) = valued (binary_value k a b) o (fault 12 p) some is
+judged_values : (k a b : ℕ) (p : Place) (own : Option Fault) (o : Option ℕ) → MatchOption own (is_some (binary_result k a b) ≡ true × (o ≡ binary_result k a b)) (λ f. o ≡ None) → Judges (verdict_of_values k p a b own) o (λ x. (own ≡ Some x) ⊎ (⊥ ⊎ ⊥))
+judged_values k a b p None o (some, is) = valued (binary_result k a b) o (fault 12 p) some is
 judged_values k a b p (Some f) o none = (none, IsFirstFault-along (λ x. inl) (only_own f) (one_told f))
 
 by_tests : (d z : Bool) (v w : Option ℕ) (f g : Fault) → (d ≡ true → is_some v ≡ true) → is_some v ≡ is_some w
@@ -179,8 +179,8 @@ by_tests false z (Some v) None f g listed alike = absurd cc
 by_tests false z None (Some w) f g listed alike = absurd cc
 
 -- which of the two it is
-operator_told : (k a b : ℕ) (p : Place) → MatchOption (fault_between k p (Some b)) (is_some (binary_value k a b) ≡ true × (between k (Some a) (Some b) ≡ binary_value k a b)) (λ f. between k (Some a) (Some b) ≡ None)
-operator_told k a b p = by_tests (divides k) (b == 0) (binary_value k a b) (binary_value k 0 0) (fault 13 p) (fault 12 p) (divides_listed k a b) (binary_alike k a b)
+operator_told : (k a b : ℕ) (p : Place) → MatchOption (fault_between k p (Some b)) (is_some (binary_result k a b) ≡ true × (between k (Some a) (Some b) ≡ binary_result k a b)) (λ f. between k (Some a) (Some b) ≡ None)
+operator_told k a b p = by_tests (divides k) (b == 0) (binary_result k a b) (binary_result k 0 0) (fault 13 p) (fault 12 p) (divides_listed k a b) (binary_alike k a b)
 
 pub judged_between : (S T : Fault → Type 0) (k : ℕ) (p : Place) (r t : Result ℕ Fault) (o q : Option ℕ) → Judges r o S → Judges t q T → Judges (verdict_between k p r t) (between k o q) (λ x. (fault_between k p q ≡ Some x) ⊎ (S x ⊎ T x))
 judged_between S T k p (Ok a) (Ok b) o q (is, none) (too, nothing) =

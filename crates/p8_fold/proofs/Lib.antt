@@ -1,4 +1,3 @@
-pub mod Rotations
 pub mod Bytes
 pub mod Rows
 pub mod Judging

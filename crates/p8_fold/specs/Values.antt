@@ -12,7 +12,7 @@ use Rattle.p8_faults.specs.Faults.{fault, IsFirstFault}
 use Rattle.p8_fold.specs.declared.meanings.Meaning.{Meaning}
 use Rattle.p8_fold.specs.declared.meanings.Meaning.TheVariants as meaning_case
 use Rattle.p8_fold.specs.Meanings.{Setting, meaning_of, value_of_meaning, address_of_meaning, given}
-use Rattle.p8_fold.specs.Operators.{unary_value, binary_value, divides}
+use Rattle.p8_operators.specs.Operators.{unary_result, binary_result, divides}
 
 -- ---- values
 
@@ -23,13 +23,13 @@ constant_of s _ object name = None
 
 abbrev pub before : ℕ → Option ℕ → Option ℕ
 before operator None = None
-before operator (Some a) = unary_value operator a
+before operator (Some a) = unary_result operator a
 
 -- a zero divisor gives no value
 abbrev pub between : ℕ → Option ℕ → Option ℕ → Option ℕ
 between operator None right = None
 between operator (Some a) None = None
-between operator (Some a) (Some b) = if divides operator && (b == 0) then None else binary_value operator a b
+between operator (Some a) (Some b) = if divides operator && (b == 0) then None else binary_result operator a b
 
 abbrev mutual
   pub value : Setting → Tree → Option ℕ
@@ -102,12 +102,12 @@ is_zero (Some b) = b == 0
 
 -- an operator before its operand: 12 for a number that is no such operator's, which has no value with any operand
 abbrev pub fault_before : ℕ → Place → Option Fault
-fault_before operator place = unless (unary_value operator 0) (fault 12 place)
+fault_before operator place = unless (unary_result operator 0) (fault 12 place)
 
 -- an operator between its operands: 13 where it divides and the right side has the value 0
 abbrev pub fault_between : ℕ → Place → Option ℕ → Option Fault
 fault_between operator place right =
-    if divides operator then where_so (is_zero right) (fault 13 place) else unless (binary_value operator 0 0) (fault 12 place)
+    if divides operator then where_so (is_zero right) (fault 13 place) else unless (binary_result operator 0 0) (fault 12 place)
 
 -- CONSTANT, with its one argument
 abbrev pub is_constant_word : ℕ → Trees → Bool

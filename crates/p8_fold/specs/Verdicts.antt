@@ -11,7 +11,7 @@ use Rattle.p8_faults.specs.Faults.{fault, earlier}
 use Rattle.p8_fold.specs.declared.meanings.Meaning.{Meaning}
 use Rattle.p8_fold.specs.declared.meanings.Meaning.TheVariants as meaning_case
 use Rattle.p8_fold.specs.Meanings.{Setting, meaning_of, value_of_meaning, given}
-use Rattle.p8_fold.specs.Operators.{unary_value, binary_value}
+use Rattle.p8_operators.specs.Operators.{unary_result, binary_result}
 use Rattle.p8_fold.specs.Values.{value_of_variable, address_of, fault_of_name, fault_of_call, fault_before, fault_between}
 
 -- the earlier of a fault and a further one, if there is one
@@ -30,12 +30,12 @@ or_fault (Some v) f = Ok v
 or_fault None f = Err f
 
 abbrev pub verdict_before : ℕ → Place → Result ℕ Fault → Result ℕ Fault
-verdict_before operator place (Ok a) = or_fault (unary_value operator a) (fault 12 place)
+verdict_before operator place (Ok a) = or_fault (unary_result operator a) (fault 12 place)
 verdict_before operator place (Err f) = Err (with_further f (fault_before operator place))
 
 -- two values, where the operator has this fault
 abbrev pub verdict_of_values : ℕ → Place → ℕ → ℕ → Option Fault → Result ℕ Fault
-verdict_of_values operator place a b None = or_fault (binary_value operator a b) (fault 12 place)
+verdict_of_values operator place a b None = or_fault (binary_result operator a b) (fault 12 place)
 verdict_of_values operator place a b (Some f) = Err f
 
 abbrev pub verdict_between : ℕ → Place → Result ℕ Fault → Result ℕ Fault → Result ℕ Fault

@@ -11,8 +11,8 @@ ghost use Rattle.p8_fold.specs.Verdicts.{with_further, first_of_two, or_fault, v
 
 use crate::consts::Consts;
 use crate::meanings::Meaning;
-use crate::operators::{binary_value, divides, unary_value};
 use p8_faults::Fault;
+use p8_operators::{binary_result, divides, unary_result};
 use p8_tree::{Call, Expr, ExprKind, Item, Place, Target, Text};
 
 // What isn't constant, at its place.
@@ -66,7 +66,7 @@ fn or_fault(value: Option<u32>, fault: Fault) -> Result<u32, Fault>
 fn fault_before(operator: u8, place: Place) -> Option<Fault>
     ensures { result ≡ fault_before operator place }
 {
-    match unary_value(operator, 0) {
+    match unary_result(operator, 0) {
         Some(_) => None,
         None => Some(not_constant(place)),
     }
@@ -76,7 +76,7 @@ fn verdict_before(operator: u8, place: Place, operand: Result<u32, Fault>) -> Re
     ensures { result ≡ verdict_before operator place operand }
 {
     match operand {
-        Ok(a) => or_fault(unary_value(operator, a), not_constant(place)),
+        Ok(a) => or_fault(unary_result(operator, a), not_constant(place)),
         Err(fault) => Err(with_further(fault, fault_before(operator, place))),
     }
 }
@@ -91,7 +91,7 @@ fn fault_between(operator: u8, place: Place, right: Option<u32>) -> Option<Fault
             _ => None,
         }
     } else {
-        match binary_value(operator, 0, 0) {
+        match binary_result(operator, 0, 0) {
             Some(_) => None,
             None => Some(not_constant(place)),
         }
@@ -102,7 +102,7 @@ fn verdict_of_values(operator: u8, place: Place, a: u32, b: u32) -> Result<u32, 
     ensures { result ≡ verdict_of_values operator place a b (fault_between operator place (Some b)) }
 {
     match fault_between(operator, place, Some(b)) {
-        None => or_fault(binary_value(operator, a, b), not_constant(place)),
+        None => or_fault(binary_result(operator, a, b), not_constant(place)),
         Some(fault) => Err(fault),
     }
 }

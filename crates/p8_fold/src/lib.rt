@@ -5,7 +5,6 @@ mod consts;
 mod folding;
 mod laws;
 mod meanings;
-mod operators;
 #[cfg(test)]
 mod tests;
 mod values;

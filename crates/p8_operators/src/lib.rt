@@ -5,4 +5,4 @@ mod operators;
 #[cfg(test)]
 mod tests;
 
-pub use operators::{binary, binary_result, divides, is_unary, unary, unary_result};
+pub use operators::{binary, binary_result, divides, is_unary, rotated_left, unary, unary_result};

@@ -45,7 +45,9 @@ fn rotated_right(a: u32, n: u32) -> u32
     a.rotate_right(n)
 }
 
-fn rotated_left(a: u32, n: u32) -> u32
+/// A word rotated left by fewer than 32 bits.
+#[inline]
+pub fn rotated_left(a: u32, n: u32) -> u32
     requires { n < 32 }
     ensures { result ≡ rotated_left a n }
 {

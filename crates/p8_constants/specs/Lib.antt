@@ -1,0 +1,5 @@
+-- What the constants of a file are.
+pub mod Items
+pub mod Mentions
+pub mod Constants
+pub mod Evaluation
