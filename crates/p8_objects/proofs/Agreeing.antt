@@ -1,0 +1,218 @@
+-- Gathering from a shelf that tells its files comes to one outcome.
+use Rattle.std.proofs.Common.{◌≡◌, ℕ, ◌<◌, ◌≤◌, inl, inr, List, [], ◌∷◌, ◌++◌, length, Option, Some, None, refl, ap, sym, ◌∙◌, subst, arith}
+use Rattle.p8_tree.specs.declared.places.Place.{Place}
+use Rattle.p8_tree.specs.Sources.{Child, Source}
+use Rattle.p8_tree.specs.Projects.{NamedSource}
+use Rattle.p8_lexer.specs.declared.token.Token.{Token}
+use Rattle.p8_lexer.specs.declared.token.LexFault.{LexFault}
+use Rattle.p8_lexer.specs.Lexing.{longest_file, AreTokens, IsFault}
+use Rattle.p8_lines.specs.Tokens.{LineToken, all_tokens}
+use Rattle.p8_blocks.specs.Reading as reading
+use Rattle.p8_blocks.specs.Reading.{Answer, Parses}
+use Rattle.p8_io.specs.Shelves.{AreStartOf}
+use Rattle.p8_objects.specs.Lists.{IsAt, HasOne, IsFirst}
+use Rattle.p8_objects.specs.Sources.{mentions, most_objects, ReadsAs, IsSource, IsRefused, no_tokens, no_file, too_many}
+use Rattle.p8_objects.specs.Projects.{IsIn, Mentions, Leads, there, over, ClosesRing, IsOpen, HasOpen, IsNext, Call, Calls, read, refuse, nothing, most_files}
+use Rattle.p8_objects.specs.Projects as projects
+use Rattle.p8_objects.specs.Outcomes.{Shelved, shelved, HasBytes, IsAbsent, Outcome, ComesTo, project, refused, missing, failed, named}
+use Rattle.p8_objects.specs.Outcomes as outcomes
+use Rattle.p8_objects.specs.Whole.{IsOfFiles}
+use Rattle.p8_objects.proofs.Elements.{one_at, is_within, one_first, one_last, last_is_one}
+use Rattle.p8_objects.proofs.Wholes.{next_not_empty}
+
+-- what is known of the lexer and of reading lines
+pub record OneAnswer : Type 0 where
+  pub never_both : (bytes : List ℕ) (tokens : List Token) (fault : LexFault) → AreTokens bytes tokens → length bytes ≤ longest_file → ¬ IsFault bytes fault
+  pub one_list : (bytes : List ℕ) (some others : List Token) → AreTokens bytes some → AreTokens bytes others → some ≡ others
+  pub one_fault : (bytes : List ℕ) (one another : LexFault) → IsFault bytes one → IsFault bytes another → one ≡ another
+  pub one_reading : (ts : List LineToken) (a b : Answer) → Parses ts a → Parses ts b → a ≡ b
+
+-- what the files so far call for
+
+same_next : {files : List NamedSource} {f g : NamedSource} {x y : Child} → IsNext files f x → IsNext files g y → (f ≡ g) × (x ≡ y)
+same_next {files = files} {f = f} {g = g} {x = x} {y = y} a b =
+    let e : f ≡ g = one_last a.file b.file in
+    (e, one_first (subst (λ h. IsFirst (IsOpen files h) (mentions h.tree) x) e a.mention) b.mention)
+
+next_has_open : {files : List NamedSource} {f : NamedSource} {x : Child} → IsNext files f x → HasOne (HasOpen files) files
+next_has_open {f = f} n = let h = last_is_one n.file in record { number = h.0; element = f; stands = h.1; holds = h.2 }
+
+leads_from_one : {files : List NamedSource} {m n : List ℕ} → Leads files m n → IsIn files n → IsIn files m
+leads_from_one there h = h
+leads_from_one (over g l) h = record { number = g.number; element = g.element; stands = g.stands; holds = g.holds.0 }
+
+-- what closes a ring is no new file
+ring_is_in : {files : List NamedSource} {f : NamedSource} {x : Child} → IsNext files f x → ClosesRing files f x → IsIn files x.file
+ring_is_in {f = f} n r = let h = last_is_one n.file in leads_from_one r (record { number = h.0; element = f; stands = h.1; holds = refl })
+
+new_or_ring : {files : List NamedSource} {f g : NamedSource} {x y : Child} → IsNext files f x → ¬ IsIn files x.file → IsNext files g y → ClosesRing files g y → ⊥
+new_or_ring {files = files} n new m r = new (subst (λ z. IsIn files z.file) (sym (same_next n m).1) (ring_is_in m r))
+
+none_is_whole : {X : Type 0} {xs : List X} → xs ≡ [] → 0 < length xs → ⊥
+none_is_whole e l = let h = ap length e in omega (arith, h)
+
+one_call : {top : List ℕ} {files : List NamedSource} {a b : Call} → Calls top files a → Calls top files b → a ≡ b
+one_call (projects.first_file e) (projects.first_file d) = refl
+one_call (projects.first_file e) (projects.new_file g y m new room) = absurd (next_not_empty m e)
+one_call (projects.first_file e) (projects.file_too_many g y m new full) = absurd (next_not_empty m e)
+one_call (projects.first_file e) (projects.ring g y m r) = absurd (next_not_empty m e)
+one_call (projects.first_file e) (projects.whole l n) = absurd (none_is_whole e l)
+one_call (projects.new_file f x n new room) (projects.first_file e) = absurd (next_not_empty n e)
+one_call (projects.new_file f x n new room) (projects.new_file g y m new' room') = ap (λ z. read z.file) (same_next n m).1
+one_call (projects.new_file f x n new room) (projects.file_too_many g y m new' full) = absurd (omega arith)
+one_call (projects.new_file f x n new room) (projects.ring g y m r) = absurd (new_or_ring n new m r)
+one_call (projects.new_file f x n new room) (projects.whole l none) = absurd (none (next_has_open n))
+one_call (projects.file_too_many f x n new full) (projects.first_file e) = absurd (next_not_empty n e)
+one_call (projects.file_too_many f x n new full) (projects.new_file g y m new' room) = absurd (omega arith)
+one_call (projects.file_too_many f x n new full) (projects.file_too_many g y m new' full') = let p = same_next n m in cc
+one_call (projects.file_too_many f x n new full) (projects.ring g y m r) = absurd (new_or_ring n new m r)
+one_call (projects.file_too_many f x n new full) (projects.whole l none) = absurd (none (next_has_open n))
+one_call (projects.ring f x n r) (projects.first_file e) = absurd (next_not_empty n e)
+one_call (projects.ring f x n r) (projects.new_file g y m new room) = absurd (new_or_ring m new n r)
+one_call (projects.ring f x n r) (projects.file_too_many g y m new full) = absurd (new_or_ring m new n r)
+one_call (projects.ring f x n r) (projects.ring g y m r') = let p = same_next n m in cc
+one_call (projects.ring f x n r) (projects.whole l none) = absurd (none (next_has_open n))
+one_call (projects.whole l none) (projects.first_file e) = absurd (none_is_whole e l)
+one_call (projects.whole l none) (projects.new_file g y m new room) = absurd (none (next_has_open m))
+one_call (projects.whole l none) (projects.file_too_many g y m new full) = absurd (none (next_has_open m))
+one_call (projects.whole l none) (projects.ring g y m r) = absurd (none (next_has_open m))
+one_call (projects.whole l none) (projects.whole l' none') = refl
+
+-- what bytes are by themselves
+
+same_source : {s t : Source} → reading.source s ≡ reading.source t → s ≡ t
+same_source e = cc
+
+same_fault : {m n : ℕ} {p q : Place} → reading.fault m p ≡ reading.fault n q → (m ≡ n) × (p ≡ q)
+same_fault e = (cc, cc)
+
+no_fault_source : {s : Source} {n : ℕ} {p : Place} → reading.source s ≡ reading.fault n p → ⊥
+no_fault_source e = cc
+
+same_tokens : (A : OneAnswer) (bytes : List ℕ) (some others : List Token) → AreTokens bytes some → AreTokens bytes others → all_tokens bytes some ≡ all_tokens bytes others
+same_tokens A bytes some others a b = ap (all_tokens bytes) (A.one_list bytes some others a b)
+
+one_answer : (A : OneAnswer) (bytes : List ℕ) (some others : List Token) {a b : Answer} → AreTokens bytes some → AreTokens bytes others → Parses (all_tokens bytes some) a → Parses (all_tokens bytes others) b → a ≡ b
+one_answer A bytes some others {a = a} {b = b} c d p q =
+    A.one_reading (all_tokens bytes others) a b (subst (λ ts. Parses ts a) (same_tokens A bytes some others c d) p) q
+
+one_source : (A : OneAnswer) {bytes : List ℕ} {s t : Source} → ReadsAs bytes s → ReadsAs bytes t → s ≡ t
+one_source A {bytes = bytes} r q = same_source (one_answer A bytes r.tokens q.tokens r.cut q.cut r.read q.read)
+
+too_many_for : {xs : List Child} {x : Child} → IsAt xs most_objects x → length xs ≤ most_objects → ⊥
+too_many_for at l = let w = is_within at in omega arith
+
+source_or_refused : (A : OneAnswer) {bytes : List ℕ} {s : Source} {n : ℕ} {p : Place} → IsSource bytes s → IsRefused bytes n p → ⊥
+source_or_refused A {bytes = bytes} i (no_tokens f) = A.never_both bytes i.reads.tokens _ i.reads.cut i.reads.short f
+source_or_refused A {bytes = bytes} i (no_file tokens l cut q) = no_fault_source (one_answer A bytes i.reads.tokens tokens i.reads.cut cut i.reads.read q)
+source_or_refused A i (too_many t x r at e d) = too_many_for (subst (λ u. IsAt (mentions u) most_objects x) (one_source A r i.reads) at) i.few
+
+same_lex_fault : {m n : ℕ} {p q : Place} → (let a : LexFault = record { number = m; place = p } in let b : LexFault = record { number = n; place = q } in a ≡ b) → (m ≡ n) × (p ≡ q)
+same_lex_fault e = (ap (λ f. f.number) e, ap (λ f. f.place) e)
+
+one_refusal : (A : OneAnswer) {bytes : List ℕ} {m n : ℕ} {p q : Place} → IsRefused bytes m p → IsRefused bytes n q → (m ≡ n) × (p ≡ q)
+one_refusal A {bytes = bytes} (no_tokens f) (no_tokens g) = same_lex_fault (A.one_fault bytes _ _ f g)
+one_refusal A {bytes = bytes} (no_tokens f) (no_file tokens l cut r) = absurd (A.never_both bytes tokens _ cut l f)
+one_refusal A {bytes = bytes} (no_tokens f) (too_many t x r at e d) = absurd (A.never_both bytes r.tokens _ r.cut r.short f)
+one_refusal A {bytes = bytes} (no_file tokens l cut r) (no_tokens g) = absurd (A.never_both bytes tokens _ cut l g)
+one_refusal A {bytes = bytes} (no_file tokens l cut r) (no_file tokens' l' cut' r') = same_fault (one_answer A bytes tokens tokens' cut cut' r r')
+one_refusal A {bytes = bytes} (no_file tokens l cut r) (too_many t x h at e d) = absurd (no_fault_source (one_answer A bytes h.tokens tokens h.cut cut h.read r))
+one_refusal A {bytes = bytes} (too_many t x r at e d) (no_tokens g) = absurd (A.never_both bytes r.tokens _ r.cut r.short g)
+one_refusal A {bytes = bytes} (too_many t x h at e d) (no_file tokens l cut r) = absurd (no_fault_source (one_answer A bytes h.tokens tokens h.cut cut h.read r))
+one_refusal A (too_many t x r at e d) (too_many t' x' r' at' e' d') =
+    (e ∙ sym e', d ∙ (ap (λ z. z.place) (one_at (subst (λ u. IsAt (mentions u) most_objects x) (one_source A r r') at) at' refl) ∙ sym d'))
+
+-- a shelf that tells its files
+
+one_start : (o : Option (List ℕ)) {a b : List ℕ} → AreStartOf o a → AreStartOf o b → a ≡ b
+one_start None h k = absurd h
+one_start (Some file) h k = h ∙ sym k
+
+start_of_none : (o : Option (List ℕ)) (a : List ℕ) → o ≡ None → AreStartOf o a → ⊥
+start_of_none None a e h = h
+start_of_none (Some file) a e h = cc
+
+one_bytes : (files : List ℕ → Option (List ℕ)) (name : List ℕ) {a b : List ℕ} → HasBytes (Some files) name a → HasBytes (Some files) name b → a ≡ b
+one_bytes files name h k = one_start (files name) h.1 k.1
+
+there_or_absent : (files : List ℕ → Option (List ℕ)) (before now : ℕ) (name a : List ℕ) → HasBytes (Some files) name a → IsAbsent (shelved (Some files) before now) name → ⊥
+there_or_absent files before now name a h (inl n) = n h.0
+there_or_absent files before now name a h (inr e) = start_of_none (files name) a e h.1
+
+-- what the file that is read next comes to
+data Read (shelf : Shelved) (top : List ℕ) (files : List NamedSource) (name : List ℕ) : Outcome → Type 0 where
+  went_on : {o : Outcome} (bytes : List ℕ) (s : Source) → HasBytes shelf.files name bytes → IsSource bytes s → ComesTo shelf top (files ++ named name s ∷ []) o → Read shelf top files name o
+  was_refused : (bytes : List ℕ) (number : ℕ) (place : Place) → HasBytes shelf.files name bytes → IsRefused bytes number place → Read shelf top files name (refused name number place)
+  was_absent : IsAbsent shelf name → Read shelf top files name (missing name)
+
+same_read : {m n : List ℕ} → read m ≡ read n → n ≡ m
+same_read e = cc
+
+same_refuse : {m n : List ℕ} {j k : ℕ} {p q : Place} → refuse m j p ≡ refuse n k q → refused m j p ≡ refused n k q
+same_refuse e = cc
+
+read_refuse : {m n : List ℕ} {k : ℕ} {q : Place} → read m ≡ refuse n k q → ⊥
+read_refuse e = cc
+
+read_nothing : {m : List ℕ} → read m ≡ nothing → ⊥
+read_nothing e = cc
+
+refuse_nothing : {n : List ℕ} {k : ℕ} {q : Place} → refuse n k q ≡ nothing → ⊥
+refuse_nothing e = cc
+
+as_read : {shelf : Shelved} {top : List ℕ} {files : List NamedSource} {o : Outcome} (name : List ℕ) → Calls top files (read name) → IsOfFiles o → ComesTo shelf top files o → Read shelf top files name o
+as_read {shelf = shelf} {top = top} {files = files} {o = o} name c i (outcomes.one_more name' bytes s c' h src rest) = subst (λ n. Read shelf top files n o) (same_read (one_call c c')) (went_on bytes s h src rest)
+as_read {shelf = shelf} {top = top} {files = files} name c i (outcomes.file_refused name' bytes number place c' h r) = subst (λ n. Read shelf top files n (refused name' number place)) (same_read (one_call c c')) (was_refused bytes number place h r)
+as_read {shelf = shelf} {top = top} {files = files} name c i (outcomes.absent name' c' a) = subst (λ n. Read shelf top files n (missing name')) (same_read (one_call c c')) (was_absent a)
+as_read name c i (outcomes.not_read name' c' r) = absurd i
+as_read name c i (outcomes.mention_refused name' number place c') = absurd (read_refuse (one_call c c'))
+as_read name c i (outcomes.whole c') = absurd (read_nothing (one_call c c'))
+
+as_refused : {shelf : Shelved} {top : List ℕ} {files : List NamedSource} {o : Outcome} (name : List ℕ) (number : ℕ) (place : Place) → Calls top files (refuse name number place) → ComesTo shelf top files o → refused name number place ≡ o
+as_refused name number place c (outcomes.one_more name' bytes s c' h src rest) = absurd (read_refuse (one_call c' c))
+as_refused name number place c (outcomes.file_refused name' bytes m p c' h r) = absurd (read_refuse (one_call c' c))
+as_refused name number place c (outcomes.absent name' c' a) = absurd (read_refuse (one_call c' c))
+as_refused name number place c (outcomes.not_read name' c' r) = absurd (read_refuse (one_call c' c))
+as_refused name number place c (outcomes.mention_refused name' m p c') = same_refuse (one_call c c')
+as_refused name number place c (outcomes.whole c') = absurd (refuse_nothing (one_call c c'))
+
+as_whole : {shelf : Shelved} {top : List ℕ} {files : List NamedSource} {o : Outcome} → Calls top files nothing → ComesTo shelf top files o → project files ≡ o
+as_whole c (outcomes.one_more name' bytes s c' h src rest) = absurd (read_nothing (one_call c' c))
+as_whole c (outcomes.file_refused name' bytes m p c' h r) = absurd (read_nothing (one_call c' c))
+as_whole c (outcomes.absent name' c' a) = absurd (read_nothing (one_call c' c))
+as_whole c (outcomes.not_read name' c' r) = absurd (read_nothing (one_call c' c))
+as_whole c (outcomes.mention_refused name' m p c') = absurd (refuse_nothing (one_call c' c))
+as_whole c (outcomes.whole c') = refl
+
+same_refused : (name : List ℕ) {m n : ℕ} {p q : Place} → (m ≡ n) × (p ≡ q) → refused name m p ≡ refused name n q
+same_refused name (a, b) = cc
+
+refusal_agrees : (A : OneAnswer) (files : List ℕ → Option (List ℕ)) (before now : ℕ) {top : List ℕ} {sources : List NamedSource} (name bytes : List ℕ) (number : ℕ) (place : Place) {o : Outcome} → HasBytes (Some files) name bytes → IsRefused bytes number place → Read (shelved (Some files) before now) top sources name o → refused name number place ≡ o
+refusal_agrees A files before now name bytes number place h r (went_on bytes' s h' src rest) = absurd (source_or_refused A src (subst (λ b. IsRefused b number place) (one_bytes files name h h') r))
+refusal_agrees A files before now name bytes number place h r (was_refused bytes' m p h' r') = same_refused name (one_refusal A (subst (λ b. IsRefused b number place) (one_bytes files name h h') r) r')
+refusal_agrees A files before now name bytes number place h r (was_absent a) = absurd (there_or_absent files before now name bytes h a)
+
+absence_agrees : (files : List ℕ → Option (List ℕ)) (before now : ℕ) {top : List ℕ} {sources : List NamedSource} (name : List ℕ) {o : Outcome} → IsAbsent (shelved (Some files) before now) name → Read (shelved (Some files) before now) top sources name o → missing name ≡ o
+absence_agrees files before now name a (went_on bytes s h src rest) = absurd (there_or_absent files before now name bytes h a)
+absence_agrees files before now name a (was_refused bytes m p h r) = absurd (there_or_absent files before now name bytes h a)
+absence_agrees files before now name a (was_absent b) = refl
+
+same_bytes_source : (A : OneAnswer) (files : List ℕ → Option (List ℕ)) (name bytes bytes' : List ℕ) (s s' : Source) → HasBytes (Some files) name bytes → HasBytes (Some files) name bytes' → IsSource bytes s → IsSource bytes' s' → s' ≡ s
+same_bytes_source A files name bytes bytes' s s' h h' i i' =
+    sym (one_source A (subst (λ b. ReadsAs b s) (one_bytes files name h h') i.reads) i'.reads)
+
+-- one more file on either side: the rest agrees
+more_agrees : (A : OneAnswer) (files : List ℕ → Option (List ℕ)) (before now : ℕ) {top : List ℕ} {sources : List NamedSource} {a b : Outcome} (name bytes : List ℕ) (s : Source) → ((o : Outcome) → ComesTo (shelved (Some files) before now) top (sources ++ named name s ∷ []) o → IsOfFiles o → a ≡ o) → IsOfFiles b → HasBytes (Some files) name bytes → IsSource bytes s → Read (shelved (Some files) before now) top sources name b → a ≡ b
+more_agrees A files before now {top = top} {sources = sources} {b = b} name bytes s rest j h i (went_on bytes' s' h' i' rest') =
+    rest b (subst (λ u. ComesTo (shelved (Some files) before now) top (sources ++ named name u ∷ []) b) (same_bytes_source A files name bytes bytes' s s' h h' i i') rest') j
+more_agrees A files before now name bytes s rest j h i (was_refused bytes' m p h' r) = absurd (source_or_refused A i (subst (λ b. IsRefused b m p) (one_bytes files name h' h) r))
+more_agrees A files before now name bytes s rest j h i (was_absent b) = absurd (there_or_absent files before now name bytes h b)
+
+pub one_outcome : (A : OneAnswer) (files : List ℕ → Option (List ℕ)) (before now : ℕ) (top : List ℕ) {sources : List NamedSource} {a b : Outcome} → ComesTo (shelved (Some files) before now) top sources a → ComesTo (shelved (Some files) before now) top sources b → IsOfFiles a → IsOfFiles b → a ≡ b
+one_outcome A files before now top (outcomes.one_more name bytes s c h src rest) other i j =
+    more_agrees A files before now name bytes s (λ o rest' k. one_outcome A files before now top rest rest' i k) j h src (as_read name c j other)
+one_outcome A files before now top (outcomes.file_refused name bytes number place c h r) other i j = refusal_agrees A files before now name bytes number place h r (as_read name c j other)
+one_outcome A files before now top (outcomes.absent name c a) other i j = absence_agrees files before now name a (as_read name c j other)
+one_outcome A files before now top (outcomes.not_read name c r) other i j = absurd i
+one_outcome A files before now top (outcomes.mention_refused name number place c) other i j = as_refused name number place c other
+one_outcome A files before now top (outcomes.whole c) other i j = as_whole c other

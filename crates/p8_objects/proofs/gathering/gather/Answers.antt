@@ -1,0 +1,73 @@
+use Rattle.std.proofs.Common.{List, refl, ◌∙◌, subst, arith}
+use Rattle.p8_tree.specs.declared.projects.ProjectFile.{ProjectFile}
+use Rattle.p8_tree.specs.Proper.{IsProperFile}
+use Rattle.p8_objects.specs.Mentioned.{sources_of}
+use Rattle.p8_objects.specs.Standing.{Stands}
+use Rattle.p8_objects.specs.Goings.{CallsFor}
+use Rattle.p8_objects.specs.Outcomes as outcomes
+use Rattle.p8_objects.specs.Outcomes.{shelved, Answers}
+use Rattle.p8_objects.proofs.Calling.{told, begin, asked_for, asked_for_none, file_fault, call_fault, more, no_trees, tree_more}
+use Rattle.p8_objects.proofs.Wholes.{whole_project}
+use Rattle.p8_objects.proofs.gathering.gather.Goals as goal
+
+pub files-init : goal.files-init
+files-init g c =
+    let p = begin (g.S.Shelf.files c.args.shelf.now) (g.S.Shelf.faults c.args.shelf.now) c.args.top.now c.in_ok-copy_of.field-0 c.new-files.result c.new-done.result c.new-files.ensures c.new-done.ensures (c.in_ok-copy_of.ensures ∙ c.as_bytes.ensures.value) in
+    record { stands = p.0; asked = p.1; on = p.2; proper = no_trees IsProperFile c.new-files.result c.new-files.ensures; later = omega arith; kept = refl }
+
+pub returns-in_err-read_file-clause-answers : goal.returns-in_err-read_file-clause-answers
+returns-in_err-read_file-clause-answers g c =
+    told c.from_residual-in_err-read_file.result _ (λ o. Answers (shelved (g.S.Shelf.files c.args.shelf.now) (g.S.Shelf.faults c.args.shelf.now) (g.S.Shelf.faults c.read_file.new.shelf)) c.args.top.now o) c.from_residual-in_err-read_file.ensures.1
+    (file_fault (g.S.Shelf.files c.args.shelf.now) (g.S.Shelf.files c.files.shelf) (g.S.Shelf.faults c.args.shelf.now) (g.S.Shelf.faults c.files.shelf) (g.S.Shelf.faults c.read_file.new.shelf) c.args.top.now c.in-Some.name
+    c.files.invariant.on (asked_for c.files.asked c.in-Some.name c.files.invariant.asked c.in-Some.is) c.files.invariant.kept c.files.invariant.later _ c.in_err-read_file.ensures.fault)
+
+pub next_file-requires-clause-stands : goal.next_file-requires-clause-stands
+next_file-requires-clause-stands g c =
+    (more (g.S.Shelf.files c.args.shelf.now) (g.S.Shelf.files c.files.shelf) (g.S.Shelf.faults c.args.shelf.now) (g.S.Shelf.faults c.files.shelf) (g.S.Shelf.faults c.read_file.new.shelf) c.args.top.now c.in-Some.name c.files.files c.as_slice.result.now c.files.done c.in_ok-read_file.field-0
+    c.files.invariant.stands (asked_for c.files.asked c.in-Some.name c.files.invariant.asked c.in-Some.is) c.files.invariant.on c.files.invariant.kept c.in_ok-read_file.ensures.file (c.as_slice.ensures ∙ c.in_ok-push.ensures.ok)).0
+
+pub returns-in_err-asked-clause-answers : goal.returns-in_err-asked-clause-answers
+returns-in_err-asked-clause-answers g c =
+    told c.from_residual-in_err-asked.result _ (λ o. Answers (shelved (g.S.Shelf.files c.args.shelf.now) (g.S.Shelf.faults c.args.shelf.now) (g.S.Shelf.faults c.read_file.new.shelf)) c.args.top.now o) c.from_residual-in_err-asked.ensures.1
+    (call_fault (g.S.Shelf.files c.args.shelf.now) (g.S.Shelf.faults c.args.shelf.now) (g.S.Shelf.faults c.read_file.new.shelf) c.args.top.now
+    (more (g.S.Shelf.files c.args.shelf.now) (g.S.Shelf.files c.files.shelf) (g.S.Shelf.faults c.args.shelf.now) (g.S.Shelf.faults c.files.shelf) (g.S.Shelf.faults c.read_file.new.shelf) c.args.top.now c.in-Some.name c.files.files c.as_slice.result.now c.files.done c.in_ok-read_file.field-0
+    c.files.invariant.stands (asked_for c.files.asked c.in-Some.name c.files.invariant.asked c.in-Some.is) c.files.invariant.on c.files.invariant.kept c.in_ok-read_file.ensures.file (c.as_slice.ensures ∙ c.in_ok-push.ensures.ok)).1
+    _ (c.in_err-asked.ensures.refused c.args.top.now))
+
+pub files-preserved : goal.files-preserved
+files-preserved g c =
+    let p = more (g.S.Shelf.files c.args.shelf.now) (g.S.Shelf.files c.files.shelf) (g.S.Shelf.faults c.args.shelf.now) (g.S.Shelf.faults c.files.shelf) (g.S.Shelf.faults c.read_file.new.shelf) c.args.top.now c.in-Some.name c.files.files c.push.new.self c.files.done c.in_ok-read_file.field-0
+    c.files.invariant.stands (asked_for c.files.asked c.in-Some.name c.files.invariant.asked c.in-Some.is) c.files.invariant.on c.files.invariant.kept c.in_ok-read_file.ensures.file c.in_ok-push.ensures.ok in
+    record {
+      stands = subst (λ (fs : List ProjectFile). Stands (sources_of fs) c.next_file.new.done) c.as_slice.ensures c.in_ok-asked.ensures.stands;
+      asked = subst (λ (fs : List ProjectFile). CallsFor c.args.top.now (sources_of fs) c.next_file.new.done c.in_ok-asked.asked) c.as_slice.ensures (c.in_ok-asked.ensures.next c.args.top.now);
+      on = p.1;
+      proper = tree_more IsProperFile c.files.files c.push.new.self c.in_ok-read_file.field-0 c.files.invariant.proper c.in_ok-read_file.ensures.file.proper c.in_ok-push.ensures.ok;
+      later = omega (arith, c.files.invariant.later, c.read_file.ensures.later);
+      kept = c.read_file.ensures.kept ∙ c.files.invariant.kept;
+    }
+
+pub returns-clause-answers : goal.returns-clause-answers
+returns-clause-answers g c =
+    c.files.invariant.on.on (g.S.Shelf.faults c.files.shelf) (outcomes.project (sources_of c.files.files)) (outcomes.whole (asked_for_none c.files.done c.files.asked c.files.invariant.asked c.in_default.is))
+
+pub returns-clause-first : goal.returns-clause-first
+returns-clause-first g c = (whole_project (returns-clause-answers g c)).first
+
+pub returns-clause-distinct : goal.returns-clause-distinct
+returns-clause-distinct g c = (whole_project (returns-clause-answers g c)).distinct
+
+pub returns-clause-mentioned : goal.returns-clause-mentioned
+returns-clause-mentioned g c = (whole_project (returns-clause-answers g c)).mentioned
+
+pub returns-clause-no_ring : goal.returns-clause-no_ring
+returns-clause-no_ring g c = (whole_project (returns-clause-answers g c)).no_ring
+
+pub returns-clause-few : goal.returns-clause-few
+returns-clause-few g c = (whole_project (returns-clause-answers g c)).few
+
+pub returns-clause-read : goal.returns-clause-read
+returns-clause-read g c = (whole_project (returns-clause-answers g c)).from
+
+pub returns-clause-proper : goal.returns-clause-proper
+returns-clause-proper g c = c.files.invariant.proper

@@ -1,0 +1,21 @@
+use Rattle.std.proofs.Common.{◌≡◌, ◌≤◌, ◌-◌, length}
+use Rattle.p8_objects.specs.Projects.{most_files}
+use Rattle.p8_objects.specs.Standing.{Stands}
+use Rattle.p8_objects.specs.Mentioned.{sources_of}
+use Rattle.p8_objects.specs.Goings.{CallsFor, GoesOn}
+use Rattle.p8_objects.specs.Whole.{EachTree}
+use Rattle.p8_tree.specs.Proper.{IsProperFile}
+use Rattle.p8_objects.proofs.gathering.gather.Given as goal
+
+abbrev pub invariant-files : goal.invariant-files
+invariant-files g l = record {
+  stands : Stands (sources_of l.files) l.done;
+  asked : CallsFor l.top (sources_of l.files) l.done l.asked;
+  on : GoesOn (g.S.Shelf.files l.fn.shelf) (g.S.Shelf.faults l.fn.shelf) l.top (sources_of l.files);
+  proper : EachTree IsProperFile (sources_of l.files);
+  later : g.S.Shelf.faults l.fn.shelf ≤ g.S.Shelf.faults l.shelf;
+  kept : g.S.Shelf.files l.shelf ≡ g.S.Shelf.files l.fn.shelf;
+}
+
+abbrev pub decreases-files : goal.decreases-files
+decreases-files g l = most_files - length l.files

@@ -1,0 +1,43 @@
+-- internal: what is found at the mentions of a file.
+use Rattle.std.specs.Prelude.{◌≡◌, ℕ, ◌≤◌, ◌⊎◌, List, length, map}
+use Rattle.p8_tree.specs.declared.places.Place.{Place}
+use Rattle.p8_tree.specs.declared.projects.ProjectFile.{ProjectFile}
+use Rattle.p8_tree.specs.Sources.{Child, Source}
+use Rattle.p8_tree.specs.Projects.{NamedSource}
+use Rattle.p8_tree.specs.Views.{named_source_of}
+use Rattle.p8_lexer.specs.declared.refusal.Refusal.TheVariants.{Cycle, TooManyObjects}
+use Rattle.p8_lexer.specs.Refusals.{refusal_number}
+use Rattle.p8_objects.specs.declared.fault.GatherFault.{GatherFault}
+use Rattle.p8_objects.specs.declared.fault.GatherFault.TheVariants as fault
+use Rattle.p8_objects.specs.Lists.{IsAt}
+use Rattle.p8_objects.specs.Sources.{mentions, most_objects}
+use Rattle.p8_objects.specs.Projects.{IsIn, most_files}
+
+-- the files so far
+abbrev pub sources_of : List ProjectFile → List NamedSource
+sources_of files = map named_source_of files
+
+-- the file of this number has this name
+pub record HasName (files : List NamedSource) (i : ℕ) (name : List ℕ) : Type 0 where
+  pub file : NamedSource
+  pub stands : IsAt files i file
+  pub named : file.name ≡ name
+
+-- the first item of OBJ too many stands here
+pub record HasTooMany (s : Source) (place : Place) : Type 0 where
+  pub item : Child
+  pub stands : IsAt (mentions s) most_objects item
+  pub there : item.place ≡ place
+
+-- the file of this name is refused so
+abbrev pub IsSourceFault : List ℕ → ℕ → Place → GatherFault → Type 0
+IsSourceFault name n p (fault.Source file number place) = (file ≡ name) × (number ≡ n) × (place ≡ p)
+IsSourceFault name n p fault.NoMemory = Unit {0}
+IsSourceFault name n p f = ⊥
+
+-- why a mention in the file of this name is refused: its file is among these, or there are too many of them
+abbrev pub IsMentionFault : List NamedSource → List ℕ → Child → GatherFault → Type 0
+IsMentionFault files name x (fault.Source file number place) =
+    (file ≡ name) × (((number ≡ refusal_number Cycle) × (place ≡ x.file_place) × IsIn files x.file) ⊎ ((number ≡ refusal_number TooManyObjects) × (place ≡ x.place) × (¬ IsIn files x.file) × (most_files ≤ length files)))
+IsMentionFault files name x fault.NoMemory = Unit {0}
+IsMentionFault files name x f = ⊥

@@ -1,0 +1,50 @@
+-- internal: what reading one file of a shelf answers.
+use Rattle.std.specs.Prelude.{ℕ, ◌≡◌, List, Result, Ok, Err}
+use Rattle.std.specs.declared.vec.Vec.{Vec}
+use Rattle.std.specs.declared.alloc.Global.{Global}
+use Rattle.p8_words.specs.declared.failure.Fail.{Fail}
+use Rattle.p8_words.specs.declared.failure.Fail.TheVariants as fail
+use Rattle.p8_tree.specs.declared.projects.ProjectFile.{ProjectFile}
+use Rattle.p8_tree.specs.Views.{source_of}
+use Rattle.p8_tree.specs.Proper.{IsProperFile}
+use Rattle.p8_io.specs.Counts.{Rose}
+use Rattle.p8_io.specs.declared.shelf.ShelfError.{ShelfError}
+use Rattle.p8_io.specs.declared.shelf.ShelfError.TheVariants.{Missing, Failed, NoMemory}
+use Rattle.p8_objects.specs.declared.source.FileFault.{FileFault}
+use Rattle.p8_objects.specs.declared.fault.GatherFault.{GatherFault}
+use Rattle.p8_objects.specs.declared.fault.GatherFault.TheVariants as fault
+use Rattle.p8_objects.specs.Sources.{IsSource, IsRefused}
+use Rattle.p8_objects.specs.Outcomes.{Shelved, HasBytes, IsAbsent}
+
+-- a fact of a refusal, which says nothing of want of memory
+abbrev pub IfRefused : (FileFault → Type 0) → Fail FileFault → Type 0
+IfRefused P (fail.Refused f) = P f
+IfRefused P fail.NoMemory = Unit {0}
+
+-- reading the bytes of the file of this name answers so
+abbrev pub IsRead : Shelved → List ℕ → Result (Vec ℕ Global) ShelfError → Type 0
+IsRead shelf name (Ok bytes) = HasBytes shelf.files name bytes.items
+IsRead shelf name (Err Missing) = IsAbsent shelf name
+IsRead shelf name (Err Failed) = Rose shelf.before shelf.now
+IsRead shelf name (Err NoMemory) = Unit {0}
+
+-- the file of this name with the tree of its bytes
+pub record IsFileOf (shelf : Shelved) (name : List ℕ) (file : ProjectFile) : Type 0 where
+  pub named : file.name ≡ name
+  pub bytes : List ℕ
+  pub has : HasBytes shelf.files name bytes
+  pub source : IsSource bytes (source_of file.tree)
+  pub proper : IsProperFile (source_of file.tree)
+
+-- its bytes are refused by themselves
+pub record IsRefusedBy (shelf : Shelved) (name : List ℕ) (f : FileFault) : Type 0 where
+  pub bytes : List ℕ
+  pub has : HasBytes shelf.files name bytes
+  pub refused : IsRefused bytes f.number f.place
+
+-- why the file of this name has no tree
+abbrev pub IsFileFault : Shelved → List ℕ → GatherFault → Type 0
+IsFileFault shelf name (fault.Source file number place) = (file ≡ name) × IsRefusedBy shelf name (record { number = number; place = place })
+IsFileFault shelf name (fault.Missing file) = (file ≡ name) × IsAbsent shelf name
+IsFileFault shelf name (fault.ShelfFault file) = (file ≡ name) × Rose shelf.before shelf.now
+IsFileFault shelf name fault.NoMemory = Unit {0}

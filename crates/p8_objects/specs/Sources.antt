@@ -1,0 +1,44 @@
+-- What the bytes of a file are by themselves: a source with its tree, or one that is refused (this project's profile).
+use Rattle.std.specs.Prelude.{◌≡◌, ℕ, ◌≤◌, List, [], ◌∷◌, ◌++◌, length}
+use Rattle.p8_tree.specs.declared.places.Place.{Place}
+use Rattle.p8_tree.specs.Sources as trees
+use Rattle.p8_tree.specs.Sources.{BlockTree, Child, Source}
+use Rattle.p8_lexer.specs.declared.token.Token.{Token}
+use Rattle.p8_lexer.specs.declared.refusal.Refusal.TheVariants.{TooManyObjects}
+use Rattle.p8_lexer.specs.Refusals.{refusal_number}
+use Rattle.p8_lexer.specs.Lexing.{longest_file, AreTokens, IsFault}
+use Rattle.p8_lines.specs.Tokens.{all_tokens}
+use Rattle.p8_blocks.specs.Reading.{Parses, source, fault}
+use Rattle.p8_objects.specs.Lists.{IsAt}
+
+-- the items of OBJ: each mentions a file
+abbrev pub mentions_in : BlockTree → List Child
+mentions_in (trees.Obj xs) = xs
+mentions_in b = []
+
+abbrev pub mentions : Source → List Child
+mentions [] = []
+mentions (b ∷ bs) = mentions_in b ++ mentions bs
+
+-- how many items of OBJ a file may have, and how many files a project
+abbrev pub most_objects : ℕ
+most_objects = 255
+
+-- these bytes are cut into tokens, and reading these answers so
+pub record ReadsAs (bytes : List ℕ) (s : Source) : Type 0 where
+  pub short : length bytes ≤ longest_file
+  pub tokens : List Token
+  pub cut : AreTokens bytes tokens
+  pub read : Parses (all_tokens bytes tokens) (source s)
+
+-- these bytes are a source with this tree
+pub record IsSource (bytes : List ℕ) (s : Source) : Type 0 where
+  pub reads : ReadsAs bytes s
+  pub few : length (mentions s) ≤ most_objects
+
+-- These bytes are refused by themselves: they have no tokens, else the tokens are no file, else the file has an item of
+-- OBJ too many.
+pub data IsRefused (bytes : List ℕ) (number : ℕ) (place : Place) : Type 0 where
+  no_tokens : IsFault bytes (record { number = number; place = place }) → IsRefused bytes number place
+  no_file : (tokens : List Token) → length bytes ≤ longest_file → AreTokens bytes tokens → Parses (all_tokens bytes tokens) (fault number place) → IsRefused bytes number place
+  too_many : (s : Source) (x : Child) → ReadsAs bytes s → IsAt (mentions s) most_objects x → number ≡ refusal_number TooManyObjects → place ≡ x.place → IsRefused bytes number place

@@ -1,0 +1,38 @@
+// Why there is no project.
+ghost use Rattle.std.specs.Prelude.{◌≡◌};
+ghost use Rattle.p8_objects.specs.declared.fault.GatherFault.TheVariants.{NoMemory as OutOfMemory};
+
+use p8_tree::{Place, Text};
+use std::alloc::AllocError;
+
+/// Why a project can't be gathered. `file` is the name of a file of the project, as it is mentioned.
+#[derive(Drop)]
+pub enum GatherFault {
+    /// A file is refused, by itself or for what it mentions.
+    Source {
+        /// The file that is refused.
+        file: Text,
+        /// The number of a [`Refusal`](p8_lexer::Refusal): 1 to 11, 19, 20 or 30.
+        number: u8,
+        /// Where in the file.
+        place: Place,
+    },
+    /// The shelf has no file of that name.
+    Missing {
+        file: Text,
+    },
+    /// The shelf could not read the file, and has counted a fault.
+    ShelfFault {
+        file: Text,
+    },
+    /// There was no memory.
+    NoMemory,
+}
+
+impl From<AllocError> for GatherFault {
+    ghost from_gives = { λ _ given. given ≡ OutOfMemory };
+
+    fn from(_: AllocError) -> GatherFault {
+        GatherFault::NoMemory
+    }
+}

@@ -1,0 +1,80 @@
+// Which file is read next.
+ghost use Rattle.std.specs.Prelude.{◌≡◌, ◌<◌, ◌≤◌, ℕ, List as list, length, IfOk, IfErr, MatchResult};
+ghost use Rattle.p8_tree.specs.Views.{child_of};
+ghost use Rattle.p8_lexer.specs.Refusals.{refusal_number};
+ghost use Rattle.p8_objects.specs.declared.fault.GatherFault.{GatherFault};
+ghost use Rattle.p8_objects.specs.Projects.{IsIn, most_files};
+ghost use Rattle.p8_objects.specs.Mentioned.{sources_of, IsMentionFault, IsSourceFault};
+ghost use Rattle.p8_objects.specs.Standing.{Stands};
+ghost use Rattle.p8_objects.specs.Goings.{CallsFor, IsRefusedCall};
+
+use crate::fault::GatherFault;
+use crate::mentions::{first_left, number_of};
+use p8_lexer::Refusal;
+use p8_tree::{List, ObjItem, Place, ProjectFile, Text};
+use std::alloc::Global;
+
+/// How many files a project may have.
+const MOST_FILES: usize = 255;
+
+/// The refusal of a file at a place.
+fn refused(alloc: Global, file: &Text, refusal: Refusal, place: Place) -> GatherFault
+    ensures { IsSourceFault file.now (refusal_number refusal) place result }
+{
+    match Text::copy_of(alloc, file.as_slice()) {
+        Ok(file) => GatherFault::Source {
+            file,
+            number: refusal.number(),
+            place,
+        },
+        Err(_) => GatherFault::NoMemory,
+    }
+}
+
+/// The name of a file that is mentioned in the file of the name `from` and isn't finished, if it is a new one and there
+/// is room for it.
+fn asked(
+    alloc: Global,
+    files: &[ProjectFile],
+    from: &Text,
+    item: &ObjItem,
+) -> Result<Text, GatherFault>
+    ensures name { IfOk result (λ name. name ≡ item.now.file) }
+    ensures new { IfOk result (λ _. ¬ IsIn (sources_of files.now) item.now.file) }
+    ensures room { IfOk result (λ _. length (sources_of files.now) < most_files) }
+    ensures refused { IfErr result (IsMentionFault (sources_of files.now) from.now (child_of item.now)) }
+{
+    if number_of(files, &item.file).is_some() {
+        return Err(refused(alloc, from, Refusal::Cycle, item.file_place));
+    }
+    if files.len() >= MOST_FILES {
+        return Err(refused(alloc, from, Refusal::TooManyObjects, item.place));
+    }
+    Ok(Text::copy_of(alloc, item.file.as_slice())?)
+}
+
+/// The file that is read next behind these, if there is one. Those whose mentions are all finished are finished too, from
+/// the last one back.
+pub(crate) fn next_file(
+    alloc: Global,
+    files: &[ProjectFile],
+    done: &mut List<usize>,
+) -> Result<Option<Text>, GatherFault>
+    requires stands { Stands (sources_of files.now) done.old }
+    requires some { 0 < length (sources_of files.now) }
+    ensures stands { IfOk result (λ _. Stands (sources_of files.now) done.new) }
+    ensures next { IfOk result (λ next. (top : list ℕ) → CallsFor top (sources_of files.now) done.new next) }
+    ensures refused { IfErr result (λ f. (top : list ℕ) → IsRefusedCall top (sources_of files.now) f) }
+{
+    'files: for at in (0..files.len()).rev() {
+        if done.as_slice().contains(&at) {
+            continue;
+        }
+        let file = &files[at];
+        match first_left(files, done.as_slice(), &file.tree) {
+            Some(item) => return Ok(Some(asked(alloc, files, &file.name, item)?)),
+            None => done.push(at)?,
+        }
+    }
+    Ok(None)
+}
