@@ -2,5 +2,4 @@
 pub mod Windows
 pub mod Proper
 pub mod Boots
-pub mod Room
 pub mod Lives

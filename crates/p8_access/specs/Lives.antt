@@ -128,8 +128,8 @@ IsThorough Begins place until (At clock access) = (n begin : ℕ) → Begins n b
 IsThorough Begins place until Quiet = (n begin : ℕ) → Begins n begin → place < n → until ≤ begin
 IsThorough Begins place until (More bound) = Begins place bound
 
--- an access that is told comes within the time between two windows
-abbrev pub IsNear : (reached : ℕ) → Next → Type 0
-IsNear reached (At clock access) = clock ≤ reached + 16
-IsNear reached Quiet = Unit {0}
-IsNear reached (More bound) = Unit {0}
+-- an access that is told comes within so many clocks
+abbrev pub IsNear : (most reached : ℕ) → Next → Type 0
+IsNear most reached (At clock access) = clock ≤ reached + most
+IsNear most reached Quiet = Unit {0}
+IsNear most reached (More bound) = Unit {0}

@@ -9,10 +9,8 @@ mod memory;
 mod order;
 #[cfg(test)]
 mod tests;
-mod turn_list;
 
 pub use kinds::{Access, Answer, Origin, Reason, Test, Width};
 pub use lives::{Life, Next};
 pub use memory::{Boot, Ram};
 pub use order::{Key, Turn, key_before, window};
-pub use turn_list::Turns;

@@ -50,6 +50,9 @@ pub trait Life {
     /// The most clocks from a turn to where the next one begins.
     ghost lead: { Self → ℕ };
 
+    /// The most clocks from where it has come to up to the access that is told then.
+    ghost reach: { Self → ℕ };
+
     /// The access that was announced and has no turn yet, with its earliest clock.
     ghost announced: { Self → Option (ℕ × Access) };
 
@@ -75,13 +78,14 @@ pub trait Life {
 
         ensures spends { Spends (place self.old) (place self.new) (reached self.old) (reached self.new) (pace self.old) until budget result }
         ensures stride { reached self.new ≤ reached self.old + stride self.old * (place self.new - place self.old) }
-        ensures near { IsNear (reached self.new) result }
-        ensures quiet { (b : Begun) (ts : List Turn) → stands self.old b ts → has_ended (cog self.old) ts ≡ false → result ≡ Quiet → until ≤ reached self.new + 16 }
+        ensures near { IsNear (reach self.old) (reached self.new) result }
+        ensures quiet { (b : Begun) (ts : List Turn) → stands self.old b ts → has_ended (cog self.old) ts ≡ false → result ≡ Quiet → until ≤ reached self.new + reach self.old }
 
         ensures announced { announced self.new ≡ announced_by result }
         ensures same_pace { pace self.new ≡ pace self.old }
         ensures same_stride { stride self.new ≡ stride self.old }
         ensures same_lead { lead self.new ≡ lead self.old }
+        ensures same_reach { reach self.new ≡ reach self.old }
         ensures cog { cog self.new ≡ cog self.old };
 
     /// Takes the turn of the access that was announced: at its clock, or for a wait not before it.
@@ -99,6 +103,7 @@ pub trait Life {
         ensures same_pace { pace self.new ≡ pace self.old }
         ensures same_stride { stride self.new ≡ stride self.old }
         ensures same_lead { lead self.new ≡ lead self.old }
+        ensures same_reach { reach self.new ≡ reach self.old }
         ensures cog { cog self.new ≡ cog self.old };
 
     /// An instruction or a bytecode takes time.

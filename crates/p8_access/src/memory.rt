@@ -8,10 +8,12 @@ use p8_words::NoMemory;
 use std::alloc::{AllocError, Global};
 use std::marker::Model;
 
-/// The 32,768 bytes of hub RAM, from address $0000 to $7FFF.
+/// The 32,768 bytes of hub RAM that a run begins with, from address $0000 to $7FFF.
+///
+/// They never change, so several may share them. Their block stays taken until the program ends.
 #[derive(Drop)]
 pub struct Ram {
-    bytes: Vec<u8>,
+    bytes: &'static [u8],
 }
 
 impl Model for Ram {
@@ -19,9 +21,9 @@ impl Model for Ram {
 
     ghost Value = { List ℕ };
 
-    ghost view = { λ r. r.bytes.items };
+    ghost view = { λ r. r.bytes.now };
 
-    ghost invariant = { λ r. length r.bytes.items ≡ 32768 };
+    ghost invariant = { λ r. length r.bytes.now ≡ 32768 };
 }
 
 /// These bytes, and 0 behind them up to a size.
@@ -41,9 +43,15 @@ impl Ram {
         requires { length bytes.now ≤ 32768 }
         ensures { IfOk result (λ ram. ram ≡ ram_of bytes.now) }
     {
-        Ok(Ram {
-            bytes: padded(alloc, bytes, 32768)?,
-        })
+        let bytes: &'static [u8] = padded(alloc, bytes, 32768)?.leak();
+        Ok(Ram { bytes })
+    }
+
+    /// The same memory once more. Nothing is copied, and no memory is taken.
+    pub fn share(&self) -> Ram
+        ensures { result ≡ self.now }
+    {
+        Ram { bytes: self.bytes }
     }
 
     /// All bytes.
@@ -51,7 +59,7 @@ impl Ram {
         ensures bytes { result.now ≡ self.now }
         ensures length { length self.now ≡ 32768 }
     {
-        &self.bytes
+        self.bytes
     }
 }
 

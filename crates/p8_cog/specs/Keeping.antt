@@ -102,7 +102,7 @@ at-stage cog code reached until stage is p next e stops =
     subst (λ (s : Stage). Stops cog (standing_at s code p) reached until next) (sym e) stops
 
 -- what is told isn't farther than the next window
-pub stops-near : (cog reached until : ℕ) (here : Outcome) (next : Next) → Stops cog here reached until next → IsNear reached next
+pub stops-near : (cog reached until : ℕ) (here : Outcome) (next : Next) → Stops cog here reached until next → IsNear 16 reached next
 stops-near cog reached until here (At clock access) stops = stops.3
 stops-near cog reached until here Quiet stops = tt
 stops-near cog reached until here (More bound) stops = tt

@@ -133,6 +133,8 @@ impl Life for Cog {
 
     ghost lead = { λ life. 8192 };
 
+    ghost reach = { λ life. 16 };
+
     ghost announced = { λ life. life.announced };
 
     ghost cog = { λ life. life.cog };

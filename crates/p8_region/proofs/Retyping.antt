@@ -4,7 +4,7 @@ use Prim.Native.Nat.{ℕ, zero, suc, ◌+◌, ◌-◌, ◌*◌, ◌/◌, ◌≤�
 use Rattle.std.proofs.Common.{◌%◌}
 use native.Mathlib.Omega.{arith}
 use native.Mathlib.Nat.{mod-add-div'}
-use mathlib.Core.List.{List, [], ◌∷◌}
+use mathlib.Core.List.{[], ◌∷◌}
 use seplogic.Ra.Ura.{Ura}
 use mir.Syntax.{Ty, Width, w8, w16, w32, w64, w128, ty_int, ty_array}
 use mir.Val.{bytes}

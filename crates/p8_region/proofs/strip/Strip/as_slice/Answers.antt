@@ -1,6 +1,5 @@
 use Rattle.std.proofs.Common.{sym, ap, ◌∙◌, arith}
 use Rattle.p8_region.specs.Places.{somes}
-use Rattle.p8_region.specs.Bounded.{Bounded}
 use Rattle.p8_region.proofs.Rows.{somes_map, filled}
 use Rattle.p8_region.proofs.strip.Strip.as_slice.Goals as goal
 
