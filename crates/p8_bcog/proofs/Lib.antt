@@ -1,0 +1,6 @@
+pub mod Answering
+pub mod Keeping
+pub mod Looping
+pub mod Returning
+pub mod OneMore
+pub mod Taken

@@ -1,0 +1,74 @@
+-- The operands of a bytecode, and what is tested of them before anything else.
+use Rattle.std.specs.Prelude.{ℕ, ◌+◌, ◌-◌, ◌%◌, ◌^◌, nat_lt, [], ◌∷◌, ◌++◌, length, take, slice_index, if◌then◌else◌, Bool, int_le, ◌&&◌, ◌||◌, Option, Some, None}
+use Rattle.p8_access.specs.declared.kinds.Reason.{Reason}
+use Rattle.p8_access.specs.declared.kinds.Reason.TheVariants as Why
+use Rattle.p8_words.specs.Words.{signed_value}
+use Rattle.p8_courses.specs.Courses.{Course, Stop}
+use Rattle.p8_bcog.specs.declared.state.State.{State}
+
+-- how many operands there are
+abbrev pub operands : State → ℕ
+operands s = length s.stack - s.base
+
+-- the operand so many places below the top, 0 for the top itself
+abbrev pub operand : State → (below : ℕ) → ℕ
+operand s below = slice_index s.stack (length s.stack - 1 - below)
+
+-- so many operands are taken
+abbrev pub taken : (count : ℕ) → State → State
+taken count s = record s { stack = take (length s.stack - count) s.stack }
+
+-- a value is left
+abbrev pub pushed : (value : ℕ) → State → State
+pushed value s = record s { stack = s.stack ++ value ∷ [] }
+
+-- a value is left, if there is one
+abbrev pub left_by : Option ℕ → State → State
+left_by None s = s
+left_by (Some value) s = pushed value s
+
+-- so many operands are taken, and then a value is left
+abbrev pub replaced : (count value : ℕ) → State → State
+replaced count value s = pushed value (taken count s)
+
+-- a bytecode that takes and leaves so many longs halts where there are too few operands, and else where the stack
+-- would hold more than 16,384 longs
+abbrev pub refusal : (takes leaves : ℕ) → State → Option Reason
+refusal takes leaves s =
+    if nat_lt (operands s) takes then Some Why.Under
+    else if nat_lt 16384 (length s.stack - takes + leaves) then Some Why.Stack
+    else None
+
+abbrev pub stopped_by : Option Reason → Course State → Course State
+stopped_by None course = course
+stopped_by (Some reason) course = Stop reason
+
+abbrev pub tested : (takes leaves : ℕ) → State → Course State → Course State
+tested takes leaves s course = stopped_by (refusal takes leaves s) course
+
+-- a jump counts from the byte behind it; an offset is a word in two's complement
+abbrev pub jumped : (offset : ℕ) → State → State
+jumped offset s = record s { at = (s.at + offset) % 2 ^ 16 }
+
+abbrev pub jumped_if : Bool → (offset : ℕ) → State → State
+jumped_if jumps offset s = if jumps then jumped offset s else s
+
+-- ---- signed values
+
+abbrev pub is_at_most : (a b : ℕ) → Bool
+is_at_most a b = int_le (signed_value a) (signed_value b)
+
+-- between two ends, in either order
+abbrev pub is_between : (v a b : ℕ) → Bool
+is_between v a b = (is_at_most a v && is_at_most v b) || (is_at_most b v && is_at_most v a)
+
+-- sums and differences are taken mod 2 ^ 32
+abbrev pub sum_of : (a b : ℕ) → ℕ
+sum_of a b = (a + b) % 2 ^ 32
+
+abbrev pub difference : (a b : ℕ) → ℕ
+difference a b = (a + (2 ^ 32 - b)) % 2 ^ 32
+
+-- how far two signed values are apart
+abbrev pub distance : (a b : ℕ) → ℕ
+distance a b = if is_at_most a b then difference b a else difference a b

@@ -1,0 +1,79 @@
+-- internal: what the parts of a Spin cog's code promise each other.
+use Rattle.std.specs.Prelude.{ℕ, ◌+◌, ◌^◌, ◌≡◌, ◌<◌, ◌≤◌, ◌⊎◌, Bool, true, false, List, [], Option, Some, Result, Ok, Err}
+use Rattle.p8_access.specs.declared.kinds.Reason.{Reason}
+use Rattle.p8_access.specs.declared.kinds.Access.{Access}
+use Rattle.p8_access.specs.declared.order.Turn.{Turn}
+use Rattle.p8_access.specs.declared.lives.Next.{Next}
+use Rattle.p8_access.specs.declared.lives.Next.TheVariants.{At, Quiet, More}
+use Rattle.p8_access.specs.Lives.{IsMade}
+use Rattle.p8_courses.specs.Timing.{Outcome, Asks, Goes}
+use Rattle.p8_courses.specs.Replays.{after}
+use Rattle.p8_courses.specs.Replaying.{IsFrom}
+use Rattle.p8_bcog.specs.declared.step.Step.{Step}
+use Rattle.p8_bcog.specs.declared.step.Step.TheVariants.{Done, Asking}
+use Rattle.p8_bcog.specs.declared.stage.Stage.{Stage}
+use Rattle.p8_bcog.specs.declared.stage.Stage.TheVariants.{Entering, Ready, Asked, Halted, Over}
+use Rattle.p8_bcog.specs.declared.state.State.{State}
+use Rattle.p8_bcog.specs.Ready.{IsReady}
+use Rattle.p8_bcog.specs.Replay.{engine_of}
+use Rattle.p8_bcog.specs.Standing.{standing, come_to}
+
+-- how far a life is behind a bytecode that stands so
+abbrev pub stage_of : Result Step Reason → Stage
+stage_of (Ok Done) = Ready
+stage_of (Ok (Asking access later)) = Asked access later
+stage_of (Err reason) = Halted reason
+
+-- a bytecode is to be done next
+abbrev pub is_ready : Stage → Bool
+is_ready Entering = false
+is_ready Ready = true
+is_ready (Asked access later) = false
+is_ready (Halted reason) = false
+is_ready Over = false
+
+-- a bytecode is done
+abbrev pub done_by : Stage → ℕ
+done_by Entering = 0
+done_by Ready = 1
+done_by (Asked access later) = 0
+done_by (Halted reason) = 0
+done_by Over = 0
+
+-- what is asked is an access that a life makes, and what follows can be done
+abbrev pub IsSound : Stage → State → Type 0
+IsSound Entering s = Unit {0}
+IsSound Ready s = Unit {0}
+IsSound (Asked access later) s = IsMade access × IsReady later s
+IsSound (Halted reason) s = Unit {0}
+IsSound Over s = Unit {0}
+
+-- so many bytecodes lead from where one begins to here
+abbrev pub Leads : (memory : List ℕ) (cog done : ℕ) → (old : State) (begin : ℕ) → Stage → (new : State) (clock : ℕ) → Type 0
+Leads memory cog done old begin stage new clock =
+    (more : List Turn) → after (engine_of memory cog) (come_to stage done) (Goes old begin more) ≡ standing cog stage new clock more
+
+-- so many bytecodes lead from where one begins to where another does
+abbrev pub Led : (memory : List ℕ) (cog done : ℕ) (old : State) (begin : ℕ) (s : State) (clock : ℕ) → Type 0
+Led memory cog done old begin s clock =
+    (more : List Turn) → after (engine_of memory cog) done (Goes old begin more) ≡ Goes s clock more
+
+-- where a run is that began at a clock and has done so many bytecodes: the last one begins at `begun`, and what is asked
+-- counts from `clock` on
+abbrev pub IsBehind : (done budget begun clock until : ℕ) → Stage → Type 0
+IsBehind done budget begun clock until Entering = ⊥
+IsBehind done budget begun clock until Ready = (begun ≡ clock) × ((until ≤ clock) ⊎ (done ≡ budget))
+IsBehind done budget begun clock until (Asked access later) = (begun < until) × (begun ≤ clock) × (clock ≤ begun + 544)
+IsBehind done budget begun clock until (Halted reason) = (begun < until) × (begun ≤ clock) × (clock ≤ begun + 544)
+IsBehind done budget begun clock until Over = ⊥
+
+-- what is told is what comes next from here, or nothing comes below this clock
+abbrev pub Stops : (here : Outcome State) → (reached until : ℕ) → Next → Type 0
+Stops here reached until (At clock access) = (here ≡ Asks clock access) × (reached ≤ clock) × (clock < until) × (clock ≤ reached + 560)
+Stops here reached until Quiet = IsFrom until here
+Stops here reached until (More bound) = (s : State) × (here ≡ Goes s bound []) × (bound ≡ reached) × (bound < until)
+
+-- what was announced is what comes next
+abbrev pub Announces : (cog : ℕ) → Stage → State → (clock reached : ℕ) → Option (ℕ × Access) → Type 0
+Announces cog stage s clock reached announced =
+    (when : ℕ) (access : Access) → announced ≡ Some (when, access) → (standing cog stage s clock [] ≡ Asks when access) × (reached ≤ when) × (when + 1 < 2 ^ 62)

@@ -1,0 +1,324 @@
+// The table of Spin's bytecodes.
+ghost use Rattle.std.specs.Prelude.{ℕ, ◌≡◌, ◌<◌, ◌≤◌, ◌%◌, length, IfSome, if◌then◌else◌};
+ghost use Rattle.p8_bcog.specs.Code.{code_of, fetched_in};
+ghost use Rattle.p8_bcog.specs.Bytecodes.{call_row, test_row, look_row, wait_row, move_row, cog_row, less_one_if, inverted_if, packed, constant, constant_row, return_row, operator_row, row, bytecode, is_slow, clocks};
+ghost use Rattle.p8_bcog.specs.Control.{jump};
+ghost use Rattle.p8_bcog.specs.Cogs.{pasm_start};
+ghost use Rattle.p8_bcog.specs.Laters.{comes};
+ghost use Rattle.p8_bcog.specs.Ready.{IsGood};
+ghost use Rattle.p8_access.specs.Lives.{IsMade};
+ghost use Rattle.p8_bytecode.specs.Spelling.{IsOp};
+
+use crate::cogs::{long_address, number_in, target_of};
+use crate::operands::difference;
+use crate::state::State;
+use crate::step::Step;
+use p8_access::{Access, Origin, Reason, Test, Width};
+use p8_bytecode::{Op, take_op};
+use p8_operators::{binary, is_unary, rotated_left, unary};
+
+/// A value less 1, where the flag is set.
+fn less_one_if(flag: bool, value: u32) -> u32
+    ensures { result ≡ less_one_if flag value }
+{
+    if flag { difference(value, 1) } else { value }
+}
+
+/// A value inverted, where the flag is set.
+fn inverted_if(flag: bool, value: u32) -> u32
+    ensures { result ≡ inverted_if flag value }
+{
+    if flag { !value } else { value }
+}
+
+/// The constant that a byte packs.
+fn packed(byte: u32) -> u32
+    ensures { result ≡ packed byte }
+{
+    let power = rotated_left(2, byte % 32);
+    inverted_if(byte / 64 % 2 == 1, less_one_if(byte / 32 % 2 == 1, power))
+}
+
+/// The constant that a bytecode pushes.
+fn constant(op: Op) -> u32
+    ensures { result ≡ constant op }
+{
+    match op.code {
+        0x34 => u32::MAX,
+        0x35 => 0,
+        0x36 => 1,
+        0x37 => packed(op.first),
+        _ => op.first,
+    }
+}
+
+/// Whether a bytecode takes 544 clocks.
+fn is_slow(op: Op) -> bool
+    ensures { result ≡ is_slow op }
+{
+    if op.code < 0xE0 {
+        let effect = op.effect % 128;
+        effect >= 0x54 && effect <= 0x58
+    } else {
+        op.code >= 0xF4 && op.code <= 0xF8
+    }
+}
+
+/// The clocks from the begin of a bytecode up to where its first access counts.
+#[inline]
+fn clocks_of(op: Op) -> u64
+    ensures clocks { result ≡ (if is_slow op then 544 else 32) }
+    ensures least { 32 ≤ result }
+    ensures most { result ≤ 544 }
+{
+    if is_slow(op) { 544 } else { 32 }
+}
+
+/// The bytecode at an address and the address behind it.
+#[inline]
+fn fetch(code: &[u8], at: u16) -> Option<(Op, u16)>
+    requires { length code.now ≤ 32768 }
+    ensures fetched { result ≡ fetched_in code.now at }
+    ensures taken { IfSome result (λ found. IsOp found.0) }
+{
+    if at < 16 {
+        return None;
+    }
+    match take_op(code, usize::from(at)) {
+        Some((op, next)) => Some((op, next as u16)),
+        None => None,
+    }
+}
+
+impl State {
+    /// The bytecodes 00 to 07.
+    #[tactic(auto, unfolding(crate::specs::Bytecodes::call_row))]
+    fn call_row(&mut self, memory: &[u8], op: Op) -> Result<Step, Reason>
+        requires taken { IsOp op }
+        requires range { op.code < 0x08 }
+        ensures does { comes result self.new ≡ call_row memory.now op self.old }
+        ensures good { IsGood result self.new }
+    {
+        match op.code {
+            0x00..=0x03 => self.open_mark(op.code),
+            0x04 => {
+                self.jump(op.first);
+                Ok(Step::Done)
+            }
+            0x05 => self.call_own(memory, op.first),
+            0x06 => self.call_object(memory, op.first, op.second),
+            0x07 => self.call_indexed(memory, op.first, op.second, op.third),
+            _ => unreachable!(),
+        }
+    }
+
+    /// The bytecodes 08 to 0F.
+    #[tactic(auto, unfolding(crate::specs::Bytecodes::test_row))]
+    fn test_row(&mut self, op: Op) -> Result<Step, Reason>
+        ensures does { comes result self.new ≡ test_row op self.old }
+        ensures good { IsGood result self.new }
+    {
+        match op.code {
+            0x08 => self.loop_begins(op.first),
+            0x09 => self.loop_ends(op.first),
+            0x0A => self.jump_if_zero(op.first),
+            0x0B => self.jump_unless_zero(op.first),
+            0x0C => self.drops(),
+            0x0D => self.case_value(op.first),
+            0x0E => self.case_range(op.first),
+            _ => self.look_fails(),
+        }
+    }
+
+    /// The bytecodes 10 to 15.
+    #[tactic(auto, unfolding(crate::specs::Bytecodes::look_row))]
+    fn look_row(&mut self, memory: &[u8], op: Op) -> Result<Step, Reason>
+        requires taken { IsOp op }
+        requires range { op.code < 0x16 }
+        requires from { 0x10 ≤ op.code }
+        ensures does { comes result self.new ≡ look_row memory.now op self.old }
+        ensures good { IsGood result self.new }
+    {
+        match op.code {
+            0x10 => self.lookup_value(op.first),
+            0x11 => self.lookdown_value(op.first),
+            0x12 => self.lookup_range(op.first),
+            0x13 => self.lookdown_range(op.first),
+            0x14 => self.drops(),
+            0x15 => self.start_method(memory, op.first, op.second),
+            _ => unreachable!(),
+        }
+    }
+
+    /// Waits for pins that equal a state, or differ from it.
+    #[tactic(auto, unfolding(crate::specs::Bytecodes::wait_row))]
+    fn wait_row(&mut self, equal: bool) -> Result<Step, Reason>
+        ensures does { comes result self.new ≡ wait_row equal self.old }
+        ensures good { IsGood result self.new }
+    {
+        let state = self.peek(2);
+        let mask = self.peek(1);
+        if equal {
+            self.wait_for_pins(Test::PinsEqual { state, mask })
+        } else {
+            self.wait_for_pins(Test::PinsDiffer { state, mask })
+        }
+    }
+
+    /// The bytecodes 16 to 1F.
+    #[tactic(auto, unfolding(crate::specs::Bytecodes::move_row))]
+    fn move_row(&mut self, op: Op) -> Result<Step, Reason>
+        ensures does { comes result self.new ≡ move_row op self.old }
+        ensures good { IsGood result self.new }
+    {
+        match op.code {
+            0x16 => self.text_size(),
+            0x17 => self.text_compare(),
+            0x18 => self.fill(Width::Byte),
+            0x19 => self.fill(Width::Word),
+            0x1A => self.fill(Width::Long),
+            0x1B => self.wait_row(true),
+            0x1C => self.move_elements(Width::Byte),
+            0x1D => self.move_elements(Width::Word),
+            0x1E => self.move_elements(Width::Long),
+            _ => self.wait_row(false),
+        }
+    }
+
+    /// The start of PASM in a cog.
+    fn pasm_start(&self) -> Access
+        ensures access { result ≡ pasm_start self.now }
+        ensures made { IsMade result }
+    {
+        Access::CogInit {
+            target: target_of(self.peek(2)),
+            origin: Origin::Pasm {
+                code: long_address(self.peek(1)),
+                par: long_address(self.peek(0)),
+            },
+        }
+    }
+
+    /// The bytecodes 21 to 2F.
+    #[tactic(auto, unfolding(crate::specs::Bytecodes::cog_row))]
+    fn cog_row(&mut self, op: Op) -> Result<Step, Reason>
+        ensures does { comes result self.new ≡ cog_row op self.old }
+        ensures good { IsGood result self.new }
+    {
+        let value = self.peek(0);
+        let number = number_in(value);
+        match op.code {
+            0x21 => self.tell(1, Access::CogStop { cog: number }),
+            0x22 => self.tell(1, Access::LockRet { lock: number }),
+            0x23 => self.tell(
+                1,
+                Access::Wait {
+                    test: Test::Count { target: value },
+                },
+            ),
+            0x28 => self.ask_word(3, self.pasm_start()),
+            0x29 => self.ask_word(0, Access::LockNew),
+            0x2A => self.ask_word(1, Access::LockSet { lock: number }),
+            0x2B => self.ask_word(1, Access::LockClr { lock: number }),
+            0x2C => self.tell(3, self.pasm_start()),
+            0x2D => self.tell(0, Access::LockNew),
+            0x2E => self.tell(1, Access::LockSet { lock: number }),
+            _ => self.tell(1, Access::LockClr { lock: number }),
+        }
+    }
+
+    /// The bytecodes 34 to 3B.
+    #[tactic(auto, unfolding(crate::specs::Bytecodes::constant_row))]
+    fn constant_row(&mut self, op: Op) -> Result<Step, Reason>
+        ensures does { comes result self.new ≡ constant_row op self.old }
+        ensures good { IsGood result self.new }
+    {
+        self.test(0, 1)?;
+        self.push(constant(op));
+        Ok(Step::Done)
+    }
+
+    /// The bytecodes 30 to 3F.
+    #[tactic(auto, unfolding(crate::specs::Bytecodes::return_row))]
+    fn return_row(&mut self, cog: u8, op: Op) -> Result<Step, Reason>
+        requires cog { cog < 8 }
+        requires taken { IsOp op }
+        requires from { 0x30 ≤ op.code }
+        requires range { op.code < 0x40 }
+        ensures does { comes result self.new ≡ return_row cog op self.old }
+        ensures good { IsGood result self.new }
+    {
+        match op.code {
+            0x30 => self.abort_result(cog),
+            0x31 => self.abort_value(cog),
+            0x32 => self.return_result(cog),
+            0x33 => self.return_value(cog),
+            0x34..=0x3B => self.constant_row(op),
+            0x3D => self.one_pin(op),
+            0x3E => self.some_pins(op),
+            _ => self.whole_register(op),
+        }
+    }
+
+    /// The bytecodes E0 to FF.
+    #[inline]
+    #[tactic(auto, unfolding(crate::specs::Bytecodes::operator_row))]
+    fn operator_row(&mut self, op: Op) -> Result<Step, Reason>
+        ensures does { comes result self.new ≡ operator_row op self.old }
+        ensures good { IsGood result self.new }
+    {
+        if is_unary(op.code) {
+            self.test(1, 1)?;
+            let value = unary(op.code, self.operand(0));
+            self.replace(1, value);
+        } else {
+            self.test(2, 1)?;
+            let value = binary(op.code, self.operand(1), self.operand(0));
+            self.replace(2, value);
+        }
+        Ok(Step::Done)
+    }
+
+    /// Does a bytecode whose successor is at hand.
+    #[tactic(auto, unfolding(crate::specs::Bytecodes::row))]
+    fn row(&mut self, memory: &[u8], cog: u8, op: Op) -> Result<Step, Reason>
+        requires cog { cog < 8 }
+        requires taken { IsOp op }
+        ensures does { comes result self.new ≡ row memory.now cog op self.old }
+        ensures good { IsGood result self.new }
+    {
+        match op.code {
+            0x00..=0x07 => self.call_row(memory, op),
+            0x08..=0x0F => self.test_row(op),
+            0x10..=0x15 => self.look_row(memory, op),
+            0x16..=0x1F => self.move_row(op),
+            0x20..=0x2F => self.cog_row(op),
+            0x30..=0x3F => self.return_row(cog, op),
+            0x40..=0x7F => self.short_variable(op),
+            0x80..=0xDF => self.variable(op),
+            _ => self.operator_row(op),
+        }
+    }
+
+    /// Does the bytecode that stands where the cog is, in code that begins at address 0. It also tells the
+    /// clocks up to where its first access counts.
+    #[inline]
+    pub fn bytecode(&mut self, memory: &[u8], code: &[u8], cog: u8) -> (u64, Result<Step, Reason>)
+        requires code { code.now ≡ code_of memory.now }
+        requires room { length code.now ≤ 32768 }
+        requires cog { cog < 8 }
+        ensures clocks { result.0 ≡ clocks memory.now self.old }
+        ensures least { 32 ≤ result.0 }
+        ensures most { result.0 ≤ 544 }
+        ensures does { comes result.1 self.new ≡ bytecode memory.now cog self.old }
+        ensures good { IsGood result.1 self.new }
+    {
+        match fetch(code, self.at) {
+            None => (32, Err(Reason::Byte(self.at))),
+            Some((op, next)) => {
+                self.at = next;
+                (clocks_of(op), self.row(memory, cog, op))
+            }
+        }
+    }
+}

@@ -1,0 +1,317 @@
+// A Spin cog as a life.
+ghost use Rattle.std.specs.Prelude.{ℕ, ◌≡◌, ◌⊎◌, ◌<◌, ◌≤◌, ◌+◌, ◌^◌, [], None, IfOk};
+ghost use Rattle.p8_access.specs.declared.lives.Next.TheVariants.{Quiet};
+ghost use Rattle.p8_access.specs.Lives.{SpinBegun, announced_by, IsMade, IsMadeNext, is_last};
+ghost use Rattle.p8_courses.specs.Timing.{Asks, earliest};
+ghost use Rattle.p8_bcog.specs.declared.stage.Stage.TheVariants.{Ready, Over};
+ghost use Rattle.p8_bcog.specs.Origins.{IsSpin};
+ghost use Rattle.p8_bcog.specs.Replay.{IsAsked, Begins};
+ghost use Rattle.p8_bcog.specs.Standing.{standing, StandsFor};
+ghost use Rattle.p8_bcog.specs.Stops.{is_ready, IsSound, Stops, Announces};
+ghost use Rattle.p8_bcog.specs.Single.{is_prop-IsSound};
+ghost use Rattle.p8_bcog.specs.Laws.{one-asked, asked-first, asked-later, pace_holds};
+
+use crate::accesses::{word_in, write_of};
+use crate::running::{behind, done_by, earliest, run, stage_of};
+use crate::stack::{OperandStack, own_strip};
+use crate::stage::Stage;
+use crate::state::State;
+use crate::tables::code_end;
+use p8_access::{Access, Life, Next, Origin, Ram, Turn, Width};
+use p8_region::Strip;
+use p8_words::NoMemory;
+use std::alloc::Global;
+
+/// A cog that runs Spin, from a start on.
+///
+/// It keeps its stack, marks, calls and registers, how far it is in the bytecode at hand, and the access
+/// that it has announced until that has its turn.
+#[derive(Drop)]
+pub struct SpinCog {
+    /// The memory that its code and tables stand in.
+    code: Ram,
+    /// Its own number.
+    cog: u8,
+    state: State,
+    stage: Stage,
+    /// The clock at which the next bytecode begins, or from which the access at hand counts.
+    clock: u64,
+    /// The clock that it has come to: where the bytecode at hand began, or is behind its last turn.
+    reached: u64,
+    /// How many bytecodes it has done since its start.
+    done: u64,
+    announced: Option<(u64, Access)>,
+    ghost cog_below: { cog < 8 },
+    ghost early: { reached ≤ clock },
+    ghost late: { clock ≤ reached + 544 },
+    ghost below: { reached < 2 ^ 62 + 2 ^ 14 },
+    ghost counts: { done ≤ reached },
+    ghost ready: { stage ≡ Ready → reached ≡ clock },
+    ghost sound: { IsSound stage state } by { is_prop-IsSound stage state },
+    ghost announces: { Announces cog stage state clock reached announced },
+}
+
+/// The access that an answer announces.
+fn announced_in(next: Next) -> Option<(u64, Access)>
+    ensures { result ≡ announced_by next }
+{
+    match next {
+        Next::At { clock, access } => Some((clock, access)),
+        Next::Quiet => None,
+        Next::More { .. } => None,
+    }
+}
+
+/// Whether a life is over by the turn of an access.
+fn is_last(cog: u8, access: Access) -> bool
+    ensures { result ≡ is_last cog access }
+{
+    match access {
+        Access::Halt { .. } => true,
+        Access::CogStop { cog: target } => target == cog,
+        _ => false,
+    }
+}
+
+/// Whether a bytecode is to be done next.
+fn is_ready(stage: Stage) -> bool
+    ensures { result ≡ is_ready stage }
+{
+    match stage {
+        Stage::Ready => true,
+        Stage::Entering | Stage::Asked { .. } | Stage::Halted { .. } | Stage::Over => false,
+    }
+}
+
+/// An access that counts from a clock on, if it comes below `until`.
+fn below(cog: u8, clock: u64, access: Access, until: u64) -> Next
+    requires cog { cog < 8 }
+    requires until { until < 2 ^ 62 }
+    requires made { IsMade access }
+    ensures stops { (reached : ℕ) → reached ≤ clock → clock ≤ reached + 544 → Stops (Asks (earliest cog clock access) access) reached until result }
+    ensures made { IsMadeNext result }
+    ensures near { result ≡ Quiet → until ≤ clock + 16 }
+{
+    if clock >= until {
+        return Next::Quiet;
+    }
+    let earliest = earliest(cog, clock, access);
+    if earliest < until {
+        Next::At {
+            clock: earliest,
+            access,
+        }
+    } else {
+        Next::Quiet
+    }
+}
+
+/// What a life tells that stands so.
+fn told(stage: Stage, state: &State, cog: u8, clock: u64, until: u64) -> Next
+    requires cog { cog < 8 }
+    requires until { until < 2 ^ 62 }
+    requires sound { IsSound stage state.now }
+    ensures stops { (reached : ℕ) → reached ≤ clock → clock ≤ reached + 544 → (stage ≡ Ready → reached ≡ clock) → Stops (standing cog stage state.now clock []) reached until result }
+    ensures made { IsMadeNext result }
+    ensures near { result ≡ Quiet → (stage ≡ Over) ⊎ (until ≤ clock + 16) }
+{
+    match stage {
+        Stage::Entering => below(cog, clock, write_of(Width::Long, state.frame, 0), until),
+        Stage::Ready => {
+            if clock < until {
+                Next::More { bound: clock }
+            } else {
+                Next::Quiet
+            }
+        }
+        Stage::Asked { access, .. } => below(cog, clock, access, until),
+        Stage::Halted { reason } => below(cog, clock, Access::Halt { reason }, until),
+        Stage::Over => Next::Quiet,
+    }
+}
+
+impl SpinCog {
+    /// A cog whose Begin had its turn at the clock `begin`: it runs the method that a Spin origin names, whose
+    /// code stands in this memory, from the write of its entry on. `cog` is its own number. Its
+    /// operand stack has a region of its own.
+    pub fn start(
+        alloc: Global,
+        code: Ram,
+        origin: Origin,
+        cog: u8,
+        begin: u64,
+    ) -> Result<SpinCog, NoMemory>
+        requires spin { IsSpin origin }
+        requires cog { cog < 8 }
+        requires begin { begin < 2 ^ 62 }
+
+        ensures stands { IfOk result (λ life. ⟦<SpinCog as Life>⟧.stands life (SpinBegun (record { memory = code; origin = origin; cog = cog; begin = begin })) []) }
+        ensures place { IfOk result (λ life. ⟦<SpinCog as Life>⟧.place life ≡ 0) }
+        ensures reached { IfOk result (λ life. ⟦<SpinCog as Life>⟧.reached life ≡ begin + 8192) }
+        ensures pace { IfOk result (λ life. ⟦<SpinCog as Life>⟧.pace life ≡ 32) }
+        ensures stride { IfOk result (λ life. ⟦<SpinCog as Life>⟧.stride life ≡ 544) }
+        ensures lead { IfOk result (λ life. ⟦<SpinCog as Life>⟧.lead life ≡ 8192) }
+        ensures reach { IfOk result (λ life. ⟦<SpinCog as Life>⟧.reach life ≡ 560) }
+        ensures announced { IfOk result (λ life. ⟦<SpinCog as Life>⟧.announced life ≡ None) }
+        ensures cog { IfOk result (λ life. ⟦<SpinCog as Life>⟧.cog life ≡ cog) }
+    {
+        SpinCog::start_in(alloc, code, own_strip(alloc)?, origin, cog, begin)
+    }
+
+    /// A cog whose Begin had its turn at the clock `begin`: it runs the method that a Spin origin names, whose
+    /// code stands in this memory, from the write of its entry on. `cog` is its own number. Its
+    /// operand stack stands in the strip, which has room for 16,384 longs.
+    pub fn start_in(
+        alloc: Global,
+        code: Ram,
+        stack: Strip<u32>,
+        origin: Origin,
+        cog: u8,
+        begin: u64,
+    ) -> Result<SpinCog, NoMemory>
+        requires stack { stack.room ≡ 16384 }
+        requires spin { IsSpin origin }
+        requires cog { cog < 8 }
+        requires begin { begin < 2 ^ 62 }
+
+        ensures stands { IfOk result (λ life. ⟦<SpinCog as Life>⟧.stands life (SpinBegun (record { memory = code; origin = origin; cog = cog; begin = begin })) []) }
+        ensures place { IfOk result (λ life. ⟦<SpinCog as Life>⟧.place life ≡ 0) }
+        ensures reached { IfOk result (λ life. ⟦<SpinCog as Life>⟧.reached life ≡ begin + 8192) }
+        ensures pace { IfOk result (λ life. ⟦<SpinCog as Life>⟧.pace life ≡ 32) }
+        ensures stride { IfOk result (λ life. ⟦<SpinCog as Life>⟧.stride life ≡ 544) }
+        ensures lead { IfOk result (λ life. ⟦<SpinCog as Life>⟧.lead life ≡ 8192) }
+        ensures reach { IfOk result (λ life. ⟦<SpinCog as Life>⟧.reach life ≡ 560) }
+        ensures announced { IfOk result (λ life. ⟦<SpinCog as Life>⟧.announced life ≡ None) }
+        ensures cog { IfOk result (λ life. ⟦<SpinCog as Life>⟧.cog life ≡ cog) }
+    {
+        let mut state = State::new(alloc, OperandStack::in_strip(stack))?;
+        state.begin(origin);
+        Ok(SpinCog {
+            code,
+            cog,
+            state,
+            stage: Stage::Entering,
+            clock: begin + 8192,
+            reached: begin + 8192,
+            done: 0,
+            announced: None,
+        })
+    }
+
+    /// Starts it anew, as `start` would, in the memory that it has: nothing of the old life is left.
+    pub fn restart(&mut self, code: Ram, origin: Origin, cog: u8, begin: u64)
+        requires spin { IsSpin origin }
+        requires cog { cog < 8 }
+        requires begin { begin < 2 ^ 62 }
+
+        ensures stands { ⟦<SpinCog as Life>⟧.stands self.new (SpinBegun (record { memory = code; origin = origin; cog = cog; begin = begin })) [] }
+        ensures place { ⟦<SpinCog as Life>⟧.place self.new ≡ 0 }
+        ensures reached { ⟦<SpinCog as Life>⟧.reached self.new ≡ begin + 8192 }
+        ensures pace { ⟦<SpinCog as Life>⟧.pace self.new ≡ 32 }
+        ensures stride { ⟦<SpinCog as Life>⟧.stride self.new ≡ 544 }
+        ensures lead { ⟦<SpinCog as Life>⟧.lead self.new ≡ 8192 }
+        ensures reach { ⟦<SpinCog as Life>⟧.reach self.new ≡ 560 }
+        ensures announced { ⟦<SpinCog as Life>⟧.announced self.new ≡ None }
+        ensures cog { ⟦<SpinCog as Life>⟧.cog self.new ≡ cog }
+    {
+        self.announced = None;
+        self.code = code;
+        self.state.begin(origin);
+        self.cog = cog;
+        self.stage = Stage::Entering;
+        self.clock = begin + 8192;
+        self.reached = begin + 8192;
+        self.done = 0;
+    }
+}
+
+impl Life for SpinCog {
+    ghost stands = { λ life began turns. StandsFor life.code life.done life.cog life.stage life.state life.clock began turns };
+
+    ghost asked = { IsAsked };
+
+    ghost begins = { Begins };
+
+    ghost place = { λ life. life.done };
+
+    ghost reached = { λ life. life.reached };
+
+    ghost pace = { λ life. 32 };
+
+    ghost stride = { λ life. 544 };
+
+    ghost lead = { λ life. 8192 };
+
+    ghost reach = { λ life. 560 };
+
+    ghost announced = { λ life. life.announced };
+
+    ghost cog = { λ life. life.cog };
+
+    fn run_to_access(&mut self, until: u64, budget: u32) -> Next {
+        self.announced = None;
+        if is_ready(self.stage) {
+            let memory = self.code.bytes();
+            let code = &memory[..code_end(memory)];
+            let ran = run(
+                &mut self.state,
+                memory,
+                code,
+                self.cog,
+                self.clock,
+                until,
+                budget,
+            );
+            self.done += u64::from(ran.done);
+            self.reached = ran.begun;
+            self.clock = ran.clock;
+            self.stage = ran.stage;
+            let next = told(ran.stage, &self.state, self.cog, ran.clock, until);
+            self.announced = announced_in(next);
+            next
+        } else {
+            let next = told(self.stage, &self.state, self.cog, self.clock, until);
+            self.announced = announced_in(next);
+            next
+        }
+    }
+
+    fn take_answer(&mut self, turn: &Turn) {
+        self.announced = None;
+        match self.stage {
+            Stage::Entering => {
+                self.clock = turn.key.clock + 7;
+                self.reached = turn.key.clock + 7;
+                self.stage = Stage::Ready;
+            }
+            Stage::Asked { access, later } => {
+                let clock = behind(self.clock, access, turn.key.clock);
+                self.clock = clock;
+                self.reached = clock;
+                if is_last(self.cog, access) {
+                    self.stage = Stage::Over;
+                    self.done += 1;
+                } else {
+                    let stage = stage_of(self.state.go_on(later, word_in(turn.answer)));
+                    self.stage = stage;
+                    self.done += done_by(stage);
+                }
+            }
+            Stage::Halted { .. } => {
+                self.clock = turn.key.clock + 1;
+                self.reached = turn.key.clock + 1;
+                self.stage = Stage::Over;
+                self.done += 1;
+            }
+            Stage::Ready | Stage::Over => unreachable!(),
+        }
+    }
+
+    ghost paced = { λ life. pace_holds };
+
+    ghost one_asked = { one-asked };
+
+    ghost asked_first = { asked-first };
+
+    ghost asked_later = { asked-later };
+}
