@@ -1,19 +1,28 @@
 -- internal: the laws that a life owes, for all kinds. No public contract cites it.
-use Rattle.std.proofs.Common.{◌≡◌, ◌<◌, ◌∷◌, ◌++◌, [], ℕ, List}
+use Rattle.std.proofs.Common.{◌≡◌, ◌<◌, ◌≤◌, ◌∷◌, ◌++◌, [], ℕ, List, arith}
 use Rattle.p8_access.specs.declared.kinds.Access.{Access}
 use Rattle.p8_access.specs.declared.order.Turn.{Turn}
 use Rattle.p8_access.specs.Lives.{Begun, PasmBegun, SpinBegun, first_turn_of, IsTurnAt}
-use Rattle.p8_cog.specs.Replaying as Pasm
+use Rattle.p8_bcog.specs.Laws as Bytecodes
+use Rattle.p8_cog.specs.Replaying as Instructions
+use Rattle.p8_lives.specs.declared.kind.Kind.{Kind}
+use Rattle.p8_lives.specs.declared.kind.Kind.TheVariants.{Pasm, Spin}
+use Rattle.p8_lives.specs.Kinds.{number_of}
 use Rattle.p8_lives.specs.Lives.{asks}
 
 pub one-asked : (b : Begun) (ts : List Turn) (c d : ℕ) (a e : Access) → asks b ts c a → asks b ts d e → (c ≡ d) × (a ≡ e)
-one-asked (PasmBegun loaded) ts c d a e one other = Pasm.one-asked (PasmBegun loaded) ts c d a e one other
-one-asked (SpinBegun entered) ts c d a e one other = absurd one
+one-asked (PasmBegun loaded) ts c d a e one other = Instructions.one-asked (PasmBegun loaded) ts c d a e one other
+one-asked (SpinBegun entered) ts c d a e one other = Bytecodes.one-asked (SpinBegun entered) ts c d a e one other
 
 pub asked-first : (b : Begun) (c : ℕ) (a : Access) → asks b [] c a → first_turn_of b < c
-asked-first (PasmBegun loaded) c a asked = Pasm.asked-first (PasmBegun loaded) c a asked
-asked-first (SpinBegun entered) c a asked = absurd asked
+asked-first (PasmBegun loaded) c a asked = Instructions.asked-first (PasmBegun loaded) c a asked
+asked-first (SpinBegun entered) c a asked = Bytecodes.asked-first (SpinBegun entered) c a asked
 
 pub asked-later : (b : Begun) (ts : List Turn) (turn : Turn) (c d : ℕ) (a e : Access) → asks b ts c a → IsTurnAt c a turn → asks b (ts ++ turn ∷ []) d e → turn.key.clock < d
-asked-later (PasmBegun loaded) ts turn c d a e one at other = Pasm.asked-later (PasmBegun loaded) ts turn c d a e one at other
-asked-later (SpinBegun entered) ts turn c d a e one at other = absurd one
+asked-later (PasmBegun loaded) ts turn c d a e one at other = Instructions.asked-later (PasmBegun loaded) ts turn c d a e one at other
+asked-later (SpinBegun entered) ts turn c d a e one at other = Bytecodes.asked-later (SpinBegun entered) ts turn c d a e one at other
+
+-- an instruction takes 4 clocks or more, and a bytecode 32
+pub paced : (kind : Kind) → 4 ≤ number_of kind 4 32
+paced Pasm = omega arith
+paced Spin = omega arith

@@ -1,12 +1,15 @@
 // The life of a cog, of whatever kind.
-ghost use Rattle.std.specs.Prelude.{ℕ, List, ◌≡◌, ◌<◌, ◌≤◌, ◌+◌, ◌^◌, [], None, IfOk};
-ghost use Rattle.std.proofs.Math.Nat.{le_refl};
+ghost use Rattle.std.specs.Prelude.{◌≡◌, ◌<◌, ◌≤◌, ◌+◌, ◌^◌, [], None, IfOk};
 ghost use Rattle.p8_access.specs.Windows.{IsWindow};
-ghost use Rattle.p8_lives.specs.Lives.{asks, begun_by, IsStartable};
-ghost use Rattle.p8_lives.specs.Laws.{one-asked, asked-first, asked-later};
+ghost use Rattle.p8_lives.specs.Lives.{asks, begins, begun_by, IsStartable};
+ghost use Rattle.p8_lives.specs.Kinds.{number_of, access_of, fact_of};
+ghost use Rattle.p8_lives.specs.Laws.{one-asked, asked-first, asked-later, paced};
 
-use p8_access::{Life, Next, Origin, Turn, window};
+use crate::kind::Kind;
+use p8_access::{Life, Next, Origin, Ram, Turn, window};
+use p8_bcog::SpinCog;
 use p8_cog::Cog;
+use p8_region::Strip;
 use p8_words::NoMemory;
 use std::alloc::Global;
 
@@ -14,31 +17,50 @@ use std::alloc::Global;
 /// taken once.
 #[derive(Drop)]
 pub struct CogLife {
+    /// Which of the two runs.
+    kind: Kind,
     pasm: Cog,
+    spin: SpinCog,
 }
+
+/// An origin that is taken before any life has begun.
+const NOTHING: Origin = Origin::Spin {
+    entry: 0,
+    pbase: 0,
+    vbase: 0,
+    frame: 0,
+    size: 0,
+};
 
 impl CogLife {
     /// A place for the lives of a cog, with all memory that they need. Nothing of use runs there before
     /// `restart`.
-    pub fn new(alloc: Global, cog: u8) -> Result<CogLife, NoMemory>
-        requires { cog < 8 }
+    ///
+    /// `memory` is the boot's, in which the code of Spin stands, and `stack` is to be the operand stack of Spin: it has
+    /// room for 16,384 longs.
+    pub fn new(alloc: Global, memory: &Ram, stack: Strip<u32>, cog: u8) -> Result<CogLife, NoMemory>
+        requires cog { cog < 8 }
+        requires stack { stack.room ≡ 16384 }
         ensures cog { IfOk result (λ life. ⟦<CogLife as Life>⟧.cog life ≡ cog) }
         ensures announced { IfOk result (λ life. ⟦<CogLife as Life>⟧.announced life ≡ None) }
     {
+        let first = window(cog, 0);
         Ok(CogLife {
-            pasm: Cog::start(alloc, 0, 0, cog, window(cog, 0))?,
+            kind: Kind::Pasm,
+            pasm: Cog::start(alloc, 0, 0, cog, first)?,
+            spin: SpinCog::start_in(alloc, memory.share(), stack, NOTHING, cog, first)?,
         })
     }
 
     /// A new life begins with its first turn, Load or Begin, at the clock `first`. It takes no memory, and
-    /// nothing of the old life is left.
-    pub fn restart(&mut self, origin: Origin, cog: u8, first: u64)
+    /// nothing of the old life is left. The code of Spin stands in `memory`, the boot's.
+    pub fn restart(&mut self, memory: &Ram, origin: Origin, cog: u8, first: u64)
         requires origin { IsStartable origin }
         requires cog { cog < 8 }
         requires window { IsWindow cog first }
         requires first { first < 2 ^ 62 }
 
-        ensures stands { (memory : List ℕ) → ⟦<CogLife as Life>⟧.stands self.new (begun_by memory origin cog first) [] }
+        ensures stands { ⟦<CogLife as Life>⟧.stands self.new (begun_by memory.now origin cog first) [] }
         ensures place { ⟦<CogLife as Life>⟧.place self.new ≡ 0 }
         ensures reached { first ≤ ⟦<CogLife as Life>⟧.reached self.new }
         ensures lead { ⟦<CogLife as Life>⟧.reached self.new ≤ first + ⟦<CogLife as Life>⟧.lead self.new }
@@ -46,42 +68,56 @@ impl CogLife {
         ensures cog { ⟦<CogLife as Life>⟧.cog self.new ≡ cog }
     {
         match origin {
-            Origin::Pasm { code, par } => self.pasm.restart(code, par, cog, first),
-            Origin::Spin { .. } => unreachable!(),
+            Origin::Pasm { code, par } => {
+                self.kind = Kind::Pasm;
+                self.pasm.restart(code, par, cog, first);
+            }
+            Origin::Spin { .. } => {
+                self.kind = Kind::Spin;
+                self.spin.restart(memory.share(), origin, cog, first);
+            }
         }
     }
 }
 
 impl Life for CogLife {
-    ghost stands = { λ life began turns. ⟦<Cog as Life>⟧.stands life.pasm began turns };
+    ghost stands = { λ life began turns. fact_of life.kind (⟦<Cog as Life>⟧.stands life.pasm began turns) (⟦<SpinCog as Life>⟧.stands life.spin began turns) };
 
     ghost asked = { asks };
 
-    ghost begins = { ⟦<Cog as Life>⟧.begins };
+    ghost begins = { begins };
 
-    ghost place = { λ life. ⟦<Cog as Life>⟧.place life.pasm };
+    ghost place = { λ life. number_of life.kind (⟦<Cog as Life>⟧.place life.pasm) (⟦<SpinCog as Life>⟧.place life.spin) };
 
-    ghost reached = { λ life. ⟦<Cog as Life>⟧.reached life.pasm };
+    ghost reached = { λ life. number_of life.kind (⟦<Cog as Life>⟧.reached life.pasm) (⟦<SpinCog as Life>⟧.reached life.spin) };
 
-    ghost pace = { λ life. ⟦<Cog as Life>⟧.pace life.pasm };
+    ghost pace = { λ life. number_of life.kind (⟦<Cog as Life>⟧.pace life.pasm) (⟦<SpinCog as Life>⟧.pace life.spin) };
 
-    ghost stride = { λ life. ⟦<Cog as Life>⟧.stride life.pasm };
+    ghost stride = { λ life. number_of life.kind (⟦<Cog as Life>⟧.stride life.pasm) (⟦<SpinCog as Life>⟧.stride life.spin) };
 
-    ghost lead = { λ life. ⟦<Cog as Life>⟧.lead life.pasm };
+    ghost lead = { λ life. number_of life.kind (⟦<Cog as Life>⟧.lead life.pasm) (⟦<SpinCog as Life>⟧.lead life.spin) };
 
-    ghost announced = { λ life. ⟦<Cog as Life>⟧.announced life.pasm };
+    ghost reach = { λ life. number_of life.kind (⟦<Cog as Life>⟧.reach life.pasm) (⟦<SpinCog as Life>⟧.reach life.spin) };
 
-    ghost cog = { λ life. ⟦<Cog as Life>⟧.cog life.pasm };
+    ghost announced = { λ life. access_of life.kind (⟦<Cog as Life>⟧.announced life.pasm) (⟦<SpinCog as Life>⟧.announced life.spin) };
+
+    ghost cog = { λ life. number_of life.kind (⟦<Cog as Life>⟧.cog life.pasm) (⟦<SpinCog as Life>⟧.cog life.spin) };
 
     fn run_to_access(&mut self, until: u64, budget: u32) -> Next {
-        self.pasm.run_to_access(until, budget)
+        match self.kind {
+            Kind::Pasm => self.pasm.run_to_access(until, budget),
+            Kind::Spin => self.spin.run_to_access(until, budget),
+        }
     }
 
     fn take_answer(&mut self, turn: &Turn) {
-        self.pasm.take_answer(turn);
+        match self.kind {
+            Kind::Pasm => self.pasm.take_answer(turn),
+            Kind::Spin => self.spin.take_answer(turn),
+        }
     }
 
-    ghost paced = { λ life. le_refl 4 };
+    ghost paced = { λ life. paced life.kind };
 
     ghost one_asked = { one-asked };
 

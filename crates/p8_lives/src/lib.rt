@@ -2,6 +2,7 @@
 #![tactic(auto)]
 
 mod cog_life;
+mod kind;
 #[cfg(test)]
 mod tests;
 

@@ -1,13 +1,12 @@
 -- The fronts of the cogs, and the turn that comes first.
 use Rattle.std.proofs.Common.{◌≡◌, ◌∙◌, ap, sym, subst, refl, ℕ, zero, suc, ◌+◌, ◌^◌, ◌<◌, ◌≤◌, true, false, List, [], ◌∷◌, Option, Some, None, length, slice_get, slice_index, slice_index_or, arith, inl, inr}
 use Rattle.p8_access.specs.declared.kinds.Origin.{Origin}
-use Rattle.p8_access.specs.declared.kinds.Origin.TheVariants.{Pasm, Spin}
 use Rattle.p8_access.specs.declared.kinds.Test.{Test}
 use Rattle.p8_access.specs.declared.kinds.Access.{Access}
 use Rattle.p8_access.specs.declared.order.Key.{Key}
 use Rattle.p8_access.specs.declared.order.Turn.{Turn}
 use Rattle.p8_access.specs.Windows.{Before, window_of}
-use Rattle.p8_access.specs.Lives.{Begun, Entered, SpinBegun}
+use Rattle.p8_access.specs.Lives.{Begun}
 use Rattle.p8_history.specs.declared.states.CogState.{CogState}
 use Rattle.p8_history.specs.declared.states.CogState.TheVariants.{Stopped, Starting, Running}
 use Rattle.p8_history.specs.Worlds.{World}
@@ -27,7 +26,7 @@ use Rattle.p8_machine.specs.Fronts.{IsFirstOf, IsFront, IsNextFront}
 use Rattle.p8_machine.specs.Standing.{Stands, FitsState, IsLeast, IsDueAt}
 use Rattle.p8_machine.proofs.Coming.{may-late, may-timely}
 use Rattle.p8_machine.proofs.Firsts.{near-far}
-use Rattle.p8_machine.proofs.Seating.{may-sits, one-sits, quiet-sits, spin-quiet}
+use Rattle.p8_machine.proofs.Seating.{may-sits, one-sits, quiet-sits}
 
 some-access : (a b : Access) → Some a ≡ Some b → a ≡ b
 some-access a b e = cc
@@ -41,14 +40,14 @@ some-at [] n below = absurd (omega arith)
 some-at (seat ∷ seats) zero below = (seat, refl)
 some-at (seat ∷ seats) (suc n) below = some-at seats n (omega arith)
 
-module _ (asked : Begun → List Turn → ℕ → Access → Type 0) (one_asked : (b : Begun) (ts : List Turn) (c d : ℕ) (a e : Access) → asked b ts c a → asked b ts d e → (c ≡ d) × (a ≡ e)) (silent : (life : Entered) (ts : List Turn) (c : ℕ) (a : Access) → asked (SpinBegun life) ts c a → ⊥) (w : World) (past : List Turn) (n : ℕ) (stands : Begun → List Turn → Type 0) (next : Option (ℕ × Access)) (sits : SitsIn asked stands (said_by next) w past n (cog_state w past n)) (front : ℕ) (test : Option Test) where
+module _ (asked : Begun → List Turn → ℕ → Access → Type 0) (one_asked : (b : Begun) (ts : List Turn) (c d : ℕ) (a e : Access) → asked b ts c a → asked b ts d e → (c ≡ d) × (a ≡ e)) (w : World) (past : List Turn) (n : ℕ) (stands : Begun → List Turn → Type 0) (next : Option (ℕ × Access)) (sits : SitsIn asked stands (said_by next) w past n (cog_state w past n)) (front : ℕ) (test : Option Test) where
   in-state : (s : CogState) → cog_state w past n ≡ s → (u : ℕ) (access : Access) → MayCome asked w past n u access → MayComeIn asked w past n s u access
   in-state s is u access comes = subst (λ (s : CogState). MayComeIn asked w past n s u access) is comes.may
 
-  least-next : (code par : ℕ) → cog_state w past n ≡ Running (Pasm code par) → (o : Option (ℕ × Access)) → next ≡ o → IsNextFront w.clocks o front test → (u : ℕ) (access : Access) → MayCome asked w past n u access → front ≤ u
-  least-next code par is None none f u access comes = absurd (quiet-sits asked stands next w past n code par is none sits u access comes)
-  least-next code par is (Some said) some f u access comes =
-      let one = one-sits asked stands next w past n one_asked code par is said.0 said.1 some sits u access comes in
+  least-next : (origin : Origin) → cog_state w past n ≡ Running origin → (o : Option (ℕ × Access)) → next ≡ o → IsNextFront w.clocks o front test → (u : ℕ) (access : Access) → MayCome asked w past n u access → front ≤ u
+  least-next origin is None none f u access comes = absurd (quiet-sits asked stands next w past n origin is none sits u access comes)
+  least-next origin is (Some said) some f u access comes =
+      let one = one-sits asked stands next w past n one_asked origin is said.0 said.1 some sits u access comes in
       let late : said.0 ≤ u = may-late w past n (test_in said.1) said.0 u one.1 in
       let front_is : front ≡ said.0 = f.0 in
       omega arith
@@ -61,30 +60,27 @@ module _ (asked : Begun → List Turn → ℕ → Access → Type 0) (one_asked 
       let below : u < w.clocks = comes.below in
       let same : front ≡ window_of n (since + 1) = f.1 (subst (λ (c : ℕ). c < w.clocks) at below) in
       subst (λ (c : ℕ). c ≤ u) (at ∙ sym same) (omega arith)
-  front-least (Running (Pasm code par)) is f u access comes = least-next code par is next refl f u access comes
-  front-least (Running (Spin entry pbase vbase frame size)) is f u access comes =
-      absurd (spin-quiet asked stands next w past n silent entry pbase vbase frame size is sits u access comes)
+  front-least (Running origin) is f u access comes = least-next origin is next refl f u access comes
 
-  comes-next : (code par : ℕ) → cog_state w past n ≡ Running (Pasm code par) → (o : Option (ℕ × Access)) → next ≡ o → IsNextFront w.clocks o front test → test ≡ None → front < w.clocks → (access : Access) × MayCome asked w past n front access
-  comes-next code par is None none f plain below = absurd (let late : w.clocks ≤ front = f.0 in omega arith)
-  comes-next code par is (Some said) some f plain below =
+  comes-next : (origin : Origin) → cog_state w past n ≡ Running origin → (o : Option (ℕ × Access)) → next ≡ o → IsNextFront w.clocks o front test → test ≡ None → front < w.clocks → (access : Access) × MayCome asked w past n front access
+  comes-next origin is None none f plain below = absurd (let late : w.clocks ≤ front = f.0 in omega arith)
+  comes-next origin is (Some said) some f plain below =
       let no_wait : test_in said.1 ≡ None = sym f.1 ∙ plain in
       let may : MayBe w past n (test_in said.1) said.0 front = subst (λ (t : Option Test). MayBe w past n t said.0 front) (sym no_wait) f.0 in
-      (said.1, may-sits asked stands next w past n code par is said.0 front said.1 some sits may (λ _. below))
+      (said.1, may-sits asked stands next w past n origin is said.0 front said.1 some sits may (λ _. below))
 
   -- where it doesn't wait, one comes at its front
   pub front-comes : (s : CogState) → cog_state w past n ≡ s → IsFront n w.clocks s next front test → test ≡ None → front < w.clocks → (access : Access) × MayCome asked w past n front access
   front-comes Stopped is f plain below = absurd (let late : w.clocks ≤ front = f.0 in omega arith)
   front-comes (Starting since origin) is f plain below =
       (first_access origin, record { may = subst (λ (s : CogState). MayComeIn asked w past n s front (first_access origin)) (sym is) (f.0 below, refl); below = below })
-  front-comes (Running (Pasm code par)) is f plain below = comes-next code par is next refl f plain below
-  front-comes (Running (Spin entry pbase vbase frame size)) is f plain below = absurd (let late : w.clocks ≤ front = f.0 in omega arith)
+  front-comes (Running origin) is f plain below = comes-next origin is next refl f plain below
 
   module _ (waited : Test) (waits : test ≡ Some waited) where
-    wakes-next : (code par : ℕ) → cog_state w past n ≡ Running (Pasm code par) → (o : Option (ℕ × Access)) → next ≡ o → IsNextFront w.clocks o front test → (u : ℕ) (access : Access) → MayCome asked w past n u access → (test_in access ≡ Some waited) × Wakes w past n waited front u
-    wakes-next code par is None none f u access comes = none-some test waited f.1 waits
-    wakes-next code par is (Some said) some f u access comes =
-        let one = one-sits asked stands next w past n one_asked code par is said.0 said.1 some sits u access comes in
+    wakes-next : (origin : Origin) → cog_state w past n ≡ Running origin → (o : Option (ℕ × Access)) → next ≡ o → IsNextFront w.clocks o front test → (u : ℕ) (access : Access) → MayCome asked w past n u access → (test_in access ≡ Some waited) × Wakes w past n waited front u
+    wakes-next origin is None none f u access comes = none-some test waited f.1 waits
+    wakes-next origin is (Some said) some f u access comes =
+        let one = one-sits asked stands next w past n one_asked origin is said.0 said.1 some sits u access comes in
         let same : test_in said.1 ≡ Some waited = sym f.1 ∙ waits in
         let wakes : Wakes w past n waited said.0 u = subst (λ (t : Option Test). MayBe w past n t said.0 u) same one.1 in
         (ap test_in one.0 ∙ same, subst (λ (e : ℕ). Wakes w past n waited e u) (sym f.0) wakes)
@@ -93,23 +89,21 @@ module _ (asked : Begun → List Turn → ℕ → Access → Type 0) (one_asked 
     pub front-wakes : (s : CogState) → cog_state w past n ≡ s → IsFront n w.clocks s next front test → (u : ℕ) (access : Access) → MayCome asked w past n u access → (test_in access ≡ Some waited) × Wakes w past n waited front u
     front-wakes Stopped is f u access comes = none-some test waited f.1 waits
     front-wakes (Starting since origin) is f u access comes = none-some test waited f.2 waits
-    front-wakes (Running (Pasm code par)) is f u access comes = wakes-next code par is next refl f u access comes
-    front-wakes (Running (Spin entry pbase vbase frame size)) is f u access comes = none-some test waited f.1 waits
+    front-wakes (Running origin) is f u access comes = wakes-next origin is next refl f u access comes
 
-    woken-next : (code par : ℕ) → cog_state w past n ≡ Running (Pasm code par) → (o : Option (ℕ × Access)) → next ≡ o → IsNextFront w.clocks o front test → (u : ℕ) → Wakes w past n waited front u → u < w.clocks → (access : Access) × MayCome asked w past n u access
-    woken-next code par is None none f u wakes below = none-some test waited f.1 waits
-    woken-next code par is (Some said) some f u wakes below =
+    woken-next : (origin : Origin) → cog_state w past n ≡ Running origin → (o : Option (ℕ × Access)) → next ≡ o → IsNextFront w.clocks o front test → (u : ℕ) → Wakes w past n waited front u → u < w.clocks → (access : Access) × MayCome asked w past n u access
+    woken-next origin is None none f u wakes below = none-some test waited f.1 waits
+    woken-next origin is (Some said) some f u wakes below =
         let same : test_in said.1 ≡ Some waited = sym f.1 ∙ waits in
         let own : Wakes w past n waited said.0 u = subst (λ (e : ℕ). Wakes w past n waited e u) f.0 wakes in
         let may : MayBe w past n (test_in said.1) said.0 u = subst (λ (t : Option Test). MayBe w past n t said.0 u) (sym same) own in
-        (said.1, may-sits asked stands next w past n code par is said.0 u said.1 some sits may (λ _. below))
+        (said.1, may-sits asked stands next w past n origin is said.0 u said.1 some sits may (λ _. below))
 
     -- and it may come wherever the wait may end
     pub front-woken : (s : CogState) → cog_state w past n ≡ s → IsFront n w.clocks s next front test → (u : ℕ) → Wakes w past n waited front u → u < w.clocks → (access : Access) × MayCome asked w past n u access
     front-woken Stopped is f u wakes below = none-some test waited f.1 waits
     front-woken (Starting since origin) is f u wakes below = none-some test waited f.2 waits
-    front-woken (Running (Pasm code par)) is f u wakes below = woken-next code par is next refl f u wakes below
-    front-woken (Running (Spin entry pbase vbase frame size)) is f u wakes below = none-some test waited f.1 waits
+    front-woken (Running origin) is f u wakes below = woken-next origin is next refl f u wakes below
 
     module _ (from : ℕ) (late : WaitsFrom asked w past from) (end : Option ℕ) (f : IsFront n w.clocks (cog_state w past n) next front test) where
       from-wait : (u : ℕ) (access : Access) → MayCome asked w past n u access → from ≤ u
@@ -228,27 +222,21 @@ module _ (asked : Begun → List Turn → ℕ → Access → Type 0) (w : World)
     refl,
   )
 
-  module _ (one_asked : (b : Begun) (ts : List Turn) (c d : ℕ) (a e : Access) → asked b ts c a → asked b ts d e → (c ≡ d) × (a ≡ e)) (silent : (life : Entered) (ts : List Turn) (c : ℕ) (a : Access) → asked (SpinBegun life) ts c a → ⊥) (hub : HubValue) (seats : List Seat) (fronts : Fronts) (stands : Stands asked w past hub seats fronts) (within : n < length seats) (got : Option Access) (is : (seat : Seat) → slice_get seats n ≡ Some seat → IsNextAt seat.next clock got) where
-    seated-due : (code par : ℕ) → cog_state w past n ≡ Running (Pasm code par) → (seat : Seat) → slice_get seats n ≡ Some seat → (next : Option (ℕ × Access)) → seat.next ≡ next → (a : Option Access) → IsNextAt next clock a → (own : Access) × (a ≡ Some own) × (access ≡ own)
-    seated-due code par state seat at None next a e = absurd (quiet-sits asked (lives seat) seat.next w past n code par state next (stands.seated n seat at) clock access comes)
-    seated-due code par state seat at (Some said) next None e =
-        let one = one-sits asked (lives seat) seat.next w past n one_asked code par state said.0 said.1 next (stands.seated n seat at) clock access comes in
+  module _ (one_asked : (b : Begun) (ts : List Turn) (c d : ℕ) (a e : Access) → asked b ts c a → asked b ts d e → (c ≡ d) × (a ≡ e)) (hub : HubValue) (seats : List Seat) (fronts : Fronts) (stands : Stands asked w past hub seats fronts) (within : n < length seats) (got : Option Access) (is : (seat : Seat) → slice_get seats n ≡ Some seat → IsNextAt seat.next clock got) where
+    seated-due : (origin : Origin) → cog_state w past n ≡ Running origin → (seat : Seat) → slice_get seats n ≡ Some seat → (next : Option (ℕ × Access)) → seat.next ≡ next → (a : Option Access) → IsNextAt next clock a → (own : Access) × (a ≡ Some own) × (access ≡ own)
+    seated-due origin state seat at None next a e = absurd (quiet-sits asked (lives seat) seat.next w past n origin state next (stands.seated n seat at) clock access comes)
+    seated-due origin state seat at (Some said) next None e =
+        let one = one-sits asked (lives seat) seat.next w past n one_asked origin state said.0 said.1 next (stands.seated n seat at) clock access comes in
         absurd (e (may-timely w past n (test_in said.1) said.0 clock one.1))
-    seated-due code par state seat at (Some said) next (Some own) e =
-        let one = one-sits asked (lives seat) seat.next w past n one_asked code par state said.0 said.1 next (stands.seated n seat at) clock access comes in
+    seated-due origin state seat at (Some said) next (Some own) e =
+        let one = one-sits asked (lives seat) seat.next w past n one_asked origin state said.0 said.1 next (stands.seated n seat at) clock access comes in
         (own, refl, one.0 ∙ sym e.0)
 
-    spin-due : (entry pbase vbase frame size : ℕ) → cog_state w past n ≡ Running (Spin entry pbase vbase frame size) → ⊥
-    spin-due entry pbase vbase frame size state =
-        let at = some-at seats n within in
-        spin-quiet asked (lives at.0) at.0.next w past n silent entry pbase vbase frame size state (stands.seated n at.0 at.1) clock access comes
-
     running-own : (origin : Origin) → cog_state w past n ≡ Running origin → (own : Access) × (got ≡ Some own) × (access ≡ own) × FitsState true (Running origin)
-    running-own (Pasm code par) state =
+    running-own origin state =
         let at = some-at seats n within in
-        let own = seated-due code par state at.0 at.1 at.0.next refl got (is at.0 at.1) in
+        let own = seated-due origin state at.0 at.1 at.0.next refl got (is at.0 at.1) in
         (own.0, own.1, own.2, tt)
-    running-own (Spin entry pbase vbase frame size) state = absurd (spin-due entry pbase vbase frame size state)
 
     pub running-none : (origin : Origin) → cog_state w past n ≡ Running origin → got ≡ None → ⊥
     running-none origin state none = let own = running-own origin state in let e : None ≡ Some own.0 = sym none ∙ own.1 in absurd cc
@@ -264,17 +252,17 @@ module _ (asked : Begun → List Turn → ℕ → Access → Type 0) (w : World)
           refl,
         )
 
-module _ (asked : Begun → List Turn → ℕ → Access → Type 0) (one_asked : (b : Begun) (ts : List Turn) (c d : ℕ) (a e : Access) → asked b ts c a → asked b ts d e → (c ≡ d) × (a ≡ e)) (silent : (life : Entered) (ts : List Turn) (c : ℕ) (a : Access) → asked (SpinBegun life) ts c a → ⊥) (w : World) (past : List Turn) (hub : HubValue) (seats : List Seat) (fronts : Fronts) (stands : Stands asked w past hub seats fronts) (eight : length seats ≡ 8) where
+module _ (asked : Begun → List Turn → ℕ → Access → Type 0) (one_asked : (b : Begun) (ts : List Turn) (c d : ℕ) (a e : Access) → asked b ts c a → asked b ts d e → (c ≡ d) × (a ≡ e)) (w : World) (past : List Turn) (hub : HubValue) (seats : List Seat) (fronts : Fronts) (stands : Stands asked w past hub seats fronts) (eight : length seats ≡ 8) where
   -- where the cog with the least front doesn't wait, its turn comes first
   pub fast-first : (key : Key) → IsFirstOf fronts.clocks key → slice_index_or fronts.tests key.cog None ≡ None → IsFirstKey asked w past None key
   fast-first key first plain = record {
     first = key-first asked w past stands.others fronts.clocks key None first (λ n near u access _ comes.
         let at = some-at seats n (omega arith) in
-        front-least asked one_asked silent w past n (lives at.0) at.0.next (stands.seated n at.0 at.1) (slice_index fronts.clocks n) (slice_index_or fronts.tests n None) (cog_state w past n) refl (stands.fronted n at.0 at.1) u access comes);
+        front-least asked one_asked w past n (lives at.0) at.0.next (stands.seated n at.0 at.1) (slice_index fronts.clocks n) (slice_index_or fronts.tests n None) (cog_state w past n) refl (stands.fronted n at.0 at.1) u access comes);
     comes = λ below.
         let near : key.cog < 8 = first.near in
         let at = some-at seats key.cog (omega arith) in
-        let own = front-comes asked one_asked silent w past key.cog (lives at.0) at.0.next (stands.seated key.cog at.0 at.1) (slice_index fronts.clocks key.cog) (slice_index_or fronts.tests key.cog None) (cog_state w past key.cog) refl (stands.fronted key.cog at.0 at.1) plain (subst (λ (c : ℕ). c < w.clocks) first.there below) in
+        let own = front-comes asked one_asked w past key.cog (lives at.0) at.0.next (stands.seated key.cog at.0 at.1) (slice_index fronts.clocks key.cog) (slice_index_or fronts.tests key.cog None) (cog_state w past key.cog) refl (stands.fronted key.cog at.0 at.1) plain (subst (λ (c : ℕ). c < w.clocks) first.there below) in
         (own.0, subst (λ (c : ℕ). MayCome asked w past key.cog c own.0) (sym first.there) own.1);
   }
 
@@ -282,15 +270,15 @@ module _ (asked : Begun → List Turn → ℕ → Access → Type 0) (one_asked 
     pub clock-plain : slice_index_or fronts.tests n None ≡ None → IsClockIn asked w past end n (slice_index fronts.clocks n)
     clock-plain plain =
         let at = some-at seats n (omega arith) in
-        plain-clock asked one_asked silent w past n (lives at.0) at.0.next (stands.seated n at.0 at.1) (slice_index fronts.clocks n) (slice_index_or fronts.tests n None) end (stands.fronted n at.0 at.1) plain
+        plain-clock asked one_asked w past n (lives at.0) at.0.next (stands.seated n at.0 at.1) (slice_index fronts.clocks n) (slice_index_or fronts.tests n None) end (stands.fronted n at.0 at.1) plain
 
     module _ (test : Test) (waits : slice_index_or fronts.tests n None ≡ Some test) (from : ℕ) (late : WaitsFrom asked w past from) where
       pub clock-silent : (never : ℕ) → w.clocks ≤ never → w.clocks ≤ 2 ^ 62 → IsFirstWake w past n test (slice_index fronts.clocks n) from end None → IsClockIn asked w past end n never
       clock-silent never far small none =
           let at = some-at seats n (omega arith) in
-          no-wake asked one_asked silent w past n (lives at.0) at.0.next (stands.seated n at.0 at.1) (slice_index fronts.clocks n) (slice_index_or fronts.tests n None) test waits from late end (stands.fronted n at.0 at.1) never far small none
+          no-wake asked one_asked w past n (lives at.0) at.0.next (stands.seated n at.0 at.1) (slice_index fronts.clocks n) (slice_index_or fronts.tests n None) test waits from late end (stands.fronted n at.0 at.1) never far small none
 
       pub clock-woken : (clock : ℕ) → IsFirstWake w past n test (slice_index fronts.clocks n) from end (Some clock) → IsClockIn asked w past end n clock
       clock-woken clock first =
           let at = some-at seats n (omega arith) in
-          some-wake asked one_asked silent w past n (lives at.0) at.0.next (stands.seated n at.0 at.1) (slice_index fronts.clocks n) (slice_index_or fronts.tests n None) test waits from late end (stands.fronted n at.0 at.1) clock first
+          some-wake asked one_asked w past n (lives at.0) at.0.next (stands.seated n at.0 at.1) (slice_index fronts.clocks n) (slice_index_or fronts.tests n None) test waits from late end (stands.fronted n at.0 at.1) clock first

@@ -1,12 +1,12 @@
 -- What one turn leaves of what a seat has to do with the history.
 use Rattle.std.proofs.Common.{◌≡◌, ◌∙◌, sym, subst, refl, ℕ, ◌<◌, ◌≤◌, ◌==◌, ◌&&◌, Bool, true, false, List, [], ◌∷◌, ◌++◌, Option, Some, None, arith}
-use Rattle.p8_access.specs.declared.kinds.Origin.TheVariants.{Pasm, Spin}
+use Rattle.p8_access.specs.declared.kinds.Origin.{Origin}
 use Rattle.p8_access.specs.declared.kinds.Access.{Access}
 use Rattle.p8_access.specs.declared.kinds.Access.TheVariants.{Begin, Load, Read, Write, CogId, CogInit, CogStop, LockNew, LockRet, LockSet, LockClr, ClkSet, PinsIn, OutSet, DirSet, Wait, Clock, Halt}
 use Rattle.p8_access.specs.declared.kinds.Answer.{Answer}
 use Rattle.p8_access.specs.declared.lives.Next.{Next}
 use Rattle.p8_access.specs.declared.order.Turn.{Turn}
-use Rattle.p8_access.specs.Lives.{Begun, Entered, SpinBegun, Tells, IsMade}
+use Rattle.p8_access.specs.Lives.{Begun, Tells, IsMade}
 use Rattle.p8_history.specs.declared.states.CogState.{CogState}
 use Rattle.p8_history.specs.declared.states.CogState.TheVariants.{Stopped, Starting, Running}
 use Rattle.p8_history.specs.Worlds.{World}
@@ -14,7 +14,7 @@ use Rattle.p8_history.specs.Hub.{Change, Starts, Runs, Stops, change_by, change_
 use Rattle.p8_history.specs.Histories.{begins_life, since_begin}
 use Rattle.p8_history.proofs.Nexts.{some-injective}
 use Rattle.p8_machine.specs.Pending.{said_by, Pends}
-use Rattle.p8_machine.specs.Seats.{Sits, RunsSpin, SitsIn}
+use Rattle.p8_machine.specs.Seats.{Sits, SitsIn}
 use Rattle.p8_machine.specs.Waiting.{test_in}
 use Rattle.p8_machine.specs.Coming.{MayBe, MayRun, MayComeIn, MayCome}
 use Rattle.p8_machine.proofs.Coming.{may-late}
@@ -35,14 +35,10 @@ module _ (asked : Begun → List Turn → ℕ → Access → Type 0) (stands : B
         told = subst (λ (ts : List Turn). Tells (asked sits.life ts) w.clocks said) (sym since) sits.told;
       }
 
-  spin-same : begins_life n turn ≡ false → RunsSpin asked stands said w past n → RunsSpin asked stands said w (turn ∷ past) n
-  spin-same begins runs = record { life = runs.life; began = begun-same w past turn n begins ∙ runs.began }
-
   other-by : (state : CogState) (change : Option Change) → change_of n turn ≡ change → (turn.key.cog ≡ n → ⊥) → SitsIn asked stands said w past n state → SitsIn asked stands said w (turn ∷ past) n (changed state change)
   other-by Stopped None e differ sits = tt
   other-by (Starting since origin) None e differ sits = tt
-  other-by (Running (Pasm code par)) None e differ sits = sits-other (other-begins turn n differ) (other-test turn.key.cog n differ) sits
-  other-by (Running (Spin entry pbase vbase frame size)) None e differ sits = spin-same (other-begins turn n differ) sits
+  other-by (Running origin) None e differ sits = sits-other (other-begins turn n differ) (other-test turn.key.cog n differ) sits
   other-by state (Some (Starts since origin)) e differ sits = tt
   other-by state (Some Stops) e differ sits = tt
   other-by state (Some Runs) e differ sits =
@@ -54,16 +50,16 @@ module _ (asked : Begun → List Turn → ℕ → Access → Type 0) (stands : B
 
 module _ (asked : Begun → List Turn → ℕ → Access → Type 0) (stands : Begun → List Turn → Type 0) (next : Option (ℕ × Access)) (w : World) (past : List Turn) (n : ℕ) where
   -- a cog's next turn may be what its seat has as the next access, at a clock at which that may be
-  pub may-sits : (code par : ℕ) → cog_state w past n ≡ Running (Pasm code par) → (earliest clock : ℕ) (access : Access) → next ≡ Some (earliest, access) → SitsIn asked stands (said_by next) w past n (cog_state w past n) → MayBe w past n (test_in access) earliest clock → (earliest < w.clocks → clock < w.clocks) → MayCome asked w past n clock access
-  may-sits code par is earliest clock access some sits may below =
+  pub may-sits : (origin : Origin) → cog_state w past n ≡ Running origin → (earliest clock : ℕ) (access : Access) → next ≡ Some (earliest, access) → SitsIn asked stands (said_by next) w past n (cog_state w past n) → MayBe w past n (test_in access) earliest clock → (earliest < w.clocks → clock < w.clocks) → MayCome asked w past n clock access
+  may-sits origin is earliest clock access some sits may below =
       let own : Sits asked stands (said_by next) w past n = subst (λ (s : CogState). SitsIn asked stands (said_by next) w past n s) is sits in
       let pends = subst (λ (o : Option (ℕ × Access)). Pends (asked own.life (since_begin past n)) w.clocks o) some own.told in
       let run : MayRun asked w past n clock access = record { life = own.life; began = own.began; earliest = earliest; asks = pends.0; may = may } in
       record { may = subst (λ (s : CogState). MayComeIn asked w past n s clock access) (sym is) run; below = below pends.1 }
 
   -- and no other
-  pub one-sits : ((b : Begun) (ts : List Turn) (c d : ℕ) (a e : Access) → asked b ts c a → asked b ts d e → (c ≡ d) × (a ≡ e)) → (code par : ℕ) → cog_state w past n ≡ Running (Pasm code par) → (earliest : ℕ) (access : Access) → next ≡ Some (earliest, access) → SitsIn asked stands (said_by next) w past n (cog_state w past n) → (clock : ℕ) (other : Access) → MayCome asked w past n clock other → (other ≡ access) × MayBe w past n (test_in access) earliest clock
-  one-sits one_asked code par is earliest access some sits clock other comes =
+  pub one-sits : ((b : Begun) (ts : List Turn) (c d : ℕ) (a e : Access) → asked b ts c a → asked b ts d e → (c ≡ d) × (a ≡ e)) → (origin : Origin) → cog_state w past n ≡ Running origin → (earliest : ℕ) (access : Access) → next ≡ Some (earliest, access) → SitsIn asked stands (said_by next) w past n (cog_state w past n) → (clock : ℕ) (other : Access) → MayCome asked w past n clock other → (other ≡ access) × MayBe w past n (test_in access) earliest clock
+  one-sits one_asked origin is earliest access some sits clock other comes =
       let own : Sits asked stands (said_by next) w past n = subst (λ (s : CogState). SitsIn asked stands (said_by next) w past n s) is sits in
       let pends = subst (λ (o : Option (ℕ × Access)). Pends (asked own.life (since_begin past n)) w.clocks o) some own.told in
       let run : MayRun asked w past n clock other = subst (λ (s : CogState). MayComeIn asked w past n s clock other) is comes.may in
@@ -73,8 +69,8 @@ module _ (asked : Begun → List Turn → ℕ → Access → Type 0) (stands : B
       (same.1, subst (λ (a : Access). MayBe w past n (test_in a) earliest clock) same.1 (subst (λ (e : ℕ). MayBe w past n (test_in other) e clock) same.0 run.may))
 
   -- where it has none, none comes
-  pub quiet-sits : (code par : ℕ) → cog_state w past n ≡ Running (Pasm code par) → next ≡ None → SitsIn asked stands (said_by next) w past n (cog_state w past n) → (clock : ℕ) (access : Access) → MayCome asked w past n clock access → ⊥
-  quiet-sits code par is none sits clock access comes =
+  pub quiet-sits : (origin : Origin) → cog_state w past n ≡ Running origin → next ≡ None → SitsIn asked stands (said_by next) w past n (cog_state w past n) → (clock : ℕ) (access : Access) → MayCome asked w past n clock access → ⊥
+  quiet-sits origin is none sits clock access comes =
       let own : Sits asked stands (said_by next) w past n = subst (λ (s : CogState). SitsIn asked stands (said_by next) w past n s) is sits in
       let pends = subst (λ (o : Option (ℕ × Access)). Pends (asked own.life (since_begin past n)) w.clocks o) none own.told in
       let run : MayRun asked w past n clock access = subst (λ (s : CogState). MayComeIn asked w past n s clock access) is comes.may in
@@ -83,14 +79,6 @@ module _ (asked : Begun → List Turn → ℕ → Access → Type 0) (stands : B
       let on : run.earliest ≤ clock = may-late w past n (test_in access) run.earliest clock run.may in
       let below : clock < w.clocks = comes.below in
       omega arith
-
-  -- where Spin asks nothing, a Spin cog has no turn
-  pub spin-quiet : ((life : Entered) (ts : List Turn) (c : ℕ) (a : Access) → asked (SpinBegun life) ts c a → ⊥) → (entry pbase vbase frame size : ℕ) → cog_state w past n ≡ Running (Spin entry pbase vbase frame size) → SitsIn asked stands (said_by next) w past n (cog_state w past n) → (clock : ℕ) (access : Access) → MayCome asked w past n clock access → ⊥
-  spin-quiet silent entry pbase vbase frame size is sits clock access comes =
-      let own : RunsSpin asked stands (said_by next) w past n = subst (λ (s : CogState). SitsIn asked stands (said_by next) w past n s) is sits in
-      let run : MayRun asked w past n clock access = subst (λ (s : CogState). MayComeIn asked w past n s clock access) is comes.may in
-      let life : run.life ≡ SpinBegun own.life = some-injective _ _ (sym run.began ∙ own.began) in
-      silent own.life (since_begin past n) run.earliest access (subst (λ (b : Begun). asked b (since_begin past n) run.earliest access) life run.asks)
 
 and-no : (b : Bool) → (b && false) ≡ false
 and-no true = refl
@@ -128,16 +116,15 @@ module _ (asked : Begun → List Turn → ℕ → Access → Type 0) (stands sta
         told = subst (λ (ts : List Turn). Tells (asked sits.life ts) w.clocks said') (sym since) (tells sits.life _ sits.stood);
       }
 
-  own-by : (state : CogState) (change : Option Change) → change_of n turn ≡ change → IsMade turn.access → ((entry pbase vbase frame size : ℕ) → state ≡ Running (Spin entry pbase vbase frame size) → ⊥) → ((b : Begun) (ts : List Turn) → stands b ts → stands' b (ts ++ turn ∷ [])) → ((b : Begun) (ts : List Turn) → stands b ts → Tells (asked b (ts ++ turn ∷ [])) w.clocks said') → SitsIn asked stands said w past n state → SitsIn asked stands' said' w (turn ∷ past) n (changed state change)
-  own-by Stopped None e made pasm keeps tells sits = tt
-  own-by (Starting since origin) None e made pasm keeps tells sits = tt
-  own-by (Running (Pasm code par)) None e made pasm keeps tells sits =
+  own-by : (state : CogState) (change : Option Change) → change_of n turn ≡ change → IsMade turn.access → ((b : Begun) (ts : List Turn) → stands b ts → stands' b (ts ++ turn ∷ [])) → ((b : Begun) (ts : List Turn) → stands b ts → Tells (asked b (ts ++ turn ∷ [])) w.clocks said') → SitsIn asked stands said w past n state → SitsIn asked stands' said' w (turn ∷ past) n (changed state change)
+  own-by Stopped None e made keeps tells sits = tt
+  own-by (Starting since origin) None e made keeps tells sits = tt
+  own-by (Running origin) None e made keeps tells sits =
       sits-own (none-begins n turn.key.clock turn.key.cog turn.access turn.answer e) keeps tells sits
-  own-by (Running (Spin entry pbase vbase frame size)) None e made pasm keeps tells sits = absurd (pasm entry pbase vbase frame size refl)
-  own-by state (Some (Starts since origin)) e made pasm keeps tells sits = tt
-  own-by state (Some Stops) e made pasm keeps tells sits = tt
-  own-by state (Some Runs) e made pasm keeps tells sits = absurd (made-begins n turn.key.clock turn.key.cog turn.access turn.answer made e)
+  own-by state (Some (Starts since origin)) e made keeps tells sits = tt
+  own-by state (Some Stops) e made keeps tells sits = tt
+  own-by state (Some Runs) e made keeps tells sits = absurd (made-begins n turn.key.clock turn.key.cog turn.access turn.answer made e)
 
   -- a turn of its own that its life takes
-  pub own-sits : IsMade turn.access → ((entry pbase vbase frame size : ℕ) → cog_state w past n ≡ Running (Spin entry pbase vbase frame size) → ⊥) → ((b : Begun) (ts : List Turn) → stands b ts → stands' b (ts ++ turn ∷ [])) → ((b : Begun) (ts : List Turn) → stands b ts → Tells (asked b (ts ++ turn ∷ [])) w.clocks said') → SitsIn asked stands said w past n (cog_state w past n) → SitsIn asked stands' said' w (turn ∷ past) n (cog_state w (turn ∷ past) n)
-  own-sits made pasm keeps tells sits = own-by (cog_state w past n) (change_of n turn) refl made pasm keeps tells sits
+  pub own-sits : IsMade turn.access → ((b : Begun) (ts : List Turn) → stands b ts → stands' b (ts ++ turn ∷ [])) → ((b : Begun) (ts : List Turn) → stands b ts → Tells (asked b (ts ++ turn ∷ [])) w.clocks said') → SitsIn asked stands said w past n (cog_state w past n) → SitsIn asked stands' said' w (turn ∷ past) n (cog_state w (turn ∷ past) n)
+  own-sits made keeps tells sits = own-by (cog_state w past n) (change_of n turn) refl made keeps tells sits

@@ -15,7 +15,12 @@ use Rattle.p8_history.specs.Worlds.{World}
 use Rattle.p8_history.specs.Hub.{Change, Runs, Stops, change_by, change_of, changed, cog_state, origin_of}
 use Rattle.p8_history.specs.Histories.{begins_life, is_begin, begun_at, first_access}
 use Rattle.p8_history.proofs.Changes.{begun-new, since_begin-new, own-test}
-use Rattle.p8_machine.specs.Seats.{Sits, RunsSpin, SitsIn}
+use Rattle.p8_machine.specs.Seats.{Sits, SitsIn}
+
+-- the 496 longs of PASM stand below $8000
+abbrev pub HasRoom : Origin → Type 0
+HasRoom (Pasm code par) = code + 4 * 496 ≤ 32768
+HasRoom (Spin entry pbase vbase frame size) = Unit {0}
 
 fits-code : (code : ℕ) → nat_le (code + 4 * 496) 32768 ≡ true → code + 4 * 496 ≤ 32768
 fits-code code e = grind (arith, nat_tests)
@@ -47,18 +52,17 @@ module _ (asked : Begun → List Turn → ℕ → Access → Type 0) (stands : B
     begins : is_begin turn.access ≡ true → begins_life n turn ≡ true
     begins is = rw (own-test turn.key.cog n own, is) refl
 
-    loaded-sits : (code par : ℕ) → cog_state w past n ≡ Starting since (Pasm code par) → turn.access ≡ Load → (cog_state w (turn ∷ past) n ≡ Running (Pasm code par) → stands (begun_at w n turn.key.clock (Pasm code par)) [] × Tells (asked (begun_at w n turn.key.clock (Pasm code par)) []) w.clocks said) → SitsIn asked stands said w (turn ∷ past) n (cog_state w (turn ∷ past) n)
-    loaded-sits code par state load lives =
-        let change : change_of n turn ≡ Some Runs = ap (λ (a : Access). change_by n turn.key.clock turn.key.cog a turn.answer) load ∙ load-changes n turn.key.clock turn.key.cog turn.answer (own-test turn.key.cog n own) in
-        let is : begins_life n turn ≡ true = begins (ap is_begin load) in
+    runs-sits : (origin : Origin) → cog_state w past n ≡ Starting since origin → is_begin turn.access ≡ true → change_of n turn ≡ Some Runs → (cog_state w (turn ∷ past) n ≡ Running origin → stands (begun_at w n turn.key.clock origin) [] × Tells (asked (begun_at w n turn.key.clock origin) []) w.clocks said) → SitsIn asked stands said w (turn ∷ past) n (cog_state w (turn ∷ past) n)
+    runs-sits origin state begin change lives =
+        let is : begins_life n turn ≡ true = begins begin in
         let none = since_begin-new w past turn n is in
-        let runs : cog_state w (turn ∷ past) n ≡ Running (Pasm code par) = after (Pasm code par) Runs state change in
+        let runs : cog_state w (turn ∷ past) n ≡ Running origin = after origin Runs state change in
         let lived = lives runs in
         let sits : Sits asked stands said w (turn ∷ past) n = record {
-          life = begun_at w n turn.key.clock (Pasm code par);
-          began = begun-new w past turn n is ∙ ap (λ (o : Origin). Some (begun_at w n turn.key.clock o)) (origin-is (Pasm code par) state);
-          stood = subst (λ (ts : List Turn). stands (begun_at w n turn.key.clock (Pasm code par)) ts) (sym none) lived.0;
-          told = subst (λ (ts : List Turn). Tells (asked (begun_at w n turn.key.clock (Pasm code par)) ts) w.clocks said) (sym none) lived.1;
+          life = begun_at w n turn.key.clock origin;
+          began = begun-new w past turn n is ∙ ap (λ (o : Origin). Some (begun_at w n turn.key.clock o)) (origin-is origin state);
+          stood = subst (λ (ts : List Turn). stands (begun_at w n turn.key.clock origin) ts) (sym none) lived.0;
+          told = subst (λ (ts : List Turn). Tells (asked (begun_at w n turn.key.clock origin) ts) w.clocks said) (sym none) lived.1;
         } in
         subst (λ (s : CogState). SitsIn asked stands said w (turn ∷ past) n s) (sym runs) sits
 
@@ -67,21 +71,19 @@ module _ (asked : Begun → List Turn → ℕ → Access → Type 0) (stands : B
         let change : change_of n turn ≡ Some Stops = ap (λ (a : Access). change_by n turn.key.clock turn.key.cog a turn.answer) halt ∙ halt-changes n turn.key.clock turn.key.cog turn.answer (own-test turn.key.cog n own) in
         subst (λ (s : CogState). SitsIn asked stands said w (turn ∷ past) n s) (sym (after origin Stops state change)) tt
 
-    spin-sits : (entry pbase vbase frame size : ℕ) → cog_state w past n ≡ Starting since (Spin entry pbase vbase frame size) → turn.access ≡ Begin → SitsIn asked stands said w (turn ∷ past) n (cog_state w (turn ∷ past) n)
-    spin-sits entry pbase vbase frame size state begin =
-        let change : change_of n turn ≡ Some Runs = ap (λ (a : Access). change_by n turn.key.clock turn.key.cog a turn.answer) begin ∙ begin-changes n turn.key.clock turn.key.cog turn.answer (own-test turn.key.cog n own) in
-        let is : begins_life n turn ≡ true = begins (ap is_begin begin) in
-        let runs : RunsSpin asked stands said w (turn ∷ past) n = record {
-          life = record { memory = w.memory; origin = Spin entry pbase vbase frame size; cog = n; begin = turn.key.clock };
-          began = begun-new w past turn n is ∙ ap (λ (o : Origin). Some (begun_at w n turn.key.clock o)) (origin-is (Spin entry pbase vbase frame size) state);
-        } in
-        subst (λ (s : CogState). SitsIn asked stands said w (turn ∷ past) n s) (sym (after (Spin entry pbase vbase frame size) Runs state change)) runs
+    load-sits : (origin : Origin) → cog_state w past n ≡ Starting since origin → turn.access ≡ Load → (cog_state w (turn ∷ past) n ≡ Running origin → stands (begun_at w n turn.key.clock origin) [] × Tells (asked (begun_at w n turn.key.clock origin) []) w.clocks said) → SitsIn asked stands said w (turn ∷ past) n (cog_state w (turn ∷ past) n)
+    load-sits origin state load lives =
+        runs-sits origin state (ap is_begin load) (ap (λ (a : Access). change_by n turn.key.clock turn.key.cog a turn.answer) load ∙ load-changes n turn.key.clock turn.key.cog turn.answer (own-test turn.key.cog n own)) lives
 
-    pasm-sits : (code par : ℕ) (fits : Bool) → nat_le (code + 4 * 496) 32768 ≡ fits → cog_state w past n ≡ Starting since (Pasm code par) → turn.access ≡ (if fits then Load else Halt (Rom 32768)) → (turn.access ≡ Load → code + 4 * 496 ≤ 32768 → cog_state w (turn ∷ past) n ≡ Running (Pasm code par) → stands (begun_at w n turn.key.clock (Pasm code par)) [] × Tells (asked (begun_at w n turn.key.clock (Pasm code par)) []) w.clocks said) → SitsIn asked stands said w (turn ∷ past) n (cog_state w (turn ∷ past) n)
-    pasm-sits code par true fits state access lives = loaded-sits code par state access (lives access (fits-code code fits))
+    begin-sits : (origin : Origin) → cog_state w past n ≡ Starting since origin → turn.access ≡ Begin → (cog_state w (turn ∷ past) n ≡ Running origin → stands (begun_at w n turn.key.clock origin) [] × Tells (asked (begun_at w n turn.key.clock origin) []) w.clocks said) → SitsIn asked stands said w (turn ∷ past) n (cog_state w (turn ∷ past) n)
+    begin-sits origin state begin lives =
+        runs-sits origin state (ap is_begin begin) (ap (λ (a : Access). change_by n turn.key.clock turn.key.cog a turn.answer) begin ∙ begin-changes n turn.key.clock turn.key.cog turn.answer (own-test turn.key.cog n own)) lives
+
+    pasm-sits : (code par : ℕ) (fits : Bool) → nat_le (code + 4 * 496) 32768 ≡ fits → cog_state w past n ≡ Starting since (Pasm code par) → turn.access ≡ (if fits then Load else Halt (Rom 32768)) → (HasRoom (Pasm code par) → is_begin turn.access ≡ true → cog_state w (turn ∷ past) n ≡ Running (Pasm code par) → stands (begun_at w n turn.key.clock (Pasm code par)) [] × Tells (asked (begun_at w n turn.key.clock (Pasm code par)) []) w.clocks said) → SitsIn asked stands said w (turn ∷ past) n (cog_state w (turn ∷ past) n)
+    pasm-sits code par true fits state access lives = load-sits (Pasm code par) state access (lives (fits-code code fits) (ap is_begin access))
     pasm-sits code par false fits state access lives = halted-sits (Pasm code par) state access
 
     -- the first turn of a cog that was starting
-    pub start-sits : (origin : Origin) → cog_state w past n ≡ Starting since origin → turn.access ≡ first_access origin → ((code par : ℕ) → origin ≡ Pasm code par → turn.access ≡ Load → code + 4 * 496 ≤ 32768 → cog_state w (turn ∷ past) n ≡ Running (Pasm code par) → stands (begun_at w n turn.key.clock (Pasm code par)) [] × Tells (asked (begun_at w n turn.key.clock (Pasm code par)) []) w.clocks said) → SitsIn asked stands said w (turn ∷ past) n (cog_state w (turn ∷ past) n)
-    start-sits (Pasm code par) state access lives = pasm-sits code par (nat_le (code + 4 * 496) 32768) refl state access (lives code par refl)
-    start-sits (Spin entry pbase vbase frame size) state access lives = spin-sits entry pbase vbase frame size state access
+    pub start-sits : (origin : Origin) → cog_state w past n ≡ Starting since origin → turn.access ≡ first_access origin → (HasRoom origin → is_begin turn.access ≡ true → cog_state w (turn ∷ past) n ≡ Running origin → stands (begun_at w n turn.key.clock origin) [] × Tells (asked (begun_at w n turn.key.clock origin) []) w.clocks said) → SitsIn asked stands said w (turn ∷ past) n (cog_state w (turn ∷ past) n)
+    start-sits (Pasm code par) state access lives = pasm-sits code par (nat_le (code + 4 * 496) 32768) refl state access lives
+    start-sits (Spin entry pbase vbase frame size) state access lives = begin-sits (Spin entry pbase vbase frame size) state access (lives tt (ap is_begin access))

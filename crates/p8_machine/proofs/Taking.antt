@@ -1,5 +1,5 @@
 -- The seats after the turn that comes next.
-use Rattle.std.proofs.Common.{◌≡◌, ◌∙◌, sym, subst, refl, ℕ, ◌+◌, ◌*◌, ◌<◌, ◌≤◌, ◌==◌, Bool, true, false, List, ◌∷◌, Some, slice_get, length, inl, inr, ◌⊎◌, arith}
+use Rattle.std.proofs.Common.{◌≡◌, ◌∙◌, sym, subst, refl, ℕ, ◌+◌, ◌<◌, ◌==◌, Bool, true, false, List, ◌∷◌, Some, slice_get, length, inl, inr, ◌⊎◌, arith}
 use Rattle.p8_access.specs.declared.kinds.Origin.{Origin}
 use Rattle.p8_access.specs.declared.kinds.Origin.TheVariants.{Pasm, Spin}
 use Rattle.p8_access.specs.declared.kinds.Access.{Access}
@@ -15,7 +15,7 @@ use Rattle.p8_history.specs.Hub.{cog_state, origin_of}
 use Rattle.p8_history.specs.Histories.{begun_at}
 use Rattle.p8_history.proofs.Changes.{decided, same-cog, differ-cog}
 use Rattle.p8_hub.specs.Standing.{HubValue}
-use Rattle.p8_lives.specs.Lives.{IsStartable}
+use Rattle.p8_lives.specs.Lives.{begun_by, IsStartable}
 use Rattle.p8_machine.specs.declared.due.Due.{Due}
 use Rattle.p8_machine.specs.declared.fronts.Fronts.{Fronts}
 use Rattle.p8_machine.specs.declared.seat.Seat.{Seat}
@@ -27,43 +27,38 @@ use Rattle.p8_machine.specs.Coming.{MayComeIn}
 use Rattle.p8_machine.specs.Standing.{Stands, FitsState, IsReady}
 use Rattle.p8_machine.proofs.Choosing.{some-at}
 use Rattle.p8_machine.proofs.Seating.{other-sits, own-sits}
-use Rattle.p8_machine.proofs.Settling.{idle-sits, start-sits}
-
-runs-pasm : (s : CogState) → FitsState true s → (code : ℕ) × (par : ℕ) × (s ≡ Running (Pasm code par))
-runs-pasm (Running (Pasm code par)) fits = (code, par, refl)
-runs-pasm (Running (Spin entry pbase vbase frame size)) fits = absurd fits
-runs-pasm (Starting since origin) fits = absurd fits
-runs-pasm Stopped fits = absurd fits
+use Rattle.p8_machine.proofs.Settling.{HasRoom, idle-sits, start-sits}
 
 is-starting : (s : CogState) → FitsState false s → (since : ℕ) × (origin : Origin) × (s ≡ Starting since origin)
 is-starting (Starting since origin) fits = (since, origin, refl)
 is-starting (Running origin) fits = absurd fits
 is-starting Stopped fits = absurd fits
 
-no-spin : (s : CogState) (code par entry pbase vbase frame size : ℕ) → s ≡ Running (Pasm code par) → s ≡ Running (Spin entry pbase vbase frame size) → ⊥
-no-spin s code par entry pbase vbase frame size pasm spin = cc
-
 -- the first window of a cog from a clock on is a window of it
 window-is : (n from : ℕ) → n < 8 → IsWindow n (window_of n from)
 window-is n from near = omega arith
 
 -- a well-formed origin whose longs stand below $8000 is one that a life can begin with
-restartable : (code par : ℕ) → IsProperOrigin (Pasm code par) → code + 4 * 496 ≤ 32768 → IsStartable (Pasm code par)
-restartable code par proper room = (proper.0.0, omega arith)
+startable : (origin : Origin) → IsProperOrigin origin → HasRoom origin → IsStartable origin
+startable (Pasm code par) proper room = (proper.0.0, omega arith)
+startable (Spin entry pbase vbase frame size) proper room = proper
 
-module _ (asked : Begun → List Turn → ℕ → Access → Type 0) (w : World) (past : List Turn) (hub after : HubValue) (old new : List Seat) (fronts : Fronts) (due : Due) (answer : Answer) (stands : Stands asked w past hub old fronts) (due_turn : IsReady asked w past due) (near : due.key.cog < 8) (within : due.key.cog < length old) (made : due.running ≡ true → IsMade due.access) (limit : ℕ) (limit_is : w.clocks ≡ limit) (state : CogState) (state_is : state ≡ cog_state w (turn_of due answer ∷ past) due.key.cog) (takes : (origin : Origin) (before seat : Seat) → due.running ≡ true → state ≡ Running origin → slice_get old due.key.cog ≡ Some before → slice_get new due.key.cog ≡ Some seat → Takes asked before seat (turn_of due answer) limit) (begins : (code par : ℕ) (seat : Seat) → due.running ≡ false → state ≡ Running (Pasm code par) → IsStartable (Pasm code par) → IsWindow due.key.cog due.key.clock → slice_get new due.key.cog ≡ Some seat → Begins asked seat (begun_at w due.key.cog due.key.clock (Pasm code par)) limit) (settles : SameBut due.key.cog old new) where
+-- what the life of a world's cog begins with
+pub begun-same : (w : World) (n clock : ℕ) (origin : Origin) → begun_by w.memory origin n clock ≡ begun_at w n clock origin
+begun-same w n clock (Pasm code par) = refl
+begun-same w n clock (Spin entry pbase vbase frame size) = refl
+
+module _ (asked : Begun → List Turn → ℕ → Access → Type 0) (w : World) (past : List Turn) (hub after : HubValue) (old new : List Seat) (fronts : Fronts) (due : Due) (answer : Answer) (stands : Stands asked w past hub old fronts) (due_turn : IsReady asked w past due) (near : due.key.cog < 8) (within : due.key.cog < length old) (made : due.running ≡ true → IsMade due.access) (limit : ℕ) (limit_is : w.clocks ≡ limit) (state : CogState) (state_is : state ≡ cog_state w (turn_of due answer ∷ past) due.key.cog) (takes : (origin : Origin) (before seat : Seat) → due.running ≡ true → state ≡ Running origin → slice_get old due.key.cog ≡ Some before → slice_get new due.key.cog ≡ Some seat → Takes asked before seat (turn_of due answer) limit) (begins : (origin : Origin) (seat : Seat) → due.running ≡ false → state ≡ Running origin → IsStartable origin → IsWindow due.key.cog due.key.clock → slice_get new due.key.cog ≡ Some seat → Begins asked seat (begun_at w due.key.cog due.key.clock origin) limit) (settles : SameBut due.key.cog old new) where
   seated-other : (n : ℕ) (seat : Seat) → (n ≡ due.key.cog → ⊥) → slice_get new n ≡ Some seat → SitsIn asked (lives seat) (said_by seat.next) w (turn_of due answer ∷ past) n (cog_state w (turn_of due answer ∷ past) n)
   seated-other n seat differ at =
       other-sits asked (lives seat) (said_by seat.next) w past (turn_of due answer) n (λ e. differ (sym e)) (stands.seated n seat (settles n seat differ at))
 
   seated-running : (seat : Seat) → due.running ≡ true → slice_get new due.key.cog ≡ Some seat → SitsIn asked (lives seat) (said_by seat.next) w (turn_of due answer ∷ past) due.key.cog (cog_state w (turn_of due answer ∷ past) due.key.cog)
   seated-running seat running at =
-      let fits = subst (λ (b : Bool). FitsState b (cog_state w past due.key.cog)) running due_turn.state in
-      let was = runs-pasm (cog_state w past due.key.cog) fits in
       let before = some-at old due.key.cog within in
       idle-sits asked (lives seat) (said_by seat.next) w past (turn_of due answer) due.key.cog (cog_state w (turn_of due answer ∷ past) due.key.cog) (λ origin is.
       let took = subst (λ (l : ℕ). Takes asked before.0 seat (turn_of due answer) l) (sym limit_is) (takes origin before.0 seat running (state_is ∙ is) before.1 at) in
-      own-sits asked (lives before.0) (lives seat) (said_by before.0.next) (said_by seat.next) w past (turn_of due answer) due.key.cog refl (made running) (λ entry pbase vbase frame size. no-spin (cog_state w past due.key.cog) was.0 was.1 entry pbase vbase frame size was.2) took.keeps took.pends (stands.seated due.key.cog before.0 before.1))
+      own-sits asked (lives before.0) (lives seat) (said_by before.0.next) (said_by seat.next) w past (turn_of due answer) due.key.cog refl (made running) took.keeps took.pends (stands.seated due.key.cog before.0 before.1))
 
   seated-starting : (seat : Seat) → due.running ≡ false → slice_get new due.key.cog ≡ Some seat → SitsIn asked (lives seat) (said_by seat.next) w (turn_of due answer ∷ past) due.key.cog (cog_state w (turn_of due answer ∷ past) due.key.cog)
   seated-starting seat starting at =
@@ -73,7 +68,7 @@ module _ (asked : Begun → List Turn → ℕ → Access → Type 0) (w : World)
       let window : IsWindow due.key.cog due.key.clock = subst (λ (c : ℕ). IsWindow due.key.cog c) (sym next.0) (window-is due.key.cog (was.0 + 1) near) in
       let origin : IsProperOrigin was.1 = subst (λ (s : CogState). IsProperOrigin (origin_of s)) was.2 (stands.origins due.key.cog) in
       start-sits asked (lives seat) (said_by seat.next) w past (turn_of due answer) due.key.cog refl was.0 was.1 was.2 next.1
-      (λ code par is load room runs. subst (λ (l : ℕ). Begins asked seat (begun_at w due.key.cog due.key.clock (Pasm code par)) l) (sym limit_is) (begins code par seat starting (state_is ∙ runs) (restartable code par (subst IsProperOrigin is origin) room) window at))
+      (λ room begin runs. subst (λ (l : ℕ). Begins asked seat (begun_at w due.key.cog due.key.clock was.1) l) (sym limit_is) (begins was.1 seat starting (state_is ∙ runs) (startable was.1 origin room) window at))
 
   seated-own : (seat : Seat) → slice_get new due.key.cog ≡ Some seat → (due.running ≡ true) ⊎ (due.running ≡ false) → SitsIn asked (lives seat) (said_by seat.next) w (turn_of due answer ∷ past) due.key.cog (cog_state w (turn_of due answer ∷ past) due.key.cog)
   seated-own seat at (inl running) = seated-running seat running at

@@ -1,6 +1,5 @@
 -- The front of a cog: the clock before which no turn of it comes.
 use Rattle.std.specs.Prelude.{ℕ, ◌+◌, ◌≡◌, ◌<◌, ◌≤◌, List, Option, Some, None, slice_index, slice_index_or}
-use Rattle.p8_access.specs.declared.kinds.Origin.TheVariants.{Pasm, Spin}
 use Rattle.p8_access.specs.declared.kinds.Test.{Test}
 use Rattle.p8_access.specs.declared.kinds.Access.{Access}
 use Rattle.p8_access.specs.declared.order.Key.{Key}
@@ -31,13 +30,12 @@ abbrev pub IsNextFront : (limit : ℕ) → Option (ℕ × Access) → (front : �
 IsNextFront limit None front test = IsSilent limit front test
 IsNextFront limit (Some next) front test = (front ≡ next.0) × (test ≡ test_in next.1)
 
--- the front of a cog by its state; Spin asks nothing yet
+-- the front of a cog by its state
 abbrev pub IsFront : (n limit : ℕ) → CogState → Option (ℕ × Access) → (front : ℕ) → Option Test → Type 0
 IsFront n limit Stopped next front test = IsSilent limit front test
 IsFront n limit (Starting since origin) next front test =
     (front < limit → front ≡ window_of n (since + 1)) × (window_of n (since + 1) < limit → front ≡ window_of n (since + 1)) × (test ≡ None)
-IsFront n limit (Running (Pasm code par)) next front test = IsNextFront limit next front test
-IsFront n limit (Running (Spin entry pbase vbase frame size)) next front test = IsSilent limit front test
+IsFront n limit (Running origin) next front test = IsNextFront limit next front test
 
 -- the front of a cog is that of its state and of what its life has said last
 abbrev pub IsFrontIn : Fronts → (n limit : ℕ) → CogState → Option (ℕ × Access) → Type 0

@@ -1,10 +1,9 @@
 -- What a life and what it has said last have to do with the history of its cog.
 use Rattle.std.specs.Prelude.{ℕ, ◌≡◌, List, Some}
-use Rattle.p8_access.specs.declared.kinds.Origin.TheVariants.{Pasm, Spin}
 use Rattle.p8_access.specs.declared.kinds.Access.{Access}
 use Rattle.p8_access.specs.declared.order.Turn.{Turn}
 use Rattle.p8_access.specs.declared.lives.Next.{Next}
-use Rattle.p8_access.specs.Lives.{Entered, Begun, SpinBegun, Tells}
+use Rattle.p8_access.specs.Lives.{Begun, Tells}
 use Rattle.p8_history.specs.declared.states.CogState.{CogState}
 use Rattle.p8_history.specs.declared.states.CogState.TheVariants.{Stopped, Starting, Running}
 use Rattle.p8_history.specs.Worlds.{World}
@@ -18,13 +17,7 @@ module _ (asked : Begun → List Turn → ℕ → Access → Type 0) (stands : B
     pub stood : stands life (since_begin past n)
     pub told : Tells (asked life (since_begin past n)) w.clocks said
 
-  -- a cog that runs Spin has no life here
-  pub record RunsSpin : Type 0 where
-    pub life : Entered
-    pub began : begun w past n ≡ Some (SpinBegun life)
-
   abbrev pub SitsIn : CogState → Type 0
   SitsIn Stopped = Unit {0}
   SitsIn (Starting since origin) = Unit {0}
-  SitsIn (Running (Pasm code par)) = Sits
-  SitsIn (Running (Spin entry pbase vbase frame size)) = RunsSpin
+  SitsIn (Running origin) = Sits

@@ -1,7 +1,6 @@
 -- internal
 -- How a machine's hub, seats and fronts stand for a history. What a life asks is left open.
 use Rattle.std.specs.Prelude.{ℕ, ◌≡◌, ◌≤◌, Bool, true, false, List, ◌∷◌, Option, Some, None, slice_get}
-use Rattle.p8_access.specs.declared.kinds.Origin.TheVariants.{Pasm, Spin}
 use Rattle.p8_access.specs.declared.kinds.Access.{Access}
 use Rattle.p8_access.specs.declared.order.Turn.{Turn}
 use Rattle.p8_access.specs.Proper.{IsProperOrigin}
@@ -22,10 +21,9 @@ use Rattle.p8_machine.specs.Seats.{SitsIn}
 use Rattle.p8_machine.specs.Fronts.{IsFrontIn}
 use Rattle.p8_machine.specs.Coming.{MayCome}
 
--- a cog runs PASM, or is starting
+-- a cog runs, or is starting
 abbrev pub FitsState : Bool → CogState → Type 0
-FitsState true (Running (Pasm code par)) = Unit {0}
-FitsState true (Running (Spin entry pbase vbase frame size)) = ⊥
+FitsState true (Running origin) = Unit {0}
 FitsState true (Starting since origin) = ⊥
 FitsState true Stopped = ⊥
 FitsState false (Starting since origin) = Unit {0}

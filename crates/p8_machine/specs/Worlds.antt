@@ -1,7 +1,5 @@
 -- The world of a run.
 use Rattle.std.specs.Prelude.{List}
-use Rattle.p8_access.specs.declared.kinds.Origin.{Origin}
-use Rattle.p8_access.specs.declared.kinds.Origin.TheVariants.{Pasm, Spin}
 use Rattle.p8_access.specs.declared.memory.Boot.{Boot}
 use Rattle.p8_history.specs.Worlds.{Line, World}
 use Rattle.p8_machine.specs.declared.outcome.Limits.{Limits}
@@ -9,8 +7,3 @@ use Rattle.p8_machine.specs.declared.outcome.Limits.{Limits}
 -- a boot, the lines of a pin script, and limits
 abbrev pub world_of : Boot → List Line → Limits → World
 world_of boot script limits = record { memory = boot.ram; first = boot.first; script = script; clocks = limits.clocks; turns = limits.turns }
-
--- PASM, and not Spin
-abbrev pub IsPasm : Origin → Type 0
-IsPasm (Pasm code par) = Unit {0}
-IsPasm (Spin entry pbase vbase frame size) = ⊥

@@ -15,7 +15,7 @@ use crate::changes::changed_cog;
 use crate::due::start_clock;
 use crate::seats::Seats;
 use crate::waits::test_of;
-use p8_access::{Access, Key, Origin, Test, Turn};
+use p8_access::{Access, Key, Test, Turn};
 use p8_history::CogState;
 use p8_hub::Hub;
 
@@ -90,10 +90,7 @@ fn front_of(cog: u8, state: CogState, next: Option<(u64, Access)>, until: u64) -
     match state {
         CogState::Stopped => SILENT,
         CogState::Starting { since, .. } => starting_front(cog, since, until),
-        CogState::Running { origin } => match origin {
-            Origin::Pasm { .. } => running_front(next, until),
-            Origin::Spin { .. } => SILENT,
-        },
+        CogState::Running { .. } => running_front(next, until),
     }
 }
 

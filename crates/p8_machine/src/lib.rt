@@ -10,6 +10,7 @@ mod due;
 mod fronts;
 mod laws;
 mod outcome;
+mod room;
 mod run;
 mod seat;
 mod seats;

@@ -1,6 +1,7 @@
 // What a run is bounded by, and what it gives.
-use p8_access::{Boot, Turns};
+use p8_access::{Boot, Turn};
 use p8_hub::Hub;
+use p8_region::Strip;
 
 /// The limits of a run: no turn is made at the clock `clocks` or later, and at most `turns` are made.
 /// `clocks` is at most 100,000,000 and `turns` at most 1,000,000 wherever a call takes them.
@@ -15,7 +16,7 @@ pub struct Limits {
 pub struct History {
     pub boot: Boot,
     pub limits: Limits,
-    pub turns: Turns,
+    pub turns: Strip<Turn>,
 }
 
 /// A history that has ended, with the hub that it left, and how many took its turns: 1, or 8.

@@ -8,7 +8,7 @@ ghost use Rattle.p8_history.specs.Worlds.{World, level_at};
 ghost use Rattle.p8_history.specs.Histories.{answer_to, Extends, IsOver, Ended as HasEnded, Rises, Legal};
 ghost use Rattle.p8_hub.specs.Standing.{IsHub};
 ghost use Rattle.p8_lives.specs.Lives.{asks};
-ghost use Rattle.p8_machine.specs.Worlds.{world_of, IsPasm};
+ghost use Rattle.p8_machine.specs.Worlds.{world_of};
 ghost use Rattle.p8_machine.specs.Dues.{Suits, SuitsIf};
 ghost use Rattle.p8_machine.specs.Waiting.{newest_key, IsSpanFrom};
 ghost use Rattle.p8_machine.specs.Coming.{MayCome, WaitsFrom, IsClockIn, IsFirstKey};
@@ -18,12 +18,14 @@ ghost use Rattle.std.proofs.Props.{props};
 use crate::due::{Due, first_access};
 use crate::fronts::{Fronts, NEVER, first_front};
 use crate::outcome::{Ended, History, Limits};
+use crate::room::Room;
 use crate::seats::Seats;
 use crate::waits::{next_line, wake_clock};
-use p8_access::{Access, Boot, Key, Turn, Turns};
+use p8_access::{Access, Boot, Key, Turn};
 use p8_history::CogState;
 use p8_hub::Hub;
 use p8_pins::{PinScript, Span};
+use p8_region::Strip;
 use p8_words::NoMemory;
 use std::alloc::Global;
 
@@ -34,7 +36,7 @@ pub struct Machine {
     script: PinScript,
     limits: Limits,
     hub: Hub,
-    turns: Turns,
+    turns: Strip<Turn>,
     /// The key of the last turn.
     last: Option<Key>,
     /// The span of the script in which that turn was found. It only saves searching: none of what is
@@ -190,7 +192,7 @@ impl Machine {
         ensures access { result.access ≡ due.access }
         ensures answer { (w : World) (past : List Turn) → w.script ≡ self.old.script → IsHub w past self.old.hub → result.answer ≡ answer_to w past due.key due.access }
         ensures fits { Fits due.access result.answer }
-        ensures stands { (w : World) (past : List Turn) → w.clocks ≡ self.old.limits.clocks → Stands asks w past self.old.hub self.old.seats.seats.items self.old.fronts → IsReady asks w past due → Extends asks w past result → Stands asks w (result ∷ past) self.new.hub self.new.seats.seats.items self.new.fronts }
+        ensures stands { (w : World) (past : List Turn) → w.clocks ≡ self.old.limits.clocks → w.memory ≡ self.old.boot.ram → Stands asks w past self.old.hub self.old.seats.seats.items self.old.fronts → IsReady asks w past due → Extends asks w past result → Stands asks w (result ∷ past) self.new.hub self.new.seats.seats.items self.new.fronts }
         ensures list { self.new.turns.list ≡ self.old.turns.list ++ result ∷ [] }
         ensures boot { self.new.boot ≡ self.old.boot }
         ensures script { self.new.script ≡ self.old.script }
@@ -205,7 +207,8 @@ impl Machine {
         };
         let until = self.limits.clocks;
         let state = self.hub.state(due.key.cog);
-        self.seats.settle(state, due.running, &turn, until);
+        self.seats
+            .settle(&self.boot.ram, state, due.running, &turn, until);
         self.fronts.settle(&self.hub, &self.seats, &turn, until);
         match self.turns.push(turn) {
             Ok(()) => {
@@ -222,8 +225,6 @@ impl Machine {
     ghost use Rattle.p8_machine.specs.Machines.{world_in, past_in, IsStanding};
 
     /// A machine before its first turn. All memory of the run is taken here.
-    ///
-    /// Until Spin runs, what cog 0 is started with is PASM.
     pub fn open(
         alloc: Global,
         boot: Boot,
@@ -232,7 +233,6 @@ impl Machine {
     ) -> Result<Machine, NoMemory>
         requires clocks { limits.clocks ≤ 100000000 }
         requires turns { limits.turns ≤ 1000000 }
-        requires pasm { IsPasm boot.first }
         requires first { IsProperOrigin boot.first }
         ensures world { IfOk result (λ machine. world_in machine ≡ world_of boot script limits) }
         ensures past { IfOk result (λ machine. past_in machine ≡ []) }
@@ -240,14 +240,15 @@ impl Machine {
     {
         let hub = Hub::open(alloc, &boot)?;
         let span = script.span_at(0);
-        let seats = Seats::new(alloc)?;
+        let mut room = Room::new(alloc, limits.turns as usize)?;
+        let seats = Seats::new(alloc, &boot.ram, &mut room.stacks)?;
         let fronts = Fronts::open(&hub, &seats, limits.clocks);
         Ok(Machine {
             boot,
             script,
             limits,
             hub,
-            turns: Turns::new(alloc, limits.turns as usize)?,
+            turns: room.log,
             last: None,
             span,
             seats,
@@ -326,7 +327,7 @@ impl Machine {
 
 /// The whole history of a boot up to the limits, on one thread. It waits for nobody.
 ///
-/// The script says which levels the input pins have. Until Spin runs, what cog 0 is started with is PASM.
+/// The script says which levels the input pins have.
 pub fn run_alone(
     alloc: Global,
     boot: Boot,
@@ -335,7 +336,6 @@ pub fn run_alone(
 ) -> Result<Ended, NoMemory>
     requires clocks { limits.clocks ≤ 100000000 }
     requires turns { limits.turns ≤ 1000000 }
-    requires pasm { IsPasm boot.first }
     requires first { IsProperOrigin boot.first }
     ensures world { IfOk result (λ ended. world_of ended.history.boot script ended.history.limits ≡ world_of boot script limits) }
     ensures ended { IfOk result (λ ended. HasEnded asks (world_of boot script limits) (reverse ended.history.turns.list)) }

@@ -2,18 +2,16 @@
 ghost use Rattle.std.specs.Prelude.{◌≡◌, ◌<◌, ◌≤◌, ◌^◌, ◌∷◌, ◌++◌, [], ℕ, List, Option, Some, None, IfOk, IfSome};
 ghost use Rattle.p8_access.specs.declared.order.Turn.{Turn};
 ghost use Rattle.p8_access.specs.declared.kinds.Access.{Access};
-ghost use Rattle.p8_access.specs.declared.kinds.Origin.TheVariants.{Pasm};
 ghost use Rattle.p8_access.specs.Lives.{Begun, IsMade, IsAnnounced};
 ghost use Rattle.p8_access.specs.Proper.{Fits};
 ghost use Rattle.p8_access.specs.Windows.{IsWindow};
-ghost use Rattle.p8_history.specs.Worlds.{World};
-ghost use Rattle.p8_history.specs.Histories.{begun_at};
-ghost use Rattle.p8_lives.specs.Lives.{IsStartable};
+ghost use Rattle.p8_lives.specs.Lives.{begun_by, IsStartable};
 ghost use Rattle.p8_machine.specs.Pending.{Pends, IsMadeIf, is_prop-IsMadeIf};
 ghost use Rattle.std.proofs.Props.{props};
 
-use p8_access::{Access, Life, Next, Origin, Turn};
+use p8_access::{Access, Life, Next, Origin, Ram, Turn};
 use p8_lives::CogLife;
+use p8_region::Strip;
 use p8_words::NoMemory;
 use std::alloc::Global;
 
@@ -50,12 +48,13 @@ fn next_of<L: Life>(life: &mut L, until: u64) -> Option<(u64, Access)>
 
 impl Seat {
     /// The place of a cog that nothing has begun in.
-    pub fn new(alloc: Global, cog: u8) -> Result<Seat, NoMemory>
-        requires { cog < 8 }
+    pub fn new(alloc: Global, memory: &Ram, stack: Strip<u32>, cog: u8) -> Result<Seat, NoMemory>
+        requires cog { cog < 8 }
+        requires stack { stack.room ≡ 16384 }
         ensures { IfOk result (λ seat. ⟦<CogLife as Life>⟧.cog seat.life ≡ cog) }
     {
         Ok(Seat {
-            life: CogLife::new(alloc, cog)?,
+            life: CogLife::new(alloc, memory, stack, cog)?,
             next: None,
         })
     }
@@ -71,18 +70,18 @@ impl Seat {
     }
 
     /// A new life begins with this origin. Its first turn is at the clock `first`, and it is asked for its
-    /// first access below the clock `until`.
-    pub fn begin(&mut self, origin: Origin, cog: u8, first: u64, until: u64)
+    /// first access below the clock `until`. The code of Spin stands in `memory`, the boot's.
+    pub fn begin(&mut self, memory: &Ram, origin: Origin, cog: u8, first: u64, until: u64)
         requires origin { IsStartable origin }
         requires cog { cog < 8 }
         requires window { IsWindow cog first }
         requires first { first < 2 ^ 62 }
         requires until { until < 2 ^ 61 }
-        ensures stands { (w : World) (code par : ℕ) → origin ≡ Pasm code par → ⟦<CogLife as Life>⟧.stands self.new.life (begun_at w cog first (Pasm code par)) [] }
-        ensures pends { (w : World) (code par : ℕ) → origin ≡ Pasm code par → Pends (⟦<CogLife as Life>⟧.asked (begun_at w cog first (Pasm code par)) []) until self.new.next }
+        ensures stands { ⟦<CogLife as Life>⟧.stands self.new.life (begun_by memory.now origin cog first) [] }
+        ensures pends { Pends (⟦<CogLife as Life>⟧.asked (begun_by memory.now origin cog first) []) until self.new.next }
         ensures cog { ⟦<CogLife as Life>⟧.cog self.new.life ≡ cog }
     {
-        self.life.restart(origin, cog, first);
+        self.life.restart(memory, origin, cog, first);
         self.next = None;
         self.ask(until);
     }

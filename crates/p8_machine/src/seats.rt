@@ -1,24 +1,23 @@
 // The places of the eight cogs.
-ghost use Rattle.std.specs.Prelude.{◌≡◌, ◌<◌, ◌≤◌, ◌^◌, ℕ, List, true, false, Some, length, IsTrue, ◌↔◌, IfOk, IfSome, slice_get};
+ghost use Rattle.std.specs.Prelude.{◌≡◌, ◌<◌, ◌≤◌, ◌+◌, ◌*◌, ◌^◌, OnOk, ℕ, List, true, false, Some, length, IsTrue, ◌↔◌, IfOk, IfSome, slice_get};
 ghost use Rattle.p8_access.specs.declared.kinds.Origin.{Origin};
-ghost use Rattle.p8_access.specs.declared.kinds.Origin.TheVariants.{Pasm};
 ghost use Rattle.p8_access.specs.Lives.{IsAnnounced, IsMade};
 ghost use Rattle.p8_access.specs.Proper.{Fits};
 ghost use Rattle.p8_access.specs.Windows.{IsWindow};
 ghost use Rattle.p8_history.specs.declared.states.CogState.TheVariants.{Running};
-ghost use Rattle.p8_history.specs.Worlds.{World};
-ghost use Rattle.p8_history.specs.Histories.{begun_at};
-ghost use Rattle.p8_lives.specs.Lives.{asks, IsStartable};
+ghost use Rattle.p8_lives.specs.Lives.{asks, begun_by, IsStartable};
 ghost use Rattle.p8_machine.specs.declared.seat.Seat.{Seat};
 ghost use Rattle.p8_machine.specs.Pending.{IsMadeIf};
 ghost use Rattle.p8_machine.specs.Waiting.{IsNextAt};
 ghost use Rattle.p8_machine.specs.Places.{cog_of, SameBut, Begins, Takes};
 
 use crate::due::LAST_CODE;
+use crate::room::stack_in;
 use crate::seat::Seat;
 use crate::waits::is_timely;
-use p8_access::{Access, Key, Origin, Turn};
+use p8_access::{Access, Key, Origin, Ram, Turn};
 use p8_history::CogState;
+use p8_region::Region;
 use p8_words::NoMemory;
 use std::alloc::Global;
 
@@ -30,14 +29,17 @@ pub struct Seats {
     ghost own: { (n : ℕ) (seat : Seat) → slice_get seats.items n ≡ Some seat → cog_of seat ≡ n },
 }
 
-/// Seats that nothing has begun in, one for each cog.
-fn empty_seats(alloc: Global) -> Result<Vec<Seat>, NoMemory>
+/// Seats that nothing has begun in, one for each cog. Their operand stacks are cut from the region.
+fn empty_seats(alloc: Global, memory: &Ram, region: &mut Region) -> Result<Vec<Seat>, NoMemory>
+    requires room { 8 * 16384 ≤ region.old }
+    ensures left { OnOk result (region.new + 8 * 16384 ≡ region.old) }
     ensures length { IfOk result (λ seats. length seats.items ≡ 8) }
     ensures own { IfOk result (λ seats. (n : ℕ) (seat : Seat) → slice_get seats.items n ≡ Some seat → cog_of seat ≡ n) }
 {
     let mut seats = Vec::with_capacity(alloc, 8)?;
     for cog in 0..8 {
-        match seats.push(Seat::new(alloc, cog)?) {
+        let stack = stack_in(region);
+        match seats.push(Seat::new(alloc, memory, stack, cog)?) {
             Ok(()) => {}
             Err(_) => return Err(NoMemory),
         }
@@ -54,15 +56,19 @@ fn may_begin(origin: Origin, key: Key) -> bool
         Origin::Pasm { code, .. } => {
             code % 4 == 0 && code <= LAST_CODE && key.clock % 16 == 2 * u64::from(key.cog)
         }
-        Origin::Spin { .. } => false,
+        Origin::Spin { frame, .. } => frame % 4 == 0 && key.clock % 16 == 2 * u64::from(key.cog),
     }
 }
 
 impl Seats {
-    /// A seat for each cog. All memory of the lives is taken here.
-    pub fn new(alloc: Global) -> Result<Seats, NoMemory> {
+    /// A seat for each cog. All memory of the lives is taken here, the operand stacks of Spin from the region; `memory`
+    /// is the boot's.
+    pub fn new(alloc: Global, memory: &Ram, region: &mut Region) -> Result<Seats, NoMemory>
+        requires room { 8 * 16384 ≤ region.old }
+        ensures left { OnOk result (region.new + 8 * 16384 ≡ region.old) }
+    {
         Ok(Seats {
-            seats: empty_seats(alloc)?,
+            seats: empty_seats(alloc, memory, region)?,
         })
     }
 
@@ -98,16 +104,16 @@ impl Seats {
     }
 
     /// A life begins in a cog with its first turn, where one can begin with this origin.
-    fn begin(&mut self, origin: Origin, key: Key, until: u64)
+    fn begin(&mut self, memory: &Ram, origin: Origin, key: Key, until: u64)
         requires cog { key.cog < 8 }
         requires clock { key.clock < 2 ^ 62 }
         requires until { until < 2 ^ 61 }
-        ensures begins { (w : World) (code par : ℕ) (seat : Seat) → origin ≡ Pasm code par → IsStartable origin → IsWindow key.cog key.clock → slice_get self.new.seats.items key.cog ≡ Some seat → Begins asks seat (begun_at w key.cog key.clock (Pasm code par)) until }
+        ensures begins { (seat : Seat) → IsStartable origin → IsWindow key.cog key.clock → slice_get self.new.seats.items key.cog ≡ Some seat → Begins asks seat (begun_by memory.now origin key.cog key.clock) until }
         ensures others { SameBut key.cog self.old.seats.items self.new.seats.items }
     {
         if may_begin(origin, key) {
             let seat = &mut self.seats[key.cog as usize];
-            seat.begin(origin, key.cog, key.clock, until);
+            seat.begin(memory, origin, key.cog, key.clock, until);
         }
     }
 
@@ -127,22 +133,22 @@ impl Seats {
 
     /// What a turn changes in the seat of its own cog, which has this state after it: where the cog runs
     /// and did so before, its life takes the turn; where it runs since this turn, a life begins in it. In
-    /// other seats a turn changes nothing.
-    pub fn settle(&mut self, state: CogState, running: bool, turn: &Turn, until: u64)
+    /// other seats a turn changes nothing. The code of Spin stands in `memory`, the boot's.
+    pub fn settle(&mut self, memory: &Ram, state: CogState, running: bool, turn: &Turn, until: u64)
         requires cog { turn.now.key.cog < 8 }
         requires next { (seat : Seat) → running ≡ true → slice_get self.old.seats.items turn.now.key.cog ≡ Some seat → IsAnnounced seat.next turn.now }
         requires clock { turn.now.key.clock < 2 ^ 62 }
         requires fits { Fits turn.now.access turn.now.answer }
         requires until { until < 2 ^ 61 }
         ensures takes { (origin : Origin) (before after : Seat) → running ≡ true → state ≡ Running origin → slice_get self.old.seats.items turn.now.key.cog ≡ Some before → slice_get self.new.seats.items turn.now.key.cog ≡ Some after → Takes asks before after turn.now until }
-        ensures begins { (w : World) (code par : ℕ) (seat : Seat) → running ≡ false → state ≡ Running (Pasm code par) → IsStartable (Pasm code par) → IsWindow turn.now.key.cog turn.now.key.clock → slice_get self.new.seats.items turn.now.key.cog ≡ Some seat → Begins asks seat (begun_at w turn.now.key.cog turn.now.key.clock (Pasm code par)) until }
+        ensures begins { (origin : Origin) (seat : Seat) → running ≡ false → state ≡ Running origin → IsStartable origin → IsWindow turn.now.key.cog turn.now.key.clock → slice_get self.new.seats.items turn.now.key.cog ≡ Some seat → Begins asks seat (begun_by memory.now origin turn.now.key.cog turn.now.key.clock) until }
         ensures others { SameBut turn.now.key.cog self.old.seats.items self.new.seats.items }
     {
         if let CogState::Running { origin } = state {
             if running {
                 self.take(turn, until);
             } else {
-                self.begin(origin, turn.key, until);
+                self.begin(memory, origin, turn.key, until);
             }
         }
     }

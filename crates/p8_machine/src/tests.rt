@@ -6,6 +6,7 @@ use crate::{Limits, Machine, run_alone};
 use p8_access::{Access, Answer, Boot, Key, Turn, Width};
 use p8_hub::Hub;
 use p8_pins::PinScript;
+use p8_region::{Region, words_of};
 use p8_words::NoMemory;
 use std::alloc::Global;
 use std::test::Fail;
@@ -60,6 +61,20 @@ fn steps_up_to_the_limit(rt: HostRuntime) -> Result<(), Fail> {
         assert_eq!(rt; machine.step(), Some(expected));
     }
     assert_eq!(rt; machine.step(), None);
+    Ok(())
+}
+
+/// A strip with room for one turn takes one, and gives the next one back.
+#[test]
+fn turns_up_to_the_room(rt: HostRuntime) -> Result<(), Fail> {
+    let mut region = Region::new(rt.alloc(), words_of::<Turn>(1))?;
+    let mut turns = region.cut::<Turn>(1)?;
+    let first = turn(16, Access::Load, Answer::Done);
+    let second = reads(32, 0x0000, 0x083C_0604);
+    assert_eq!(rt; turns.push(first), Ok(()));
+    assert_eq!(rt; turns.push(second), Err(second));
+    assert_eq!(rt; (turns.get(0), turns.get(1)), (Some(first), None));
+    assert_eq!(rt; (turns.len(), turns.left(), region.left()), (1, 0, 0));
     Ok(())
 }
 

@@ -2,12 +2,13 @@
 ghost use Rattle.p8_access.specs.Proper.{IsProper};
 
 use super::*;
-use p8_access::{Access, Boot, Key, Turns, Width};
+use p8_access::{Access, Boot, Key, Width};
 use p8_machine::{History, Limits};
+use p8_region::{Region, Strip, words_of};
 use std::test::Fail;
 
 /// Has the hub answer an access of cog 0, and takes down the turn.
-fn make(hub: &mut Hub, turns: &mut Turns, clock: u64, access: Access)
+fn make(hub: &mut Hub, turns: &mut Strip<Turn>, clock: u64, access: Access)
     requires { IsProper access }
 {
     let key = Key { clock, cog: 0 };
@@ -23,7 +24,10 @@ fn make(hub: &mut Hub, turns: &mut Turns, clock: u64, access: Access)
 fn ended(alloc: Global) -> Result<Ended, NoMemory> {
     let boot = Boot::raw(alloc, &[])?;
     let mut hub = Hub::open(alloc, &boot)?;
-    let mut turns = Turns::new(alloc, 5)?;
+    let mut region = Region::new(alloc, words_of::<Turn>(5))?;
+    let Ok(mut turns) = region.cut(5) else {
+        return Err(NoMemory);
+    };
     let read = Access::Read {
         width: Width::Long,
         address: 0,

@@ -9,13 +9,13 @@ use Rattle.p8_machine.proofs.run.Machine.due_at.Goals as goal
 pub returns-in-None-clause-due : goal.returns-in-None-clause-due
 returns-in-None-clause-due c = λ access stands comes.
     let within : c.args.cog < length c.args.self.now.seats.seats.items = omega (arith, c.args.self.now.seats.eight) in
-    running-none asks (world_in c.args.self.now) (past_in c.args.self.now) c.args.cog c.args.clock access comes one-asked (λ e ts u a x. x) c.args.self.now.hub c.args.self.now.seats.seats.items c.args.self.now.fronts stands within c.at.result c.at.ensures.next _
+    running-none asks (world_in c.args.self.now) (past_in c.args.self.now) c.args.cog c.args.clock access comes one-asked c.args.self.now.hub c.args.self.now.seats.seats.items c.args.self.now.fronts stands within c.at.result c.at.ensures.next _
     (sym (c.state.ensures _ _ stands.hub_is) ∙ c.in-Running.is) c.in-None.is
 
 pub returns-in-Some-clause-due : goal.returns-in-Some-clause-due
 returns-in-Some-clause-due c = λ access stands comes.
     let within : c.args.cog < length c.args.self.now.seats.seats.items = omega (arith, c.args.self.now.seats.eight) in
-    running-due asks (world_in c.args.self.now) (past_in c.args.self.now) c.args.cog c.args.clock access comes one-asked (λ e ts u a x. x) c.args.self.now.hub c.args.self.now.seats.seats.items c.args.self.now.fronts stands within c.at.result c.at.ensures.next _ c.in-Some.access
+    running-due asks (world_in c.args.self.now) (past_in c.args.self.now) c.args.cog c.args.clock access comes one-asked c.args.self.now.hub c.args.self.now.seats.seats.items c.args.self.now.fronts stands within c.at.result c.at.ensures.next _ c.in-Some.access
     (sym (c.state.ensures _ _ stands.hub_is) ∙ c.in-Running.is) c.in-Some.is
 
 pub returns-in-Some-clause-suits : goal.returns-in-Some-clause-suits

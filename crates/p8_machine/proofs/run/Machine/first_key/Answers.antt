@@ -7,4 +7,4 @@ use Rattle.p8_machine.proofs.run.Machine.first_key.Goals as goal
 
 pub returns-in-None-clause-first : goal.returns-in-None-clause-first
 returns-in-None-clause-first c = λ stands.
-    fast-first asks one-asked (λ e ts u a x. x) (world_in c.args.self.now) (past_in c.args.self.now) c.args.self.now.hub c.args.self.now.seats.seats.items c.args.self.now.fronts stands c.args.self.now.seats.eight c.first_front-key.result c.first_front-key.ensures (sym c.test.ensures ∙ c.in-None.is)
+    fast-first asks one-asked (world_in c.args.self.now) (past_in c.args.self.now) c.args.self.now.hub c.args.self.now.seats.seats.items c.args.self.now.fronts stands c.args.self.now.seats.eight c.first_front-key.result c.first_front-key.ensures (sym c.test.ensures ∙ c.in-None.is)

@@ -50,5 +50,5 @@ returns-in-Some-clause-stands c = λ stands.
     let world : world_in c.take.new.self ≡ w = λ i. world_of (c.take.ensures.boot i) (c.take.ensures.script i) (c.take.ensures.limits i) in
     let list : past_in c.take.new.self ≡ c.take.result ∷ past = ap reverse c.take.ensures.list ∙ reverse-push c.args.self.now.turns.list c.take.result in
     let least = c.in-Some.ensures.least stands in
-    let after : Stands asks w (c.take.result ∷ past) c.take.new.self.hub c.take.new.self.seats.seats.items c.take.new.self.fronts = c.take.ensures.stands w past refl stands least.0 (extends c stands) in
+    let after : Stands asks w (c.take.result ∷ past) c.take.new.self.hub c.take.new.self.seats.seats.items c.take.new.self.fronts = c.take.ensures.stands w past refl refl stands least.0 (extends c stands) in
     rw (world, list) after

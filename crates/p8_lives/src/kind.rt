@@ -1,0 +1,10 @@
+// The kinds of lives.
+
+/// What a cog runs.
+#[derive(Clone, Copy, Debug, PartialEq, Eq)]
+pub enum Kind {
+    /// Instructions of PASM.
+    Pasm,
+    /// Bytecodes of Spin.
+    Spin,
+}
