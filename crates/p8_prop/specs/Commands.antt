@@ -1,7 +1,12 @@
--- The words of the command line (this project's profile). Each word is a list of bytes.
-use Rattle.std.specs.Prelude.{ℕ, ◌+◌, ◌-◌, ◌*◌, nat_le, nat_lt, if◌then◌else◌, ◌&&◌, ◌||◌, ◌==◌, Bool, List, [], ◌∷◌, Option, Some, None, option_map, option_and_then, unwrap_or, codes, length, map, filter}
-use Rattle.std.specs.List.{list_all, position_or_len, before_first, after_first}
+-- The words of the command line (this project's profile), by what the library `clap` states of the words that a
+-- command takes. Each word is a list of bytes.
+use Rattle.std.specs.Prelude.{ℕ, ◌+◌, ◌-◌, ◌*◌, nat_le, if◌then◌else◌, ◌&&◌, ◌||◌, ◌==◌, Bool, true, List, [], ◌∷◌, Option, Some, None, option_map, option_and_then, codes, length, find, fold}
+use Rattle.std.specs.List.{list_all}
 use Rattle.std.specs.Str.{bytes_eq}
+use Rattle.clap.specs.Kinds.{Kinds}
+use Rattle.clap.specs.Faults.{fault_of}
+use Rattle.clap.specs.Simple.{App, matches_of, new_app, new_rule, with_rule}
+use Rattle.clap.specs.Walk.{Rule, Text, first_of}
 
 -- a decimal digit
 abbrev pub is_digit : ℕ → Bool
@@ -77,65 +82,72 @@ pub record Options : Type 0 where
 pub data Command : Type 0 where
   Raw : (file : List ℕ) (clocks : ℕ) (options : Options) → Command
 
--- a word that is an option's name and its value, `--name=value`
-abbrev pub is_joined : List ℕ → Bool
-is_joined word = nat_lt (position_or_len (λ (code : ℕ). code == 61) word) (length word)
+-- the arguments of a command, as `clap` takes them: what isn't said of one is as in `new_rule`. An operand has no name on
+-- the command line, so it stands by its place, and it has to be there.
+abbrev pub operand : Text → Rule
+operand name = record (new_rule name) { required = true }
 
-abbrev pub name_in : List ℕ → List ℕ
-name_in word = before_first (λ (code : ℕ). code == 61) word
+-- an option `--name`. As nothing else is said, it takes one value and may be given once.
+abbrev pub option : Text → Rule
+option name = record (new_rule name) { long = Some name }
 
-abbrev pub value_in : List ℕ → List ℕ
-value_in word = after_first (λ (code : ℕ). code == 61) word
+-- how many turns a run makes at most, by the value of `--turns`
+abbrev pub turns_by : Option Text → Option ℕ
+turns_by None = Some usual_turns
+turns_by (Some value) = number_of most_turns value
 
--- options' names with their values, each in one word or in two, where a name may stand before the words; none
--- where a name is left over
-abbrev pub pairs_behind : Option (List ℕ) → List (List ℕ) → Option (List (List ℕ × List ℕ))
-pairs_behind None [] = Some []
-pairs_behind None (word ∷ words) =
-    if is_joined word then option_map (λ pairs. (name_in word, value_in word) ∷ pairs) (pairs_behind None words) else pairs_behind (Some word) words
-pairs_behind (Some name) [] = None
-pairs_behind (Some name) (value ∷ words) = option_map (λ pairs. (name, value) ∷ pairs) (pairs_behind None words)
+-- the range to dump, by the value of `--dump`; none where that isn't given
+abbrev pub dump_by : Option Text → Option (Option (ℕ × ℕ))
+dump_by None = Some None
+dump_by (Some value) = option_map Some (range_of value)
 
-abbrev pub pairs_of : List (List ℕ) → Option (List (List ℕ × List ℕ))
-pairs_of words = pairs_behind None words
+abbrev pub options_by : Option Text → Option ℕ → Option (Option (ℕ × ℕ)) → Option Options
+options_by script (Some turns) (Some dump) = Some (record { script = script; turns = turns; dump = dump })
+options_by script _ _ = None
 
--- the names of options
-abbrev pub is_option : List ℕ → Bool
-is_option name = bytes_eq name (codes "--pins") || bytes_eq name (codes "--turns") || bytes_eq name (codes "--dump")
+abbrev pub raw_by : Option Text → Option ℕ → Option Options → Option Command
+raw_by (Some file) (Some clocks) (Some options) = Some (Raw file clocks options)
+raw_by _ _ _ = None
 
--- the values that some pairs give an option
-abbrev pub values_of : List ℕ → List (List ℕ × List ℕ) → List (List ℕ)
-values_of name pairs = map (λ (pair : List ℕ × List ℕ). pair.1) (filter (λ (pair : List ℕ × List ℕ). bytes_eq pair.0 name) pairs)
+-- `raw FILE CLOCKS` with its options, by the values of its arguments
+abbrev pub raw_of : (Text → Option Text) → Option Command
+raw_of value =
+    raw_by (value (codes "FILE")) (option_and_then (number_of most_clocks) (value (codes "CLOCKS")))
+    (options_by (value (codes "pins")) (turns_by (value (codes "turns"))) (dump_by (value (codes "dump"))))
 
--- what the values of an option say: nothing where there is none, else what the only one says, in a
--- spelling of its own. Two values, or another spelling, say nothing that is an option at all.
-abbrev pub said_by : {A : Type 0} → (List ℕ → Option A) → List (List ℕ) → Option (Option A)
-said_by spelling [] = Some None
-said_by spelling (value ∷ []) = option_map Some (spelling value)
-said_by spelling (value ∷ other ∷ values) = None
+-- an entry of the table of commands: the word that names it, its arguments, and which command it is by the value
+-- of each argument that has one
+pub record Entry : Type 0 where
+  pub word : Text
+  pub arguments : List Rule
+  pub meaning : (Text → Option Text) → Option Command
 
-abbrev pub options_by : Option (Option (List ℕ)) → Option (Option ℕ) → Option (Option (ℕ × ℕ)) → Option Options
-options_by (Some script) (Some turns) (Some dump) =
-    Some (record { script = script; turns = unwrap_or turns usual_turns; dump = dump })
-options_by _ _ _ = None
+abbrev pub raw_entry : Entry
+raw_entry = record {
+  word = codes "raw";
+  arguments = operand (codes "FILE") ∷ operand (codes "CLOCKS") ∷ option (codes "pins") ∷ option (codes "turns") ∷ option (codes "dump") ∷ [];
+  meaning = raw_of;
+}
 
--- the options that pairs say, in any order: each is named once at most, and there are no others
-abbrev pub options_in : List (List ℕ × List ℕ) → Option Options
-options_in pairs =
-    if list_all (λ (pair : List ℕ × List ℕ). is_option pair.0) pairs
-    then options_by (said_by Some (values_of (codes "--pins") pairs)) (said_by (number_of most_turns) (values_of (codes "--turns") pairs)) (said_by range_of (values_of (codes "--dump") pairs))
-    else None
+abbrev pub table : List Entry
+table = raw_entry ∷ []
 
--- the options that words say
-abbrev pub options_of : List (List ℕ) → Option Options
-options_of words = option_and_then options_in (pairs_of words)
+-- the simple command of `clap` that takes the words of an entry
+abbrev pub app_for : Entry → App
+app_for entry = fold with_rule (new_app entry.word) entry.arguments
 
-abbrev pub raw_command : List ℕ → Option ℕ → Option Options → Option Command
-raw_command file (Some clocks) (Some options) = Some (Raw file clocks options)
-raw_command file _ _ = None
+-- what is said where `clap` finds no fault
+abbrev pub faultless : {A : Type 0} → Kinds → Option A → Option A
+faultless [] said = said
+faultless (fault ∷ faults) said = None
 
--- the command that the words say: `raw FILE CLOCKS`, and options behind them
-abbrev pub command_of : List (List ℕ) → Option Command
-command_of (verb ∷ file ∷ clocks ∷ options) =
-    if bytes_eq verb (codes "raw") then raw_command file (number_of most_clocks clocks) (options_of options) else None
-command_of words = None
+-- the command that words say by an entry. The first of them, its own word, stands where `clap` has a program's name
+unfoldable pub said_to : Entry → List Text → Option Command
+said_to entry words =
+    faultless (fault_of (app_for entry) words) (entry.meaning (λ name. first_of name (matches_of (app_for entry) words)))
+
+-- the command that the words say: the first word chooses the entry
+unfoldable pub command_of : List Text → Option Command
+command_of [] = None
+command_of (word ∷ words) =
+    option_and_then (λ entry. said_to entry (word ∷ words)) (find (λ entry. bytes_eq entry.word word) table)

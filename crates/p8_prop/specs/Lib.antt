@@ -7,3 +7,4 @@ pub mod Naming
 pub mod Outcomes
 pub mod Ranges
 pub mod Seen
+pub mod Taking

@@ -1,6 +1,7 @@
 //! `prop`: runs images of the Parallax Propeller P8X32A and prints the history of the eight cogs.
 #![tactic(auto)]
 
+mod arguments;
 mod numbers;
 mod options;
 mod outcome;

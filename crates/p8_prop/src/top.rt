@@ -4,10 +4,12 @@ ghost use Rattle.p8_prop.specs.Commands.{command_of};
 ghost use Rattle.p8_prop.specs.Seen.{seen, IsWithin};
 ghost use Rattle.p8_prop.specs.Verdicts.{Answers, TellsLine, IsComplete, HasOneDue, HasOneText, outside};
 
+use crate::outcome::Outcome;
 use crate::raw::raw;
 use crate::status::Status;
 use crate::words::{RawCommand, command_in};
 use p8_io::{Shelf, Sink, write_pieces};
+use p8_words::NoMemory;
 use std::alloc::Global;
 
 /// The line of words that are no command.
@@ -17,12 +19,13 @@ const USAGE: &[u8] =
 /// Does what the words say: `raw FILE CLOCKS` runs the file's bytes as hub memory, with cog 0 started on
 /// them, and writes the trace of the run to `out`.
 ///
-/// `words` are those after the program's name. CLOCKS is one to ten decimal digits, at most 100,000,000: no
-/// turn is made at that clock or later. Options stand behind it in any order, each once at most and as two
-/// words: `--pins F` gives the levels of the input pins by a pin script, `--turns K` ends the run after K
-/// turns, one to ten decimal digits and at most 1,000,000, where it isn't given after 100,000, and
-/// `--dump A:N` adds a dump of N bytes from the address A on; A is four hexadecimal digits and N one to five
-/// decimal digits, at least 1, with A + N at most 32,768.
+/// `words` are those after the program's name, and are read by the rules of `clap`: the first is the command's,
+/// and FILE and CLOCKS stand in this order, with options before, between and behind them, each once at most,
+/// its value in the next word or behind `=`. CLOCKS is one to ten decimal digits, at most 100,000,000: no turn is
+/// made at that clock or later. `--pins F` gives the levels of the input pins by a pin script, `--turns K` ends
+/// the run after K turns, one to ten decimal digits and at most 1,000,000, where it isn't given after 100,000,
+/// and `--dump A:N` adds a dump of N bytes from the address A on; A is four hexadecimal digits and N one to
+/// five decimal digits, at least 1, with A + N at most 32,768. A call for help is no command.
 ///
 /// It waits for nobody and always returns. The words are looked at first, then the file, then the pin
 /// script; then the run is made, and then its trace is written. The shelf's files stay as they were, and no
@@ -35,7 +38,7 @@ const USAGE: &[u8] =
 /// - `BadImage` exactly where the file has more than 32,768 bytes;
 /// - `BadScript` exactly where the pin script has a bad line, or more than 1,048,576 bytes;
 /// - `SinkFault` only where `out` has counted a fault; a prefix of the text is out then;
-/// - `NoMemory` where there was no memory.
+/// - `NoMemory` where there was no memory, also for words that are no command.
 pub fn prop_alone<S: Shelf, K: Sink, E: Sink>(
     alloc: Global,
     words: &[String],
@@ -58,7 +61,14 @@ pub fn prop_alone<S: Shelf, K: Sink, E: Sink>(
     ensures out_later { K.faults out.old ≤ K.faults out.new }
     ensures faults_later { E.faults faults.old ≤ E.faults faults.new }
 {
-    match command_in(words) {
+    let command = match command_in(alloc, words) {
+        Ok(command) => command,
+        Err(NoMemory) => {
+            Outcome::NoMemory.tell(faults);
+            return Status::NoMemory;
+        }
+    };
+    match command {
         None => {
             let _ = write_pieces(faults, &[USAGE]);
             Status::Usage

@@ -1,4 +1,4 @@
-// The first two turns of a run.
+// The first two turns of a run, with options between and before the operands.
 use super::*;
 use std::test::Fail;
 
@@ -26,7 +26,15 @@ fn writes_the_text(rt: HostRuntime) -> Result<(), Fail> {
         read: 0,
         write: 0,
     };
-    let words = ["raw", "a.bin", "10000", "--turns=2", "--dump", "0000:2"];
+    let words = [
+        "raw",
+        "--turns=2",
+        "a.bin",
+        "--dump",
+        "0000:2",
+        "--",
+        "10000",
+    ];
     let left = left_by(rt.alloc(), &words, &given)?;
     assert_eq!(rt; left.status, Status::Ok);
     assert!(rt; left.out.bytes() == TEXT.as_bytes());

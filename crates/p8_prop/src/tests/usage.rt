@@ -24,3 +24,10 @@ fn refuses_too_many_clocks(rt: HostRuntime) -> Result<(), Fail> {
     assert!(rt; refused(rt.alloc(), &words, &GIVEN, Status::Usage, LINE)?);
     Ok(())
 }
+
+#[test]
+fn refuses_an_option_given_twice(rt: HostRuntime) -> Result<(), Fail> {
+    let words = ["raw", "a.bin", "1", "--turns", "2", "--turns=2"];
+    assert!(rt; refused(rt.alloc(), &words, &GIVEN, Status::Usage, LINE)?);
+    Ok(())
+}

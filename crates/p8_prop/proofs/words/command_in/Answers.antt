@@ -1,6 +1,16 @@
-use Rattle.std.proofs.Common.{sym, string_bytes}
-use Rattle.p8_prop.proofs.Reading.{command-short}
+use Rattle.std.proofs.Common.{◌∙◌, string_bytes, sym}
+use Rattle.std.proofs.lemmas.Result.{IfOk-weaker}
+use Rattle.p8_prop.proofs.Reading.{no-words, none-chosen, raw-chosen}
 use Rattle.p8_prop.proofs.words.command_in.Goals as goal
 
 pub returns-in_default-clause-seen : goal.returns-in_default-clause-seen
-returns-in_default-clause-seen c = sym (command-short string_bytes c.args.words.now c.in_default.len_below)
+returns-in_default-clause-seen c = sym (no-words string_bytes c.args.words.now c.in_default.len_below)
+
+pub returns-in-raw-clause-seen : goal.returns-in-raw-clause-seen
+returns-in-raw-clause-seen c =
+    let chosen = raw-chosen string_bytes c.args.words.now c.word-item.result c.in-len1-up.len_at_least c.word-item.is (sym c.as_str.ensures.value ∙ c.in-raw.is) in
+    IfOk-weaker c.raw_in.result _ _ (λ command seen. seen ∙ sym chosen) c.raw_in.ensures.seen
+
+pub returns-in_default-as_str-clause-seen : goal.returns-in_default-as_str-clause-seen
+returns-in_default-as_str-clause-seen c =
+    sym (none-chosen string_bytes c.args.words.now c.word-item.result c.in-len1-up.len_at_least c.word-item.is (λ is. c.in_default-as_str.not-raw (c.as_str.ensures.value ∙ is)))
