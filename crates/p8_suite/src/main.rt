@@ -5,6 +5,7 @@
 #![tactic(auto)]
 
 mod cases;
+mod images;
 mod runs;
 mod sources;
 

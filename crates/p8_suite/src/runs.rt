@@ -1,4 +1,8 @@
 // Images and their traces.
+ghost use Rattle.std.specs.Prelude.{IfOk};
+ghost use Rattle.p8_access.specs.Proper.{IsProperOrigin};
+
+use crate::images::{HUB_BYTES, boot_of};
 use anyhow::anyhow;
 use p8_access::Boot;
 use p8_machine::{Ended, Limits, run_alone};
@@ -8,17 +12,24 @@ use p8_words::Fail;
 use std::alloc::Global;
 use std::fs::{self, Files};
 
-/// How many bytes the hub has.
-const HUB_BYTES: usize = 32_768;
-
 /// The greatest limits of a run.
 const MOST_CLOCKS: u64 = 100_000_000;
 
 const MOST_TURNS: u64 = 1_000_000;
 
-/// A run of an image as hub memory, with the file of its whole trace.
+/// What the file of a run is.
+#[derive(Clone, Copy)]
+pub enum Form {
+    /// Hub memory from address 0 on, with a program of PASM there.
+    Memory,
+    /// An image of compiled Spin.
+    Image,
+}
+
+/// A run of a file, with the file of its whole trace.
 #[derive(Clone, Copy)]
 pub struct Run<'a> {
+    form: Form,
     image: &'a str,
     trace: &'a str,
     limits: Limits,
@@ -41,10 +52,11 @@ fn dump(word: &str) -> anyhow::Result<Option<(u16, u16)>> {
 
 impl<'a> Run<'a> {
     /// The run of a case's words.
-    pub fn of_words(words: &'a str) -> anyhow::Result<Run<'a>> {
+    pub fn of_words(form: Form, words: &'a str) -> anyhow::Result<Run<'a>> {
         let mut words = words.split(' ');
         let mut word = || words.next().ok_or_else(|| anyhow!("a run lacks a word"));
         Ok(Run {
+            form,
             image: word()?,
             trace: word()?,
             limits: Limits {
@@ -69,6 +81,20 @@ impl<'a> Run<'a> {
         }
     }
 
+    /// What the run begins with.
+    fn boot<R: Files + Alloc<A = Global>>(&self, rt: &R) -> anyhow::Result<Boot>
+        ensures first { IfOk result (λ boot. IsProperOrigin boot.first) }
+    {
+        let bytes = fs::read(rt, self.image)?;
+        match self.form {
+            Form::Image => boot_of(rt.alloc(), &bytes),
+            Form::Memory if bytes.len() > HUB_BYTES => {
+                Err(anyhow!("a file that the hub can't hold"))
+            }
+            Form::Memory => Ok(Boot::raw(rt.alloc(), &bytes)?),
+        }
+    }
+
     /// The text of an ended history, with the dump.
     fn text(&self, alloc: Global, ended: &Ended) -> anyhow::Result<Vec<u8>> {
         let Some((address, count)) = self.dump else {
@@ -84,16 +110,11 @@ impl<'a> Run<'a> {
     /// Whether the trace of the run is the one of the file.
     pub fn agrees<R: Files + Alloc<A = Global>>(&self, rt: &R) -> anyhow::Result<bool> {
         let alloc = rt.alloc();
-        let image = fs::read(rt, self.image)?;
-        if image.len() > HUB_BYTES {
-            return Err(anyhow!("an image that the hub can't hold"));
-        }
         let limits = self.limits;
         if limits.clocks > MOST_CLOCKS || limits.turns > MOST_TURNS {
             return Err(anyhow!("limits that no run may have"));
         }
-        let boot = Boot::raw(alloc, &image)?;
-        let ended = run_alone(alloc, boot, self.script(rt)?, limits)?;
+        let ended = run_alone(alloc, self.boot(rt)?, self.script(rt)?, limits)?;
         let text = self.text(alloc, &ended)?;
         let expected = fs::read(rt, self.trace)?;
         Ok(text == expected)
