@@ -10,7 +10,7 @@ use Rattle.p8_faults.specs.Faults.{fault}
 use Rattle.p8_fold.specs.declared.meanings.Meaning.{Meaning}
 use Rattle.p8_fold.specs.declared.meanings.Meaning.TheVariants as meaning_case
 use Rattle.p8_fold.specs.Meanings.{Setting, meaning_of, value_of_meaning, address_of_meaning, given}
-use Rattle.p8_fold.specs.Values.{value, value_of_form, value_of_variable, address_of, constant_of, before, between, fault_of_name, unless, fault_of_variable, fault_of_constant, fault_of_call, fault_between, own_fault, FaultIn, FaultInside, FaultInVariable, FaultInIndex, FaultInBits, FaultInItem, FaultInTrees, FaultInItems}
+use Rattle.p8_fold.specs.Values.{value, value_of_form, value_of_register, value_of_variable, address_of, constant_of, before, between, fault_of_name, unless, fault_of_variable, fault_of_constant, fault_of_call, fault_between, own_fault, FaultIn, FaultInside, FaultInVariable, FaultInIndex, FaultInBits, FaultInItem, FaultInTrees, FaultInItems}
 use Rattle.p8_fold.specs.Agreement.{AgreeOn, AgreeOnForm, AgreeOnVariable, AgreeOnIndex, AgreeOnBits, AgreeOnItem, AgreeOnTrees, AgreeOnItems, AgreeOnCalled}
 
 meaning_same : (s t : Setting) (name : List ℕ) → s.name name ≡ t.name name → meaning_of s name ≡ meaning_of t name
@@ -23,7 +23,8 @@ variable_same s t (Named name no_index q) h = ap (given value_of_meaning) (meani
 variable_same s t (Named name (index e) q) h = refl
 variable_same s t (Part name size i q) h = refl
 variable_same s t (Memory size e i q) h = refl
-variable_same s t (Register address x q) h = refl
+variable_same s t (Register address whole q) h = ap (λ here. value_of_register here address) h.0
+variable_same s t (Register address (bits x) q) h = refl
 
 address_same : (s t : Setting) (v : Variable) → AgreeOnVariable s t v → address_of s v ≡ address_of t v
 address_same s t (Named name no_index q) h = ap (given address_of_meaning) (meaning_same s t name h.0)
@@ -46,7 +47,7 @@ mutual
   value_of_form_same : (s t : Setting) (form : Form) → AgreeOnForm s t form → value_of_form s form ≡ value_of_form t form
   value_of_form_same s t (Number n) h = refl
   value_of_form_same s t (Str text) h = refl
-  value_of_form_same s t Here h = h
+  value_of_form_same s t Here h = ap (λ here. here.address) h
   value_of_form_same s t (Var v) h = variable_same s t v h
   value_of_form_same s t (Address v) h = address_same s t v h
   value_of_form_same s t (Call trap object i method q args) h = refl
@@ -84,7 +85,7 @@ fault_of_constant_same s t object name p q h (Some meaning_case.Other) = refl
 own_same : (s t : Setting) (p : Place) (form : Form) → AgreeOnForm s t form → own_fault s p form ≡ own_fault t p form
 own_same s t p (Number n) h = refl
 own_same s t p (Str text) h = refl
-own_same s t p Here h = ap (λ o. unless o (fault 12 p)) h
+own_same s t p Here h = ap (λ here. unless here.address (fault 12 p)) h
 own_same s t p (Var v) h = ap (λ o. unless o (fault_of_variable s v)) (variable_same s t v h) ∙ ap (unless (value_of_variable t v)) (fault_of_variable_same s t v h)
 own_same s t p (Address v) h = ap (λ o. unless o (fault_of_variable s v)) (address_same s t v h) ∙ ap (unless (address_of t v)) (fault_of_variable_same s t v h)
 own_same s t p (Call trap object i method q args) h = ap Some (fault_of_call_same s t object method p q h.0)
@@ -127,7 +128,7 @@ mutual
   in_variable_same s t (Named name i q) h f = in_index_same s t i h.1 f
   in_variable_same s t (Part name size i q) h f = in_index_same s t i h.1 f
   in_variable_same s t (Memory size e i q) h f = either (faults_same s t e h.0 f) (in_index_same s t i h.1 f)
-  in_variable_same s t (Register address x q) h f = in_bits_same s t x h f
+  in_variable_same s t (Register address x q) h f = in_bits_same s t x h.1 f
 
   in_index_same : (s t : Setting) (i : Index) → AgreeOnIndex s t i → (f : Fault) → FaultInIndex s i f ≡ FaultInIndex t i f
   in_index_same s t no_index h f = refl

@@ -9,7 +9,7 @@ use Rattle.p8_faults.specs.declared.faults.Fault.{Fault}
 use Rattle.p8_faults.specs.Faults.{IsFirstFault, fault}
 use Rattle.p8_faults.proofs.Firsts.{IsFirstFault-along}
 use Rattle.p8_fold.specs.Meanings.{Setting, meaning_of, value_of_meaning, address_of_meaning, given}
-use Rattle.p8_fold.specs.Values.{value, value_of_form, fault_of_name, where_so, fault_of_variable, fault_of_call, own_fault, FaultIn, FaultInside, FaultInVariable, FaultInIndex, FaultInBits, FaultInItem, FaultInTrees, FaultInItems, HasValue, IsRefused}
+use Rattle.p8_fold.specs.Values.{value, value_of_form, value_of_register, fault_of_name, where_so, fault_of_variable, fault_of_call, own_fault, FaultIn, FaultInside, FaultInVariable, FaultInIndex, FaultInBits, FaultInItem, FaultInTrees, FaultInItems, HasValue, IsRefused}
 use Rattle.p8_fold.specs.Verdicts.{with_further, verdict, verdict_of_form, fault_at, first_in_index, first_in_bits, first_in_item, first_in_trees, first_in_items}
 use Rattle.p8_fold.proofs.Judging.{Tells, Judges, fault_told, further_told, two_told, is_one, one_told, judges, to_right, to_left, refused, refused_twice, value_or_one, constant_judged, judged_before, judged_between}
 
@@ -43,12 +43,13 @@ mutual
   pub judged_form : (s : Setting) (p : Place) (form : Form) → Judges (verdict_of_form s p form) (value_of_form s form) (λ x. (own_fault s p form ≡ Some x) ⊎ FaultInside s form x)
   judged_form s p (Number n) = no_fault n
   judged_form s p (Str text) = one_fault (fault 12 p)
-  judged_form s p Here = value_or_one s.here (fault 12 p)
+  judged_form s p Here = value_or_one s.here.address (fault 12 p)
   judged_form s p (Var (Named name no_index q)) = value_or_one (given value_of_meaning (meaning_of s name)) (fault_of_name (meaning_of s name) q)
   judged_form s p (Var (Named name (index e) q)) = (refl, at_variable s (Named name (index e) q))
   judged_form s p (Var (Part name size i q)) = (refl, at_variable s (Part name size i q))
   judged_form s p (Var (Memory size e i q)) = (refl, at_variable s (Memory size e i q))
-  judged_form s p (Var (Register address x q)) = (refl, at_variable s (Register address x q))
+  judged_form s p (Var (Register address whole q)) = value_or_one (value_of_register s.here address) (fault 12 q)
+  judged_form s p (Var (Register address (bits x) q)) = (refl, at_variable s (Register address (bits x) q))
   judged_form s p (Address (Named name no_index q)) = value_or_one (given address_of_meaning (meaning_of s name)) (fault_of_name (meaning_of s name) q)
   judged_form s p (Address (Named name (index e) q)) = (refl, at_variable s (Named name (index e) q))
   judged_form s p (Address (Part name size i q)) = (refl, at_variable s (Part name size i q))

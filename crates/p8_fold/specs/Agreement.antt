@@ -1,4 +1,5 @@
--- Which entries an expression looks at: those of the names that stand in it, and `$` where it stands in it.
+-- Which entries an expression looks at: those of the names that stand in it, and where it stands itself, if `$` or a register
+-- stands in it.
 use Rattle.std.specs.Prelude.{◌≡◌, ℕ, List, Option, Some, None}
 use Rattle.p8_tree.specs.Expressions.{Tree, node, Form, Number, Str, Here, Var, Call, Unary, Binary, Assign, Change, Address, ObjectAddress, ObjConst, Built, Look, Variable, Named, Part, Memory, Register, Index, no_index, index, Bits, whole, bits, Item, single, range, Trees, no_trees, ◌▷◌, Items, no_items, ◌▸◌}
 use Rattle.p8_fold.specs.Meanings.{Setting}
@@ -33,7 +34,7 @@ abbrev mutual
   AgreeOnVariable s t (Named name i place) = (s.name name ≡ t.name name) × AgreeOnIndex s t i
   AgreeOnVariable s t (Part name size i place) = (s.name name ≡ t.name name) × AgreeOnIndex s t i
   AgreeOnVariable s t (Memory size e i place) = AgreeOn s t e × AgreeOnIndex s t i
-  AgreeOnVariable s t (Register address x place) = AgreeOnBits s t x
+  AgreeOnVariable s t (Register address x place) = (s.here ≡ t.here) × AgreeOnBits s t x
 
   pub AgreeOnIndex : Setting → Setting → Index → Type 0
   AgreeOnIndex s t no_index = Unit {0}

@@ -1,7 +1,8 @@
 -- What names mean to the expressions that stand where a constant is needed.
-use Rattle.std.specs.Prelude.{ℕ, List, Option, Some, None, if◌then◌else◌}
+use Rattle.std.specs.Prelude.{ℕ, true, false, List, Option, Some, None, if◌then◌else◌}
 use Rattle.std.specs.Str.{bytes_eq}
 use Rattle.p8_tree.specs.Names.{result_word}
+use Rattle.p8_fold.specs.declared.meanings.Here.{Here}
 use Rattle.p8_fold.specs.declared.meanings.Meaning.{Meaning}
 use Rattle.p8_fold.specs.declared.meanings.Meaning.TheVariants as meaning_case
 
@@ -10,8 +11,16 @@ pub record Setting : Type 0 where
   pub name : List ℕ → Option Meaning
   -- what a name behind `#` means, by the name before `#` and itself
   pub constant : List ℕ → List ℕ → Option Meaning
-  -- what `$` is, where it has a value
-  pub here : Option ℕ
+  -- what `$` is, where it has a value, and whether registers have values
+  pub here : Here
+
+-- everywhere but in an operand of an instruction registers have no value
+abbrev pub outside_operands : Option ℕ → Here
+outside_operands at = record { address = at; registers = false }
+
+-- in an operand `$` has a value, and a register's name is its address
+abbrev pub in_operand : ℕ → Here
+in_operand at = record { address = Some at; registers = true }
 
 -- an entry, of a name alone or of one behind an object's name
 abbrev pub entry : Setting → Option (List ℕ) → List ℕ → Option Meaning

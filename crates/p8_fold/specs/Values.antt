@@ -9,6 +9,7 @@ use Rattle.p8_tree.specs.declared.places.Place.{Place}
 use Rattle.p8_tree.specs.Expressions.{Tree, node, Form, Number, Str, Here, Var, Call, Unary, Binary, Assign, Change, Address, ObjectAddress, ObjConst, Built, Look, Variable, Named, Part, Memory, Register, Index, no_index, index, Bits, whole, bits, Item, single, range, Trees, no_trees, ◌▷◌, Items, no_items, ◌▸◌}
 use Rattle.p8_faults.specs.declared.faults.Fault.{Fault}
 use Rattle.p8_faults.specs.Faults.{fault, IsFirstFault}
+use Rattle.p8_fold.specs.declared.meanings.Here.{Here as Surroundings}
 use Rattle.p8_fold.specs.declared.meanings.Meaning.{Meaning}
 use Rattle.p8_fold.specs.declared.meanings.Meaning.TheVariants as meaning_case
 use Rattle.p8_fold.specs.Meanings.{Setting, meaning_of, value_of_meaning, address_of_meaning, given}
@@ -31,13 +32,17 @@ between operator None right = None
 between operator (Some a) None = None
 between operator (Some a) (Some b) = if divides operator && (b == 0) then None else binary_result operator a b
 
+-- the value of a register's name: its address, where registers have values
+abbrev pub value_of_register : Surroundings → ℕ → Option ℕ
+value_of_register here address = if here.registers then Some address else None
+
 abbrev mutual
   pub value : Setting → Tree → Option ℕ
   value s (node place form) = value_of_form s form
 
   pub value_of_form : Setting → Form → Option ℕ
   value_of_form s (Number n) = Some n
-  value_of_form s Here = s.here
+  value_of_form s Here = s.here.address
   value_of_form s (Var v) = value_of_variable s v
   value_of_form s (Address v) = address_of s v
   value_of_form s (ObjConst object name place) = constant_of s (meaning_of s object) object name
@@ -46,9 +51,10 @@ abbrev mutual
   value_of_form s (Built code args) = if code == 0 then value_of_one s args else None
   value_of_form s _ = None
 
-  -- a name alone
+  -- a name alone, or a register
   pub value_of_variable : Setting → Variable → Option ℕ
   value_of_variable s (Named name no_index place) = given value_of_meaning (meaning_of s name)
+  value_of_variable s (Register address whole place) = value_of_register s.here address
   value_of_variable s _ = None
 
   -- `@` and a name alone
@@ -118,7 +124,7 @@ is_constant_word code _ = false
 abbrev pub own_fault : Setting → Place → Form → Option Fault
 own_fault s p (Number n) = None
 own_fault s p (Str text) = Some (fault 12 p)
-own_fault s p Here = unless s.here (fault 12 p)
+own_fault s p Here = unless s.here.address (fault 12 p)
 own_fault s p (Var v) = unless (value_of_variable s v) (fault_of_variable s v)
 own_fault s p (Address v) = unless (address_of s v) (fault_of_variable s v)
 own_fault s p (Call trap object i method place args) = Some (fault_of_call s object method p place)

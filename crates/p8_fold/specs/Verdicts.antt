@@ -63,7 +63,7 @@ abbrev mutual
   pub verdict_of_form : Setting → Place → Form → Result ℕ Fault
   verdict_of_form s p (Number n) = Ok n
   verdict_of_form s p (Str text) = Err (fault 12 p)
-  verdict_of_form s p Here = or_fault s.here (fault 12 p)
+  verdict_of_form s p Here = or_fault s.here.address (fault 12 p)
   verdict_of_form s p (Var v) = or_fault (value_of_variable s v) (fault_at s v)
   verdict_of_form s p (Address v) = or_fault (address_of s v) (fault_at s v)
   verdict_of_form s p (Call trap object i method place args) =

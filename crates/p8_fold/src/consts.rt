@@ -2,10 +2,11 @@
 ghost use Rattle.std.specs.Prelude.{◌≡◌, ℕ, List, Option, Some, None, OnOk, OnErr, option_map};
 ghost use Rattle.std.specs.Str.{bytes_eq};
 ghost use Rattle.p8_tree.specs.Names.{result_word};
-ghost use Rattle.p8_fold.specs.Meanings.{entry, meaning_of, value_of_meaning, address_of_meaning, given};
+ghost use Rattle.p8_fold.specs.Meanings.{entry, meaning_of, value_of_meaning, address_of_meaning, given, outside_operands, in_operand};
 ghost use Rattle.p8_fold.specs.Entries.{setting_of, at_bytes, at_both};
+ghost use Rattle.p8_fold.specs.Values.{value_of_register};
 
-use crate::meanings::Meaning;
+use crate::meanings::{Here, Meaning};
 use p8_tree::Text;
 use p8_words::NoMemory;
 use std::alloc::{AllocError, Global};
@@ -15,26 +16,30 @@ type Names = BTreeMap<Vec<u8>, Meaning>;
 
 type Objects = BTreeMap<Vec<u8>, Names>;
 
-/// What the names of an expression mean: those that stand alone, those behind an object's name and `#`, and `$`.
+/// What the names of an expression mean: those that stand alone, those behind an object's name and `#`, `$`, and the names
+/// of registers.
 #[derive(Drop)]
 pub struct Consts {
     alloc: Global,
     names: Names,
     objects: Objects,
-    here: Option<u32>,
+    here: Here,
 }
 
 impl Consts {
-    /// A table without entries, in which `$` has no value. It takes no memory.
+    /// A table without entries, in which neither `$` nor a register has a value. It takes no memory.
     pub fn new(alloc: Global) -> Consts
         ensures empty { (object : Option (List ℕ)) → (name : List ℕ) → entry (setting_of result) object name ≡ None }
-        ensures here { (setting_of result).here ≡ None }
+        ensures here { (setting_of result).here ≡ outside_operands None }
     {
         Consts {
             alloc,
             names: BTreeMap::new(alloc),
             objects: BTreeMap::new(alloc),
-            here: None,
+            here: Here {
+                address: None,
+                registers: false,
+            },
         }
     }
 
@@ -64,27 +69,57 @@ impl Consts {
         }
     }
 
-    /// Says what `$` is. It takes no memory.
-    pub fn here(&mut self, at: Option<u32>)
-        ensures here { (setting_of self.new).here ≡ at }
-        ensures names { (o : Option (List ℕ)) → (n : List ℕ) → entry (setting_of self.new) o n ≡ entry (setting_of self.old) o n }
+    /// Takes a name's own entry away, where it has one, so that the name has no definition. It takes no memory.
+    pub fn forget(&mut self, name: &Text)
+        ensures gone { entry (setting_of self.new) None name.now ≡ None }
+        ensures others { (o : Option (List ℕ)) → (n : List ℕ) → ¬ ((o ≡ None) × (n ≡ name.now)) → entry (setting_of self.new) o n ≡ entry (setting_of self.old) o n }
+        ensures here { (setting_of self.new).here ≡ (setting_of self.old).here }
     {
-        self.here = at;
+        leave(&mut self.names, name);
     }
 
-    // What a name alone means.
-    pub(crate) fn meaning(&self, name: &Text) -> Option<Meaning>
+    /// Says what `$` is, outside the operands of instructions: registers have no value. It takes no memory.
+    pub fn here(&mut self, at: Option<u32>)
+        ensures here { (setting_of self.new).here ≡ outside_operands at }
+        ensures names { (o : Option (List ℕ)) → (n : List ℕ) → entry (setting_of self.new) o n ≡ entry (setting_of self.old) o n }
+    {
+        self.here = Here {
+            address: at,
+            registers: false,
+        };
+    }
+
+    /// Says what `$` is in the operands of an instruction, where the name of a register is its address. It takes no memory.
+    pub fn in_operand(&mut self, at: u32)
+        ensures here { (setting_of self.new).here ≡ in_operand at }
+        ensures names { (o : Option (List ℕ)) → (n : List ℕ) → entry (setting_of self.new) o n ≡ entry (setting_of self.old) o n }
+    {
+        self.here = Here {
+            address: Some(at),
+            registers: true,
+        };
+    }
+
+    /// The entry of a name that stands alone.
+    pub fn get(&self, name: &Text) -> Option<Meaning>
+        ensures { result ≡ (setting_of self.now).name name.now }
+    {
+        self.names.get(name.as_slice()).copied()
+    }
+
+    /// What a name alone means; the word RESULT is no constant.
+    pub fn meaning(&self, name: &Text) -> Option<Meaning>
         ensures { result ≡ meaning_of (setting_of self.now) name.now }
     {
         if is_result(name) {
             Some(Meaning::Other)
         } else {
-            self.names.get(name.as_slice()).copied()
+            self.get(name)
         }
     }
 
-    // What a name behind an object's name and `#` means.
-    pub(crate) fn constant(&self, object: &Text, name: &Text) -> Option<Meaning>
+    /// What a name behind an object's name and `#` means, where it has an entry.
+    pub fn constant(&self, object: &Text, name: &Text) -> Option<Meaning>
         ensures { result ≡ (setting_of self.now).constant object.now name.now }
     {
         match self.objects.get(object.as_slice()) {
@@ -95,9 +130,20 @@ impl Consts {
 
     // What `$` is.
     pub(crate) fn place(&self) -> Option<u32>
-        ensures { result ≡ (setting_of self.now).here }
+        ensures { result ≡ (setting_of self.now).here.address }
     {
-        self.here
+        self.here.address
+    }
+
+    // The value of a register's name, by its address.
+    pub(crate) fn register(&self, address: u16) -> Option<u32>
+        ensures { result ≡ value_of_register (setting_of self.now).here address }
+    {
+        if self.here.registers {
+            Some(u32::from(address))
+        } else {
+            None
+        }
     }
 }
 
@@ -117,6 +163,14 @@ fn enter(alloc: Global, names: &mut Names, name: &Text, meaning: Meaning) -> Res
     let key = name.as_slice().to_vec(alloc)?;
     names.insert(key, meaning)?;
     Ok(())
+}
+
+// Takes the meaning at a name away.
+fn leave(names: &mut Names, name: &Text)
+    ensures gone { at_bytes name.now names.new ≡ None }
+    ensures others { (n : List ℕ) → ¬ (n ≡ name.now) → at_bytes n names.new ≡ at_bytes n names.old }
+{
+    names.remove(name.as_slice());
 }
 
 // Puts a meaning at a name of an object.

@@ -177,12 +177,13 @@ fn address_of(meaning: Option<Meaning>) -> Option<u32>
     }
 }
 
-// The value of a name alone.
+// The value of a name alone, or of a register.
 fn value_of_variable(consts: &Consts, variable: &Target) -> Option<u32>
     ensures { result ≡ value_of_variable (setting_of consts.now) (variable_of variable.now) }
 {
     match variable {
         Target::Named(name, None, _) => value_of(consts.meaning(name)),
+        Target::Register(address, None, _) => consts.register(*address),
         _ => None,
     }
 }

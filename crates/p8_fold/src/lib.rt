@@ -11,5 +11,5 @@ mod values;
 
 pub use consts::Consts;
 pub use laws::{other_has_no_value, value_or_fault};
-pub use meanings::Meaning;
+pub use meanings::{Here, Meaning};
 pub use values::{FoldFault, value_of};

@@ -1,4 +1,4 @@
-// What a name may mean to an expression.
+// What a name may mean to an expression, and where the expression stands.
 
 /// What a name means where a constant is needed.
 #[derive(Clone, Copy, Debug, PartialEq, Eq)]
@@ -12,4 +12,14 @@ pub enum Meaning {
     Object,
     /// Anything else: a variable, a method, or a word of a method.
     Other,
+}
+
+/// What the value of an expression takes from where the expression stands.
+#[derive(Clone, Copy, Debug, PartialEq, Eq)]
+pub struct Here {
+    /// What `$` is, where it has a value.
+    pub address: Option<u32>,
+    /// Whether the name of a register has a value, its address: it has one in an operand of an instruction, and nowhere
+    /// else.
+    pub registers: bool,
 }

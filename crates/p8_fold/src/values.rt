@@ -6,6 +6,7 @@ ghost use Rattle.p8_faults.specs.Faults.{IsFirstFault};
 ghost use Rattle.p8_fold.specs.Meanings.{Setting};
 ghost use Rattle.p8_fold.specs.Entries.{setting_of};
 ghost use Rattle.p8_fold.specs.Values.{value, FaultIn};
+ghost use Rattle.p8_fold.specs.Verdicts.{verdict as told_of};
 ghost use Rattle.p8_fold.specs.Agreement.{AgreeOn};
 
 use crate::consts::Consts;
@@ -26,6 +27,7 @@ pub fn value_of(expr: &Expr, consts: &Consts) -> Result<u32, FoldFault>
     ensures clean { OnOk result ((f : Fault) → ¬ FaultIn (setting_of consts.now) (tree_of expr.now) f) }
     ensures refused { IfErr result (IsFirstFault (FaultIn (setting_of consts.now) (tree_of expr.now))) }
     ensures no_value { OnErr result (value (setting_of consts.now) (tree_of expr.now) ≡ None) }
+    ensures told { result ≡ told_of (setting_of consts.now) (tree_of expr.now) }
 
     // Only the entries of names that stand in the expression decide.
     ensures names_decide { (other : Setting) → AgreeOn (setting_of consts.now) other (tree_of expr.now) → value other (tree_of expr.now) ≡ value (setting_of consts.now) (tree_of expr.now) }
