@@ -39,7 +39,7 @@ mutual
   agree_variable s t k (Named name i q) h = (h name (inl refl), agree_index s t k i (λ n m. h n (inr m)))
   agree_variable s t k (Part name size i q) h = (h name (inl refl), agree_index s t k i (λ n m. h n (inr m)))
   agree_variable s t k (Memory size e i q) h = (agree s t k e (λ n m. h n (inl m)), agree_index s t k i (λ n m. h n (inr m)))
-  agree_variable s t k (Register address x q) h = agree_bits s t k x h
+  agree_variable s t k (Register address x q) h = (k.here, agree_bits s t k x h)
 
   agree_index : (s t : Setting) → Alike s t → (i : Index) → ((n : List ℕ) → IndexMentions i n → s.name n ≡ t.name n) → AgreeOnIndex s t i
   agree_index s t k no_index h = tt

@@ -2,7 +2,13 @@ pub mod Agreeing
 pub mod OneValue
 pub mod Ordering
 pub mod Adding
-pub mod Evaluating
 pub mod Mentioned
 pub mod Standing
+pub mod Listing
+pub mod Rowing
+pub mod Graphs
+pub mod Evaluating
+pub mod Growing
+pub mod Finding
+pub mod Stepping
 pub mod Examples

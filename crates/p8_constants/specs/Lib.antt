@@ -2,4 +2,5 @@
 pub mod Items
 pub mod Mentions
 pub mod Constants
-pub mod Evaluation
+-- How they are found: internal.
+pub mod Rows
