@@ -1,0 +1,9 @@
+mod Putting
+mod Objects
+mod Advancing
+mod Entering
+mod Showing
+mod OwnNames
+mod TwoFaults
+mod Equal
+mod LookingAt

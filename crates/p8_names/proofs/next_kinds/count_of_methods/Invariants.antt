@@ -1,0 +1,8 @@
+use Rattle.std.proofs.Common.{◌≡◌, length, take}
+use Rattle.std.specs.Prelude.{min}
+use Rattle.p8_definitions.specs.Standing.{items_of}
+use Rattle.p8_names.specs.Kinds.{greatest_number, methods}
+use Rattle.p8_names.proofs.next_kinds.count_of_methods.Given as goal
+
+abbrev pub invariant-loop-item : goal.invariant-loop-item
+invariant-loop-item l = l.count ≡ min (length (methods (items_of (take l.item-index l.items)))) greatest_number

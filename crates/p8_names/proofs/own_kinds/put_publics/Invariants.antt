@@ -1,0 +1,8 @@
+use Rattle.std.proofs.Common.{◌≡◌, ◌++◌, map, take}
+use Rattle.p8_tree.specs.Views.{method_of}
+use Rattle.p8_definitions.specs.Standing.{items_of}
+use Rattle.p8_names.specs.Kinds.{publics}
+use Rattle.p8_names.proofs.own_kinds.put_publics.Given as goal
+
+abbrev pub invariant-loop-item : goal.invariant-loop-item
+invariant-loop-item l = map (λ m. method_of m.now) l.methods.items ≡ map (λ m. method_of m.now) l.initial.methods.items ++ publics (items_of (take l.item-index l.items))

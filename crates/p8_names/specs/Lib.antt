@@ -1,0 +1,9 @@
+-- What the names of a file mean and are, what is wrong with them, and what resolving them gives.
+pub mod Settings
+pub mod Kinds
+pub mod Faults
+pub mod Resolution
+-- internal: what the code's steps change.
+pub mod Changes
+pub mod Counting
+pub mod Looking
