@@ -1,0 +1,5 @@
+pub mod Settings
+pub mod Rows
+pub mod LocalLabels
+pub mod Told
+pub mod WholeFiles
