@@ -133,3 +133,10 @@ abbrev pub IsNear : (most reached : ℕ) → Next → Type 0
 IsNear most reached (At clock access) = clock ≤ reached + most
 IsNear most reached Quiet = Unit {0}
 IsNear most reached (More bound) = Unit {0}
+
+-- what is told is no further than this clock: an access comes up to it, and below `until` none comes only where
+-- `until` isn't behind it
+abbrev pub IsWithin : (limit until : ℕ) → Next → Type 0
+IsWithin limit until (At clock access) = clock ≤ limit
+IsWithin limit until Quiet = until ≤ limit
+IsWithin limit until (More bound) = Unit {0}

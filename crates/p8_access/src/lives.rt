@@ -4,7 +4,7 @@ ghost use Rattle.p8_access.specs.declared.kinds.Access.{Access};
 ghost use Rattle.p8_access.specs.declared.order.Turn.{Turn};
 ghost use Rattle.p8_access.specs.declared.lives.Next.TheVariants.{At, Quiet};
 ghost use Rattle.p8_access.specs.Proper.{Fits};
-ghost use Rattle.p8_access.specs.Lives.{Begun, first_turn_of, has_ended, Tells, IsMadeNext, announced_by, IsTurnAt, IsAnnounced, Spends, IsThorough, IsNear};
+ghost use Rattle.p8_access.specs.Lives.{Begun, first_turn_of, has_ended, Tells, IsMadeNext, announced_by, IsTurnAt, IsAnnounced, Spends, IsThorough, IsNear, IsWithin};
 
 use crate::kinds::Access;
 use crate::order::Turn;
@@ -79,6 +79,8 @@ pub trait Life {
         ensures spends { Spends (place self.old) (place self.new) (reached self.old) (reached self.new) (pace self.old) until budget result }
         ensures stride { reached self.new ≤ reached self.old + stride self.old * (place self.new - place self.old) }
         ensures near { IsNear (reach self.old) (reached self.new) result }
+        // A call goes no further than its budget takes, and 16 clocks more, which is the time between two windows.
+        ensures far { (b : Begun) (ts : List Turn) → stands self.old b ts → has_ended (cog self.old) ts ≡ false → IsWithin (reached self.old + stride self.old * budget + 16) until result }
         ensures quiet { (b : Begun) (ts : List Turn) → stands self.old b ts → has_ended (cog self.old) ts ≡ false → result ≡ Quiet → until ≤ reached self.new + reach self.old }
 
         ensures announced { announced self.new ≡ announced_by result }

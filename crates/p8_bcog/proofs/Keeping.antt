@@ -8,7 +8,7 @@ use Rattle.p8_access.specs.declared.kinds.Access.TheVariants.{Halt}
 use Rattle.p8_access.specs.declared.order.Turn.{Turn}
 use Rattle.p8_access.specs.declared.lives.Next.{Next}
 use Rattle.p8_access.specs.declared.lives.Next.TheVariants.{At, Quiet, More}
-use Rattle.p8_access.specs.Lives.{Entered, Begun, PasmBegun, SpinBegun, has_ended, Tells, announced_by, IsThorough, IsNear, Spends}
+use Rattle.p8_access.specs.Lives.{Entered, Begun, PasmBegun, SpinBegun, has_ended, Tells, announced_by, IsThorough, IsNear, IsWithin, Spends}
 use Rattle.p8_courses.specs.Courses.{Course}
 use Rattle.p8_courses.specs.Timing.{Outcome, Asks, Goes, Ends, earliest, played}
 use Rattle.p8_courses.specs.Replays.{Engine, after}
@@ -345,3 +345,39 @@ ready_by Over is = absurd (let x : false ≡ true = is in cc)
 
 pub not_ready : (stage : Stage) → is_ready stage ≡ false → stage ≡ Ready → ⊥
 not_ready stage unready is = let x : true ≡ false = ap is_ready (sym is) ∙ unready in cc
+
+-- ---- how far a call goes
+
+-- a run whose budget isn't spent where a bytecode asks
+pub ran_far : (cog begin done budget begun clock until : ℕ) (stage : Stage) (s : State) (next : Next) → done ≤ budget → begun ≤ begin + 544 * done → IsBehind done budget begun clock until stage → Stops (standing cog stage s clock []) begun until next → (next ≡ Quiet → (stage ≡ Over) ⊎ (until ≤ clock + 16)) → IsWithin (begin + 544 * budget + 16) until next
+ran_far cog begin done budget begun clock until stage s (More bound) all most at stops near = tt
+ran_far cog begin done budget begun clock until Entering s (At c a) all most at stops near = absurd at
+ran_far cog begin done budget begun clock until Ready s (At c a) all most at stops near = absurd (let e : Goes s clock [] ≡ Asks c a = stops.0 in cc)
+ran_far cog begin done budget begun clock until (Asked access later) s (At c a) all most at stops near = omega (arith, at.3, stops.3, most)
+ran_far cog begin done budget begun clock until (Halted reason) s (At c a) all most at stops near = omega (arith, at.3, stops.3, most)
+ran_far cog begin done budget begun clock until Over s (At c a) all most at stops near = absurd at
+ran_far cog begin done budget begun clock until Entering s Quiet all most at stops near = absurd at
+ran_far cog begin done budget begun clock until Ready s Quiet all most at stops near = by_end (near refl)
+  where
+    by_end : (Ready ≡ Over) ⊎ (until ≤ clock + 16) → until ≤ begin + 544 * budget + 16
+    by_end (inl over) = absurd cc
+    by_end (inr le) = omega (arith, le, at.0, most, all)
+ran_far cog begin done budget begun clock until (Asked access later) s Quiet all most at stops near = by_end (near refl)
+  where
+    by_end : (Asked access later ≡ Over) ⊎ (until ≤ clock + 16) → until ≤ begin + 544 * budget + 16
+    by_end (inl over) = absurd cc
+    by_end (inr le) = omega (arith, le, at.2, at.3, most)
+ran_far cog begin done budget begun clock until (Halted reason) s Quiet all most at stops near = by_end (near refl)
+  where
+    by_end : (Halted reason ≡ Over) ⊎ (until ≤ clock + 16) → until ≤ begin + 544 * budget + 16
+    by_end (inl over) = absurd cc
+    by_end (inr le) = omega (arith, le, at.2, at.3, most)
+ran_far cog begin done budget begun clock until Over s Quiet all most at stops near = absurd at
+
+-- where nothing was run
+pub rest_far : (cog budget reached clock until : ℕ) (stage : Stage) (s : State) (next : Next) → 1 ≤ budget → (stage ≡ Over → ⊥) → clock ≤ reached + 544 → Stops (standing cog stage s clock []) reached until next → (next ≡ Quiet → (stage ≡ Over) ⊎ (until ≤ clock + 16)) → IsWithin (reached + 544 * budget + 16) until next
+rest_far cog budget reached clock until stage s (At c a) some live late stops near = omega (arith, stops.3)
+rest_far cog budget reached clock until stage s Quiet some live late stops near =
+    let le : until ≤ reached + 560 = rest_quiet cog stage clock reached until Quiet live late near refl in
+    omega arith
+rest_far cog budget reached clock until stage s (More bound) some live late stops near = tt

@@ -59,12 +59,12 @@ Led memory cog done old begin s clock =
     (more : List Turn) → after (engine_of memory cog) done (Goes old begin more) ≡ Goes s clock more
 
 -- where a run is that began at a clock and has done so many bytecodes: the last one begins at `begun`, and what is asked
--- counts from `clock` on
+-- counts from `clock` on; a bytecode that asks isn't done, so the budget isn't spent there
 abbrev pub IsBehind : (done budget begun clock until : ℕ) → Stage → Type 0
 IsBehind done budget begun clock until Entering = ⊥
 IsBehind done budget begun clock until Ready = (begun ≡ clock) × ((until ≤ clock) ⊎ (done ≡ budget))
-IsBehind done budget begun clock until (Asked access later) = (begun < until) × (begun ≤ clock) × (clock ≤ begun + 544)
-IsBehind done budget begun clock until (Halted reason) = (begun < until) × (begun ≤ clock) × (clock ≤ begun + 544)
+IsBehind done budget begun clock until (Asked access later) = (begun < until) × (begun ≤ clock) × (clock ≤ begun + 544) × (done < budget)
+IsBehind done budget begun clock until (Halted reason) = (begun < until) × (begun ≤ clock) × (clock ≤ begun + 544) × (done < budget)
 IsBehind done budget begun clock until Over = ⊥
 
 -- what is told is what comes next from here, or nothing comes below this clock

@@ -9,7 +9,7 @@ use Rattle.p8_access.specs.declared.order.Turn.{Turn}
 use Rattle.p8_access.specs.declared.lives.Next.{Next}
 use Rattle.p8_access.specs.declared.lives.Next.TheVariants.{At, Quiet, More}
 use Rattle.p8_access.specs.Proper.{value_of}
-use Rattle.p8_access.specs.Lives.{Loaded, Begun, PasmBegun, SpinBegun, has_ended, Tells, IsOnTime, IsAnnounced, announced_by, IsThorough, IsNear, Spends}
+use Rattle.p8_access.specs.Lives.{Loaded, Begun, PasmBegun, SpinBegun, has_ended, Tells, IsOnTime, IsAnnounced, announced_by, IsThorough, IsNear, IsWithin, Spends}
 use Rattle.p8_cog.specs.declared.state.State.{State}
 use Rattle.p8_cog.specs.declared.ending.Ending.TheVariants.{Ended, Whole}
 use Rattle.p8_cog.specs.declared.progress.Had.{Had}
@@ -111,6 +111,12 @@ pub stops-quiet : (cog reached until : ℕ) (here : Outcome) (next : Next) → S
 stops-quiet cog reached until here (At clock access) stops is = absurd (let x : At clock access ≡ Quiet = is in cc)
 stops-quiet cog reached until here Quiet stops is = stops.1
 stops-quiet cog reached until here (More bound) stops is = absurd (let x : More bound ≡ Quiet = is in cc)
+
+-- a call goes no further than its budget takes, and up to the next window
+pub stops-far : (cog before reached done budget until : ℕ) (here : Outcome) (next : Next) → done ≤ budget → reached ≤ before + 8 * done → Stops cog here reached until next → IsWithin (before + 8 * budget + 16) until next
+stops-far cog before reached done budget until here (At clock access) all most stops = omega (arith, stops.3, most, all)
+stops-far cog before reached done budget until here Quiet all most stops = omega (arith, stops.1, most, all)
+stops-far cog before reached done budget until here (More bound) all most stops = tt
 
 pub announces-none : (cog code : ℕ) (stage : Stage) (p : Progress) → Announces cog code stage p None
 announces-none cog code stage p = λ clock access e. absurd (let x : None ≡ Some (clock, access) = e in cc)

@@ -1,6 +1,7 @@
-use Rattle.std.proofs.Common.{◌+◌, [], sym, ◌∙◌, arith}
+use Rattle.std.proofs.Common.{◌≡◌, ℕ, ◌+◌, ◌*◌, [], true, false, sym, subst, ◌∙◌, arith}
+use Rattle.p8_access.specs.Lives.{IsWithin}
 use Rattle.p8_bcog.specs.Standing.{standing}
-use Rattle.p8_bcog.proofs.Keeping.{ran_stands, behind_early, behind_late, behind_ready, stops_tells, stops_thorough, placed, stops_near, stops_announces, ran_spends, rest_spends, again, ready_by, not_ready}
+use Rattle.p8_bcog.proofs.Keeping.{ran_stands, behind_early, behind_late, behind_ready, stops_tells, stops_thorough, placed, stops_near, stops_announces, ran_spends, rest_spends, again, ready_by, not_ready, ran_far, rest_far, over_ended}
 use Rattle.p8_bcog.proofs.spin.SpinCogLife.run_to_access.Goals as goal
 
 pub invariant_of-self : goal.invariant_of-self
@@ -72,3 +73,14 @@ returns-else-is_ready-clause-spends c =
 
 pub returns-else-is_ready-clause-near : goal.returns-else-is_ready-clause-near
 returns-else-is_ready-clause-near c = stops_near (standing c.args.self.now.cog c.args.self.now.stage c.args.self.now.state c.args.self.now.clock []) c.args.self.now.reached c.args.until c.told-next-else-is_ready.result (c.told-next-else-is_ready.ensures.stops c.args.self.now.reached c.args.self.now.early c.args.self.now.late c.args.self.now.ready)
+
+pub returns-then-is_ready-clause-far : goal.returns-then-is_ready-clause-far
+returns-then-is_ready-clause-far c = λ b ts stands live.
+    subst (λ (r : ℕ). IsWithin (r + 544 * c.args.budget + 16) c.args.until c.told-next.result) (sym (c.args.self.now.ready (ready_by c.args.self.now.stage (sym c.is_ready.ensures ∙ c.if-is_ready.true))))
+    (ran_far c.args.self.now.cog c.args.self.now.clock c.run-ran.result.done c.args.budget c.run-ran.result.begun c.run-ran.result.clock c.args.until c.run-ran.result.stage c.run-ran.new.state c.told-next.result c.run-ran.ensures.budget c.run-ran.ensures.most c.run-ran.ensures.is_behind (c.told-next.ensures.stops c.run-ran.result.begun (behind_early c.run-ran.result.done c.args.budget c.run-ran.result.begun c.run-ran.result.clock c.args.until c.run-ran.result.stage c.run-ran.ensures.is_behind) (behind_late c.run-ran.result.done c.args.budget c.run-ran.result.begun c.run-ran.result.clock c.args.until c.run-ran.result.stage c.run-ran.ensures.is_behind) (behind_ready c.run-ran.result.done c.args.budget c.run-ran.result.begun c.run-ran.result.clock c.args.until c.run-ran.result.stage c.run-ran.ensures.is_behind)) c.told-next.ensures.near)
+
+pub returns-else-is_ready-clause-far : goal.returns-else-is_ready-clause-far
+returns-else-is_ready-clause-far c = λ b ts stands live.
+    rest_far c.args.self.now.cog c.args.budget c.args.self.now.reached c.args.self.now.clock c.args.until c.args.self.now.stage c.args.self.now.state c.told-next-else-is_ready.result c.requires.budget
+    (λ over. let e : false ≡ true = sym live ∙ over_ended c.args.self.now.code c.args.self.now.done c.args.self.now.cog c.args.self.now.stage c.args.self.now.state c.args.self.now.clock over b ts stands in cc)
+    c.args.self.now.late (c.told-next-else-is_ready.ensures.stops c.args.self.now.reached c.args.self.now.early c.args.self.now.late c.args.self.now.ready) c.told-next-else-is_ready.ensures.near

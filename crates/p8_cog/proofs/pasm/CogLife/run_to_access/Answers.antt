@@ -1,10 +1,10 @@
-use Rattle.std.proofs.Common.{ℕ, ◌+◌, sym, subst}
+use Rattle.std.proofs.Common.{◌≡◌, ◌∙◌, ℕ, ◌+◌, true, false, sym, subst, arith}
 use Rattle.p8_access.specs.Lives.{announced_by, IsThorough}
 use Rattle.p8_cog.specs.declared.stage.Stage.TheVariants.{Loading, Running}
 use Rattle.p8_cog.specs.Replay.{Begins}
 use Rattle.p8_cog.specs.Standing.{standing_at, clock_of}
 use Rattle.p8_cog.specs.Stops.{Stops}
-use Rattle.p8_cog.specs.Keeping.{stops-tells, stops-thorough, stops-quiet, stops-announces, announces-same, told-spends, over-tells, over-thorough, at-stage, again-told, again, led, placed}
+use Rattle.p8_cog.specs.Keeping.{stops-tells, stops-thorough, stops-quiet, stops-far, over-ended, stops-announces, announces-same, told-spends, over-tells, over-thorough, at-stage, again-told, again, led, placed}
 use Rattle.p8_cog.proofs.pasm.CogLife.run_to_access.Goals as goal
 
 -- what a load tells stands where it is
@@ -70,3 +70,16 @@ returns-in-Running-clause-placed c = λ b ts stands live.
 
 pub returns-in-Over-clause-placed : goal.returns-in-Over-clause-placed
 returns-in-Over-clause-placed c = placed c.args.self.now.done c.args.self.now.cog c.args.self.now.code c.args.self.now.stage c.args.self.now.state
+
+pub returns-in-Loading-clause-far : goal.returns-in-Loading-clause-far
+returns-in-Loading-clause-far c = λ b ts stands live.
+    stops-far c.args.self.now.cog (clock_of c.args.self.now.state) (clock_of c.args.self.now.state) 0 c.args.budget c.args.until (standing_at c.args.self.now.stage c.args.self.now.code c.args.self.now.state) c.next_read-next.result (omega arith) (omega arith) (reads c)
+
+pub returns-in-Running-clause-far : goal.returns-in-Running-clause-far
+returns-in-Running-clause-far c = λ b ts stands live.
+    stops-far c.args.self.now.cog (clock_of c.args.self.now.state) (clock_of c.next_below-ran.new.self) c.next_below-ran.result.done c.args.budget c.args.until (standing_at c.args.self.now.stage c.args.self.now.code c.next_below-ran.new.self) c.next_below-ran.result.next c.next_below-ran.ensures.budget c.next_below-ran.ensures.stride (ran c)
+
+pub returns-in-Over-clause-far : goal.returns-in-Over-clause-far
+returns-in-Over-clause-far c = λ b ts stands live.
+    let e : false ≡ true = sym live ∙ over-ended c.args.self.now.done c.args.self.now.cog c.args.self.now.code c.args.self.now.stage c.args.self.now.state c.in-Over.is b ts stands in
+    absurd cc
