@@ -23,5 +23,6 @@ pub use due::{first_access, start_clock};
 pub use fronts::{NEVER, first_front};
 pub use laws::{turn_beside, turn_of_a_start, turn_of_its_own};
 pub use outcome::{Ended, History, Limits};
+pub use room::{Room, stack_in};
 pub use run::{Machine, run_alone};
 pub use waits::wake_clock;
