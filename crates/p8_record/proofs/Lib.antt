@@ -1,0 +1,4 @@
+pub mod Announcing
+pub mod Telling
+pub mod Searching
+pub mod Granting
