@@ -1,0 +1,10 @@
+pub mod Lookups
+pub mod Keeping
+pub mod Sharing
+pub mod Riding
+pub mod Running
+pub mod Working
+pub mod Trying
+pub mod Settling
+pub mod Gathering
+pub mod Placing

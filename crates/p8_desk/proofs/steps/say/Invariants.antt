@@ -1,0 +1,5 @@
+use Rattle.p8_record.specs.declared.steps.Step.TheVariants.{Said}
+use Rattle.p8_desk.proofs.steps.say.Given as goal
+
+abbrev pub ghosts-note_saying : goal.ghosts-note_saying
+ghosts-note_saying a = record { step = Said a.cog a.next }

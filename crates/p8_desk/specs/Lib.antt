@@ -1,0 +1,13 @@
+-- What public contracts cite.
+pub mod Passes
+pub mod PassSets
+pub mod Tries
+pub mod Opening
+pub mod Closing
+-- Machinery that only proofs need.
+pub mod Rules
+pub mod Runners
+pub mod Taking
+pub mod Work
+pub mod Seats
+pub mod Gathering

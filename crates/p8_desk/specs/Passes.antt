@@ -1,0 +1,30 @@
+-- Passes and desks, as their callers see them.
+use Rattle.std.specs.Prelude.{ℕ, ◌≡◌, Bool, List}
+use Rattle.atomic_table.specs.Seated.{TableId}
+use Rattle.p8_history.specs.Worlds.{World}
+use Rattle.p8_record.specs.Records.{Record}
+
+-- a desk is seen as its world, and as the table that it has
+pub record DeskValue : Type 0 where
+  pub world : World
+  pub table : TableId
+
+-- the steps of a pass: its own, the record that it has seen, and the cogs that its lost exchanges found, all with
+-- the newest first
+pub record PassSteps : Type 0 where
+  pub own : Record
+  pub seen : Record
+  pub found : List ℕ
+
+-- a pass is seen as its cog and its steps; `over` says that a try with it has answered Over
+pub record PassValue : Type 0 where
+  pub world : World
+  pub table : TableId
+  pub cog : ℕ
+  pub steps : PassSteps
+  pub over : Bool
+
+-- the desk owns a pass: its own opening made it
+pub record Owns (desk : DeskValue) (pass : PassValue) : Type 0 where
+  pub world : pass.world ≡ desk.world
+  pub table : pass.table ≡ desk.table

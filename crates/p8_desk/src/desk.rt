@@ -1,0 +1,101 @@
+// The desk.
+ghost use Rattle.std.specs.Prelude.{◌≡◌, ◌≤◌, ◌<◌, ◌^◌, ◌||◌, ℕ, true, IfSome, IfNone, length};
+ghost use Rattle.p8_record.specs.Records.{turns};
+ghost use Rattle.p8_desk.specs.declared.turned.Turned.TheVariants.{Done, Over};
+ghost use Rattle.p8_desk.specs.Passes.{Owns, PassSteps, PassValue};
+ghost use Rattle.p8_desk.specs.Seats.{is_over, made_by};
+ghost use Rattle.p8_desk.specs.Tries.{Tried};
+
+use crate::pass::CogPass;
+use crate::rule::Tabletop;
+use crate::tries::attempt;
+use crate::turned::Turned;
+use p8_access::Turn;
+use p8_record::Start;
+use std::marker::Model;
+use std::sync::Wait;
+
+/// A desk at which the passes of eight cogs make the turns of one history. They may be in as many threads.
+#[derive(Drop)]
+pub struct Desk {
+    pub(crate) table: Tabletop,
+    /// What the run begins from, which all seats at the table know.
+    pub(crate) start: Start,
+}
+
+impl Model for Desk {
+    ghost use Rattle.std.specs.Prelude.{◌≡◌, ◌≤◌};
+    ghost use Rattle.p8_desk.specs.Passes.{DeskValue};
+    ghost use Rattle.p8_desk.specs.Rules.{world_in};
+
+    ghost Value = { DeskValue };
+
+    ghost view = { λ d. record { world = world_in d.start; table = d.table.shared.table_id } };
+
+    ghost invariant = { λ d. (d.table.shared.key ≡ d.start) × (d.table.shared.table_id.words ≡ 2) × (d.table.shared.table_id.slots ≡ 1) × (d.start.limits.clocks ≤ 100000000) × (d.start.limits.turns ≤ 1000000) };
+}
+
+/// What an answer changes of a pass besides its seat and its life.
+fn note(made: &mut u64, over: &mut bool, answer: Turned)
+    requires { made.old < 2 ^ 63 }
+    ensures made { made.new ≡ made_by answer made.old }
+    ensures over { over.new ≡ (over.old || is_over answer) }
+{
+    match answer {
+        Turned::Done(_) => *made += 1,
+        Turned::Held { .. } => {}
+        Turned::After { .. } => {}
+        Turned::Ahead { .. } => {}
+        Turned::Over => *over = true,
+    }
+}
+
+impl Desk {
+    /// Tries once to make the next turn of a pass's cog. It waits for nobody and takes no memory.
+    ///
+    /// The cog's life is run first, by at most 1,024 instructions or bytecodes, unless there is something that it has
+    /// found and not said yet. Then the desk's lock word is tried once. Where it is free, the cog says what its life
+    /// has found, and the least front of all cogs decides what it gets.
+    pub fn try_turn(&self, pass: &mut CogPass) -> Turned
+        requires { Owns self.now pass.old }
+        ensures owns { Owns self.now pass.new }
+        ensures cog { pass.new.cog ≡ pass.old.cog }
+        ensures over { pass.new.over ≡ (pass.old.over || is_over result) }
+        ensures tried { Tried self.now.world pass.old.cog pass.old.steps pass.new.steps result }
+    {
+        pass.runner.find(self.start.limits.clocks);
+        let answer = attempt(
+            &self.table.shared,
+            &self.start.script,
+            &mut pass.seat,
+            &mut pass.runner,
+            &mut pass.known,
+            pass.cog,
+        );
+        note(&mut pass.made, &mut pass.over, answer);
+        answer
+    }
+}
+
+impl Desk {
+    /// Tries until the cog has made a turn, or until no turn comes any more. It may wait for other passes.
+    pub fn turn<R: Wait>(&self, rt: &R, pass: &mut CogPass) -> Option<Turn>
+        requires { Owns self.now pass.old }
+        ensures owns { Owns self.now pass.new }
+        ensures cog { pass.new.cog ≡ pass.old.cog }
+        ensures done { IfSome result (λ turn. (before : PassSteps) × Tried self.now.world pass.old.cog before pass.new.steps (Done turn)) }
+        ensures none { IfNone result ((before : PassSteps) × Tried self.now.world pass.old.cog before pass.new.steps Over) }
+        ensures over { IfNone result (pass.new.over ≡ true) }
+    {
+        for _ in rt.forever() {
+            match self.try_turn(pass) {
+                Turned::Done(turn) => return Some(turn),
+                Turned::Over => return None,
+                Turned::Held { .. } => {}
+                Turned::After { .. } => {}
+                Turned::Ahead { .. } => {}
+            }
+        }
+        unreachable!()
+    }
+}

@@ -1,0 +1,61 @@
+// The pass of one cog.
+ghost use Rattle.std.specs.Prelude.{◌≡◌, length};
+ghost use Rattle.p8_record.specs.Records.{turns};
+
+use crate::rule::Place;
+use crate::runner::Runner;
+use std::marker::Model;
+
+/// The right of one cog to make its turns at the desk that made the pass. It holds the cog's life.
+#[derive(Drop)]
+pub struct CogPass {
+    pub(crate) seat: Place,
+    pub(crate) cog: u8,
+    pub(crate) runner: Runner,
+    /// How many turns the cog has made.
+    pub(crate) made: u64,
+    /// How many turns the longest history has that was seen.
+    pub(crate) known: u64,
+    pub(crate) over: bool,
+}
+
+impl Model for CogPass {
+    ghost use Rattle.p8_desk.specs.Passes.{PassValue};
+    ghost use Rattle.p8_desk.specs.Seats.{passed, Seated};
+
+    ghost Value = { PassValue };
+
+    ghost view = { λ p. passed p.seat.table_id p.seat.me p.cog p.over };
+
+    ghost invariant = { λ p. Seated p.seat.me p.cog p.runner p.made p.known p.over };
+}
+
+impl CogPass {
+    /// Whose pass it is.
+    pub fn cog(&self) -> u8
+        ensures { result ≡ self.now.cog }
+    {
+        self.cog
+    }
+
+    /// How many turns the cog has made.
+    pub fn count(&self) -> u64
+        ensures { result ≡ length (turns self.now.steps.own) }
+    {
+        self.made
+    }
+
+    /// How many turns the longest history has that the pass has seen.
+    pub fn seen(&self) -> u64
+        ensures { result ≡ length (turns self.now.steps.seen) }
+    {
+        self.known
+    }
+
+    /// Whether a try with this pass has answered `Over`.
+    pub fn over(&self) -> bool
+        ensures { result ≡ self.now.over }
+    {
+        self.over
+    }
+}

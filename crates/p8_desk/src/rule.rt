@@ -1,0 +1,99 @@
+// What the seats at the table know, and the rule that every step keeps.
+use atomic_table::{Join, Play, Seat, Shared, Split, Table, TableRule};
+use p8_record::{Ledger, Start, Step};
+use std::alloc::Global;
+use std::collections::LinkedList;
+use std::marker::PhantomData;
+
+/// What is known of one cog's pass: its own steps, the record that it has seen, and the cogs whose passes
+/// its lost exchanges found. Lists have the newest first. No value of it is made.
+pub struct Known {
+    pub cog: u8,
+    pub own: LinkedList<Step>,
+    pub seen: LinkedList<Step>,
+    pub found: LinkedList<u8>,
+}
+
+/// What a seat knows: where the run begins, its passes, and for which cog it holds the lock word. A seat that
+/// was joined to another isn't live any more. No value of it is made.
+pub struct View {
+    pub live: bool,
+    pub start: Start,
+    pub passes: LinkedList<Known>,
+    pub holds: Option<u8>,
+}
+
+/// The rule over the lock word, the count of turns, the slot and all views.
+pub struct DeskRule;
+
+impl TableRule<Option<Ledger>, View, Start> for DeskRule {
+    ghost use Rattle.p8_desk.specs.Rules.{Kept, first_view};
+
+    ghost holds = { Kept };
+
+    ghost first = { first_view };
+}
+
+/// The table as its seats share it.
+pub type Board = Shared<Option<Ledger>, View, Start, DeskRule>;
+
+/// A seat at the table.
+pub type Place = Seat<Option<Ledger>, View>;
+
+/// The table with its memory.
+pub type Tabletop = Table<Option<Ledger>, View, Start, DeskRule, Global>;
+
+/// The step of a record that a proof speaks of.
+pub trait Told {
+    ghost use Rattle.p8_record.specs.declared.steps.Step.{Step};
+
+    ghost step: { Step };
+}
+
+/// An exchange on the lock word.
+pub struct Seizes;
+
+impl Play<Option<Ledger>, View> for Seizes {
+    ghost use Rattle.p8_desk.specs.Rules.{Seized};
+
+    ghost then = { Seized };
+}
+
+/// The lock word is freed.
+pub struct Releases;
+
+impl Play<Option<Ledger>, View> for Releases {
+    ghost use Rattle.p8_desk.specs.Rules.{Released};
+
+    ghost then = { Released };
+}
+
+/// The holder adds a step to the record.
+pub struct Notes<B> {
+    told: PhantomData<B>,
+}
+
+impl<B: Told> Play<Option<Ledger>, View> for Notes<B> {
+    ghost use Rattle.p8_desk.specs.Rules.{Noted};
+
+    ghost then = { Noted B.step };
+}
+
+/// The first pass of a seat goes to a seat of its own, and back.
+pub struct Parts;
+
+impl Split<View> for Parts {
+    ghost use Rattle.p8_desk.specs.Rules.{without_first, first_alone};
+
+    ghost left = { without_first };
+
+    ghost right = { first_alone };
+}
+
+impl Join<View> for Parts {
+    ghost use Rattle.p8_desk.specs.Rules.{joined, spent_view};
+
+    ghost both = { joined };
+
+    ghost spent = { spent_view };
+}
