@@ -1,0 +1,7 @@
+mod Examples
+mod Keeping
+mod Words
+mod Depths
+mod Imaging
+mod Placing
+mod Standing
