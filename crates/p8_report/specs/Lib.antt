@@ -1,5 +1,6 @@
 -- What public contracts cite.
 pub mod Numerals
 pub mod Text
+pub mod Instructions
 -- Internal.
 pub mod Origins

@@ -1,9 +1,10 @@
-//! The printed text of a history: a line for each turn, then what the hub is in the end.
+//! Printed texts: of a history, with a line for each turn and then what the hub is in the end, and of an instruction.
 #![tactic(auto)]
 
 mod accesses;
 mod dump;
 mod history_text;
+mod instructions;
 mod line;
 mod lines;
 mod numerals;
@@ -13,3 +14,4 @@ mod tail;
 mod words;
 
 pub use history_text::trace;
+pub use instructions::instr_text;
