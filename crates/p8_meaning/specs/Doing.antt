@@ -1,0 +1,100 @@
+-- How it is said what a method does: by what is still to be done. A method reads and writes hub memory, and asks of the machine whatever
+-- else passes between a cog and the rest; each of these is an access with its answer.
+use Rattle.std.specs.Prelude.{ℕ, zero, suc, ◌+◌, ◌-◌, ◌*◌, ◌/◌, ◌%◌, ◌^◌, nat_lt, Bool, true, false, List, [], ◌∷◌, Option, Some, None, if◌then◌else◌}
+use Rattle.p8_access.specs.declared.kinds.Width.{Width}
+use Rattle.p8_access.specs.declared.kinds.Width.TheVariants.{Long}
+use Rattle.p8_access.specs.declared.kinds.Reason.{Reason}
+use Rattle.p8_access.specs.declared.kinds.Reason.TheVariants as Why
+use Rattle.p8_access.specs.declared.kinds.Access.{Access}
+use Rattle.p8_access.specs.declared.kinds.Access.TheVariants.{Read, Write}
+use Rattle.p8_access.specs.declared.kinds.Answer.{Answer}
+use Rattle.p8_access.specs.declared.kinds.Answer.TheVariants.{Done, Value, Number, Was}
+use Rattle.p8_access.specs.Proper.{bytes_in}
+use Rattle.p8_courses.specs.Courses.{Course, Finish, Stop, Ask}
+
+-- the cog's own registers, which it reads by itself
+pub record Registers : Type 0 where
+  pub outa : ℕ
+  pub dira : ℕ
+
+-- What is still to be done, by the cog's registers and by a bound. Each pass of a loop behind its first, and each call, takes one of the
+-- bound. Where nothing of it is left what follows isn't told, and that is the one way in which a course here finishes.
+abbrev pub Rest : Type 0
+Rest = (bound : ℕ) → Registers → Course (Unit {0})
+
+-- what is done up to a value, by what follows with that value
+abbrev pub Gives : Type 0 → Type 0
+Gives A = (A → Rest) → Rest
+
+-- what isn't told: all that is behind the bound, and what no accepted source asks for
+abbrev pub untold : Rest
+untold bound own = Finish tt
+
+-- one of the bound is taken
+abbrev pub costs : Rest → Rest
+costs go zero own = Finish tt
+costs go (suc bound) own = go bound own
+
+-- a value of the cog's own registers
+abbrev pub owns : (Registers → ℕ) → Gives ℕ
+owns value go bound own = go (value own) bound own
+
+abbrev pub halts : Reason → Rest
+halts reason bound own = Stop reason
+
+-- ---- accesses
+
+-- the word of an answer: -1 where no cog or lock was free, and for a lock that was set
+abbrev pub word_in : Answer → ℕ
+word_in (Value value) = value
+word_in (Number (Some n)) = n
+word_in (Number None) = 2 ^ 32 - 1
+word_in (Was true) = 2 ^ 32 - 1
+word_in (Was false) = 0
+word_in Done = 0
+
+abbrev pub asks : Access → Gives ℕ
+asks access go bound own = Ask access (λ answer. go (word_in answer) bound own)
+
+-- an access whose answer tells nothing
+abbrev pub tells : Access → Rest → Rest
+tells access go = asks access (λ word. go)
+
+-- ---- hub memory
+
+-- an address is taken mod 65,536 and rounded down to a multiple of the width
+abbrev pub aligned : Width → (address : ℕ) → ℕ
+aligned width address = address % 2 ^ 16 / bytes_in width * bytes_in width
+
+-- ROM, from $8000 on, can't be read
+abbrev pub is_readable : Width → (address : ℕ) → Bool
+is_readable width address = nat_lt (aligned width address) 32768
+
+abbrev pub halts_at_rom : Width → (address : ℕ) → Rest
+halts_at_rom width address = halts (Why.Rom (aligned width address))
+
+abbrev pub asks_for : Width → (address : ℕ) → Gives ℕ
+asks_for width address go = asks (Read width (aligned width address)) go
+
+abbrev pub reads : Width → (address : ℕ) → Gives ℕ
+reads width address go = if is_readable width address then asks_for width address go else halts_at_rom width address
+
+-- a value is reduced to the width
+abbrev pub writes : Width → (address value : ℕ) → Rest → Rest
+writes width address value go = tells (Write width (aligned width address) (value % 256 ^ bytes_in width)) go
+
+-- the next element of a row
+abbrev pub next_address : Width → (address : ℕ) → ℕ
+next_address width address = (address + bytes_in width) % 2 ^ 16
+
+-- longs, one after the other
+abbrev pub writes_longs : (address : ℕ) → List ℕ → Rest → Rest
+writes_longs address [] go = go
+writes_longs address (value ∷ values) go = writes Long address value (writes_longs (next_address Long address) values go)
+
+-- ---- what may be missing
+
+-- what accepted sources always have
+abbrev pub given : {A : Type 0} → Option A → Gives A
+given None go = untold
+given (Some x) go = go x

@@ -1,0 +1,13 @@
+-- What the source of a project means: what each of its methods does, as accesses and their answers. Each file is a chapter.
+pub mod Values
+pub mod Programs
+pub mod Doing
+pub mod Variables
+pub mod Builtins
+pub mod Calls
+pub mod Expressions
+pub mod Loops
+pub mod Statements
+pub mod Lives
+pub mod Bounds
+pub mod Halts
