@@ -1,0 +1,3 @@
+mod Rows
+mod Widths
+mod Examples

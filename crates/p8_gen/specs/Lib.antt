@@ -1,0 +1,12 @@
+-- The code of a method, a clause a form.
+pub mod Names
+pub mod Pieces
+pub mod Variables
+pub mod Expressions
+pub mod Statements
+pub mod Depths
+-- How the code stands for pieces: internal.
+pub mod Writing
+pub mod Labels
+pub mod Scopes
+pub mod Views

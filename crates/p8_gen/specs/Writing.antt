@@ -1,0 +1,17 @@
+-- How a writer of code stands for the code so far: internal.
+use Rattle.std.specs.Prelude.{◌≡◌, ℕ, map, IfSome}
+use Rattle.p8_tree.specs.declared.places.Place.{Place}
+use Rattle.p8_gen.specs.Pieces.{Written}
+use Rattle.p8_gen.specs.declared.code.StringUse.{StringUse}
+use Rattle.p8_gen.specs.declared.writer.Writer.{Writer}
+
+-- a use of a text, as a number and a place
+abbrev pub use_of : StringUse → ℕ × Place
+use_of u = (u.at, u.place)
+
+-- it ends where the code ends; and where it keeps what is written, it has it all
+pub record Stands (out : Writer) (w : Written) : Type 0 where
+  pub ends : out.end ≡ w.end
+  pub ops : IfSome out.kept (λ k. k.ops.items ≡ w.ops)
+  pub texts : IfSome out.kept (λ k. map use_of k.strings.items ≡ w.texts)
+  pub too_far : IfSome out.kept (λ k. k.too_far.items ≡ w.too_far)

@@ -1,0 +1,255 @@
+// The bytecodes of calls and of starts, behind their arguments.
+ghost use Rattle.std.specs.Prelude.{◌≡◌, OnOk};
+ghost use Rattle.p8_tree.specs.Views.{tree_of};
+ghost use Rattle.p8_tree.specs.Bridges.{boxed_index};
+ghost use Rattle.p8_gen.specs.Pieces.{Written};
+ghost use Rattle.p8_gen.specs.Expressions.{mark, own_method, method_number, method_in, callee, built_value, built_without, built_alone, built, dropped, is_method, calls_own, call_in, starts_method, start_of_method, starts, started, pasm, counts_from};
+ghost use Rattle.p8_gen.specs.Scopes.{names_of};
+ghost use Rattle.p8_gen.specs.Writing.{Stands};
+
+use crate::coder::Coder;
+use crate::writer::{Writer, bare};
+use p8_bytecode::Op;
+use p8_kinds::NameKind;
+use p8_tree::{Expr, ExprKind, Target, Text};
+use std::alloc::AllocError;
+
+// The number of a method.
+fn method_number(kind: Option<NameKind>) -> u8
+    ensures { result ≡ method_number kind }
+{
+    match kind {
+        Some(NameKind::Method { number, .. }) => number,
+        _ => 0,
+    }
+}
+
+fn is_method(kind: Option<NameKind>) -> bool
+    ensures { result ≡ is_method kind }
+{
+    matches!(kind, Some(NameKind::Method { .. }))
+}
+
+// Whether it is a call of a method of the same object that stops no abort.
+fn calls_own(trap: bool, object: &Option<Text>) -> bool
+    ensures { result ≡ calls_own trap object.now }
+{
+    match object {
+        None => !trap,
+        Some(_) => false,
+    }
+}
+
+impl Writer {
+    /// Appends the mark of a call.
+    pub fn mark(&mut self, used: bool, trap: bool) -> Result<(), AllocError>
+        ensures { (w : Written) → Stands self.old w → OnOk result (Stands self.new (mark used trap w)) }
+    {
+        let unused = if used { 0 } else { 1 };
+        self.byte(unused + if trap { 2 } else { 0 })
+    }
+
+    /// Appends the call of a method of the same object.
+    pub fn own_method(&mut self, kind: Option<NameKind>) -> Result<(), AllocError>
+        ensures { (w : Written) → Stands self.old w → OnOk result (Stands self.new (own_method kind w)) }
+    {
+        match kind {
+            Some(NameKind::Method { number, .. }) => self.with_number(0x05, u32::from(number)),
+            _ => Ok(()),
+        }
+    }
+
+    /// Appends what drops a value that isn't used.
+    pub fn dropped(&mut self, used: bool) -> Result<(), AllocError>
+        ensures { (w : Written) → Stands self.old w → OnOk result (Stands self.new (dropped used w)) }
+    {
+        if used { Ok(()) } else { self.byte(0x14) }
+    }
+
+    /// Appends a word that gives a value without arguments.
+    pub fn built_value(&mut self, code: u8) -> Result<(), AllocError>
+        ensures { (w : Written) → Stands self.old w → OnOk result (Stands self.new (built_value code w)) }
+    {
+        match code {
+            0x3F => self.with_number(0x3F, 0x89),
+            0xC0 => {
+                self.byte(0x35)?;
+                self.byte(0xC0)
+            }
+            _ => {
+                self.with_number(0x38, 4)?;
+                self.byte(0x80)
+            }
+        }
+    }
+
+    // Appends a built-in that stands alone.
+    fn built_alone(&mut self, code: u8) -> Result<(), AllocError>
+        ensures { (w : Written) → Stands self.old w → OnOk result (Stands self.new (built_alone code w)) }
+    {
+        match code {
+            0x29..=0x2B => self.byte(code + 4),
+            0x16 | 0x17 => {
+                self.byte(code)?;
+                self.byte(0x14)
+            }
+            _ => self.byte(code),
+        }
+    }
+
+    /// Appends a built-in, behind its arguments.
+    pub fn built(&mut self, used: bool, code: u8) -> Result<(), AllocError>
+        ensures { (w : Written) → Stands self.old w → OnOk result (Stands self.new (built used code w)) }
+    {
+        if used {
+            self.byte(code)
+        } else {
+            self.built_alone(code)
+        }
+    }
+
+    /// Appends a word without arguments.
+    pub fn built_without(&mut self, used: bool, code: u8) -> Result<(), AllocError>
+        ensures { (w : Written) → Stands self.old w → OnOk result (Stands self.new (built_without used code w)) }
+    {
+        if code == 0x29 {
+            self.built(used, code)
+        } else {
+            self.built_value(code)?;
+            self.dropped(used)
+        }
+    }
+
+    /// Appends the start of PASM, behind its address and PAR.
+    pub fn pasm(&mut self, used: bool) -> Result<(), AllocError>
+        ensures { (w : Written) → Stands self.old w → OnOk result (Stands self.new (pasm used w)) }
+    {
+        self.byte(if used { 0x28 } else { 0x2C })
+    }
+
+    /// Appends the number from which a LOOK function counts.
+    pub fn counts_from(&mut self, code: u8) -> Result<(), AllocError>
+        ensures { (w : Written) → Stands self.old w → OnOk result (Stands self.new (counts_from code w)) }
+    {
+        self.byte(if code >= 0x12 { 0x35 } else { 0x36 })
+    }
+
+    // Appends the call of a method of an object, which is alone or is told by an index.
+    fn call_in(
+        &mut self,
+        position: u8,
+        count: u8,
+        index: &Option<Box<Expr>>,
+        number: u8,
+    ) -> Result<(), AllocError>
+        ensures { (w : Written) → Stands self.old w → OnOk result (Stands self.new (call_in position count (boxed_index index.now) number w)) }
+    {
+        match index {
+            None => self.one(Op {
+                first: u32::from(position),
+                second: u32::from(number),
+                ..bare(0x06)
+            }),
+            Some(_) => self.one(Op {
+                first: u32::from(position),
+                second: u32::from(count),
+                third: u32::from(number),
+                ..bare(0x07)
+            }),
+        }
+    }
+
+    // Appends the start of a method.
+    fn start_of_method(&mut self, number: u8, count: usize) -> Result<(), AllocError>
+        ensures { (w : Written) → Stands self.old w → OnOk result (Stands self.new (start_of_method number count w)) }
+    {
+        let count = u32::try_from(count).map_err(|_| AllocError)?;
+        self.one(Op {
+            first: u32::from(number),
+            second: count,
+            ..bare(0x15)
+        })
+    }
+}
+
+impl Coder<'_> {
+    /// Appends the bytecode of a call, behind its arguments and the index of its object.
+    pub fn callee(
+        &self,
+        object: &Option<Text>,
+        index: &Option<Box<Expr>>,
+        method: &Text,
+        out: &mut Writer,
+    ) -> Result<(), AllocError>
+        ensures { (w : Written) → Stands out.old w → OnOk result (Stands out.new (callee (names_of self.now) object.now (boxed_index index.now) method.now w)) }
+    {
+        match object {
+            None => out.own_method(self.scope.kind(method)),
+            Some(object) => self.method_in(self.scope.kind(object), index, method, out),
+        }
+    }
+
+    // Appends the call of a method of an object.
+    fn method_in(
+        &self,
+        kind: Option<NameKind>,
+        index: &Option<Box<Expr>>,
+        method: &Text,
+        out: &mut Writer,
+    ) -> Result<(), AllocError>
+        ensures { (w : Written) → Stands out.old w → OnOk result (Stands out.new (method_in (names_of self.now) kind (boxed_index index.now) method.now w)) }
+    {
+        match kind {
+            Some(
+                NameKind::Object {
+                    item,
+                    position,
+                    count,
+                },
+            ) => {
+                let number = method_number(self.scope.publics.own(item, method));
+                out.call_in(position, count, index, number)
+            }
+            _ => Ok(()),
+        }
+    }
+
+    /// Whether COGNEW or COGINIT of this starts a method.
+    pub fn starts_method(&self, started: &Expr) -> bool
+        ensures { result ≡ starts_method (names_of self.now) (tree_of started.now) }
+    {
+        match &started.kind {
+            ExprKind::Call(call) => calls_own(call.trap, &call.object),
+            ExprKind::Var(Target::Named(name, None, _)) => is_method(self.scope.kind(name)),
+            _ => false,
+        }
+    }
+
+    /// Appends the start of a method or of PASM, behind what it is given.
+    pub fn started(&self, used: bool, begun: &Expr, out: &mut Writer) -> Result<(), AllocError>
+        ensures { (w : Written) → Stands out.old w → OnOk result (Stands out.new (started (names_of self.now) used (tree_of begun.now) w)) }
+    {
+        if self.starts_method(begun) {
+            self.starts(begun, out)?;
+            out.dropped(used)
+        } else {
+            out.pasm(used)
+        }
+    }
+
+    // Appends the start of a method.
+    fn starts(&self, begun: &Expr, out: &mut Writer) -> Result<(), AllocError>
+        ensures { (w : Written) → Stands out.old w → OnOk result (Stands out.new (starts (names_of self.now) (tree_of begun.now) w)) }
+    {
+        match &begun.kind {
+            ExprKind::Call(call) => {
+                let number = method_number(self.scope.kind(&call.method));
+                out.start_of_method(number, call.args.len())
+            }
+            ExprKind::Var(Target::Named(name, _, _)) => {
+                out.start_of_method(method_number(self.scope.kind(name)), 0)
+            }
+            _ => Ok(()),
+        }
+    }
+}
