@@ -14,6 +14,3 @@ mod values;
 
 pub use assembling::{Dat, DatFault, assemble};
 pub use spots::Spot;
-
-#[cfg(test)]
-mod tests;
