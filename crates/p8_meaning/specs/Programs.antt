@@ -8,7 +8,7 @@ use Rattle.p8_tree.specs.Sources.{Source, BlockTree, Method, MethodTree, Declare
 use Rattle.p8_operators.specs.Operators.{or_zero}
 use Rattle.p8_fold.specs.declared.meanings.Meaning.{Meaning}
 use Rattle.p8_fold.specs.declared.meanings.Meaning.TheVariants as meaning_case
-use Rattle.p8_fold.specs.Meanings.{Setting}
+use Rattle.p8_fold.specs.Meanings.{Setting, outside_operands}
 use Rattle.p8_fold.specs.Values.{value}
 use Rattle.p8_kinds.specs.declared.name_kinds.NameKind.{NameKind}
 use Rattle.p8_kinds.specs.declared.name_kinds.NameKind.TheVariants as kind_case
@@ -77,7 +77,7 @@ abbrev pub setting_of : File → (method : ℕ) → Setting
 setting_of file method = record {
   name = λ name. option_map meaning_of_kind (file.kind method name);
   constant = λ object name. option_map meaning_case.Value (object_constant file (file.kind method object) name);
-  here = None;
+  here = outside_operands None;
 }
 
 -- ---- frames: a method's result, its parameters and its locals, each a long
