@@ -1,0 +1,71 @@
+// Assembled sources: the bytes and the labels of their DAT, or a refusal and its place.
+use p8_blocks::parse;
+use p8_dat::{Dat, DatFault, assemble};
+use p8_kinds::{Children, Kinds, Named};
+use p8_lexer::lex;
+use p8_tree::{List, SourceFile};
+use p8_words::Fail;
+use std::alloc::{AllocError, Global};
+
+// The DAT of a file at the offset 8 of its object, where its names are labels alone.
+fn assembled(alloc: Global, file: &SourceFile, children: &Children) -> Result<Dat, Fail<DatFault>> {
+    let named = Named {
+        file,
+        children,
+        kinds: Kinds::new(alloc),
+    };
+    let result = assemble(alloc, &named, 8);
+    drop(named);
+    result
+}
+
+// Each byte, and then how many labels there are.
+fn write_dat(out: &mut String, dat: &Dat) -> Result<(), AllocError> {
+    for byte in dat.bytes.as_slice() {
+        write!(out, "{byte} ")?;
+    }
+    write!(out, "{} labels", dat.labels.len())
+}
+
+fn write_answer(out: &mut String, answer: Result<Dat, Fail<DatFault>>) -> Result<(), AllocError> {
+    match answer {
+        Ok(dat) => write_dat(out, &dat),
+        Err(Fail::Refused(fault)) => write!(
+            out,
+            "{}:{}: {}",
+            fault.place.line, fault.place.column, fault.number
+        ),
+        Err(Fail::NoMemory) => out.push_str("out of memory"),
+    }
+}
+
+// What assembling a text answers.
+fn answer(rt: &HostRuntime, text: &str) -> Result<String, AllocError> {
+    let bytes = text.as_bytes();
+    let mut out = String::new(rt.alloc());
+    let children = Children {
+        items: List::new(rt.alloc()),
+    };
+    let Ok(tokens) = lex(rt.alloc(), bytes) else {
+        return Ok(out);
+    };
+    match parse(rt.alloc(), bytes, &tokens) {
+        Ok(file) => write_answer(&mut out, assembled(rt.alloc(), &file, &children))?,
+        Err(_) => out.push_str("no file")?,
+    }
+    Ok(out)
+}
+
+#[test]
+fn assembles_sources(rt: HostRuntime) -> Result<(), AllocError> {
+    let table = [
+        ("DAT\n  org 0\nx mov x,#4\n", "4 0 252 160 1 labels"),
+        ("DAT\n  long 1, 2\n  fit 1\n", "3:3: 22"),
+        ("DAT\n  org 0\n  mov 600, #4\n", "3:7: 21"),
+    ];
+    for (text, wanted) in table {
+        let found = answer(&rt, text)?;
+        assert_eq!(&rt; found.as_str(), wanted, "{text}");
+    }
+    Ok(())
+}
