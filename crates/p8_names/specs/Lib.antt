@@ -7,3 +7,4 @@ pub mod Resolution
 pub mod Changes
 pub mod Counting
 pub mod Looking
+pub mod Regions

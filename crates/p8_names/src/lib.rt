@@ -1,6 +1,7 @@
 //! The names of a file: each with its kind, or the first of what is wrong with them.
 #![tactic(auto)]
 
+mod data_names;
 mod file_kinds;
 mod hiding;
 mod labels;

@@ -154,7 +154,7 @@ fn behind_instances(position: u8, count: u32) -> u8
 }
 
 // The number of the item behind: there is no memory for more than a number tells.
-fn one_more(item: u32) -> Result<u32, NoMemory>
+pub(crate) fn one_more(item: u32) -> Result<u32, NoMemory>
     ensures { IfOk result (λ n. n ≡ item + 1) }
 {
     item.checked_add(1).ok_or(NoMemory)

@@ -81,7 +81,12 @@ fn put_where<'a>(
 }
 
 // Enters the kind of a method's own name, unless it has one.
-fn enter(kinds: &mut Kinds, number: u32, name: &Text, kind: NameKind) -> Result<(), NoMemory>
+pub(crate) fn enter(
+    kinds: &mut Kinds,
+    number: u32,
+    name: &Text,
+    kind: NameKind,
+) -> Result<(), NoMemory>
     ensures { OnOk result (IsEnteredAt kinds.old kinds.new number name.now kind) }
 {
     match kinds.own(number, name) {

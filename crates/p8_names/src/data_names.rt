@@ -1,0 +1,173 @@
+// The names in the lines of `DAT`, each looked up among the local labels that its line sees and the names of the file.
+ghost use Rattle.std.specs.Prelude.{◌≡◌, ◌<◌, ◌≤◌, ℕ, List, Some, None, IfOk, OnOk, map, option_map};
+ghost use Rattle.p8_tree.specs.Views.{tree_of, datum_of, instruction_of, contents_of};
+ghost use Rattle.p8_tree.specs.Sources.{Instr};
+ghost use Rattle.p8_fold.specs.Entries.{setting_of};
+ghost use Rattle.p8_definitions.specs.Standing.{item_of, items_of, IsFirstOf};
+ghost use Rattle.p8_kinds.specs.declared.children.Children.{Children};
+ghost use Rattle.p8_kinds.specs.declared.scope.Scope.{Scope as declared_scope};
+ghost use Rattle.p8_kinds.specs.Environments.{environment_of};
+ghost use Rattle.p8_kinds.specs.Kinds.{own};
+ghost use Rattle.p8_kinds.specs.Publics.{public_of};
+ghost use Rattle.p8_names.specs.Kinds.{file_kind};
+ghost use Rattle.p8_names.specs.Faults.{labels_ahead, labels_at, in_data, UnknownInOption, UnknownInData, UnknownInContents, HasUnknown, UnknownInLines};
+ghost use Rattle.p8_names.specs.Regions.{UnknownInDatum, is_end, IsLabelEntered, HasLabels, IsInRegion};
+
+use crate::next_kinds::one_more;
+use crate::own_kinds::enter;
+use p8_definitions::{Item, first_of_two, is_local};
+use p8_faults::Fault;
+use p8_kinds::{Kinds, NameKind, Scope, first_unknown};
+use p8_tree::{DatBody, DatItem, Expr, InstrLine, Text};
+use p8_words::NoMemory;
+
+/// The size that a local label has.
+const LONG: u8 = 4;
+
+// The first fault of the names of an expression, where there is one.
+fn unknown_in_option(scope: &Scope, expr: &Option<Expr>) -> Option<Fault>
+    ensures { IsFirstOf result (UnknownInOption (environment_of scope.now) (option_map tree_of expr.now)) }
+{
+    match expr {
+        None => None,
+        Some(expr) => first_unknown(scope, expr),
+    }
+}
+
+// The first fault of the names of a datum.
+fn unknown_in_datum(scope: &Scope, item: &DatItem) -> Option<Fault>
+    ensures { IsFirstOf result (UnknownInDatum (environment_of scope.now) (datum_of item.now)) }
+{
+    let value = first_unknown(scope, &item.value);
+    first_of_two(value, unknown_in_option(scope, &item.count))
+}
+
+// The first fault of the names of a line's data.
+fn unknown_in_data(scope: &Scope, items: &[DatItem]) -> Option<Fault>
+    ensures { IsFirstOf result (UnknownInData (environment_of scope.now) (map datum_of items.now)) }
+{
+    let mut first = None;
+    for item in items {
+        first = first_of_two(first, unknown_in_datum(scope, item));
+    }
+    first
+}
+
+// The first fault of the names of an instruction's operands.
+fn unknown_in_operands(scope: &Scope, line: &InstrLine) -> Option<Fault>
+    ensures { IsFirstOf result (UnknownInContents (environment_of scope.now) (Instr (instruction_of line.now))) }
+{
+    let dest = unknown_in_option(scope, &line.dest);
+    first_of_two(dest, unknown_in_option(scope, &line.source))
+}
+
+// The first fault of the names of what a line has after its label.
+fn unknown_in_contents(scope: &Scope, body: &DatBody) -> Option<Fault>
+    ensures { IsFirstOf result (UnknownInContents (environment_of scope.now) (contents_of body.now)) }
+{
+    match body {
+        DatBody::Nothing => None,
+        DatBody::Data(_, items) => unknown_in_data(scope, items.as_slice()),
+        DatBody::Org(expr) => unknown_in_option(scope, expr),
+        DatBody::Res(expr) => unknown_in_option(scope, expr),
+        DatBody::Fit(expr) => unknown_in_option(scope, expr),
+        DatBody::Instr(line) => unknown_in_operands(scope, line),
+    }
+}
+
+// The first fault of the names of an item, if it is a line of `DAT`.
+fn unknown_in_item(scope: &Scope, item: Item<'_>) -> Option<Fault>
+    ensures { IsFirstOf result (HasUnknown (environment_of scope.now) (item_of item.entry)) }
+{
+    match item {
+        Item::Line(line) => unknown_in_contents(scope, &line.body),
+        _ => None,
+    }
+}
+
+// Whether a label ends what local labels before it belong to.
+fn is_end(label: Option<&Text>) -> bool
+    ensures { result ≡ is_end (option_map (λ n. n.now) label.entry) }
+{
+    match label {
+        None => false,
+        Some(label) => !is_local(label),
+    }
+}
+
+// Enters a label, unless it is there.
+fn enter_label(kinds: &mut Kinds, number: u32, label: Option<&Text>) -> Result<(), NoMemory>
+    ensures { OnOk result (IsLabelEntered kinds.old kinds.new number (option_map (λ n. n.now) label.entry)) }
+{
+    match label {
+        None => Ok(()),
+        Some(label) => enter(kinds, number, label, NameKind::Label { size: LONG }),
+    }
+}
+
+// Enters the local labels of items, up to the next other label.
+fn enter_labels(kinds: &mut Kinds, number: u32, items: &[Item<'_>]) -> Result<(), NoMemory>
+    requires { (n : List ℕ) → own kinds.old number n ≡ None }
+    ensures { OnOk result (HasLabels kinds.old kinds.new number (labels_ahead (items_of items.now))) }
+{
+    for item in items {
+        if is_end(item.label()) {
+            return Ok(());
+        }
+        enter_label(kinds, number, item.label())?;
+    }
+    Ok(())
+}
+
+// Enters the local labels of what stands behind a label at the next number.
+fn begin_region(scope: &mut Scope, behind: &[Item<'_>]) -> Result<(), NoMemory>
+    requires { (m : ℕ) (n : List ℕ) → scope.old.number < m → own scope.old.kinds m n ≡ None }
+    ensures { OnOk result ((initial : declared_scope) (first : ℕ) (region : List (List ℕ)) → IsInRegion initial scope.old first region → IsInRegion initial scope.new first (labels_ahead (items_of behind.now))) }
+{
+    let number = one_more(scope.number)?;
+    enter_labels(&mut scope.kinds, number, behind)?;
+    scope.number = number;
+    Ok(())
+}
+
+// Comes to a line: one with a label that isn't local sees the local labels behind it.
+fn come_to(scope: &mut Scope, label: Option<&Text>, behind: &[Item<'_>]) -> Result<(), NoMemory>
+    requires { (m : ℕ) (n : List ℕ) → scope.old.number < m → own scope.old.kinds m n ≡ None }
+    ensures { OnOk result ((initial : declared_scope) (first : ℕ) (region : List (List ℕ)) → IsInRegion initial scope.old first region → IsInRegion initial scope.new first (labels_at region (option_map (λ n. n.now) label.entry) (items_of behind.now))) }
+{
+    if is_end(label) {
+        begin_region(scope, behind)
+    } else {
+        Ok(())
+    }
+}
+
+/// The first fault of the names in the lines of `DAT`: one without a definition, 15, or before `#` one that is no object, 16.
+/// None exactly where there is none.
+///
+/// Local labels are entered at numbers from `number` on, a number for each label that isn't local; the kinds below `number`
+/// stay what they are.
+pub(crate) fn first_unknown_in_lines(
+    scope: &mut Scope,
+    number: u32,
+    items: &[Item<'_>],
+) -> Result<Option<Fault>, NoMemory>
+    requires own { 0 < number }
+    requires free { (m : ℕ) (n : List ℕ) → number ≤ m → own scope.old.kinds m n ≡ None }
+    requires file { (n : List ℕ) → own scope.old.kinds 0 n ≡ file_kind (setting_of scope.old.consts) (items_of items.now) n }
+    ensures fault { (children : Children) → ((item : ℕ) (n : List ℕ) → own scope.old.publics item n ≡ public_of children item n) → IfOk result (λ first. IsFirstOf first (UnknownInLines (in_data (setting_of scope.old.consts) (items_of items.now) children) (labels_ahead (items_of items.now)) (items_of items.now))) }
+    ensures kinds { IfOk result (λ _. (m : ℕ) (n : List ℕ) → m < number → own scope.new.kinds m n ≡ own scope.old.kinds m n) }
+    ensures consts { IfOk result (λ _. scope.new.consts ≡ scope.old.consts) }
+    ensures publics { IfOk result (λ _. scope.new.publics ≡ scope.old.publics) }
+{
+    enter_labels(&mut scope.kinds, number, items)?;
+    scope.number = number;
+    let mut first = None;
+    let mut left = items;
+    while let [item, behind @ ..] = left {
+        come_to(scope, item.label(), behind)?;
+        first = first_of_two(first, unknown_in_item(scope, *item));
+        left = behind;
+    }
+    Ok(first)
+}
