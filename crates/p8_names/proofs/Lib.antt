@@ -7,3 +7,4 @@ mod OwnNames
 mod TwoFaults
 mod Equal
 mod LookingAt
+mod LocalLabels

@@ -4,14 +4,11 @@ ghost use Rattle.p8_tree.specs.Views.{tree_of, datum_of, instruction_of, content
 ghost use Rattle.p8_tree.specs.Sources.{Instr};
 ghost use Rattle.p8_fold.specs.Entries.{setting_of};
 ghost use Rattle.p8_definitions.specs.Standing.{item_of, items_of, IsFirstOf};
-ghost use Rattle.p8_kinds.specs.declared.children.Children.{Children};
 ghost use Rattle.p8_kinds.specs.declared.scope.Scope.{Scope as declared_scope};
 ghost use Rattle.p8_kinds.specs.Environments.{environment_of};
 ghost use Rattle.p8_kinds.specs.Kinds.{own};
-ghost use Rattle.p8_kinds.specs.Publics.{public_of};
-ghost use Rattle.p8_names.specs.Kinds.{file_kind};
-ghost use Rattle.p8_names.specs.Faults.{labels_ahead, labels_at, in_data, UnknownInOption, UnknownInData, UnknownInContents, HasUnknown, UnknownInLines};
-ghost use Rattle.p8_names.specs.Regions.{UnknownInDatum, is_end, IsLabelEntered, HasLabels, IsInRegion};
+ghost use Rattle.p8_names.specs.Faults.{labels_ahead, labels_at, UnknownInOption, UnknownInData, UnknownInContents, HasUnknown, UnknownInLines};
+ghost use Rattle.p8_names.specs.Regions.{environment_at, UnknownInDatum, is_end, IsLabelEntered, HasLabels, IsInRegion};
 
 use crate::next_kinds::one_more;
 use crate::own_kinds::enter;
@@ -154,8 +151,7 @@ pub(crate) fn first_unknown_in_lines(
 ) -> Result<Option<Fault>, NoMemory>
     requires own { 0 < number }
     requires free { (m : ℕ) (n : List ℕ) → number ≤ m → own scope.old.kinds m n ≡ None }
-    requires file { (n : List ℕ) → own scope.old.kinds 0 n ≡ file_kind (setting_of scope.old.consts) (items_of items.now) n }
-    ensures fault { (children : Children) → ((item : ℕ) (n : List ℕ) → own scope.old.publics item n ≡ public_of children item n) → IfOk result (λ first. IsFirstOf first (UnknownInLines (in_data (setting_of scope.old.consts) (items_of items.now) children) (labels_ahead (items_of items.now)) (items_of items.now))) }
+    ensures fault { IfOk result (λ first. IsFirstOf first (UnknownInLines (environment_at scope.old.kinds scope.old.publics (setting_of scope.old.consts)) (labels_ahead (items_of items.now)) (items_of items.now))) }
     ensures kinds { IfOk result (λ _. (m : ℕ) (n : List ℕ) → m < number → own scope.new.kinds m n ≡ own scope.old.kinds m n) }
     ensures consts { IfOk result (λ _. scope.new.consts ≡ scope.old.consts) }
     ensures publics { IfOk result (λ _. scope.new.publics ≡ scope.old.publics) }
