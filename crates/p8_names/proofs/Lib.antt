@@ -8,3 +8,4 @@ mod TwoFaults
 mod Equal
 mod LookingAt
 mod LocalLabels
+mod Shown

@@ -124,14 +124,14 @@ entered_upto xs i x l e is was = entering_end (ap labels_ahead (rest_of xs i x l
 
 -- ---- the scope
 
-pub region_first : (initial now : Scope) (number : ℕ) (region : List (List ℕ)) → now.number ≡ number → ((m : ℕ) (n : List ℕ) → number ≤ m → own initial.kinds m n ≡ None) → HasLabels initial.kinds now.kinds number region → now.publics ≡ initial.publics → now.consts ≡ initial.consts → IsInRegion initial now number region
-region_first initial now number region is free h publics consts = record {
-  labels = λ n. ap (λ (k : ℕ). own now.kinds k n) is ∙ h.here n;
-  above = λ m n l. h.others m n (λ e. omega (arith, e, l, is)) ∙ free m n (omega (arith, l, is));
+pub region_first : (initial : Scope) (entered : Kinds) (number : ℕ) (region : List (List ℕ)) → ((m : ℕ) (n : List ℕ) → number ≤ m → own initial.kinds m n ≡ None) → HasLabels initial.kinds entered number region → IsInRegion initial (record { kinds = entered; number = number; publics = initial.publics; consts = initial.consts }) number region
+region_first initial entered number region free h = record {
+  labels = h.here;
+  above = λ m n l. h.others m n (λ e. omega (arith, e, l)) ∙ free m n (omega (arith, l));
   below = λ m n l. h.others m n (λ e. omega (arith, e, l));
-  number = omega (arith, is);
-  publics = publics;
-  consts = consts;
+  number = omega arith;
+  publics = refl;
+  consts = refl;
 }
 
 pub region_next : (initial old now : Scope) (first : ℕ) (region next : List (List ℕ)) → now.number ≡ old.number + 1 → HasLabels old.kinds now.kinds now.number next → now.publics ≡ old.publics → now.consts ≡ old.consts → IsInRegion initial old first region → IsInRegion initial now first next

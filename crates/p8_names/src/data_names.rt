@@ -1,5 +1,5 @@
 // The names in the lines of `DAT`, each looked up among the local labels that its line sees and the names of the file.
-ghost use Rattle.std.specs.Prelude.{◌≡◌, ◌<◌, ◌≤◌, ℕ, List, Some, None, IfOk, OnOk, map, option_map};
+ghost use Rattle.std.specs.Prelude.{◌≡◌, ◌<◌, ◌≤◌, ◌+◌, ℕ, List, None, IfOk, OnOk, length, drop, map, option_map};
 ghost use Rattle.p8_tree.specs.Views.{tree_of, datum_of, instruction_of, contents_of};
 ghost use Rattle.p8_tree.specs.Sources.{Instr};
 ghost use Rattle.p8_fold.specs.Entries.{setting_of};
@@ -139,6 +139,14 @@ fn come_to(scope: &mut Scope, label: Option<&Text>, behind: &[Item<'_>]) -> Resu
     }
 }
 
+// The items behind one of them.
+fn behind<'a, 'b>(items: &'a [Item<'b>], index: usize) -> &'a [Item<'b>]
+    requires { index < length items.now }
+    ensures { result.now ≡ drop (index + 1) items.now }
+{
+    items.split_at(index + 1).1
+}
+
 /// The first fault of the names in the lines of `DAT`: one without a definition, 15, or before `#` one that is no object, 16.
 /// None exactly where there is none.
 ///
@@ -159,11 +167,9 @@ pub(crate) fn first_unknown_in_lines(
     enter_labels(&mut scope.kinds, number, items)?;
     scope.number = number;
     let mut first = None;
-    let mut left = items;
-    while let [item, behind @ ..] = left {
-        come_to(scope, item.label(), behind)?;
+    for (index, item) in items.iter().enumerate() {
+        come_to(scope, item.label(), behind(items, index))?;
         first = first_of_two(first, unknown_in_item(scope, *item));
-        left = behind;
     }
     Ok(first)
 }
