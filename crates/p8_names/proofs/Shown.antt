@@ -3,7 +3,7 @@ use Rattle.std.proofs.Common.{◌≡◌, inl, inr, ℕ, Bool, true, false, ◌+�
 use Rattle.std.proofs.lemmas.Bool.{cases_Bool}
 use Rattle.std.proofs.lemmas.List.Elements.{All-nil, All-append, All-map, All-head, All-tail}
 use Rattle.std.proofs.lemmas.Slice.Eq.{bytes_eq-Decides}
-use Rattle.std.specs.Prelude.{if◌then◌else◌, ◌||◌, IsSome, is_some, All, option_map, codes}
+use Rattle.std.specs.Prelude.{if◌then◌else◌, ◌||◌, is_some, All, option_map}
 use Rattle.std.specs.Map.{lookup}
 use Rattle.std.specs.Str.{bytes_eq}
 use Rattle.p8_tree.specs.Names.{result_word, is_reserved, IsName}
@@ -12,7 +12,7 @@ use Rattle.p8_tree.specs.Sources as trees
 use Rattle.p8_tree.specs.Sources.{Constant, Declared, Line, BlockTree, Source}
 use Rattle.p8_fold.specs.declared.meanings.Meaning.{Meaning}
 use Rattle.p8_fold.specs.declared.meanings.Meaning.TheVariants as meaning_case
-use Rattle.p8_fold.specs.Meanings.{Setting, meaning_of, given, value_of_meaning}
+use Rattle.p8_fold.specs.Meanings.{Setting, given, value_of_meaning}
 use Rattle.p8_constants.specs.Constants as constants
 use Rattle.p8_constants.specs.Items as con
 use Rattle.p8_definitions.specs.Items.{Item, constant, variable, object, method, line, block_items, items}
@@ -20,10 +20,9 @@ use Rattle.p8_definitions.specs.Names.{name_of}
 use Rattle.p8_kinds.specs.declared.children.Child.{Child}
 use Rattle.p8_kinds.specs.declared.kinds.Kinds.{Kinds}
 use Rattle.p8_kinds.specs.declared.name_kinds.NameKind.{NameKind}
-use Rattle.p8_kinds.specs.declared.name_kinds.NameKind.TheVariants as kind
 use Rattle.p8_kinds.specs.FileSettings.{meaning_of_kind}
 use Rattle.p8_kinds.specs.Kinds.{own}
-use Rattle.p8_names.specs.Settings.{has_name, definition, predefined_value, meaning_of_item, meaning_outside, outside, IsSetting}
+use Rattle.p8_names.specs.Settings.{has_name, definition, predefined_value, meaning_outside, outside, IsSetting}
 use Rattle.p8_names.specs.Kinds.{value_in, item_kind, kind_among, kind_or, file_kind}
 use Rattle.p8_names.specs.Changes.{over}
 use Rattle.p8_names.specs.Counting.{HasSize}

@@ -4,7 +4,7 @@ use Rattle.p8_definitions.specs.Repeats.{label_of}
 use Rattle.p8_definitions.specs.Standing.{item_of, items_of, IsFirstOf}
 use Rattle.p8_definitions.proofs.FirstFaults.{IsSoFar, so_far_begin, so_far_then}
 use Rattle.p8_definitions.proofs.Walking.{rest_of}
-use Rattle.p8_kinds.specs.Environments.{Environment, environment_of}
+use Rattle.p8_kinds.specs.Environments.{Environment}
 use Rattle.p8_names.specs.Faults.{labels_ahead, labels_at, HasUnknown, UnknownInLines}
 use Rattle.p8_names.specs.Regions.{environment_at, IsInRegion}
 use Rattle.p8_names.proofs.LocalLabels.{region_first, known_is}
