@@ -9,3 +9,8 @@ mod Equal
 mod LookingAt
 mod LocalLabels
 mod Shown
+mod Settling
+mod RightSettings
+mod AllFaults
+mod MethodSteps
+mod AllMethods

@@ -8,3 +8,5 @@ pub mod Changes
 pub mod Counting
 pub mod Looking
 pub mod Regions
+pub mod Resolving
+pub mod Beginning
