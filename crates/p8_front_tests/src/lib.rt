@@ -1,10 +1,8 @@
-//! Tests of the front end: worked sources, lines and words, read and assembled with ample memory.
+//! Tests of the front end: worked sources, lines and words, read with ample memory.
 //!
 //! They stand apart from the crates that they test, because a crate with tests is proved twice.
 #![tactic(auto)]
 
-#[cfg(test)]
-mod assembly;
 #[cfg(test)]
 mod blocks;
 #[cfg(test)]

@@ -1,4 +1,5 @@
 // The line of a case.
+use crate::names::Names;
 use crate::runs::{Form, Run};
 use crate::sources::Source;
 use anyhow::anyhow;
@@ -8,6 +9,8 @@ use anyhow::anyhow;
 pub enum Case<'a> {
     /// `source FILE VERDICT`: a source, and what reading it answers.
     Source(Source<'a>),
+    /// `names FILE VERDICT`: a top file without objects, and what resolving its names answers.
+    Names(Names<'a>),
     /// `run IMAGE TRACE CLOCKS TURNS PINS DUMP`: a file as hub memory, and its trace; `spin` with the same words: an
     /// image of compiled Spin.
     Run(Run<'a>),
@@ -25,6 +28,7 @@ impl<'a> Case<'a> {
             .ok_or_else(|| anyhow!("a case without files"))?;
         match kind {
             "source" => Ok(Case::Source(Source::of_words(rest)?)),
+            "names" => Ok(Case::Names(Names::of_words(rest)?)),
             "run" => Ok(Case::Run(Run::of_words(Form::Memory, rest)?)),
             "spin" => Ok(Case::Run(Run::of_words(Form::Image, rest)?)),
             _ => Err(anyhow!("a case of no kind: {kind}")),

@@ -6,6 +6,7 @@
 
 mod cases;
 mod images;
+mod names;
 mod runs;
 mod sources;
 
@@ -34,12 +35,14 @@ impl Tally {
 fn agrees<R: Files + Alloc<A = Global>>(rt: &R, case: &Case) -> anyhow::Result<bool> {
     match case {
         Case::Source(source) => source.agrees(rt),
+        Case::Names(names) => names.agrees(rt),
         Case::Run(run) => run.agrees(rt),
     }
 }
 
 fn suite(rt: &HostRuntime) -> anyhow::Result<bool> {
     let mut sources = Tally { agreed: 0, all: 0 };
+    let mut names = Tally { agreed: 0, all: 0 };
     let mut runs = Tally { agreed: 0, all: 0 };
     let lines = fs::read_to_string(rt, "cases.txt")?;
     for line in lines.lines() {
@@ -50,12 +53,14 @@ fn suite(rt: &HostRuntime) -> anyhow::Result<bool> {
         }
         match case {
             Case::Source(_) => sources.count(agrees),
+            Case::Names(_) => names.count(agrees),
             Case::Run(_) => runs.count(agrees),
         }
     }
     println!(rt; "sources: {} of {} agree", sources.agreed, sources.all)?;
+    println!(rt; "names: {} of {} agree", names.agreed, names.all)?;
     println!(rt; "runs: {} of {} agree", runs.agreed, runs.all)?;
-    Ok(sources.agreed == sources.all && runs.agreed == runs.all)
+    Ok(sources.agreed == sources.all && names.agreed == names.all && runs.agreed == runs.all)
 }
 
 fn main(rt: HostRuntime) -> anyhow::Result<ExitCode> {

@@ -41,8 +41,7 @@ loop-index-preserved c =
     subst (λ (k : ℕ). HasOwnKinds now.kinds new.kinds k s m) c.in_ok-number.ensures
     (subst (λ (t : Setting). HasOwnKinds now.kinds new.kinds c.in_ok-number.number t m) known.2 c.in_ok-look_at.ensures.kinds) in
     let here : IsSoFar (InMethods Rule (map tree xs)) c.loop-index.first (InMethods Rule (m ∷ map tree (drop (i + 1) xs))) =
-    subst (λ ys. IsSoFar (InMethods Rule (map tree xs)) c.loop-index.first (InMethods Rule ys)) rest known.0 in
-    (
+    subst (λ ys. IsSoFar (InMethods Rule (map tree xs)) c.loop-index.first (InMethods Rule ys)) rest known.0 in (
       so_far_then {Own = Rule m} {Left = Left} c.loop-index.first told here (fault_still old.kinds now.kinds old.publics now.publics s (setting_of now.consts) m told known.1.file known.3 known.2 c.in_ok-look_at.ensures.fault) c.first_of_two-first.ensures,
       methods_more old.kinds now.kinds new.kinds s (map tree xs) i m at known.1 put,
       c.in_ok-look_at.ensures.consts ∙ known.2,

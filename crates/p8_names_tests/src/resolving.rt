@@ -1,0 +1,174 @@
+// The names of whole sources.
+ghost use Rattle.std.specs.Prelude.{IfSome};
+ghost use Rattle.p8_tree.specs.Proper.{IsProperFile};
+ghost use Rattle.p8_tree.specs.Views.{source_of};
+
+use p8_blocks::{parse, tokens_are_proper};
+use p8_kinds::{Child, ChildConst, ChildMethod, Children, Named};
+use p8_lexer::lex;
+use p8_names::resolve;
+use p8_tree::{List, SourceFile, Text};
+use p8_words::Fail;
+use std::alloc::{AllocError, Global};
+
+// The tree of a source, if it is read.
+fn tree_of(alloc: Global, source: &[u8]) -> Option<SourceFile>
+    ensures { IfSome result (λ file. IsProperFile (source_of file)) }
+{
+    tokens_are_proper();
+    let Ok(tokens) = lex(alloc, source) else {
+        return None;
+    };
+    match parse(alloc, source, &tokens) {
+        Ok(file) => Some(file),
+        Err(_) => None,
+    }
+}
+
+// What an object's file has: `LIMIT = 40` and `PUB set(value)`.
+fn kid(alloc: Global) -> Result<Child, AllocError> {
+    let mut methods = List::new(alloc);
+    methods.push(ChildMethod {
+        name: Text::copy_of(alloc, b"SET")?,
+        params: 1,
+    })?;
+    let mut consts = List::new(alloc);
+    consts.push(ChildConst {
+        name: Text::copy_of(alloc, b"LIMIT")?,
+        value: 40,
+    })?;
+    Ok(Child { methods, consts })
+}
+
+// What a file with so many items of `OBJ` sees of their files.
+fn kids(alloc: Global, count: usize) -> Result<Children, AllocError> {
+    let mut items = List::new(alloc);
+    for _ in 0..count {
+        items.push(kid(alloc)?)?;
+    }
+    Ok(Children { items })
+}
+
+// Writes what a name is in a method, or at 0 in the whole file.
+fn write_kind(
+    out: &mut String,
+    named: &Named,
+    method: u32,
+    name: &str,
+    alloc: Global,
+) -> Result<(), AllocError> {
+    let name = Text::copy_of(alloc, name.as_bytes())?;
+    match named.kinds.find(method, &name) {
+        Some(kind) => write!(out, "{kind:?}"),
+        None => out.push_str("nothing"),
+    }
+}
+
+// Writes what a name of a file is, or why the file is refused.
+fn write_answer(
+    out: &mut String,
+    alloc: Global,
+    file: &SourceFile,
+    children: &Children,
+    top: bool,
+    asked: (u32, &str),
+) -> Result<(), AllocError>
+    requires { IsProperFile (source_of file.now) }
+{
+    match resolve(alloc, file, children, top) {
+        Ok(named) => write_kind(out, &named, asked.0, asked.1, alloc),
+        Err(Fail::Refused(fault)) => write!(
+            out,
+            "{} {}:{}",
+            fault.number, fault.place.line, fault.place.column
+        ),
+        Err(Fail::NoMemory) => out.push_str("out of memory"),
+    }
+}
+
+// What a name of a source is, or why the source is refused.
+fn answer(
+    alloc: Global,
+    source: &str,
+    objects: usize,
+    top: bool,
+    asked: (u32, &str),
+) -> Result<String, AllocError> {
+    let mut out = String::new(alloc);
+    let children = kids(alloc, objects)?;
+    let Some(file) = tree_of(alloc, source.as_bytes()) else {
+        return Ok(out);
+    };
+    let written = write_answer(&mut out, alloc, &file, &children, top, asked);
+    drop(file);
+    written?;
+    Ok(out)
+}
+
+// Each by itself: the first fault, by place and then by number.
+#[test]
+fn refuses_sources(rt: HostRuntime) -> Result<(), AllocError> {
+    let table = [
+        ("CON\n  a = b\n  b = a", false, "12 2:7"),
+        ("CON\n  a = 1 / 0", false, "13 2:9"),
+        ("CON\n  a = 1", true, "18 1:1"),
+        ("CON\n  x = main\nPUB main", true, "12 2:7"),
+        ("CON\n  a = 1\nVAR\n  long a\nPUB main", true, "14 4:8"),
+        ("PUB main\n  x := 1", true, "15 2:3"),
+        ("VAR\n  long v\nPUB main\n  return v#c", true, "16 4:10"),
+        ("PUB main\n  f(1)", true, "15 2:3"),
+        ("PUB main(a)\nPUB g\n  main", true, "17 3:3"),
+        ("PUB main\nDAT\n  jmp #:x\n:y", true, "15 3:8"),
+    ];
+    for (source, top, verdict) in table {
+        let answer = answer(rt.alloc(), source, 0, top, (0, "A"))?;
+        assert_eq!(rt; answer.as_str(), verdict);
+    }
+    Ok(())
+}
+
+// A `PRI` of an object's file and the constants of the language have no definition behind its name.
+#[test]
+fn knows_objects(rt: HostRuntime) -> Result<(), AllocError> {
+    let table = [
+        ("OBJ\n  kid : \"kid\"\nPUB main\n  kid.hidden", "15 4:7"),
+        (
+            "OBJ\n  kid : \"kid\"\nPUB main\n  return kid#true",
+            "15 4:14",
+        ),
+        ("OBJ\n  kid[0] : \"kid\"\nPUB main", "20 2:3"),
+        ("OBJ\n  kid : \"kid\"\nPUB main\n  kid.set", "17 4:7"),
+        (
+            "CON\n  a = kid#limit + 2\nOBJ\n  kid : \"kid\"\nPUB main\n  kid.set(a)",
+            "Const(42)",
+        ),
+    ];
+    for (source, verdict) in table {
+        let answer = answer(rt.alloc(), source, 1, true, (0, "A"))?;
+        assert_eq!(rt; answer.as_str(), verdict);
+    }
+    Ok(())
+}
+
+// Longs stand before bytes; a frame has its result, its parameters and its locals.
+#[test]
+fn finds_kinds(rt: HostRuntime) -> Result<(), AllocError> {
+    let source = "VAR\n  byte b\n  long l\nPRI hidden\nPUB main(p) : r | x, y[2], z\nDAT\nw word 1";
+    let table = [
+        ((0, "B"), "Global { size: 1, offset: 4 }"),
+        ((0, "L"), "Global { size: 4, offset: 0 }"),
+        ((0, "HIDDEN"), "Method { number: 2, params: 0 }"),
+        ((0, "MAIN"), "Method { number: 1, params: 1 }"),
+        ((0, "W"), "Label { size: 2 }"),
+        ((0, "TRUE"), "Const(4294967295)"),
+        ((1, "P"), "Local { offset: 4 }"),
+        ((1, "R"), "Local { offset: 0 }"),
+        ((1, "Z"), "Local { offset: 20 }"),
+        ((2, "Z"), "nothing"),
+    ];
+    for (asked, kind) in table {
+        let answer = answer(rt.alloc(), source, 0, true, asked)?;
+        assert_eq!(rt; answer.as_str(), kind);
+    }
+    Ok(())
+}

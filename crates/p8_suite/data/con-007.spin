@@ -1,0 +1,3 @@
+PUB main
+CON
+  MAX1, MAX2, k_3

@@ -1,0 +1,8 @@
+CON
+  q = nosuch(1)
+DAT
+t long 5
+PUB main
+  a := 1
+VAR
+  long a

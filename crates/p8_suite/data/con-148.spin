@@ -1,0 +1,8 @@
+CON
+  q = q
+VAR
+  long a
+DAT
+t long 5
+PUB main
+  a := 1

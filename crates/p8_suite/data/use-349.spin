@@ -1,0 +1,18 @@
+VAR
+  long a
+  word pad9[100]
+  word far
+PRI one(n)
+  return n + 1
+DAT
+t       long 5
+  byte 1, 2
+  long 3
+PUB main
+  a := K
+  one(a)
+  one
+CON
+  K = 4
+  K2 = K + 1
+OBJ
