@@ -7,7 +7,7 @@ use Rattle.std.proofs.lemmas.Bool.{cases_eq}
 use Rattle.std.proofs.lemmas.Bool.Decides.{nat_tests}
 use Rattle.std.proofs.lemmas.List.{length-map, get_or-map, get_or_default}
 use Rattle.std.proofs.lemmas.List.Elements.{Contains-get_or}
-use Rattle.std.proofs.lemmas.List.Sorted.{Contains-permutation, IsPermutation-sym}
+use Rattle.std.proofs.lemmas.List.Sorted.{Contains-permutation, IsPermutation-sym, length_permutation}
 use Rattle.p8_components.specs.Orders.{ComesNoLater, pair_at}
 
 abbrev Before : ℕ × ℕ → ℕ × ℕ → Type 0
@@ -38,6 +38,9 @@ sorted_pairs xs s i (suc j) le lt = elim (cases_eq i (suc j)) [
 module _ (numbers : List ℕ) (places sorted : List (ℕ × ℕ)) (nodes : List ℕ) (size : length places ≡ length numbers) (each : (k : ℕ) → k < length numbers → pair_at places k ≡ (get_or numbers k 0, k)) (moved : IsPermutation places sorted) (nodes_are : nodes ≡ map (λ p. p.1) sorted) where
   count : length nodes ≡ length sorted
   count = ap length nodes_are ∙ length-map sorted (λ p. p.1)
+
+  pub each_once : length nodes ≡ length numbers
+  each_once = omega (arith, count, size, length_permutation places sorted moved)
 
   node_is : (i : ℕ) → i < length sorted → get_or nodes i 0 ≡ (pair_at sorted i).1
   node_is i lt = ap (λ ns. get_or ns i 0) nodes_are ∙ get_or-map (λ p. p.1) sorted i (0, 0) 0 lt

@@ -5,8 +5,9 @@ ghost use Rattle.p8_components.specs.Orders.{ComesNoLater, pair_at};
 use p8_words::NoMemory;
 use std::alloc::{AllocError, Global};
 
-/// The nodes by their numbers, the lowest first, and those of one number in ascending order.
+/// The nodes by their numbers, the lowest first, and those of one number in ascending order; each node once.
 pub fn in_order(alloc: Global, numbers: &[usize]) -> Result<Vec<usize>, NoMemory>
+    ensures size { IfOk result (λ nodes. length nodes.items ≡ length numbers.now) }
     ensures nodes { IfOk result (λ nodes. (a : ℕ) → Contains nodes.items a ↔ (a < length numbers.now)) }
     ensures order { IfOk result (λ nodes. (i j : ℕ) → i ≤ j → j < length nodes.items → ComesNoLater numbers.now (slice_index nodes.items i) (slice_index nodes.items j)) }
 {
