@@ -6,7 +6,6 @@ use Rattle.p8_tree.specs.declared.places.Place.{Place}
 use Rattle.p8_tree.specs.Expressions.{Tree}
 use Rattle.p8_tree.specs.Sources.{Source, BlockTree, Method, MethodTree, Declared}
 use Rattle.p8_operators.specs.Operators.{or_zero}
-use Rattle.p8_fold.specs.declared.meanings.Meaning.{Meaning}
 use Rattle.p8_fold.specs.declared.meanings.Meaning.TheVariants as meaning_case
 use Rattle.p8_fold.specs.Meanings.{Setting, outside_operands}
 use Rattle.p8_fold.specs.Values.{value}
@@ -15,6 +14,7 @@ use Rattle.p8_kinds.specs.declared.name_kinds.NameKind.TheVariants as kind_case
 use Rattle.p8_kinds.specs.declared.children.Child.{Child}
 use Rattle.p8_kinds.specs.declared.children.ChildMethod.{ChildMethod}
 use Rattle.p8_kinds.specs.declared.children.ChildConst.{ChildConst}
+use Rattle.p8_kinds.specs.FileSettings.{meaning_of_kind}
 
 -- ---- files
 
@@ -51,14 +51,7 @@ numbered methods (suc n) = slice_get methods n
 
 -- ---- constants
 
--- what a name means where a constant is needed: a constant has its value, and behind an object's name stand the constants of its
--- file; no other name is constant in a method
-abbrev pub meaning_of_kind : NameKind → Meaning
-meaning_of_kind (kind_case.Const v) = meaning_case.Value v
-meaning_of_kind (kind_case.Object item position count) = meaning_case.Object
-meaning_of_kind _ = meaning_case.Other
-
--- the first of an object's constants with a name
+-- behind an object's name stand the constants of its file, of which the first with a name counts
 abbrev pub constant_named : List ℕ → List ChildConst → Option ℕ
 constant_named name [] = None
 constant_named name (c ∷ cs) = if bytes_eq name c.name then Some c.value else constant_named name cs
@@ -72,7 +65,8 @@ abbrev pub object_constant : File → Option NameKind → (name : List ℕ) → 
 object_constant file (Some (kind_case.Object item position count)) name = constant_named name (constants_of (slice_get file.children item))
 object_constant file _ name = None
 
--- the constants of a method, or outside all methods at 0
+-- what names mean where a constant is needed, in a method, or outside all methods at 0: a constant has its value; no variable,
+-- label or method is constant
 abbrev pub setting_of : File → (method : ℕ) → Setting
 setting_of file method = record {
   name = λ name. option_map meaning_of_kind (file.kind method name);
