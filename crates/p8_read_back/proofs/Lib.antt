@@ -6,3 +6,4 @@ pub mod Rows
 pub mod Files
 pub mod Bytes
 pub mod Names
+pub mod Calling

@@ -1,5 +1,8 @@
 -- What is read of the text of a long as an instruction.
 use Rattle.std.specs.Prelude.{◌≡◌, ℕ, ◌==◌, if◌then◌else◌, false, List, [], ◌∷◌, ◌++◌, None, codes}
+use Rattle.p8_words.specs.declared.failure.Fail.{Fail}
+use Rattle.p8_words.specs.declared.failure.Fail.TheVariants as fail_case
+use Rattle.p8_faults.specs.declared.faults.Fault.{Fault}
 use Rattle.p8_tree.specs.declared.places.Place.{Place}
 use Rattle.p8_tree.specs.Sources.{Instruction, Instr, Line, Dat, Source}
 use Rattle.p8_instr.specs.Instruction.{instr_of}
@@ -42,6 +45,13 @@ pub record IsLineOf (long : ℕ) (line : Line) : Type 0 where
 abbrev pub file_with : Line → Source
 file_with line = Dat (line ∷ []) ∷ []
 
+abbrev pub IsFileOf : ℕ → Source → Type 0
+IsFileOf long file = (line : Line) × IsLineOf long line × (file ≡ file_with line)
+
 -- where its DAT begins in the object's memory: behind two entries of its table
 abbrev pub start : ℕ
 start = 8
+
+-- for want of memory alone
+abbrev pub IsNotRefused : Fail Fault → Type 0
+IsNotRefused fail = fail ≡ fail_case.NoMemory

@@ -2,6 +2,7 @@
 use crate::names::Names;
 use crate::runs::{Form, Run};
 use crate::sources::Source;
+use crate::texts::Printed;
 use anyhow::anyhow;
 
 /// A case: what is run, and what is expected of it.
@@ -14,6 +15,8 @@ pub enum Case<'a> {
     /// `run IMAGE TRACE CLOCKS TURNS PINS DUMP`: a file as hub memory, and its trace; `spin` with the same words: an
     /// image of compiled Spin.
     Run(Run<'a>),
+    /// `text LONG TEXT`: a long and its text as an instruction.
+    Text(Printed<'a>),
 }
 
 impl<'a> Case<'a> {
@@ -31,6 +34,7 @@ impl<'a> Case<'a> {
             "names" => Ok(Case::Names(Names::of_words(rest)?)),
             "run" => Ok(Case::Run(Run::of_words(Form::Memory, rest)?)),
             "spin" => Ok(Case::Run(Run::of_words(Form::Image, rest)?)),
+            "text" => Ok(Case::Text(Printed::of_words(rest)?)),
             _ => Err(anyhow!("a case of no kind: {kind}")),
         }
     }
