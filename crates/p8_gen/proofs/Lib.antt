@@ -1,3 +1,3 @@
 mod Rows
-mod Widths
+pub mod Widths
 mod Examples

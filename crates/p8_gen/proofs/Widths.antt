@@ -88,7 +88,7 @@ callee-alike : (n : Names) (t : Place → ℕ) (s : Place) (object : Option (Lis
 callee-alike n t s None i method = own-alike (n.kind method)
 callee-alike n t s (Some object) i method = in-alike n t s (n.kind object) i method
 
-counts-alike : (c : ℕ) → Alike (counts_from c) (counts_from c)
+pub counts-alike : (c : ℕ) → Alike (counts_from c) (counts_from c)
 counts-alike c = either (nat_le 0x12 c) (bytes _) (bytes _)
 
 dropped-alike : (used : Bool) → Alike (dropped used) (dropped used)
@@ -180,7 +180,7 @@ module _ (n : Names) (t : Place → ℕ) (s : Place) where
     arguments-alike (node p (Call trap object i method q args)) = values-alike args
     arguments-alike _ = nothings
 
-    looks-alike : (down : Bool) (x y : ℕ) (xs : Items) → Alike (looks n down x xs) (looks (moved n t s) down y xs)
+    pub looks-alike : (down : Bool) (x y : ℕ) (xs : Items) → Alike (looks n down x xs) (looks (moved n t s) down y xs)
     looks-alike down x y no_items = nothings
     looks-alike down x y (xs ▸ single e) = both (both (looks-alike down x y xs) (value-alike e)) (jumps _ _ _ x y)
     looks-alike down x y (xs ▸ range a b) = both (both (both (looks-alike down x y xs) (value-alike a)) (value-alike b)) (jumps _ _ _ x y)
@@ -237,7 +237,7 @@ mutual
   pub code-alike : (n : Names) (t : Place → ℕ) (s : Place) (l k : Option Loop) → SameLoop l k → (x : Statement) → Alike (code n l x) (code (moved n t s) k x)
   code-alike n t s l k like (statement place action) = action-alike (record n { statement = place }) t place l k like action
 
-  action-alike : (n : Names) (t : Place → ℕ) (s : Place) (l k : Option Loop) → SameLoop l k → (x : Action) → Alike (code_of n l x) (code_of (moved n t s) k x)
+  pub action-alike : (n : Names) (t : Place → ℕ) (s : Place) (l k : Option Loop) → SameLoop l k → (x : Action) → Alike (code_of n l x) (code_of (moved n t s) k x)
   action-alike n t s l k like (Do e) = alone-alike n t s e
   action-alike n t s l k like (If arms nothing_else) =
       ups (λ x y. chain-alike n t s l k like _ _ _ _ (jumps n.statement s 0x04 x y) nothings arms)
@@ -276,22 +276,22 @@ mutual
   body-alike n t s l k like no_statements = nothings
   body-alike n t s l k like (ss ▹ x) = both (body-alike n t s l k like ss) (code-alike n t s l k like x)
 
-  chain-alike : (n : Names) (t : Place → ℕ) (s : Place) (l k : Option Loop) → SameLoop l k → (f g a b : Piece) → Alike f g → Alike a b → (x : Arms) → Alike (chain n l f a x) (chain (moved n t s) k g b x)
+  pub chain-alike : (n : Names) (t : Place → ℕ) (s : Place) (l k : Option Loop) → SameLoop l k → (f g a b : Piece) → Alike f g → Alike a b → (x : Arms) → Alike (chain n l f a x) (chain (moved n t s) k g b x)
   chain-alike n t s l k like f g a b further last no_arms = nothings
   chain-alike n t s l k like f g a b further last (arms ⊳ arm items negated ss) =
       both (chain-alike n t s l k like f g f g further further arms)
       (ups (λ x y. both (both (both (test-alike n t s items) (jumps n.statement s (zero_jump negated) x y)) (body-alike n t s l k like ss)) last))
 
-  other-alike : (n : Names) (t : Place → ℕ) (s : Place) (l k : Option Loop) → SameLoop l k → (x : Otherwise) → Alike (other_body n l x) (other_body (moved n t s) k x)
+  pub other-alike : (n : Names) (t : Place → ℕ) (s : Place) (l k : Option Loop) → SameLoop l k → (x : Otherwise) → Alike (other_body n l x) (other_body (moved n t s) k x)
   other-alike n t s l k like nothing_else = nothings
   other-alike n t s l k like (otherwise ss) = body-alike n t s l k like ss
 
-  all-tests-alike : (n : Names) (t : Place → ℕ) (s : Place) (l k : Option Loop) → SameLoop l k → (i j : ℕ) → (x : Arms) → Alike (all_tests n l i x) (all_tests (moved n t s) k j x)
+  pub all-tests-alike : (n : Names) (t : Place → ℕ) (s : Place) (l k : Option Loop) → SameLoop l k → (i j : ℕ) → (x : Arms) → Alike (all_tests n l i x) (all_tests (moved n t s) k j x)
   all-tests-alike n t s l k like i j no_arms = nothings
   all-tests-alike n t s l k like i j (arms ⊳ arm items negated ss) =
       both (all-tests-alike n t s l k like i j arms) (tests-alike n t s _ _ items)
 
-  bodies-alike : (n : Names) (t : Place → ℕ) (s : Place) (l k : Option Loop) → SameLoop l k → (i j : ℕ) → (x : Arms) → Alike (case_bodies n l i x) (case_bodies (moved n t s) k j x)
+  pub bodies-alike : (n : Names) (t : Place → ℕ) (s : Place) (l k : Option Loop) → SameLoop l k → (i j : ℕ) → (x : Arms) → Alike (case_bodies n l i x) (case_bodies (moved n t s) k j x)
   bodies-alike n t s l k like i j no_arms = nothings
   bodies-alike n t s l k like i j (arms ⊳ arm items negated ss) =
       both (both (both (bodies-alike n t s l k like i j arms) (bytes _)) (body-alike n t s l k like ss)) (jumps _ _ _ i j)

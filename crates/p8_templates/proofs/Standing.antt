@@ -1,0 +1,145 @@
+-- Pieces of code that stand for something: where a memory has the code with the piece, it has the code before it, and from where the
+-- piece begins to where it ends there stands what it stands for.
+use Rattle.std.proofs.Common.{◌≡◌, refl, sym, ap, ◌∙◌, subst, arith, ℕ, zero, suc, ◌+◌, ◌≤◌, length, Option, Some, ◌%◌, ◌^◌, Bool, true, false, if◌then◌else◌, List, [], ◌∷◌, ◌++◌, append-nil}
+use Rattle.p8_tree.specs.declared.places.Place.{Place}
+use Rattle.p8_courses.specs.Courses.{Course}
+use Rattle.p8_bytecode.specs.declared.op.Op.{Op}
+use Rattle.p8_bytecode.specs.declared.operands.Operands.{Operands}
+use Rattle.p8_bytecode.specs.declared.operands.Operands.TheVariants.{Offset}
+use Rattle.p8_bytecode.specs.Table.{operands_of}
+use Rattle.p8_bytecode.specs.Reading.{bare}
+use Rattle.p8_bytecode.specs.Spelling.{spelled, operand_bytes, has_long_place, FitsOperands, IsOp}
+use Rattle.p8_bcog.specs.declared.state.State.{State}
+use Rattle.p8_bcog.specs.Bytecodes.{row}
+use Rattle.p8_gen.specs.Pieces.{Written, Piece, nothing, one, ◌⨾◌, from_start, up_to_end, text, offset, told, jump}
+use Rattle.p8_gen.proofs.Widths.{Alike}
+use Rattle.p8_keeps.specs.Courses.{Does}
+use Rattle.std.proofs.lemmas.List.Elements.{All-append}
+use Rattle.p8_templates.specs.Placing.{HasCode, IsNear, AreOps}
+use Rattle.p8_templates.proofs.Fetching.{stands-behind, lies-low, Reaches, reaches, no-first, no-second, is-offset, leads-to}
+
+pub record Stand (memory : List ℕ) (base : ℕ) (a : Piece) (R : (p q : ℕ) → Type 0) : Type 0 where
+  pub by : (w : Written) → HasCode memory base (a w) → HasCode memory base w × R (base + w.end) (base + (a w).end)
+  -- the bytecodes that it appends are such as there are
+  pub exist : (w : Written) → IsNear (a w) → IsNear w × (AreOps w.ops → AreOps (a w).ops)
+
+same-end : (piece : ℕ → Piece) (w : Written) → ((x y : ℕ) → Alike (piece x) (piece y)) → (piece (piece 0 w).end w).end ≡ (piece 0 w).end
+same-end piece w same = omega (arith, (same (piece 0 w).end 0).ends w w)
+
+module _ {memory : List ℕ} {base : ℕ} where
+  pub nothings : Stand memory base nothing (λ p q. p ≡ q)
+  nothings = record { by = λ w h. (h, refl); exist = λ w near. (near, λ are. are) }
+
+  pub both : {a b : Piece} {R S : (p q : ℕ) → Type 0} → Stand memory base a R → Stand memory base b S → Stand memory base (a ⨾ b) (λ p q. (p1 : ℕ) × R p p1 × S p1 q)
+  both {a} {b} {R} {S} x y = record {
+    by = λ w h.
+        let v = y.by (a w) h in
+        let u = x.by w v.0 in
+        (u.0, (base + (a w).end, u.1, v.1));
+    exist = λ w near.
+        let v = y.exist (a w) near in
+        let u = x.exist w v.0 in
+        (u.0, λ are. v.1 (u.1 are));
+  }
+
+  pub three : {a b c : Piece} {R S T : (p q : ℕ) → Type 0} → Stand memory base a R → Stand memory base b S → Stand memory base c T → Stand memory base (a ⨾ b ⨾ c) (λ p q. (p1 p2 : ℕ) × R p p1 × S p1 p2 × T p2 q)
+  three {a} {b} {c} x y z = record {
+    by = λ w h.
+        let v = z.by (b (a w)) h in
+        let u = (both x y).by w v.0 in
+        (u.0, (u.1.0, base + (b (a w)).end, u.1.1, u.1.2, v.1));
+    exist = (both (both x y) z).exist;
+  }
+
+  pub four : {a b c d : Piece} {R S T U : (p q : ℕ) → Type 0} → Stand memory base a R → Stand memory base b S → Stand memory base c T → Stand memory base d U → Stand memory base (a ⨾ b ⨾ c ⨾ d) (λ p q. (p1 p2 p3 : ℕ) × R p p1 × S p1 p2 × T p2 p3 × U p3 q)
+  four {a} {b} {c} {d} x y z s = record {
+    by = λ w h.
+        let v = s.by (c (b (a w))) h in
+        let u = (three x y z).by w v.0 in
+        (u.0, (u.1.0, u.1.1, base + (c (b (a w))).end, u.1.2, u.1.3, u.1.4, v.1));
+    exist = (both (both (both x y) z) s).exist;
+  }
+
+  -- the same piece for what follows from it
+  pub so : {a : Piece} {R S : (p q : ℕ) → Type 0} → Stand memory base a R → ((p q : ℕ) → R p q → S p q) → Stand memory base a S
+  so {a} x f = record { by = λ w h. let v = x.by w h in (v.0, f (base + w.end) (base + (a w).end) v.1); exist = x.exist }
+
+  pub either : {a b : Piece} {R : (p q : ℕ) → Type 0} (t : Bool) → (t ≡ true → Stand memory base a R) → (t ≡ false → Stand memory base b R) → Stand memory base (if t then a else b) R
+  either true x y = x refl
+  either false x y = y refl
+
+  -- ---- pieces that are told where they begin or end
+
+  pub from : {piece : ℕ → Piece} (R : (start p q : ℕ) → Type 0) → ((start : ℕ) → Stand memory base (piece start) (R (base + start))) → Stand memory base (from_start piece) (λ p q. R p p q)
+  from R x = record { by = λ w h. (x w.end).by w h; exist = λ w. (x w.end).exist w }
+
+  pub up : {piece : ℕ → Piece} (R : (end p q : ℕ) → Type 0) → ((x y : ℕ) → Alike (piece x) (piece y)) → ((end : ℕ) → Stand memory base (piece end) (R (base + end))) → Stand memory base (up_to_end piece) (λ p q. R q p q)
+  up {piece} R same x = record {
+    by = λ w h.
+        let end : ℕ = (piece 0 w).end in
+        let v = (x end).by w h in
+        (v.0, subst (λ (n : ℕ). R (base + n) (base + w.end) (base + (piece end w).end)) (sym (same-end piece w same)) v.1);
+    exist = λ w. (x (piece 0 w).end).exist w;
+  }
+
+-- ---- bytecodes
+
+only : (op : Op) → IsOp op → AreOps (op ∷ [])
+only op is zero d lt = is
+only op is (suc k) d lt = absurd (omega (arith, lt))
+
+-- one more bytecode
+pub one-exists : (w v : Written) (op : Op) (more : List Place) (count : ℕ) → v.ops ≡ w.ops ++ op ∷ [] → v.end ≡ w.end + count → v.too_far ≡ w.too_far ++ more → IsOp op → IsNear v → IsNear w × (AreOps w.ops → AreOps v.ops)
+one-exists w v op more count ops end far is near = (
+  record { low = omega (arith, end, near.low); near = no-first w.too_far more (sym far ∙ near.near) },
+  λ are. subst AreOps (sym ops) (All-append IsOp w.ops (op ∷ []) are (only op is)),
+)
+
+abbrev pub jump_op : (code off : ℕ) → Op
+jump_op code off = record (bare code) { first = off; long_form = true }
+
+pub jump-size : (code off : ℕ) → operands_of code ≡ Some Offset → 3 ≡ length (spelled (jump_op code off))
+jump-size code off is = ap (λ found. suc (length (operand_bytes found (has_long_place (jump_op code off)) (jump_op code off)))) (sym is)
+
+module _ (memory : List ℕ) (cog base : ℕ) where
+  pub one-stand : (op : Op) (course : State → Course State) → IsOp op → ((s : State) → row memory cog op s ≡ course s) → Stand memory base (one op) (λ p q. Does memory cog p course q)
+  one-stand op course is does = record {
+    by = λ w h.
+        let b = stands-behind memory base w (one op w) op [] refl refl (sym (append-nil w.too_far)) is h in
+        (b.before, (op, b.fetches, λ s there. does s));
+    exist = λ w near. one-exists w (one op w) op [] _ refl refl (sym (append-nil w.too_far)) is near;
+  }
+
+  pub text-stand : (place : Place) (number : ℕ) (course : State → Course State) → IsOp (record (bare 0x87) { first = number }) → ((s : State) → row memory cog (record (bare 0x87) { first = number }) s ≡ course s) → Stand memory base (text place number) (λ p q. Does memory cog p course q)
+  text-stand place number course is does = record {
+    by = λ w h.
+        let op : Op = record (bare 0x87) { first = number } in
+        let b = stands-behind memory base w (text place number w) op [] refl refl (sym (append-nil w.too_far)) is h in
+        (b.before, (op, b.fetches, λ s there. does s));
+    exist = λ w near. one-exists w (text place number w) (record (bare 0x87) { first = number }) [] _ refl refl (sym (append-nil w.too_far)) is near;
+  }
+
+  -- ---- jumps
+
+  no-far : (statement : Place) (w : Written) (from to : ℕ) → w.too_far ++ told statement from to ≡ [] → told statement from to ≡ []
+  no-far statement w from to is = no-second w.too_far (told statement from to) is
+
+  jump-is : (code from to : ℕ) → operands_of code ≡ Some Offset → Reaches from to → from ≤ 32768 → IsOp (jump_op code (offset from to))
+  jump-is code from to is r low = record { operands = subst (λ (found : Option Operands). FitsOperands found (jump_op code (offset from to))) (sym is) (refl, is-offset from to r low) }
+
+  pub jump-stand : (statement : Place) (code to : ℕ) (course : (target : ℕ) → State → Course State) → operands_of code ≡ Some Offset → ((off : ℕ) (s : State) → row memory cog (jump_op code off) s ≡ course ((s.at + off) % 2 ^ 16) s) → Stand memory base (jump statement code to) (λ p q. Does memory cog p (course (base + to)) q)
+  jump-stand statement code to course is does = record {
+    by = λ w h.
+        let v : Written = jump statement code to w in
+        let off : ℕ = offset (w.end + 3) to in
+        let op : Op = jump_op code off in
+        let low : base + (w.end + 3) ≤ 32768 = lies-low memory base w v op refl h in
+        let r : Reaches (w.end + 3) to = reaches statement (w.end + 3) to (no-far statement w (w.end + 3) to h.near) in
+        let is_op : IsOp op = jump-is code (w.end + 3) to is r (omega (arith, low)) in
+        let b = stands-behind memory base w v op (told statement (w.end + 3) to) refl (ap (λ n. w.end + n) (jump-size code off is)) refl is_op h in
+        (b.before, (op, b.fetches, λ s there. does off s ∙ ap (λ target. course target s) (leads-to base (w.end + 3) to s.at there r low)));
+    exist = λ w near.
+        let v : Written = jump statement code to w in
+        let r : Reaches (w.end + 3) to = reaches statement (w.end + 3) to (no-far statement w (w.end + 3) to near.near) in
+        one-exists w v (jump_op code (offset (w.end + 3) to)) (told statement (w.end + 3) to) 3 refl refl refl (jump-is code (w.end + 3) to is r near.low) near;
+  }
