@@ -36,8 +36,9 @@ use Rattle.p8_machine.proofs.Taking.{begun-same}
 use Rattle.p8_record.specs.declared.steps.Step.TheVariants.{Took, Said}
 use Rattle.p8_record.specs.Records.{Record, turns, said}
 use Rattle.p8_desk.specs.declared.runner.Runner.{Runner}
-use Rattle.p8_desk.specs.Runners.{reached_in, pace_in, stride_in, most_in, place_in, announced_in, Lives, Rides, Comes, GoesOn, GoesOnFrom, IsNear}
+use Rattle.p8_desk.specs.Runners.{reached_in, pace_in, stride_in, most_in, place_in, announced_in, Lives, Rides, Comes, GoesOnFrom, IsNear}
 use Rattle.p8_desk.specs.Taking.{HasTaken}
+use Rattle.p8_desk.specs.Tries.{GoesOn}
 use Rattle.p8_desk.proofs.Lookups.{test-same}
 use Rattle.p8_desk.proofs.Riding.{nothing-runs}
 

@@ -29,7 +29,6 @@ use Rattle.p8_desk.specs.declared.turned.Turned.{Turned}
 use Rattle.p8_desk.specs.declared.turned.Turned.TheVariants.{Done as Turns, Held as Meets, After as Waits, Ahead as Runs, Over as Ends}
 use Rattle.p8_desk.specs.Rules.{known, world_in, with_step, noting}
 use Rattle.p8_desk.specs.Runners.{Lives, Rides, Comes, HasFound, GoesOnFrom, pace_in, most_in}
-use Rattle.p8_desk.specs.Runners.{GoesOn as LifeGoesOn}
 use Rattle.p8_desk.specs.Tries.{pace_of, most_of, GoesOn, Says, Answers, seen_by}
 use Rattle.p8_desk.specs.Work.{Moved, Holding, Spoken, Granted, Settled, Worked, granting}
 use Rattle.p8_desk.proofs.Lookups.{known-changed, known-beside, test-same}
@@ -54,17 +53,11 @@ numbers-of : (kind : Kind) (b : Begun) (pasm spin : Type 0) → fact_of kind pas
 numbers-of OfPasm b pasm spin fact p m q k = (sym (p fact), sym (m fact))
 numbers-of OfSpin b pasm spin fact p m q k = (sym (q fact), sym (k fact))
 
-goes-same : (pace most limit old : ℕ) (next : Next) → LifeGoesOn pace most limit old next → GoesOn pace most limit old next
-goes-same pace most limit old (At clock access) g = g
-goes-same pace most limit old Quiet g = g
-goes-same pace most limit old (More bound) g = g
-
 says-on : (w : World) (n : ℕ) (r : Record) (runner : Runner) (ts : List Turn) (b : Begun) (owes : Owes w r n) → HasFound runner → Rides w n r runner → Lives w.clocks runner (said n r) b ts → (pace_in runner.life ≡ pace_of b) × (most_in runner.life ≡ most_of b)
     → GoesOn (pace_of b) (most_of b) w.clocks (owes.promise.0) runner.next
 says-on w n r runner ts b owes found rides lives numbers =
     let on : GoesOnFrom (pace_in runner.life) (most_in runner.life) w.clocks (More owes.promise.0) runner.next = subst (λ (x : Next). GoesOnFrom (pace_in runner.life) (most_in runner.life) w.clocks x runner.next) owes.promise.1 (lives.goes_on (owes-unsaid w n r runner found owes rides)) in
-    goes-same (pace_of b) (most_of b) w.clocks owes.promise.0 runner.next
-    (subst (λ (y : ℕ × ℕ). LifeGoesOn y.0 y.1 w.clocks owes.promise.0 runner.next) (λ i. (numbers.0 i, numbers.1 i)) on)
+    subst (λ (y : ℕ × ℕ). GoesOn y.0 y.1 w.clocks owes.promise.0 runner.next) (λ i. (numbers.0 i, numbers.1 i)) on
 
 pub says-as : (w : World) (n : ℕ) (r : Record) (runner : Runner) → HasFound runner → Owes w r n → Rides w n r runner → Says w r n runner.next
 says-as w n r runner found owes rides =

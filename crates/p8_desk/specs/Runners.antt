@@ -20,6 +20,7 @@ use Rattle.p8_machine.specs.Seats.{SitsIn}
 use Rattle.p8_machine.specs.Standing.{FitsState}
 use Rattle.p8_record.specs.Records.{Record, turns, said}
 use Rattle.p8_desk.specs.declared.runner.Runner.{Runner}
+use Rattle.p8_desk.specs.Tries.{GoesOn}
 
 -- the clock that a life has come to
 abbrev pub reached_in : CogLife → ℕ
@@ -37,12 +38,7 @@ stride_in life = number_of life.kind 8 544
 abbrev pub most_in : CogLife → ℕ
 most_in life = 8192 + 1024 * stride_in life + 16
 
--- a saying in place of a promise: how far it goes, and that a new promise rises by what the budget takes
-abbrev pub GoesOn : (pace most limit : ℕ) → (old : ℕ) → Next → Type 0
-GoesOn pace most limit old (At clock access) = clock ≤ old + most
-GoesOn pace most limit old Quiet = limit ≤ old + most
-GoesOn pace most limit old (More bound) = (bound ≤ old + most) × (old + 1023 * pace ≤ bound)
-
+-- what is said goes on from the last promise
 abbrev pub GoesOnFrom : (pace most limit : ℕ) → Next → Next → Type 0
 GoesOnFrom pace most limit (At clock access) next = ⊥
 GoesOnFrom pace most limit Quiet next = ⊥
