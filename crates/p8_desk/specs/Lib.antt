@@ -10,4 +10,5 @@ pub mod Runners
 pub mod Taking
 pub mod Work
 pub mod Seats
+pub mod Driving
 pub mod Gathering

@@ -154,7 +154,7 @@ noting v n step = record { live = v.live; start = v.start; passes = change n (wi
 abbrev pub Noted : Step → Move Slot → Hand → ℕ → Hand → Type 0
 Noted step s v found after = after ≡ (noting v.0 (cog_of step) step, v.1)
 
--- a seat gives its first pass to a new seat
+-- a seat gives the pass of a cog to a new seat
 abbrev pub with_passes : View → List Known → View
 with_passes v ps = record { live = v.live; start = v.start; passes = ps; holds = None }
 
@@ -162,19 +162,15 @@ abbrev pub without : ℕ → List Known → List Known
 without n [] = []
 without n (p ∷ ps) = if p.cog == n then without n ps else p ∷ without n ps
 
-abbrev pub behind_first : List Known → List Known
-behind_first [] = []
-behind_first (p ∷ ps) = without p.cog ps
+abbrev pub list_of : Option Known → List Known
+list_of None = []
+list_of (Some p) = p ∷ []
 
-abbrev pub only_first : List Known → List Known
-only_first [] = []
-only_first (p ∷ ps) = p ∷ []
+abbrev pub without_pass : ℕ → View → View
+without_pass n v = with_passes v (without n v.passes)
 
-abbrev pub without_first : View → View
-without_first v = with_passes v (behind_first v.passes)
-
-abbrev pub first_alone : View → View
-first_alone v = with_passes v (only_first v.passes)
+abbrev pub pass_alone : ℕ → View → View
+pass_alone n v = with_passes v (list_of (known v.passes n))
 
 -- a seat takes in the passes of another, whose own seat is spent
 abbrev pub joined : View → View → View

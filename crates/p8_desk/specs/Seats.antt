@@ -2,11 +2,12 @@
 -- The seat of a pass, and what its parts have to do with what it knows.
 use Rattle.std.specs.Prelude.{ℕ, suc, ◌≡◌, ◌<◌, ◌≤◌, Bool, true, false, [], Option, Some, None, length}
 use Rattle.atomic_table.specs.Seated.{TableId}
+use Rattle.p8_history.specs.Worlds.{World}
 use Rattle.p8_history.specs.Histories.{Ended}
 use Rattle.p8_lives.specs.Lives.{asks}
 use Rattle.p8_record.specs.Records.{turns, mine}
 use Rattle.p8_desk.specs.declared.rule.Known.{Known}
-use Rattle.p8_desk.specs.declared.runner.Runner.{Runner}
+use Rattle.p8_desk.specs.declared.rider.Rider.{Rider}
 use Rattle.p8_desk.specs.declared.turned.Turned.{Turned}
 use Rattle.p8_desk.specs.declared.turned.Turned.TheVariants.{Done, Held, After, Ahead, Over}
 use Rattle.p8_desk.specs.Passes.{PassValue}
@@ -36,15 +37,19 @@ pub record SeatOf (me : Hand) (cog : ℕ) (p : Known) : Type 0 where
   pub has : known me.0.passes cog ≡ Some p
   pub alone : (n : ℕ) → (n ≡ cog → ⊥) → known me.0.passes n ≡ None
 
--- what a pass keeps
-pub record Seated (me : Hand) (cog : ℕ) (runner : Runner) (own_turns seen_turns : ℕ) (over : Bool) : Type 0 where
-  pub seat : SeatOf me cog (pass_in me cog)
-  pub own : (pass_in me cog).own ≡ mine cog (pass_in me cog).seen
-  pub rides : Rides (world_in me.0.start) cog (pass_in me cog).seen runner
-  pub made : own_turns ≡ length (turns (pass_in me cog).own)
-  pub few : own_turns ≤ (world_in me.0.start).turns
-  pub seen : seen_turns ≡ length (turns (pass_in me cog).seen)
-  pub ended : over ≡ true → Ended asks (world_in me.0.start) (turns (pass_in me cog).seen)
+-- what a pass keeps besides its seat, by what is known of it
+pub record Keeps (w : World) (p : Known) (rider : Rider) : Type 0 where
+  pub own : p.own ≡ mine rider.cog p.seen
+  pub rides : Rides w rider.cog p.seen rider.runner
+  pub made : rider.made ≡ length (turns p.own)
+  pub few : rider.made ≤ w.turns
+  pub seen : rider.known ≡ length (turns p.seen)
+  pub ended : rider.over ≡ true → Ended asks w (turns p.seen)
+
+-- a pass at a seat of its own
+pub record Seated (me : Hand) (rider : Rider) : Type 0 where
+  pub seat : SeatOf me rider.cog (pass_in me rider.cog)
+  pub keeps : Keeps (world_in me.0.start) (pass_in me rider.cog) rider
 
 -- what an answer adds to a pass
 abbrev pub is_over : Turned → Bool

@@ -1,14 +1,12 @@
 // The desk.
-ghost use Rattle.std.specs.Prelude.{◌≡◌, ◌≤◌, ◌<◌, ◌^◌, ◌||◌, ℕ, true, IfSome, IfNone, length};
-ghost use Rattle.p8_record.specs.Records.{turns};
+ghost use Rattle.std.specs.Prelude.{◌≡◌, ◌||◌, true, IfSome, IfNone};
 ghost use Rattle.p8_desk.specs.declared.turned.Turned.TheVariants.{Done, Over};
 ghost use Rattle.p8_desk.specs.Passes.{Owns, PassSteps, PassValue};
-ghost use Rattle.p8_desk.specs.Seats.{is_over, made_by};
+ghost use Rattle.p8_desk.specs.Seats.{is_over};
 ghost use Rattle.p8_desk.specs.Tries.{Tried};
 
 use crate::pass::CogPass;
 use crate::rule::Tabletop;
-use crate::tries::attempt;
 use crate::turned::Turned;
 use p8_access::Turn;
 use p8_record::Start;
@@ -35,21 +33,6 @@ impl Model for Desk {
     ghost invariant = { λ d. (d.table.shared.key ≡ d.start) × (d.table.shared.table_id.words ≡ 2) × (d.table.shared.table_id.slots ≡ 1) × (d.start.limits.clocks ≤ 100000000) × (d.start.limits.turns ≤ 1000000) };
 }
 
-/// What an answer changes of a pass besides its seat and its life.
-fn note(made: &mut u64, over: &mut bool, answer: Turned)
-    requires { made.old < 2 ^ 63 }
-    ensures made { made.new ≡ made_by answer made.old }
-    ensures over { over.new ≡ (over.old || is_over answer) }
-{
-    match answer {
-        Turned::Done(_) => *made += 1,
-        Turned::Held { .. } => {}
-        Turned::After { .. } => {}
-        Turned::Ahead { .. } => {}
-        Turned::Over => *over = true,
-    }
-}
-
 impl Desk {
     /// Tries once to make the next turn of a pass's cog. It waits for nobody and takes no memory.
     ///
@@ -63,17 +46,7 @@ impl Desk {
         ensures over { pass.new.over ≡ (pass.old.over || is_over result) }
         ensures tried { Tried self.now.world pass.old.cog pass.old.steps pass.new.steps result }
     {
-        pass.runner.find(self.start.limits.clocks);
-        let answer = attempt(
-            &self.table.shared,
-            &self.start.script,
-            &mut pass.seat,
-            &mut pass.runner,
-            &mut pass.known,
-            pass.cog,
-        );
-        note(&mut pass.made, &mut pass.over, answer);
-        answer
+        pass.rider.ride(self, &mut pass.seat)
     }
 }
 

@@ -3,9 +3,12 @@
 
 mod close;
 mod desk;
+mod drive;
+mod gather;
 mod open;
 mod pass;
 mod passes;
+mod rider;
 mod rule;
 mod runner;
 mod steps;
@@ -15,6 +18,7 @@ mod tries;
 mod turned;
 
 pub use desk::Desk;
+pub use drive::drive_all;
 pub use p8_record::Start;
 pub use pass::CogPass;
 pub use passes::Passes;

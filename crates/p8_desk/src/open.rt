@@ -12,6 +12,7 @@ use crate::desk::Desk;
 use crate::pass::CogPass;
 use crate::passes::Passes;
 use crate::rule::{Board, Place, Tabletop};
+use crate::rider::Rider;
 use crate::runner::Runner;
 use crate::steps::part;
 use atomic_table::Table;
@@ -46,14 +47,14 @@ fn new_place(seat: Place, runner: Runner, cog: u8) -> Option<CogPass>
     requires cog { cog < 8 }
     ensures { (start : Start) → seat.me ≡ (with_passes (first_view start) (new_pass cog ∷ []), []) → result ≡ Some (fresh (world_in start) seat.table_id cog) }
 {
-    Some(CogPass {
-        seat,
+    let rider = Rider {
         cog,
         runner,
         made: 0,
         known: 0,
         over: false,
-    })
+    };
+    Some(CogPass { seat, rider })
 }
 
 /// The passes of all cogs, each with a seat of its own. Their operand stacks are cut from the region.
@@ -75,7 +76,7 @@ fn new_passes(
     for cog in 0..8u8 {
         let stack = stack_in(&mut stacks);
         let runner = Runner::new(alloc, memory, stack, cog)?;
-        let own = part(board, &mut seat);
+        let own = part(board, &mut seat, cog);
         match places.push(new_place(own, runner, cog)) {
             Ok(()) => {}
             Err(_) => return Err(NoMemory),

@@ -3,20 +3,14 @@ ghost use Rattle.std.specs.Prelude.{◌≡◌, length};
 ghost use Rattle.p8_record.specs.Records.{turns};
 
 use crate::rule::Place;
-use crate::runner::Runner;
+use crate::rider::Rider;
 use std::marker::Model;
 
 /// The right of one cog to make its turns at the desk that made the pass. It holds the cog's life.
 #[derive(Drop)]
 pub struct CogPass {
     pub(crate) seat: Place,
-    pub(crate) cog: u8,
-    pub(crate) runner: Runner,
-    /// How many turns the cog has made.
-    pub(crate) made: u64,
-    /// How many turns the longest history has that was seen.
-    pub(crate) known: u64,
-    pub(crate) over: bool,
+    pub(crate) rider: Rider,
 }
 
 impl Model for CogPass {
@@ -25,9 +19,9 @@ impl Model for CogPass {
 
     ghost Value = { PassValue };
 
-    ghost view = { λ p. passed p.seat.table_id p.seat.me p.cog p.over };
+    ghost view = { λ p. passed p.seat.table_id p.seat.me p.rider.cog p.rider.over };
 
-    ghost invariant = { λ p. Seated p.seat.me p.cog p.runner p.made p.known p.over };
+    ghost invariant = { λ p. Seated p.seat.me p.rider };
 }
 
 impl CogPass {
@@ -35,27 +29,27 @@ impl CogPass {
     pub fn cog(&self) -> u8
         ensures { result ≡ self.now.cog }
     {
-        self.cog
+        self.rider.cog
     }
 
     /// How many turns the cog has made.
     pub fn count(&self) -> u64
         ensures { result ≡ length (turns self.now.steps.own) }
     {
-        self.made
+        self.rider.made
     }
 
     /// How many turns the longest history has that the pass has seen.
     pub fn seen(&self) -> u64
         ensures { result ≡ length (turns self.now.steps.seen) }
     {
-        self.known
+        self.rider.known
     }
 
     /// Whether a try with this pass has answered `Over`.
     pub fn over(&self) -> bool
         ensures { result ≡ self.now.over }
     {
-        self.over
+        self.rider.over
     }
 }

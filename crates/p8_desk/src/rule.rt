@@ -79,18 +79,30 @@ impl<B: Told> Play<Option<Ledger>, View> for Notes<B> {
     ghost then = { Noted B.step };
 }
 
-/// The first pass of a seat goes to a seat of its own, and back.
-pub struct Parts;
+/// The cog whose pass a proof speaks of.
+pub trait Named {
+    ghost use Rattle.std.specs.Prelude.{ℕ};
 
-impl Split<View> for Parts {
-    ghost use Rattle.p8_desk.specs.Rules.{without_first, first_alone};
-
-    ghost left = { without_first };
-
-    ghost right = { first_alone };
+    ghost cog: { ℕ };
 }
 
-impl Join<View> for Parts {
+/// The pass of one cog goes to a seat of its own.
+pub struct Parts<B> {
+    named: PhantomData<B>,
+}
+
+impl<B: Named> Split<View> for Parts<B> {
+    ghost use Rattle.p8_desk.specs.Rules.{without_pass, pass_alone};
+
+    ghost left = { without_pass B.cog };
+
+    ghost right = { pass_alone B.cog };
+}
+
+/// The passes of two seats come together in one.
+pub struct Joins;
+
+impl Join<View> for Joins {
     ghost use Rattle.p8_desk.specs.Rules.{joined, spent_view};
 
     ghost both = { joined };

@@ -7,9 +7,9 @@ ghost use Rattle.p8_record.specs.declared.ledger.Ledger.{Ledger};
 ghost use Rattle.p8_record.specs.Records.{turns};
 ghost use Rattle.p8_record.specs.Ledgers.{Found};
 ghost use Rattle.p8_desk.specs.declared.rule.Known.{Known};
-ghost use Rattle.p8_desk.specs.Rules.{world_in, known, Seized, Released, Noted, noting, without_first, first_alone, joined};
+ghost use Rattle.p8_desk.specs.Rules.{world_in, known, Seized, Released, Noted, noting, without_pass, pass_alone, joined};
 
-use crate::rule::{Board, Notes, Parts, Place, Releases, Seizes, Told};
+use crate::rule::{Board, Joins, Named, Notes, Parts, Place, Releases, Seizes, Told};
 use p8_access::{Next, Turn};
 use std::marker::Brand;
 
@@ -18,6 +18,12 @@ impl Told for Brand {
     ghost use Rattle.p8_record.specs.declared.steps.Step.TheVariants.{Said};
 
     ghost step = { Said 0 Quiet };
+}
+
+impl Named for Brand {
+    ghost use Rattle.std.specs.Prelude.{zero};
+
+    ghost cog = { zero };
 }
 
 /// Tries once to take the free lock word for a cog, and with it what lies in the slot. Answers what it found
@@ -90,14 +96,25 @@ pub fn take_turn(board: &Board, seat: &mut Place, turn: &Turn)
     note_turn::<Brand>(board, seat, turn);
 }
 
-/// Gives the first pass of a seat a seat of its own.
-pub fn part(board: &Board, seat: &mut Place) -> Place
+fn part_named<B: Named>(board: &Board, seat: &mut Place, cog: u8) -> Place
+    requires own { (seat.old.table_id ≡ board.now.table_id) × (0 < board.now.table_id.words) }
+    requires free { (seat.old.me.0.live ≡ true) × (seat.old.me.0.holds ≡ None) }
+    requires named { B.cog ≡ cog }
+    ensures own { (seat.new.table_id ≡ seat.old.table_id) × (seat.new.id ≡ seat.old.id) × (result.table_id ≡ seat.old.table_id) }
+    ensures parted { (seat.new.me ≡ (without_pass B.cog seat.old.me.0, seat.old.me.1)) × (result.me ≡ (pass_alone B.cog seat.old.me.0, [])) }
+{
+    let _ = cog;
+    board.split_seat::<Parts<B>>(seat)
+}
+
+/// Gives the pass of a cog a seat of its own.
+pub fn part(board: &Board, seat: &mut Place, cog: u8) -> Place
     requires own { (seat.old.table_id ≡ board.now.table_id) × (0 < board.now.table_id.words) }
     requires free { (seat.old.me.0.live ≡ true) × (seat.old.me.0.holds ≡ None) }
     ensures own { (seat.new.table_id ≡ seat.old.table_id) × (seat.new.id ≡ seat.old.id) × (result.table_id ≡ seat.old.table_id) }
-    ensures parted { (seat.new.me ≡ (without_first seat.old.me.0, seat.old.me.1)) × (result.me ≡ (first_alone seat.old.me.0, [])) }
+    ensures parted { (seat.new.me ≡ (without_pass cog seat.old.me.0, seat.old.me.1)) × (result.me ≡ (pass_alone cog seat.old.me.0, [])) }
 {
-    board.split_seat::<Parts>(seat)
+    part_named::<Brand>(board, seat, cog)
 }
 
 /// Takes in the passes of another seat.
@@ -107,5 +124,5 @@ pub fn join(board: &Board, seat: &mut Place, other: Place)
     ensures own { (seat.new.table_id ≡ seat.old.table_id) × (seat.new.id ≡ seat.old.id) }
     ensures joined { seat.new.me ≡ (joined seat.old.me.0 other.me.0, seat.old.me.1) }
 {
-    board.join_seat::<Parts>(seat, other);
+    board.join_seat::<Joins>(seat, other);
 }

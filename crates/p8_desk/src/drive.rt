@@ -1,0 +1,69 @@
+// All eight cogs, driven from one thread.
+ghost use Rattle.std.specs.Prelude.{◌≡◌, ◌<◌, ℕ, true, Some, slice_get};
+ghost use Rattle.p8_desk.specs.declared.rider.Rider.{Rider};
+ghost use Rattle.p8_desk.specs.Driving.{next_cog};
+ghost use Rattle.p8_desk.specs.Gathering.{Riding, Rode};
+ghost use Rattle.p8_desk.specs.PassSets.{AllThere, HasOver};
+
+use crate::desk::Desk;
+use crate::gather::{gather, scatter};
+use crate::passes::Passes;
+use crate::rider::Rider;
+use crate::rule::Place;
+use crate::turned::Turned;
+
+/// One try of a cog, by a seat that has the passes of all cogs.
+fn ride(desk: &Desk, seat: &mut Place, riders: &mut [Option<Rider>], cog: u8) -> Turned
+    requires cog { cog < 8 }
+    requires own { seat.old.table_id ≡ desk.now.table }
+    requires riding { Riding desk.now.world seat.old.me riders.old }
+    ensures own { seat.new.table_id ≡ desk.now.table }
+    ensures rode { Rode desk.now.world cog seat.old.me seat.new.me riders.new result }
+{
+    match &mut riders[cog as usize] {
+        Some(rider) => rider.ride(desk, seat),
+        None => unreachable!(),
+    }
+}
+
+/// Which cog is to try after an answer: the cog that it names, or the same again; none where the history has ended.
+fn next_after(cog: u8, answer: Turned) -> Option<u8>
+    ensures { result ≡ next_cog cog answer }
+{
+    match answer {
+        Turned::After { cog: other, .. } => Some(other),
+        Turned::Over => None,
+        Turned::Done(_) => Some(cog),
+        Turned::Ahead { .. } => Some(cog),
+        Turned::Held { .. } => Some(cog),
+    }
+}
+
+/// Lets the cogs try, beginning with cog 0, until the history has ended.
+fn drive(desk: &Desk, seat: &mut Place, riders: &mut [Option<Rider>])
+    requires own { seat.old.table_id ≡ desk.now.table }
+    requires riding { Riding desk.now.world seat.old.me riders.old }
+    ensures own { seat.new.table_id ≡ desk.now.table }
+    ensures riding { Riding desk.now.world seat.new.me riders.new }
+    ensures over { (n : ℕ) × (rider : Rider) × (n < 8) × (slice_get riders.new n ≡ Some (Some rider)) × (rider.over ≡ true) }
+{
+    let mut cog = 0;
+    let mut answer = ride(desk, seat, riders, cog);
+    while let Some(next) = next_after(cog, answer) {
+        cog = next;
+        answer = ride(desk, seat, riders, cog);
+    }
+}
+
+/// Drives all eight passes of a desk from this thread until the history has ended. It takes no memory and waits for
+/// nobody. All passes are there, and so they are afterwards; one of them is over then.
+pub fn drive_all(desk: &Desk, passes: &mut Passes)
+    requires there { AllThere desk.now passes.old }
+    ensures there { AllThere desk.now passes.new }
+    ensures over { HasOver passes.new }
+{
+    let mut riders = [None, None, None, None, None, None, None, None];
+    let mut seat = gather(desk, passes, &mut riders);
+    drive(desk, &mut seat, &mut riders);
+    scatter(desk, seat, &mut riders, passes);
+}
