@@ -8,3 +8,6 @@ pub mod Trying
 pub mod Settling
 pub mod Gathering
 pub mod Placing
+pub mod Remaining
+pub mod Scattering
+pub mod Driving

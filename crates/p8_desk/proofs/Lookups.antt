@@ -1,8 +1,8 @@
 -- What is known of a cog's pass, after a change of one, without one, and in two lists.
-use Rattle.std.proofs.Common.{◌≡◌, ◌≢◌, ◌⊎◌, inl, inr, ⊎_elim, ◌∙◌, ap, sym, refl, ℕ, ◌==◌, List, [], ◌∷◌, ◌++◌, Bool, true, false, Some, None, arith}
+use Rattle.std.proofs.Common.{◌≡◌, ◌≢◌, ◌⊎◌, inl, inr, ⊎_elim, ◌∙◌, ap, sym, refl, ℕ, ◌==◌, List, [], ◌∷◌, ◌++◌, Bool, true, false, Option, Some, None, arith}
 use Rattle.std.proofs.lemmas.Bool.Decides.{nat_tests}
 use Rattle.p8_desk.specs.declared.rule.Known.{Known}
-use Rattle.p8_desk.specs.Rules.{known, change, of_same_cog, without}
+use Rattle.p8_desk.specs.Rules.{known, change, of_same_cog, without, list_of}
 
 pub some-same : {A : Type 0} (a b : A) → Some a ≡ Some b → a ≡ b
 some-same a b e = cc
@@ -106,3 +106,20 @@ known-right (x ∷ ps) qs n e = by-test (known-right ps qs n) (x.cog == n) refl
     by-test : (known ps n ≡ None → known (ps ++ qs) n ≡ known qs n) → (b : Bool) → (x.cog == n) ≡ b → known ((x ∷ ps) ++ qs) n ≡ known qs n
     by-test more true t = absurd (some-none x (rw t at e))
     by-test more false t = rw t (more (rw t at e))
+
+pub known-kept : (n : ℕ) (ps : List Known) (m : ℕ) → m ≢ n → known (without n ps) m ≡ known ps m
+known-kept n [] m ne = refl
+known-kept n (p ∷ ps) m ne = by-tests (known-kept n ps m ne) (p.cog == n) refl (p.cog == m) refl
+  where
+    by-tests : known (without n ps) m ≡ known ps m → (b : Bool) → (p.cog == n) ≡ b → (c : Bool) → (p.cog == m) ≡ c → known (without n (p ∷ ps)) m ≡ known (p ∷ ps) m
+    by-tests more true here true there = absurd (ne (sym (same-by-test _ _ there) ∙ same-by-test _ _ here))
+    by-tests more true here false there = rw (here, there) more
+    by-tests more false here true there = rw (here, there) refl
+    by-tests more false here false there = rw (here, there) more
+
+-- a cog's pass alone
+pub known-alone : (ps : List Known) (n : ℕ) (p : Known) → known ps n ≡ Some p → known (list_of (known ps n)) n ≡ Some p
+known-alone ps n p e = ap (λ (o : Option Known). known (list_of o) n) e ∙ rw (test-same p.cog n (known-cog ps n p e)) refl
+
+pub none-beside : (ps : List Known) (n : ℕ) (p : Known) (m : ℕ) → known ps n ≡ Some p → m ≢ n → known (list_of (known ps n)) m ≡ None
+none-beside ps n p m e ne = ap (λ (o : Option Known). known (list_of o) m) e ∙ rw (test-apart p.cog m (λ c. ne (sym c ∙ known-cog ps n p e))) refl

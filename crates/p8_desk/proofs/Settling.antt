@@ -1,6 +1,5 @@
 -- A pass after a try.
 use Rattle.std.proofs.Common.{◌≡◌, ◌⊎◌, inl, inr, ⊎_elim, ◌∙◌, ap, sym, subst, refl, ℕ, suc, ◌==◌, ◌<◌, ◌≤◌, ◌||◌, List, [], ◌∷◌, ◌++◌, length, Bool, true, false, Some, None, arith}
-use Rattle.atomic_table.specs.Seated.{TableId}
 use Rattle.p8_access.specs.declared.order.Turn.{Turn}
 use Rattle.p8_access.specs.declared.lives.Next.{Next}
 use Rattle.p8_history.specs.Worlds.{World}
@@ -9,15 +8,15 @@ use Rattle.p8_lives.specs.Lives.{asks}
 use Rattle.p8_record.specs.declared.steps.Step.TheVariants.{Took, Said}
 use Rattle.p8_record.specs.Records.{Record, turns, mine}
 use Rattle.p8_desk.specs.declared.rule.Known.{Known}
-use Rattle.p8_desk.specs.declared.runner.Runner.{Runner}
+use Rattle.p8_desk.specs.declared.rider.Rider.{Rider}
 use Rattle.p8_desk.specs.declared.turned.Turned.{Turned}
 use Rattle.p8_desk.specs.declared.turned.Turned.TheVariants.{Done, Held, After, Ahead, Over}
 use Rattle.p8_desk.specs.Passes.{PassSteps}
-use Rattle.p8_desk.specs.Rules.{Hand, world_in}
+use Rattle.p8_desk.specs.Rules.{Hand, known, world_in}
 use Rattle.p8_desk.specs.Runners.{Rides}
-use Rattle.p8_desk.specs.Seats.{or_new, pass_in, passed, Seated, is_over, made_by}
+use Rattle.p8_desk.specs.Seats.{or_new, pass_in, Keeps, Seated, is_over, made_by}
 use Rattle.p8_desk.specs.Tries.{Speaks, Got, Tried, seen_by}
-use Rattle.p8_desk.specs.Work.{steps_of, Moved}
+use Rattle.p8_desk.specs.Work.{steps_of, Moved, IsKept}
 use Rattle.p8_desk.proofs.Lookups.{test-same}
 
 -- nothing extends an ended history
@@ -45,7 +44,7 @@ mine-few n (Said cog next ∷ r) = by-test (mine-few n r) (cog == n) refl
     by-test le true t = rw t le
     by-test le false t = rw t le
 
-turns-spoken : (w : World) (n : ℕ) (next : Next) (r s : Record) → Speaks w n next r s → turns s ≡ turns r
+pub turns-spoken : (w : World) (n : ℕ) (next : Next) (r s : Record) → Speaks w n next r s → turns s ≡ turns r
 turns-spoken w n next r s (inl x) = ap turns x.0
 turns-spoken w n next r s (inr x) = ap turns x.0
 
@@ -118,37 +117,36 @@ or-true : (a b : Bool) → (a || b) ≡ true → (a ≡ true) ⊎ (b ≡ true)
 or-true true b e = inl refl
 or-true false b e = inr e
 
-module _ (cog : ℕ) (me now : Hand) (runner new : Runner) (made seen next_made next_seen : ℕ) (over end : Bool) (q : Known) (answer : Turned) (seated : Seated me cog runner made seen over) (moved : Moved cog q me.0 now.0) (free : now.0.holds ≡ None) (empty : now.1 ≡ []) (tried : Tried (world_in me.0.start) cog (steps_of (pass_in me cog)) (steps_of q) answer) where
-  here : pass_in now cog ≡ q
-  here = ap (or_new cog) moved.here
+-- what a pass keeps besides its seat, after a try
+pub kept-on : (w : World) (p q : Known) (rider new : Rider) (answer : Turned) → Keeps w p rider → new.cog ≡ rider.cog → Tried w rider.cog (steps_of p) (steps_of q) answer → IsKept w rider.cog q new.runner new.known → new.made ≡ made_by answer rider.made → new.over ≡ (rider.over || is_over answer)
+    → Keeps w q new
+kept-on w p q rider new answer keeps cog tried kept made_is over_is =
+    let a = later w rider.cog (steps_of p) (steps_of q) answer tried in
+    let count : new.made ≡ length (turns q.own) = made_is ∙ ap (made_by answer) keeps.made ∙ sym a.made in
+    let few : length (turns p.own) ≤ w.turns = subst (λ (k : ℕ). k ≤ w.turns) keeps.made keeps.few in record {
+      own = subst (λ (n : ℕ). q.own ≡ mine n q.seen) (sym cog) kept.own;
+      rides = subst (λ (n : ℕ). Rides w n q.seen new.runner) (sym cog) kept.rides;
+      made = count;
+      few = subst (λ (k : ℕ). k ≤ w.turns) (sym count) (a.few few);
+      seen = kept.count;
+      ended = λ e. ⊎_elim
+          (λ (x : rider.over ≡ true). a.kept (keeps.ended x))
+          (λ (x : is_over answer ≡ true). a.over x)
+          (or-true rider.over (is_over answer) (sym over_is ∙ e));
+    }
 
-  world : world_in now.0.start ≡ world_in me.0.start
-  world = ap world_in moved.start
-
-  -- the pass is as the try says
-  pub passed-as : (table : TableId) → passed table now cog end ≡ record { world = world_in me.0.start; table = table; cog = cog; steps = steps_of q; over = end }
-  passed-as table = λ i. record { world = world i; table = table; cog = cog; steps = steps_of (here i); over = end }
-
-  pub settled : Rides (world_in me.0.start) cog q.seen new → q.own ≡ mine cog q.seen → next_made ≡ made_by answer made → next_seen ≡ length (turns q.seen) → end ≡ (over || is_over answer) → Seated now cog new next_made next_seen end
-  settled rides own made_is seen_is over_is =
-      let a = later (world_in me.0.start) cog (steps_of (pass_in me cog)) (steps_of q) answer tried in
-      let count : next_made ≡ length (turns q.own) = made_is ∙ ap (made_by answer) seated.made ∙ sym a.made in
-      let few : length (turns (pass_in me cog).own) ≤ (world_in me.0.start).turns = subst (λ (k : ℕ). k ≤ (world_in me.0.start).turns) seated.made seated.few in record {
-        seat = record {
-          live = moved.live ∙ seated.seat.live;
-          free = free;
-          empty = empty;
-          near = seated.seat.near;
-          has = moved.here ∙ ap Some (sym here);
-          alone = λ n ne. moved.others n ne ∙ seated.seat.alone n ne;
-        };
-        own = subst (λ (k : Known). k.own ≡ mine cog k.seen) (sym here) own;
-        rides = subst (λ (y : World × Known). Rides y.0 cog (y.1).seen new) (λ i. (sym world i, sym here i)) rides;
-        made = count ∙ ap (λ (k : Known). length (turns k.own)) (sym here);
-        few = subst (λ (x : World). next_made ≤ x.turns) (sym world) (subst (λ (k : ℕ). k ≤ (world_in me.0.start).turns) (sym count) (a.few few));
-        seen = seen_is ∙ ap (λ (k : Known). length (turns k.seen)) (sym here);
-        ended = λ e. subst (λ (y : World × Known). Ended asks y.0 (turns (y.1).seen)) (λ i. (sym world i, sym here i)) (⊎_elim
-            (λ (x : over ≡ true). a.kept (seated.ended x))
-            (λ (x : is_over answer ≡ true). a.over x)
-            (or-true over (is_over answer) (sym over_is ∙ e)));
-      }
+-- a pass at a seat of its own, after a try
+pub seated-on : (me now : Hand) (rider new : Rider) (q : Known) → Seated me rider → Moved rider.cog q me.0 now.0 → now.0.holds ≡ None → now.1 ≡ [] → new.cog ≡ rider.cog → Keeps (world_in me.0.start) q new → Seated now new
+seated-on me now rider new q seated moved free empty cog keeps =
+    let here : pass_in now new.cog ≡ q = ap (pass_in now) cog ∙ ap (or_new rider.cog) moved.here in
+    let world : world_in now.0.start ≡ world_in me.0.start = ap world_in moved.start in record {
+      seat = record {
+        live = moved.live ∙ seated.seat.live;
+        free = free;
+        empty = empty;
+        near = subst (λ (n : ℕ). n < 8) (sym cog) seated.seat.near;
+        has = ap (known now.0.passes) cog ∙ moved.here ∙ ap Some (sym here);
+        alone = λ n ne. (let apart : n ≡ rider.cog → ⊥ = λ e. ne (e ∙ sym cog) in moved.others n apart ∙ seated.seat.alone n apart);
+      };
+      keeps = subst (λ (y : World × Known). Keeps y.0 y.1 new) (λ i. (sym world i, sym here i)) keeps;
+    }

@@ -1,5 +1,5 @@
 -- Seats are parted and joined, and the first seat has all passes.
-use Rattle.std.proofs.Common.{◌≡◌, ◌≢◌, ◌⊎◌, inl, inr, ⊎_elim, ◌∙◌, ap, sym, subst, refl, ℕ, zero, suc, ◌+◌, ◌-◌, ◌==◌, ◌<◌, ◌≤◌, List, [], ◌∷◌, ◌++◌, length, Bool, true, false, Some, None, arith, if◌then◌else◌}
+use Rattle.std.proofs.Common.{◌≡◌, ◌≢◌, ◌⊎◌, inl, inr, ⊎_elim, ◌∙◌, ap, sym, subst, refl, ℕ, zero, suc, ◌+◌, ◌-◌, ◌==◌, ◌<◌, ◌≤◌, List, [], ◌∷◌, ◌++◌, length, Bool, true, false, Option, Some, None, arith, if◌then◌else◌}
 use Rattle.std.specs.Prelude.{slice_set}
 use mathlib.Core.Option.{some, some-injective, some-ne-none}
 use lib.ListN.{get_elem?}
@@ -11,8 +11,8 @@ use Rattle.p8_record.specs.Records.{Record}
 use Rattle.p8_record.specs.Ledgers.{Found}
 use Rattle.p8_desk.specs.declared.rule.Known.{Known}
 use Rattle.p8_desk.specs.declared.rule.View.{View}
-use Rattle.p8_desk.specs.Rules.{world_in, known, PassFits, Fits, Kept, new_pass, new_passes, first_view, without, with_passes, behind_first, only_first, without_first, first_alone, joined, spent_view}
-use Rattle.p8_desk.proofs.Lookups.{some-same, none-some, same-by-test, test-same, test-apart, known-without, known-of-two}
+use Rattle.p8_desk.specs.Rules.{world_in, known, PassFits, Fits, Kept, new_pass, new_passes, first_view, without, with_passes, list_of, without_pass, pass_alone, joined, spent_view}
+use Rattle.p8_desk.proofs.Lookups.{some-same, none-some, same-by-test, test-same, test-apart, known-cog, known-without, known-of-two}
 
 -- the last entry or an earlier one
 at-end : {A : Type 0} (l : List A) (a b : A) (j : ℕ) → get_elem? (l ++ a ∷ []) j ≡ some b → ((j < length l) × (get_elem? l j ≡ some b)) ⊎ ((j ≡ length l) × (a ≡ b))
@@ -21,7 +21,7 @@ at-end [] a b (suc j) e = absurd (some-ne-none b (sym e))
 at-end (x ∷ xs) a b zero e = inl (omega arith, e)
 at-end (x ∷ xs) a b (suc j) e = ⊎_elim (λ t. inl ((let l = t.0 in omega arith), t.1)) (λ t. inr (ap suc t.0, t.1)) (at-end xs a b j e)
 
-length-set : {A : Type 0} (l : List A) (i : ℕ) (a : A) → length (slice_set l i a) ≡ length l
+pub length-set : {A : Type 0} (l : List A) (i : ℕ) (a : A) → length (slice_set l i a) ≡ length l
 length-set [] i a = refl
 length-set (x ∷ xs) zero a = refl
 length-set (x ∷ xs) (suc i) a = ap suc (length-set xs i a)
@@ -58,8 +58,8 @@ subfit start r owner next lock by to v ps free fits part = record {
   hold = λ m e. absurd (none-some m e);
 }
 
-pub splits : (start : Start) (id : ℕ) (v : View) → v.live ≡ true → v.holds ≡ None → Splits (Kept start) id v (without_first v) (first_alone v)
-splits start id v live free s h at = by-passes v.passes refl
+pub splits : (n : ℕ) (start : Start) (id : ℕ) (v : View) → v.live ≡ true → v.holds ≡ None → Splits (Kept start) id v (without_pass n v) (pass_alone n v)
+splits n start id v live free s h at = by-known (known v.passes n) refl
   where
     own : Fits start h.r h.owner h.lock id v
     own = h.each id v at live
@@ -90,18 +90,20 @@ splits start id v live free s h at = by-passes v.passes refl
           (at-end (slice_set s.views id (with_passes v left)) (with_passes v right) x by e);
     }
 
-    by-passes : (ps : List Known) → v.passes ≡ ps → Kept start (record { words = s.words; homes = s.homes; views = slice_set s.views id (with_passes v (behind_first v.passes)) ++ with_passes v (only_first v.passes) ∷ [] })
-    by-passes [] is = rw is (with-owner h.owner [] [] (λ by m ne o. o) (λ m q e. absurd (none-some q e)) (λ m q e. absurd (none-some q e)))
-    by-passes (p ∷ ps) is = rw is (with-owner (moved_to h.owner p.cog (length s.views)) (without p.cog ps) (p ∷ [])
-        (λ by m ne o. moved-beside h.owner p.cog (length s.views) m (λ c. ne (sym o ∙ ap h.owner c ∙ first)) ∙ o)
-        (λ m q e. (let x = known-without p.cog ps m q e in let k : known v.passes m ≡ Some q = rw (is, test-apart p.cog m (λ c. x.0 (sym c))) x.1 in (k, moved-beside h.owner p.cog (length s.views) m x.0 ∙ (own.passes m q k).here)))
-        (λ m q e. one m q e (p.cog == m) refl))
+    by-known : (o : Option Known) → known v.passes n ≡ o → Kept start (record { words = s.words; homes = s.homes; views = slice_set s.views id (with_passes v (without n v.passes)) ++ with_passes v (list_of o) ∷ [] })
+    by-known None is = with-owner h.owner (without n v.passes) []
+        (λ by m ne o. o)
+        (λ m q e. (let x = known-without n v.passes m q e in (x.1, (own.passes m q x.1).here)))
+        (λ m q e. absurd (none-some q e))
+    by-known (Some p) is = with-owner (moved_to h.owner n (length s.views)) (without n v.passes) (p ∷ [])
+        (λ by m ne o. moved-beside h.owner n (length s.views) m (λ c. ne (sym o ∙ ap h.owner c ∙ (own.passes n p is).here)) ∙ o)
+        (λ m q e. (let x = known-without n v.passes m q e in (x.1, moved-beside h.owner n (length s.views) m x.0 ∙ (own.passes m q x.1).here)))
+        (λ m q e. one m q e (p.cog == m) refl)
       where
-        first : h.owner p.cog ≡ id
-        first = (own.passes p.cog p (rw (is, test-same p.cog p.cog refl) refl)).here
-
-        one : (m : ℕ) (q : Known) → known (p ∷ []) m ≡ Some q → (b : Bool) → (p.cog == m) ≡ b → (known v.passes m ≡ Some q) × (moved_to h.owner p.cog (length s.views) m ≡ length s.views)
-        one m q e true c = (rw (is, c) (rw c at e), moved-here h.owner p.cog (length s.views) m (sym (same-by-test _ _ c)))
+        one : (m : ℕ) (q : Known) → known (p ∷ []) m ≡ Some q → (b : Bool) → (p.cog == m) ≡ b → (known v.passes m ≡ Some q) × (moved_to h.owner n (length s.views) m ≡ length s.views)
+        one m q e true c =
+            let here : m ≡ n = sym (same-by-test _ _ c) ∙ known-cog v.passes n p is in
+            (ap (known v.passes) here ∙ is ∙ rw c at e, moved-here h.owner n (length s.views) m here)
         one m q e false c = absurd (none-some q (rw c at e))
 
 pub joins : (start : Start) (id : ℕ) (v : View) (other : ℕ) (u : View) → v.live ≡ true → v.holds ≡ None → u.live ≡ true → u.holds ≡ None → Joins (Kept start) id v other u (joined v u) spent_view
@@ -197,9 +199,15 @@ new-next cog lt =
     let f : suc cog ≡ cog + 1 = omega arith in
     ap (λ (k : ℕ). new_passes k cog) e ∙ ap (λ (k : ℕ). new_pass cog ∷ new_passes (8 - (cog + 1)) k) f
 
-pub first-of-new : (start : Start) (cog : ℕ) (v : View) → cog < 8 → v ≡ with_passes (first_view start) (new_passes (8 - cog) cog) → first_alone v ≡ with_passes (first_view start) (new_pass cog ∷ [])
-first-of-new start cog v lt is = ap first_alone (is ∙ ap (λ (l : List Known). with_passes (first_view start) l) (new-next cog lt))
+pub first-of-new : (start : Start) (cog : ℕ) (v : View) → cog < 8 → v ≡ with_passes (first_view start) (new_passes (8 - cog) cog) → pass_alone cog v ≡ with_passes (first_view start) (new_pass cog ∷ [])
+first-of-new start cog v lt is = ap (pass_alone cog) (is ∙ ap (λ (l : List Known). with_passes (first_view start) l) (new-next cog lt)) ∙ one (new_passes (8 - (cog + 1)) (cog + 1))
+  where
+    one : (ps : List Known) → pass_alone cog (with_passes (first_view start) (new_pass cog ∷ ps)) ≡ with_passes (first_view start) (new_pass cog ∷ [])
+    one ps = rw (test-same cog cog refl) refl
 
-pub rest-of-new : (start : Start) (cog : ℕ) (v : View) → cog < 8 → v ≡ with_passes (first_view start) (new_passes (8 - cog) cog) → without_first v ≡ with_passes (first_view start) (new_passes (8 - (cog + 1)) (cog + 1))
+pub rest-of-new : (start : Start) (cog : ℕ) (v : View) → cog < 8 → v ≡ with_passes (first_view start) (new_passes (8 - cog) cog) → without_pass cog v ≡ with_passes (first_view start) (new_passes (8 - (cog + 1)) (cog + 1))
 rest-of-new start cog v lt is =
-    ap without_first (is ∙ ap (λ (l : List Known). with_passes (first_view start) l) (new-next cog lt)) ∙ ap (λ (l : List Known). with_passes (first_view start) l) (without-new cog (8 - (cog + 1)) (cog + 1) (omega arith))
+    ap (without_pass cog) (is ∙ ap (λ (l : List Known). with_passes (first_view start) l) (new-next cog lt)) ∙ rest (new_passes (8 - (cog + 1)) (cog + 1)) ∙ ap (λ (l : List Known). with_passes (first_view start) l) (without-new cog (8 - (cog + 1)) (cog + 1) (omega arith))
+  where
+    rest : (ps : List Known) → without_pass cog (with_passes (first_view start) (new_pass cog ∷ ps)) ≡ with_passes (first_view start) (without cog ps)
+    rest ps = rw (test-same cog cog refl) refl

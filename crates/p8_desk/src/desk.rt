@@ -12,6 +12,7 @@ use p8_access::Turn;
 use p8_record::Start;
 use std::marker::Model;
 use std::sync::Wait;
+use std::thread::yield_now;
 
 /// A desk at which the passes of eight cogs make the turns of one history. They may be in as many threads.
 #[derive(Drop)]
@@ -64,8 +65,9 @@ impl Desk {
             match self.try_turn(pass) {
                 Turned::Done(turn) => return Some(turn),
                 Turned::Over => return None,
-                Turned::Held { .. } => {}
-                Turned::After { .. } => {}
+                // Others are to come first, and they may lack a processor.
+                Turned::Held { .. } => yield_now(),
+                Turned::After { .. } => yield_now(),
                 Turned::Ahead { .. } => {}
             }
         }

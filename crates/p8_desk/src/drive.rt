@@ -6,14 +6,13 @@ ghost use Rattle.p8_desk.specs.Gathering.{Riding, Rode};
 ghost use Rattle.p8_desk.specs.PassSets.{AllThere, HasOver};
 
 use crate::desk::Desk;
-use crate::gather::{gather, scatter};
+use crate::gather::{Riders, gather, scatter};
 use crate::passes::Passes;
-use crate::rider::Rider;
 use crate::rule::Place;
 use crate::turned::Turned;
 
 /// One try of a cog, by a seat that has the passes of all cogs.
-fn ride(desk: &Desk, seat: &mut Place, riders: &mut [Option<Rider>], cog: u8) -> Turned
+fn ride(desk: &Desk, seat: &mut Place, riders: &mut Riders, cog: u8) -> Turned
     requires cog { cog < 8 }
     requires own { seat.old.table_id ≡ desk.now.table }
     requires riding { Riding desk.now.world seat.old.me riders.old }
@@ -40,7 +39,7 @@ fn next_after(cog: u8, answer: Turned) -> Option<u8>
 }
 
 /// Lets the cogs try, beginning with cog 0, until the history has ended.
-fn drive(desk: &Desk, seat: &mut Place, riders: &mut [Option<Rider>])
+fn drive(desk: &Desk, seat: &mut Place, riders: &mut Riders)
     requires own { seat.old.table_id ≡ desk.now.table }
     requires riding { Riding desk.now.world seat.old.me riders.old }
     ensures own { seat.new.table_id ≡ desk.now.table }

@@ -13,6 +13,9 @@ use crate::rider::Rider;
 use crate::rule::Place;
 use crate::steps::{join, part};
 
+/// What the passes of eight cogs keep besides their seats, each at its cog's place while it is taken apart.
+pub type Riders = [Option<Rider>; 8];
+
 /// The seat of a pass, and what it keeps besides.
 fn take_apart(pass: CogPass) -> (Place, Rider)
     ensures { PartsOf pass result.0.table_id result.0.me result.1 }
@@ -22,7 +25,7 @@ fn take_apart(pass: CogPass) -> (Place, Rider)
 }
 
 /// Takes the pass of a cog, which is there: gives its seat, and puts what it keeps besides into its place.
-fn take_seat(passes: &mut Passes, riders: &mut [Option<Rider>], cog: u8) -> Place
+fn take_seat(passes: &mut Passes, riders: &mut Riders, cog: u8) -> Place
     requires there { (cog < 8) × (pass : PassValue) × (slice_get passes.old cog ≡ Some (Some pass)) }
     requires room { length riders.old ≡ 8 }
     ensures own { (pass : PassValue) → slice_get passes.old cog ≡ Some (Some pass) → (rider : Rider) × (riders.new ≡ slice_set riders.old cog (Some rider)) × PartsOf pass result.table_id result.me rider }
@@ -39,13 +42,15 @@ fn take_seat(passes: &mut Passes, riders: &mut [Option<Rider>], cog: u8) -> Plac
 }
 
 /// A seat that has all passes. What they keep besides comes to their places among `riders`.
-pub fn gather(desk: &Desk, passes: &mut Passes, riders: &mut [Option<Rider>]) -> Place
+pub fn gather(desk: &Desk, passes: &mut Passes, riders: &mut Riders) -> Place
     requires there { AllThere desk.now passes.old }
     requires room { length riders.old ≡ 8 }
     ensures own { result.table_id ≡ desk.now.table }
     ensures gathered { Gathered desk.now.world passes.old riders.new 8 result.me }
     ensures out { (n : ℕ) → n < 8 → IsOut n passes.new }
+    ensures eight { length passes.old ≡ 8 }
 {
+    let _ = &passes.places;
     let mut seat = take_seat(passes, riders, 0);
     for cog in 1..8u8 {
         let other = take_seat(passes, riders, cog);
@@ -67,7 +72,7 @@ fn put_back(passes: &mut Passes, seat: Place, rider: Rider)
 }
 
 /// Puts a pass together whose seat is given and that lies at its place among the riders.
-fn put_next(passes: &mut Passes, seat: Place, riders: &mut [Option<Rider>], cog: u8)
+fn put_next(passes: &mut Passes, seat: Place, riders: &mut Riders, cog: u8)
     requires there { (cog < 8) × (rider : Rider) × (slice_get riders.old cog ≡ Some (Some rider)) × (rider.cog ≡ cog) × Seated seat.me rider × IsOut cog passes.old }
     ensures put { (rider : Rider) → slice_get riders.old cog ≡ Some (Some rider) → passes.new ≡ slice_set passes.old cog (Some (passed seat.table_id seat.me cog rider.over)) }
     ensures left { riders.new ≡ slice_set riders.old cog None }
@@ -79,7 +84,7 @@ fn put_next(passes: &mut Passes, seat: Place, riders: &mut [Option<Rider>], cog:
 }
 
 /// Gives each pass a seat of its own again, and puts it back into its place.
-pub fn scatter(desk: &Desk, seat: Place, riders: &mut [Option<Rider>], passes: &mut Passes)
+pub fn scatter(desk: &Desk, seat: Place, riders: &mut Riders, passes: &mut Passes)
     requires own { seat.table_id ≡ desk.now.table }
     requires riding { Riding desk.now.world seat.me riders.old }
     requires out { (n : ℕ) → n < 8 → IsOut n passes.old }

@@ -2,8 +2,8 @@
 ghost use Rattle.std.specs.Prelude.{◌≡◌, length};
 ghost use Rattle.p8_record.specs.Records.{turns};
 
-use crate::rule::Place;
 use crate::rider::Rider;
+use crate::rule::Place;
 use std::marker::Model;
 
 /// The right of one cog to make its turns at the desk that made the pass. It holds the cog's life.

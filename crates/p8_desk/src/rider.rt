@@ -45,12 +45,12 @@ impl Rider {
     pub fn ride(&mut self, desk: &Desk, seat: &mut Place) -> Turned
         requires own { (seat.old.table_id ≡ desk.now.table) × (world_in seat.old.me.0.start ≡ desk.now.world) × (self.old.cog < 8) }
         requires free { (seat.old.me.0.live ≡ true) × (seat.old.me.0.holds ≡ None) × (seat.old.me.1 ≡ []) }
-        requires keeps { (p : Known) × (known_in seat.old.me.0.passes self.old.cog ≡ Some p) × Keeps desk.now.world p self.old }
+        requires keeps { (p : Known) × (known_in seat.old.me.0.passes self.old.cog ≡ Some p) × Keeps (world_in seat.old.me.0.start) p self.old }
         ensures own { (seat.new.table_id ≡ seat.old.table_id) × (self.new.cog ≡ self.old.cog) }
         ensures free { (seat.new.me.0.holds ≡ None) × (seat.new.me.1 ≡ []) }
         ensures over { self.new.over ≡ (self.old.over || is_over result) }
         ensures held { (by : ℕ) → result ≡ Held by → (p : Known) → known_in seat.old.me.0.passes by ≡ Some p → ⊥ }
-        ensures tried { (p : Known) → known_in seat.old.me.0.passes self.old.cog ≡ Some p → Keeps desk.now.world p self.old → (q : Known) × Moved self.old.cog q seat.old.me.0 seat.new.me.0 × TriedIn seat.old.me.0.passes desk.now.world self.old.cog p q result × Keeps desk.now.world q self.new }
+        ensures tried { (p : Known) → known_in seat.old.me.0.passes self.old.cog ≡ Some p → Keeps (world_in seat.old.me.0.start) p self.old → (q : Known) × Moved self.old.cog q seat.old.me.0 seat.new.me.0 × TriedIn seat.old.me.0.passes (world_in seat.old.me.0.start) self.old.cog p q result × Keeps (world_in seat.old.me.0.start) q self.new }
     {
         self.runner.find(desk.start.limits.clocks);
         let answer = attempt(

@@ -1,0 +1,17 @@
+use Rattle.std.proofs.Common.{◌≡◌, ◌<◌}
+use Rattle.p8_desk.specs.Driving.{left_to_do}
+use Rattle.p8_desk.specs.Gathering.{Riding}
+use Rattle.p8_desk.specs.Seats.{pass_in}
+use Rattle.p8_desk.proofs.Driving.{Answered}
+use Rattle.p8_desk.proofs.drive.drive.Given as goal
+
+abbrev pub invariant-loop-next : goal.invariant-loop-next
+invariant-loop-next l = record {
+  table : l.seat.table_id ≡ l.fn.desk.table;
+  near : l.cog < 8;
+  riding : Riding l.fn.desk.world l.seat.me l.riders;
+  answered : Answered l.fn.desk.world l.cog l.seat.me l.riders l.answer;
+}
+
+abbrev pub decreases-loop-next : goal.decreases-loop-next
+decreases-loop-next l = left_to_do l.fn.desk.world (pass_in l.seat.me l.cog).seen l.answer

@@ -1,5 +1,0 @@
-use Rattle.p8_desk.proofs.Sharing.{splits}
-use Rattle.p8_desk.proofs.steps.part.Goals as goal
-
-pub split_seat-requires : goal.split_seat-requires
-split_seat-requires c = (c.requires.own.0, c.requires.own.1, splits _ _ _ c.requires.free.0 c.requires.free.1)
