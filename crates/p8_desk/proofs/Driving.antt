@@ -1,5 +1,5 @@
 -- One try by a seat that has all passes.
-use Rattle.std.proofs.Common.{◌≡◌, ◌≢◌, ◌⊎◌, inl, inr, ⊎_elim, ◌∙◌, ap, sym, subst, refl, ℕ, ◌+◌, ◌==◌, ◌<◌, ◌≤◌, ◌||◌, List, [], ◌∷◌, ◌++◌, length, suc, Bool, true, false, Option, Some, None, arith}
+use Rattle.std.proofs.Common.{◌≡◌, ◌≢◌, ◌⊎◌, inl, inr, ⊎_elim, ◌∙◌, ap, sym, subst, refl, ℕ, ◌+◌, ◌<◌, ◌≤◌, ◌||◌, List, [], ◌∷◌, ◌++◌, length, suc, Bool, true, false, Option, Some, None, arith}
 use Rattle.std.specs.Prelude.{slice_get, slice_set}
 use mathlib.Core.Logic.{dite}
 use native.Mathlib.Decide.{ℕ_discrete}
@@ -18,13 +18,12 @@ use Rattle.p8_desk.specs.declared.rule.View.{View}
 use Rattle.p8_desk.specs.declared.turned.Turned.{Turned}
 use Rattle.p8_desk.specs.declared.turned.Turned.TheVariants.{Done, Held, After, Ahead, Over}
 use Rattle.p8_desk.specs.Driving.{left_to_do, next_cog}
-use Rattle.p8_desk.specs.Gathering.{Idle, RidesIn, Riding, Rode}
-use Rattle.p8_desk.specs.Passes.{PassSteps}
+use Rattle.p8_desk.specs.Gathering.{Riding, Rode}
 use Rattle.p8_desk.specs.Rules.{Hand, known, world_in, Agrees, IsOfCogs, IsNewestOf}
 use Rattle.p8_desk.specs.Seats.{Keeps, is_over, pass_in, or_new}
-use Rattle.p8_desk.specs.Tries.{Speaks, Answers, Got, seen_by}
-use Rattle.p8_desk.specs.Work.{steps_of, Moved, Latest, GotIn, TriedIn}
-use Rattle.p8_desk.proofs.Lookups.{test-same, test-apart, some-same, none-some}
+use Rattle.p8_desk.specs.Tries.{Speaks, Answers, seen_by}
+use Rattle.p8_desk.specs.Work.{Moved, Latest, GotIn, TriedIn}
+use Rattle.p8_desk.proofs.Lookups.{test-apart, some-same, none-some}
 use Rattle.p8_desk.proofs.Remaining.{tries-fall}
 use Rattle.p8_desk.proofs.Settling.{turns-spoken}
 use Rattle.p8_desk.proofs.Gathering.{set-beside, set-there, at-below}

@@ -1,5 +1,5 @@
 -- All passes in one seat, and the end.
-use Rattle.std.proofs.Common.{◌≡◌, ◌≢◌, ◌∙◌, ap, sym, subst, refl, ℕ, zero, suc, ◌+◌, ◌<◌, List, [], ◌∷◌, ◌++◌, length, Bool, Option, Some, arith}
+use Rattle.std.proofs.Common.{◌≡◌, ◌≢◌, ◌∙◌, ap, sym, subst, refl, ℕ, zero, suc, ◌+◌, ◌<◌, List, [], ◌∷◌, length, Option, Some, arith}
 use Rattle.std.specs.Prelude.{slice_get, slice_set, slice_index_or}
 use mathlib.Core.Option.{none}
 use mathlib.Core.Logic.{dite}
@@ -14,7 +14,6 @@ use Rattle.p8_record.specs.declared.ledger.Ledger.{Ledger}
 use Rattle.p8_record.specs.Records.{Record, turns, mine, Begins}
 use Rattle.p8_record.specs.Ledgers.{Found}
 use Rattle.p8_desk.specs.declared.rider.Rider.{Rider}
-use Rattle.p8_desk.specs.declared.rule.Known.{Known}
 use Rattle.p8_desk.specs.Gathering.{PartsOf, RidesIn, Gathered, Riding}
 use Rattle.p8_desk.specs.PassSets.{AllThere, HasOver}
 use Rattle.p8_desk.specs.Passes.{DeskValue, PassValue, PassSteps, Owns}

@@ -1,5 +1,5 @@
 -- What is left of a run falls with each try.
-use Rattle.std.proofs.Common.{◌≡◌, ◌≢◌, ◌⊎◌, inl, inr, ⊎_elim, ◌∙◌, ap, sym, subst, refl, ℕ, zero, suc, ◌+◌, ◌-◌, ◌*◌, ◌==◌, ◌<◌, ◌≤◌, ◌∷◌, length, Some, arith}
+use Rattle.std.proofs.Common.{◌≡◌, ◌≢◌, ◌⊎◌, inl, inr, ⊎_elim, ◌∙◌, ap, sym, subst, refl, ℕ, zero, suc, ◌+◌, ◌-◌, ◌*◌, ◌<◌, ◌≤◌, ◌∷◌, length, Some, arith}
 use mathlib.Core.Logic.{dite}
 use native.Mathlib.Decide.{ℕ_discrete}
 use Rattle.p8_access.specs.declared.order.Key.{Key}
@@ -15,7 +15,7 @@ use Rattle.p8_history.specs.Hub.{cog_state}
 use Rattle.p8_history.proofs.Nexts.{same_key}
 use Rattle.p8_record.specs.declared.steps.Step.{Step}
 use Rattle.p8_record.specs.declared.steps.Step.TheVariants.{Took, Said}
-use Rattle.p8_record.specs.Records.{Record, turns, said, says, cog_of, HasFront, HasFrontIn, HasFrontBy, IsLeastFront, NoFront, Owes}
+use Rattle.p8_record.specs.Records.{Record, turns, said, says, cog_of, HasFront, HasFrontIn, IsLeastFront, NoFront}
 use Rattle.p8_desk.specs.declared.turned.Turned.{Turned}
 use Rattle.p8_desk.specs.declared.turned.Turned.TheVariants.{Done, Held, After, Ahead, Over}
 use Rattle.p8_desk.specs.Driving.{open_by, open_in, rest_of, names_none, left_to_do, next_cog}

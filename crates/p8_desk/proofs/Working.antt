@@ -2,13 +2,13 @@
 use Rattle.std.proofs.Common.{◌≡◌, ◌⊎◌, inl, inr, ⊎_elim, ◌∙◌, ap, sym, subst, refl, ℕ, ◌+◌, ◌*◌, ◌^◌, ◌<◌, List, ◌∷◌, length, Bool, true, Some, arith}
 use Rattle.p8_access.specs.declared.order.Turn.{Turn}
 use Rattle.p8_access.specs.declared.lives.Next.{Next}
-use Rattle.p8_access.specs.declared.lives.Next.TheVariants.{At, Quiet, More}
+use Rattle.p8_access.specs.declared.lives.Next.TheVariants.{More}
 use Rattle.p8_access.specs.Lives.{Begun, PasmBegun, SpinBegun, IsAnnounced, announced_by}
 use Rattle.p8_history.specs.declared.states.CogState.{CogState}
 use Rattle.p8_history.specs.Hub.{cog_state}
 use Rattle.p8_machine.specs.Standing.{FitsState}
 use Rattle.p8_history.specs.Worlds.{World}
-use Rattle.p8_history.specs.Histories.{begun, since_begin, Extends, Ended, IsOver}
+use Rattle.p8_history.specs.Histories.{since_begin, Ended}
 use Rattle.p8_lives.specs.declared.kind.Kind.{Kind}
 use Rattle.p8_lives.specs.declared.kind.Kind.TheVariants.{Pasm as OfPasm, Spin as OfSpin}
 use Rattle.p8_lives.specs.Kinds.{number_of, fact_of}

@@ -1,7 +1,7 @@
 // The desk.
 ghost use Rattle.std.specs.Prelude.{◌≡◌, ◌||◌, true, IfSome, IfNone};
 ghost use Rattle.p8_desk.specs.declared.turned.Turned.TheVariants.{Done, Over};
-ghost use Rattle.p8_desk.specs.Passes.{Owns, PassSteps, PassValue};
+ghost use Rattle.p8_desk.specs.Passes.{Owns, PassSteps};
 ghost use Rattle.p8_desk.specs.Seats.{is_over};
 ghost use Rattle.p8_desk.specs.Tries.{Tried};
 

@@ -1,5 +1,5 @@
 // A pass but for its seat.
-ghost use Rattle.std.specs.Prelude.{◌≡◌, ◌≤◌, ◌<◌, ◌^◌, ◌||◌, ℕ, true, [], Some, None};
+ghost use Rattle.std.specs.Prelude.{◌≡◌, ◌<◌, ◌^◌, ◌||◌, ℕ, true, [], Some, None};
 ghost use Rattle.p8_desk.specs.declared.rule.Known.{Known};
 ghost use Rattle.p8_desk.specs.declared.turned.Turned.TheVariants.{Held};
 ghost use Rattle.p8_desk.specs.Rules.{known as known_in, world_in};

@@ -1,4 +1,4 @@
-use Rattle.std.proofs.Common.{◌≡◌, ◌∙◌, sym}
+use Rattle.std.proofs.Common.{◌∙◌, sym}
 use Rattle.p8_desk.proofs.Driving.{answered, falls, next-cog, ended-by}
 use Rattle.p8_desk.proofs.drive.drive.Goals as goal
 

@@ -1,4 +1,4 @@
-use Rattle.std.proofs.Common.{◌≡◌, ◌∙◌, ◌<◌, ℕ, ap, sym, subst, refl, List, Option, Some, None, arith}
+use Rattle.std.proofs.Common.{◌≡◌, ◌∙◌, ap, sym, subst, refl, List, Option, None, arith}
 use Rattle.std.specs.Prelude.{slice_get}
 use Rattle.p8_desk.specs.declared.rider.Rider.{Rider}
 use Rattle.p8_desk.specs.Gathering.{Idle}

@@ -1,4 +1,4 @@
-use Rattle.std.proofs.Common.{◌≡◌, ◌∙◌, ◌∷◌, ℕ, ap, subst, Some, List, arith}
+use Rattle.std.proofs.Common.{◌∙◌, ◌∷◌, ℕ, ap, subst, Some, List, arith}
 use mathlib.Core.Option.{none}
 use Rattle.atomic_table.specs.Table.{step as move}
 use Rattle.p8_desk.specs.Rules.{Hand, Slot, Seized}
