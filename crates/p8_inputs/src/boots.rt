@@ -1,0 +1,61 @@
+// The boot of a file that is run.
+ghost use Rattle.std.specs.Prelude.{◌≡◌, IfOk, OnOk, IfErr, None};
+ghost use Rattle.p8_access.specs.Proper.{IsProperOrigin};
+ghost use Rattle.p8_inputs.specs.Programs.{fault_of, memory_by, first_by, IsFaultOf};
+ghost use Rattle.p8_inputs.specs.declared.program.Format.TheVariants.{Memory, Image};
+
+use crate::program::Format;
+use p8_access::Boot;
+use p8_image::{LoadFault, load};
+use p8_words::{Fail, NoMemory};
+use std::alloc::Global;
+
+/// How many bytes the hub has.
+const HUB_BYTES: usize = 32_768;
+
+/// The boot of hub memory.
+fn memory_boot(alloc: Global, bytes: &[u8]) -> Result<Boot, Fail<LoadFault>>
+    ensures ram { IfOk result (λ boot. boot.ram ≡ memory_by Memory bytes.now) }
+    ensures first { IfOk result (λ boot. boot.first ≡ first_by Memory bytes.now) }
+    ensures good { OnOk result (fault_of Memory bytes.now ≡ None) }
+    ensures refused { IfErr result (IsFaultOf Memory bytes.now) }
+    ensures proper { IfOk result (λ boot. IsProperOrigin boot.first) }
+{
+    let length = bytes.len();
+    if length > HUB_BYTES {
+        return Err(Fail::Refused(LoadFault::BadLength { length }));
+    }
+    match Boot::raw(alloc, bytes) {
+        Ok(boot) => Ok(boot),
+        Err(NoMemory) => Err(Fail::NoMemory),
+    }
+}
+
+/// The boot of an image.
+fn image_boot(alloc: Global, bytes: &[u8]) -> Result<Boot, Fail<LoadFault>>
+    ensures ram { IfOk result (λ boot. boot.ram ≡ memory_by Image bytes.now) }
+    ensures first { IfOk result (λ boot. boot.first ≡ first_by Image bytes.now) }
+    ensures good { OnOk result (fault_of Image bytes.now ≡ None) }
+    ensures refused { IfErr result (IsFaultOf Image bytes.now) }
+    ensures proper { IfOk result (λ boot. IsProperOrigin boot.first) }
+{
+    let image = load(alloc, bytes)?;
+    match image.boot(alloc) {
+        Ok(boot) => Ok(boot),
+        Err(NoMemory) => Err(Fail::NoMemory),
+    }
+}
+
+/// The boot of a file's bytes, by what they are taken for.
+pub fn boot_of(alloc: Global, format: Format, bytes: &[u8]) -> Result<Boot, Fail<LoadFault>>
+    ensures ram { IfOk result (λ boot. boot.ram ≡ memory_by format bytes.now) }
+    ensures first { IfOk result (λ boot. boot.first ≡ first_by format bytes.now) }
+    ensures good { OnOk result (fault_of format bytes.now ≡ None) }
+    ensures refused { IfErr result (IsFaultOf format bytes.now) }
+    ensures proper { IfOk result (λ boot. IsProperOrigin boot.first) }
+{
+    match format {
+        Format::Memory => memory_boot(alloc, bytes),
+        Format::Image => image_boot(alloc, bytes),
+    }
+}

@@ -1,0 +1,127 @@
+// The files of a run.
+ghost use Rattle.std.specs.Prelude.{◌≡◌, ◌≤◌, Some, IfOk, IfErr};
+ghost use Rattle.p8_access.specs.Proper.{IsProperOrigin};
+ghost use Rattle.p8_io.specs.Shelves.{IsRead};
+ghost use Rattle.p8_inputs.specs.Inputs.{IsScriptFor};
+ghost use Rattle.p8_inputs.specs.Naming.{name_of};
+ghost use Rattle.p8_inputs.specs.Runs.{Begins};
+ghost use Rattle.p8_inputs.specs.Steps.{IsBootOf, StopsAtFile, StopsAtProgram, StopsAtScript};
+ghost use Rattle.p8_inputs.specs.Stops.{Stops};
+
+use crate::boots::boot_of;
+use crate::program::Program;
+use crate::stop::Stop;
+use p8_access::Boot;
+use p8_io::{Shelf, ShelfError};
+use p8_pins::PinScript;
+use p8_words::Fail;
+use std::alloc::Global;
+
+/// What a run begins with.
+#[derive(Drop)]
+pub struct Inputs {
+    /// The hub's memory and what cog 0 is started with.
+    pub boot: Boot,
+    /// The levels of the input pins.
+    pub script: PinScript,
+}
+
+/// The bytes of a file.
+fn bytes_in<'a, S: Shelf>(alloc: Global, file: &'a str, shelf: &mut S) -> Result<Vec<u8>, Stop<'a>>
+    ensures read { IfOk result (λ bytes. IsRead (S.files shelf.old) file.now bytes.items) }
+    ensures stopped { IfErr result (StopsAtFile (S.files shelf.old) (S.faults shelf.old) (S.faults shelf.new) file.now) }
+    ensures later { S.faults shelf.old ≤ S.faults shelf.new }
+    ensures kept { S.files shelf.new ≡ S.files shelf.old }
+{
+    match shelf.read(alloc, file) {
+        Ok(bytes) => Ok(bytes),
+        Err(ShelfError::Missing) => Err(Stop::Missing { file }),
+        Err(ShelfError::Failed) => Err(Stop::Unread { file }),
+        Err(ShelfError::NoMemory) => Err(Stop::NoMemory),
+    }
+}
+
+/// The boot of the file to run.
+fn boot_in<'a, S: Shelf>(
+    alloc: Global,
+    program: Program<'a>,
+    shelf: &mut S,
+) -> Result<Boot, Stop<'a>>
+    ensures boot { IfOk result (IsBootOf (S.files shelf.old) program.entry.format program.entry.file.now) }
+    ensures proper { IfOk result (λ boot. IsProperOrigin boot.first) }
+    ensures stopped { IfErr result (StopsAtProgram (S.files shelf.old) (S.faults shelf.old) (S.faults shelf.new) program.entry.format program.entry.file.now) }
+    ensures later { S.faults shelf.old ≤ S.faults shelf.new }
+    ensures kept { S.files shelf.new ≡ S.files shelf.old }
+{
+    let file = program.file;
+    let bytes = bytes_in(alloc, file, shelf)?;
+    match boot_of(alloc, program.format, &bytes) {
+        Ok(boot) => Ok(boot),
+        Err(Fail::Refused(fault)) => Err(Stop::BadProgram { file, fault }),
+        Err(Fail::NoMemory) => Err(Stop::NoMemory),
+    }
+}
+
+/// The pin script of a file.
+fn script_in<'a, S: Shelf>(
+    alloc: Global,
+    file: &'a str,
+    shelf: &mut S,
+) -> Result<PinScript, Stop<'a>>
+    ensures script { IfOk result (IsScriptFor (S.files shelf.old) (Some file.now)) }
+    ensures stopped { IfErr result (StopsAtScript (S.files shelf.old) (S.faults shelf.old) (S.faults shelf.new) (Some file.now)) }
+    ensures later { S.faults shelf.old ≤ S.faults shelf.new }
+    ensures kept { S.files shelf.new ≡ S.files shelf.old }
+{
+    let bytes = bytes_in(alloc, file, shelf)?;
+    match PinScript::read(alloc, &bytes) {
+        Ok(script) => Ok(script),
+        Err(Fail::Refused(fault)) => Err(Stop::BadScript {
+            file,
+            line: fault.line,
+        }),
+        Err(Fail::NoMemory) => Err(Stop::NoMemory),
+    }
+}
+
+/// The pin script of a run: that of a file, where one is named, and else one without lines.
+fn script_for<'a, S: Shelf>(
+    alloc: Global,
+    script: Option<&'a str>,
+    shelf: &mut S,
+) -> Result<PinScript, Stop<'a>>
+    ensures script { IfOk result (IsScriptFor (S.files shelf.old) (name_of script.entry)) }
+    ensures stopped { IfErr result (StopsAtScript (S.files shelf.old) (S.faults shelf.old) (S.faults shelf.new) (name_of script.entry)) }
+    ensures later { S.faults shelf.old ≤ S.faults shelf.new }
+    ensures kept { S.files shelf.new ≡ S.files shelf.old }
+{
+    match script {
+        None => Ok(PinScript::empty(alloc)),
+        Some(file) => script_in(alloc, file, shelf),
+    }
+}
+
+/// Reads what a run begins with: the file to run, and then the pin script, if one is named.
+///
+/// # Errors
+///
+/// The first reason why there is nothing to run. `Missing`: the shelf has no file of that name. `BadProgram`: exactly where
+/// the file to run is no image, with its first fault, or is more than 32,768 bytes of hub memory. `BadScript`: exactly
+/// where the pin script has a bad line, or more than 1,048,576 bytes. `Unread`: only where the shelf has counted a fault.
+/// `NoMemory`: there was no memory. The shelf's files stay as they were, and its count never falls.
+pub fn read_inputs<'a, S: Shelf>(
+    alloc: Global,
+    program: Program<'a>,
+    script: Option<&'a str>,
+    shelf: &mut S,
+) -> Result<Inputs, Stop<'a>>
+    ensures begins { IfOk result (Begins (S.files shelf.old) program.entry.format program.entry.file.now (name_of script.entry)) }
+    ensures proper { IfOk result (λ inputs. IsProperOrigin inputs.boot.first) }
+    ensures stopped { IfErr result (Stops (S.files shelf.old) (S.faults shelf.old) (S.faults shelf.new) program.entry.format program.entry.file.now (name_of script.entry)) }
+    ensures later { S.faults shelf.old ≤ S.faults shelf.new }
+    ensures kept { S.files shelf.new ≡ S.files shelf.old }
+{
+    let boot = boot_in(alloc, program, shelf)?;
+    let script = script_for(alloc, script, shelf)?;
+    Ok(Inputs { boot, script })
+}
