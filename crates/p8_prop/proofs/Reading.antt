@@ -12,7 +12,7 @@ use Rattle.clap.specs.Matches.{first_value, found_of}
 use Rattle.clap.specs.Simple.{App, matches_of}
 use Rattle.clap.specs.Walk.{Row, Text, first_of, rows_of}
 use Rattle.clap.proofs.WalkLemmas.{first_value-rows}
-use Rattle.p8_prop.specs.Commands.{Entry, app_for, command_of, faultless, raw_entry, said_to, table}
+use Rattle.p8_prop.specs.Commands.{Entry, app_for, command_of, faultless, raw_entry, run_entry, said_to, table}
 use Rattle.p8_prop.specs.Taking.{Takes}
 
 -- where there is a fault nothing is said
@@ -47,21 +47,31 @@ unfolding command_of
 no-words f [] few = refl
 no-words f (word ∷ words) few = absurd (omega arith)
 
--- the first word chooses `raw`
-by-word : (word : Text) (words : List Text) → word ≡ codes "raw" → command_of (word ∷ words) ≡ said_to raw_entry (word ∷ words)
+-- the first word chooses the entry that has it
+by-word : (entry : Entry) (word : Text) (words : List Text) → find (λ (e : Entry). bytes_eq e.word entry.word) table ≡ Some entry → word ≡ entry.word → command_of (word ∷ words) ≡ said_to entry (word ∷ words)
 unfolding command_of
-by-word word words is = subst (λ (w : Text). option_and_then (λ (entry : Entry). said_to entry (w ∷ words)) (find (λ (entry : Entry). bytes_eq entry.word w) table) ≡ said_to raw_entry (w ∷ words)) (sym is) refl
+by-word entry word words found is =
+    ap (λ (w : Text). option_and_then (λ (e : Entry). said_to e (word ∷ words)) (find (λ (e : Entry). bytes_eq e.word w) table)) is
+    ∙ ap (option_and_then (λ (e : Entry). said_to e (word ∷ words))) found
+
+entry-chosen : (entry : Entry) → find (λ (e : Entry). bytes_eq e.word entry.word) table ≡ Some entry → {A : Type 0} (f : A → Text) (words : List A) (word : A) → 1 ≤ length words → word ≡ slice_index_or words 0 word → f word ≡ entry.word → command_of (map f words) ≡ said_to entry (map f words)
+entry-chosen entry found f [] word some at is = absurd (omega arith)
+entry-chosen entry found f (first ∷ words) word some at is = by-word entry (f first) (map f words) found (ap f (sym at) ∙ is)
 
 pub raw-chosen : {A : Type 0} (f : A → Text) (words : List A) (word : A) → 1 ≤ length words → word ≡ slice_index_or words 0 word → f word ≡ codes "raw" → command_of (map f words) ≡ said_to raw_entry (map f words)
-raw-chosen f [] word some at is = absurd (omega arith)
-raw-chosen f (first ∷ words) word some at is = by-word (f first) (map f words) (ap f (sym at) ∙ is)
+raw-chosen f words word some at is = entry-chosen raw_entry refl f words word some at is
+
+pub run-chosen : {A : Type 0} (f : A → Text) (words : List A) (word : A) → 1 ≤ length words → word ≡ slice_index_or words 0 word → f word ≡ codes "run" → command_of (map f words) ≡ said_to run_entry (map f words)
+run-chosen f words word some at is = entry-chosen run_entry refl f words word some at is
 
 -- another word chooses nothing
-other-word : (word : Text) (words : List Text) (b : Bool) → bytes_eq (codes "raw") word ≡ b → (word ≡ codes "raw" → ⊥) → command_of (word ∷ words) ≡ None
+other-word : (word : Text) (words : List Text) (a b : Bool) → bytes_eq (codes "raw") word ≡ a → bytes_eq (codes "run") word ≡ b → (word ≡ codes "raw" → ⊥) → (word ≡ codes "run" → ⊥) → command_of (word ∷ words) ≡ None
 unfolding command_of
-other-word word words true same other = absurd (other (sym ((bytes_eq-Decides (codes "raw") word).0 same)))
-other-word word words false same other = rw same refl
+other-word word words true b first second raw run = absurd (raw (sym ((bytes_eq-Decides (codes "raw") word).0 first)))
+other-word word words false true first second raw run = absurd (run (sym ((bytes_eq-Decides (codes "run") word).0 second)))
+other-word word words false false first second raw run = rw (first, second) refl
 
-pub none-chosen : {A : Type 0} (f : A → Text) (words : List A) (word : A) → 1 ≤ length words → word ≡ slice_index_or words 0 word → (f word ≡ codes "raw" → ⊥) → command_of (map f words) ≡ None
-none-chosen f [] word some at other = absurd (omega arith)
-none-chosen f (first ∷ words) word some at other = other-word (f first) (map f words) _ refl (λ is. other (ap f at ∙ is))
+pub none-chosen : {A : Type 0} (f : A → Text) (words : List A) (word : A) → 1 ≤ length words → word ≡ slice_index_or words 0 word → (f word ≡ codes "raw" → ⊥) → (f word ≡ codes "run" → ⊥) → command_of (map f words) ≡ None
+none-chosen f [] word some at raw run = absurd (omega arith)
+none-chosen f (first ∷ words) word some at raw run =
+    other-word (f first) (map f words) _ _ refl refl (λ is. raw (ap f at ∙ is)) (λ is. run (ap f at ∙ is))

@@ -1,25 +1,34 @@
 -- The status and the line of an outcome have its cause.
 use Rattle.std.proofs.Common.{refl, Some}
+use Rattle.p8_inputs.specs.declared.stop.Stop.{Stop}
+use Rattle.p8_inputs.specs.declared.stop.Stop.TheVariants.{Unread, Missing, NoMemory, BadProgram, BadScript}
+use Rattle.p8_inputs.specs.Stops as stops
 use Rattle.p8_prop.specs.declared.outcome.Outcome.{Outcome}
-use Rattle.p8_prop.specs.declared.outcome.Outcome.TheVariants.{Ok, ShelfFault, Missing, SinkFault, NoMemory, BadLength, BadLine}
-use Rattle.p8_prop.specs.Commands.{Command}
-use Rattle.p8_prop.specs.Verdicts.{Outside, Answers, IsLine}
-use Rattle.p8_prop.specs.Outcomes.{status_of, line_of, Ends}
+use Rattle.p8_prop.specs.declared.outcome.Outcome.TheVariants.{Written, Unwritten, Stopped}
+use Rattle.p8_prop.specs.Commands.{Command, Run}
+use Rattle.p8_prop.specs.Verdicts.{Outside, IsSilent, Answers, IsLine}
+use Rattle.p8_prop.specs.Outcomes.{stop_status, status_of, line_of, HasNoText, Ends}
+
+stop-caused : (o : Outside) (command : Command) (stop : Stop) → HasNoText o.files o.shelf_before o.shelf_now command stop → IsSilent o → Answers o (Some command) (stop_status stop)
+stop-caused o (Run format file clocks options) (Unread name) stops silent = (name.now, stops.0, stops.1, silent)
+stop-caused o (Run format file clocks options) (Missing name) stops silent = (name.now, stops, silent)
+stop-caused o command NoMemory stops silent = silent
+stop-caused o (Run format file clocks options) (BadProgram name fault) stops silent = (name.now, fault, stops, silent)
+stop-caused o (Run format file clocks options) (BadScript name line) stops silent = (name.now, line, stops, silent)
 
 pub status-caused : (o : Outside) (command : Command) (outcome : Outcome) → Ends o command outcome → Answers o (Some command) (status_of outcome)
-status-caused o command Ok ends = ends
-status-caused o command (ShelfFault file) ends = (file.now, ends.0.0, ends.0.1, ends.1)
-status-caused o command (Missing file) ends = (file.now, ends.0, ends.1)
-status-caused o command SinkFault ends = ends
-status-caused o command NoMemory ends = ends.1
-status-caused o command (BadLength file length) ends = (file.now, length, ends.0, ends.1)
-status-caused o command (BadLine file line) ends = (file.now, line, ends.0, ends.1)
+status-caused o command Written ends = ends
+status-caused o command Unwritten ends = ends
+status-caused o command (Stopped stop) ends = stop-caused o command stop ends.0 ends.1
+
+stop-told : (o : Outside) (command : Command) (stop : Stop) → HasNoText o.files o.shelf_before o.shelf_now command stop → IsLine o (Some command) (stop_status stop) (stops.line_of stop)
+stop-told o (Run format file clocks options) (Unread name) stops = (name.now, stops.0, refl)
+stop-told o (Run format file clocks options) (Missing name) stops = (name.now, stops, refl)
+stop-told o command NoMemory stops = refl
+stop-told o (Run format file clocks options) (BadProgram name fault) stops = (name.now, fault, stops, refl)
+stop-told o (Run format file clocks options) (BadScript name line) stops = (name.now, line, stops, refl)
 
 pub line-caused : (o : Outside) (command : Command) (outcome : Outcome) → Ends o command outcome → IsLine o (Some command) (status_of outcome) (line_of outcome)
-line-caused o command Ok ends = refl
-line-caused o command (ShelfFault file) ends = (file.now, ends.0.0, refl)
-line-caused o command (Missing file) ends = (file.now, ends.0, refl)
-line-caused o command SinkFault ends = refl
-line-caused o command NoMemory ends = refl
-line-caused o command (BadLength file length) ends = (file.now, length, ends.0, refl)
-line-caused o command (BadLine file line) ends = (file.now, line, ends.0, refl)
+line-caused o command Written ends = refl
+line-caused o command Unwritten ends = refl
+line-caused o command (Stopped stop) ends = stop-told o command stop ends.0

@@ -1,12 +1,15 @@
 -- The words of the command line (this project's profile), by what the library `clap` states of the words that a
 -- command takes. Each word is a list of bytes.
-use Rattle.std.specs.Prelude.{ℕ, ◌+◌, ◌-◌, ◌*◌, nat_le, if◌then◌else◌, ◌&&◌, ◌||◌, ◌==◌, Bool, true, List, [], ◌∷◌, Option, Some, None, option_map, option_and_then, codes, length, find, fold}
-use Rattle.std.specs.List.{list_all}
+use Rattle.std.specs.Prelude.{ℕ, ◌+◌, ◌-◌, ◌*◌, nat_le, if◌then◌else◌, ◌&&◌, ◌||◌, ◌==◌, Bool, true, false, List, [], ◌∷◌, ◌++◌, Option, Some, None, option_map, option_and_then, codes, length, find, fold}
+use Rattle.std.specs.List.{list_all, ends_with}
 use Rattle.std.specs.Str.{bytes_eq}
+use Rattle.clap.specs.declared.builder.action.ArgAction.TheVariants.{SetTrue}
 use Rattle.clap.specs.Kinds.{Kinds}
 use Rattle.clap.specs.Faults.{fault_of}
 use Rattle.clap.specs.Simple.{App, matches_of, new_app, new_rule, with_rule}
 use Rattle.clap.specs.Walk.{Rule, Text, first_of}
+use Rattle.p8_inputs.specs.declared.program.Format.{Format}
+use Rattle.p8_inputs.specs.declared.program.Format.TheVariants.{Memory, Image}
 
 -- a decimal digit
 abbrev pub is_digit : ℕ → Bool
@@ -78,9 +81,9 @@ pub record Options : Type 0 where
   pub turns : ℕ
   pub dump : Option (ℕ × ℕ)
 
--- a command: to run a file as hub memory up to a clock
+-- a command: to run a file, by what its bytes are taken for, up to a clock
 pub data Command : Type 0 where
-  Raw : (file : List ℕ) (clocks : ℕ) (options : Options) → Command
+  Run : (format : Format) (file : List ℕ) (clocks : ℕ) (options : Options) → Command
 
 -- the arguments of a command, as `clap` takes them: what isn't said of one is as in `new_rule`. An operand has no name on
 -- the command line, so it stands by its place, and it has to be there.
@@ -90,6 +93,10 @@ operand name = record (new_rule name) { required = true }
 -- an option `--name`. As nothing else is said, it takes one value and may be given once.
 abbrev pub option : Text → Rule
 option name = record (new_rule name) { long = Some name }
+
+-- a flag `--name`, which takes no value and may be given once. Its value is `true` where it is given, and else `false`.
+abbrev pub flag : Text → Rule
+flag name = record (new_rule name) { long = Some name; action = Some SetTrue }
 
 -- how many turns a run makes at most, by the value of `--turns`
 abbrev pub turns_by : Option Text → Option ℕ
@@ -105,15 +112,42 @@ abbrev pub options_by : Option Text → Option ℕ → Option (Option (ℕ × �
 options_by script (Some turns) (Some dump) = Some (record { script = script; turns = turns; dump = dump })
 options_by script _ _ = None
 
-abbrev pub raw_by : Option Text → Option ℕ → Option Options → Option Command
-raw_by (Some file) (Some clocks) (Some options) = Some (Raw file clocks options)
-raw_by _ _ _ = None
+abbrev pub run_by : Format → Option Text → Option ℕ → Option Options → Option Command
+run_by format (Some file) (Some clocks) (Some options) = Some (Run format file clocks options)
+run_by format _ _ _ = None
+
+-- a run of a file, by the values of the arguments that every run has
+abbrev pub run_as : Format → Option Text → (Text → Option Text) → Option Command
+run_as format file value =
+    run_by format file (option_and_then (number_of most_clocks) (value (codes "CLOCKS")))
+    (options_by (value (codes "pins")) (turns_by (value (codes "turns"))) (dump_by (value (codes "dump"))))
 
 -- `raw FILE CLOCKS` with its options, by the values of its arguments
 abbrev pub raw_of : (Text → Option Text) → Option Command
-raw_of value =
-    raw_by (value (codes "FILE")) (option_and_then (number_of most_clocks) (value (codes "CLOCKS")))
-    (options_by (value (codes "pins")) (turns_by (value (codes "turns"))) (dump_by (value (codes "dump"))))
+raw_of value = run_as Memory (value (codes "FILE")) value
+
+-- the name of an image
+abbrev pub is_image_name : Text → Bool
+is_image_name name = ends_with (λ (a b : ℕ). a == b) name (codes ".binary")
+
+-- the file of a run, where it is an image
+abbrev pub image_named : Option Text → Option Text
+image_named None = None
+image_named (Some file) = if is_image_name file then Some file else None
+
+-- a flag with this value is given
+abbrev pub is_given : Option Text → Bool
+is_given None = false
+is_given (Some value) = bytes_eq value (codes "true")
+
+-- `run FILE CLOCKS --alone` with its options, where FILE is an image. A run of a source and one without `--alone` are still to
+-- come: as long as they are, such words say nothing.
+abbrev pub run_of : (Text → Option Text) → Option Command
+run_of value = if is_given (value (codes "alone")) then run_as Image (image_named (value (codes "FILE"))) value else None
+
+-- the arguments that every run has
+abbrev pub run_arguments : List Rule
+run_arguments = operand (codes "FILE") ∷ operand (codes "CLOCKS") ∷ option (codes "pins") ∷ option (codes "turns") ∷ option (codes "dump") ∷ []
 
 -- an entry of the table of commands: the word that names it, its arguments, and which command it is by the value
 -- of each argument that has one
@@ -123,14 +157,13 @@ pub record Entry : Type 0 where
   pub meaning : (Text → Option Text) → Option Command
 
 abbrev pub raw_entry : Entry
-raw_entry = record {
-  word = codes "raw";
-  arguments = operand (codes "FILE") ∷ operand (codes "CLOCKS") ∷ option (codes "pins") ∷ option (codes "turns") ∷ option (codes "dump") ∷ [];
-  meaning = raw_of;
-}
+raw_entry = record { word = codes "raw"; arguments = run_arguments; meaning = raw_of }
+
+abbrev pub run_entry : Entry
+run_entry = record { word = codes "run"; arguments = run_arguments ++ flag (codes "alone") ∷ []; meaning = run_of }
 
 abbrev pub table : List Entry
-table = raw_entry ∷ []
+table = raw_entry ∷ run_entry ∷ []
 
 -- the simple command of `clap` that takes the words of an entry
 abbrev pub app_for : Entry → App

@@ -2,18 +2,18 @@
 -- The command of the words, as it is read.
 use Rattle.std.specs.Prelude.{◌≤◌, Option, Some, None}
 use Rattle.p8_prop.specs.declared.options.Options.{Options as OptionsRead}
-use Rattle.p8_prop.specs.declared.words.RawCommand.{RawCommand}
-use Rattle.p8_prop.specs.Commands.{Command, Raw, Options, most_clocks, most_turns}
+use Rattle.p8_prop.specs.declared.words.RunCommand.{RunCommand}
+use Rattle.p8_prop.specs.Commands.{Command, Run, Options, most_clocks, most_turns}
 use Rattle.p8_prop.specs.Naming.{name_of}
 use Rattle.p8_prop.specs.Ranges.{IsInRam}
 
 abbrev pub seen_options : OptionsRead → Options
 seen_options options = record { script = name_of options.script; turns = options.turns; dump = options.dump }
 
-abbrev pub seen : RawCommand → Command
-seen command = Raw command.file.now command.clocks (seen_options command.options)
+abbrev pub seen : RunCommand → Command
+seen command = Run command.program.format command.program.file.now command.clocks (seen_options command.options)
 
-abbrev pub seen_if_any : Option RawCommand → Option Command
+abbrev pub seen_if_any : Option RunCommand → Option Command
 seen_if_any None = None
 seen_if_any (Some command) = Some (seen command)
 
@@ -21,5 +21,5 @@ seen_if_any (Some command) = Some (seen command)
 abbrev pub AreWithin : OptionsRead → Type 0
 AreWithin options = (options.turns ≤ most_turns) × IsInRam options.dump
 
-abbrev pub IsWithin : RawCommand → Type 0
+abbrev pub IsWithin : RunCommand → Type 0
 IsWithin command = (command.clocks ≤ most_clocks) × AreWithin command.options

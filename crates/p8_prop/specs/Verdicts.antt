@@ -1,45 +1,33 @@
 -- What the program answers and writes, each status with its cause (this project's profile).
-use Rattle.std.specs.Prelude.{ℕ, ◌≡◌, ◌<◌, ◌≤◌, ◌⊎◌, List, [], ◌∷◌, ◌++◌, Option, Some, None, length, codes}
+use Rattle.std.specs.Prelude.{ℕ, ◌≡◌, ◌⊎◌, List, [], ◌∷◌, ◌++◌, Option, Some, None, codes}
 use Rattle.std.specs.Fmt.{decimal}
-use Rattle.p8_access.specs.declared.kinds.Origin.TheVariants.{Pasm}
 use Rattle.p8_access.specs.declared.order.Turn.{Turn}
-use Rattle.p8_access.specs.Boots.{ram_of}
 use Rattle.p8_history.specs.Worlds.{Line, World}
 use Rattle.p8_history.specs.Histories.{Ended}
-use Rattle.p8_pins.specs.Scripts.{IsReadAs, IsFault}
+use Rattle.p8_image.specs.declared.faults.LoadFault.{LoadFault}
+use Rattle.p8_image.specs.Messages.{fault_text}
 use Rattle.p8_lives.specs.Lives.{asks}
 use Rattle.p8_report.specs.Text.{text_of}
 use Rattle.p8_io.specs.Counts.{Rose}
-use Rattle.p8_io.specs.Shelves.{Files, IsLacking, IsRead}
+use Rattle.p8_io.specs.Shelves.{Files}
 use Rattle.p8_io.specs.Sinks.{Appended, AppendedPrefix, Wrote}
+use Rattle.p8_inputs.specs.Inputs as inputs
+use Rattle.p8_inputs.specs.Inputs.{IsProgram, IsScriptFor}
+use Rattle.p8_inputs.specs.Programs.{world_of}
 use Rattle.p8_prop.specs.declared.status.Status.{Status}
 use Rattle.p8_prop.specs.declared.status.Status.TheVariants.{Ok as Done, Usage, Refused, ShelfFault, Missing, SinkFault, NoMemory, BadImage, BadScript}
-use Rattle.p8_prop.specs.Commands.{Command, Raw}
-
--- the world of a file that is hub memory, and of a pin script: cog 0 starts as PASM at $0000 with PAR 0
-abbrev pub world_of : (bytes : List ℕ) → (script : List Line) → (clocks turns : ℕ) → World
-world_of bytes script clocks turns =
-    record { memory = ram_of bytes; first = Pasm 0 0; script = script; clocks = clocks; turns = turns }
+use Rattle.p8_prop.specs.Commands.{Command, Run}
 
 -- the text of the ended history of a world, with a dump; there is one such history
 abbrev pub IsTrace : World → Option (ℕ × ℕ) → List ℕ → Type 0
 IsTrace world dump text = (past : List Turn) × Ended asks world past × (text ≡ text_of world past dump)
 
--- these are the bytes of a file that fits the hub
-abbrev pub IsImage : Files → (file bytes : List ℕ) → Type 0
-IsImage files file bytes = IsRead files file bytes × (length bytes ≤ 32768)
-
--- the lines of the pin script, where one is named, and else none
-abbrev pub IsScriptFor : Files → Option (List ℕ) → List Line → Type 0
-IsScriptFor files None script = script ≡ []
-IsScriptFor files (Some name) script = (bytes : List ℕ) × IsRead files name bytes × IsReadAs bytes script
-
 -- the text that the words ask for
 abbrev pub IsAskedFor : Files → Option Command → List ℕ → Type 0
 IsAskedFor files None text = ⊥
-IsAskedFor files (Some (Raw file clocks options)) text =
-    (bytes : List ℕ) × (script : List Line) × IsImage files file bytes × IsScriptFor files options.script script ×
-    IsTrace (world_of bytes script clocks options.turns) options.dump text
+IsAskedFor files (Some (Run format file clocks options)) text =
+    (bytes : List ℕ) × (script : List Line) × IsProgram files format file bytes × IsScriptFor files options.script script ×
+    IsTrace (world_of format bytes script clocks options.turns) options.dump text
 
 -- a call as it is seen from outside: the shelf's files and its count of faults before and now, and of
 -- the output its count and the bytes that it took, before and now
@@ -63,31 +51,23 @@ IsSilent o = Appended o.taken_before o.taken_now []
 -- the words name this file
 abbrev pub IsNamed : Option Command → (name : List ℕ) → Type 0
 IsNamed None name = ⊥
-IsNamed (Some (Raw file clocks options)) name = (name ≡ file) ⊎ (options.script ≡ Some name)
+IsNamed (Some (Run format file clocks options)) name = (name ≡ file) ⊎ (options.script ≡ Some name)
 
--- the words name a pin script, which is looked at where the file to run is good
-abbrev pub HasScript : Files → Option Command → (name : List ℕ) → Type 0
-HasScript files None name = ⊥
-HasScript files (Some (Raw file clocks options)) name = (bytes : List ℕ) × IsImage files file bytes × (options.script ≡ Some name)
-
--- the file to run
-abbrev pub IsRun : Option Command → (name : List ℕ) → Type 0
-IsRun None name = ⊥
-IsRun (Some (Raw file clocks options)) name = name ≡ file
-
--- a file of the words is missing, by what the shelf tells, with its counts before and now
+-- a file of the words is missing, by what the shelf tells, with its counts before and now. A pin script is looked at where the
+-- file to run is good.
 abbrev pub IsMissing : Files → (before now : ℕ) → Option Command → (name : List ℕ) → Type 0
-IsMissing files before now command name = (IsRun command name ⊎ HasScript files command name) × IsLacking before now files name
+IsMissing files before now None name = ⊥
+IsMissing files before now (Some (Run format file clocks options)) name = inputs.IsMissing files before now format file options.script name
 
--- the file to run is refused: this many bytes are more than the hub has
-abbrev pub HasLength : Files → Option Command → (name : List ℕ) → (count : ℕ) → Type 0
-HasLength files command name count =
-    (bytes : List ℕ) × IsRun command name × IsRead files name bytes × (length bytes ≡ count) × (32768 < count)
+-- the file to run is refused: what is wrong with it
+abbrev pub HasFault : Files → Option Command → (name : List ℕ) → LoadFault → Type 0
+HasFault files None name fault = ⊥
+HasFault files (Some (Run format file clocks options)) name fault = inputs.HasFault files format file name fault
 
 -- the pin script is refused, at this line
 abbrev pub HasBadLine : Files → Option Command → (name : List ℕ) → (line : ℕ) → Type 0
-HasBadLine files command name line =
-    (bytes : List ℕ) × HasScript files command name × IsRead files name bytes × IsFault bytes line
+HasBadLine files None name line = ⊥
+HasBadLine files (Some (Run format file clocks options)) name line = inputs.HasBadLine files format file options.script name line
 
 -- each status has its cause; want of memory is the only one that may always come
 abbrev pub Answers : Outside → Option Command → Status → Type 0
@@ -97,7 +77,7 @@ Answers o command ShelfFault = (name : List ℕ) × IsNamed command name × Rose
 Answers o command Missing = (name : List ℕ) × IsMissing o.files o.shelf_before o.shelf_now command name × IsSilent o
 Answers o command SinkFault = (text : List ℕ) × IsAskedFor o.files command text × Rose o.out_before o.out_now × AppendedPrefix o.taken_before o.taken_now text
 Answers o command NoMemory = IsSilent o
-Answers o command BadImage = (name : List ℕ) × (count : ℕ) × HasLength o.files command name count × IsSilent o
+Answers o command BadImage = (name : List ℕ) × (fault : LoadFault) × HasFault o.files command name fault × IsSilent o
 Answers o command BadScript = (name : List ℕ) × (line : ℕ) × HasBadLine o.files command name line × IsSilent o
 Answers o command Refused = ⊥
 
@@ -106,7 +86,7 @@ abbrev pub IsDue : Outside → Option Command → Status → Type 0
 IsDue o command Done = (text : List ℕ) × IsAskedFor o.files command text
 IsDue o command Usage = command ≡ None
 IsDue o command Missing = (name : List ℕ) × IsMissing o.files o.shelf_before o.shelf_now command name
-IsDue o command BadImage = (name : List ℕ) × (count : ℕ) × HasLength o.files command name count
+IsDue o command BadImage = (name : List ℕ) × (fault : LoadFault) × HasFault o.files command name fault
 IsDue o command BadScript = (name : List ℕ) × (line : ℕ) × HasBadLine o.files command name line
 IsDue o command status = ⊥
 
@@ -138,7 +118,7 @@ IsLine o command Missing line = (name : List ℕ) × IsMissing o.files o.shelf_b
 IsLine o command SinkFault line = line ≡ codes "prop: cannot write" ++ 10 ∷ []
 IsLine o command NoMemory line = line ≡ codes "prop: out of memory" ++ 10 ∷ []
 IsLine o command BadImage line =
-    (name : List ℕ) × (count : ℕ) × HasLength o.files command name count × (line ≡ codes "prop: " ++ name ++ codes ": length " ++ decimal count ++ 10 ∷ [])
+    (name : List ℕ) × (fault : LoadFault) × HasFault o.files command name fault × (line ≡ codes "prop: " ++ name ++ codes ": " ++ fault_text fault ++ 10 ∷ [])
 IsLine o command BadScript line =
     (name : List ℕ) × (n : ℕ) × HasBadLine o.files command name n × (line ≡ codes "prop: " ++ name ++ codes ": line " ++ decimal n ++ 10 ∷ [])
 IsLine o command Refused line = ⊥

@@ -3,11 +3,11 @@ ghost use Rattle.std.specs.Prelude.{◌≡◌, true, false, map, string_bytes, I
 ghost use Rattle.clap.specs.Faults.{fault_of, is_simple_and_free};
 ghost use Rattle.clap.specs.Simple.{app_of};
 ghost use Rattle.clap.specs.Walk.{rule_of};
-ghost use Rattle.p8_prop.specs.Commands.{operand as operand_named, option as option_named};
+ghost use Rattle.p8_prop.specs.Commands.{operand as operand_named, option as option_named, flag as flag_named};
 ghost use Rattle.p8_prop.specs.Taking.{Takes};
 
 use clap::error::ErrorKind;
-use clap::{Arg, ArgMatches, Command};
+use clap::{Arg, ArgAction, ArgMatches, Command};
 use p8_words::NoMemory;
 use std::alloc::Global;
 
@@ -25,6 +25,14 @@ pub fn option<'a>(alloc: Global, name: &'a str) -> Arg<'a>
     ensures local { result.global ≡ false }
 {
     Arg::new(alloc, name).long(name)
+}
+
+/// A flag `--name`, which takes no value and may be given once.
+pub fn flag<'a>(alloc: Global, name: &'a str) -> Arg<'a>
+    ensures rule { rule_of result ≡ flag_named name.now }
+    ensures local { result.global ≡ false }
+{
+    Arg::new(alloc, name).long(name).action(ArgAction::SetTrue)
 }
 
 /// What `clap` finds in the words of a command, of which the first is its name, or None where it finds a fault

@@ -5,7 +5,7 @@ mod arguments;
 mod numbers;
 mod options;
 mod outcome;
-mod raw;
+mod run;
 mod status;
 #[cfg(test)]
 mod tests;
@@ -13,6 +13,7 @@ mod top;
 mod words;
 
 use outcome::Outcome;
+use p8_inputs::Stop;
 use p8_io::{FileShelf, StdSink};
 use p8_words::NoMemory;
 use status::Status;
@@ -49,7 +50,7 @@ fn main(rt: HostRuntime) -> ExitCode {
     let status = match words_of(&rt) {
         Ok(words) => prop_alone(rt.alloc(), &words, &mut shelf, &mut out, &mut faults),
         Err(NoMemory) => {
-            Outcome::NoMemory.tell(&mut faults);
+            Outcome::Stopped(Stop::NoMemory).tell(&mut faults);
             Status::NoMemory
         }
     };

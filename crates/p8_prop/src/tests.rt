@@ -1,6 +1,7 @@
 // Worked calls over a shelf and sinks in memory, for each status.
 mod bad_image;
 mod bad_script;
+mod image;
 mod missing;
 mod ok;
 mod shelf_fault;
@@ -16,8 +17,8 @@ use std::alloc::Global;
 /// The longs of a program that writes 42 to $0100, asks for its number and stops.
 const PROGRAM: &[u8] = b"\x04\x06\x3C\x08\x01\x0A\xFC\x0C\x03\x0A\x7C\x0C\x2A\0\0\0\0\x01\0\0";
 
-/// What a call finds: the bytes of the files `a.bin` and `a.pins`, and the numbers of the read and of the
-/// write that fail, 0 for none.
+/// What a call finds: the bytes of the file to run, which is there as `a.bin` and as `a.binary`, and of `a.pins`, and the
+/// numbers of the read and of the write that fail, 0 for none.
 #[derive(Clone, Copy)]
 struct Given<'a> {
     image: &'a [u8],
@@ -57,6 +58,7 @@ fn words_of(alloc: Global, words: &[&str]) -> Result<Vec<String>, NoMemory> {
 fn left_by(alloc: Global, words: &[&str], given: &Given) -> Result<Left, NoMemory> {
     let mut shelf = MemShelf::new(alloc);
     shelf.add("a.bin", given.image)?;
+    shelf.add("a.binary", given.image)?;
     shelf.add("a.pins", given.script)?;
     let mut shelf = shelf.with(failing_at(alloc, given.read)?);
     let mut out = MemSink::new(alloc, 4096)?.with(failing_at(alloc, given.write)?);

@@ -5,9 +5,10 @@ ghost use Rattle.p8_prop.specs.Seen.{seen, IsWithin};
 ghost use Rattle.p8_prop.specs.Verdicts.{Answers, TellsLine, IsComplete, HasOneDue, HasOneText, outside};
 
 use crate::outcome::Outcome;
-use crate::raw::raw;
+use crate::run::run;
 use crate::status::Status;
-use crate::words::{RawCommand, command_in};
+use crate::words::{RunCommand, command_in};
+use p8_inputs::Stop;
 use p8_io::{Shelf, Sink, write_pieces};
 use p8_words::NoMemory;
 use std::alloc::Global;
@@ -16,8 +17,10 @@ use std::alloc::Global;
 const USAGE: &[u8] =
     b"prop: usage: prop build|list FILE, prop raw|run FILE CLOCKS [--pins F] [--turns K] [--dump A:N] [--alone]\n";
 
-/// Does what the words say: `raw FILE CLOCKS` runs the file's bytes as hub memory, with cog 0 started on
-/// them, and writes the trace of the run to `out`.
+/// Does what the words say, and writes the trace of a run to `out`: `raw FILE CLOCKS` runs the file's bytes as hub memory,
+/// with cog 0 started on them as PASM, and `run FILE CLOCKS --alone` an image, which is a file with a name that ends in
+/// `.binary`, with cog 0 started as Spin by its header. `run` of another file, or without `--alone`, is still to come, and
+/// no command as yet.
 ///
 /// `words` are those after the program's name, and are read by the rules of `clap`: the first is the command's,
 /// and FILE and CLOCKS stand in this order, with options before, between and behind them, each once at most,
@@ -35,7 +38,8 @@ const USAGE: &[u8] =
 /// - `Usage` exactly where the words are no command;
 /// - `ShelfFault` only where the shelf has counted a fault;
 /// - `Missing` where the shelf has no file of that name;
-/// - `BadImage` exactly where the file has more than 32,768 bytes;
+/// - `BadImage` exactly where the file is no image, with its first fault: of its length, of the sum of its bytes, of the
+///   places in its header; for `raw` exactly where it has more than 32,768 bytes;
 /// - `BadScript` exactly where the pin script has a bad line, or more than 1,048,576 bytes;
 /// - `SinkFault` only where `out` has counted a fault; a prefix of the text is out then;
 /// - `NoMemory` where there was no memory, also for words that are no command.
@@ -64,7 +68,7 @@ pub fn prop_alone<S: Shelf, K: Sink, E: Sink>(
     let command = match command_in(alloc, words) {
         Ok(command) => command,
         Err(NoMemory) => {
-            Outcome::NoMemory.tell(faults);
+            Outcome::Stopped(Stop::NoMemory).tell(faults);
             return Status::NoMemory;
         }
     };
@@ -80,7 +84,7 @@ pub fn prop_alone<S: Shelf, K: Sink, E: Sink>(
 /// Carries out a command and tells how it ended.
 fn carried_out<'a, S: Shelf, K: Sink, E: Sink>(
     alloc: Global,
-    command: RawCommand<'a>,
+    command: RunCommand<'a>,
     shelf: &mut S,
     out: &mut K,
     faults: &mut E,
@@ -93,7 +97,7 @@ fn carried_out<'a, S: Shelf, K: Sink, E: Sink>(
     ensures out_later { K.faults out.old ≤ K.faults out.new }
     ensures faults_later { E.faults faults.old ≤ E.faults faults.new }
 {
-    let outcome = raw(alloc, command, shelf, out);
+    let outcome = run(alloc, command, shelf, out);
     outcome.tell(faults);
     outcome.status()
 }

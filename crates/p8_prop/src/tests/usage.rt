@@ -31,3 +31,12 @@ fn refuses_an_option_given_twice(rt: HostRuntime) -> Result<(), Fail> {
     assert!(rt; refused(rt.alloc(), &words, &GIVEN, Status::Usage, LINE)?);
     Ok(())
 }
+
+#[test]
+fn refuses_runs_that_are_to_come(rt: HostRuntime) -> Result<(), Fail> {
+    let words = ["run", "a.binary", "1"];
+    assert!(rt; refused(rt.alloc(), &words, &GIVEN, Status::Usage, LINE)?);
+    let words = ["run", "a.spin", "1", "--alone"];
+    assert!(rt; refused(rt.alloc(), &words, &GIVEN, Status::Usage, LINE)?);
+    Ok(())
+}

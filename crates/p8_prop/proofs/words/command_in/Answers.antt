@@ -1,6 +1,6 @@
 use Rattle.std.proofs.Common.{◌∙◌, string_bytes, sym}
 use Rattle.std.proofs.lemmas.Result.{IfOk-weaker}
-use Rattle.p8_prop.proofs.Reading.{no-words, none-chosen, raw-chosen}
+use Rattle.p8_prop.proofs.Reading.{no-words, none-chosen, raw-chosen, run-chosen}
 use Rattle.p8_prop.proofs.words.command_in.Goals as goal
 
 pub returns-in_default-clause-seen : goal.returns-in_default-clause-seen
@@ -11,6 +11,11 @@ returns-in-raw-clause-seen c =
     let chosen = raw-chosen string_bytes c.args.words.now c.word-item.result c.in-len1-up.len_at_least c.word-item.is (sym c.as_str.ensures.value ∙ c.in-raw.is) in
     IfOk-weaker c.raw_in.result _ _ (λ command seen. seen ∙ sym chosen) c.raw_in.ensures.seen
 
+pub returns-in-run-clause-seen : goal.returns-in-run-clause-seen
+returns-in-run-clause-seen c =
+    let chosen = run-chosen string_bytes c.args.words.now c.word-item.result c.in-len1-up.len_at_least c.word-item.is (sym c.as_str.ensures.value ∙ c.in-run.is) in
+    IfOk-weaker c.run_in.result _ _ (λ command seen. seen ∙ sym chosen) c.run_in.ensures.seen
+
 pub returns-in_default-as_str-clause-seen : goal.returns-in_default-as_str-clause-seen
 returns-in_default-as_str-clause-seen c =
-    sym (none-chosen string_bytes c.args.words.now c.word-item.result c.in-len1-up.len_at_least c.word-item.is (λ is. c.in_default-as_str.not-raw (c.as_str.ensures.value ∙ is)))
+    sym (none-chosen string_bytes c.args.words.now c.word-item.result c.in-len1-up.len_at_least c.word-item.is (λ is. c.in_default-as_str.not-raw (c.as_str.ensures.value ∙ is)) (λ is. c.in_default-as_str.not-run (c.as_str.ensures.value ∙ is)))

@@ -1,6 +1,6 @@
 use Rattle.std.proofs.Common.{◌∙◌, ap₂}
 use Rattle.clap.specs.Simple.{with_rule}
-use Rattle.p8_prop.proofs.words.raw_arguments.Goals as goal
+use Rattle.p8_prop.proofs.words.run_arguments.Goals as goal
 
 pub returns : goal.returns
 returns c =
