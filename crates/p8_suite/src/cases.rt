@@ -1,9 +1,11 @@
 // The line of a case.
 use crate::names::Names;
-use crate::runs::{Form, Run};
+use crate::runs::Run;
 use crate::sources::Source;
+use crate::stops::Stopped;
 use crate::texts::Printed;
 use anyhow::anyhow;
+use p8_inputs::Format;
 
 /// A case: what is run, and what is expected of it.
 #[derive(Clone, Copy)]
@@ -15,6 +17,8 @@ pub enum Case<'a> {
     /// `run IMAGE TRACE CLOCKS TURNS PINS DUMP`: a file as hub memory, and its trace; `spin` with the same words: an
     /// image of compiled Spin.
     Run(Run<'a>),
+    /// `stops IMAGE PINS LINE`: an image that can't be run, and the line that tells why, without the program's name.
+    Stopped(Stopped<'a>),
     /// `text LONG TEXT`: a long and its text as an instruction.
     Text(Printed<'a>),
 }
@@ -32,8 +36,9 @@ impl<'a> Case<'a> {
         match kind {
             "source" => Ok(Case::Source(Source::of_words(rest)?)),
             "names" => Ok(Case::Names(Names::of_words(rest)?)),
-            "run" => Ok(Case::Run(Run::of_words(Form::Memory, rest)?)),
-            "spin" => Ok(Case::Run(Run::of_words(Form::Image, rest)?)),
+            "run" => Ok(Case::Run(Run::of_words(Format::Memory, rest)?)),
+            "spin" => Ok(Case::Run(Run::of_words(Format::Image, rest)?)),
+            "stops" => Ok(Case::Stopped(Stopped::of_words(rest)?)),
             "text" => Ok(Case::Text(Printed::of_words(rest)?)),
             _ => Err(anyhow!("a case of no kind: {kind}")),
         }

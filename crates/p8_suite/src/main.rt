@@ -5,10 +5,10 @@
 #![tactic(auto)]
 
 mod cases;
-mod images;
 mod names;
 mod runs;
 mod sources;
+mod stops;
 mod texts;
 
 use cases::Case;
@@ -38,6 +38,7 @@ fn agrees<R: Files + Alloc<A = Global>>(rt: &R, case: &Case) -> anyhow::Result<b
         Case::Source(source) => source.agrees(rt),
         Case::Names(names) => names.agrees(rt),
         Case::Run(run) => run.agrees(rt),
+        Case::Stopped(stopped) => stopped.agrees(rt),
         Case::Text(text) => text.agrees(rt.alloc()),
     }
 }
@@ -46,6 +47,7 @@ fn suite(rt: &HostRuntime) -> anyhow::Result<bool> {
     let mut sources = Tally { agreed: 0, all: 0 };
     let mut names = Tally { agreed: 0, all: 0 };
     let mut runs = Tally { agreed: 0, all: 0 };
+    let mut stops = Tally { agreed: 0, all: 0 };
     let mut texts = Tally { agreed: 0, all: 0 };
     let lines = fs::read_to_string(rt, "cases.txt")?;
     for line in lines.lines() {
@@ -58,17 +60,20 @@ fn suite(rt: &HostRuntime) -> anyhow::Result<bool> {
             Case::Source(_) => sources.count(agrees),
             Case::Names(_) => names.count(agrees),
             Case::Run(_) => runs.count(agrees),
+            Case::Stopped(_) => stops.count(agrees),
             Case::Text(_) => texts.count(agrees),
         }
     }
     println!(rt; "sources: {} of {} agree", sources.agreed, sources.all)?;
     println!(rt; "names: {} of {} agree", names.agreed, names.all)?;
     println!(rt; "runs: {} of {} agree", runs.agreed, runs.all)?;
+    println!(rt; "stops: {} of {} agree", stops.agreed, stops.all)?;
     println!(rt; "texts: {} of {} agree", texts.agreed, texts.all)?;
     Ok(
         sources.agreed == sources.all
             && names.agreed == names.all
             && runs.agreed == runs.all
+            && stops.agreed == stops.all
             && texts.agreed == texts.all,
     )
 }

@@ -2,13 +2,11 @@
 ghost use Rattle.std.specs.Prelude.{IfOk};
 ghost use Rattle.p8_access.specs.Proper.{IsProperOrigin};
 
-use crate::images::{HUB_BYTES, boot_of};
 use anyhow::anyhow;
-use p8_access::Boot;
+use p8_inputs::{Format, Inputs, Program, read_inputs};
+use p8_io::FileShelf;
 use p8_machine::{Ended, Limits, run_alone};
-use p8_pins::PinScript;
 use p8_report::trace;
-use p8_words::Fail;
 use std::alloc::Global;
 use std::fs::{self, Files};
 
@@ -17,26 +15,24 @@ const MOST_CLOCKS: u64 = 100_000_000;
 
 const MOST_TURNS: u64 = 1_000_000;
 
-/// What the file of a run is.
-#[derive(Clone, Copy)]
-pub enum Form {
-    /// Hub memory from address 0 on, with a program of PASM there.
-    Memory,
-    /// An image of compiled Spin.
-    Image,
-}
+/// How many bytes the hub has.
+const HUB_BYTES: usize = 32_768;
 
 /// A run of a file, with the file of its whole trace.
 #[derive(Clone, Copy)]
 pub struct Run<'a> {
-    form: Form,
-    image: &'a str,
+    program: Program<'a>,
     trace: &'a str,
     limits: Limits,
     /// The file of the pin script, or `-` for none.
     pins: &'a str,
     /// Where the dump begins, and how many bytes it has.
     dump: Option<(u16, u16)>,
+}
+
+/// The file of a pin script, if the word isn't `-`.
+pub fn named(word: &str) -> Option<&str> {
+    if word == "-" { None } else { Some(word) }
 }
 
 /// A dump `ADDRESS:COUNT` in decimal digits, or `-` for none.
@@ -52,12 +48,14 @@ fn dump(word: &str) -> anyhow::Result<Option<(u16, u16)>> {
 
 impl<'a> Run<'a> {
     /// The run of a case's words.
-    pub fn of_words(form: Form, words: &'a str) -> anyhow::Result<Run<'a>> {
+    pub fn of_words(format: Format, words: &'a str) -> anyhow::Result<Run<'a>> {
         let mut words = words.split(' ');
         let mut word = || words.next().ok_or_else(|| anyhow!("a run lacks a word"));
         Ok(Run {
-            form,
-            image: word()?,
+            program: Program {
+                file: word()?,
+                format,
+            },
             trace: word()?,
             limits: Limits {
                 clocks: word()?.parse()?,
@@ -68,30 +66,14 @@ impl<'a> Run<'a> {
         })
     }
 
-    /// The pin script of the run.
-    fn script<R: Files + Alloc<A = Global>>(&self, rt: &R) -> anyhow::Result<PinScript> {
-        if self.pins == "-" {
-            return Ok(PinScript::empty(rt.alloc()));
-        }
-        let bytes = fs::read(rt, self.pins)?;
-        match PinScript::read(rt.alloc(), &bytes) {
-            Ok(script) => Ok(script),
-            Err(Fail::Refused(fault)) => Err(anyhow!("a bad line of a script: {}", fault.line)),
-            Err(Fail::NoMemory) => Err(anyhow!("out of memory")),
-        }
-    }
-
     /// What the run begins with.
-    fn boot<R: Files + Alloc<A = Global>>(&self, rt: &R) -> anyhow::Result<Boot>
-        ensures first { IfOk result (λ boot. IsProperOrigin boot.first) }
+    fn inputs<R: Files + Alloc<A = Global>>(&self, rt: &R) -> anyhow::Result<Inputs>
+        ensures { IfOk result (λ inputs. IsProperOrigin inputs.boot.first) }
     {
-        let bytes = fs::read(rt, self.image)?;
-        match self.form {
-            Form::Image => boot_of(rt.alloc(), &bytes),
-            Form::Memory if bytes.len() > HUB_BYTES => {
-                Err(anyhow!("a file that the hub can't hold"))
-            }
-            Form::Memory => Ok(Boot::raw(rt.alloc(), &bytes)?),
+        let mut shelf = FileShelf::new(rt);
+        match read_inputs(rt.alloc(), self.program, named(self.pins), &mut shelf) {
+            Ok(inputs) => Ok(inputs),
+            Err(_) => Err(anyhow!("there is nothing to run")),
         }
     }
 
@@ -114,7 +96,8 @@ impl<'a> Run<'a> {
         if limits.clocks > MOST_CLOCKS || limits.turns > MOST_TURNS {
             return Err(anyhow!("limits that no run may have"));
         }
-        let ended = run_alone(alloc, self.boot(rt)?, self.script(rt)?, limits)?;
+        let inputs = self.inputs(rt)?;
+        let ended = run_alone(alloc, inputs.boot, inputs.script, limits)?;
         let text = self.text(alloc, &ended)?;
         let expected = fs::read(rt, self.trace)?;
         Ok(text == expected)
