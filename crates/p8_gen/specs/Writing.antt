@@ -1,13 +1,8 @@
 -- How a writer of code stands for the code so far: internal.
-use Rattle.std.specs.Prelude.{◌≡◌, ℕ, map, IfSome}
-use Rattle.p8_tree.specs.declared.places.Place.{Place}
+use Rattle.std.specs.Prelude.{◌≡◌, map, IfSome}
 use Rattle.p8_gen.specs.Pieces.{Written}
-use Rattle.p8_gen.specs.declared.code.StringUse.{StringUse}
+use Rattle.p8_gen.specs.Uses.{use_of}
 use Rattle.p8_gen.specs.declared.writer.Writer.{Writer}
-
--- a use of a text, as a number and a place
-abbrev pub use_of : StringUse → ℕ × Place
-use_of u = (u.at, u.place)
 
 -- it ends where the code ends; and where it keeps what is written, it has it all
 pub record Stands (out : Writer) (w : Written) : Type 0 where

@@ -3,7 +3,7 @@ ghost use Rattle.std.specs.Prelude.{◌≡◌, OnOk};
 ghost use Rattle.p8_tree.specs.Views.{tree_of};
 ghost use Rattle.p8_tree.specs.Bridges.{boxed_index};
 ghost use Rattle.p8_gen.specs.Pieces.{Written};
-ghost use Rattle.p8_gen.specs.Expressions.{mark, own_method, method_number, method_in, callee, built_value, built_without, built_alone, built, dropped, is_method, calls_own, call_in, starts_method, start_of_method, starts, started, pasm, counts_from};
+ghost use Rattle.p8_gen.specs.Expressions.{mark, own_method, method_number, method_in, callee, built_value, built_without, built_alone, built, dropped, is_method, calls_own, call_in, starts_method, start_of_method, starts, started, pasm, counts_from, unary, looks_down};
 ghost use Rattle.p8_gen.specs.Scopes.{names_of};
 ghost use Rattle.p8_gen.specs.Writing.{Stands};
 
@@ -38,6 +38,13 @@ fn calls_own(trap: bool, object: &Option<Text>) -> bool
         None => !trap,
         Some(_) => false,
     }
+}
+
+/// Whether a LOOK function looks for a value, and not for what stands at a number.
+pub(crate) fn looks_down(code: u8) -> bool
+    ensures { result ≡ looks_down code }
+{
+    code % 2 == 1
 }
 
 impl Writer {
@@ -127,6 +134,16 @@ impl Writer {
         self.byte(if used { 0x28 } else { 0x2C })
     }
 
+    /// Appends an operator behind its operand; the sign `+` adds nothing.
+    pub fn unary(&mut self, operator: u8) -> Result<(), AllocError>
+        ensures { (w : Written) → Stands self.old w → OnOk result (Stands self.new (unary operator w)) }
+    {
+        match operator {
+            0xEC => Ok(()),
+            _ => self.byte(operator),
+        }
+    }
+
     /// Appends the number from which a LOOK function counts.
     pub fn counts_from(&mut self, code: u8) -> Result<(), AllocError>
         ensures { (w : Written) → Stands self.old w → OnOk result (Stands self.new (counts_from code w)) }
@@ -184,8 +201,8 @@ impl Coder<'_> {
         ensures { (w : Written) → Stands out.old w → OnOk result (Stands out.new (callee (names_of self.now) object.now (boxed_index index.now) method.now w)) }
     {
         match object {
-            None => out.own_method(self.scope.kind(method)),
-            Some(object) => self.method_in(self.scope.kind(object), index, method, out),
+            None => out.own_method(self.kind(method)),
+            Some(object) => self.method_in(self.kind(object), index, method, out),
         }
     }
 
@@ -207,7 +224,7 @@ impl Coder<'_> {
                     count,
                 },
             ) => {
-                let number = method_number(self.scope.publics.own(item, method));
+                let number = method_number(self.tables.publics.own(item, method));
                 out.call_in(position, count, index, number)
             }
             _ => Ok(()),
@@ -220,7 +237,7 @@ impl Coder<'_> {
     {
         match &started.kind {
             ExprKind::Call(call) => calls_own(call.trap, &call.object),
-            ExprKind::Var(Target::Named(name, None, _)) => is_method(self.scope.kind(name)),
+            ExprKind::Var(Target::Named(name, None, _)) => is_method(self.kind(name)),
             _ => false,
         }
     }
@@ -243,11 +260,11 @@ impl Coder<'_> {
     {
         match &begun.kind {
             ExprKind::Call(call) => {
-                let number = method_number(self.scope.kind(&call.method));
+                let number = method_number(self.kind(&call.method));
                 out.start_of_method(number, call.args.len())
             }
             ExprKind::Var(Target::Named(name, _, _)) => {
-                out.start_of_method(method_number(self.scope.kind(name)), 0)
+                out.start_of_method(method_number(self.kind(name)), 0)
             }
             _ => Ok(()),
         }

@@ -4,11 +4,16 @@
 mod calls;
 mod code;
 mod coder;
+mod expressions;
 mod labels;
 mod laws;
 mod sizes;
 mod variables;
 mod writer;
 
-pub use code::{Code, StringUse};
-pub use laws::places_change_no_length;
+pub use code::{Code, StringUse, expr_code};
+pub use coder::{Coder, Tables};
+pub use labels::Labels;
+pub use laws::{bytecodes_are_whole, places_change_no_length};
+pub use variables::{Base, Home, Operation};
+pub use writer::{Kept, Writer};

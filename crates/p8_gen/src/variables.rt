@@ -3,6 +3,7 @@ ghost use Rattle.std.specs.Prelude.{◌≡◌, ◌≤◌, ◌<◌, ◌+◌, OnOk
 ghost use Rattle.p8_bytecode.specs.Reading.{bare};
 ghost use Rattle.p8_gen.specs.Pieces.{Written};
 ghost use Rattle.p8_gen.specs.Variables.{number, home_at, home_of, home_of_kind, memory_op, plain_op, register, effect_for, effect_by, leaving, assigned, counts, is_short, size_bits, base_bits, action_of, effect_of, operation_bits};
+ghost use Rattle.p8_gen.specs.Expressions.{sized};
 ghost use Rattle.p8_gen.specs.Scopes.{names_of};
 ghost use Rattle.p8_gen.specs.Views.{base_of, home_in, operation_of};
 ghost use Rattle.p8_gen.specs.Writing.{Stands};
@@ -16,7 +17,7 @@ use std::alloc::AllocError;
 
 /// What a variable's offset is counted from.
 #[derive(Clone, Copy, PartialEq, Eq)]
-pub(crate) enum Base {
+pub enum Base {
     /// An address that was pushed.
     Pushed,
     /// The object.
@@ -29,7 +30,7 @@ pub(crate) enum Base {
 
 /// Where a variable stands, and its size in bytes.
 #[derive(Clone, Copy)]
-pub(crate) struct Home {
+pub struct Home {
     pub base: Base,
     pub offset: u32,
     pub size: u8,
@@ -37,7 +38,7 @@ pub(crate) struct Home {
 
 /// What is done with a variable.
 #[derive(Clone, Copy)]
-pub(crate) enum Operation {
+pub enum Operation {
     /// Its value is pushed.
     Push,
     /// A value is popped into it.
@@ -132,6 +133,13 @@ impl Home {
         }
     }
 
+    /// The same place, taken as one of another size.
+    pub fn sized(self, size: u8) -> Home
+        ensures { home_in result ≡ sized (home_in self) size }
+    {
+        Home { size, ..self }
+    }
+
     // Whether it is a long among the first eight.
     fn is_short(self) -> bool
         ensures { result ≡ is_short (home_in self) }
@@ -156,18 +164,19 @@ impl Coder<'_> {
     pub fn home(&self, name: &Text) -> Home
         ensures { home_in result ≡ home_of (names_of self.now) name.now }
     {
-        match self.scope.kind(name) {
+        match self.kind(name) {
             Some(NameKind::Global { size, offset }) => home_at(Base::OfVariables, offset, size),
             Some(NameKind::Local { offset }) => home_at(Base::OfFrame, offset, 4),
             Some(NameKind::Label { size }) => {
-                home_at(Base::OfObject, self.labels.offset(name), size)
+                home_at(Base::OfObject, self.tables.labels.offset(name), size)
             }
             _ => home_at(Base::OfFrame, 0, 4),
         }
     }
 }
 
-fn home_at(base: Base, offset: u32, size: u8) -> Home
+/// A variable of this size at an offset from a base.
+pub(crate) fn home_at(base: Base, offset: u32, size: u8) -> Home
     ensures { home_in result ≡ home_at (base_of base) offset size }
 {
     Home { base, offset, size }
@@ -222,5 +231,27 @@ pub(crate) fn effect_for(size: u8, change: u8) -> u8
         2 if counts(change) => change + 4,
         4 if counts(change) => change + 6,
         _ => change,
+    }
+}
+
+/// An effect that leaves a value where it is used.
+pub(crate) fn leaving(used: bool, effect: u8) -> u8
+    ensures { result ≡ leaving used effect }
+{
+    if used {
+        effect.wrapping_add(0x80)
+    } else {
+        effect
+    }
+}
+
+/// What an assignment does with its variable, by its operator.
+pub(crate) fn assigned(used: bool, operator: Option<u8>) -> Operation
+    ensures { operation_of result ≡ assigned used operator }
+{
+    match operator {
+        None if used => Operation::Using(0x80),
+        None => Operation::Pop,
+        Some(operator) => Operation::Using(leaving(used, operator.saturating_sub(0xA0))),
     }
 }

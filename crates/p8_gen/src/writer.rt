@@ -1,19 +1,19 @@
 // Writing code.
-ghost use Rattle.std.specs.Prelude.{◌≡◌, ℕ, OnOk, Some, None, false, true, [], ◌∷◌, ◌++◌, length};
+ghost use Rattle.std.specs.Prelude.{◌≡◌, ℕ, OnOk, Some, None, false, true, [], ◌∷◌, ◌++◌, length, IfOk};
 ghost use Rattle.std.specs.Bool.{OnTrue, OnFalse};
 ghost use Rattle.p8_bytecode.specs.Spelling.{spelled};
-ghost use Rattle.p8_gen.specs.Pieces.{Written, one, byte, with_number, text, jump, jumping, offset, told, is_near};
+ghost use Rattle.p8_gen.specs.Pieces.{Written, empty, one, byte, with_number, text, jump, jumping, offset, told, is_near};
 ghost use Rattle.p8_gen.specs.Writing.{Stands};
 
 use crate::code::StringUse;
 use crate::sizes::size_of;
 use p8_bytecode::Op;
 use p8_tree::Place;
-use std::alloc::AllocError;
+use std::alloc::{AllocError, Global};
 
 /// What is written of a method's code.
 #[derive(Drop)]
-pub(crate) struct Kept {
+pub struct Kept {
     pub ops: Vec<Op>,
     pub strings: Vec<StringUse>,
     /// The statements of which a jump goes too far.
@@ -22,7 +22,7 @@ pub(crate) struct Kept {
 
 /// A writer of code: it counts the bytes, and keeps the code unless it only counts.
 #[derive(Drop)]
-pub(crate) struct Writer {
+pub struct Writer {
     pub end: u32,
     pub kept: Option<Kept>,
 }
@@ -57,6 +57,27 @@ fn is_near(from: u32, to: u32) -> bool
 }
 
 impl Writer {
+    /// A writer that keeps code, without any yet. It takes no memory.
+    pub fn new(alloc: Global) -> Writer
+        ensures { Stands result empty }
+    {
+        Writer {
+            end: 0,
+            kept: Some(Kept {
+                ops: Vec::new(alloc),
+                strings: Vec::new(alloc),
+                too_far: Vec::new(alloc),
+            }),
+        }
+    }
+
+    /// What is written, of a writer that keeps it. One that only counts has nothing, and answers as where memory is wanting.
+    pub fn into_kept(self) -> Result<Kept, AllocError>
+        ensures { IfOk result (λ kept. Some kept ≡ self.kept) }
+    {
+        self.kept.ok_or(AllocError)
+    }
+
     /// A writer that only counts, from where this one ends.
     pub fn counter(&self) -> Writer
         ensures { (w : Written) → Stands self.now w → Stands result w }
