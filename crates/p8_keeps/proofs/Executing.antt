@@ -34,7 +34,8 @@ use Rattle.p8_keeps.proofs.Stack.{one-is, two-is, three-is}
 use Rattle.p8_keeps.proofs.Places.{at, follows-read, follows-write}
 use Rattle.p8_keeps.proofs.Stepping.{less, less-le, M, pays, by, by-course, by-one, by-two, by-three}
 use Rattle.p8_keeps.proofs.Calling.{opened-low, Above, GivesBack, Returns, called, back-unused}
-use Rattle.p8_keeps.proofs.Evaluating.{Working, Stands, Then, K, E, s, room, marked, fits_stack, fits_marks, up, longer, mark_of, opens-meets, own-meets, object-meets, assign-meets, change_alone-meets, evaluates-meets, names-meets, index-meets, values-meets, built-meets, up_all}
+use Rattle.p8_keeps.proofs.Forms.{Working, Stands, Then, K, E, s, room, marked, fits_stack, fits_marks, up, longer, mark_of, opens-meets, own-meets, object-meets, assign-meets, change_alone-meets, up_all}
+use Rattle.p8_keeps.proofs.Evaluating.{evaluates-meets, names-meets, index-meets, values-meets, built-meets}
 
 module _ (w : Working) where
   open w use {t, c, callee, abort, g, begun, top, aborts}

@@ -2,6 +2,7 @@ pub mod Meets
 pub mod Stack
 pub mod Places
 pub mod Stepping
+pub mod Forms
 pub mod Evaluating
 pub mod Executing
 pub mod Ends

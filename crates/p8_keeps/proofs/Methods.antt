@@ -36,7 +36,7 @@ use Rattle.p8_meaning.proofs.GrowingForms.{life-goes}
 use Rattle.p8_meaning.specs.Bounds.{made_of, IsSettled, IsBeginning}
 use Rattle.p8_keeps.proofs.Ends.{settled-later, made-later}
 use Rattle.p8_keeps.proofs.Calling.{Room, CallsOk, Returns, Aborts, frame_of, follows-gives}
-use Rattle.p8_keeps.proofs.Evaluating.{Working, Stands}
+use Rattle.p8_keeps.proofs.Forms.{Working, Stands}
 use Rattle.p8_keeps.proofs.Executing.{body-meets, return_result-meets}
 
 -- the first of some accesses, all of which a source makes
