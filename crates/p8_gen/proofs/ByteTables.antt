@@ -1,5 +1,5 @@
 -- Codes and effects, by computation over all bytes.
-use Rattle.std.proofs.Common.{◌≡◌, ℕ, zero, suc, ◌+◌, ◌-◌, ◌%◌, ◌<◌, ◌≤◌, Bool, true, false, not, ◌&&◌, ◌||◌, ◌==◌, nat_le, nat_lt, if◌then◌else◌, inl, inr, Option, Some, None, List, [], ◌∷◌, refl, sym, ap, ◌∙◌, subst, arith}
+use Rattle.std.proofs.Common.{◌≡◌, ℕ, zero, suc, ◌+◌, ◌-◌, ◌<◌, ◌≤◌, Bool, true, false, not, ◌&&◌, ◌||◌, ◌==◌, nat_le, if◌then◌else◌, inl, inr, Option, Some, None, List, [], ◌∷◌, refl, sym, ap, ◌∙◌, subst, arith}
 use Rattle.std.specs.Prelude.{IsTrue}
 use Rattle.std.proofs.lemmas.Bool.{cases_eq}
 use Rattle.std.proofs.lemmas.Bool.Decides.{nat_tests}
@@ -8,7 +8,7 @@ use Rattle.p8_bytecode.specs.declared.operands.Operands.TheVariants.{Nothing, Of
 use Rattle.p8_bytecode.specs.Table.{rows, operands_of, is_effect, is_step, is_within, is_register}
 use Rattle.p8_bytecode.specs.Reading.{changes_register}
 use Rattle.p8_tree.specs.Proper.{is_one_of, is_binary, is_unary, is_change, is_operator_alone}
-use Rattle.p8_gen.specs.Variables.{leaving, effect_by, effect_for, by_size, counts}
+use Rattle.p8_gen.specs.Variables.{leaving, effect_by, effect_for, by_size}
 
 pub all_below : (ℕ → Bool) → ℕ → Bool
 all_below test zero = true

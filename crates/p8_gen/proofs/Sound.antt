@@ -1,20 +1,20 @@
 -- Each bytecode of a template over a proper tree is one that there is.
-use Rattle.std.proofs.Common.{◌≡◌, ℕ, ◌+◌, ◌-◌, ◌*◌, ◌/◌, ◌%◌, ◌^◌, ◌<◌, ◌≤◌, Bool, true, false, not, ◌&&◌, ◌||◌, ◌==◌, nat_le, nat_lt, if◌then◌else◌, inl, inr, Option, Some, None, List, [], ◌∷◌, ◌++◌, length, refl, sym, ap, ◌∙◌, subst, arith}
-use Rattle.std.specs.Prelude.{IsTrue, IfSome, All}
+use Rattle.std.proofs.Common.{◌≡◌, ℕ, ◌+◌, ◌-◌, ◌*◌, ◌/◌, ◌%◌, ◌^◌, ◌<◌, ◌≤◌, Bool, true, false, not, ◌&&◌, ◌||◌, ◌==◌, nat_le, nat_lt, if◌then◌else◌, Option, Some, List, [], ◌∷◌, ◌++◌, refl, sym, ap, ◌∙◌, subst, arith}
+use Rattle.std.specs.Prelude.{IsTrue}
 use Rattle.std.proofs.lemmas.Bool.Decides.{nat_tests}
 use Rattle.std.proofs.lemmas.List.Elements.{All-push}
 use Rattle.p8_tree.specs.declared.places.Place.{Place}
 use Rattle.p8_bytecode.specs.declared.op.Op.{Op}
 use Rattle.p8_bytecode.specs.declared.operands.Operands.{Operands}
-use Rattle.p8_bytecode.specs.declared.operands.Operands.TheVariants.{Nothing, Offset, OneByte, TwoBytes, ThreeBytes, SevenBits, Word, Triple, Long, Register, ShortVariable, Variable}
+use Rattle.p8_bytecode.specs.declared.operands.Operands.TheVariants.{Nothing, Offset, OneByte, TwoBytes, ThreeBytes, Register}
 use Rattle.p8_bytecode.specs.Table.{rows, operands_of, is_effect, is_step, is_register}
-use Rattle.p8_bytecode.specs.Reading.{bare, sign_extended, has_base, changes_variable, changes_register}
-use Rattle.p8_bytecode.specs.Spelling.{IsOp, FitsOperands, IsOffset, IsPlace, IsStep, IsChange}
+use Rattle.p8_bytecode.specs.Reading.{bare, changes_register}
+use Rattle.p8_bytecode.specs.Spelling.{FitsOperands, IsOffset, IsPlace, IsStep, IsChange}
 use Rattle.p8_tree.specs.Proper as proper
-use Rattle.p8_gen.specs.Pieces.{Written, Piece, nothing, one, ◌⨾◌, up_to_end, byte, with_number, text, jump, offset, is_near, told}
+use Rattle.p8_gen.specs.Pieces.{Written, Piece, nothing, one, ◌⨾◌, up_to_end, byte, with_number, text, jump, offset, is_near}
 use Rattle.p8_gen.specs.Variables.{number, Base, Pushed, OfObject, OfVariables, OfFrame, Home, home_at, Operation, Push, Pop, Using, Reference, action_of, effect_of, size_bits, base_bits, memory_op, short_bits, is_short, short_or_long, plain_op, register, operation_bits}
 use Rattle.p8_gen.specs.Operations.{IsWhole, AreWhole}
-use Rattle.p8_gen.proofs.ByteTables.{all_below, all_below-at, both_true, one_of, is_good, row_from, short_row_from, equal, registers, push_registers, pop_registers, change_registers}
+use Rattle.p8_gen.proofs.ByteTables.{both_true, one_of, is_good, row_from, short_row_from, equal, registers, push_registers, pop_registers, change_registers}
 
 pub record Sound (p : Piece) : Type 0 where
   pub keeps : (w : Written) → AreWhole w → AreWhole (p w)

@@ -1,12 +1,11 @@
 -- Each bytecode of an expression is one that there is, form by form.
-use Rattle.std.proofs.Common.{◌≡◌, ℕ, ◌+◌, ◌-◌, ◌%◌, ◌^◌, ◌<◌, Bool, true, false, not, ◌&&◌, ◌||◌, ◌==◌, nat_le, if◌then◌else◌, inl, inr, Option, Some, None, List, [], ◌∷◌, length, refl, sym, ap, ◌∙◌, subst, arith}
-use Rattle.std.specs.Prelude.{◌⊎◌, IsTrue, IfSome, option_map}
-use Rattle.std.proofs.lemmas.Bool.Decides.{nat_tests}
+use Rattle.std.proofs.Common.{◌≡◌, ℕ, ◌^◌, ◌<◌, Bool, true, false, not, ◌||◌, ◌==◌, nat_le, if◌then◌else◌, inl, inr, Option, Some, None, List, [], ◌∷◌, refl, sym, ap, subst, arith}
+use Rattle.std.specs.Prelude.{IsTrue, IfSome, option_map}
 use Rattle.std.proofs.lemmas.List.{length-append}
 use Rattle.p8_tree.specs.declared.places.Place.{Place}
-use Rattle.p8_tree.specs.Expressions.{Tree, node, Form, Number, Str, Here, Var, Call, Unary, Binary, Assign, Change, Address, ObjectAddress, ObjConst, Built, Look, Variable, Named, Part, Memory, Register, Index, no_index, index, Bits, whole, bits, Item, single, range, Trees, no_trees, ◌▷◌, Items, no_items, ◌▸◌}
+use Rattle.p8_tree.specs.Expressions.{Tree, node, Form, Number, Str, Here, Var, Call, Unary, Binary, Assign, Change, Address, ObjectAddress, ObjConst, Built, Look, Variable, Named, Part, Memory, Register, Index, no_index, index, whole, bits, single, range, Trees, no_trees, ◌▷◌, Items, no_items, ◌▸◌}
 use Rattle.p8_tree.specs.Lists.{tree_list, count_of_trees}
-use Rattle.p8_tree.specs.Proper.{IfThere, is_binary, is_change, is_operator_alone, is_value, gives_value, gives_no_value, arguments_fit, arguments_fit_alone, IsProperTree, IsProperForm, IsProperVariable, IsProperIndex, AreProperBits, IsProperItem, AreProperTrees, AreProperItems, IsDoneForm, IsDone}
+use Rattle.p8_tree.specs.Proper.{IfThere, is_binary, is_change, is_operator_alone, gives_value, gives_no_value, arguments_fit, arguments_fit_alone, IsProperTree, IsProperForm, IsProperVariable, IsProperIndex, AreProperTrees, AreProperItems, IsDoneForm, IsDone}
 use Rattle.p8_bytecode.specs.Table.{rows, operands_of}
 use Rattle.p8_bytecode.specs.Reading.{bare, has_base, changes_variable}
 use Rattle.p8_bytecode.specs.Spelling.{IsPlace, IsChange}
@@ -19,14 +18,14 @@ use Rattle.p8_kinds.specs.declared.name_kinds.NameKind.{NameKind}
 use Rattle.p8_kinds.specs.declared.name_kinds.NameKind.TheVariants as kinds
 use Rattle.p8_kinds.specs.declared.uses.Use.TheVariants as used_as
 use Rattle.p8_kinds.specs.Environments.{Environment, kind_in}
-use Rattle.p8_kinds.specs.Misuses.{misuse, in_method, BrokenIn, BrokenInside, BrokenInVariable, BrokenInIndex, BrokenInBits, BrokenInItem, BrokenInTrees, BrokenInItems, name_alone, MisuseDone}
+use Rattle.p8_kinds.specs.Misuses.{misuse, in_method, BrokenIn, BrokenInside, BrokenInVariable, BrokenInIndex, BrokenInTrees, BrokenInItems, name_alone, MisuseDone}
 use Rattle.p8_gen.specs.Names.{Names}
-use Rattle.p8_gen.specs.Pieces.{Piece, nothing, one, ◌⨾◌, byte, with_number, text, jump}
+use Rattle.p8_gen.specs.Pieces.{◌⨾◌, byte, with_number, jump}
 use Rattle.p8_gen.specs.Variables.{number, Home, Base, Pushed, home_of, home_of_kind, Operation, Push, Pop, Using, plain_op, memory_op, leaving, effect_for, assigned}
 use Rattle.p8_gen.specs.Variables as variables
-use Rattle.p8_gen.specs.Expressions.{count_of, mark, own_method, method_number, call_in, method_in, callee, constant, name_alone as code_of_name, built_value, built_alone, built, dropped, built_without, is_method, calls_own, starts_method, start_of_method, starts, pasm, started, looks_down, counts_from, unary, sized, pushed_home, size_of, value, value_of_form, operate, in_home, values, index_value, call_of_built, arguments, looks, alone}
+use Rattle.p8_gen.specs.Expressions.{count_of, mark, own_method, method_number, call_in, method_in, callee, constant, name_alone as code_of_name, built_value, built, dropped, built_without, starts_method, start_of_method, starts, pasm, started, looks_down, counts_from, unary, sized, pushed_home, size_of, value, value_of_form, operate, in_home, values, index_value, call_of_built, arguments, looks, alone}
 use Rattle.p8_gen.specs.Operations.{HasBytes, HaveBytes}
-use Rattle.p8_gen.proofs.ByteTables.{both_true, one_of, unary_bare, binary_bare, good_operator, good_change, good_operator_alone, equal}
+use Rattle.p8_gen.proofs.ByteTables.{one_of, unary_bare, binary_bare, good_operator, good_change, good_operator_alone, equal}
 use Rattle.p8_gen.proofs.Sound.{Sound, nothings, both, ups, either, either_by, ones, bares, one_byte, two_bytes, three_bytes, numbers, texts, jumps, Fit, IsPlaced, memory, plain, registers_sound, fits}
 
 -- ---- calls

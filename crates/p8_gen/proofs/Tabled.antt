@@ -15,7 +15,6 @@ use Rattle.p8_kinds.specs.FileSettings.{file_setting}
 use Rattle.p8_gen.specs.declared.coder.Tables.{Tables}
 use Rattle.p8_gen.specs.declared.writer.Kept.{Kept}
 use Rattle.p8_gen.specs.declared.writer.Writer.{Writer}
-use Rattle.p8_gen.specs.Names.{Names}
 use Rattle.p8_gen.specs.Pieces.{Written}
 use Rattle.p8_gen.specs.Files.{kind_here, named_offset, first_offset, names_in}
 use Rattle.p8_gen.specs.Labels.{offset_in}

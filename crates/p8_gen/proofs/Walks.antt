@@ -1,5 +1,5 @@
 -- The walk over expressions: arguments and items one after the other, the forms of built-ins, and the end of a LOOK function.
-use Rattle.std.proofs.Common.{◌≡◌, ℕ, ◌+◌, ◌<◌, ◌≤◌, ◌==◌, Bool, true, false, not, if◌then◌else◌, List, [], ◌∷◌, Option, Some, None, length, take, get_or, refl, sym, ap, ◌∙◌, arith}
+use Rattle.std.proofs.Common.{◌≡◌, ℕ, ◌+◌, ◌<◌, ◌==◌, Bool, true, false, not, if◌then◌else◌, List, [], ◌∷◌, Option, Some, None, length, take, get_or, refl, sym, ap, ◌∙◌, arith}
 use Rattle.std.proofs.lemmas.List.{take_more}
 use Rattle.std.proofs.lemmas.Bool.Decides.{nat_tests}
 use Rattle.std.specs.Prelude.{Result, OnOk, Vec, Box}
@@ -16,12 +16,11 @@ use Rattle.p8_tree.specs.Views.{tree_of, form_of, variable_of, call_of, trees_of
 use Rattle.p8_tree.specs.Bridges.{boxed_index, trees_of-push, items_of-push, built_is, look_is}
 use Rattle.p8_fold.specs.Verdicts.{boxed_bits}
 use Rattle.p8_fold.proofs.Rows.{call_form}
-use Rattle.p8_gen.specs.declared.expressions.BuiltForm.{BuiltForm}
 use Rattle.p8_gen.specs.declared.expressions.BuiltForm.TheVariants as built_form
 use Rattle.p8_gen.specs.Names.{Names}
 use Rattle.p8_gen.specs.Pieces.{Written, Piece, byte, ◌⨾◌, up_to_end}
 use Rattle.p8_gen.specs.Variables.{Operation}
-use Rattle.p8_gen.specs.Expressions.{value, value_of_form, alone, arguments, counts_from, looks_down, operate, in_home, pushed_home, values, looks, constant, built, built_without, call_of_built, started}
+use Rattle.p8_gen.specs.Expressions.{value, value_of_form, alone, arguments, counts_from, looks_down, operate, in_home, pushed_home, values, looks, built, call_of_built, started}
 use Rattle.p8_gen.specs.Walking.{call_piece, looked, started_value, IsBuiltForm}
 use Rattle.p8_gen.specs.Writing.{Stands}
 use Rattle.p8_gen.specs.declared.writer.Writer.{Writer}

@@ -4,7 +4,7 @@ use Rattle.p8_tree.specs.Expressions.{Tree, Form, Call, Items}
 use Rattle.p8_gen.specs.declared.expressions.BuiltForm.{BuiltForm}
 use Rattle.p8_gen.specs.declared.expressions.BuiltForm.TheVariants as built_form
 use Rattle.p8_gen.specs.Names.{Names}
-use Rattle.p8_gen.specs.Pieces.{Piece, nothing, ◌⨾◌, up_to_end, byte}
+use Rattle.p8_gen.specs.Pieces.{Piece, nothing, ◌⨾◌, byte}
 use Rattle.p8_gen.specs.Expressions.{mark, values, index_value, callee, starts_method, arguments, value, looks}
 
 -- a call

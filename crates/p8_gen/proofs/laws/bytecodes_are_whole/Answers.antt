@@ -1,4 +1,3 @@
-use Rattle.p8_tree.specs.Expressions.{node}
 use Rattle.p8_gen.proofs.Spelled.{value_sound, alone_whole}
 use Rattle.p8_gen.proofs.laws.bytecodes_are_whole.Goals as goal
 

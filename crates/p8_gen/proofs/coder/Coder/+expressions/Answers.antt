@@ -5,11 +5,11 @@ use Rattle.p8_tree.specs.Expressions.{node, Var, Named, no_items, ◌▸◌}
 use Rattle.p8_tree.specs.Views.{form_of, tree_of, variable_of, trees_of, item_of, items_of}
 use Rattle.p8_tree.specs.Bridges.{boxed_index}
 use Rattle.p8_fold.proofs.Rows.{call_form}
-use Rattle.p8_gen.specs.Pieces.{Written, up_to_end, one}
+use Rattle.p8_gen.specs.Pieces.{up_to_end, one}
 use Rattle.p8_gen.specs.Variables.{Push, memory_op, home_of}
 use Rattle.p8_gen.specs.Expressions.{mark, value, value_of_form, operate, in_home, pushed_home, values, index_value, callee, call_of_built, arguments, looks, counts_from, looks_down}
 use Rattle.p8_gen.specs.Scopes.{names_of}
-use Rattle.p8_gen.specs.Views.{home_in, operation_of}
+use Rattle.p8_gen.specs.Views.{operation_of}
 use Rattle.p8_gen.specs.Walking.{call_piece, looked}
 use Rattle.p8_gen.specs.Writing.{Stands}
 use Rattle.p8_gen.proofs.Walks.{Runs, values_next, items_next, looked_end, memory_is, register_is, variable_moved, named_is, built_new_cog, built_told_cog, built_plain, value_of_call, arguments_of_call, value_of_built, value_of_look}

@@ -1,4 +1,4 @@
-use Rattle.std.proofs.Common.{◌≡◌, false, sym, ap, ◌∙◌, subst}
+use Rattle.std.proofs.Common.{false, sym, ap, ◌∙◌, subst}
 use Rattle.p8_tree.specs.Expressions.{node}
 use Rattle.p8_tree.specs.Views.{form_of, trees_of}
 use Rattle.p8_gen.specs.Expressions.{alone, call_of_built}

@@ -1,4 +1,4 @@
-use Rattle.std.proofs.Common.{◌≡◌, sym, ap, ◌∙◌, take}
+use Rattle.std.proofs.Common.{ap, ◌∙◌, take}
 use Rattle.std.specs.Option.{option_or}
 use Rattle.p8_gen.specs.Files.{named_offset, first_offset}
 use Rattle.p8_gen.proofs.Tabled.{labels_next}
