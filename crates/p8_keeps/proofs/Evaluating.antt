@@ -20,7 +20,7 @@ use Rattle.p8_keeps.proofs.Places.{at, left_on}
 use Rattle.p8_keeps.proofs.Calling.{opened-low}
 use Rattle.p8_meaning.specs.Builtins as builtins
 use Rattle.p8_keeps.proofs.Stepping.{by-gives, by-text, by-one, by-two, by-three, by-four, by-names}
-use Rattle.p8_keeps.proofs.Forms.{Working, depth, items_depth, item_depth, built_depth, begun_depth, trees_depth, names_depth, index_depth, bits_depth, room, fits_stack, marked, fits_marks, Stands, up, s, K, Then, up_all, mark_of, opens-meets, own-meets, object-meets, used-back, where-meets, read-meets, assign-meets, change-meets, name-meets, constant-meets, none-meets, one-meets, two-meets, three-meets, start-meets, where-deep, Gives_at, begun_pasm-meets, begun_name-meets, item-tried, both-tried, signed_same, where-is, longer}
+use Rattle.p8_keeps.proofs.Forms.{Working, depth, items_depth, item_depth, built_depth, begun_depth, trees_depth, names_depth, index_depth, bits_depth, room, fits_stack, marked, fits_marks, Stands, up, s, K, Then, up_all, mark_of, opens-meets, own-meets, object-meets, used-back, read-meets, assign-meets, change-meets, name-meets, constant-meets, none-meets, one-meets, two-meets, three-meets, start-meets, where-deep, Gives_at, begun_pasm-meets, begun_name-meets, item-tried, both-tried, signed_same, where-is, longer}
 
 module _ (w : Working) where
   open w use {t, c, callee, abort, placed, most, ok, g, begun, top, lesser, aborts, is_instance, is_file}
@@ -165,10 +165,10 @@ module _ (w : Working) where
     built-meets used code no_trees p q h b base marks xs here fits few k m = none-meets w q base marks xs here.low.low (omega (arith, fits, (fits_stack w))) b used code p h k m
     built-meets used code (no_trees ▷ e) p q h b base marks xs here fits few k m =
         let value : ℕ = or_zero (constants.value (setting_of t.file t.method) e) in
-        where-meets w (code == 0) b (at c p base marks xs) (k value) (expressions.evaluates callee (s w) abort e (λ a. builtins.does_one code a k)) h
-        (λ h0. constant-meets w q base marks xs here.low.low (omega (arith, fits, (fits_stack w))) b used value p h0 k m)
-        (λ h1. evaluates-meets e p h1.0 h1.1 b base marks xs here (omega (arith, fits)) (omega (arith, few)) (λ a. builtins.does_one code a k)
-        (λ a. one-meets w q base marks xs here.low.low (omega (arith, fits, (fits_stack w))) b used code h1.0 a h1.2 k m))
+        where-deep w (code == 0) 1 (max 1 (depth w e)) xs b (at c p base marks xs) (k value) (expressions.evaluates callee (s w) abort e (λ a. builtins.does_one code a k)) fits h
+        (λ h0 deep. constant-meets w q base marks xs here.low.low (omega (arith, deep, (fits_stack w))) b used value p h0 k m)
+        (λ h1 deep. evaluates-meets e p h1.0 h1.1 b base marks xs here (omega (arith, deep)) (omega (arith, few)) (λ a. builtins.does_one code a k)
+        (λ a. one-meets w q base marks xs here.low.low (omega (arith, deep, (fits_stack w))) b used code h1.0 a h1.2 k m))
     built-meets used code (no_trees ▷ e ▷ d) p q h b base marks xs here fits few k m =
         where-deep w (code == 0x2C) (1 + (begun_depth w) e (depth w e) (depth w d)) (max 1 (max (depth w e) (1 + (depth w) d))) xs b (at c p base marks xs)
         (expressions.begins callee (s w) abort builtins.new_cog e (expressions.evaluates callee (s w) abort e) (expressions.evaluates callee (s w) abort d) k)

@@ -65,6 +65,9 @@ module _ (w : Working) where
   abbrev body_depth : Statements → ℕ
   body_depth = depths.body_depth (standing.names_method t)
 
+  abbrev chain_depth : Arms → ℕ
+  chain_depth = depths.chain_depth (standing.names_method t)
+
   abbrev arms_depth : Arms → ℕ
   arms_depth = depths.arms_depth (standing.names_method t)
 
@@ -486,7 +489,7 @@ module _ (w : Working) where
           other-meets nothing_else inner p q h proper b xs here fits next quit k around m = at-end b xs k h m
           other-meets (otherwise body) inner p q h proper b xs here fits next quit k around m = body-meets body inner p q h proper b xs here fits next quit k around m
 
-          arms-meet : (arms : Arms) (inner : Inner) (end p q : ℕ) → bodies.ArmsAt t arms inner end p q → AreProperArms arms → (b : ℕ) (xs : List ℕ) → Fine b xs → length xs + arms_depth arms ≤ room w → (next quit k other : Rest) → IsAround inner b xs next quit → Then w b (St end xs) k → Then w b (St q xs) other →
+          arms-meet : (arms : Arms) (inner : Inner) (end p q : ℕ) → bodies.ArmsAt t arms inner end p q → AreProperArms arms → (b : ℕ) (xs : List ℕ) → Fine b xs → length xs + chain_depth arms ≤ room w → (next quit k other : Rest) → IsAround inner b xs next quit → Then w b (St end xs) k → Then w b (St q xs) other →
               Then w b (St p xs) (statements.chooses most_passes callee (s w) return abort arms next quit k other)
           arms-meet no_arms inner end p q h proper b xs here fits next quit k other around m n = at-end b xs other h n
           arms-meet (arms ⊳ arm (no_items ▸ single e) negated body) inner end p q h proper b xs here fits next quit k other around m n =

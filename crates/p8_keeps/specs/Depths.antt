@@ -48,10 +48,10 @@ abbrev mutual
   items_depth m no_items = 0
   items_depth m (items ▸ item) = max (items_depth m items) (item_depth m item)
 
-  -- COGNEW is 2C and COGINIT 28; of what is begun lies the cog's number below
+  -- CONSTANT, 0, is a number; COGNEW is 2C and COGINIT 28; of what is begun lies the cog's number below
   pub built_depth : (is_method : List ℕ → Bool) → (code : ℕ) → Trees → ℕ
   built_depth m code no_trees = 1
-  built_depth m code (no_trees ▷ e) = max 1 (depth m e)
+  built_depth m code (no_trees ▷ e) = if code == 0 then 1 else max 1 (depth m e)
   built_depth m code (no_trees ▷ e ▷ f) = if code == 0x2C then 1 + begun_depth m e (depth m e) (depth m f) else max 1 (max (depth m e) (1 + depth m f))
   built_depth m code (no_trees ▷ e ▷ f ▷ g) =
       if code == 0x28 then max (depth m e) (1 + begun_depth m f (depth m f) (depth m g)) else max (depth m e) (max (1 + depth m f) (2 + depth m g))
@@ -94,7 +94,7 @@ held_by course = 0
 abbrev mutual
   pub statement_depth : (is_method : List ℕ → Bool) → Statement → ℕ
   statement_depth m (statement place (Do e)) = act_depth m e
-  statement_depth m (statement place (If arms other)) = max (arms_depth m arms) (other_depth m other)
+  statement_depth m (statement place (If arms other)) = max (chain_depth m arms) (other_depth m other)
   statement_depth m (statement place (Case e arms other)) = max (depth m e) (max (arms_depth m arms) (other_depth m other))
   statement_depth m (statement place (Repeat course body)) = max (course_depth m course) (held_by course + body_depth m body)
   statement_depth m (statement place Next) = 0
@@ -109,6 +109,11 @@ abbrev mutual
   pub other_depth : (is_method : List ℕ → Bool) → Otherwise → ℕ
   other_depth m nothing_else = 0
   other_depth m (otherwise body) = body_depth m body
+
+  -- the arms of an IF chain
+  pub chain_depth : (is_method : List ℕ → Bool) → Arms → ℕ
+  chain_depth m no_arms = 0
+  chain_depth m (arms ⊳ arm items negated body) = max (chain_depth m arms) (max (items_depth m items) (body_depth m body))
 
   -- the tests of an arm lie above the value of CASE
   pub arms_depth : (is_method : List ℕ → Bool) → Arms → ℕ
