@@ -15,3 +15,4 @@ mod words;
 
 pub use history_text::trace;
 pub use instructions::instr_text;
+pub use numerals::{byte_digits, long_digits, word_digits};
