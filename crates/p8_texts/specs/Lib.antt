@@ -1,0 +1,4 @@
+-- What public contracts cite.
+pub mod Listing
+-- Internal.
+pub mod Cutting

@@ -1,0 +1,37 @@
+// Texts that are appended.
+ghost use Rattle.std.specs.Prelude.{◌≡◌, ◌≤◌, ◌++◌, length, drop, OnOk};
+ghost use Rattle.p8_report.specs.Numerals.{hex};
+ghost use Rattle.p8_texts.specs.Listing.{further as further_by};
+
+use p8_report::word_digits;
+use p8_words::NoMemory;
+
+/// Appends a text.
+pub fn push_text(out: &mut Vec<u8>, text: &[u8]) -> Result<(), NoMemory>
+    ensures { OnOk result (out.new.items ≡ out.old.items ++ text.now) }
+{
+    out.extend_from_slice(text)?;
+    Ok(())
+}
+
+/// Appends an address.
+pub fn push_place(out: &mut Vec<u8>, place: u16) -> Result<(), NoMemory>
+    ensures { OnOk result (out.new.items ≡ out.old.items ++ hex 4 place) }
+{
+    push_text(out, &word_digits(u32::from(place)))
+}
+
+/// So many bytes behind an address, mod 65,536.
+pub fn further(place: u16, bytes: usize) -> u16
+    ensures { result ≡ further_by place bytes }
+{
+    place.wrapping_add((bytes % 65_536) as u16)
+}
+
+/// The bytes behind the first ones.
+pub fn behind(bytes: &[u8], count: usize) -> &[u8]
+    requires { count ≤ length bytes.now }
+    ensures { result.now ≡ drop count bytes.now }
+{
+    &bytes[count..]
+}
