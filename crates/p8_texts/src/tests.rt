@@ -41,12 +41,12 @@ fn object(
 }
 
 /// The listing of one object.
-fn listed(alloc: Global, dat: &[u8], code: &[u8]) -> Result<Vec<u8>, NoMemory> {
+fn listed(alloc: Global, dat: &[u8], code: &[u8]) -> Result<Vec<u8>, Fail> {
     let mut names = Vec::new(alloc);
     let mut objects = Vec::new(alloc);
     names.push(Text::copy_of(alloc, b"main.spin")?)?;
     objects.push(object(alloc, dat, &[code], 0)?)?;
-    listing(alloc, &names, &objects)
+    Ok(listing(alloc, &names, &objects)?)
 }
 
 const ROW: &str = "object main.spin 0010
