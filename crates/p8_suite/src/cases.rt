@@ -1,4 +1,5 @@
 // The line of a case.
+use crate::dats::DatBlocks;
 use crate::names::Names;
 use crate::runs::Run;
 use crate::sources::Source;
@@ -14,6 +15,8 @@ pub enum Case<'a> {
     Source(Source<'a>),
     /// `names FILE VERDICT`: a top file without objects, and what resolving its names answers.
     Names(Names<'a>),
+    /// `dat FILE START VERDICT`: a top file without objects, and what assembling its DAT at an offset answers.
+    Dat(DatBlocks<'a>),
     /// `run IMAGE TRACE CLOCKS TURNS PINS DUMP`: a file as hub memory, and its trace; `spin` with the same words: an
     /// image of compiled Spin.
     Run(Run<'a>),
@@ -36,6 +39,7 @@ impl<'a> Case<'a> {
         match kind {
             "source" => Ok(Case::Source(Source::of_words(rest)?)),
             "names" => Ok(Case::Names(Names::of_words(rest)?)),
+            "dat" => Ok(Case::Dat(DatBlocks::of_words(rest)?)),
             "run" => Ok(Case::Run(Run::of_words(Format::Memory, rest)?)),
             "spin" => Ok(Case::Run(Run::of_words(Format::Image, rest)?)),
             "stops" => Ok(Case::Stopped(Stopped::of_words(rest)?)),

@@ -5,6 +5,7 @@
 #![tactic(auto)]
 
 mod cases;
+mod dats;
 mod names;
 mod runs;
 mod sources;
@@ -37,6 +38,7 @@ fn agrees<R: Files + Alloc<A = Global>>(rt: &R, case: &Case) -> anyhow::Result<b
     match case {
         Case::Source(source) => source.agrees(rt),
         Case::Names(names) => names.agrees(rt),
+        Case::Dat(dat) => dat.agrees(rt),
         Case::Run(run) => run.agrees(rt),
         Case::Stopped(stopped) => stopped.agrees(rt),
         Case::Text(text) => text.agrees(rt.alloc()),
@@ -46,6 +48,7 @@ fn agrees<R: Files + Alloc<A = Global>>(rt: &R, case: &Case) -> anyhow::Result<b
 fn suite(rt: &HostRuntime) -> anyhow::Result<bool> {
     let mut sources = Tally { agreed: 0, all: 0 };
     let mut names = Tally { agreed: 0, all: 0 };
+    let mut dats = Tally { agreed: 0, all: 0 };
     let mut runs = Tally { agreed: 0, all: 0 };
     let mut stops = Tally { agreed: 0, all: 0 };
     let mut texts = Tally { agreed: 0, all: 0 };
@@ -59,6 +62,7 @@ fn suite(rt: &HostRuntime) -> anyhow::Result<bool> {
         match case {
             Case::Source(_) => sources.count(agrees),
             Case::Names(_) => names.count(agrees),
+            Case::Dat(_) => dats.count(agrees),
             Case::Run(_) => runs.count(agrees),
             Case::Stopped(_) => stops.count(agrees),
             Case::Text(_) => texts.count(agrees),
@@ -66,12 +70,14 @@ fn suite(rt: &HostRuntime) -> anyhow::Result<bool> {
     }
     println!(rt; "sources: {} of {} agree", sources.agreed, sources.all)?;
     println!(rt; "names: {} of {} agree", names.agreed, names.all)?;
+    println!(rt; "dats: {} of {} agree", dats.agreed, dats.all)?;
     println!(rt; "runs: {} of {} agree", runs.agreed, runs.all)?;
     println!(rt; "stops: {} of {} agree", stops.agreed, stops.all)?;
     println!(rt; "texts: {} of {} agree", texts.agreed, texts.all)?;
     Ok(
         sources.agreed == sources.all
             && names.agreed == names.all
+            && dats.agreed == dats.all
             && runs.agreed == runs.all
             && stops.agreed == stops.all
             && texts.agreed == texts.all,

@@ -22,7 +22,7 @@ pub struct Names<'a> {
 }
 
 /// The tree of a source that can be read.
-fn tree_of(alloc: Global, bytes: &[u8]) -> anyhow::Result<SourceFile>
+pub fn tree_of(alloc: Global, bytes: &[u8]) -> anyhow::Result<SourceFile>
     ensures { IfOk result (λ file. IsProperFile (source_of file)) }
 {
     tokens_are_proper();
