@@ -65,24 +65,19 @@ fn write_named(out: &mut String, named: &Named) -> Result<(), AllocError> {
 }
 
 /// What resolving the names of a file answers, as a case spells it.
-fn verdict_of(alloc: Global, file: &SourceFile) -> Result<String, NoMemory>
+fn verdict_of(alloc: Global, file: &SourceFile, children: &Children) -> Result<String, NoMemory>
     requires { IsProperFile (source_of file.now) }
 {
-    let children = Children {
-        items: List::new(alloc),
-    };
-    match resolve(alloc, file, &children, true) {
-        Ok(named) => {
-            let mut out = String::new(alloc);
-            write_named(&mut out, &named)?;
-            Ok(out)
-        }
+    let mut out = String::new(alloc);
+    match resolve(alloc, file, children, true) {
+        Ok(named) => write_named(&mut out, &named)?,
         Err(Fail::Refused(fault)) => {
-            let (number, place) = (fault.number, fault.place);
-            Ok(format!(in alloc; "{number} {}:{}", place.line, place.column)?)
+            let place = fault.place;
+            write!(out, "{} {}:{}", fault.number, place.line, place.column)?;
         }
-        Err(Fail::NoMemory) => Err(NoMemory),
+        Err(Fail::NoMemory) => return Err(NoMemory),
     }
+    Ok(out)
 }
 
 impl<'a> Names<'a> {
@@ -97,8 +92,11 @@ impl<'a> Names<'a> {
     /// Whether resolving the source answers so.
     pub fn agrees<R: Files + Alloc<A = Global>>(&self, rt: &R) -> anyhow::Result<bool> {
         let bytes = fs::read(rt, self.file)?;
+        let children = Children {
+            items: List::new(rt.alloc()),
+        };
         let file = tree_of(rt.alloc(), &bytes)?;
-        let verdict = verdict_of(rt.alloc(), &file);
+        let verdict = verdict_of(rt.alloc(), &file, &children);
         drop(file);
         Ok(verdict?.as_str() == self.verdict)
     }
