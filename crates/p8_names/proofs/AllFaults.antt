@@ -19,7 +19,7 @@ use Rattle.p8_kinds.specs.Misuses.{MisuseInStatements}
 use Rattle.p8_names.specs.Settings.{IsSetting, outside}
 use Rattle.p8_names.specs.Kinds.{file_kind, own_kinds, method_setting, numbered}
 use Rattle.p8_names.specs.Faults.{in_method, in_data, local_label, labels_ahead, InMethods, FaultInLocals, IsMethodFault, UnknownInLines, FaultBy, repeated, own_repeated, label_repeated, too_many_params, no_pub, count, instances, of_method, in_line, IsNameFault, of_constant, of_name}
-use Rattle.p8_names.specs.Looking.{environment_in, IsFaultIn}
+use Rattle.p8_names.specs.Looking.{environment_in}
 use Rattle.p8_names.specs.Regions.{environment_at}
 use Rattle.p8_names.specs.Resolving.{MisusedBy, BrokenBy}
 use Rattle.p8_names.proofs.Equal.{environments_equal}

@@ -1,5 +1,5 @@
 -- The table in which the constants of a file stand is right for it.
-use Rattle.std.proofs.Common.{◌≡◌, ℕ, List, Option, Some, None, ap, sym, ◌∙◌, subst}
+use Rattle.std.proofs.Common.{◌≡◌, ℕ, List, Some, None, ap, ◌∙◌, subst}
 use Rattle.std.specs.Prelude.{IsSome}
 use Rattle.p8_tree.specs.Sources.{Source}
 use Rattle.p8_fold.specs.declared.meanings.Meaning.TheVariants as meaning_case

@@ -7,7 +7,7 @@ use Rattle.p8_fold.specs.declared.meanings.Meaning.TheVariants as meaning_case
 use Rattle.p8_fold.specs.Meanings.{Setting}
 use Rattle.p8_constants.specs.Items as con
 use Rattle.p8_constants.specs.Items.{Sum}
-use Rattle.p8_constants.specs.Constants.{Scope, scope_of, IsConstant, Has}
+use Rattle.p8_constants.specs.Constants.{scope_of, IsConstant}
 use Rattle.p8_constants.proofs.OneValue.{has_one}
 use Rattle.p8_kinds.specs.declared.children.Child.{Child}
 use Rattle.p8_names.specs.Settings.{IsSetting, outside}

@@ -1,4 +1,4 @@
-use Rattle.std.proofs.Common.{◌≡◌, ◌⊎◌, ap, subst}
+use Rattle.std.proofs.Common.{◌⊎◌, subst}
 use Rattle.p8_fold.specs.Entries.{setting_of}
 use Rattle.p8_definitions.specs.Standing.{items_of, IsFirstOf}
 use Rattle.p8_names.specs.Resolving.{RepeatInFile, BrokenByItems, MisusedBy}

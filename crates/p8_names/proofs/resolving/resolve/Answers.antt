@@ -1,4 +1,4 @@
-use Rattle.std.proofs.Common.{None, Some, subst}
+use Rattle.std.proofs.Common.{subst}
 use Rattle.p8_tree.specs.Views.{source_of}
 use Rattle.p8_definitions.specs.Standing.{IsFirstOf}
 use Rattle.p8_names.specs.Faults.{IsNameFault}
