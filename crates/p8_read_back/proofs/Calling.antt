@@ -11,6 +11,7 @@ use Rattle.p8_lexer.specs.Lexing.{AreTokens, IsFault}
 use Rattle.p8_lexer.proofs.Files.{one_list, never_both}
 use Rattle.p8_lines.specs.Tokens.{all_tokens}
 use Rattle.p8_blocks.specs.Files.{IsFileWithinLimits}
+use Rattle.p8_names.specs.Resolution.{IfRefused as IfNamesRefused}
 use Rattle.p8_dat.specs.Blocks.{IfRefused}
 use Rattle.p8_read_back.specs.ReadBack.{source_text, IsLineOf, file_with}
 use Rattle.p8_read_back.proofs.Files.{text_read, text_short}
@@ -31,3 +32,7 @@ module _ (long : ℕ) (small : long < 2 ^ 32) (bytes : List ℕ) (whole : bytes 
 pub only_memory : (S : Fault → Type 0) (e : Fail Fault) → ((f : Fault) → ¬ S f) → IfRefused (IsFirstFault S) e → e ≡ fail_case.NoMemory
 only_memory S (fail_case.Refused f) none h = absurd (none f h.holds)
 only_memory S fail_case.NoMemory none h = refl
+
+pub only_memory_there : (S : Fault → Type 0) (e : Fail Fault) → ((f : Fault) → ¬ S f) → IfNamesRefused (IsFirstFault S) e → e ≡ fail_case.NoMemory
+only_memory_there S (fail_case.Refused f) none h = absurd (none f h.holds)
+only_memory_there S fail_case.NoMemory none h = refl
