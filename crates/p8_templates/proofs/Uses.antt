@@ -16,8 +16,9 @@ use Rattle.p8_kinds.specs.declared.uses.Use.{Use}
 use Rattle.p8_kinds.specs.declared.uses.Use.TheVariants as used
 use Rattle.p8_kinds.specs.Uses.{wrong}
 use Rattle.p8_kinds.specs.Environments.{kind_in}
+use Rattle.p8_kinds.specs.FileSettings.{meaning_of_kind}
 use Rattle.p8_kinds.specs.Misuses.{misuse, misuse_of_variable}
-use Rattle.p8_meaning.specs.Programs.{setting_of, object_constant, meaning_of_kind}
+use Rattle.p8_meaning.specs.Programs.{setting_of, object_constant}
 use Rattle.p8_gen.specs.Names.{Names}
 use Rattle.p8_gen.specs.Expressions.{count_of}
 use Rattle.p8_keeps.specs.Standing.{Compiled}
