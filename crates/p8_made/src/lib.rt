@@ -1,0 +1,9 @@
+//! Made programs: eight cogs that run the same made-up instructions on 16 longs of the hub, from one seed.
+#![tactic(auto)]
+
+mod image;
+mod instructions;
+#[cfg(test)]
+mod tests;
+
+pub use image::made_image;
