@@ -39,9 +39,14 @@ made_instr n = chosen (n / 2 ^ 28 % 8) (480 + n / 2 ^ 8 % 16) (480 + n / 2 ^ 12 
 unfoldable pub instr_longs : (seed count : ℕ) → List ℕ
 instr_longs seed count = map (λ (i : ℕ). long_of (made_instr (number seed (i + 1)))) (range_with_len 0 count)
 
--- longs 0 to 7 of the hub: the program with which cog 0 starts seven more cogs from long 8 on, and then itself
+-- longs 0 to 7 of the hub: the program with which cog 0 starts seven more cogs from long 8 on, and then itself. It is COGINIT of long
+-- 4, DJNZ of long 5 to the first instruction, COGINIT of long 6; what these start is told by longs 4 and 6, and long 5 counts.
 abbrev pub first_longs : List ℕ
-first_longs = 209455106 ∷ 3841722880 ∷ 209456130 ∷ 0 ∷ 136 ∷ 7 ∷ 128 ∷ 0 ∷ []
+first_longs = 0x0C7C0802 ∷ 0xE4FC0A00 ∷ 0x0C7C0C02 ∷ 0 ∷ 0x88 ∷ 7 ∷ 0x80 ∷ 0 ∷ []
+
+-- a jump to the first instruction
+abbrev pub jump_back : ℕ
+jump_back = 0x5C7C0000
 
 -- what each cog loads: the 400 instructions, a jump to the first of them, 63 zeros, the addresses of the 16 longs from
 -- $1000 on, and what the 16 registers hold at first
@@ -49,7 +54,7 @@ unfoldable pub made_longs : ℕ → List ℕ
 made_longs seed =
     first_longs
     ++ instr_longs seed 400
-    ++ 1551630336 ∷ replicate 63 0
+    ++ jump_back ∷ replicate 63 0
     ++ map (λ (j : ℕ). 4096 + 4 * j) (range_with_len 0 16)
     ++ map (λ (j : ℕ). number seed (401 + j)) (range_with_len 0 16)
 
