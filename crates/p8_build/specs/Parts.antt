@@ -1,9 +1,11 @@
 -- The parts of an object's image, by what its file is compiled to.
 -- Sources: the Propeller Manual v1.2, "VAR", "PUB", "OBJ" and "DAT" of the Spin chapter; the layout is the public form of Spin
 -- images, its limits are this project's profile.
-use Rattle.std.specs.Prelude.{ℕ, zero, suc, ◌+◌, ◌*◌, List, [], ◌∷◌, length, map, replicate, if◌then◌else◌}
+use Rattle.std.specs.Prelude.{◌≡◌, ℕ, zero, suc, ◌+◌, ◌*◌, List, [], ◌∷◌, length, map, replicate, slice_get, Some, if◌then◌else◌}
 use Rattle.std.specs.List.{flat_map}
+use Rattle.std.specs.Str.{bytes_eq}
 use Rattle.p8_tree.specs.declared.places.Place.{Place}
+use Rattle.p8_tree.specs.Proper.{IsProperFile}
 use Rattle.p8_tree.specs.Sources as trees
 use Rattle.p8_tree.specs.Sources.{Declared, MethodTree, Source}
 use Rattle.p8_tree.specs.Projects.{NamedSource}
@@ -20,10 +22,23 @@ use Rattle.p8_image.specs.declared.parts.ObjectPart.{ObjectPart}
 use Rattle.p8_gen.specs.declared.code.StringUse.{StringUse}
 use Rattle.p8_stmt.specs.declared.code.MethodCode.{MethodCode}
 
+-- ---- files
+
+-- how many files a project may have
+abbrev pub most_files : ℕ
+most_files = 255
+
+-- each tree is one that was read
+abbrev pub AreProper : List NamedSource → Type 0
+AreProper files = (i : ℕ) (f : NamedSource) → slice_get files i ≡ Some f → IsProperFile f.tree
+
 -- ---- texts: those of all STRINGs of a file, in the order of its methods and of their places in the source
 
+abbrev pub strings_in_method : MethodTree → List (Place × List ℕ)
+strings_in_method m = strings_in m.body
+
 abbrev pub strings_of : Source → List (Place × List ℕ)
-strings_of source = flat_map (λ (m : MethodTree). strings_in m.body) (numbered (items source))
+strings_of source = flat_map strings_in_method (numbered (items source))
 
 -- which of some texts stands at a place, counted from 0
 abbrev pub text_number : List (Place × List ℕ) → Place → ℕ

@@ -14,4 +14,5 @@ mod outside;
 mod own_kinds;
 mod resolving;
 
+pub use own_kinds::numbered;
 pub use resolving::{NameFault, resolve};
