@@ -2,19 +2,15 @@
 use Rattle.std.specs.Prelude.{◌≡◌, ℕ, ◌+◌, ◌*◌, true, false, IsTrue, List, [], ◌∷◌, ◌++◌, length, map, slice_get, Option, Some, None}
 use Rattle.p8_tree.specs.declared.places.Place.{Place}
 use Rattle.p8_tree.specs.Sources.{MethodTree}
-use Rattle.p8_tree.specs.Proper.{AreProperStatements}
-use Rattle.p8_tree.specs.Nesting.{leave_loops}
 use Rattle.p8_faults.specs.declared.faults.Fault.{Fault}
 use Rattle.p8_faults.specs.Faults.{fault, IsFirstFault}
 use Rattle.p8_fold.specs.Verdicts.{first_of_two}
 use Rattle.p8_definitions.specs.Standing.{IsFirstOf}
 use Rattle.p8_gen.specs.Names.{Names}
 use Rattle.p8_gen.specs.Scopes.{names_from}
-use Rattle.p8_gen.specs.Operations.{HaveBytes}
 use Rattle.p8_image.specs.declared.parts.MethodPart.{MethodPart}
 use Rattle.p8_stmt.specs.declared.code.MethodCode.{MethodCode}
-use Rattle.p8_stmt.specs.Methods.{IsCodeOf, IsMethodFault}
-use Rattle.p8_stmt.specs.Asked.{IsUsedRight}
+use Rattle.p8_stmt.specs.Methods.{AreResolved, IsCodeOf, IsMethodFault}
 use Rattle.p8_build.specs.Files.{are_too_many}
 use Rattle.p8_build.specs.Numbers.{use_by}
 use Rattle.p8_build.specs.declared.coding.FileTables.{FileTables}
@@ -24,15 +20,9 @@ use Rattle.p8_build.specs.declared.coding.Coded.{Coded}
 abbrev pub names_by : FileTables → ℕ → MethodTree → Names
 names_by file k m = names_from file.kinds.now (k + 1) file.tables.now m.place
 
--- what a method has to be so that it can be coded
-pub record IsReady (names : Names) (m : MethodTree) : Type 0 where
-  pub proper : AreProperStatements m.body
-  pub loops : IsTrue (leave_loops false m.body)
-  pub right : IsUsedRight names m.body
-  pub bytes : HaveBytes names
-
+-- all methods can be coded
 pub record AreReady (names : ℕ → MethodTree → Names) (ms : List MethodTree) : Type 0 where
-  pub each : (k : ℕ) (m : MethodTree) → slice_get ms k ≡ Some m → IsReady (names k m) m
+  pub each : (k : ℕ) (m : MethodTree) → slice_get ms k ≡ Some m → AreResolved (names k m) m.body
 
 -- a method's part, by the numbers of the texts
 abbrev pub part_by : (Place → ℕ) → MethodTree → MethodCode → MethodPart

@@ -2,10 +2,10 @@
 ghost use Rattle.std.specs.Prelude.{◌≡◌, ◌+◌, ◌*◌, ◌^◌, ◌<◌, length, map, IfOk, OnOk};
 ghost use Rattle.p8_tree.specs.Views.{method_of};
 ghost use Rattle.p8_fold.specs.Entries.{setting_of};
-ghost use Rattle.p8_gen.specs.Scopes.{names_from};
+ghost use Rattle.p8_stmt.specs.Methods.{AreResolved};
 ghost use Rattle.p8_definitions.specs.Standing.{IsFirstOf};
 ghost use Rattle.p8_build.specs.Numbers.{number_by};
-ghost use Rattle.p8_build.specs.Coding.{part_by, names_by, IsReady, AreReady, IsOneTooMany, IsCoded, IsOneMore};
+ghost use Rattle.p8_build.specs.Coding.{part_by, names_by, AreReady, IsOneTooMany, IsCoded, IsOneMore};
 
 use crate::texts::TextNumbers;
 use p8_definitions::first_of_two;
@@ -68,7 +68,7 @@ fn add_code(
     method: &Method,
     coded: &mut Coded,
 ) -> Result<(), NoMemory>
-    requires { IsReady (names_by file.entry index (method_of method.now)) (method_of method.now) }
+    requires { AreResolved (names_by file.entry index (method_of method.now)) (method_of method.now).body }
     ensures { OnOk result (IsOneMore (names_by file.entry index (method_of method.now)) (number_by file.entry.texts.now) (method_of method.now) coded.old coded.new) }
 {
     let number = number_behind(index)?;
