@@ -24,7 +24,7 @@ use Rattle.p8_build.specs.Parts.{data_start, object_part}
 -- what a file is compiled to: the kinds of its names, the bytes and labels of its DAT, and the codes of its methods
 pub record CompiledFile : Type 0 where
   pub kinds : Kinds
-  pub data : List ℕ
+  pub dat : List ℕ
   pub labels : List Label
   pub codes : List MethodCode
 
@@ -35,7 +35,7 @@ setting_of children x = file_setting x.kinds children
 
 pub record IsData (source : Source) (children : Children) (x : CompiledFile) : Type 0 where
   pub clean : (f : Fault) → ¬ IsDatFault (setting_of children x) (data_start (setting_of children x) source) source f
-  pub bytes : x.data ≡ dat_bytes (setting_of children x) (data_start (setting_of children x) source) source
+  pub bytes : x.dat ≡ dat_bytes (setting_of children x) (data_start (setting_of children x) source) source
   pub labels : x.labels ≡ labels_of x.kinds (placed_lines (setting_of children x) (data_start (setting_of children x) source) source)
 
 -- ---- its code
@@ -74,9 +74,9 @@ pub record IsCode (source : Source) (children : Children) (x : CompiledFile) : T
 -- a file, which is the top file or none, is compiled to this
 pub record IsCompiled (source : Source) (children : Children) (top : Bool) (x : CompiledFile) : Type 0 where
   pub names : IsNamed source children top x.kinds
-  pub data : IsData source children x
+  pub dat : IsData source children x
   pub code : IsCode source children x
 
 -- its object in the image
 abbrev pub object_of : List NamedSource → Source → Children → CompiledFile → ObjectPart
-object_of files source children x = object_part files (setting_of children x) source x.data x.codes
+object_of files source children x = object_part files (setting_of children x) source x.dat x.codes

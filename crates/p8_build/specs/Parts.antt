@@ -85,10 +85,10 @@ abbrev pub data_start : Setting → Source → ℕ
 data_start s source = 4 + 4 * length (numbered (items source)) + 4 * instances s (objects (items source))
 
 -- an object of a file, with the bytes of its DAT and the codes of its methods
-abbrev pub object_part : List NamedSource → Setting → Source → (data : List ℕ) → List MethodCode → ObjectPart
-object_part files s source data codes = record {
+abbrev pub object_part : List NamedSource → Setting → Source → (dat : List ℕ) → List MethodCode → ObjectPart
+object_part files s source dat codes = record {
   variables = flat_map (variable_in s) (items source);
-  dat = data;
+  dat = dat;
   methods = method_parts (strings_of source) (numbered (items source)) codes;
   texts = map (λ x. x.1) (strings_of source);
   instances = flat_map (instances_of files s) (objects (items source));

@@ -1,6 +1,8 @@
 -- internal: what each phase of building comes to.
 use Rattle.std.specs.Prelude.{◌≡◌, ℕ, ◌==◌, Bool, codes, List, [], length, slice_get, map, Option, Some, None}
-use Rattle.p8_tree.specs.Sources.{MethodTree, Source}
+use Rattle.std.specs.List.{flat_map}
+use Rattle.p8_tree.specs.declared.places.Place.{Place}
+use Rattle.p8_tree.specs.Sources.{Source}
 use Rattle.p8_tree.specs.Projects.{NamedSource}
 use Rattle.p8_tree.specs.Views.{source_of}
 use Rattle.p8_words.specs.declared.failure.Fail.{Fail}
@@ -10,9 +12,13 @@ use Rattle.p8_faults.specs.Faults.{IsFirstFault, Refusal, IsFirstRefusal}
 use Rattle.p8_kinds.specs.declared.children.Children.{Children}
 use Rattle.p8_kinds.specs.declared.kinds.Kinds.{Kinds}
 use Rattle.p8_kinds.specs.declared.named.Named.{Named}
+use Rattle.p8_fold.specs.Meanings.{Setting}
+use Rattle.p8_definitions.specs.Items.{Item}
+use Rattle.p8_names.specs.Kinds.{objects}
 use Rattle.p8_names.specs.Resolution.{IsNamed}
 use Rattle.p8_dat.specs.declared.assembling.Dat.{Dat}
 use Rattle.p8_image.specs.declared.clocks.Clock.{Clock}
+use Rattle.p8_image.specs.declared.parts.MethodPart.{MethodPart}
 use Rattle.p8_image.specs.declared.parts.ObjectPart.{ObjectPart}
 use Rattle.p8_image.specs.Clocks.{clock_of}
 use Rattle.p8_image.specs.Layout.{header_by, image_of}
@@ -20,6 +26,7 @@ use Rattle.p8_image.specs.Projects.{FitsHub}
 use Rattle.p8_stmt.specs.declared.code.MethodCode.{MethodCode}
 use Rattle.p8_build.specs.declared.building.Built.{Built}
 use Rattle.p8_build.specs.declared.fault.FileFault.{FileFault}
+use Rattle.p8_build.specs.Parts.{variable_in, instances_of}
 use Rattle.p8_build.specs.Files.{CompiledFile, IsData, IsCode, IsCodeFault, object_of}
 use Rattle.p8_build.specs.Builds.{IsFile, IsRefusal, IsImageFault, AreCompiled, objects_of, constant_named, clock_by}
 
@@ -62,23 +69,39 @@ pub record IsNamedFile (source : Source) (children : Children) (top : Bool) (n :
 abbrev pub seen_by : List Named → List Children
 seen_by named = map (λ (n : Named). n.children.now) named
 
+abbrev pub IsNamedAt : List NamedSource → List Children → ℕ → Named → Type 0
+IsNamedAt files children i n = (file : NamedSource) (seen : Children) → IsFile files children i file seen → IsNamedFile file.tree seen (i == 0) n
+
 pub record AreNamed (files : List NamedSource) (children : List Children) (named : List Named) : Type 0 where
   pub count : length named ≡ length files
-  pub each : (i : ℕ) (file : NamedSource) (seen : Children) (n : Named) → IsFile files children i file seen → slice_get named i ≡ Some n → IsNamedFile file.tree seen (i == 0) n
+  pub each : (i : ℕ) (n : Named) → slice_get named i ≡ Some n → IsNamedAt files children i n
 
 -- ---- data
 
 abbrev pub compiled : Kinds → Dat → List MethodCode → CompiledFile
-compiled kinds dat codes = record { kinds = kinds; data = dat.bytes; labels = dat.labels; codes = codes }
+compiled kinds d codes = record { kinds = kinds; dat = d.bytes; labels = d.labels; codes = codes }
 
 abbrev pub IsDataOf : Source → Children → Kinds → Dat → Type 0
 IsDataOf source children kinds dat = IsData source children (compiled kinds dat [])
 
-pub record AreAssembled (files : List NamedSource) (children : List Children) (named : List Named) (data : List Dat) : Type 0 where
-  pub count : length data ≡ length files
-  pub each : (i : ℕ) (file : NamedSource) (seen : Children) (n : Named) (dat : Dat) → IsFile files children i file seen → slice_get named i ≡ Some n → slice_get data i ≡ Some dat → IsDataOf file.tree seen n.kinds dat
+abbrev pub IsDataAt : List NamedSource → List Children → List Named → ℕ → Dat → Type 0
+IsDataAt files children named i dat = (file : NamedSource) (seen : Children) (n : Named) → IsFile files children i file seen → slice_get named i ≡ Some n → IsDataOf file.tree seen n.kinds dat
+
+pub record AreAssembled (files : List NamedSource) (children : List Children) (named : List Named) (dats : List Dat) : Type 0 where
+  pub count : length dats ≡ length files
+  pub each : (i : ℕ) (dat : Dat) → slice_get dats i ≡ Some dat → IsDataAt files children named i dat
 
 -- ---- code
+
+-- an object of these items, with the bytes of its DAT, its methods and its texts
+abbrev pub object_by : List NamedSource → Setting → List Item → (dat : List ℕ) → List MethodPart → List (Place × List ℕ) → ObjectPart
+object_by files s xs dat methods strings = record {
+  variables = flat_map (variable_in s) xs;
+  dat = dat;
+  methods = methods;
+  texts = map (λ x. x.1) strings;
+  instances = flat_map (instances_of files s) (objects xs);
+}
 
 -- names of a file that are right
 pub record IsNamedSo (n : Named) : Type 0 where
@@ -98,7 +121,7 @@ IsCodeFaultOf source children kinds dat f = IsCodeFault source children (compile
 pub record AreObjects (files : List NamedSource) (children : List Children) (named : List Named) (objects : List ObjectPart) : Type 0 where
   pub xs : List CompiledFile
   pub compiled : AreCompiled files children xs
-  pub kinds : map (λ (x : CompiledFile). x.kinds) xs ≡ map (λ (n : Named). n.kinds) named
+  pub kinds : (i : ℕ) (n : Named) (x : CompiledFile) → slice_get named i ≡ Some n → slice_get xs i ≡ Some x → x.kinds ≡ n.kinds
   pub are : objects ≡ objects_of files children xs
 
 -- ---- the image

@@ -26,12 +26,12 @@ pub(crate) fn assemble_all(
     alloc: Global,
     named: &[Named<'_>],
 ) -> Result<List<Dat>, Fail<FileFault>>
-    ensures data { (files : list NamedSource) → AreNamed files (seen_by named.now) named.now → IfOk result (AreAssembled files (seen_by named.now) named.now) }
+    ensures assembled { (files : list NamedSource) → AreNamed files (seen_by named.now) named.now → IfOk result (AreAssembled files (seen_by named.now) named.now) }
     ensures refused { (files : list NamedSource) → AreNamed files (seen_by named.now) named.now → IfErr result (IfFirst files (seen_by named.now) 1) }
 {
     let mut all = List::new(alloc);
-    for (index, named) in named.iter().enumerate() {
-        all.push(assemble_one(alloc, index, named)?)?;
+    for (index, file) in named.iter().enumerate() {
+        all.push(assemble_one(alloc, index, file)?)?;
     }
     Ok(all)
 }
@@ -42,7 +42,7 @@ fn assemble_one(
     index: usize,
     named: &Named<'_>,
 ) -> Result<Dat, Fail<FileFault>>
-    ensures data { IfOk result (IsDataOf (source_of named.now.file.now) named.now.children.now named.now.kinds) }
+    ensures assembled { IfOk result (IsDataOf (source_of named.now.file.now) named.now.children.now named.now.kinds) }
     ensures refused { IfErr result (IfFaultAt index (IsFirstFault (IsDatFault (file_setting named.now.kinds named.now.children.now) (data_start (file_setting named.now.kinds named.now.children.now) (source_of named.now.file.now)) (source_of named.now.file.now)))) }
 {
     let start = data_start(alloc, named)?;

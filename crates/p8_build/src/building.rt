@@ -1,7 +1,7 @@
 // Building a project.
 ghost use Rattle.std.specs.Prelude.{◌≡◌, ◌≤◌, ◌<◌, length, map, IfOk, IfErr};
 ghost use Rattle.p8_tree.specs.Views.{named_sources_of, named_source_of};
-ghost use Rattle.p8_children.specs.Mentions.{AreDistinct, HaveMentioned, HaveNoRing};
+ghost use Rattle.p8_children.specs.Mentions.{HaveMentioned, HaveNoRing};
 ghost use Rattle.p8_build.specs.Parts.{AreProper, most_files};
 ghost use Rattle.p8_build.specs.Told.{IsBuiltTo, IsImageOf, IsRefusal};
 ghost use Rattle.p8_build.specs.Phases.{IsBuiltBy, IfFirstRefused};
@@ -43,7 +43,6 @@ pub struct Built {
 pub fn build_parts(alloc: Global, project: &Project) -> Result<Built, BuildFault>
     requires first { 0 < length (named_sources_of project.now) }
     requires few { length (named_sources_of project.now) ≤ most_files }
-    requires distinct { AreDistinct (named_sources_of project.now) }
     requires mentioned { HaveMentioned (named_sources_of project.now) }
     requires no_ring { HaveNoRing (named_sources_of project.now) }
     requires proper { AreProper (named_sources_of project.now) }
@@ -52,7 +51,7 @@ pub fn build_parts(alloc: Global, project: &Project) -> Result<Built, BuildFault
 {
     let files = project.files.as_slice();
     let children = children_of(alloc, project)?;
-    match built(alloc, files, &children) {
+    match build_files(alloc, files, &children) {
         Ok(built) => Ok(built),
         Err(Fail::Refused(refusal)) => Err(told(alloc, &files[refusal.file], refusal.fault)),
         Err(Fail::NoMemory) => Err(BuildFault::NoMemory),
@@ -63,7 +62,6 @@ pub fn build_parts(alloc: Global, project: &Project) -> Result<Built, BuildFault
 pub fn build(alloc: Global, project: &Project) -> Result<Image, BuildFault>
     requires first { 0 < length (named_sources_of project.now) }
     requires few { length (named_sources_of project.now) ≤ most_files }
-    requires distinct { AreDistinct (named_sources_of project.now) }
     requires mentioned { HaveMentioned (named_sources_of project.now) }
     requires no_ring { HaveNoRing (named_sources_of project.now) }
     requires proper { AreProper (named_sources_of project.now) }
@@ -76,7 +74,7 @@ pub fn build(alloc: Global, project: &Project) -> Result<Image, BuildFault>
 }
 
 /// Builds files by what they see of their objects.
-fn built(
+fn build_files(
     alloc: Global,
     files: &[ProjectFile],
     children: &[Children],

@@ -6,9 +6,11 @@ mod building;
 mod coding;
 mod fault;
 mod finishing;
+mod laws;
 mod naming;
 mod objects;
 mod texts;
 
 pub use building::{Built, build, build_parts};
 pub use fault::BuildFault;
+pub use laws::one_build;

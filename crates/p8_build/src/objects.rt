@@ -7,8 +7,9 @@ ghost use Rattle.p8_faults.specs.Faults.{IsFirstFault};
 ghost use Rattle.p8_fold.specs.Entries.{setting_of};
 ghost use Rattle.p8_definitions.specs.Standing.{item_of as item_tree, items_of as item_trees};
 ghost use Rattle.p8_names.specs.Kinds.{object_in, objects};
+ghost use Rattle.p8_strings.specs.Strings.{text_of};
 ghost use Rattle.p8_build.specs.Parts.{most_files, number_of, variable_in, instances_of, AreProper};
-ghost use Rattle.p8_build.specs.Phases.{AreNamed, seen_by, AreAssembled, AreObjects, IfFirst, IfFault, IsNamedSo, IsObjectOf, IsCodeFaultOf};
+ghost use Rattle.p8_build.specs.Phases.{AreNamed, seen_by, AreAssembled, AreObjects, IfFirst, IfFault, IsNamedSo, IsObjectOf, IsCodeFaultOf, object_by};
 
 use crate::assembling::instances;
 use crate::coding::{Coded, FileTables, code_of_all, first_too_many};
@@ -32,18 +33,18 @@ pub(crate) fn objects_of_all(
     alloc: Global,
     files: &[ProjectFile],
     named: &[Named<'_>],
-    data: &[Dat],
+    assembled: &[Dat],
 ) -> Result<List<ObjectPart>, Fail<FileFault>>
     requires few { length files.now ≤ most_files }
     requires proper { AreProper (map named_source_of files.now) }
     requires named { AreNamed (map named_source_of files.now) (seen_by named.now) named.now }
-    requires data { AreAssembled (map named_source_of files.now) (seen_by named.now) named.now data.now }
+    requires assembled { AreAssembled (map named_source_of files.now) (seen_by named.now) named.now assembled.now }
     ensures objects { IfOk result (AreObjects (map named_source_of files.now) (seen_by named.now) named.now) }
     ensures refused { IfErr result (IfFirst (map named_source_of files.now) (seen_by named.now) 2) }
 {
     let mut all = List::new(alloc);
-    for (index, named) in named.iter().enumerate() {
-        match object_of(alloc, files, named, &data[index]) {
+    for (index, file) in named.iter().enumerate() {
+        match object_of(alloc, files, file, &assembled[index]) {
             Ok(object) => all.push(object)?,
             Err(fail) => return Err(in_file(index, fail)),
         }
@@ -100,6 +101,8 @@ fn object_with(
     methods: List<MethodPart>,
     strings: &[StringText<'_>],
 ) -> Result<ObjectPart, AllocError>
+    requires { length files.now ≤ most_files }
+    ensures { IfOk result (λ object. object ≡ object_by (map named_source_of files.now) (setting_of consts.now) (item_trees items.now) dat.now.bytes methods (map text_of strings.now)) }
 {
     Ok(ObjectPart {
         variables: variables_of(alloc, consts, items)?,

@@ -1,0 +1,11 @@
+mod Lists
+mod Firsts
+mod Methods
+mod Ready
+mod One
+mod Refusals
+mod Numbering
+mod OneByOne
+mod Making
+mod Wholes
+mod Uniqueness
