@@ -9,3 +9,4 @@ mod OneByOne
 mod Making
 mod Wholes
 mod Uniqueness
+mod Here

@@ -1,6 +1,7 @@
 -- Lists by the numbers of their elements.
-use Rattle.std.proofs.Common.{◌≡◌, ◌⊎◌, inl, inr, ℕ, zero, suc, ◌+◌, ◌<◌, List, [], ◌∷◌, ◌++◌, length, slice_get, Some, None, refl, ap, sym, ◌∙◌, subst, arith}
-use Rattle.std.proofs.lemmas.Option.{slice_get_within, same_Some, none-some}
+use Rattle.std.proofs.Common.{◌≡◌, ◌⊎◌, inl, inr, ℕ, zero, suc, ◌+◌, ◌<◌, List, [], ◌∷◌, ◌++◌, length, slice_get, map, get_or, Some, None, refl, ap, sym, ◌∙◌, subst, arith}
+use Rattle.std.specs.Prelude.{Result, Ok, Err, IfErr, IsErrAnd, option_map}
+use Rattle.std.proofs.lemmas.Option.{slice_get_within, same_Some, none-some, slice_get-map, slice_get_read}
 
 -- an element of a list that is long enough
 pub element : {X : Type 0} (xs : List X) (i : ℕ) → i < length xs → (x : X) × (slice_get xs i ≡ Some x)
@@ -49,3 +50,12 @@ choose {X = X} {Y = Y} P (x ∷ xs) some =
     at : (y : Y) → P 0 x y → (ys : List Y) → ((i : ℕ) (a : X) (b : Y) → slice_get xs i ≡ Some a → slice_get ys i ≡ Some b → P (suc i) a b) → (i : ℕ) (a : X) (b : Y) → slice_get (x ∷ xs) i ≡ Some a → slice_get (y ∷ ys) i ≡ Some b → P i a b
     at y p ys more zero a b g h = subst (P 0 a) (same_Some y b h) (subst (λ z. P 0 z y) (same_Some x a g) p)
     at y p ys more (suc i) a b g h = more i a b g h
+
+-- an element of a slice, as something else
+pub mapped : {X Y : Type 0} (v : X → Y) (xs : List X) (i : ℕ) (x : X) → i < length xs → x ≡ get_or xs i x → slice_get (map v xs) i ≡ Some (v x)
+mapped v xs i x l e = slice_get-map v xs i ∙ ap (option_map v) (slice_get_read xs (length xs) i x refl l e)
+
+-- what the exit of a `?` returns
+pub told : {T E : Type 0} (r : Result T E) (e : E) (P : E → Type 0) → IsErrAnd r (λ y. y ≡ e) → P e → IfErr r P
+told (Ok x) e P h p = absurd h
+told (Err y) e P h p = subst P (sym h) p

@@ -78,7 +78,7 @@ module _ {files : List NamedSource} {children : List Children} where
 
 -- a file of a number is one file
 pub one_file : {files : List NamedSource} {children : List Children} {i : ℕ} {f g : NamedSource} {c d : Children} → IsFile files children i f c → IsFile files children i g d → (f ≡ g) × (c ≡ d)
-one_file {files} {children} {i} a b = (one_element files i a.file b.file, one_element children i a.children b.children)
+one_file {files} {children} {i} a b = (one_element files i a.stands b.stands, one_element children i a.beside b.beside)
 
 module _ (files : List NamedSource) (children : List Children) where
   -- ---- names
@@ -92,7 +92,7 @@ module _ (files : List NamedSource) (children : List Children) where
   no_names : (named : List Named) → AreNamed files children named → (j : ℕ) (g : Fault) → ¬ IsRefusal files children (refusal 0 j g)
   no_names named h j g r =
       let b = name_faulty j g r in
-      let within = slice_get_within files j b.file b.is.file in
+      let within = slice_get_within files j b.file b.is.stands in
       let n = element named j (omega (arith, h.count)) in
       (h.each j n.0 n.1 b.file b.seen b.is).names.clean g b.fault
 
@@ -123,7 +123,7 @@ module _ (files : List NamedSource) (children : List Children) where
   no_data_below : (named : List Named) (dats : List Dat) → AreNamed files children named → Each (IsDataAt files children named) dats → (j : ℕ) (g : Fault) → j < length dats → ¬ IsRefusal files children (refusal 1 j g)
   no_data_below named dats h each j g l r =
       let b = data_faulty j g r in
-      let within = slice_get_within files j b.file b.is.file in
+      let within = slice_get_within files j b.file b.is.stands in
       let n = element named j (omega (arith, h.count)) in
       let d = element dats j l in
       (each.at j d.0 d.1 b.file b.seen n.0 b.is n.1).clean g (data_fault named j n.0 b.file b.seen g h n.1 b.is r)
@@ -131,7 +131,7 @@ module _ (files : List NamedSource) (children : List Children) where
   no_data : (named : List Named) (dats : List Dat) → AreNamed files children named → AreAssembled files children named dats → (j : ℕ) (g : Fault) → ¬ IsRefusal files children (refusal 1 j g)
   no_data named dats h k j g r =
       let b = data_faulty j g r in
-      let within = slice_get_within files j b.file b.is.file in
+      let within = slice_get_within files j b.file b.is.stands in
       no_data_below named dats h (record { at = k.each }) j g (omega (arith, k.count)) r
 
   pub data_refused : (named : List Named) (dats : List Dat) (i : ℕ) (n : Named) (file : NamedSource) (seen : Children) (f : Fault) → AreNamed files children named → Each (IsDataAt files children named) dats → length dats ≡ i → slice_get named i ≡ Some n → IsFile files children i file seen
@@ -170,7 +170,7 @@ module _ (files : List NamedSource) (children : List Children) where
   no_code_below : (named : List Named) (dats : List Dat) (objects : List ObjectPart) → AreNamed files children named → AreAssembled files children named dats → Each (IsObjectAt named dats) objects → (j : ℕ) (g : Fault) → j < length objects → ¬ IsRefusal files children (refusal 2 j g)
   no_code_below named dats objects h k each j g l r =
       let b = code_faulty j g r in
-      let within = slice_get_within files j b.file b.is.file in
+      let within = slice_get_within files j b.file b.is.stands in
       let n = element named j (omega (arith, h.count)) in
       let d = element dats j (omega (arith, k.count)) in
       let o = element objects j l in
@@ -179,7 +179,7 @@ module _ (files : List NamedSource) (children : List Children) where
   pub no_code : (named : List Named) (dats : List Dat) (objects : List ObjectPart) → AreNamed files children named → AreAssembled files children named dats → length objects ≡ length files → Each (IsObjectAt named dats) objects → (j : ℕ) (g : Fault) → ¬ IsRefusal files children (refusal 2 j g)
   no_code named dats objects h k count each j g r =
       let b = code_faulty j g r in
-      let within = slice_get_within files j b.file b.is.file in
+      let within = slice_get_within files j b.file b.is.stands in
       no_code_below named dats objects h k each j g (omega arith) r
 
   -- no refusal of the names or of the data

@@ -54,20 +54,20 @@ one_refused files view n m f g x y =
 module _ (files : List NamedSource) (children : List Children) (xs : List CompiledFile) (beside : length children ≡ length files) (each : AreCompiled files children xs) where
   no_name : (i : ℕ) (f : Fault) → ¬ NameFaulty files children i f
   no_name i f b =
-      let within = slice_get_within files i b.file b.is.file in
+      let within = slice_get_within files i b.file b.is.stands in
       let x = element xs i (omega (arith, each.count)) in
       (each.each i b.file b.seen x.0 b.is x.1).names.clean f b.fault
 
   no_data : (i : ℕ) (f : Fault) → ¬ DataFaulty files children i f
   no_data i f b =
-      let within = slice_get_within files i b.file b.is.file in
+      let within = slice_get_within files i b.file b.is.stands in
       let x = element xs i (omega (arith, each.count)) in
       let made = each.each i b.file b.seen x.0 b.is x.1 in
       made.dat.clean f (subst (λ s. IsDatFault s (data_start s b.file.tree) b.file.tree f) (same_setting b.file.tree b.seen b.x.kinds x.0.kinds (alike b.file.tree b.seen (i == 0) b.x.kinds x.0.kinds b.names made.names)) b.fault)
 
   no_code : (i : ℕ) (f : Fault) → ¬ CodeFaulty files children i f
   no_code i f b =
-      let within = slice_get_within files i b.file b.is.file in
+      let within = slice_get_within files i b.file b.is.stands in
       let x = element xs i (omega (arith, each.count)) in
       let made = each.each i b.file b.seen x.0 b.is x.1 in
       let both = alike b.file.tree b.seen (i == 0) b.x.kinds x.0.kinds b.names made.names in

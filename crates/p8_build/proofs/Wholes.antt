@@ -73,7 +73,7 @@ are_objects files children named dats objects beside h k count each =
     let c = element children i (omega arith) in
     let n = element named i (omega (arith, h.count)) in
     let d = element dats i (omega (arith, k.count)) in
-    let is : IsFile files children i f.0 c.0 = record { file = f.1; children = c.1 } in
+    let is : IsFile files children i f.0 c.0 = record { stands = f.1; beside = c.1 } in
     let made = each.at i o at f.0 c.0 n.0 d.0 is n.1 d.1 in
     (compiled n.0.kinds d.0 made.codes, λ file seen m here there.
     let same = one_file is here in
@@ -99,11 +99,11 @@ are_objects files children named dats objects beside h k count each =
           let o = element objects i (omega (arith, h.count)) in
           let f = element files i (omega (arith, h.count)) in
           let c = element children i (omega (arith, h.count)) in
-          (all.2 i o.0 x o.1 there f.0 c.0 n (record { file = f.1; children = c.1 }) at).0;
+          (all.2 i o.0 x o.1 there f.0 c.0 n (record { stands = f.1; beside = c.1 }) at).0;
       are = objects_are files files children all.0 objects beside (all.1 ∙ count) count (λ i f c x o at_f at_c at_x at_o.
           let within = slice_get_within files i f at_f in
           let n = element named i (omega (arith, h.count)) in
-          (all.2 i o x at_o at_x f c n.0 (record { file = at_f; children = at_c }) n.1).2);
+          (all.2 i o x at_o at_x f c n.0 (record { stands = at_f; beside = at_c }) n.1).2);
     }
 
 -- ---- one outcome
@@ -111,7 +111,7 @@ are_objects files children named dats objects beside h k count each =
 pub one_objects : (files : List NamedSource) (children : List Children) (xs ys : List CompiledFile) → length children ≡ length files → AreCompiled files children xs → AreCompiled files children ys → objects_of files children xs ≡ objects_of files children ys
 one_objects files children xs ys beside a b =
     objects_same files files children xs ys beside a.count b.count (λ i f c x y at_f at_c at_x at_y.
-    let is : IsFile files children i f c = record { file = at_f; children = at_c } in
+    let is : IsFile files children i f c = record { stands = at_f; beside = at_c } in
     one_object files f.tree c (i == 0) x y (a.each i f c x is at_x) (b.each i f c y is at_y))
 
 clock_same : (k l : Kinds) → ((n : List ℕ) → own k 0 n ≡ own l 0 n) → clock_in k ≡ clock_in l
@@ -129,7 +129,7 @@ one_clock (f ∷ files) [] xs ys beside a b = absurd (omega arith)
 one_clock (f ∷ files) (c ∷ children) [] ys beside a b = absurd (omega (arith, a.count))
 one_clock (f ∷ files) (c ∷ children) (x ∷ xs) [] beside a b = absurd (omega (arith, b.count))
 one_clock (f ∷ files) (c ∷ children) (x ∷ xs) (y ∷ ys) beside a b =
-    let is : IsFile (f ∷ files) (c ∷ children) 0 f c = record { file = refl; children = refl } in
+    let is : IsFile (f ∷ files) (c ∷ children) 0 f c = record { stands = refl; beside = refl } in
     clock_same x.kinds y.kinds (of_file f.tree x.kinds y.kinds (alike f.tree c true x.kinds y.kinds (a.each 0 f c x is refl).names (b.each 0 f c y is refl).names))
 
 -- ---- the first method
@@ -176,7 +176,7 @@ begins (f ∷ fs) all (c ∷ cs) (x ∷ xs) l a b each = top_begins all f.tree c
 
 pub begins_with_main : (files : List NamedSource) (children : List Children) (named : List Named) (objects : List ObjectPart) → 0 < length files → length children ≡ length files → AreObjects files children named objects → BeginsWithMain objects
 begins_with_main files children named objects l beside h =
-    subst BeginsWithMain (sym h.are) (begins files files children h.xs l beside h.compiled.count (λ f c x at_f at_c at_x. h.compiled.each 0 f c x (record { file = at_f; children = at_c }) at_x))
+    subst BeginsWithMain (sym h.are) (begins files files children h.xs l beside h.compiled.count (λ f c x at_f at_c at_x. h.compiled.each 0 f c x (record { stands = at_f; beside = at_c }) at_x))
 
 -- ---- the image
 

@@ -24,8 +24,8 @@ use Rattle.p8_build.specs.Files.{CompiledFile, setting_of, IsData, IsCodeFault, 
 
 -- file i of a project: its tree, and what it sees of its objects
 pub record IsFile (files : List NamedSource) (children : List Children) (i : ℕ) (file : NamedSource) (seen : Children) : Type 0 where
-  pub file : slice_get files i ≡ Some file
-  pub children : slice_get children i ≡ Some seen
+  pub stands : slice_get files i ≡ Some file
+  pub beside : slice_get children i ≡ Some seen
 
 -- ---- a project that is accepted by its files
 

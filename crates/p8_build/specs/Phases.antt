@@ -61,8 +61,8 @@ IfFirstRefused files children fail_case.NoMemory = Unit {0}
 
 -- the names of a file
 pub record IsNamedFile (source : Source) (children : Children) (top : Bool) (n : Named) : Type 0 where
-  pub source : source_of n.file.now ≡ source
-  pub children : n.children.now ≡ children
+  pub source_is : source_of n.file.now ≡ source
+  pub children_are : n.children.now ≡ children
   pub names : IsNamed source children top n.kinds
 
 -- what each file sees, in the order of the files

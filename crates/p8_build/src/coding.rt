@@ -44,11 +44,11 @@ pub(crate) struct FileTables<'a> {
 /// The code of all methods of a file, which stand in the order of their numbers.
 pub(crate) fn code_of_all(
     alloc: Global,
-    file: FileTables<'_>,
+    file: &FileTables<'_>,
     methods: &[&Method],
 ) -> Result<Coded, NoMemory>
-    requires { AreReady (names_by file.entry) (map (λ m. method_of m.now) methods.now) }
-    ensures { IfOk result (IsCoded (names_by file.entry) (number_by file.entry.texts.now) (map (λ m. method_of m.now) methods.now)) }
+    requires { AreReady (names_by file.now) (map (λ m. method_of m.now) methods.now) }
+    ensures { IfOk result (IsCoded (names_by file.now) (number_by file.now.texts.now) (map (λ m. method_of m.now) methods.now)) }
 {
     let mut coded = Coded {
         parts: List::new(alloc),
@@ -63,13 +63,13 @@ pub(crate) fn code_of_all(
 /// Adds the code of the next method, or its first fault.
 fn add_code(
     alloc: Global,
-    file: FileTables<'_>,
+    file: &FileTables<'_>,
     index: usize,
     method: &Method,
     coded: &mut Coded,
 ) -> Result<(), NoMemory>
-    requires { AreResolved (names_by file.entry index (method_of method.now)) (method_of method.now).body }
-    ensures { OnOk result (IsOneMore (names_by file.entry index (method_of method.now)) (number_by file.entry.texts.now) (method_of method.now) coded.old coded.new) }
+    requires { AreResolved (names_by file.now index (method_of method.now)) (method_of method.now).body }
+    ensures { OnOk result (IsOneMore (names_by file.now index (method_of method.now)) (number_by file.now.texts.now) (method_of method.now) coded.old coded.new) }
 {
     let number = number_behind(index)?;
     match method_code(alloc, file.kinds, file.tables, method, number) {

@@ -75,7 +75,7 @@ fn object_of(
         tables: &tables,
         texts: &texts,
     };
-    let Coded { parts, fault } = code_of_all(alloc, file, &methods)?;
+    let Coded { parts, fault } = code_of_all(alloc, &file, &methods)?;
     let instances = instances(&tables.consts, &items)?;
     match first_of_two(fault, first_too_many(instances, &methods)) {
         Some(fault) => Err(Fail::Refused(fault)),
