@@ -14,4 +14,5 @@ mod outside;
 mod own_kinds;
 mod resolving;
 
+pub use beginning::constants_in;
 pub use resolving::{NameFault, resolve};
