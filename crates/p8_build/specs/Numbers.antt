@@ -10,7 +10,12 @@ use Rattle.p8_image.specs.declared.parts.TextUse.{TextUse}
 use Rattle.p8_image.specs.declared.parts.MethodPart.{MethodPart}
 use Rattle.p8_gen.specs.declared.code.StringUse.{StringUse}
 use Rattle.p8_stmt.specs.declared.code.MethodCode.{MethodCode}
+use Rattle.p8_strings.specs.declared.texts.StringText.{StringText}
 use Rattle.p8_build.specs.declared.texts.TextNumbers.{TextNumbers}
+
+-- a text with its place
+abbrev pub text_of : StringText → Place × List ℕ
+text_of t = (t.place, t.text.now)
 
 abbrev pub place_cmp : ℕ × ℕ → ℕ × ℕ → Ordering
 place_cmp p q = ordering_then (nat_cmp p.0 q.0) (nat_cmp p.1 q.1)

@@ -7,8 +7,8 @@ ghost use Rattle.p8_faults.specs.Faults.{IsFirstFault};
 ghost use Rattle.p8_fold.specs.Entries.{setting_of};
 ghost use Rattle.p8_definitions.specs.Standing.{item_of as item_tree, items_of as item_trees};
 ghost use Rattle.p8_names.specs.Kinds.{object_in, objects};
-ghost use Rattle.p8_strings.specs.Strings.{text_of};
 ghost use Rattle.p8_build.specs.Parts.{most_files, number_of, variable_in, instances_of, AreProper};
+ghost use Rattle.p8_build.specs.Numbers.{text_of};
 ghost use Rattle.p8_build.specs.Phases.{AreNamed, seen_by, AreAssembled, AreObjects, IfFirst, IfFault, IsNamedSo, IsObjectOf, IsCodeFaultOf, object_by};
 
 use crate::assembling::instances;

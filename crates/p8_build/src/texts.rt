@@ -5,9 +5,8 @@ ghost use Rattle.std.specs.Option.{option_or};
 ghost use Rattle.p8_tree.specs.declared.places.Place.{Place as PlaceOf};
 ghost use Rattle.p8_tree.specs.Views.{method_of};
 ghost use Rattle.p8_faults.specs.Faults.{is_same_place};
-ghost use Rattle.p8_strings.specs.Strings.{text_of};
 ghost use Rattle.p8_build.specs.Parts.{strings_in_method};
-ghost use Rattle.p8_build.specs.Numbers.{at_place, number_by, AreNumbers, use_by};
+ghost use Rattle.p8_build.specs.Numbers.{text_of, at_place, number_by, AreNumbers, use_by};
 
 use p8_gen::StringUse;
 use p8_image::TextUse;

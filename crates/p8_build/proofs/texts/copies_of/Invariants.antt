@@ -1,5 +1,5 @@
 use Rattle.std.proofs.Common.{◌≡◌, map, take}
-use Rattle.p8_strings.specs.Strings.{text_of}
+use Rattle.p8_build.specs.Numbers.{text_of}
 use Rattle.p8_build.proofs.texts.copies_of.Given as goal
 
 abbrev pub invariant-loop-string : goal.invariant-loop-string

@@ -1,7 +1,7 @@
 use Rattle.std.proofs.Common.{◌≡◌, map, take}
 use Rattle.std.specs.List.{flat_map}
 use Rattle.p8_tree.specs.Views.{method_of}
-use Rattle.p8_strings.specs.Strings.{text_of}
+use Rattle.p8_build.specs.Numbers.{text_of}
 use Rattle.p8_build.specs.Parts.{strings_in_method}
 use Rattle.p8_build.proofs.texts.strings_of_all.Given as goal
 
