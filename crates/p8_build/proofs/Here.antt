@@ -6,26 +6,30 @@ use Rattle.std.specs.Prelude.{option_map}
 use Rattle.p8_tree.specs.declared.projects.ProjectFile.{ProjectFile}
 use Rattle.p8_tree.specs.Proper.{IsProperFile}
 use Rattle.p8_tree.specs.Projects.{NamedSource}
+use Rattle.p8_tree.specs.Sources.{Source}
+use Rattle.p8_fold.specs.Meanings.{Setting}
 use Rattle.p8_tree.specs.Views.{source_of, named_source_of}
 use Rattle.p8_words.specs.declared.failure.Fail.{Fail}
 use Rattle.p8_words.specs.declared.failure.Fail.TheVariants as fail_case
 use Rattle.p8_faults.specs.declared.faults.Fault.{Fault}
-use Rattle.p8_faults.specs.Faults.{IsFirstFault, IsFirstRefusal}
+use Rattle.p8_faults.specs.Faults.{IsFirstFault, Refusal, IsFirstRefusal}
 use Rattle.p8_kinds.specs.declared.children.Children.{Children}
+use Rattle.p8_kinds.specs.declared.kinds.Kinds.{Kinds}
 use Rattle.p8_kinds.specs.declared.named.Named.{Named}
 use Rattle.p8_kinds.specs.FileSettings.{file_setting}
 use Rattle.p8_names.specs.Resolution.{IsNamed}
 use Rattle.p8_dat.specs.declared.assembling.Dat.{Dat}
-use Rattle.p8_dat.specs.Blocks.{IsDatFault}
+use Rattle.p8_dat.specs.Blocks.{placed_lines, dat_bytes, IsDatFault, IfRefused}
+use Rattle.p8_dat.specs.Labels.{labels_of}
 use Rattle.p8_image.specs.declared.parts.ObjectPart.{ObjectPart}
 use Rattle.p8_build.specs.declared.fault.FileFault.{FileFault}
 use Rattle.p8_build.specs.Parts.{data_start}
 use Rattle.p8_build.specs.Faults.{in_file}
 use Rattle.p8_build.specs.Builds.{IsFile, IsRefusal}
-use Rattle.p8_build.specs.Phases.{IfFaultAt, IfFault, IfFirst, IsNamedFile, IsNamedAt, seen_by, AreNamed, IsDataOf, IsDataAt, AreAssembled, IsNamedSo, IsObjectOf, IsCodeFaultOf}
+use Rattle.p8_build.specs.Phases.{IfFaultAt, IfFault, IfFirst, IfFirstRefused, IsNamedFile, IsNamedAt, seen_by, AreNamed, IsDataOf, IsDataAt, AreAssembled, IsNamedSo, IsObjectOf, IsCodeFaultOf}
 use Rattle.p8_build.proofs.Lists.{element, one_element, Each, mapped}
 use Rattle.p8_build.proofs.Firsts.{refusal}
-use Rattle.p8_build.proofs.Refusals.{one_file, data_refused, IsObjectAt, code_refused}
+use Rattle.p8_build.proofs.Refusals.{shown, in_names, in_data, in_code, in_image, one_file, data_refused, IsObjectAt, code_refused}
 
 -- ---- failures
 
@@ -87,6 +91,20 @@ data_refused_here files named dats i n f h each count at first =
     data_refused files (seen_by named) named dats i n file.0 n.children.now f h each count at file.1
     (subst (λ t. IsFirstFault (IsDatFault (file_setting n.kinds n.children.now) (data_start (file_setting n.kinds n.children.now) t) t) f) own.source_is first)
 
+pub data_is : (source : Source) (children : Children) (kinds : Kinds) (d : Dat) (start : ℕ) → start ≡ data_start (file_setting kinds children) source → d.bytes ≡ dat_bytes (file_setting kinds children) start source → d.labels ≡ labels_of kinds (placed_lines (file_setting kinds children) start source)
+    → ((f : Fault) → ¬ IsDatFault (file_setting kinds children) start source f) → IsDataOf source children kinds d
+data_is source children kinds d start is bytes labels clean =
+    let s = file_setting kinds children in
+    record {
+      clean = subst (λ (n : ℕ). (f : Fault) → ¬ IsDatFault s n source f) is clean;
+      bytes = subst (λ (n : ℕ). d.bytes ≡ dat_bytes s n source) is bytes;
+      labels = subst (λ (n : ℕ). d.labels ≡ labels_of kinds (placed_lines s n source)) is labels;
+    }
+
+pub data_fail : (s : Setting) (source : Source) (i start : ℕ) (e : Fail Fault) → start ≡ data_start s source → IfRefused (IsFirstFault (IsDatFault s start source)) e → IfFaultAt i (IsFirstFault (IsDatFault s (data_start s source) source)) (in_file i e)
+data_fail s source i start (fail_case.Refused f) is h = (refl, subst (λ (n : ℕ). IsFirstFault (IsDatFault s n source) f) is h)
+data_fail s source i start fail_case.NoMemory is h = tt
+
 -- ---- code
 
 pub object_here : (files : List NamedSource) (named : List Named) (dats : List Dat) (i : ℕ) (n : Named) (d : Dat) (o : ObjectPart) → AreNamed files (seen_by named) named → slice_get named i ≡ Some n → slice_get dats i ≡ Some d → IsObjectOf files (source_of n.file.now) n.children.now n.kinds d o → IsObjectAt files (seen_by named) named dats i o
@@ -103,3 +121,27 @@ code_refused_here files named dats objects i n d f h k each count at beside firs
     let file = file_of files named i n h at in
     let own = h.each i n at file.0 n.children.now file.1 in
     code_refused files (seen_by named) named dats objects i n d file.0 n.children.now f h k each count at beside file.1 (subst (λ t. IsFirstFault (IsCodeFaultOf t n.children.now n.kinds d) f) own.source_is first)
+
+-- ---- any phase
+
+refused_file : (files : List NamedSource) (children : List Children) (r : Refusal) → 0 < length files → IsRefusal files children r → (f : NamedSource) × (slice_get files r.file ≡ Some f)
+refused_file files children r l h = elim (shown h) [
+  | in_names e b ↦ (b.file, b.is.stands)
+  | in_data e b ↦ (b.file, b.is.stands)
+  | in_code e b ↦ (b.file, b.is.stands)
+  | in_image e z b ↦ element files r.file (omega arith)
+]
+
+pub first_refused : (files : List NamedSource) (children : List Children) (phase : ℕ) (e : Fail FileFault) → 0 < length files → IfFirst files children phase e → IfFirstRefused files children e
+first_refused files children phase (fail_case.Refused x) l h =
+    let f = refused_file files children (refusal phase x.file x.fault) l h.holds in
+    record { phase = phase; file = f.0; stands = f.1; first = h }
+first_refused files children phase fail_case.NoMemory l h = tt
+
+-- ---- a list of names as a slice
+
+pub slice_to : (P : List Children → List Named → Type 0) (xs named : List Named) (children : List Children) → xs ≡ named → seen_by named ≡ children → P (seen_by xs) xs → P children named
+slice_to P xs named children e seen h = subst (λ cs. P cs named) seen (subst (λ ys. P (seen_by ys) ys) e h)
+
+pub slice_from : (P : List Children → List Named → Type 0) (xs named : List Named) (children : List Children) → xs ≡ named → seen_by named ≡ children → P children named → P (seen_by xs) xs
+slice_from P xs named children e seen h = subst (λ ys. P (seen_by ys) ys) (sym e) (subst (λ cs. P cs named) (sym seen) h)

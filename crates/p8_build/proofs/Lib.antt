@@ -10,3 +10,4 @@ mod Making
 mod Wholes
 mod Uniqueness
 mod Here
+mod Counting

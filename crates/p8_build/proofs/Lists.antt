@@ -1,5 +1,5 @@
 -- Lists by the numbers of their elements.
-use Rattle.std.proofs.Common.{◌≡◌, ◌⊎◌, inl, inr, ℕ, zero, suc, ◌+◌, ◌<◌, List, [], ◌∷◌, ◌++◌, length, slice_get, map, get_or, Some, None, refl, ap, sym, ◌∙◌, subst, arith}
+use Rattle.std.proofs.Common.{◌≡◌, ◌⊎◌, inl, inr, ℕ, zero, suc, ◌+◌, ◌<◌, List, [], ◌∷◌, ◌++◌, length, slice_get, map, get_or, Some, None, refl, ap, sym, ◌∙◌, subst, arith, length-append}
 use Rattle.std.specs.Prelude.{Result, Ok, Err, IfErr, IsErrAnd, option_map}
 use Rattle.std.proofs.lemmas.Option.{slice_get_within, same_Some, none-some, slice_get-map, slice_get_read}
 
@@ -29,6 +29,9 @@ each_of_none P = record { at = λ i x a. absurd (none-some x a) }
 pub each_more : {X : Type 0} (P : ℕ → X → Type 0) (xs ys : List X) (n : ℕ) (x : X) → Each P xs → length xs ≡ n → P n x → ys ≡ xs ++ x ∷ [] → Each P ys
 each_more P xs ys n x each long p is =
     subst (Each P) (sym is) (record { at = λ i y a. elim (at_more xs x i a) [ inl b ↦ each.at i y b | inr e ↦ subst (P i) (sym e.1) (subst (λ k. P k x) (sym (e.0 ∙ long)) p) ] })
+
+pub count_more : {X : Type 0} (xs ys : List X) (x : X) (n : ℕ) → length xs ≡ n → ys ≡ xs ++ x ∷ [] → length ys ≡ n + 1
+count_more xs ys x n h is = ap length is ∙ length-append xs (x ∷ []) ∙ ap (λ k. k + 1) h
 
 -- lists of one length with the same elements are the same
 pub same_lists : {X : Type 0} (xs ys : List X) → length xs ≡ length ys → ((i : ℕ) (x y : X) → slice_get xs i ≡ Some x → slice_get ys i ≡ Some y → x ≡ y) → xs ≡ ys

@@ -44,19 +44,20 @@ use Rattle.p8_build.specs.declared.coding.FileTables.{FileTables}
 use Rattle.p8_build.specs.declared.texts.TextNumbers.{TextNumbers}
 use Rattle.p8_build.proofs.Lists.{element, one_element, choose}
 use Rattle.p8_build.proofs.Ready.{resolved}
+use Rattle.p8_build.proofs.One.{code_fault_along}
 
 -- ---- the numbers of texts
 
 number_of_place : (k : ℕ) (xs : List (Place × List ℕ)) (p : Place) → unwrap_or (number_in k xs p) (k + length xs) ≡ k + text_number xs p
 number_of_place k [] p = refl
-number_of_place k (x ∷ xs) p = by (is_same_place x.0 p)
+number_of_place k (x ∷ xs) p = by (is_same_place x.0 p) (number_of_place (k + 1) xs p)
   where
-    by : (b : Bool) → unwrap_or (if b then Some k else number_in (k + 1) xs p) (k + suc (length xs)) ≡ k + (if b then 0 else 1 + text_number xs p)
-    by true = omega arith
-    by false =
-        let rest = number_of_place (k + 1) xs p in
+    by : (b : Bool) → unwrap_or (number_in (k + 1) xs p) (k + 1 + length xs) ≡ k + 1 + text_number xs p → unwrap_or (if b then Some k else number_in (k + 1) xs p) (k + suc (length xs)) ≡ k + (if b then 0 else 1 + text_number xs p)
+    by true rest = omega arith
+    by false rest =
         let behind : k + suc (length xs) ≡ k + 1 + length xs = omega arith in
-        ap (unwrap_or (number_in (k + 1) xs p)) behind ∙ rest ∙ omega arith
+        let after : k + 1 + text_number xs p ≡ k + (1 + text_number xs p) = omega arith in
+        ap (unwrap_or (number_in (k + 1) xs p)) behind ∙ rest ∙ after
 
 pub numbers_are : (numbers : TextNumbers) (xs : List (Place × List ℕ)) → AreNumbers numbers xs → ◌≡◌ {A = Place → ℕ} (number_by numbers) (text_number xs)
 numbers_are numbers xs h = fun_ext (λ p.
@@ -109,24 +110,24 @@ module _ (source : Source) (children : Children) (kinds : Kinds) (dat : Dat) (na
   -- the object with the parts of all methods
   pub object_is : (files : List NamedSource) (s : Setting) (number : Place → ℕ) (strings : List (Place × List ℕ)) (parts : List MethodPart) (object : ObjectPart) → s ≡ file_setting kinds children → ◌≡◌ {A = Place → ℕ} number (text_number strings) → strings ≡ strings_of source
       → ((f : Fault) → ¬ (IsFaultOfOne names (numbered (items source)) f ⊎ IsOneTooMany (instances s (objects (items source))) (numbered (items source)) f))
-      → length parts ≡ length (numbered (items source)) → ArePartsOf names number (numbered (items source)) parts → object ≡ object_by files s (items source) dat.bytes parts strings → IsObjectOf files source children kinds dat object
+      → length parts ≡ length (numbered (items source)) → ArePartsOf names number (numbered (items source)) parts → object ≡ object_by files s (items source) dat.bytes parts (map (λ x. x.1) strings) → IsObjectOf files source children kinds dat object
   object_is files s number strings parts object e numbers texts clean count h is =
       let ms = numbered (items source) in
       let coded = choose (λ k m c. IsCodeOf (names k m) m c × ((part : MethodPart) → slice_get parts k ≡ Some part → part ≡ method_part strings m c)) ms (λ k m at.
       let p = element parts k (let w = slice_get_within ms k m at in omega arith) in
       let made = h.each k m p.0 at p.1 in
-      (made.code, made.right, λ part there. one_part made.code m p.0 part (one_element parts k there p.1) made.is)) in
+      (made.code, (made.right, λ part there. one_part made.code m p.0 part (one_element parts k there p.1) made.is))) in
       record {
         codes = coded.0;
         code = record {
-          clean = λ f b. clean f (from_code_fault s f e b);
+          clean = λ f b. clean f (from_code_fault s f e (code_fault_along source children (compiled kinds dat coded.0) (compiled kinds dat []) f (record { each = λ m n l. refl }) refl b));
           count = coded.1;
           each = λ k m c at there. subst (λ n. IsCodeOf n m c) (same k m) (coded.2 k m c at there).0;
         };
         is = is
-            ∙ ap (λ (ps : List MethodPart). object_by files s (items source) dat.bytes ps strings) (parts_are strings ms coded.0 parts coded.1 count (λ k m c part at there beside. (coded.2 k m c at there).1 part beside))
-            ∙ ap (λ (t : Setting). object_by files t (items source) dat.bytes (method_parts strings ms coded.0) strings) e
-            ∙ ap (λ (xs : List (Place × List ℕ)). object_by files (file_setting kinds children) (items source) dat.bytes (method_parts xs ms coded.0) xs) texts;
+            ∙ ap (λ (ps : List MethodPart). object_by files s (items source) dat.bytes ps (map (λ x. x.1) strings)) (parts_are strings ms coded.0 parts coded.1 count (λ k m c part at there beside. (coded.2 k m c at there).1 part beside))
+            ∙ ap (λ (t : Setting). object_by files t (items source) dat.bytes (method_parts strings ms coded.0) (map (λ x. x.1) strings)) e
+            ∙ ap (λ (xs : List (Place × List ℕ)). object_by files (file_setting kinds children) (items source) dat.bytes (method_parts xs ms coded.0) (map (λ x. x.1) xs)) texts;
       }
     where
       one_part : (c : MethodCode) (m : MethodTree) (p part : MethodPart) → part ≡ p → p ≡ part_by number m c → part ≡ method_part strings m c

@@ -1,5 +1,5 @@
 -- The numbers of texts, place by place.
-use Rattle.std.proofs.Common.{◌≡◌, ℕ, ◌+◌, Bool, true, false, if◌then◌else◌, List, [], ◌∷◌, length, Option, Some, None, inl, inr, refl, ap, sym, ◌∙◌, subst, arith}
+use Rattle.std.proofs.Common.{◌≡◌, ℕ, ◌+◌, ◌≤◌, map, drop, Bool, true, false, if◌then◌else◌, List, [], ◌∷◌, length, Option, Some, None, inl, inr, refl, ap, sym, ◌∙◌, subst, arith}
 use Rattle.std.specs.Prelude.{is_some, ◌&&◌, ◌==◌, cond}
 use Rattle.std.specs.Option.{option_or}
 use Rattle.std.specs.BTreeMap.{BTreeMap, Updates, is_at}
@@ -11,7 +11,9 @@ use Rattle.std.proofs.lemmas.Bool.{cases_Bool}
 use Rattle.std.proofs.lemmas.Bool.Decides.{nat_tests}
 use Rattle.p8_tree.specs.declared.places.Place.{Place}
 use Rattle.p8_faults.specs.Faults.{is_same_place}
-use Rattle.p8_build.specs.Numbers.{place_cmp, at_place, number_in}
+use Rattle.p8_strings.specs.declared.texts.StringText.{StringText}
+use Rattle.p8_definitions.proofs.Listed.{rest_is_empty}
+use Rattle.p8_build.specs.Numbers.{text_of, place_cmp, at_place, number_in}
 
 or_none : (o : Option ℕ) → o ≡ option_or o None
 or_none None = refl
@@ -71,3 +73,7 @@ number_more a b i x rest p e = ap (λ o. option_or o (number_in (i + 1) rest p))
     by None true = refl
     by None false = refl
     by (Some k) same = refl
+
+-- no text is left
+pub numbers_end : (a : Option ℕ) (k : ℕ) (ss : List StringText) (i : ℕ) (p : Place) (all : Option ℕ) → length ss ≤ i → option_or a (number_in k (map text_of (drop i ss)) p) ≡ all → a ≡ all
+numbers_end a k ss i p all l h = or_none a ∙ ap (λ ys. option_or a (number_in k (map text_of ys) p)) (sym (rest_is_empty ss i l)) ∙ h

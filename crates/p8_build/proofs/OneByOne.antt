@@ -12,9 +12,10 @@ use Rattle.p8_definitions.specs.Standing.{IsFirstOf}
 use Rattle.p8_definitions.proofs.FirstFaults.{IsSoFar, so_far_begin, so_far_same, so_far_then, so_far_end}
 use Rattle.p8_gen.specs.Names.{Names}
 use Rattle.p8_image.specs.declared.parts.MethodPart.{MethodPart}
-use Rattle.p8_stmt.specs.Methods.{IsMethodFault, frame_too_large, longs_in}
+use Rattle.p8_stmt.specs.declared.code.MethodCode.{MethodCode}
+use Rattle.p8_stmt.specs.Methods.{IsCodeOf, IsMethodFault, frame_too_large, longs_in}
 use Rattle.p8_build.specs.Files.{are_too_many}
-use Rattle.p8_build.specs.Coding.{IsPart, IsOneMore, coded, refused, IsFaultOfOne, of_one, ArePartsOf, IsCoded, IsOneTooMany, too_many}
+use Rattle.p8_build.specs.Coding.{part_by, IsPart, IsOneMore, coded, refused, IsFaultOfOne, of_one, ArePartsOf, IsCoded, IsOneTooMany, too_many}
 use Rattle.p8_build.specs.declared.coding.Coded.{Coded}
 use Rattle.p8_build.proofs.Lists.{one_element, at_more}
 
@@ -29,12 +30,12 @@ small_frame names m clean =
 -- ---- one method more
 
 -- a fault of a method from a number on
-record FaultFrom (names : ℕ → MethodTree → Names) (ms : List MethodTree) (i : ℕ) (f : Fault) : Type 0 where
-  number : ℕ
-  method : MethodTree
-  behind : i ≤ number
-  stands : slice_get ms number ≡ Some method
-  fault : IsMethodFault (names number method) method f
+pub record FaultFrom (names : ℕ → MethodTree → Names) (ms : List MethodTree) (i : ℕ) (f : Fault) : Type 0 where
+  pub number : ℕ
+  pub method : MethodTree
+  pub behind : i ≤ number
+  pub stands : slice_get ms number ≡ Some method
+  pub fault : IsMethodFault (names number method) method f
 
 -- the first methods have been looked at
 pub record CodedSoFar (names : ℕ → MethodTree → Names) (number : Place → ℕ) (ms : List MethodTree) (i : ℕ) (x : Coded) : Type 0 where
@@ -143,3 +144,12 @@ one_too_many n k ms m l is at =
         let same : j ≡ k = too_many_at n j a b ∙ sym is in
         let method : x ≡ m = one_element ms k (ap (slice_get ms) (sym same) ∙ there) at in
         subst (λ h. ¬ FaultBefore h (fault 27 m.place)) (ap (λ y. fault 27 y.place) (sym method) ∙ e) (not_before_itself (fault 27 m.place))
+
+-- ---- what a step adds
+
+pub add_coded : (names named : Names) (number : Place → ℕ) (m : MethodTree) (code : MethodCode) (part : MethodPart) (old new : Coded) → names ≡ named → IsCodeOf names m code → ((f : Fault) → ¬ IsMethodFault names m f) → part ≡ part_by number m code → new.parts ≡ old.parts ++ part ∷ [] → new.fault ≡ old.fault → IsOneMore named number m old new
+add_coded names named number m code part old new same right clean is grows kept =
+    subst (λ (n : Names). IsOneMore n number m old new) same (coded part (record { code = code; right = right; clean = clean; is = is }) grows kept)
+
+pub add_refused : (names named : Names) (number : Place → ℕ) (m : MethodTree) (f : Fault) (old new : Coded) → names ≡ named → IsFirstFault (IsMethodFault names m) f → new.parts ≡ old.parts → new.fault ≡ first_of_two old.fault (Some f) → IsOneMore named number m old new
+add_refused names named number m f old new same first grows is = subst (λ (n : Names). IsOneMore n number m old new) same (refused f first grows is)

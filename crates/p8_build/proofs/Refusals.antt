@@ -70,7 +70,7 @@ module _ {files : List NamedSource} {children : List Children} where
   data_faulty : (i : ℕ) (f : Fault) → IsRefusal files children (refusal 1 i f) → DataFaulty files children i f
   data_faulty i f r = elim (shown r) [ in_names e h ↦ absurd (omega arith) | in_data e h ↦ h | in_code e h ↦ absurd (omega arith) | in_image e z h ↦ absurd (omega arith) ]
 
-  code_faulty : (i : ℕ) (f : Fault) → IsRefusal files children (refusal 2 i f) → CodeFaulty files children i f
+  pub code_faulty : (i : ℕ) (f : Fault) → IsRefusal files children (refusal 2 i f) → CodeFaulty files children i f
   code_faulty i f r = elim (shown r) [ in_names e h ↦ absurd (omega arith) | in_data e h ↦ absurd (omega arith) | in_code e h ↦ h | in_image e z h ↦ absurd (omega arith) ]
 
   pub image_faulty : (i : ℕ) (f : Fault) → IsRefusal files children (refusal 3 i f) → (i ≡ 0) × ImageFaulty files children f

@@ -65,7 +65,7 @@ module _ (files : List NamedSource) (children : List Children) (xs : List Compil
       let made = each.each i b.file b.seen x.0 b.is x.1 in
       made.dat.clean f (subst (λ s. IsDatFault s (data_start s b.file.tree) b.file.tree f) (same_setting b.file.tree b.seen b.x.kinds x.0.kinds (alike b.file.tree b.seen (i == 0) b.x.kinds x.0.kinds b.names made.names)) b.fault)
 
-  no_code : (i : ℕ) (f : Fault) → ¬ CodeFaulty files children i f
+  pub no_code : (i : ℕ) (f : Fault) → ¬ CodeFaulty files children i f
   no_code i f b =
       let within = slice_get_within files i b.file b.is.stands in
       let x = element xs i (omega (arith, each.count)) in

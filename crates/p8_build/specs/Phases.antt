@@ -1,7 +1,6 @@
 -- internal: what each phase of building comes to.
 use Rattle.std.specs.Prelude.{◌≡◌, ℕ, ◌==◌, Bool, codes, List, [], length, slice_get, map, Option, Some, None}
 use Rattle.std.specs.List.{flat_map}
-use Rattle.p8_tree.specs.declared.places.Place.{Place}
 use Rattle.p8_tree.specs.Sources.{Source}
 use Rattle.p8_tree.specs.Projects.{NamedSource}
 use Rattle.p8_tree.specs.Views.{source_of}
@@ -94,12 +93,12 @@ pub record AreAssembled (files : List NamedSource) (children : List Children) (n
 -- ---- code
 
 -- an object of these items, with the bytes of its DAT, its methods and its texts
-abbrev pub object_by : List NamedSource → Setting → List Item → (dat : List ℕ) → List MethodPart → List (Place × List ℕ) → ObjectPart
-object_by files s xs dat methods strings = record {
+abbrev pub object_by : List NamedSource → Setting → List Item → (dat : List ℕ) → List MethodPart → (texts : List (List ℕ)) → ObjectPart
+object_by files s xs dat methods texts = record {
   variables = flat_map (variable_in s) xs;
   dat = dat;
   methods = methods;
-  texts = map (λ x. x.1) strings;
+  texts = texts;
   instances = flat_map (instances_of files s) (objects xs);
 }
 

@@ -102,7 +102,7 @@ fn object_with(
     strings: &[StringText<'_>],
 ) -> Result<ObjectPart, AllocError>
     requires { length files.now ≤ most_files }
-    ensures { IfOk result (λ object. object ≡ object_by (map named_source_of files.now) (setting_of consts.now) (item_trees items.now) dat.now.bytes methods (map text_of strings.now)) }
+    ensures { IfOk result (λ object. object ≡ object_by (map named_source_of files.now) (setting_of consts.now) (item_trees items.now) dat.now.bytes methods (map (λ x. (text_of x).1) strings.now)) }
 {
     Ok(ObjectPart {
         variables: variables_of(alloc, consts, items)?,

@@ -1,8 +1,7 @@
 use Rattle.std.proofs.Common.{◌≡◌, map, drop}
 use Rattle.std.specs.Option.{option_or}
 use Rattle.p8_tree.specs.declared.places.Place.{Place}
-use Rattle.p8_build.specs.Numbers.{text_of}
-use Rattle.p8_build.specs.Numbers.{at_place, number_in}
+use Rattle.p8_build.specs.Numbers.{text_of, at_place, number_in}
 use Rattle.p8_build.proofs.texts.TextNumbers.of.Given as goal
 
 abbrev pub invariant-loop-string : goal.invariant-loop-string
