@@ -11,3 +11,4 @@ mod Wholes
 mod Uniqueness
 mod Here
 mod Counting
+mod WholeCode

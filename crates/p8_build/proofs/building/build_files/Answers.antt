@@ -19,7 +19,7 @@ returns-in_err-data-clause-refused c =
     let files = map named_source_of c.args.files.now in
     let l : 0 < length files = omega (arith, length-map c.args.files.now named_source_of, c.requires.first) in
     told c.from_residual-in_err-data.result _ (IfFirstRefused files c.args.children.now) c.from_residual-in_err-data.ensures.1
-    (first_refused files c.args.children.now 1 c.in_err-data.field-0 l (slice_to (λ cs ns. IfFirst files cs 1 c.in_err-data.field-0) c.as_slice.result.now c.in_ok-named.named c.args.children.now c.as_slice.ensures c.in_ok-named.ensures.children
+    (first_refused files c.args.children.now 1 c.in_err-data.field-0.0 l (slice_to (λ cs ns. IfFirst files cs 1 c.in_err-data.field-0.0) c.as_slice.result.now c.in_ok-named.named c.args.children.now c.as_slice.ensures c.in_ok-named.ensures.children
     (c.in_err-data.ensures.refused files (slice_from (λ cs ns. AreNamed files cs ns) c.as_slice.result.now c.in_ok-named.named c.args.children.now c.as_slice.ensures c.in_ok-named.ensures.children c.in_ok-named.ensures.named))))
 
 pub returns-in_err-objects-clause-refused : goal.returns-in_err-objects-clause-refused
@@ -27,7 +27,7 @@ returns-in_err-objects-clause-refused c =
     let files = map named_source_of c.args.files.now in
     let l : 0 < length files = omega (arith, length-map c.args.files.now named_source_of, c.requires.first) in
     told c.from_residual-in_err-objects.result _ (IfFirstRefused files c.args.children.now) c.from_residual-in_err-objects.ensures.1
-    (first_refused files c.args.children.now 2 c.in_err-objects.field-0 l (slice_to (λ cs ns. IfFirst files cs 2 c.in_err-objects.field-0) c.as_slice-2.result.now c.in_ok-named.named c.args.children.now c.as_slice-2.ensures c.in_ok-named.ensures.children c.in_err-objects.ensures.refused))
+    (first_refused files c.args.children.now 2 c.in_err-objects.field-0.0 l (slice_to (λ cs ns. IfFirst files cs 2 c.in_err-objects.field-0.0) c.as_slice-2.result.now c.in_ok-named.named c.args.children.now c.as_slice-2.ensures c.in_ok-named.ensures.children c.in_err-objects.ensures.refused))
 
 pub finish-requires : goal.finish-requires
 finish-requires c =

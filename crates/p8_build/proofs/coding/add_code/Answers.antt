@@ -23,4 +23,4 @@ returns-in-Err-Refused c =
     let here = method_of c.args.method.now in
     let named : ℕ → Names = λ k. names_from c.args.file.now.kinds.now k c.args.file.now.tables.now c.args.method.now.place in
     add_refused (named c.in_ok-number.number) (names_by c.args.file.now c.args.index here) (number_by c.args.file.now.texts.now) here c.in-Err-Refused.fault c.args.coded.now _ (ap named c.in_ok-number.ensures)
-    (rw c.in-Err-Refused.field-0-is at c.in-Err-Refused.ensures.refused) refl c.first_of_two-coded.ensures
+    (rw c.in-Err-Refused.field-0-is at c.in-Err-Refused.ensures.refused) refl (rw c.in-Err-Refused.field-0-is at c.first_of_two-coded.ensures)
