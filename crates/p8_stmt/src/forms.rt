@@ -1,5 +1,5 @@
 // The parts of statements beside the statements inside them.
-ghost use Rattle.std.specs.Prelude.{◌≡◌, OnOk, if◌then◌else◌, option_map};
+ghost use Rattle.std.specs.Prelude.{◌≡◌, ◌+◌, ◌<◌, ◌||◌, nat_lt, OnOk, if◌then◌else◌, option_map};
 ghost use Rattle.p8_tree.specs.Expressions.{no_items, ◌▸◌};
 ghost use Rattle.p8_tree.specs.Views.{tree_of, item_of, items_of, course_of, arms_of};
 ghost use Rattle.p8_gen.specs.Pieces.{Written};
@@ -23,26 +23,22 @@ pub(crate) fn zero_jump(negated: bool) -> u8
 pub(crate) fn goes_to_begin(course: &Loop) -> bool
     ensures { result ≡ goes_to_begin (course_of course.now) }
 {
-    match course {
-        Loop::Forever => true,
-        Loop::Count(_) => false,
-        Loop::Before(..) => true,
-        Loop::After(..) => false,
-        Loop::From(..) => false,
-    }
+    matches!(course, Loop::Forever | Loop::Before(..))
 }
 
 /// Whether a loop keeps a count on the operand stack.
 pub(crate) fn keeps_count(course: &Loop) -> bool
     ensures { result ≡ keeps_count (course_of course.now) }
 {
-    match course {
-        Loop::Forever => false,
-        Loop::Count(_) => true,
-        Loop::Before(..) => false,
-        Loop::After(..) => false,
-        Loop::From(..) => false,
-    }
+    matches!(course, Loop::Count(_))
+}
+
+/// Whether an arm of `IF` jumps to the end: each but the last does, and the last one where it is told to.
+pub(crate) fn jumps_away(last_jumps: bool, index: usize, count: usize) -> bool
+    requires { index < count }
+    ensures { result ≡ (last_jumps || nat_lt (index + 1) count) }
+{
+    last_jumps || index + 1 < count
 }
 
 // The effect of a loop's step, which is 1 where none is given.
@@ -128,10 +124,10 @@ impl Context<'_> {
     }
 
     /// Appends the tests of an arm of `CASE`, each with a jump to the arm.
-    pub fn tests(&self, to: u32, tests: &[Item], out: &mut Writer) -> Result<(), AllocError>
-        ensures { (w : Written) → Stands out.old w → OnOk result (Stands out.new (tests (names_at self.now) to (items_of tests.now) w)) }
+    pub fn tests(&self, to: u32, items: &[Item], out: &mut Writer) -> Result<(), AllocError>
+        ensures { (w : Written) → Stands out.old w → OnOk result (Stands out.new (tests (names_at self.now) to (items_of items.now) w)) }
     {
-        for test in tests {
+        for test in items {
             self.test(to, test, out)?;
         }
         Ok(())
@@ -219,7 +215,9 @@ impl Context<'_> {
                 self.coder.value(test, out)?;
                 out.jump(self.coder.statement, zero_jump(!*until), start)
             }
-            Loop::From(name, first, last, step, _) => self.step(name, first, last, step, start, out),
+            Loop::From(name, first, last, step, _) => self.step(
+                name, first, last, step, start, out,
+            ),
         }
     }
 
@@ -240,7 +238,11 @@ impl Context<'_> {
         self.coder.value(first, out)?;
         self.coder.value(last, out)?;
         let change = Operation::Using(step_effect(step));
-        out.jumping(self.coder.statement, start, self.coder.home(name).plain_op(change))
+        out.jumping(
+            self.coder.statement,
+            start,
+            self.coder.home(name).plain_op(change),
+        )
     }
 
     // Appends the value of a loop's step, where one is given.
