@@ -68,15 +68,6 @@ numbers_are numbers xs h = fun_ext (λ p.
 
 -- ---- methods
 
--- the methods of a file can be coded by its tables
-pub ready : (source : Source) (children : Children) (top : Bool) (file : FileTables) (labels : List Label) (ms : List MethodTree) → IsNamed source children top file.kinds.now → IsProperFile source
-    → ((item : ℕ) (name : List ℕ) → own file.tables.now.publics item name ≡ public_of children item name) → setting_in file.tables.now.consts ≡ file_setting file.kinds.now children → ((name : List ℕ) → offset_in file.tables.now.labels name ≡ first_offset labels name)
-    → ms ≡ numbered (items source) → AreReady (names_by file) ms
-ready source children top file labels ms named proper publics consts offsets is = subst (AreReady (names_by file)) (sym is) (record {
-  each = λ k m at. subst (λ names. AreResolved names m.body) (sym (names_same file.kinds.now (k + 1) file.tables.now m.place children labels publics consts offsets))
-      (resolved source children top file.kinds.now named k m at labels proper);
-})
-
 parts_are : (strings : List (Place × List ℕ)) (ms : List MethodTree) (codes : List MethodCode) (parts : List MethodPart) → length codes ≡ length ms → length parts ≡ length ms
     → ((k : ℕ) (m : MethodTree) (c : MethodCode) (part : MethodPart) → slice_get ms k ≡ Some m → slice_get codes k ≡ Some c → slice_get parts k ≡ Some part → part ≡ method_part strings m c) → parts ≡ method_parts strings ms codes
 parts_are strings [] [] [] a b each = refl

@@ -126,7 +126,6 @@ module _ (source : Source) (children : Children) (top : Bool) (kinds : Kinds) (n
       let read = proper_method source k m proper at in
       record {
         proper = read.body;
-        loops = read.loops;
         bytes = record {
           kinds = λ n. subst (λ o. IfSome o HasBytes) (sym (kind_is n)) (byte_is n);
           publics = λ item n. number_in (slice_get children.items item) n;
