@@ -86,6 +86,3 @@ pub fn instr_text(alloc: Global, long: u32) -> Result<Vec<u8>, NoMemory>
     }
     Ok(out)
 }
-
-#[cfg(test)]
-mod tests;
