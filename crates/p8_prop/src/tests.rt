@@ -11,22 +11,10 @@ const IMAGE: &[u8] =
     b"\x00\x1B\xB7\0\0\x6A\x10\0\x1C\0\x24\0\x18\0\x28\0\x0C\0\x02\0\x08\0\0\0\x32\0\0\0";
 
 /// Its trace, with the first two bytes of the hub's memory.
-const TEXT: &str = "16 0 begin 0018 0024
-8224 0 wrlong 0024 00000000
-8272 0 cogstop 0
-ended clocks 3
-locks ........
-pins 00000000 00000000
-cog 0 stopped
-cog 1 stopped
-cog 2 stopped
-cog 3 stopped
-cog 4 stopped
-cog 5 stopped
-cog 6 stopped
-cog 7 stopped
-0000: 00 1B
-";
+const TEXT: &[u8] =
+    b"16 0 begin 0018 0024\n8224 0 wrlong 0024 00000000\n8272 0 cogstop 0\nended clocks 3\n\
+    locks ........\npins 00000000 00000000\ncog 0 stopped\ncog 1 stopped\ncog 2 stopped\n\
+    cog 3 stopped\ncog 4 stopped\ncog 5 stopped\ncog 6 stopped\ncog 7 stopped\n0000: 00 1B\n";
 
 /// The line of words that are no command.
 const USAGE: &str =
@@ -69,11 +57,11 @@ fn words_of(alloc: Global, words: &[&str]) -> Result<Vec<String>, NoMemory> {
     Ok(line)
 }
 
-/// Makes a call of these words, where the shelf has an image, one of 27 bytes and a bad pin script.
+/// Makes a call of these words, where the shelf has an image, an empty file and a bad pin script.
 fn left_by(alloc: Global, words: &[&str], failing: Failing) -> Result<Left, NoMemory> {
     let mut shelf = MemShelf::new(alloc);
     shelf.add("a.binary", IMAGE)?;
-    shelf.add("short.binary", &IMAGE[..27])?;
+    shelf.add("empty.binary", b"")?;
     shelf.add("a.pins", b"9000 1")?;
     let mut shelf = shelf.with(failing_at(alloc, failing.read)?);
     let mut out = MemSink::new(alloc, 4096)?.with(failing_at(alloc, failing.write)?);
@@ -96,11 +84,8 @@ fn refused(
     line: &str,
 ) -> Result<bool, NoMemory> {
     let left = left_by(alloc, words, failing)?;
-    Ok(
-        left.status == status
-            && left.out.bytes().is_empty()
-            && left.faults.bytes() == line.as_bytes(),
-    )
+    let is_told = left.faults.bytes() == line.as_bytes();
+    Ok(left.status == status && left.out.bytes().is_empty() && is_told)
 }
 
 // An option stands before FILE, and another one between FILE and CLOCKS.
@@ -109,7 +94,7 @@ fn runs_an_image(rt: HostRuntime) -> Result<(), Fail> {
     let words = ["run", "--alone", "a.binary", "--dump=0000:2", "20000"];
     let left = left_by(rt.alloc(), &words, NOTHING)?;
     assert_eq!(rt; left.status, Status::Ok);
-    assert!(rt; left.out.bytes() == TEXT.as_bytes());
+    assert!(rt; left.out.bytes() == TEXT);
     assert!(rt; left.faults.bytes().is_empty());
     Ok(())
 }
@@ -137,8 +122,8 @@ fn tells_what_cannot_be_run(rt: HostRuntime) -> Result<(), Fail> {
     let words = ["raw", "b.bin", "1"];
     let line = "prop: b.bin is missing\n";
     assert!(rt; refused(rt.alloc(), &words, NOTHING, Status::Missing, line)?);
-    let words = ["run", "short.binary", "1", "--alone"];
-    let line = "prop: short.binary: length 27\n";
+    let words = ["run", "empty.binary", "1", "--alone"];
+    let line = "prop: empty.binary: length 0\n";
     assert!(rt; refused(rt.alloc(), &words, NOTHING, Status::BadImage, line)?);
     let words = ["raw", "a.binary", "1", "--pins", "a.pins"];
     let line = "prop: a.pins: line 1\n";
