@@ -104,7 +104,10 @@ fn chained(statement: Stmt, arm: Arm) -> Result<Stmt, AllocError>
     let Stmt { place, kind } = statement;
     match kind {
         StmtKind::If(arms, other) => chain_with(place, arms, other, arm),
-        kind => Ok(Stmt { place, kind }),
+        kind => {
+            drop(arm);
+            Ok(Stmt { place, kind })
+        }
     }
 }
 
@@ -154,7 +157,10 @@ fn ended(statement: Stmt, body: Vec<Stmt>) -> Stmt
     let Stmt { place, kind } = statement;
     match kind {
         StmtKind::If(arms, other) => chain_ended(place, arms, other, body),
-        kind => Stmt { place, kind },
+        kind => {
+            drop(body);
+            Stmt { place, kind }
+        }
     }
 }
 
