@@ -1,6 +1,6 @@
 // Numbers in print.
 ghost use Rattle.std.specs.Prelude.{◌≡◌, ◌∷◌, []};
-ghost use Rattle.p8_report.specs.Numerals.{hex};
+ghost use Rattle.p8_disassembly.specs.Numerals.{hex};
 
 /// The bytes from 0 to 255, in two hexadecimal digits each.
 static PAIRS: [u8; 512] = *b"000102030405060708090A0B0C0D0E0F101112131415161718191A1B1C1D1E1F\

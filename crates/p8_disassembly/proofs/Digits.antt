@@ -1,6 +1,6 @@
 -- Hexadecimal digits, two at a time.
 use Rattle.std.proofs.Common.{◌≡◌, ℕ, suc, ◌/◌, [], ◌∷◌, ◌++◌, drop, refl, ap, ◌∙◌, arith, append_assoc}
-use Rattle.p8_report.specs.Numerals.{hex}
+use Rattle.p8_disassembly.specs.Numerals.{hex}
 
 -- the last two digits behind the others
 last_two : (width n : ℕ) → hex (suc (suc width)) n ≡ hex width (n / 256) ++ hex 2 n

@@ -1,8 +1,8 @@
 -- The table of two hexadecimal digits for each byte.
 use Rattle.std.proofs.Common.{◌≡◌, ℕ, zero, suc, ◌+◌, ◌-◌, ◌*◌, ◌/◌, ◌%◌, ◌<◌, Bool, true, ◌&&◌, T, eqb, eqb→eq, eq-zero-or-pos, get_or, [], ◌∷◌, inl, inr, refl, arith}
 use lib.Ieee.Fits.{and_l, and_r}
-use Rattle.p8_report.specs.Numerals.{hex, glyph}
-use Rattle.p8_report.specs.declared.numerals.TheConstants.{PAIRS}
+use Rattle.p8_disassembly.specs.Numerals.{hex, glyph}
+use Rattle.p8_disassembly.specs.declared.numerals.TheConstants.{PAIRS}
 
 abbrev are_pairs : ℕ → Bool
 are_pairs zero = true

@@ -1,10 +1,10 @@
 // The text of an instruction.
 ghost use Rattle.std.specs.Prelude.{◌≡◌, ◌++◌, nat_lt, if◌then◌else◌, [], codes, IfOk, OnOk};
 ghost use Rattle.p8_instr.specs.Instruction.{writes_result};
-ghost use Rattle.p8_report.specs.Instructions.{condition_text, word_text, operands_text, effects_text, instruction_text, long_text};
+ghost use Rattle.p8_disassembly.specs.Instructions.{condition_text, word_text, operands_text, effects_text, instruction_text, long_text};
 
 use crate::numerals::register_digits;
-use crate::phrases::push_text;
+use crate::text::push_text;
 use p8_instr::{ALWAYS, Instr, condition_name, decode, mnemonic};
 use p8_words::NoMemory;
 use std::alloc::Global;

@@ -5,7 +5,7 @@ use Rattle.p8_instr.specs.declared.instruction.Instr.{Instr}
 use Rattle.p8_instr.specs.Conditions.{conditions}
 use Rattle.p8_instr.specs.Instruction.{instr_of, writes_z, writes_c, writes_result, is_immediate}
 use Rattle.p8_instr.specs.Mnemonics.{mnemonics, word_where, is_named_by}
-use Rattle.p8_report.specs.Numerals.{hex}
+use Rattle.p8_disassembly.specs.Numerals.{hex}
 
 -- the condition's first name and a space, or nothing where the instruction always executes
 abbrev pub condition_text : Instr → List ℕ
