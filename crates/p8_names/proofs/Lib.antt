@@ -5,11 +5,11 @@ mod Entering
 mod Showing
 mod OwnNames
 mod TwoFaults
-mod Equal
+pub mod Equal
 mod LookingAt
 mod LocalLabels
 mod Shown
-mod Settling
+pub mod Settling
 mod RightSettings
 mod AllFaults
 mod MethodSteps

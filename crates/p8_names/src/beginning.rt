@@ -15,6 +15,7 @@ use crate::outside::outside;
 use p8_constants::{Found, constants_of};
 use p8_definitions::{Item, NamedConstant, items_of, predefined};
 use p8_faults::Fault;
+use p8_fold::Consts;
 use p8_kinds::{Children, Scope, publics_of};
 use p8_tree::SourceFile;
 use p8_words::NoMemory;
@@ -47,6 +48,25 @@ fn meanings(
 {
     let outside = outside(alloc, items, predefined, children.items.as_slice())?;
     Ok(constants_of(alloc, file, outside)?)
+}
+
+/// What the names of a file mean where a constant is needed: the constants of `CON` with their values, those that the language
+/// defines, and behind an object's name and `#` the constants of its file; all other names are no constants. A refused
+/// expression counts as 0.
+///
+/// `children` has what is seen of the file of each item of `OBJ`, in order. It takes time and memory in proportion to the file
+/// and to what is seen, but for look-ups of names, which take the logarithm of their number.
+pub fn constants_in(
+    alloc: Global,
+    file: &SourceFile,
+    children: &Children,
+) -> Result<Consts, NoMemory>
+    ensures { IfOk result (λ consts. IsSetting (source_of file.now) children.now.items (setting_of consts)) }
+{
+    let items = items_of(alloc, file)?;
+    let predefined = predefined(alloc)?;
+    let found = meanings(alloc, file, children, &items, &predefined)?;
+    Ok(found.consts)
 }
 
 /// The items of a file, the kinds of its names and what they mean.

@@ -14,4 +14,6 @@ mod outside;
 mod own_kinds;
 mod resolving;
 
+pub use beginning::constants_in;
+pub use own_kinds::numbered;
 pub use resolving::{NameFault, resolve};

@@ -19,7 +19,7 @@ use std::alloc::{AllocError, Global};
 const GREATEST_COUNT: usize = 0x10_0000;
 
 /// The methods of a file, in the order of their numbers.
-pub(crate) fn numbered<'a>(alloc: Global, items: &[Item<'a>]) -> Result<Vec<&'a Method>, AllocError>
+pub fn numbered<'a>(alloc: Global, items: &[Item<'a>]) -> Result<Vec<&'a Method>, AllocError>
     ensures { IfOk result (λ v. map (λ m. method_of m.now) v.items ≡ numbered (items_of items.now)) }
 {
     let mut methods = Vec::new(alloc);
