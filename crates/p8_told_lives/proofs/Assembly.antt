@@ -1,5 +1,5 @@
 -- Propeller Assembly starts Propeller Assembly alone.
-use Rattle.std.proofs.Common.{◌≡◌, refl, subst, arith, ℕ, zero, suc, ◌+◌, ◌*◌, ◌%◌, ◌<◌, ◌==◌, Bool, true, false, if◌then◌else◌, not, ◌&&◌, nat_le, nat_lt, List, [], ◌∷◌, ◌++◌, length, Option, Some, None}
+use Rattle.std.proofs.Common.{◌≡◌, subst, arith, ℕ, zero, suc, ◌+◌, ◌*◌, ◌%◌, ◌<◌, ◌==◌, Bool, true, false, if◌then◌else◌, not, ◌&&◌, nat_le, nat_lt, List, [], ◌∷◌, ◌++◌, length, Option, Some, None}
 use Rattle.p8_access.specs.declared.kinds.Width.{Width}
 use Rattle.p8_access.specs.declared.kinds.Width.TheVariants.{Long}
 use Rattle.p8_access.specs.declared.kinds.Reason.{Reason}
@@ -19,7 +19,7 @@ use Rattle.p8_cog.specs.declared.kind.Kind.TheVariants.{Skipped, Halting, OfHub,
 use Rattle.p8_cog.specs.declared.hub.Request.{Request}
 use Rattle.p8_cog.specs.declared.state.State.{State}
 use Rattle.p8_cog.specs.Instructions.{cnt_register, ina_register, outa_register, dira_register, ctra_register, hubop, clkset, cogid, coginit, cogstop, locknew, lockret, lockset, kind_of, width_of, source_access}
-use Rattle.p8_cog.specs.Replay.{Course, Ask, Go, End, ask, halt, at_hand, next_of, fetched_before, passed, hub_address, test_of, destination_value, source_value, sourced_by, sourced, register_access, result_access, written_by, write, ends_after, effect, computed, compute, read_access, mode_access, start_access, move_request, operation_request, hub_request, answered, ask_hub, use_hub, is_port_wait, wait, wait_effect, does, instruction, Outcome, Asks, Goes, Ends, played, step, after, loading, replayed, loaded_by}
+use Rattle.p8_cog.specs.Replay.{Course, Ask, Go, End, ask, halt, at_hand, next_of, fetched_before, passed, hub_address, test_of, destination_value, source_value, sourced_by, register_access, result_access, written_by, write, ends_after, effect, computed, compute, read_access, move_request, operation_request, hub_request, answered, use_hub, is_port_wait, wait, wait_effect, does, instruction, Outcome, Asks, Goes, Ends, played, step, after, loading, replayed, loaded_by}
 use Rattle.p8_meaning.specs.Programs.{Program, Addresses}
 use Rattle.p8_told_lives.proofs.Starts.{StaysInProject}
 

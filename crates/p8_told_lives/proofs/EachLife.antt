@@ -1,20 +1,20 @@
 -- Each life of Spin in a history follows its turns.
-use Rattle.std.proofs.Common.{◌≡◌, ◌⊎◌, inl, inr, refl, sym, ap, subst, ◌∙◌, arith, ℕ, zero, suc, ◌+◌, ◌<◌, ◌==◌, ◌&&◌, ◌||◌, not, Bool, true, false, if◌then◌else◌, List, [], ◌∷◌, ◌++◌, map, Option, Some, None}
+use Rattle.std.proofs.Common.{◌≡◌, ◌⊎◌, inl, inr, refl, sym, ap, subst, ◌∙◌, ℕ, ◌+◌, ◌<◌, ◌==◌, ◌&&◌, ◌||◌, not, Bool, true, false, if◌then◌else◌, List, [], ◌∷◌, ◌++◌, Option, Some, None}
 use Rattle.p8_access.specs.declared.kinds.Origin.{Origin}
 use Rattle.p8_access.specs.declared.kinds.Origin.TheVariants.{Pasm, Spin}
 use Rattle.p8_access.specs.declared.kinds.Access.{Access}
-use Rattle.p8_access.specs.declared.kinds.Access.TheVariants.{Begin, Load, Read, Write, CogId, CogInit, CogStop, LockNew, LockRet, LockSet, LockClr, ClkSet, PinsIn, OutSet, DirSet, Wait, Clock, Halt}
+use Rattle.p8_access.specs.declared.kinds.Access.TheVariants.{Begin, Load}
 use Rattle.p8_access.specs.declared.kinds.Answer.{Answer}
 use Rattle.p8_access.specs.declared.order.Turn.{Turn}
 use Rattle.p8_history.specs.declared.states.CogState.{CogState}
-use Rattle.p8_history.specs.declared.states.CogState.TheVariants.{Stopped, Starting, Running}
+use Rattle.p8_history.specs.declared.states.CogState.TheVariants.{Stopped, Running}
 use Rattle.p8_history.specs.Worlds.{World}
 use Rattle.p8_history.specs.Hub.{is_number, Change, Starts, Runs, Stops, change_by, change_of, changed, cog_state, origin_of}
 use Rattle.p8_history.specs.Histories.{is_begin, begins_life, begun_at, begun, since_begin, IsNextRunning, IsNextIn, Extends, Legal}
 use Rattle.p8_history.proofs.Changes.{decided, same-cog, runs-begins, begun-same, begun-new, since_begin-new, since_begin-own, since_begin-other}
 use Rattle.p8_lives.specs.Lives.{asks}
 use Rattle.p8_meaning.specs.Programs.{Program, Addresses}
-use Rattle.p8_told_lives.specs.Lives.{starts_by, is_started, turns_of_life, IsLife}
+use Rattle.p8_told_lives.specs.Lives.{starts_by, is_started, turns_of_life}
 use Rattle.p8_told_lives.specs.Told.{IsSpin, IsTold, SpinIsTold, IsWorldOf}
 use Rattle.p8_told_lives.proofs.Starts.{StaysInProject, IsOfProject}
 use Rattle.p8_told_lives.proofs.SpinLives.{CodeIsTold, follows-told}
@@ -87,10 +87,11 @@ module _ (program : Program) (addresses : Addresses) (w : World) (world : IsWorl
     begins-lived : Lived []
     begins-lived = record {
       follows = life-none program addresses w world code n first.key.clock origin;
-      still = λ none. inl
-          (ap (changed (cog_state w before n)) (begins-runs n first.key.clock first.key.cog first.access first.answer begins) ∙ ap Running started_with,
-          begun-new w before first n begins ∙ ap (λ (o : Origin). Some (begun_at w n first.key.clock o)) started_with,
-          since_begin-new w before first n begins);
+      still = λ none. inl (
+        ap (changed (cog_state w before n)) (begins-runs n first.key.clock first.key.cog first.access first.answer begins) ∙ ap Running started_with,
+        begun-new w before first n begins ∙ ap (λ (o : Origin). Some (begun_at w n first.key.clock o)) started_with,
+        since_begin-new w before first n begins,
+      );
     }
 
     -- a turn that begins and starts nothing of this cog

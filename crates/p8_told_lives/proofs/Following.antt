@@ -1,13 +1,12 @@
 -- A life that goes course by course, followed turn by turn: as long as each turn is that of the access which is asked, the reading with clocks
 -- and the one without stand at the same course, and few courses have been begun.
 use Rattle.std.proofs.Common.{◌≡◌, refl, sym, ap, subst, ◌∙◌, arith, ℕ, zero, suc, ◌+◌, ◌*◌, ◌<◌, ◌≤◌, Bool, true, false, if◌then◌else◌, List, [], ◌∷◌, ◌++◌, map, append_assoc, append-nil}
-use Rattle.p8_access.specs.declared.kinds.Reason.{Reason}
 use Rattle.p8_access.specs.declared.kinds.Access.{Access}
 use Rattle.p8_access.specs.declared.kinds.Access.TheVariants as access_case
 use Rattle.p8_access.specs.declared.kinds.Answer.{Answer}
 use Rattle.p8_access.specs.declared.order.Turn.{Turn}
 use Rattle.p8_access.specs.Lives.{is_last, IsOnTime}
-use Rattle.p8_courses.specs.Courses.{Course, Finish, Stop, Ask, Told, Wants, Leaves, Closes, told}
+use Rattle.p8_courses.specs.Courses.{Course, Finish, Stop, Ask, Closes, told}
 use Rattle.p8_courses.specs.Timing.{Outcome, Asks, Goes, Ends, earliest, behind, played}
 use Rattle.p8_courses.specs.Replays.{Engine, step, after, replayed, told_step, told_after, retold, answer_of}
 use Rattle.p8_courses.specs.Replaying.{earliest-from, behind-later, after-asks, after-ends, asked-from}

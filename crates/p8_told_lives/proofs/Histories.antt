@@ -1,31 +1,30 @@
 -- In a history of a world that begins with a project, each cog runs Propeller Assembly or a method of the project, and a life of Spin follows its
 -- turns.
-use Rattle.std.proofs.Common.{◌≡◌, ◌⊎◌, inl, inr, refl, sym, ap, subst, ◌∙◌, arith, cond, ℕ, zero, suc, ◌+◌, ◌*◌, ◌<◌, ◌≤◌, ◌==◌, ◌&&◌, nat_le, Bool, true, false, if◌then◌else◌, List, [], ◌∷◌, ◌++◌, map, length, Option, Some, None, find}
+use Rattle.std.proofs.Common.{◌≡◌, ◌⊎◌, inl, inr, refl, sym, ap, subst, ◌∙◌, arith, cond, ℕ, suc, ◌+◌, ◌*◌, ◌<◌, ◌==◌, ◌&&◌, nat_le, Bool, true, false, if◌then◌else◌, List, [], ◌∷◌, ◌++◌, map, Option, Some, None, find}
 use Rattle.std.specs.Prelude.{All}
-use Rattle.std.proofs.lemmas.Bool.Decides.{nat_tests}
 use Rattle.p8_access.specs.declared.kinds.Origin.{Origin}
 use Rattle.p8_access.specs.declared.kinds.Origin.TheVariants.{Pasm, Spin}
 use Rattle.p8_access.specs.declared.kinds.Reason.TheVariants.{Rom}
 use Rattle.p8_access.specs.declared.kinds.Access.{Access}
 use Rattle.p8_access.specs.declared.kinds.Access.TheVariants.{Begin, Load, Read, Write, CogId, CogInit, CogStop, LockNew, LockRet, LockSet, LockClr, ClkSet, PinsIn, OutSet, DirSet, Wait, Clock, Halt}
 use Rattle.p8_access.specs.declared.kinds.Answer.{Answer}
-use Rattle.p8_access.specs.declared.kinds.Answer.TheVariants.{Done, Value, Number, Was}
+use Rattle.p8_access.specs.declared.kinds.Answer.TheVariants.{Number}
 use Rattle.p8_access.specs.declared.order.Turn.{Turn}
 use Rattle.p8_access.specs.Proper.{IsNumber}
-use Rattle.p8_access.specs.Lives.{Begun, PasmBegun, SpinBegun}
+use Rattle.p8_access.specs.Lives.{Begun}
 use Rattle.p8_bcog.specs.Replay.{engine_of, enters_at, first_of}
 use Rattle.p8_history.specs.declared.states.CogState.{CogState}
 use Rattle.p8_history.specs.declared.states.CogState.TheVariants.{Stopped, Starting, Running}
 use Rattle.p8_history.specs.Worlds.{World}
 use Rattle.p8_history.specs.Hub.{cogs, is_number, is_stopped, stopped_cog, Change, Starts, Runs, Stops, change_by, change_of, changed, cog_state, origin_of}
-use Rattle.p8_history.specs.Histories.{answer_to, first_access, is_begin, begins_life, begun_at, begun, since_begin, IsNextRunning, IsNextIn, IsNext, Extends, Legal}
+use Rattle.p8_history.specs.Histories.{answer_to, first_access, is_begin, begins_life, begun_at, begun, since_begin, IsNextRunning, IsNextIn, Extends, Legal}
 use Rattle.p8_history.proofs.Nexts.{due-late, due-on_time, some-injective}
 use Rattle.p8_history.proofs.Changes.{decided, same-cog, picked, runs-begins, none-begins, begun-same, begun-new, since_begin-new, since_begin-own, since_begin-other}
 use Rattle.p8_lives.specs.Lives.{asks}
 use Rattle.p8_meaning.specs.Programs.{Program, Addresses, Target}
 use Rattle.p8_meaning.specs.Lives.{IsMethodOrigin}
 use Rattle.p8_told_lives.specs.Told.{access_of, IsWorldOf}
-use Rattle.p8_told_lives.proofs.Starts.{StaysInProject, IsOfProject, IsNamed}
+use Rattle.p8_told_lives.proofs.Starts.{StaysInProject, IsOfProject}
 use Rattle.p8_told_lives.proofs.Following.{Follows, follows-none, follows-more, map-push}
 use Rattle.p8_told_lives.proofs.Assembly.{assembly-starts}
 use Rattle.p8_told_lives.proofs.SpinLives.{CodeIsTold, bytecodes-paced, follows-starts}

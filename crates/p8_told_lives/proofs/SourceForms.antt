@@ -1,5 +1,5 @@
 -- Each form of a method whose code stands in a memory starts methods of the project alone.
-use Rattle.std.proofs.Common.{◌≡◌, refl, sym, ap, subst, ◌∙◌, arith, ℕ, zero, suc, ◌+◌, ◌*◌, ◌%◌, ◌^◌, ◌<◌, ◌==◌, Bool, true, false, if◌then◌else◌, nat_lt, ltb-true, List, [], ◌∷◌, ◌++◌, length, Option, Some, None, not}
+use Rattle.std.proofs.Common.{◌≡◌, refl, sym, ap, subst, ◌∙◌, arith, ℕ, ◌+◌, ◌*◌, ◌%◌, ◌^◌, ◌<◌, ◌==◌, Bool, true, false, if◌then◌else◌, nat_lt, ltb-true, List, [], ◌∷◌, ◌++◌, length, Option, Some, None}
 use Rattle.std.specs.Prelude.{slice_get}
 use Rattle.std.specs.Str.{bytes_eq}
 use Rattle.std.proofs.Math.ListN.{length-append}
@@ -14,11 +14,11 @@ use Rattle.p8_tree.specs.Statements.{Course as Loop, Forever, Count, Before, Aft
 use Rattle.p8_kinds.specs.declared.name_kinds.NameKind.{NameKind}
 use Rattle.p8_kinds.specs.declared.name_kinds.NameKind.TheVariants as kind_case
 use Rattle.p8_meaning.specs.Values.{difference, is_between, holds, stepped}
-use Rattle.p8_meaning.specs.Programs.{Program, Addresses, File, Instance, Target, Scope, own_target, object_target, target_of, method_named, methods_in, instance_at, locals_size, setting_of, frame_size}
-use Rattle.p8_meaning.specs.Doing.{Rest, Gives, untold, given}
+use Rattle.p8_meaning.specs.Programs.{Program, Addresses, File, Target, Scope, own_target, object_target, target_of, method_named, methods_in, instance_at, locals_size, setting_of}
+use Rattle.p8_meaning.specs.Doing.{Rest, Gives}
 use Rattle.p8_meaning.specs.Variables.{Location, element, named, part}
 use Rattle.p8_meaning.specs.Builtins.{new_cog, cog_named, long_address}
-use Rattle.p8_meaning.specs.Calls.{Returned, Value, Result, uses, Callee, calls, starts_method, method_of}
+use Rattle.p8_meaning.specs.Calls.{Returned, Value, Result, Callee, calls, starts_method, method_of}
 use Rattle.p8_meaning.specs.Expressions as expressions
 use Rattle.p8_meaning.specs.Statements as statements
 use Rattle.p8_meaning.specs.Statements.{Body}
@@ -139,21 +139,23 @@ module _ (program : Program) (addresses : Addresses) where
 
     started : (id number : ℕ) (m : MethodTree) → method_of file number ≡ Some m → (arguments : List ℕ) → length arguments ≡ length m.params → (stack : ℕ) →
         StaysInProject program addresses (asked.CogInit (cog_named id) (Spin ((target.instance.base + addresses.code target.instance.file number) % 2 ^ 16) target.instance.base target.instance.variables (long_address stack) ((4 * length arguments + locals_size (setting_of file 0) m.locals) % 2 ^ 16)))
-    started id number m is_method arguments arity stack =
-        (named-number id (nat_lt id 8) refl, record {
-          target = record { instance = target.instance; method = number };
-          frame = long_address stack;
-          is_method = record {
-            file = file;
-            tree = m;
-            is_instance = is_instance;
-            is_file = is_file;
-            is_method = is_method;
-            is_frame = long-frame stack;
-            is_origin = ap (Spin ((target.instance.base + addresses.code target.instance.file number) % 2 ^ 16) target.instance.base target.instance.variables (long_address stack))
-                (size-is (length arguments) (length m.params) (locals_size (setting_of file 0) m.locals) arity (fits target.instance.file file is_file number m is_method));
-          };
-        })
+    started id number m is_method arguments arity stack = (
+      named-number id (nat_lt id 8) refl,
+      record {
+        target = record { instance = target.instance; method = number };
+        frame = long_address stack;
+        is_method = record {
+          file = file;
+          tree = m;
+          is_instance = is_instance;
+          is_file = is_file;
+          is_method = is_method;
+          is_frame = long-frame stack;
+          is_origin = ap (Spin ((target.instance.base + addresses.code target.instance.file number) % 2 ^ 16) target.instance.base target.instance.variables (long_address stack))
+              (size-is (length arguments) (length m.params) (locals_size (setting_of file 0) m.locals) arity (fits target.instance.file file is_file number m is_method));
+        };
+      },
+    )
 
     starts_method-holds : (id : ℕ) (used : Bool) (k : Option NameKind) (count p q : ℕ) → standing.StartAt t used k count p q → (arguments : List ℕ) → length arguments ≡ count → (stack : ℕ) {g : ℕ → Rest} → L g → H (starts_method s id (own_target s k) arguments stack g)
     starts_method-holds id used (Some (kind_case.Method number params)) count p q h arguments arity stack g =

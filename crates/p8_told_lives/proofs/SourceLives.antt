@@ -1,5 +1,5 @@
 -- What a method says starts methods of its project alone.
-use Rattle.std.proofs.Common.{◌≡◌, ℕ, zero, suc, List, [], ◌∷◌, Option, Some}
+use Rattle.std.proofs.Common.{◌≡◌, ℕ, zero, suc, List, [], ◌∷◌, Some}
 use Rattle.std.specs.Prelude.{slice_get, All}
 use Rattle.std.proofs.lemmas.List.Elements.{All-nil}
 use Rattle.p8_access.specs.declared.kinds.Access.TheVariants.{CogStop}

@@ -1,13 +1,11 @@
 -- A source starts methods of its project alone: a property of what is still to be done, which each form keeps.
-use Rattle.std.proofs.Common.{◌≡◌, refl, sym, ap, subst, ◌∙◌, arith, ℕ, zero, suc, ◌+◌, ◌-◌, ◌*◌, ◌%◌, ◌^◌, ◌<◌, ◌==◌, Bool, true, false, if◌then◌else◌, nat_lt, ltb-true, List, [], ◌∷◌, ◌++◌, length, Option, Some, None}
-use Rattle.std.specs.Prelude.{slice_get, All}
+use Rattle.std.proofs.Common.{◌≡◌, refl, arith, ℕ, zero, suc, ◌+◌, ◌-◌, ◌*◌, ◌%◌, ◌^◌, ◌<◌, ◌==◌, Bool, true, false, if◌then◌else◌, nat_lt, ltb-true, List, [], ◌∷◌, ◌++◌, Option, Some, None}
+use Rattle.std.specs.Prelude.{All}
 use Rattle.std.proofs.lemmas.List.Elements.{All-push}
-use Rattle.std.proofs.Math.ListN.{length-append}
 use Rattle.p8_access.specs.declared.kinds.Width.{Width}
 use Rattle.p8_access.specs.declared.kinds.Width.TheVariants.{Byte, Word, Long}
 use Rattle.p8_access.specs.declared.kinds.Test.{Test}
 use Rattle.p8_access.specs.declared.kinds.Test.TheVariants as test_case
-use Rattle.p8_access.specs.declared.kinds.Origin.TheVariants.{Spin}
 use Rattle.p8_access.specs.declared.kinds.Reason.{Reason}
 use Rattle.p8_access.specs.declared.kinds.Reason.TheVariants as Why
 use Rattle.p8_access.specs.declared.kinds.Access.{Access}
@@ -15,14 +13,13 @@ use Rattle.p8_access.specs.declared.kinds.Access.TheVariants as asked
 use Rattle.p8_access.specs.declared.kinds.Answer.{Answer}
 use Rattle.p8_access.specs.Proper.{bytes_in, IsNumber, IsLongAddress}
 use Rattle.p8_access.specs.Lives.{is_last}
-use Rattle.p8_courses.specs.Courses.{Course, Finish, Stop, Ask, Told, Wants, Closes, told}
-use Rattle.p8_tree.specs.Sources.{MethodTree}
+use Rattle.p8_courses.specs.Courses.{Course, Finish, Stop, Ask, Told, told}
 use Rattle.p8_meaning.specs.Bounds.{made_of}
 use Rattle.p8_meaning.specs.Values.{count_of, with_pins, pins_of}
-use Rattle.p8_meaning.specs.Programs.{Program, Addresses, File, Target, Scope, locals_size, setting_of, frame_size}
+use Rattle.p8_meaning.specs.Programs.{Program, Addresses, Scope}
 use Rattle.p8_meaning.specs.Doing.{aligned, Registers, Rest, untold, costs, halts, word_in, asks, tells, is_readable, reads, writes, writes_longs, next_address, given}
 use Rattle.p8_meaning.specs.Variables.{Location, Hub, Pins, own_word, fetches, stores, reads_register, writes_register, assigns, replaces, changes, changes_alone}
-use Rattle.p8_meaning.specs.Builtins.{fills, moves, measures, compares, waits_for, cog_named, long_address, does_none, does_one, does_two, does_three}
+use Rattle.p8_meaning.specs.Builtins.{fills, moves, measures, compares, waits_for, long_address, does_none, does_one, does_two, does_three}
 use Rattle.p8_meaning.specs.Calls.{Returned, Value, Result, uses}
 use Rattle.p8_meaning.specs.Expressions as expressions
 use Rattle.p8_meaning.specs.Loops.{passes, counted}
