@@ -1,0 +1,7 @@
+mod Numbering
+mod Targets
+mod Looking
+mod Descending
+mod OneChild
+mod OneRow
+mod Showing

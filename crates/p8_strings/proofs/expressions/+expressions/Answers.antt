@@ -1,0 +1,29 @@
+use Rattle.std.proofs.Common.{◌≡◌, ◌++◌, OnOk, sym, ap, ◌∙◌, subst, arith}
+use Rattle.std.proofs.lemmas.Grind.{common_steps}
+use Rattle.p8_tree.specs.Views.{form_of}
+use Rattle.p8_tree.specs.Bridges.{built_is, look_is}
+use Rattle.p8_fold.proofs.Rows.{call_form}
+use Rattle.p8_strings.specs.Strings.{in_form}
+use Rattle.p8_strings.specs.Views.{texts_of}
+use Rattle.p8_strings.proofs.Rows.{trees_next, items_next}
+use Rattle.p8_strings.proofs.expressions.+expressions.Goals as goal
+
+pub put_call-returns : goal.put_call-returns
+put_call-returns t c = λ place.
+    subst (λ f. OnOk c.put_trees.result (texts_of c.put_trees.new.texts.items ≡ texts_of c.args.texts.now.items ++ in_form place f)) (sym (call_form c.args.call.now)) (grind (arith, common_steps))
+
+pub put_tree-returns-in-Built : goal.put_tree-returns-in-Built
+put_tree-returns-in-Built t c =
+    subst (λ f. OnOk c.put_trees.result (texts_of c.put_trees.new.texts.items ≡ texts_of c.args.texts.now.items ++ in_form c.args.expr.now.place f)) (sym (ap form_of c.in-Built.is ∙ built_is _ c.in-Built.arguments)) (grind (arith, common_steps))
+
+pub put_tree-returns-in_ok-put_tree-in-Look : goal.put_tree-returns-in_ok-put_tree-in-Look
+put_tree-returns-in_ok-put_tree-in-Look t c =
+    subst (λ f. OnOk c.put_items.result (texts_of c.put_items.new.texts.items ≡ texts_of c.args.texts.now.items ++ in_form c.args.expr.now.place f)) (sym (ap form_of c.in-Look.is ∙ look_is _ c.in-Look.value c.in-Look.items)) (grind (arith, common_steps))
+
+pub put_trees-loop-tree-preserved : goal.put_trees-loop-tree-preserved
+put_trees-loop-tree-preserved t c =
+    trees_next c.args.trees.now c.loop-tree.tree-index c.tree-item.result (texts_of c.args.texts.now.items) (texts_of c.loop-tree.texts.items) c.loop-tree-test.true c.tree-item.is c.loop-tree.invariant c.in_ok-put_tree.ensures
+
+pub put_items-loop-item-preserved : goal.put_items-loop-item-preserved
+put_items-loop-item-preserved t c =
+    items_next c.args.items.now c.loop-item.item-index c.item-item.result (texts_of c.args.texts.now.items) (texts_of c.loop-item.texts.items) c.loop-item-test.true c.item-item.is c.loop-item.invariant c.in_ok-put_item.ensures

@@ -1,0 +1,11 @@
+use Rattle.std.proofs.Common.{◌≡◌, ◌++◌, take}
+use Rattle.p8_tree.specs.Views.{trees_of, items_of}
+use Rattle.p8_strings.specs.Strings.{in_trees, in_items}
+use Rattle.p8_strings.specs.Views.{texts_of}
+use Rattle.p8_strings.proofs.expressions.+expressions.Given as goal
+
+abbrev pub invariant-put_trees-loop-tree : goal.invariant-put_trees-loop-tree
+invariant-put_trees-loop-tree l = texts_of l.texts.items ≡ texts_of l.initial.texts.items ++ in_trees (trees_of (take l.tree-index l.trees))
+
+abbrev pub invariant-put_items-loop-item : goal.invariant-put_items-loop-item
+invariant-put_items-loop-item l = texts_of l.texts.items ≡ texts_of l.initial.texts.items ++ in_items (items_of (take l.item-index l.items))

@@ -1,0 +1,8 @@
+-- What the code's values stand for.
+use Rattle.std.specs.Prelude.{List, map}
+use Rattle.p8_strings.specs.declared.texts.StringText.{StringText}
+use Rattle.p8_strings.specs.Strings.{Texts}
+
+-- texts with their places
+abbrev pub texts_of : List StringText → Texts
+texts_of ts = map (λ t. (t.place, t.text.now)) ts
