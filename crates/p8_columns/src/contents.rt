@@ -77,12 +77,7 @@ fn with_choices(
         LineKind::Case(value) => {
             with_statement(statements, place, StmtKind::Case(value, arms, other))
         }
-        kind => {
-            drop(kind);
-            drop(arms);
-            drop(other);
-            Ok(statements)
-        }
+        _ => Ok(statements),
     }
 }
 
@@ -100,15 +95,8 @@ fn with_item(
             let arms = with_another(arms, choice(tests, body))?;
             Ok(Contents::Choices(arms, other))
         }
-        LineKind::Other => {
-            drop(other);
-            Ok(Contents::Choices(arms, Some(body)))
-        }
-        kind => {
-            drop(kind);
-            drop(body);
-            Ok(Contents::Choices(arms, other))
-        }
+        LineKind::Other => Ok(Contents::Choices(arms, Some(body))),
+        _ => Ok(Contents::Choices(arms, other)),
     }
 }
 
@@ -144,12 +132,7 @@ fn with_case_block(
 {
     match inner {
         Contents::Body(body) => with_item(arms, other, line.kind, body),
-        Contents::Choices(inner_arms, inner_other) => {
-            drop(inner_arms);
-            drop(inner_other);
-            drop(line);
-            Ok(Contents::Choices(arms, other))
-        }
+        Contents::Choices(_, _) => Ok(Contents::Choices(arms, other)),
     }
 }
 

@@ -104,10 +104,7 @@ fn chained(statement: Stmt, arm: Arm) -> Result<Stmt, AllocError>
     let Stmt { place, kind } = statement;
     match kind {
         StmtKind::If(arms, other) => chain_with(place, arms, other, arm),
-        kind => {
-            drop(arm);
-            Ok(Stmt { place, kind })
-        }
+        kind => Ok(Stmt { place, kind }),
     }
 }
 
@@ -157,10 +154,7 @@ fn ended(statement: Stmt, body: Vec<Stmt>) -> Stmt
     let Stmt { place, kind } = statement;
     match kind {
         StmtKind::If(arms, other) => chain_ended(place, arms, other, body),
-        kind => {
-            drop(body);
-            Stmt { place, kind }
-        }
+        kind => Stmt { place, kind },
     }
 }
 
