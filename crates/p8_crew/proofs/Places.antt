@@ -1,5 +1,5 @@
 -- Which passes are there while jobs are made and while they come back, and the jobs themselves.
-use Rattle.std.proofs.Common.{◌≡◌, ◌≢◌, ◌∙◌, ap, sym, subst, refl, ℕ, zero, suc, ◌+◌, ◌<◌, ◌≤◌, List, [], ◌∷◌, ◌++◌, Option, Some, None, length, arith}
+use Rattle.std.proofs.Common.{◌≡◌, ◌≢◌, ◌∙◌, ap, sym, subst, refl, ℕ, suc, ◌+◌, ◌<◌, ◌≤◌, List, [], ◌∷◌, ◌++◌, Option, Some, None, length, arith}
 use Rattle.std.specs.Prelude.{slice_get, slice_set}
 use mathlib.Core.Logic.{dite, inr}
 use native.Mathlib.Decide.{ℕ_discrete}
@@ -49,6 +49,13 @@ module _ (desk : DeskValue) where
     behind = λ n le lt. absurd (omega arith);
   }
 
+  -- the desk owns the pass that is taken, which is that cog's
+  pub taken-owns : (places : List (Option PassValue)) (low : ℕ) (pass : PassValue) → AreThere desk low 8 places → low < 8 → slice_get places low ≡ Some (Some pass) → Owns desk pass × (pass.cog ≡ low)
+  taken-owns places low pass there near at =
+      let was = there.inside low (omega arith) near in
+      let same = some-some was.pass pass (sym was.at ∙ at) in
+      (subst (Owns desk) same was.owns, ap (λ (p : PassValue). p.cog) (sym same) ∙ was.cog)
+
   -- a pass is put behind those that are there
   pub one-put : (places next : List (Option PassValue)) (high : ℕ) (pass : PassValue) → AreThere desk 0 high places → high < 8 → Owns desk pass → pass.cog ≡ high → next ≡ slice_set places high (Some pass) → AreThere desk 0 (high + 1) next
   one-put places next high pass there near owns cog is = record {
@@ -71,13 +78,6 @@ module _ (desk : DeskValue) where
   pub are-all-there : (places : List (Option PassValue)) → AreThere desk 0 8 places → AllThere desk places
   are-all-there places there = record {
     each = λ n lt. let was = there.inside n (omega arith) lt in (was.pass, was.at, was.owns, was.cog);
-  }
-
-  pub all-out : (places : List (Option PassValue)) → AreThere desk 8 8 places → AreThere desk 0 0 places
-  all-out places there = record {
-    inside = λ n le lt. absurd (omega arith);
-    before = λ n lt. absurd (omega arith);
-    behind = λ n le lt. there.before n lt;
   }
 
   -- a job at the end of others

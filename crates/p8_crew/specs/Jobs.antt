@@ -1,5 +1,5 @@
 -- What comes back of a job.
-use Rattle.std.specs.Prelude.{ℕ, ◌≡◌, ◌⊎◌, true}
+use Rattle.std.specs.Prelude.{◌≡◌, ◌⊎◌, true}
 use Rattle.p8_desk.specs.Passes.{PassValue}
 
 -- a pass that comes back of a job: it is of the same desk and cog as the one that the job had, and is over or as that was

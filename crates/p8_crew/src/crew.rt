@@ -15,8 +15,8 @@ ghost use Rattle.p8_machine.specs.Worlds.{world_of};
 
 use crate::job::CogJob;
 use crate::jobs::Crew;
-use crate::ticket::start;
 use crate::starter::Starter;
+use crate::ticket::start;
 use p8_desk::{Desk, Passes, drive_all};
 use p8_machine::Ended;
 use p8_words::NoMemory;

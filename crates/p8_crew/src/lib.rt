@@ -9,9 +9,9 @@ mod jobs;
 mod starter;
 mod ticket;
 
-pub use adapters::{FailStarter, ThreadStarter};
+pub use adapters::{FailStarter, PlainWorker, ThreadStarter};
 pub use crew::run_crew;
 pub use gate::Gate;
 pub use job::CogJob;
-pub use ticket::{Ticket, start};
 pub use starter::{Starter, Worker};
+pub use ticket::{Ticket, start};

@@ -66,13 +66,7 @@ fn work<R: Wait + Drop, W: Worker>(own: R, worker: W, job: CogJob) -> CogPass
 fn start_worker<
     R: Threads + Wait + Clone + Send + Drop + 'static,
     W: Worker + Send + Drop + 'static,
->(
-    rt: &R,
-    own: R,
-    worker: W,
-    gate: &Gate,
-    job: CogJob,
-) -> Result<Ticket, CogPass>
+>(rt: &R, own: R, worker: W, gate: &Gate, job: CogJob) -> Result<Ticket, CogPass>
     requires { Owns (arc_value job.desk) job.pass }
     ensures started { IfOk result (λ ticket. ticket ≡ job.pass) }
     ensures back { IfErr result (λ pass. ComesBack job.pass pass) }

@@ -1,7 +1,7 @@
 use Rattle.std.proofs.Common.{◌∙◌, ◌+◌, ap, sym, subst, refl, ℕ, length, arith}
 use Rattle.p8_crew.specs.Crews.{AreJobs, IsJob, AreThere}
 use Rattle.p8_desk.specs.Passes.{DeskValue}
-use Rattle.p8_crew.proofs.Places.{all-are-there, all-out, one-more-job, count-last}
+use Rattle.p8_crew.proofs.Places.{all-are-there, one-more-job, count-last}
 use Rattle.p8_crew.proofs.jobs.Crew.jobs.Goals as goal
 
 pub loop-cog-init : goal.loop-cog-init
