@@ -5,6 +5,7 @@ pub mod Pieces
 pub mod Variables
 pub mod Expressions
 pub mod Statements
+pub mod Methods
 pub mod Depths
 pub mod Operations
 pub mod Uses

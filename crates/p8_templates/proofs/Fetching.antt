@@ -12,7 +12,8 @@ use Rattle.p8_bytecode.specs.Spelling.{spelled, IsOp, IsOffset}
 use Rattle.p8_bytecode.proofs.ReadBack.{read-back}
 use Rattle.p8_bcog.specs.Code.{code_of, code_end, fetched}
 use Rattle.p8_gen.specs.Pieces.{Written, offset, is_near, told}
-use Rattle.p8_templates.specs.Placing.{bytes_of, HasCode}
+use Rattle.p8_gen.specs.Methods.{bytes_of}
+use Rattle.p8_templates.specs.Placing.{HasCode}
 use Rattle.p8_templates.proofs.Truths.{at-most, below, both-true, if-no, if-yes, less, not-less}
 
 -- ---- lists

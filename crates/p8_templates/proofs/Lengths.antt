@@ -18,7 +18,7 @@ use Rattle.p8_gen.specs.Expressions.{pasm, started, built_without, own_method, m
 use Rattle.p8_gen.specs.Statements.{Loop, inside, goes_on, leaves, with_value, test_of, tests, step_of, step_effect, plain_name, zero_jump, code, code_of, body, chain, other_body, all_tests, case_bodies}
 use Rattle.p8_bytecode.specs.declared.operands.Operands.TheVariants.{Offset}
 use Rattle.p8_bytecode.specs.Table.{operands_of}
-use Rattle.p8_templates.specs.Placing.{bytes_of, method_code}
+use Rattle.p8_gen.specs.Methods.{bytes_of, method_code}
 use Rattle.p8_templates.proofs.Fetching.{appended}
 use Rattle.p8_templates.proofs.Standing.{jump_op, jump-size}
 use Rattle.p8_templates.proofs.Memory.{with_jump}

@@ -9,7 +9,8 @@ use Rattle.p8_gen.specs.Names.{Names}
 use Rattle.p8_gen.specs.Pieces.{empty}
 use Rattle.p8_keeps.specs.Standing.{Compiled}
 use Rattle.p8_keeps.specs.Bodies.{MethodAt}
-use Rattle.p8_templates.specs.Placing.{HasCode, IsNear, AreOps, method_code}
+use Rattle.p8_gen.specs.Methods.{method_code}
+use Rattle.p8_templates.specs.Placing.{HasCode, IsNear, AreOps}
 use Rattle.p8_templates.specs.Agreeing.{Agrees, environment}
 use Rattle.p8_templates.proofs.Standing.{both}
 use Rattle.p8_templates.proofs.Bytecodes.{return-result-stand}

@@ -5,10 +5,11 @@ ghost use Rattle.p8_tree.specs.Proper.{AreProperStatements};
 ghost use Rattle.p8_tree.specs.Nesting.{leave_loops};
 ghost use Rattle.p8_faults.specs.declared.faults.Fault.{Fault};
 ghost use Rattle.p8_kinds.specs.Misuses.{MisuseInStatements};
+ghost use Rattle.p8_gen.specs.Methods.{bytes_of, method_code};
 ghost use Rattle.p8_gen.specs.Names.{Names};
 ghost use Rattle.p8_keeps.specs.Standing.{Compiled};
 ghost use Rattle.p8_keeps.specs.Bodies.{MethodAt};
-ghost use Rattle.p8_templates.specs.Placing.{HasCode, IsNear, AreOps, bytes_of, method_code};
+ghost use Rattle.p8_templates.specs.Placing.{HasCode, IsNear, AreOps};
 ghost use Rattle.p8_templates.specs.Agreeing.{Agrees, environment};
 
 /// Law: where a memory has the bytes of a method's code, there stands the method, in the sense in which code keeps its meaning.

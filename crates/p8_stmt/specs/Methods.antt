@@ -1,0 +1,49 @@
+-- What a method is compiled to, and which method can't be.
+-- Sources: the public Spin bytecode listing of the Propeller P8X32A; the limits, numbers and places are this project's profile.
+use Rattle.std.specs.Prelude.{◌≡◌, ℕ, ◌+◌, ◌*◌, ◌<◌, List, [], ◌∷◌, length, map, flat_map, take, Contains}
+use Rattle.p8_tree.specs.declared.places.Place.{Place}
+use Rattle.p8_tree.specs.Sources.{Declared, MethodTree}
+use Rattle.p8_faults.specs.declared.faults.Fault.{Fault}
+use Rattle.p8_faults.specs.Faults.{fault}
+use Rattle.p8_fold.specs.Meanings.{Setting}
+use Rattle.p8_bytecode.specs.Spelling.{spelled}
+use Rattle.p8_gen.specs.Names.{Names}
+use Rattle.p8_gen.specs.Pieces.{Written}
+use Rattle.p8_gen.specs.Methods.{bytes_of, method_code}
+use Rattle.p8_gen.specs.Depths.{held_in}
+use Rattle.p8_gen.specs.Uses.{use_of}
+use Rattle.p8_stmt.specs.declared.code.MethodCode.{MethodCode}
+
+-- ---- code
+
+-- the longs of a method's locals (p8_gen or p8_fold may have the count of one: cite it)
+abbrev pub longs_in : Setting → List Declared → ℕ
+longs_in s [] = 0
+longs_in s (x ∷ xs) = count_in s x.count + longs_in s xs
+
+-- a use of a text in code: where among the bytes the two bytes of the text's offset stand, and where the text stands in the source
+abbrev pub use_in : Written → ℕ × Place → ℕ × Place
+use_in w u = (length (flat_map spelled (take u.0 w.ops)) + 1, u.1)
+
+-- The code of a method: its bytes, with 0 for the offset of each text; the bytes of its locals; how many longs it holds at once
+-- on the operand stack; and its uses of texts.
+pub record IsCodeOf (names : Names) (m : MethodTree) (code : MethodCode) : Type 0 where
+  pub bytes : code.bytes ≡ bytes_of (method_code names m.body)
+  pub locals : code.locals ≡ 4 * longs_in names.constants m.locals
+  pub depth : code.depth ≡ held_in names m.body
+  pub strings : map use_of code.strings ≡ map (use_in (method_code names m.body)) (method_code names m.body).texts
+
+-- ---- refusals
+
+-- how many longs a frame may have, with its result, and how many a method may hold on the operand stack
+abbrev pub most_longs : ℕ
+most_longs = 2048
+
+abbrev pub most_held : ℕ
+most_held = 128
+
+-- 25 at a statement with a jump that goes too far; 26 at the name of a method whose frame is too large, or that holds too much
+pub data IsMethodFault (names : Names) (m : MethodTree) (f : Fault) : Type 0 where
+  jump_too_far : (place : Place) → Contains (method_code names m.body).too_far place → fault 25 place ≡ f → IsMethodFault names m f
+  frame_too_large : most_longs < 1 + length m.params + longs_in names.constants m.locals → fault 26 m.place ≡ f → IsMethodFault names m f
+  holds_too_much : most_held < held_in names m.body → fault 26 m.place ≡ f → IsMethodFault names m f
