@@ -359,7 +359,7 @@ impl Coder<'_> {
 
 /// How a built-in is written.
 #[derive(Clone, Copy)]
-pub(crate) enum BuiltForm {
+pub enum BuiltForm {
     /// A word without arguments.
     Word,
     /// `CONSTANT`.
@@ -372,8 +372,8 @@ pub(crate) enum BuiltForm {
     Plain,
 }
 
-// How a built-in of so many arguments is written.
-fn form_of_built(code: u8, count: usize) -> BuiltForm
+/// How a built-in with this bytecode and so many arguments is written.
+pub fn form_of_built(code: u8, count: usize) -> BuiltForm
     ensures { IsBuiltForm result code count }
 {
     match count {

@@ -13,6 +13,7 @@ mod writer;
 
 pub use code::{Code, StringUse, expr_code};
 pub use coder::{Coder, Tables};
+pub use expressions::{BuiltForm, form_of_built};
 pub use labels::Labels;
 pub use laws::{bytecodes_are_whole, places_change_no_length};
 pub use variables::{Base, Home, Operation};

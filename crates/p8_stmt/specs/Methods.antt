@@ -1,22 +1,51 @@
 -- What a method is compiled to, and which method can't be.
 -- Sources: the public Spin bytecode listing of the Propeller P8X32A; the limits, numbers and places are this project's profile.
-use Rattle.std.specs.Prelude.{◌≡◌, ℕ, ◌+◌, ◌*◌, ◌<◌, List, [], ◌∷◌, length, map, flat_map, take, Contains}
+use Rattle.std.specs.Prelude.{◌≡◌, ℕ, ◌+◌, ◌*◌, ◌<◌, false, IsTrue, List, [], ◌∷◌, length, map, flat_map, take, Contains, Option, Some, None}
 use Rattle.p8_tree.specs.declared.places.Place.{Place}
+use Rattle.p8_tree.specs.Expressions.{Tree}
+use Rattle.p8_tree.specs.Nesting.{leave_loops}
+use Rattle.p8_tree.specs.Proper.{AreProperStatements}
 use Rattle.p8_tree.specs.Sources.{Declared, MethodTree}
+use Rattle.p8_tree.specs.Statements.{Statements}
+use Rattle.p8_words.specs.declared.failure.Fail.{Fail}
+use Rattle.p8_words.specs.declared.failure.Fail.TheVariants as fail_case
 use Rattle.p8_faults.specs.declared.faults.Fault.{Fault}
 use Rattle.p8_faults.specs.Faults.{fault}
+use Rattle.p8_operators.specs.Operators.{or_zero}
 use Rattle.p8_fold.specs.Meanings.{Setting}
+use Rattle.p8_fold.specs.Values.{value}
+use Rattle.p8_kinds.specs.Environments.{Environment, kind_in}
+use Rattle.p8_kinds.specs.Misuses.{MisuseInStatements}
 use Rattle.p8_bytecode.specs.Spelling.{spelled}
 use Rattle.p8_gen.specs.Names.{Names}
+use Rattle.p8_gen.specs.Operations.{HaveBytes}
 use Rattle.p8_gen.specs.Pieces.{Written}
 use Rattle.p8_gen.specs.Methods.{bytes_of, method_code}
 use Rattle.p8_gen.specs.Depths.{held_in}
 use Rattle.p8_gen.specs.Uses.{use_of}
 use Rattle.p8_stmt.specs.declared.code.MethodCode.{MethodCode}
 
+-- ---- what is compiled
+
+-- Statements that were read and whose names were resolved: each NEXT and each QUIT stands in a loop, no name is used against
+-- its kind, and the numbers of methods and the places of objects have a byte.
+pub record AreResolved (names : Names) (ss : Statements) : Type 0 where
+  pub proper : AreProperStatements ss
+  pub loops : IsTrue (leave_loops false ss)
+  pub bytes : HaveBytes names
+  -- what was known of names when they were resolved
+  pub environment : Environment
+  pub kinds : (name : List ℕ) → names.kind name ≡ kind_in environment name
+  pub clean : (f : Fault) → ¬ MisuseInStatements environment ss f
+
 -- ---- code
 
--- the longs of a method's locals (p8_gen or p8_fold may have the count of one: cite it)
+-- a local has as many longs as its count says, or one where it has none
+abbrev pub count_in : Setting → Option Tree → ℕ
+count_in s None = 1
+count_in s (Some e) = or_zero (value s e)
+
+-- the longs of a method's locals
 abbrev pub longs_in : Setting → List Declared → ℕ
 longs_in s [] = 0
 longs_in s (x ∷ xs) = count_in s x.count + longs_in s xs
@@ -47,3 +76,8 @@ pub data IsMethodFault (names : Names) (m : MethodTree) (f : Fault) : Type 0 whe
   jump_too_far : (place : Place) → Contains (method_code names m.body).too_far place → fault 25 place ≡ f → IsMethodFault names m f
   frame_too_large : most_longs < 1 + length m.params + longs_in names.constants m.locals → fault 26 m.place ≡ f → IsMethodFault names m f
   holds_too_much : most_held < held_in names m.body → fault 26 m.place ≡ f → IsMethodFault names m f
+
+-- a refusal with a fault of which this holds; where there was no memory nothing is said
+abbrev pub IfRefused : (Fault → Type 0) → Fail Fault → Type 0
+IfRefused P (fail_case.Refused f) = P f
+IfRefused P fail_case.NoMemory = Unit {0}

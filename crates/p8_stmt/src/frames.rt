@@ -1,0 +1,37 @@
+// How large a method's frame is.
+ghost use Rattle.std.specs.Prelude.{◌≡◌, ◌+◌, ◌||◌, nat_lt, map, option_map};
+ghost use Rattle.p8_tree.specs.Views.{tree_of, declared_of};
+ghost use Rattle.p8_gen.specs.Scopes.{names_of};
+ghost use Rattle.p8_stmt.specs.Cutting.{cut_longs};
+ghost use Rattle.p8_stmt.specs.Methods.{count_in, longs_in, most_longs, most_held};
+
+use p8_gen::Coder;
+use p8_tree::{Expr, VarItem};
+
+/// The longs of a method's locals, or the greatest number of 32 bits where they are more.
+pub(crate) fn longs_in(coder: &Coder<'_>, locals: &[VarItem]) -> u32
+    ensures { result ≡ cut_longs (longs_in (names_of coder.now).constants (map declared_of locals.now)) }
+{
+    let mut longs: u32 = 0;
+    for local in locals {
+        longs = longs.saturating_add(count_in(coder, &local.count));
+    }
+    longs
+}
+
+// The longs of a local, by its count.
+fn count_in(coder: &Coder<'_>, count: &Option<Expr>) -> u32
+    ensures { result ≡ count_in (names_of coder.now).constants (option_map tree_of count.now) }
+{
+    match count {
+        None => 1,
+        Some(count) => coder.constant(count),
+    }
+}
+
+/// Whether a frame with so many parameters and longs of locals is too large, or too much is held on the operand stack.
+pub(crate) fn is_too_large(params: usize, longs: u32, held: u16) -> bool
+    ensures { result ≡ (nat_lt most_longs (1 + params + longs) || nat_lt most_held held) }
+{
+    params.saturating_add(longs as usize) >= 2048 || held > 128
+}

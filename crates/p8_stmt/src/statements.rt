@@ -1,0 +1,291 @@
+// The code of statements. The calls go as deep as blocks stand in one another.
+ghost use Rattle.std.specs.Prelude.{◌≡◌, OnOk};
+ghost use Rattle.p8_tree.specs.Views.{tree_of, course_of, arm_of, arms_of, statement_of, statements_of};
+ghost use Rattle.p8_gen.specs.Pieces.{Written, up_to_end};
+ghost use Rattle.p8_gen.specs.Statements.{code, body, all_tests, case_bodies};
+ghost use Rattle.p8_gen.specs.Writing.{Stands};
+ghost use Rattle.p8_stmt.specs.Walking.{names_at, loop_at, leap, arm_piece, branches, choices, case_piece, case_body, tests_of_arms, up_to_next, looped, loop_piece};
+
+use crate::context::Context;
+use crate::forms::{goes_to_begin, keeps_count, zero_jump};
+use p8_gen::{Coder, Writer};
+use p8_tree::{Arm, Expr, Loop, Stmt, StmtKind};
+use std::alloc::AllocError;
+
+impl Context<'_> {
+    /// Appends the code of statements, one after the other.
+    #[cycle(statements)]
+    pub fn body(&self, statements: &[Stmt], out: &mut Writer) -> Result<(), AllocError>
+        ensures { (w : Written) → Stands out.old w → OnOk result (Stands out.new (body (names_at self.now) (loop_at self.now) (statements_of statements.now) w)) }
+    {
+        for statement in statements {
+            self.statement(statement, out)?;
+        }
+        Ok(())
+    }
+
+    // Appends the code of one statement.
+    #[cycle(statements)]
+    fn statement(&self, statement: &Stmt, out: &mut Writer) -> Result<(), AllocError>
+        ensures { (w : Written) → Stands out.old w → OnOk result (Stands out.new (code (names_at self.now) (loop_at self.now) (statement_of statement.now) w)) }
+    {
+        let coder = Coder {
+            statement: statement.place,
+            ..self.coder
+        };
+        let here = Context { coder, ..*self };
+        match &statement.kind {
+            StmtKind::Do(expr) => here.coder.alone(expr, out),
+            StmtKind::If(arms, rest) => match rest {
+                None => here.chain(false, arms, &[], out),
+                Some(body) => here.chain(true, arms, body, out),
+            },
+            StmtKind::Case(value, arms, rest) => match rest {
+                None => here.case(value, arms, &[], out),
+                Some(body) => here.case(value, arms, body, out),
+            },
+            StmtKind::Repeat(course, body) => here.repeat(course, body, out),
+            StmtKind::Next => here.next(out),
+            StmtKind::Quit => here.quit(out),
+            StmtKind::Return(value) => here.with_value(value, 0x32, 0x33, out),
+            StmtKind::Abort(value) => here.with_value(value, 0x30, 0x31, out),
+        }
+    }
+
+    // Appends the arms of an IF and the body of its ELSE. Where it has one the last arm jumps to the end, as the others do.
+    #[cycle(statements)]
+    fn chain(
+        &self,
+        last_jumps: bool,
+        arms: &[Arm],
+        other: &[Stmt],
+        out: &mut Writer,
+    ) -> Result<(), AllocError>
+        ensures { (w : Written) → Stands out.old w → OnOk result (Stands out.new (up_to_end (branches (names_at self.now) (loop_at self.now) last_jumps (arms_of arms.now) (statements_of other.now)) w)) }
+    {
+        let mut counter = out.counter();
+        self.branches(last_jumps, 0, arms, other, &mut counter)?;
+        if out.counts(counter.end) {
+            Ok(())
+        } else {
+            self.branches(last_jumps, counter.end, arms, other, out)
+        }
+    }
+
+    // Appends the arms of an IF, which jump to a place, and the body of its ELSE.
+    #[cycle(statements)]
+    fn branches(
+        &self,
+        last_jumps: bool,
+        end: u32,
+        arms: &[Arm],
+        other: &[Stmt],
+        out: &mut Writer,
+    ) -> Result<(), AllocError>
+        ensures { (w : Written) → Stands out.old w → OnOk result (Stands out.new (branches (names_at self.now) (loop_at self.now) last_jumps (arms_of arms.now) (statements_of other.now) end w)) }
+    {
+        for (index, arm) in arms.iter().enumerate() {
+            self.arm(last_jumps || index + 1 < arms.len(), end, arm, out)?;
+        }
+        self.body(other, out)
+    }
+
+    // Appends an arm of an IF, which jumps to a place or not.
+    #[cycle(statements)]
+    fn arm(&self, jumps: bool, end: u32, arm: &Arm, out: &mut Writer) -> Result<(), AllocError>
+        ensures { (w : Written) → Stands out.old w → OnOk result (Stands out.new (up_to_end (arm_piece (names_at self.now) (loop_at self.now) (leap (names_at self.now) jumps end) (arm_of arm.now)) w)) }
+    {
+        let mut counter = out.counter();
+        self.arm_to(jumps, end, 0, arm, &mut counter)?;
+        if out.counts(counter.end) {
+            Ok(())
+        } else {
+            self.arm_to(jumps, end, counter.end, arm, out)
+        }
+    }
+
+    // Appends an arm of an IF, whose test jumps to the next one.
+    #[cycle(statements)]
+    fn arm_to(
+        &self,
+        jumps: bool,
+        end: u32,
+        next: u32,
+        arm: &Arm,
+        out: &mut Writer,
+    ) -> Result<(), AllocError>
+        ensures { (w : Written) → Stands out.old w → OnOk result (Stands out.new (arm_piece (names_at self.now) (loop_at self.now) (leap (names_at self.now) jumps end) (arm_of arm.now) next w)) }
+    {
+        self.test_of(arm.tests.as_slice(), out)?;
+        out.jump(self.coder.statement, zero_jump(arm.negated), next)?;
+        self.body(&arm.body, out)?;
+        self.leap(jumps, end, out)
+    }
+
+    // Appends a CASE: its tests and the body of OTHER, and then the bodies of its arms.
+    #[cycle(statements)]
+    fn case(
+        &self,
+        value: &Expr,
+        arms: &[Arm],
+        other: &[Stmt],
+        out: &mut Writer,
+    ) -> Result<(), AllocError>
+        ensures { (w : Written) → Stands out.old w → OnOk result (Stands out.new (case_piece (names_at self.now) (loop_at self.now) (tree_of value.now) (arms_of arms.now) (statements_of other.now) w)) }
+    {
+        let mut counter = out.counter();
+        self.choices(0, 0, value, arms, other, &mut counter)?;
+        let first = counter.end;
+        self.case_bodies(0, arms, &mut counter)?;
+        let end = counter.end;
+        if out.counts(end) {
+            Ok(())
+        } else {
+            self.choices(first, end, value, arms, other, out)?;
+            self.case_bodies(end, arms, out)
+        }
+    }
+
+    // Appends the value of a CASE, the tests of its arms, whose bodies stand from a place on, and the body of OTHER.
+    #[cycle(statements)]
+    fn choices(
+        &self,
+        first: u32,
+        end: u32,
+        value: &Expr,
+        arms: &[Arm],
+        other: &[Stmt],
+        out: &mut Writer,
+    ) -> Result<(), AllocError>
+        ensures { (w : Written) → Stands out.old w → OnOk result (Stands out.new (choices (names_at self.now) (loop_at self.now) (tree_of value.now) (arms_of arms.now) (statements_of other.now) first end w)) }
+    {
+        self.coder.value(value, out)?;
+        self.all_tests(first, arms, out)?;
+        out.byte(0x0C)?;
+        self.body(other, out)?;
+        out.jump(self.coder.statement, 0x04, end)
+    }
+
+    // Appends the tests of all arms of a CASE, whose bodies stand from a place on. How long the tests are doesn't depend on that,
+    // so the bodies aren't gone through where the writer only counts.
+    #[cycle(statements)]
+    fn all_tests(&self, first: u32, arms: &[Arm], out: &mut Writer) -> Result<(), AllocError>
+        ensures { (w : Written) → Stands out.old w → OnOk result (Stands out.new (all_tests (names_at self.now) (loop_at self.now) first (arms_of arms.now) w)) }
+    {
+        let mut counter = out.counter();
+        self.tests_of_arms(arms, &mut counter)?;
+        if out.counts(counter.end) {
+            Ok(())
+        } else {
+            self.placed_tests(first, arms, out)
+        }
+    }
+
+    // Appends the tests of all arms of a CASE, each with the place of its arm's body.
+    #[cycle(statements)]
+    fn placed_tests(&self, first: u32, arms: &[Arm], out: &mut Writer) -> Result<(), AllocError>
+        ensures { (w : Written) → Stands out.old w → OnOk result (Stands out.new (all_tests (names_at self.now) (loop_at self.now) first (arms_of arms.now) w)) }
+    {
+        let mut bodies = Writer {
+            end: first,
+            kept: None,
+        };
+        for arm in arms {
+            self.tests(bodies.end, arm.tests.as_slice(), out)?;
+            self.case_body(0, arm, &mut bodies)?;
+        }
+        Ok(())
+    }
+
+    // Appends the bodies of a CASE, which jump to a place.
+    #[cycle(statements)]
+    fn case_bodies(&self, end: u32, arms: &[Arm], out: &mut Writer) -> Result<(), AllocError>
+        ensures { (w : Written) → Stands out.old w → OnOk result (Stands out.new (case_bodies (names_at self.now) (loop_at self.now) end (arms_of arms.now) w)) }
+    {
+        for arm in arms {
+            self.case_body(end, arm, out)?;
+        }
+        Ok(())
+    }
+
+    // Appends a body of a CASE, which first drops the value that was compared.
+    #[cycle(statements)]
+    fn case_body(&self, end: u32, arm: &Arm, out: &mut Writer) -> Result<(), AllocError>
+        ensures { (w : Written) → Stands out.old w → OnOk result (Stands out.new (case_body (names_at self.now) (loop_at self.now) end (arm_of arm.now) w)) }
+    {
+        out.byte(0x0C)?;
+        self.body(&arm.body, out)?;
+        out.jump(self.coder.statement, 0x04, end)
+    }
+
+    // Appends a REPEAT.
+    #[cycle(statements)]
+    fn repeat(&self, course: &Loop, body: &[Stmt], out: &mut Writer) -> Result<(), AllocError>
+        ensures { (w : Written) → Stands out.old w → OnOk result (Stands out.new (up_to_end (loop_piece (names_at self.now) (course_of course.now) (statements_of body.now)) w)) }
+    {
+        let mut counter = out.counter();
+        self.repeat_to(course, 0, body, &mut counter)?;
+        if out.counts(counter.end) {
+            Ok(())
+        } else {
+            self.repeat_to(course, counter.end, body, out)
+        }
+    }
+
+    // Appends a REPEAT that ends at a place.
+    #[cycle(statements)]
+    fn repeat_to(
+        &self,
+        course: &Loop,
+        end: u32,
+        body: &[Stmt],
+        out: &mut Writer,
+    ) -> Result<(), AllocError>
+        ensures { (w : Written) → Stands out.old w → OnOk result (Stands out.new (loop_piece (names_at self.now) (course_of course.now) (statements_of body.now) end w)) }
+    {
+        self.head(course, end, out)?;
+        let start = out.end;
+        self.first_test(course, end, out)?;
+        self.looped(course, start, end, body, out)?;
+        self.pass_end(course, start, out)
+    }
+
+    // Appends the body of a loop that begins at a place.
+    #[cycle(statements)]
+    fn looped(
+        &self,
+        course: &Loop,
+        start: u32,
+        quit: u32,
+        body: &[Stmt],
+        out: &mut Writer,
+    ) -> Result<(), AllocError>
+        ensures { (w : Written) → Stands out.old w → OnOk result (Stands out.new (looped (names_at self.now) (course_of course.now) (statements_of body.now) start quit w)) }
+    {
+        if goes_to_begin(course) {
+            self.inside(start, quit, false).body(body, out)
+        } else {
+            self.up_to_next(quit, keeps_count(course), body, out)
+        }
+    }
+
+    // Appends the body of a loop, behind which its NEXT goes.
+    #[cycle(statements)]
+    fn up_to_next(
+        &self,
+        quit: u32,
+        counted: bool,
+        body: &[Stmt],
+        out: &mut Writer,
+    ) -> Result<(), AllocError>
+        ensures { (w : Written) → Stands out.old w → OnOk result (Stands out.new (up_to_next (names_at self.now) quit counted (statements_of body.now) w)) }
+    {
+        let mut counter = out.counter();
+        self.inside(0, quit, counted).body(body, &mut counter)?;
+        if out.counts(counter.end) {
+            Ok(())
+        } else {
+            self.inside(counter.end, quit, counted).body(body, out)
+        }
+    }
+}
