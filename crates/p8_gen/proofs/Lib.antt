@@ -1,4 +1,4 @@
-mod Rows
+pub mod Rows
 pub mod Widths
 pub mod Walks
 pub mod Tabled

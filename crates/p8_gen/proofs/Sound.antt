@@ -11,7 +11,7 @@ use Rattle.p8_bytecode.specs.Table.{rows, operands_of, is_effect, is_step, is_re
 use Rattle.p8_bytecode.specs.Reading.{bare, changes_register}
 use Rattle.p8_bytecode.specs.Spelling.{FitsOperands, IsOffset, IsPlace, IsStep, IsChange}
 use Rattle.p8_tree.specs.Proper as proper
-use Rattle.p8_gen.specs.Pieces.{Written, Piece, nothing, one, ◌⨾◌, up_to_end, byte, with_number, text, jump, offset, is_near}
+use Rattle.p8_gen.specs.Pieces.{Written, Piece, nothing, one, ◌⨾◌, up_to_end, byte, with_number, text, jump, jumping, end_of_jumping, offset, is_near}
 use Rattle.p8_gen.specs.Variables.{number, Base, Pushed, OfObject, OfVariables, OfFrame, Home, home_at, Operation, Push, Pop, Using, Reference, action_of, effect_of, size_bits, base_bits, memory_op, short_bits, is_short, short_or_long, plain_op, register, operation_bits}
 use Rattle.p8_gen.specs.Operations.{IsWhole, AreWhole}
 use Rattle.p8_gen.proofs.ByteTables.{both_true, one_of, is_good, row_from, short_row_from, equal, registers, push_registers, pop_registers, change_registers}
@@ -256,6 +256,63 @@ plain_in OfFrame home is o placed fit = ones _ (either_op (is_short home) (λ s.
 
 pub plain : (home : Home) (o : Operation) → IsPlaced home.base home.offset → Fit o → Sound (one (plain_op home o))
 plain home o placed fit = plain_in home.base home refl o placed fit
+
+-- ---- a step of REPEAT, which jumps
+
+abbrev stepping : Op → (to : ℕ) → Op
+stepping op to = record op { second = to; long_form = true }
+
+abbrev pub IsStepEffect : ℕ → Type 0
+IsStepEffect effect = IsTrue (is_effect effect && is_step effect)
+
+step_change : (c first effect to : ℕ) → IsStepEffect effect → IsOffset true to → IsChange true (stepping (record (bare c) { first = first; effect = effect }) to)
+step_change c first effect to step near =
+    let p = both_true (is_effect effect) (is_step effect) step in
+    (p.0, subst (λ b. IsStep b (stepping (record (bare c) { first = first; effect = effect }) to)) (sym p.1) near)
+
+memory_steps : (size : ℕ) (base : Base) (offset effect to : ℕ) → IsPlaced base offset → IsStepEffect effect → IsOffset true to → IsWhole (stepping (memory_op false (home_at base offset size) (Using effect)) to)
+unfolding code
+memory_steps size base offset effect to placed step near =
+    let is = code_is size false base (Using effect) in
+    let op = stepping (memory_op false (home_at base offset size) (Using effect)) to in
+    fits op (row_from (code size false base (Using effect)) is.0 is.1) (λ range. (
+      refl,
+      subst (λ b. IsPlace b (offset % 2 ^ 15)) (sym (ap (λ k. nat_lt 0 k) is.2)) (place_of base offset placed),
+      subst (λ b. IsChange b op) (sym (ap (λ k. k == 2) is.3)) (step_change (code size false base (Using effect)) (offset % 2 ^ 15) effect to step near),
+    ))
+
+short_steps : (bits offset effect to : ℕ) → IsTrue (bits == 0 || bits == 0x20) → offset < 32 → offset % 4 ≡ 0 → IsStepEffect effect → IsOffset true to → IsWhole (stepping (record (bare (0x40 + bits + offset + 2)) { effect = effect }) to)
+short_steps bits offset effect to which below_32 even step near =
+    let c = short_code bits offset 2 which below_32 even (omega arith) in
+    let op = stepping (record (bare (0x40 + bits + offset + 2)) { effect = effect }) to in
+    fits op (short_row_from (0x40 + bits + offset + 2) c.0 c.1) (λ range. (
+      refl,
+      refl,
+      subst (λ b. IsChange b op) (sym (ap (λ k. k == 2) c.2)) (step_change (0x40 + bits + offset + 2) 0 effect to step near),
+    ))
+
+either_step : (a b : Op) (t : Bool) (to : ℕ) → (t ≡ true → IsWhole (stepping a to)) → IsWhole (stepping b to) → IsWhole (stepping (if t then a else b) to)
+either_step a b true to x y = x refl
+either_step a b false to x y = y
+
+plain_steps : (base : Base) (home : Home) → home.base ≡ base → (effect to : ℕ) → IsPlaced home.base home.offset → IsStepEffect effect → IsOffset true to → IsWhole (stepping (short_or_long (short_bits base) home (Using effect)) to)
+plain_steps Pushed home is effect to placed step near = memory_steps home.size home.base home.offset effect to placed step near
+plain_steps OfObject home is effect to placed step near = memory_steps home.size home.base home.offset effect to placed step near
+plain_steps OfVariables home is effect to placed step near =
+    either_step (record (bare (0x40 + 0 + home.offset + 2)) { effect = effect }) (memory_op false home (Using effect)) (is_short home) to (λ s. let p = is_short_home home s in short_steps 0 home.offset effect to refl p.0 p.1 step near) (memory_steps home.size home.base home.offset effect to placed step near)
+plain_steps OfFrame home is effect to placed step near =
+    either_step (record (bare (0x40 + 0x20 + home.offset + 2)) { effect = effect }) (memory_op false home (Using effect)) (is_short home) to (λ s. let p = is_short_home home s in short_steps 0x20 home.offset effect to refl p.0 p.1 step near) (memory_steps home.size home.base home.offset effect to placed step near)
+
+-- the change of a variable without an index that jumps as well
+pub plain_jumping : (s : Place) (home : Home) (effect to : ℕ) → IsPlaced home.base home.offset → IsStepEffect effect → Sound (jumping s to (plain_op home (Using effect)))
+plain_jumping s home effect to placed step = record {
+  keeps = λ w h. record {
+    each = λ near.
+        All-push IsWhole w.ops _ (h.each (left_nil w.too_far _ near))
+        (plain_steps home.base home refl effect (offset (end_of_jumping (plain_op home (Using effect)) w) to) placed step
+        (near_offset (end_of_jumping (plain_op home (Using effect)) w) to (told_near s _ (right_nil w.too_far _ near))));
+  };
+}
 
 -- ---- registers
 

@@ -225,7 +225,7 @@ row_3F = refl
 
 module _ (n : Names) (few : HaveBytes n) (env : Environment) (same : (name : List ℕ) → n.kind name ≡ kind_in env name) where
   -- a name's variable stands somewhere else than at an address that was pushed
-  home_placed : (name : List ℕ) (kind : Option NameKind) → IsPlaced (home_of_kind n name kind).base (home_of_kind n name kind).offset
+  pub home_placed : (name : List ℕ) (kind : Option NameKind) → IsPlaced (home_of_kind n name kind).base (home_of_kind n name kind).offset
   home_placed name None = tt
   home_placed name (Some (kinds.Method number params)) = tt
   home_placed name (Some (kinds.Const v)) = tt

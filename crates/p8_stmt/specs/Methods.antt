@@ -1,9 +1,8 @@
 -- What a method is compiled to, and which method can't be.
 -- Sources: the public Spin bytecode listing of the Propeller P8X32A; the limits, numbers and places are this project's profile.
-use Rattle.std.specs.Prelude.{◌≡◌, ℕ, ◌+◌, ◌*◌, ◌<◌, false, IsTrue, List, [], ◌∷◌, length, map, flat_map, take, Contains, Option, Some, None}
+use Rattle.std.specs.Prelude.{◌≡◌, ℕ, ◌+◌, ◌*◌, ◌<◌, List, [], ◌∷◌, length, map, flat_map, take, Contains, Option, Some, None}
 use Rattle.p8_tree.specs.declared.places.Place.{Place}
 use Rattle.p8_tree.specs.Expressions.{Tree}
-use Rattle.p8_tree.specs.Nesting.{leave_loops}
 use Rattle.p8_tree.specs.Proper.{AreProperStatements}
 use Rattle.p8_tree.specs.Sources.{Declared, MethodTree}
 use Rattle.p8_tree.specs.Statements.{Statements}
@@ -27,11 +26,10 @@ use Rattle.p8_stmt.specs.declared.code.MethodCode.{MethodCode}
 
 -- ---- what is compiled
 
--- Statements that were read and whose names were resolved: each NEXT and each QUIT stands in a loop, no name is used against
--- its kind, and the numbers of methods and the places of objects have a byte.
+-- Statements that were read and whose names were resolved: no name is used against its kind, and the numbers of methods and the
+-- places of objects have a byte.
 pub record AreResolved (names : Names) (ss : Statements) : Type 0 where
   pub proper : AreProperStatements ss
-  pub loops : IsTrue (leave_loops false ss)
   pub bytes : HaveBytes names
   -- what was known of names when they were resolved
   pub environment : Environment

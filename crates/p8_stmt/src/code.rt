@@ -65,7 +65,7 @@ pub fn method_code(
         statement: method.place,
     };
     let body = method.body.as_slice();
-    let kept = written(alloc, coder, body)?;
+    let kept = written(alloc, &coder, body)?;
     let depth = held_in(&coder, body);
     let longs = longs_in(&coder, method.locals.as_slice());
     let too_large = is_too_large(method.params.len(), longs, depth);
@@ -76,13 +76,13 @@ pub fn method_code(
 }
 
 // What is written of a method's code: its body, and a RETURN.
-fn written(alloc: Global, coder: Coder<'_>, body: &[Stmt]) -> Result<Kept, AllocError>
-    ensures ops { IfOk result (λ kept. kept.ops.items ≡ (methods.method_code (names_of coder) (statements_of body.now)).ops) }
-    ensures texts { IfOk result (λ kept. map use_of kept.strings.items ≡ (methods.method_code (names_of coder) (statements_of body.now)).texts) }
-    ensures too_far { IfOk result (λ kept. kept.too_far.items ≡ (methods.method_code (names_of coder) (statements_of body.now)).too_far) }
+fn written(alloc: Global, coder: &Coder<'_>, body: &[Stmt]) -> Result<Kept, AllocError>
+    ensures ops { IfOk result (λ kept. kept.ops.items ≡ (methods.method_code (names_of coder.now) (statements_of body.now)).ops) }
+    ensures texts { IfOk result (λ kept. map use_of kept.strings.items ≡ (methods.method_code (names_of coder.now) (statements_of body.now)).texts) }
+    ensures too_far { IfOk result (λ kept. kept.too_far.items ≡ (methods.method_code (names_of coder.now) (statements_of body.now)).too_far) }
 {
     let context = Context {
-        coder,
+        coder: *coder,
         enclosing: None,
     };
     let mut out = Writer::new(alloc);

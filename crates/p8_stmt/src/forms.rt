@@ -23,26 +23,14 @@ pub(crate) fn zero_jump(negated: bool) -> u8
 pub(crate) fn goes_to_begin(course: &Loop) -> bool
     ensures { result ≡ goes_to_begin (course_of course.now) }
 {
-    match course {
-        Loop::Forever => true,
-        Loop::Count(_) => false,
-        Loop::Before(..) => true,
-        Loop::After(..) => false,
-        Loop::From(..) => false,
-    }
+    matches!(course, Loop::Forever | Loop::Before(..))
 }
 
 /// Whether a loop keeps a count on the operand stack.
 pub(crate) fn keeps_count(course: &Loop) -> bool
     ensures { result ≡ keeps_count (course_of course.now) }
 {
-    match course {
-        Loop::Forever => false,
-        Loop::Count(_) => true,
-        Loop::Before(..) => false,
-        Loop::After(..) => false,
-        Loop::From(..) => false,
-    }
+    matches!(course, Loop::Count(_))
 }
 
 // The effect of a loop's step, which is 1 where none is given.
@@ -128,10 +116,10 @@ impl Context<'_> {
     }
 
     /// Appends the tests of an arm of `CASE`, each with a jump to the arm.
-    pub fn tests(&self, to: u32, tests: &[Item], out: &mut Writer) -> Result<(), AllocError>
-        ensures { (w : Written) → Stands out.old w → OnOk result (Stands out.new (tests (names_at self.now) to (items_of tests.now) w)) }
+    pub fn tests(&self, to: u32, items: &[Item], out: &mut Writer) -> Result<(), AllocError>
+        ensures { (w : Written) → Stands out.old w → OnOk result (Stands out.new (tests (names_at self.now) to (items_of items.now) w)) }
     {
-        for test in tests {
+        for test in items {
             self.test(to, test, out)?;
         }
         Ok(())

@@ -2,11 +2,11 @@
 ghost use Rattle.std.specs.Prelude.{◌≡◌, OnOk};
 ghost use Rattle.p8_tree.specs.Views.{tree_of, course_of, arm_of, arms_of, statement_of, statements_of};
 ghost use Rattle.p8_gen.specs.Pieces.{Written, up_to_end};
-ghost use Rattle.p8_gen.specs.Statements.{code, body, all_tests, case_bodies};
+ghost use Rattle.p8_gen.specs.Statements.{inside, code, body, all_tests, case_bodies};
 ghost use Rattle.p8_gen.specs.Writing.{Stands};
 ghost use Rattle.p8_stmt.specs.Walking.{names_at, loop_at, leap, arm_piece, branches, choices, case_piece, case_body, tests_of_arms, up_to_next, looped, loop_piece};
 
-use crate::context::Context;
+use crate::context::{Context, LoopPlaces};
 use crate::forms::{goes_to_begin, keeps_count, zero_jump};
 use p8_gen::{Coder, Writer};
 use p8_tree::{Arm, Expr, Loop, Stmt, StmtKind};
@@ -263,7 +263,7 @@ impl Context<'_> {
         ensures { (w : Written) → Stands out.old w → OnOk result (Stands out.new (looped (names_at self.now) (course_of course.now) (statements_of body.now) start quit w)) }
     {
         if goes_to_begin(course) {
-            self.inside(start, quit, false).body(body, out)
+            self.body_inside(start, quit, false, body, out)
         } else {
             self.up_to_next(quit, keeps_count(course), body, out)
         }
@@ -281,11 +281,32 @@ impl Context<'_> {
         ensures { (w : Written) → Stands out.old w → OnOk result (Stands out.new (up_to_next (names_at self.now) quit counted (statements_of body.now) w)) }
     {
         let mut counter = out.counter();
-        self.inside(0, quit, counted).body(body, &mut counter)?;
+        self.body_inside(0, quit, counted, body, &mut counter)?;
         if out.counts(counter.end) {
             Ok(())
         } else {
-            self.inside(counter.end, quit, counted).body(body, out)
+            self.body_inside(counter.end, quit, counted, body, out)
         }
+    }
+
+    // Appends the body of a loop whose NEXT and QUIT go to these places.
+    #[cycle(statements)]
+    fn body_inside(
+        &self,
+        next: u32,
+        quit: u32,
+        counted: bool,
+        statements: &[Stmt],
+        out: &mut Writer,
+    ) -> Result<(), AllocError>
+        ensures { (w : Written) → Stands out.old w → OnOk result (Stands out.new (body (names_at self.now) (inside next quit counted) (statements_of statements.now) w)) }
+    {
+        let enclosing = Some(LoopPlaces {
+            next,
+            quit,
+            counted,
+        });
+        let inner = Context { enclosing, ..*self };
+        inner.body(statements, out)
     }
 }

@@ -1,0 +1,6 @@
+mod Walks
+mod Whole
+mod Depths
+mod Telling
+mod Locals
+mod Coded

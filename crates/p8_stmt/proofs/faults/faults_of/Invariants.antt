@@ -1,0 +1,6 @@
+use Rattle.std.proofs.Common.{◌≡◌, take, map}
+use Rattle.p8_faults.specs.Faults.{fault}
+use Rattle.p8_stmt.proofs.faults.faults_of.Given as goal
+
+abbrev pub invariant-loop-place : goal.invariant-loop-place
+invariant-loop-place l = l.faults.items ≡ map (fault 25) (take l.place-index l.too_far)
