@@ -6,7 +6,8 @@ use Rattle.p8_tree.specs.declared.places.Place.{Place}
 use Rattle.p8_tree.specs.Sources.{MethodTree}
 use Rattle.p8_bytecode.specs.declared.op.Op.{Op}
 use Rattle.p8_faults.specs.declared.faults.Fault.{Fault}
-use Rattle.p8_faults.specs.Faults.{fault}
+use Rattle.p8_faults.specs.Faults.{fault, IsFirstFault}
+use Rattle.p8_faults.proofs.Firsts.{IsFirstFault-along}
 use Rattle.p8_gen.specs.declared.writer.Kept.{Kept}
 use Rattle.p8_gen.specs.declared.writer.Writer.{Writer}
 use Rattle.p8_gen.specs.Depths.{held_in}
@@ -16,9 +17,13 @@ use Rattle.p8_gen.specs.Operations.{IsWhole, AreWhole}
 use Rattle.p8_gen.specs.Pieces.{Written}
 use Rattle.p8_gen.specs.Writing.{Stands}
 use Rattle.p8_stmt.specs.Cutting.{cut, cut_longs}
-use Rattle.p8_stmt.specs.Methods.{longs_in, most_longs, most_held, AreResolved, IsMethodFault}
+use Rattle.p8_stmt.specs.Methods.{longs_in, most_longs, most_held, AreResolved, IsMethodFault, IsCodeOf}
+use Rattle.p8_stmt.specs.declared.code.MethodCode.{MethodCode}
+use Rattle.p8_stmt.specs.Spelled.{placed}
+use Rattle.p8_gen.specs.Uses.{use_of}
+use Rattle.p8_bytecode.specs.Spelling.{spelled}
 use Rattle.p8_stmt.specs.Telling.{faults_of}
-use Rattle.p8_stmt.proofs.Telling.{from_fault}
+use Rattle.p8_stmt.proofs.Telling.{to_fault, from_fault}
 use Rattle.p8_stmt.proofs.Whole.{method_whole}
 
 pub kept_far : (out : Writer) (w : Written) (k : Kept) → Stands out w → Some k ≡ out.kept → k.too_far.items ≡ w.too_far
@@ -82,6 +87,11 @@ module _ (n : Names) (m : MethodTree) {longs held : ℕ} {large : Bool} {far : L
   sized : large ≡ (nat_lt most_longs (1 + length m.params + longs_in n.constants m.locals) || nat_lt most_held (held_in n m.body))
   sized = same_size (length m.params) (longs_in n.constants m.locals) (held_in n m.body) l_is h_is is
 
+  pub first_is : (f : Fault) → IsFirstFault (Contains (faults_of far m.place large)) f → IsFirstFault (IsMethodFault n m) f
+  first_is f h =
+      IsFirstFault-along (to_fault n m _ _ refl refl large sized) (from_fault n m _ _ refl refl large sized)
+      (subst (λ ps. IsFirstFault (Contains (faults_of ps m.place large)) f) far_is h)
+
   module _ (clean : faults_of far m.place large ≡ []) where
     small_frame : 1 + length m.params + longs ≤ most_longs
     small_frame = isnt_less most_longs (1 + length m.params + longs) (neither_left _ _ (not_large far m.place large clean ∙ is))
@@ -103,3 +113,12 @@ module _ (n : Names) (m : MethodTree) {longs held : ℕ} {large : Bool} {far : L
 
     pub ops_whole : {ops : List Op} → ops ≡ (method_code n m.body).ops → AreResolved n m.body → All IsWhole ops
     ops_whole os resolved = subst (All IsWhole) (sym os) ((method_whole n m.body resolved).each (sym far_is ∙ no_places far m.place large clean))
+
+    pub is_code : {ops : List Op} {texts : List (ℕ × Place)} (code : MethodCode) → ops ≡ (method_code n m.body).ops → texts ≡ (method_code n m.body).texts →
+        code.bytes ≡ flat_map spelled ops → map use_of code.strings ≡ map (placed ops) texts → code.locals ≡ 4 * longs → code.depth ≡ held → IsCodeOf n m code
+    is_code code os ts b u l d = record {
+      bytes = b ∙ ap (flat_map spelled) os;
+      locals = l ∙ ap (λ k. 4 * k) longs_are;
+      depth = d ∙ held_is;
+      strings = u ∙ ap₂ (λ os ts. map (placed os) ts) os ts;
+    }

@@ -27,7 +27,7 @@ use Rattle.p8_gen.specs.declared.expressions.BuiltForm.TheVariants as built_form
 use Rattle.p8_gen.specs.Names.{Names}
 use Rattle.p8_gen.specs.Expressions.{starts_method}
 use Rattle.p8_gen.specs.Walking.{IsBuiltForm}
-use Rattle.p8_gen.specs.Depths.{held, held_by, held_by_naming, held_by_index, held_by_bits, held_by_trees, held_by_items, held_by_built, held_by_arguments, held_alone, held_by_test, held_by_tests, held_in_loop, held_in, held_in_action, held_in_arms, held_in_cases, held_in_other}
+use Rattle.p8_gen.specs.Depths.{over, held, held_by, held_by_naming, held_by_index, held_by_bits, held_by_trees, held_by_items, held_by_built, held_by_arguments, held_alone, held_by_test, held_by_tests, held_in_loop, held_in, held_in_action, held_in_arms, held_in_cases, held_in_other}
 use Rattle.p8_gen.proofs.Rows.{counts}
 use Rattle.p8_stmt.specs.Cutting.{cut, held_by_call, held_by_start}
 use Rattle.p8_stmt.proofs.Walks.{arm_form}
@@ -42,6 +42,19 @@ cut_behind a k small = omega (arith, small)
 
 pub cut_sum : (a b : ℕ) → min (cut a + cut b) (2 ^ 16 - 1) ≡ cut (a + b)
 cut_sum a b = omega arith
+
+pub cut_one : (a : ℕ) → max (cut a) 1 ≡ cut (max 1 a)
+cut_one a = omega arith
+
+pub cut_look : (a b : ℕ) → max (max (cut a) 2) (cut b) ≡ cut (max (max 2 a) b)
+cut_look a b = omega arith
+
+pub cut_over : (m k : ℕ) → cut (over (cut m) k) ≡ cut (over m k)
+cut_over m k = go (k == 0)
+  where
+    go : (t : Bool) → cut (if t then 0 else cut m + k) ≡ cut (if t then 0 else m + k)
+    go true = refl
+    go false = omega arith
 
 none_first : (k : ℕ) → max 0 k ≡ k
 none_first k = omega arith
@@ -105,6 +118,12 @@ module _ (n : Names) where
   pub held_of_call : (x : call.Call) → max 1 (held_by_call n (call_of x)) ≡ held_by n (call_of x)
   held_of_call x = ap (λ f. max 1 (held_by_call n f)) (call_form x) ∙ sym (ap (held_by n) (call_form x))
 
+  pub call_held : (x : call.Call) (es fs : List expr.Expr) → es ≡ (out-Call x).args.items → fs ≡ (out-Call x).args.items →
+      max (held_by_trees n (trees_of es)) (over (length fs) (held_by_index n (boxed_index (out-Call x).index))) ≡ held_by_call n (call_of x)
+  call_held x es fs e f =
+      ap₂ (λ es k. max (held_by_trees n (trees_of es)) (over k (held_by_index n (boxed_index (out-Call x).index)))) e (ap length f ∙ sym (counts (out-Call x).args.items))
+      ∙ sym (ap (held_by_call n) (call_form x))
+
   pub alone_of_call : (place : Place) (x : call.Call) → held_by_call n (call_of x) ≡ held_alone n (node place (call_of x))
   alone_of_call place x = ap (held_by_call n) (call_form x) ∙ sym (ap (λ f. held_alone n (node place f)) (call_form x))
 
@@ -141,11 +160,11 @@ module _ (n : Names) where
   built_constant code (e ∷ f ∷ es) is = absurd cc
 
   pub built_new_cog : (code : ℕ) (es : List expr.Expr) (a b : expr.Expr) → IsBuiltForm built_form.NewCog code (length es) → a ≡ get_or es 0 a → b ≡ get_or es 1 b →
-      held_by_start n (tree_of a) (tree_of b) ≡ held_by_built n code (trees_of es)
+      held_by_start n (tree_of a) (held n (tree_of b)) ≡ held_by_built n code (trees_of es)
   built_new_cog code [] a b is p q = absurd cc
   built_new_cog code (e ∷ []) a b is p q = absurd cc
   built_new_cog code (e ∷ f ∷ []) a b is p q =
-      ap₂ (λ x y. held_by_start n (tree_of x) (tree_of y)) p q ∙ sym (ap (λ k. held_by_built n k (trees_of (e ∷ f ∷ []))) is.1)
+      ap₂ (λ x y. held_by_start n (tree_of x) (held n (tree_of y))) p q ∙ sym (ap (λ k. held_by_built n k (trees_of (e ∷ f ∷ []))) is.1)
   built_new_cog code (e ∷ f ∷ g ∷ es) a b is p q = absurd cc
 
   either_start : (t : Bool) (x a b : ℕ) → max x (if t then a else b) ≡ (if t then max x a else max x b)
@@ -153,12 +172,12 @@ module _ (n : Names) where
   either_start false x a b = refl
 
   pub built_told_cog : (code : ℕ) (es : List expr.Expr) (a b c : expr.Expr) → IsBuiltForm built_form.ToldCog code (length es) → a ≡ get_or es 0 a → b ≡ get_or es 1 b → c ≡ get_or es 2 c →
-      max (held n (tree_of a)) (held_by_start n (tree_of b) (tree_of c)) ≡ held_by_built n code (trees_of es)
+      max (held n (tree_of a)) (held_by_start n (tree_of b) (held n (tree_of c))) ≡ held_by_built n code (trees_of es)
   built_told_cog code [] a b c is p q r = absurd cc
   built_told_cog code (e ∷ []) a b c is p q r = absurd cc
   built_told_cog code (e ∷ f ∷ []) a b c is p q r = absurd cc
   built_told_cog code (e ∷ f ∷ g ∷ []) a b c is p q r =
-      ap₂ max (ap (λ x. held n (tree_of x)) p) (ap₂ (λ x y. held_by_start n (tree_of x) (tree_of y)) q r)
+      ap₂ max (ap (λ x. held n (tree_of x)) p) (ap₂ (λ x y. held_by_start n (tree_of x) (held n (tree_of y))) q r)
       ∙ either_start (starts_method n (tree_of f)) _ _ _ ∙ sym (ap (λ k. held_by_built n k (trees_of (e ∷ f ∷ g ∷ []))) is.1)
   built_told_cog code (e ∷ f ∷ g ∷ h ∷ es) a b c is p q r = absurd cc
 
@@ -184,12 +203,15 @@ module _ (n : Names) where
   three : (x y z : ℕ) → max (max (max 0 (0 + x)) (1 + y)) (2 + z) ≡ max x (max (1 + y) (2 + z))
   three x y z = omega arith
 
+  one : (x : ℕ) → max 0 (0 + x) ≡ x
+  one x = omega arith
+
   two : (x y : ℕ) → max (max 0 (0 + x)) (1 + y) ≡ max x (1 + y)
   two x y = omega arith
 
   pub built_plain : (code : ℕ) (es : List expr.Expr) → IsBuiltForm built_form.Plain code (length es) → held_by_trees n (trees_of es) ≡ held_by_built n code (trees_of es)
   built_plain code [] plain = absurd (plain.0 refl)
-  built_plain code (e ∷ []) plain = none_first (held n (tree_of e)) ∙ unless (code == 0) 1 (held n (tree_of e)) (differs code 0 (λ same. plain.1 (refl, same)))
+  built_plain code (e ∷ []) plain = one (held n (tree_of e)) ∙ unless (code == 0) 1 (held n (tree_of e)) (differs code 0 (λ same. plain.1 (refl, same)))
   built_plain code (e ∷ f ∷ []) plain = two (held n (tree_of e)) (held n (tree_of f)) ∙ unless_not (code == 0x2C) _ _ (differs code 0x2C (λ same. plain.2 (refl, same)))
   built_plain code (e ∷ f ∷ g ∷ []) plain = three (held n (tree_of e)) (held n (tree_of f)) (held n (tree_of g)) ∙ unless_both (code == 0x28) (starts_method n (tree_of f)) _ _ (differs code 0x28 (λ same. plain.3 (refl, same)))
   built_plain code (e ∷ f ∷ g ∷ h ∷ es) plain = four_or_more code no_trees (tree_of e) (tree_of f) (tree_of g) (tree_of h) es

@@ -32,10 +32,13 @@ begins_at b (op ∷ ops) zero d lt = omega arith
 begins_at b (op ∷ ops) (suc k) d lt =
     begins_at (b + length (spelled op)) ops k d (omega (arith, lt)) ∙ omega (arith, length-append (spelled op) (flat_map spelled (take k ops)))
 
+none_before : (k : ℕ) → 0 + k ≡ k
+none_before k = omega arith
+
 -- a bytecode's begin, where there is one, and else the end of all
 pub begin_there : (ops : List Op) (begins : List ℕ) (k d : ℕ) → begins ≡ begins_of 0 ops → k < length begins → get_or begins k d ≡ length (flat_map spelled (take k ops))
 begin_there ops begins k d is lt =
-    ap (λ xs. get_or xs k d) is ∙ begins_at 0 ops k d (subst (λ n. k < n) (ap length is ∙ begins_count 0 ops) lt)
+    ap (λ xs. get_or xs k d) is ∙ begins_at 0 ops k d (subst (λ n. k < n) (ap length is ∙ begins_count 0 ops) lt) ∙ none_before _
 
 pub begin_past : (ops : List Op) (begins : List ℕ) (k total : ℕ) → begins ≡ begins_of 0 ops → length begins ≤ k → total ≡ length (flat_map spelled ops) → total ≡ length (flat_map spelled (take k ops))
 begin_past ops begins k total is le t =

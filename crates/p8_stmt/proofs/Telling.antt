@@ -3,7 +3,7 @@ use Rattle.std.proofs.Common.{◌≡◌, ◌⊎◌, inl, inr, ℕ, ◌+◌, ◌<
 use Rattle.std.specs.Prelude.{Contains}
 use Rattle.std.proofs.lemmas.Bool.Decides.{nat_tests}
 use Rattle.std.proofs.lemmas.List.{get_or-map, length-map}
-use Rattle.std.proofs.lemmas.List.Elements.{Contains-append_left, Contains-append_right, Contains-append_cases}
+use Rattle.std.proofs.lemmas.List.Elements.{Contains-get_or, Contains-append_left, Contains-append_right, Contains-append_cases}
 use Rattle.p8_tree.specs.declared.places.Place.{Place}
 use Rattle.p8_tree.specs.Sources.{MethodTree}
 use Rattle.p8_faults.specs.declared.faults.Fault.{Fault}
@@ -18,7 +18,7 @@ use Rattle.p8_stmt.specs.Telling.{faults_of}
 told_place : (ps : List Place) (g : Fault) → Contains (map (fault 25) ps) g → (p : Place) × Contains ps p × (fault 25 p ≡ g)
 told_place ps g (k, lt, is) =
     let within : k < length ps = subst (λ n. k < n) (length-map ps (fault 25)) lt in
-    (get_or ps k g.place, (k, within, refl), sym (get_or-map (fault 25) ps k g.place g within) ∙ is)
+    (get_or ps k g.place, Contains-get_or ps k g.place within, sym (get_or-map (fault 25) ps k g.place g within) ∙ is)
 
 place_told : (ps : List Place) (p : Place) → Contains ps p → Contains (map (fault 25) ps) (fault 25 p)
 place_told ps p (k, lt, is) =

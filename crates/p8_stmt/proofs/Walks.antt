@@ -14,7 +14,7 @@ use Rattle.p8_tree.specs.declared.statements.Arm as code_arm
 use Rattle.p8_tree.specs.declared.statements.Arm.{out-Arm, roll-out-Arm}
 use Rattle.p8_tree.specs.declared.statements.Loop as loop
 use Rattle.p8_tree.specs.Expressions.{Tree, Item, Items, single, range, no_items, ◌▸◌}
-use Rattle.p8_tree.specs.Statements.{Course, Forever, Count, Before, After, From, Statement, statement, If, Case, Repeat, Arm, arm, Statements, no_statements, ◌▹◌, Arms, no_arms, ◌⊳◌}
+use Rattle.p8_tree.specs.Statements.{Course, Forever, Count, Before, After, From, Statement, statement, Action, Do, If, Case, Repeat, Otherwise, nothing_else, otherwise, Arm, arm, Statements, no_statements, ◌▹◌, Arms, no_arms, ◌⊳◌}
 use Rattle.p8_tree.specs.Views.{tree_of, item_of, items_of, items_after, course_of, action_of, arm_of, arms_of, statement_of, statements_of}
 use Rattle.p8_tree.specs.Bridges.{other_body, arm_is, if_is, case_is, repeat_is, items_of-push, statements_of-push, arms_of-push}
 use Rattle.p8_gen.specs.Names.{Names}
@@ -24,8 +24,8 @@ use Rattle.p8_gen.specs.Expressions.{value}
 use Rattle.p8_gen.specs.Statements.{Loop, SameLoop, inside, zero_jump, test_of, tests, step_effect, plain_name, code, code_of, body, chain, all_tests, case_bodies}
 use Rattle.p8_gen.specs.Writing.{Stands}
 use Rattle.p8_gen.specs.declared.writer.Writer.{Writer}
-use Rattle.p8_gen.proofs.Widths.{Alike, nothings, same-one, bytes, jumps, steps, both, ups, froms, either, value-alike, test-alike, tests-alike, step-alike, body-alike, chain-alike, all-tests-alike, bodies-alike}
-use Rattle.p8_stmt.specs.Walking.{leap, arm_piece, branches, choices, case_piece, case_body, tests_of_arms, head, first_test, pass_end, up_to_next, looped, loop_piece}
+use Rattle.p8_gen.proofs.Widths.{Alike, nothings, same-one, bytes, jumps, steps, both, ups, froms, either, value-alike, test-alike, tests-alike, step-alike, body-alike, chain-alike, other-alike, all-tests-alike, bodies-alike}
+use Rattle.p8_stmt.specs.Walking.{leap, arm_piece, branches, choices, bodies, case_piece, case_body, tests_of_arms, head, first_test, pass_end, up_to_next, looped, loop_piece}
 
 -- ---- where pieces end
 
@@ -51,9 +51,12 @@ module _ (n : Names) where
   leap_same t x y = either t (jumps _ _ _ x y) nothings
 
   module _ (l : Option Loop) where
-    pub branches_same : (t : Bool) (arms : Arms) (ss : Statements) (x y : ℕ) → Alike (branches n l t arms ss x) (branches n l t arms ss y)
-    branches_same t arms ss x y =
-        both (chain-alike n n.text n.statement l l (same_loop l) _ _ _ _ (jumps _ _ _ x y) (leap_same t x y) arms) (body_same l l (same_loop l) ss)
+    pub branches_same : (a : Action) (x y : ℕ) → Alike (branches n l a x) (branches n l a y)
+    branches_same (If arms nothing_else) x y = chain-alike n n.text n.statement l l (same_loop l) _ _ _ _ (jumps _ _ _ x y) nothings arms
+    branches_same (If arms (otherwise ss)) x y =
+        both (chain-alike n n.text n.statement l l (same_loop l) _ _ _ _ (jumps _ _ _ x y) (jumps _ _ _ x y) arms) (body_same l l (same_loop l) ss)
+    branches_same (Do e) x y = nothings
+    branches_same _ x y = nothings
 
     pub arm_same : (t : Bool) (end : ℕ) (a : Arm) (x y : ℕ) → Alike (arm_piece n l (leap n t end) a x) (arm_piece n l (leap n t end) a y)
     arm_same t end (arm items negated ss) x y =
@@ -62,31 +65,34 @@ module _ (n : Names) where
     tests_same : (first last : ℕ) (arms : Arms) → Alike (all_tests n l first arms) (all_tests n l last arms)
     tests_same first last arms = all-tests-alike n n.text n.statement l l (same_loop l) first last arms
 
-    choices_same : (e : Tree) (arms : Arms) (ss : Statements) (first last x y : ℕ) → Alike (choices n l e arms ss first x) (choices n l e arms ss last y)
-    choices_same e arms ss first last x y =
-        both (both (both (both (value_same e) (tests_same first last arms)) (bytes 0x0C)) (body_same l l (same_loop l) ss)) (jumps _ _ _ x y)
+    choices_same : (a : Action) (first last x y : ℕ) → Alike (choices n l a first x) (choices n l a last y)
+    choices_same (Case e arms other) first last x y =
+        both (both (both (both (value_same e) (tests_same first last arms)) (bytes 0x0C)) (other-alike n n.text n.statement l l (same_loop l) other)) (jumps _ _ _ x y)
+    choices_same (Do e) first last x y = nothings
+    choices_same _ first last x y = nothings
 
-    bodies_same : (x y : ℕ) (arms : Arms) → Alike (case_bodies n l x arms) (case_bodies n l y arms)
-    bodies_same x y arms = bodies-alike n n.text n.statement l l (same_loop l) x y arms
+    bodies_same : (a : Action) (x y : ℕ) → Alike (bodies n l a x) (bodies n l a y)
+    bodies_same (Case e arms other) x y = bodies-alike n n.text n.statement l l (same_loop l) x y arms
+    bodies_same (Do e) x y = nothings
+    bodies_same _ x y = nothings
 
     -- where a CASE's choices end, and where it ends itself, as they are counted
-    module _ (e : Tree) (arms : Arms) (ss : Statements) (w : Written) where
-      pub first_is : (x : ℕ) → (choices n l e arms ss 0 0 w).end ≡ (choices n l e arms ss 0 x w).end
-      first_is x = same_end (choices_same e arms ss 0 0 0 x) w
+    module _ (a : Action) (w : Written) where
+      first_is : (x : ℕ) → (choices n l a 0 0 w).end ≡ (choices n l a 0 x w).end
+      first_is x = same_end (choices_same a 0 0 0 x) w
 
-      pub case_end : (case_bodies n l 0 arms (choices n l e arms ss 0 0 w)).end ≡ ((up_to_end (λ first. choices n l e arms ss first 0) ⨾ case_bodies n l 0 arms) w).end
-      case_end = same_end (both (choices_same e arms ss 0 (choices n l e arms ss 0 0 w).end 0 0) (bodies_same 0 0 arms)) w
+      end_is : (bodies n l a 0 (choices n l a 0 0 w)).end ≡ (bodies n l a 0 (choices n l a (choices n l a 0 0 w).end 0 w)).end
+      end_is = same_end (both (choices_same a 0 (choices n l a 0 0 w).end 0 0) (bodies_same a 0 0)) w
 
       -- what is written where a CASE's places were counted
-      pub case_written : (first end : ℕ) → first ≡ (choices n l e arms ss 0 0 w).end → end ≡ (case_bodies n l 0 arms (choices n l e arms ss 0 0 w)).end →
-          case_bodies n l end arms (choices n l e arms ss first end w) ≡ case_piece n l e arms ss w
+      pub case_written : (first end : ℕ) → first ≡ (choices n l a 0 0 w).end → end ≡ (bodies n l a 0 (choices n l a 0 0 w)).end →
+          bodies n l a end (choices n l a first end w) ≡ case_piece n l a w
       case_written first end f_is e_is =
-          let e_there = e_is ∙ case_end in
-          ap₂ (λ f x. case_bodies n l x arms (choices n l e arms ss f x w)) (f_is ∙ first_is ((up_to_end (λ first. choices n l e arms ss first 0) ⨾ case_bodies n l 0 arms) w).end) e_there
+          ap₂ (λ f x. bodies n l a x (choices n l a f x w)) (f_is ∙ first_is (bodies n l a 0 (choices n l a (choices n l a 0 0 w).end 0 w)).end) (e_is ∙ end_is)
 
-      pub case_ends : (end : ℕ) → end ≡ (case_bodies n l 0 arms (choices n l e arms ss 0 0 w)).end → end ≡ (case_piece n l e arms ss w).end
+      pub case_ends : (end : ℕ) → end ≡ (bodies n l a 0 (choices n l a 0 0 w)).end → end ≡ (case_piece n l a w).end
       case_ends end is =
-          up_ends {p = λ end. up_to_end (λ first. choices n l e arms ss first end) ⨾ case_bodies n l end arms} (λ x y. both (ups (λ f g. choices_same e arms ss f g x y)) (bodies_same x y arms)) w end (is ∙ case_end)
+          up_ends {p = λ end. up_to_end (λ first. choices n l a first end) ⨾ bodies n l a end} (λ x y. both (ups (λ f g. choices_same a f g x y)) (bodies_same a x y)) w end (is ∙ end_is)
 
     -- the tests alone are as long as the tests with their places
     pub tests_alone : (first : ℕ) (arms : Arms) → Alike (tests_of_arms n arms) (all_tests n l first arms)
@@ -167,6 +173,18 @@ tests_in (arm items negated ss) = items
 pub arm_form : (x : code_arm.Arm) → arm_of x ≡ arm (items_of (out-Arm x).tests) (out-Arm x).negated (statements_of (out-Arm x).body.items)
 arm_form x = ap arm_of (sym (roll-out-Arm x)) ∙ arm_is (out-Arm x).tests (out-Arm x).negated (out-Arm x).body
 
+module _ (n : Names) (l : Option Loop) where
+  pub arm_to_is : (last : Piece) (x : code_arm.Arm) (ts : List item.Item) (code : ℕ) (ss : List stmt.Stmt) (next : ℕ) (w : Written) → ts ≡ (out-Arm x).tests → code ≡ zero_jump (out-Arm x).negated → ss ≡ (out-Arm x).body.items →
+      last (body n l (statements_of ss) (jump n.statement code next (test_of n (items_of ts) w))) ≡ arm_piece n l last (arm_of x) next w
+  arm_to_is last x ts code ss next w t c b =
+      ap (λ ts. last (body n l (statements_of ss) (jump n.statement code next (test_of n (items_of ts) w)))) t
+      ∙ ap (λ code. last (body n l (statements_of ss) (jump n.statement code next (test_of n (items_of (out-Arm x).tests) w)))) c
+      ∙ ap (λ ss. last (body n l (statements_of ss) (jump n.statement (zero_jump (out-Arm x).negated) next (test_of n (items_of (out-Arm x).tests) w)))) b
+      ∙ sym (ap (λ a. arm_piece n l last a next w) (arm_form x))
+
+  pub case_body_is : (end : ℕ) (x : code_arm.Arm) (ss : List stmt.Stmt) (w : Written) → ss ≡ (out-Arm x).body.items → jump n.statement 0x04 end (body n l (statements_of ss) (byte 0x0C w)) ≡ case_body n l end (arm_of x) w
+  case_body_is end x ss w b = ap (λ ss. jump n.statement 0x04 end (body n l (statements_of ss) (byte 0x0C w))) b ∙ sym (ap (λ a. case_body n l end a w) (arm_form x))
+
 module _ (n : Names) where
   tests_behind : (l : Option Loop) (first : ℕ) (xs : Arms) (x : Arm) (w : Written) → tests n (case_bodies n l 0 xs (record empty { end = first })).end (tests_in x) (all_tests n l first xs w) ≡ all_tests n l first (xs ⊳ x) w
   tests_behind l first xs (arm items negated ss) w = refl
@@ -226,23 +244,42 @@ module _ (n : Names) (l : Option Loop) where
   pub repeat_form : (k : stmt_kind.StmtKind) (course : loop.Loop) (v : Vec stmt.Stmt Global) → k ≡ stmt_case.Repeat course v → up_to_end (loop_piece n (course_of course) (statements_of v.items)) ≡ code_of n l (action_of k)
   repeat_form k course v is = repeat_piece (course_of course) (statements_of v.items) ∙ sym (ap (code_of n l) (ap action_of is ∙ repeat_is course v))
 
-  if_path : (k : stmt_kind.StmtKind) (v : Vec code_arm.Arm Global) (o : Option (Vec stmt.Stmt Global)) → k ≡ stmt_case.If v o → code_of n l (If (arms_of v.items) (other_body o)) ≡ code_of n l (action_of k)
-  if_path k v o is = sym (ap (code_of n l) (ap action_of is ∙ if_is v o))
+  if_action : (k : stmt_kind.StmtKind) (v : Vec code_arm.Arm Global) (o : Option (Vec stmt.Stmt Global)) → k ≡ stmt_case.If v o → action_of k ≡ If (arms_of v.items) (other_body o)
+  if_action k v o is = ap action_of is ∙ if_is v o
 
-  pub if_none : (k : stmt_kind.StmtKind) (v : Vec code_arm.Arm Global) (o : Option (Vec stmt.Stmt Global)) → k ≡ stmt_case.If v o → o ≡ None → up_to_end (branches n l false (arms_of v.items) no_statements) ≡ code_of n l (action_of k)
-  if_none k v o is none = ap (λ o. code_of n l (If (arms_of v.items) (other_body o))) (sym none) ∙ if_path k v o is
+  if_piece : (arms : Arms) (o : Otherwise) → up_to_end (branches n l (If arms o)) ≡ code_of n l (If arms o)
+  if_piece arms nothing_else = refl
+  if_piece arms (otherwise ss) = refl
 
-  pub if_some : (k : stmt_kind.StmtKind) (v : Vec code_arm.Arm Global) (o : Option (Vec stmt.Stmt Global)) (u : Vec stmt.Stmt Global) → k ≡ stmt_case.If v o → o ≡ Some u → up_to_end (branches n l true (arms_of v.items) (statements_of u.items)) ≡ code_of n l (action_of k)
-  if_some k v o u is some = ap (λ o. code_of n l (If (arms_of v.items) (other_body o))) (sym some) ∙ if_path k v o is
+  pub if_form : (k : stmt_kind.StmtKind) (v : Vec code_arm.Arm Global) (o : Option (Vec stmt.Stmt Global)) → k ≡ stmt_case.If v o → up_to_end (branches n l (action_of k)) ≡ code_of n l (action_of k)
+  if_form k v o is = subst (λ a. up_to_end (branches n l a) ≡ code_of n l a) (sym (if_action k v o is)) (if_piece (arms_of v.items) (other_body o))
 
-  case_path : (k : stmt_kind.StmtKind) (x : expr.Expr) (v : Vec code_arm.Arm Global) (o : Option (Vec stmt.Stmt Global)) → k ≡ stmt_case.Case x v o → code_of n l (Case (tree_of x) (arms_of v.items) (other_body o)) ≡ code_of n l (action_of k)
-  case_path k x v o is = sym (ap (code_of n l) (ap action_of is ∙ case_is x v o))
+  pub branch_none : (k : stmt_kind.StmtKind) (v : Vec code_arm.Arm Global) (o : Option (Vec stmt.Stmt Global)) (end : ℕ) → k ≡ stmt_case.If v o → o ≡ None →
+      chain n l (jump n.statement 0x04 end) nothing (arms_of v.items) ≡ branches n l (action_of k) end
+  branch_none k v o end is none = ap (λ o. branches n l (If (arms_of v.items) (other_body o)) end) (sym none) ∙ sym (ap (λ a. branches n l a end) (if_action k v o is))
 
-  pub case_none : (k : stmt_kind.StmtKind) (x : expr.Expr) (v : Vec code_arm.Arm Global) (o : Option (Vec stmt.Stmt Global)) → k ≡ stmt_case.Case x v o → o ≡ None → case_piece n l (tree_of x) (arms_of v.items) no_statements ≡ code_of n l (action_of k)
-  case_none k x v o is none = ap (λ o. code_of n l (Case (tree_of x) (arms_of v.items) (other_body o))) (sym none) ∙ case_path k x v o is
+  pub branch_some : (k : stmt_kind.StmtKind) (v : Vec code_arm.Arm Global) (o : Option (Vec stmt.Stmt Global)) (u : Vec stmt.Stmt Global) (end : ℕ) → k ≡ stmt_case.If v o → o ≡ Some u →
+      (chain n l (jump n.statement 0x04 end) (jump n.statement 0x04 end) (arms_of v.items) ⨾ body n l (statements_of u.items)) ≡ branches n l (action_of k) end
+  branch_some k v o u end is some = ap (λ o. branches n l (If (arms_of v.items) (other_body o)) end) (sym some) ∙ sym (ap (λ a. branches n l a end) (if_action k v o is))
 
-  pub case_some : (k : stmt_kind.StmtKind) (x : expr.Expr) (v : Vec code_arm.Arm Global) (o : Option (Vec stmt.Stmt Global)) (u : Vec stmt.Stmt Global) → k ≡ stmt_case.Case x v o → o ≡ Some u → case_piece n l (tree_of x) (arms_of v.items) (statements_of u.items) ≡ code_of n l (action_of k)
-  case_some k x v o u is some = ap (λ o. code_of n l (Case (tree_of x) (arms_of v.items) (other_body o))) (sym some) ∙ case_path k x v o is
+  case_action : (k : stmt_kind.StmtKind) (x : expr.Expr) (v : Vec code_arm.Arm Global) (o : Option (Vec stmt.Stmt Global)) → k ≡ stmt_case.Case x v o → action_of k ≡ Case (tree_of x) (arms_of v.items) (other_body o)
+  case_action k x v o is = ap action_of is ∙ case_is x v o
+
+  pub case_form : (k : stmt_kind.StmtKind) (x : expr.Expr) (v : Vec code_arm.Arm Global) (o : Option (Vec stmt.Stmt Global)) → k ≡ stmt_case.Case x v o → case_piece n l (action_of k) ≡ code_of n l (action_of k)
+  case_form k x v o is = subst (λ a. case_piece n l a ≡ code_of n l a) (sym (case_action k x v o is)) refl
+
+  pub choice_none : (k : stmt_kind.StmtKind) (x : expr.Expr) (v : Vec code_arm.Arm Global) (o : Option (Vec stmt.Stmt Global)) (first end : ℕ) → k ≡ stmt_case.Case x v o → o ≡ None →
+      (value n (tree_of x) ⨾ all_tests n l first (arms_of v.items) ⨾ byte 0x0C ⨾ jump n.statement 0x04 end) ≡ choices n l (action_of k) first end
+  choice_none k x v o first end is none =
+      ap (λ o. choices n l (Case (tree_of x) (arms_of v.items) (other_body o)) first end) (sym none) ∙ sym (ap (λ a. choices n l a first end) (case_action k x v o is))
+
+  pub choice_some : (k : stmt_kind.StmtKind) (x : expr.Expr) (v : Vec code_arm.Arm Global) (o : Option (Vec stmt.Stmt Global)) (u : Vec stmt.Stmt Global) (first end : ℕ) → k ≡ stmt_case.Case x v o → o ≡ Some u →
+      (value n (tree_of x) ⨾ all_tests n l first (arms_of v.items) ⨾ byte 0x0C ⨾ body n l (statements_of u.items) ⨾ jump n.statement 0x04 end) ≡ choices n l (action_of k) first end
+  choice_some k x v o u first end is some =
+      ap (λ o. choices n l (Case (tree_of x) (arms_of v.items) (other_body o)) first end) (sym some) ∙ sym (ap (λ a. choices n l a first end) (case_action k x v o is))
+
+  pub bodies_form : (k : stmt_kind.StmtKind) (x : expr.Expr) (v : Vec code_arm.Arm Global) (o : Option (Vec stmt.Stmt Global)) (end : ℕ) → k ≡ stmt_case.Case x v o → case_bodies n l end (arms_of v.items) ≡ bodies n l (action_of k) end
+  bodies_form k x v o end is = sym (ap (λ a. bodies n l a end) (case_action k x v o is))
 
 -- ---- what a writer does, whatever code it stands for
 

@@ -1,13 +1,13 @@
 -- Pieces of statements as the code cuts them: internal.
 use Rattle.std.specs.Prelude.{ℕ, Bool, true, false, not, if◌then◌else◌, List, Option, Some, None}
 use Rattle.p8_tree.specs.Expressions.{Tree, Items}
-use Rattle.p8_tree.specs.Statements.{Course, Forever, Count, Before, After, From, Arm, arm, Arms, no_arms, ◌⊳◌, Statements}
+use Rattle.p8_tree.specs.Statements.{Action, If, Case, nothing_else, otherwise, Course, Forever, Count, Before, After, From, Arm, arm, Arms, no_arms, ◌⊳◌, Statements}
 use Rattle.p8_gen.specs.Names.{Names}
 use Rattle.p8_gen.specs.Pieces.{Piece, nothing, one, ◌⨾◌, from_start, up_to_end, byte, jump, jumping}
 use Rattle.p8_gen.specs.Variables.{home_of, plain_op, Pop}
 use Rattle.p8_gen.specs.Expressions.{value}
 use Rattle.p8_gen.specs.Scopes.{names_of}
-use Rattle.p8_gen.specs.Statements.{Loop, inside, zero_jump, test_of, tests, step_of, step_effect, plain_name, body, chain, all_tests, case_bodies}
+use Rattle.p8_gen.specs.Statements.{Loop, inside, zero_jump, test_of, tests, step_of, step_effect, plain_name, body, chain, other_body, all_tests, case_bodies}
 use Rattle.p8_stmt.specs.declared.context.Context.{Context}
 use Rattle.p8_stmt.specs.declared.context.LoopPlaces.{LoopPlaces}
 
@@ -37,24 +37,32 @@ abbrev pub arm_piece : Names → Option Loop → (last : Piece) → Arm → (nex
 arm_piece names loop last (arm items negated ss) next =
     test_of names items ⨾ jump names.statement (zero_jump negated) next ⨾ body names loop ss ⨾ last
 
--- arms and the body of ELSE, and whether the last arm jumps to the end
-abbrev pub branches : Names → Option Loop → (jumps : Bool) → Arms → Statements → (end : ℕ) → Piece
-branches names loop jumps arms ss end = chain names loop (jump names.statement 0x04 end) (leap names jumps end) arms ⨾ body names loop ss
+-- the arms of an IF and the body of its ELSE, with which the last arm jumps to the end, too
+abbrev pub branches : Names → Option Loop → Action → (end : ℕ) → Piece
+branches names loop (If arms nothing_else) end = chain names loop (jump names.statement 0x04 end) nothing arms
+branches names loop (If arms (otherwise ss)) end = chain names loop (jump names.statement 0x04 end) (jump names.statement 0x04 end) arms ⨾ body names loop ss
+branches names loop _ end = nothing
 
 -- ---- CASE
 
--- the value, all tests, and the body of OTHER
-abbrev pub choices : Names → Option Loop → Tree → Arms → Statements → (first end : ℕ) → Piece
-choices names loop e arms ss first end =
-    value names e ⨾ all_tests names loop first arms ⨾ byte 0x0C ⨾ body names loop ss ⨾ jump names.statement 0x04 end
+-- the value of a CASE, all tests, and the body of OTHER
+abbrev pub choices : Names → Option Loop → Action → (first end : ℕ) → Piece
+choices names loop (Case e arms other) first end =
+    value names e ⨾ all_tests names loop first arms ⨾ byte 0x0C ⨾ other_body names loop other ⨾ jump names.statement 0x04 end
+choices names loop _ first end = nothing
+
+-- the bodies of its arms
+abbrev pub bodies : Names → Option Loop → Action → (end : ℕ) → Piece
+bodies names loop (Case e arms other) end = case_bodies names loop end arms
+bodies names loop _ end = nothing
 
 -- the tests alone, with jumps that go nowhere
 abbrev pub tests_of_arms : Names → Arms → Piece
 tests_of_arms names no_arms = nothing
 tests_of_arms names (arms ⊳ arm items negated ss) = tests_of_arms names arms ⨾ tests names 0 items
 
-abbrev pub case_piece : Names → Option Loop → Tree → Arms → Statements → Piece
-case_piece names loop e arms ss = up_to_end (λ end. up_to_end (λ first. choices names loop e arms ss first end) ⨾ case_bodies names loop end arms)
+abbrev pub case_piece : Names → Option Loop → Action → Piece
+case_piece names loop action = up_to_end (λ end. up_to_end (λ first. choices names loop action first end) ⨾ bodies names loop action end)
 
 abbrev pub case_body : Names → Option Loop → (end : ℕ) → Arm → Piece
 case_body names loop end (arm items negated ss) = byte 0x0C ⨾ body names loop ss ⨾ jump names.statement 0x04 end

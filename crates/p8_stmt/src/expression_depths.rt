@@ -148,26 +148,27 @@ fn held_by_built(coder: &Coder<'_>, code: u8, arguments: &[Expr]) -> u16
     match form_of_built(code, arguments.len()) {
         BuiltForm::Word => u16::from(code != 0x29),
         BuiltForm::Constant => 1,
-        BuiltForm::NewCog => held_by_start(coder, &arguments[0], &arguments[1]),
+        BuiltForm::NewCog => held_by_start(coder, &arguments[0], held(coder, &arguments[1])),
         BuiltForm::ToldCog => {
-            held(coder, &arguments[0]).max(held_by_start(coder, &arguments[1], &arguments[2]))
+            let given = held(coder, &arguments[2]);
+            held(coder, &arguments[0]).max(held_by_start(coder, &arguments[1], given))
         }
         BuiltForm::Plain => held_by_trees(coder, arguments),
     }
 }
 
-// A method or PASM that is started, and what it is given, behind the number of the cog.
+// A method or PASM that is started, and what it is given, which holds so many, behind the number of the cog.
 #[cycle(depths)]
-fn held_by_start(coder: &Coder<'_>, begun: &Expr, given: &Expr) -> u16
-    ensures { result ≡ cut (held_by_start (names_of coder.now) (tree_of begun.now) (tree_of given.now)) }
+fn held_by_start(coder: &Coder<'_>, begun: &Expr, given: u16) -> u16
+    ensures { (k : ℕ) → given ≡ cut k → result ≡ cut (held_by_start (names_of coder.now) (tree_of begun.now) k) }
 {
     if coder.starts_method(begun) {
         let below = arguments_of(begun).saturating_add(1);
         let arguments = held_by_arguments(coder, begun).saturating_add(1);
-        arguments.max(below.saturating_add(held(coder, given)))
+        arguments.max(below.saturating_add(given))
     } else {
         let address = held(coder, begun).saturating_add(1);
-        address.max(held(coder, given).saturating_add(2))
+        address.max(given.saturating_add(2))
     }
 }
 

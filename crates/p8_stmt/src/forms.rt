@@ -1,5 +1,5 @@
 // The parts of statements beside the statements inside them.
-ghost use Rattle.std.specs.Prelude.{◌≡◌, OnOk, if◌then◌else◌, option_map};
+ghost use Rattle.std.specs.Prelude.{◌≡◌, ◌+◌, ◌<◌, ◌||◌, nat_lt, OnOk, if◌then◌else◌, option_map};
 ghost use Rattle.p8_tree.specs.Expressions.{no_items, ◌▸◌};
 ghost use Rattle.p8_tree.specs.Views.{tree_of, item_of, items_of, course_of, arms_of};
 ghost use Rattle.p8_gen.specs.Pieces.{Written};
@@ -31,6 +31,14 @@ pub(crate) fn keeps_count(course: &Loop) -> bool
     ensures { result ≡ keeps_count (course_of course.now) }
 {
     matches!(course, Loop::Count(_))
+}
+
+/// Whether an arm of `IF` jumps to the end: each but the last does, and the last one where it is told to.
+pub(crate) fn jumps_away(last_jumps: bool, index: usize, count: usize) -> bool
+    requires { index < count }
+    ensures { result ≡ (last_jumps || nat_lt (index + 1) count) }
+{
+    last_jumps || index + 1 < count
 }
 
 // The effect of a loop's step, which is 1 where none is given.

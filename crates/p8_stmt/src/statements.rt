@@ -1,15 +1,15 @@
 // The code of statements. The calls go as deep as blocks stand in one another.
 ghost use Rattle.std.specs.Prelude.{◌≡◌, OnOk};
-ghost use Rattle.p8_tree.specs.Views.{tree_of, course_of, arm_of, arms_of, statement_of, statements_of};
-ghost use Rattle.p8_gen.specs.Pieces.{Written, up_to_end};
-ghost use Rattle.p8_gen.specs.Statements.{inside, code, body, all_tests, case_bodies};
+ghost use Rattle.p8_tree.specs.Views.{course_of, action_of, arm_of, arms_of, statement_of, statements_of};
+ghost use Rattle.p8_gen.specs.Pieces.{Written, up_to_end, jump};
+ghost use Rattle.p8_gen.specs.Statements.{inside, code, body, chain, all_tests, case_bodies};
 ghost use Rattle.p8_gen.specs.Writing.{Stands};
-ghost use Rattle.p8_stmt.specs.Walking.{names_at, loop_at, leap, arm_piece, branches, choices, case_piece, case_body, tests_of_arms, up_to_next, looped, loop_piece};
+ghost use Rattle.p8_stmt.specs.Walking.{names_at, loop_at, leap, arm_piece, branches, choices, bodies, case_piece, case_body, up_to_next, looped, loop_piece};
 
 use crate::context::{Context, LoopPlaces};
-use crate::forms::{goes_to_begin, keeps_count, zero_jump};
+use crate::forms::{goes_to_begin, jumps_away, keeps_count, zero_jump};
 use p8_gen::{Coder, Writer};
-use p8_tree::{Arm, Expr, Loop, Stmt, StmtKind};
+use p8_tree::{Arm, Loop, Stmt, StmtKind};
 use std::alloc::AllocError;
 
 impl Context<'_> {
@@ -36,14 +36,8 @@ impl Context<'_> {
         let here = Context { coder, ..*self };
         match &statement.kind {
             StmtKind::Do(expr) => here.coder.alone(expr, out),
-            StmtKind::If(arms, rest) => match rest {
-                None => here.chain(false, arms, &[], out),
-                Some(body) => here.chain(true, arms, body, out),
-            },
-            StmtKind::Case(value, arms, rest) => match rest {
-                None => here.case(value, arms, &[], out),
-                Some(body) => here.case(value, arms, body, out),
-            },
+            StmtKind::If(..) => here.chain(statement, out),
+            StmtKind::Case(..) => here.case(statement, out),
             StmtKind::Repeat(course, body) => here.repeat(course, body, out),
             StmtKind::Next => here.next(out),
             StmtKind::Quit => here.quit(out),
@@ -52,42 +46,53 @@ impl Context<'_> {
         }
     }
 
-    // Appends the arms of an IF and the body of its ELSE. Where it has one the last arm jumps to the end, as the others do.
+    // Appends an IF.
     #[cycle(statements)]
-    fn chain(
-        &self,
-        last_jumps: bool,
-        arms: &[Arm],
-        other: &[Stmt],
-        out: &mut Writer,
-    ) -> Result<(), AllocError>
-        ensures { (w : Written) → Stands out.old w → OnOk result (Stands out.new (up_to_end (branches (names_at self.now) (loop_at self.now) last_jumps (arms_of arms.now) (statements_of other.now)) w)) }
+    fn chain(&self, statement: &Stmt, out: &mut Writer) -> Result<(), AllocError>
+        ensures { (w : Written) → Stands out.old w → OnOk result (Stands out.new (up_to_end (branches (names_at self.now) (loop_at self.now) (action_of statement.now.kind)) w)) }
     {
         let mut counter = out.counter();
-        self.branches(last_jumps, 0, arms, other, &mut counter)?;
+        self.branches(0, statement, &mut counter)?;
         if out.counts(counter.end) {
             Ok(())
         } else {
-            self.branches(last_jumps, counter.end, arms, other, out)
+            self.branches(counter.end, statement, out)
         }
     }
 
-    // Appends the arms of an IF, which jump to a place, and the body of its ELSE.
+    // Appends the arms of an IF, which jump to a place, and the body of its ELSE. Of another statement nothing is known.
     #[cycle(statements)]
-    fn branches(
+    fn branches(&self, end: u32, statement: &Stmt, out: &mut Writer) -> Result<(), AllocError>
+        ensures { (w : Written) → Stands out.old w → OnOk result (Stands out.new (branches (names_at self.now) (loop_at self.now) (action_of statement.now.kind) end w)) }
+    {
+        match &statement.kind {
+            StmtKind::If(arms, rest) => match rest {
+                None => self.arms(false, end, arms, out),
+                Some(body) => {
+                    self.arms(true, end, arms, out)?;
+                    self.body(body, out)
+                }
+            },
+            _ => Err(AllocError),
+        }
+    }
+
+    // Appends the arms of an IF. Each but the last jumps to a place, and the last one where it is told to.
+    #[cycle(statements)]
+    fn arms(
         &self,
         last_jumps: bool,
         end: u32,
         arms: &[Arm],
-        other: &[Stmt],
         out: &mut Writer,
     ) -> Result<(), AllocError>
-        ensures { (w : Written) → Stands out.old w → OnOk result (Stands out.new (branches (names_at self.now) (loop_at self.now) last_jumps (arms_of arms.now) (statements_of other.now) end w)) }
+        ensures { (w : Written) → Stands out.old w → OnOk result (Stands out.new (chain (names_at self.now) (loop_at self.now) (jump (names_at self.now).statement 0x04 end) (leap (names_at self.now) last_jumps end) (arms_of arms.now) w)) }
     {
         for (index, arm) in arms.iter().enumerate() {
-            self.arm(last_jumps || index + 1 < arms.len(), end, arm, out)?;
+            let jumps = jumps_away(last_jumps, index, arms.len());
+            self.arm(jumps, end, arm, out)?;
         }
-        self.body(other, out)
+        Ok(())
     }
 
     // Appends an arm of an IF, which jumps to a place or not.
@@ -124,46 +129,60 @@ impl Context<'_> {
 
     // Appends a CASE: its tests and the body of OTHER, and then the bodies of its arms.
     #[cycle(statements)]
-    fn case(
-        &self,
-        value: &Expr,
-        arms: &[Arm],
-        other: &[Stmt],
-        out: &mut Writer,
-    ) -> Result<(), AllocError>
-        ensures { (w : Written) → Stands out.old w → OnOk result (Stands out.new (case_piece (names_at self.now) (loop_at self.now) (tree_of value.now) (arms_of arms.now) (statements_of other.now) w)) }
+    fn case(&self, statement: &Stmt, out: &mut Writer) -> Result<(), AllocError>
+        ensures { (w : Written) → Stands out.old w → OnOk result (Stands out.new (case_piece (names_at self.now) (loop_at self.now) (action_of statement.now.kind) w)) }
     {
         let mut counter = out.counter();
-        self.choices(0, 0, value, arms, other, &mut counter)?;
+        self.choices(0, 0, statement, &mut counter)?;
         let first = counter.end;
-        self.case_bodies(0, arms, &mut counter)?;
+        self.bodies(0, statement, &mut counter)?;
         let end = counter.end;
         if out.counts(end) {
             Ok(())
         } else {
-            self.choices(first, end, value, arms, other, out)?;
-            self.case_bodies(end, arms, out)
+            self.choices(first, end, statement, out)?;
+            self.bodies(end, statement, out)
         }
     }
 
-    // Appends the value of a CASE, the tests of its arms, whose bodies stand from a place on, and the body of OTHER.
+    // Appends the value of a CASE, the tests of its arms, whose bodies stand from a place on, and the body of OTHER. Of another
+    // statement nothing is known.
     #[cycle(statements)]
     fn choices(
         &self,
         first: u32,
         end: u32,
-        value: &Expr,
-        arms: &[Arm],
-        other: &[Stmt],
+        statement: &Stmt,
         out: &mut Writer,
     ) -> Result<(), AllocError>
-        ensures { (w : Written) → Stands out.old w → OnOk result (Stands out.new (choices (names_at self.now) (loop_at self.now) (tree_of value.now) (arms_of arms.now) (statements_of other.now) first end w)) }
+        ensures { (w : Written) → Stands out.old w → OnOk result (Stands out.new (choices (names_at self.now) (loop_at self.now) (action_of statement.now.kind) first end w)) }
     {
-        self.coder.value(value, out)?;
-        self.all_tests(first, arms, out)?;
-        out.byte(0x0C)?;
-        self.body(other, out)?;
-        out.jump(self.coder.statement, 0x04, end)
+        match &statement.kind {
+            StmtKind::Case(value, arms, rest) => {
+                self.coder.value(value, out)?;
+                self.all_tests(first, arms, out)?;
+                out.byte(0x0C)?;
+                match rest {
+                    None => out.jump(self.coder.statement, 0x04, end),
+                    Some(body) => {
+                        self.body(body, out)?;
+                        out.jump(self.coder.statement, 0x04, end)
+                    }
+                }
+            }
+            _ => Err(AllocError),
+        }
+    }
+
+    // Appends the bodies of a CASE, which jump to a place. Of another statement nothing is known.
+    #[cycle(statements)]
+    fn bodies(&self, end: u32, statement: &Stmt, out: &mut Writer) -> Result<(), AllocError>
+        ensures { (w : Written) → Stands out.old w → OnOk result (Stands out.new (bodies (names_at self.now) (loop_at self.now) (action_of statement.now.kind) end w)) }
+    {
+        match &statement.kind {
+            StmtKind::Case(_, arms, _) => self.case_bodies(end, arms, out),
+            _ => Err(AllocError),
+        }
     }
 
     // Appends the tests of all arms of a CASE, whose bodies stand from a place on. How long the tests are doesn't depend on that,

@@ -41,16 +41,36 @@ held_in_case-returns t c =
     ∙ cut_max _ _ ∙ ap cut (case_held n c.args.arm.now)
 
 pub held_in_action-returns-in-None : goal.held_in_action-returns-in-None
-held_in_action-returns-in-None t c = ?
+held_in_action-returns-in-None t c =
+    let n = names_of c.args.coder.now in
+    c.held_in_arms.ensures
+    ∙ ap cut (ap (λ xs. held_in_arms n (arms_of xs)) c.deref.ensures.value ∙ if_none n c.args.statement.now.kind c.in-If.arms c.in-If.rest c.in-If.is c.in-None.is)
 
 pub held_in_action-returns-in-Some : goal.held_in_action-returns-in-Some
-held_in_action-returns-in-Some t c = ?
+held_in_action-returns-in-Some t c =
+    let n = names_of c.args.coder.now in
+    c.max.ensures
+    ∙ ap₂ max (c.held_in_arms-in-Some.ensures ∙ ap (λ xs. cut (held_in_arms n (arms_of xs))) c.deref-in-Some.ensures.value)
+    (c.held_in.ensures ∙ ap (λ ss. cut (held_in n (statements_of ss))) c.deref-in-Some-2.ensures.value)
+    ∙ cut_max _ _ ∙ ap cut (if_some n c.args.statement.now.kind c.in-If.arms c.in-If.rest c.in-Some.body c.in-If.is c.in-Some.is)
 
 pub held_in_action-returns-in-None-rest : goal.held_in_action-returns-in-None-rest
-held_in_action-returns-in-None-rest t c = ?
+held_in_action-returns-in-None-rest t c =
+    let n = names_of c.args.coder.now in
+    c.max-most.ensures
+    ∙ ap₂ max c.held.ensures (c.held_in_cases.ensures ∙ ap (λ xs. cut (held_in_cases n (arms_of xs))) c.deref-in-Case.ensures.value)
+    ∙ cut_max _ _ ∙ ap cut (case_none n c.args.statement.now.kind c.in-Case.value c.in-Case.arms c.in-Case.rest c.in-Case.is c.in-None-rest.is)
 
 pub held_in_action-returns-in-Some-rest : goal.held_in_action-returns-in-Some-rest
-held_in_action-returns-in-Some-rest t c = ?
+held_in_action-returns-in-Some-rest t c =
+    let n = names_of c.args.coder.now in
+    c.max-in-Some-rest.ensures
+    ∙ ap₂ max (c.max-most.ensures ∙ ap₂ max c.held.ensures (c.held_in_cases.ensures ∙ ap (λ xs. cut (held_in_cases n (arms_of xs))) c.deref-in-Case.ensures.value) ∙ cut_max _ _)
+    (c.held_in-in-Some-rest.ensures ∙ ap (λ ss. cut (held_in n (statements_of ss))) c.deref-in-Some-rest.ensures.value)
+    ∙ cut_max _ _ ∙ ap cut (case_some n c.args.statement.now.kind c.in-Case.value c.in-Case.arms c.in-Case.rest c.in-Some-rest.body c.in-Case.is c.in-Some-rest.is)
 
 pub held_in_action-returns-in-Repeat : goal.held_in_action-returns-in-Repeat
-held_in_action-returns-in-Repeat t c = ?
+held_in_action-returns-in-Repeat t c =
+    let n = names_of c.args.coder.now in
+    c.held_in_loop.ensures _ (c.held_in-in-Repeat.ensures ∙ ap (λ ss. cut (held_in n (statements_of ss))) c.deref-in-Repeat.ensures.value)
+    ∙ ap cut (repeat_form n c.args.statement.now.kind c.in-Repeat.course c.in-Repeat.body c.in-Repeat.is)

@@ -1,20 +1,20 @@
-use Rattle.std.proofs.Common.{OnOk, ap, sym, ◌∙◌, subst, take, length, nat_lt, ◌||◌, false}
+use Rattle.std.proofs.Common.{OnOk, ap, sym, ◌∙◌, subst, take, length, nat_lt, ◌||◌, false, ◌+◌}
 use Rattle.p8_tree.specs.Views.{tree_of, course_of, action_of, arm_of, arms_of, statement_of, statements_of}
 use Rattle.p8_tree.specs.declared.statements.Arm.{out-Arm}
 use Rattle.p8_gen.specs.Pieces.{empty, up_to_end, jump}
 use Rattle.p8_gen.specs.Statements.{inside, code, body, chain, tests, test_of, all_tests, case_bodies}
 use Rattle.p8_gen.specs.Writing.{Stands}
-use Rattle.p8_stmt.specs.Walking.{names_at, loop_at, leap, arm_piece, branches, choices, case_piece, case_body, tests_of_arms, first_test, head, pass_end, up_to_next, looped, loop_piece, goes_to_begin, keeps_count}
-use Rattle.p8_stmt.proofs.Walks.{Runs, up_ends, same_end, branches_same, arm_same, case_ends, case_written, tests_alone, loop_same, next_same, statements_next, arms_next, bodies_next, all_tests_next, arm_form, if_none, if_some, case_none, case_some, repeat_form}
+use Rattle.p8_stmt.specs.Walking.{names_at, loop_at, leap, arm_piece, branches, choices, bodies, case_piece, case_body, tests_of_arms, first_test, head, pass_end, up_to_next, looped, loop_piece, goes_to_begin, keeps_count}
+use Rattle.p8_stmt.proofs.Walks.{Runs, up_ends, same_end, branches_same, arm_same, case_ends, case_written, tests_alone, loop_same, next_same, statements_next, arms_next, bodies_next, all_tests_next, arm_to_is, case_body_is, if_form, branch_none, branch_some, case_form, choice_none, choice_some, bodies_form, repeat_form}
 use Rattle.p8_stmt.proofs.context.Context.+statements.Goals as goal
 
 pub chain-returns-then-counts : goal.chain-returns-then-counts
 chain-returns-then-counts t c = λ w stands.
     let n = names_at c.args.self.now in
     let l = loop_at c.args.self.now in
-    let p = branches n l c.args.last_jumps (arms_of c.args.arms.now) (statements_of c.args.other.now) in
+    let p = branches n l (action_of c.args.statement.now.kind) in
     let counted : Stands c.branches.new.out (p 0 w) = c.in_ok-branches.ensures w (c.counter-counter.ensures w stands) in
-    c.if-counts.ensures.counts (up_to_end p w) (up_ends {p = p} (branches_same n l c.args.last_jumps (arms_of c.args.arms.now) (statements_of c.args.other.now)) w _ counted.ends)
+    c.if-counts.ensures.counts (up_to_end p w) (up_ends {p = p} (branches_same n l (action_of c.args.statement.now.kind)) w _ counted.ends)
 
 pub arm-returns-then-counts : goal.arm-returns-then-counts
 arm-returns-then-counts t c = λ w stands.
@@ -51,11 +51,19 @@ pub case-returns-then-counts : goal.case-returns-then-counts
 case-returns-then-counts t c = λ w stands.
     let n = names_at c.args.self.now in
     let l = loop_at c.args.self.now in
-    let e = tree_of c.args.value.now in
-    let arms = arms_of c.args.arms.now in
-    let ss = statements_of c.args.other.now in
-    let counted : Stands c.case_bodies.new.out (case_bodies n l 0 arms (choices n l e arms ss 0 0 w)) = c.in_ok-case_bodies.ensures _ (c.in_ok-choices.ensures w (c.counter-counter.ensures w stands)) in
-    c.if-counts.ensures.counts (case_piece n l e arms ss w) (case_ends n l e arms ss w _ counted.ends)
+    let a = action_of c.args.statement.now.kind in
+    let counted : Stands c.bodies.new.out (bodies n l a 0 (choices n l a 0 0 w)) = c.in_ok-bodies.ensures _ (c.in_ok-choices.ensures w (c.counter-counter.ensures w stands)) in
+    c.if-counts.ensures.counts (case_piece n l a w) (case_ends n l a w _ counted.ends)
+
+pub case-returns : goal.case-returns
+case-returns t c = λ w stands.
+    let n = names_at c.args.self.now in
+    let l = loop_at c.args.self.now in
+    let a = action_of c.args.statement.now.kind in
+    let first : Stands c.choices.new.out (choices n l a 0 0 w) = c.in_ok-choices.ensures w (c.counter-counter.ensures w stands) in
+    let counted : Stands c.bodies.new.out (bodies n l a 0 (choices n l a 0 0 w)) = c.in_ok-bodies.ensures _ first in
+    subst (λ v. OnOk c.bodies-else-counts.result (Stands c.bodies-else-counts.new.out v)) (case_written n l a w _ _ first.ends counted.ends)
+    (c.bodies-else-counts.ensures _ (c.in_ok-choices-2.ensures w (subst (λ o. Stands o w) (sym c.if-counts.ensures.writes) stands)))
 
 pub body-loop-statement-preserved : goal.body-loop-statement-preserved
 body-loop-statement-preserved t c = λ w stands.
@@ -80,5 +88,59 @@ statement-returns-in-Repeat t c =
     let n = record (names_at c.args.self.now) { statement = c.args.statement.now.place } in
     let l = loop_at c.args.self.now in
     subst (Runs c.args.out.now c.repeat.result c.repeat.new.out)
-    (ap (λ ss. up_to_end (loop_piece n (course_of c.in-Repeat.course) (statements_of ss))) c.deref-in-Repeat.ensures.value ∙ repeat_form n l c.args.statement.now.kind c.in-Repeat.course c.in-Repeat.body c.in-Repeat.is)
+    (ap (λ ss. up_to_end (loop_piece n (course_of c.in-Repeat.course) (statements_of ss))) c.deref.ensures.value ∙ repeat_form n l c.args.statement.now.kind c.in-Repeat.course c.in-Repeat.body c.in-Repeat.is)
     c.repeat.ensures
+
+pub statement-returns-in-If : goal.statement-returns-in-If
+statement-returns-in-If t c =
+    let n = record (names_at c.args.self.now) { statement = c.args.statement.now.place } in
+    let l = loop_at c.args.self.now in
+    subst (Runs c.args.out.now c.chain.result c.chain.new.out) (if_form n l c.args.statement.now.kind c.in-If.field-0 c.in-If.field-1 c.in-If.is) c.chain.ensures
+
+pub statement-returns-in-Case : goal.statement-returns-in-Case
+statement-returns-in-Case t c =
+    let n = record (names_at c.args.self.now) { statement = c.args.statement.now.place } in
+    let l = loop_at c.args.self.now in
+    subst (Runs c.args.out.now c.case.result c.case.new.out) (case_form n l c.args.statement.now.kind c.in-Case.field-0 c.in-Case.field-1 c.in-Case.field-2 c.in-Case.is) c.case.ensures
+
+pub arms-loop-index-preserved : goal.arms-loop-index-preserved
+arms-loop-index-preserved t c = λ w stands.
+    let n = names_at c.args.self.now in
+    let l = loop_at c.args.self.now in
+    let xs = c.args.arms.now in
+    let i = c.loop-index.index in
+    let here = c.args.last_jumps || nat_lt (i + 1) (length xs) in
+    let before = chain n l (jump n.statement 0x04 c.args.end) (leap n (c.args.last_jumps || nat_lt i (length xs)) c.args.end) (arms_of (take i xs)) w in
+    subst (Stands c.arm.new.out) (arms_next n l c.args.last_jumps c.args.end xs i c.index-arms-index.result w (leap n here c.args.end) c.loop-index-test.true)
+    (subst (λ x. Stands c.arm.new.out (up_to_end (arm_piece n l (leap n here c.args.end) (arm_of x)) before)) c.index-arms-index.is
+    (subst (λ t. Stands c.arm.new.out (up_to_end (arm_piece n l (leap n t c.args.end) (arm_of c.index-arms-index.result)) before)) c.jumps_away-jumps.ensures
+    (c.in_ok-arm.ensures before (c.loop-index.invariant w stands))))
+
+pub arm_to-returns : goal.arm_to-returns
+arm_to-returns t c = λ w stands.
+    let n = names_at c.args.self.now in
+    let l = loop_at c.args.self.now in
+    subst (λ v. OnOk c.leap.result (Stands c.leap.new.out v))
+    (arm_to_is n l (leap n c.args.jumps c.args.end) c.args.arm.now c.as_slice.result.now c.zero_jump.result c.deref.result.now c.args.next w c.as_slice.ensures c.zero_jump.ensures c.deref.ensures.value)
+    (c.leap.ensures _ (c.in_ok-body.ensures _ (c.in_ok-jump.ensures _ (c.in_ok-test_of.ensures w stands))))
+
+pub case_body-returns : goal.case_body-returns
+case_body-returns t c = λ w stands.
+    let n = names_at c.args.self.now in
+    let l = loop_at c.args.self.now in
+    subst (λ v. OnOk c.jump.result (Stands c.jump.new.self v)) (case_body_is n l c.args.end c.args.arm.now c.deref.result.now w c.deref.ensures.value)
+    (c.jump.ensures _ (c.in_ok-body.ensures _ (c.in_ok-byte.ensures w stands)))
+
+pub placed_tests-loop-arm-preserved : goal.placed_tests-loop-arm-preserved
+placed_tests-loop-arm-preserved t c =
+    let n = names_at c.args.self.now in
+    let l = loop_at c.args.self.now in
+    let xs = c.args.arms.now in
+    let i = c.loop-arm.arm-index in
+    let bodies_before = case_bodies n l 0 (arms_of (take i xs)) (record empty { end = c.args.first }) in
+    (λ w stands.
+    subst (Stands c.tests.new.out)
+    (all_tests_next n l c.args.first c.loop-arm.bodies.end xs i c.arm-item.result c.as_slice.result.now w c.loop-arm-test.true (c.as_slice.ensures ∙ ap (λ x. (out-Arm x).tests) c.arm-item.is) c.loop-arm.invariant.1.ends)
+    (c.in_ok-tests.ensures (all_tests n l c.args.first (arms_of (take i xs)) w) (c.loop-arm.invariant.0 w stands)),
+    subst (Stands c.case_body.new.out) (bodies_next n l 0 xs i c.arm-item.result (record empty { end = c.args.first }) c.loop-arm-test.true)
+    (subst (λ x. Stands c.case_body.new.out (case_body n l 0 (arm_of x) bodies_before)) c.arm-item.is (c.in_ok-case_body.ensures bodies_before c.loop-arm.invariant.1)))

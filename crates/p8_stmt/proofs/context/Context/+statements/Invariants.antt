@@ -10,8 +10,8 @@ abbrev pub invariant-body-loop-statement : goal.invariant-body-loop-statement
 invariant-body-loop-statement l =
     (w : Written) → Stands l.initial.out w → Stands l.out (body (names_at l.self) (loop_at l.self) (statements_of (take l.statement-index l.statements)) w)
 
-abbrev pub invariant-branches-loop-index : goal.invariant-branches-loop-index
-invariant-branches-loop-index l =
+abbrev pub invariant-arms-loop-index : goal.invariant-arms-loop-index
+invariant-arms-loop-index l =
     (w : Written) → Stands l.initial.out w →
     Stands l.out (chain (names_at l.self) (loop_at l.self) (jump (names_at l.self).statement 0x04 l.end) (leap (names_at l.self) (l.last_jumps || nat_lt l.index (length l.arms)) l.end) (arms_of (take l.index l.arms)) w)
 
