@@ -215,7 +215,9 @@ impl Context<'_> {
                 self.coder.value(test, out)?;
                 out.jump(self.coder.statement, zero_jump(!*until), start)
             }
-            Loop::From(name, first, last, step, _) => self.step(name, first, last, step, start, out),
+            Loop::From(name, first, last, step, _) => self.step(
+                name, first, last, step, start, out,
+            ),
         }
     }
 
@@ -236,7 +238,11 @@ impl Context<'_> {
         self.coder.value(first, out)?;
         self.coder.value(last, out)?;
         let change = Operation::Using(step_effect(step));
-        out.jumping(self.coder.statement, start, self.coder.home(name).plain_op(change))
+        out.jumping(
+            self.coder.statement,
+            start,
+            self.coder.home(name).plain_op(change),
+        )
     }
 
     // Appends the value of a loop's step, where one is given.

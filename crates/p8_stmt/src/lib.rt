@@ -7,8 +7,8 @@ mod expression_depths;
 mod faults;
 mod forms;
 mod frames;
-mod statement_depths;
 mod spelling;
+mod statement_depths;
 mod statements;
 
 pub use code::{CodeFault, MethodCode, method_code};

@@ -1,7 +1,8 @@
 use Rattle.std.proofs.Common.{OnOk, ap, sym, ◌∙◌, subst, take, length, nat_lt, ◌||◌, false, ◌+◌}
 use Rattle.p8_tree.specs.Views.{tree_of, course_of, action_of, arm_of, arms_of, statement_of, statements_of}
 use Rattle.p8_tree.specs.declared.statements.Arm.{out-Arm}
-use Rattle.p8_gen.specs.Pieces.{empty, up_to_end, jump}
+use Rattle.p8_gen.specs.Pieces.{Piece, empty, up_to_end, byte, jump}
+use Rattle.p8_gen.specs.Expressions.{value}
 use Rattle.p8_gen.specs.Statements.{inside, code, body, chain, tests, test_of, all_tests, case_bodies}
 use Rattle.p8_gen.specs.Writing.{Stands}
 use Rattle.p8_stmt.specs.Walking.{names_at, loop_at, leap, arm_piece, branches, choices, bodies, case_piece, case_body, tests_of_arms, first_test, head, pass_end, up_to_next, looped, loop_piece, goes_to_begin, keeps_count}
@@ -137,10 +138,59 @@ placed_tests-loop-arm-preserved t c =
     let l = loop_at c.args.self.now in
     let xs = c.args.arms.now in
     let i = c.loop-arm.arm-index in
-    let bodies_before = case_bodies n l 0 (arms_of (take i xs)) (record empty { end = c.args.first }) in
-    (λ w stands.
-    subst (Stands c.tests.new.out)
-    (all_tests_next n l c.args.first c.loop-arm.bodies.end xs i c.arm-item.result c.as_slice.result.now w c.loop-arm-test.true (c.as_slice.ensures ∙ ap (λ x. (out-Arm x).tests) c.arm-item.is) c.loop-arm.invariant.1.ends)
-    (c.in_ok-tests.ensures (all_tests n l c.args.first (arms_of (take i xs)) w) (c.loop-arm.invariant.0 w stands)),
-    subst (Stands c.case_body.new.out) (bodies_next n l 0 xs i c.arm-item.result (record empty { end = c.args.first }) c.loop-arm-test.true)
-    (subst (λ x. Stands c.case_body.new.out (case_body n l 0 (arm_of x) bodies_before)) c.arm-item.is (c.in_ok-case_body.ensures bodies_before c.loop-arm.invariant.1)))
+    let bodies_before = case_bodies n l 0 (arms_of (take i xs)) (record empty { end = c.args.first }) in (
+      λ w stands.
+          subst (Stands c.tests.new.out)
+          (all_tests_next n l c.args.first c.loop-arm.bodies.end xs i c.arm-item.result c.as_slice.result.now w c.loop-arm-test.true (c.as_slice.ensures ∙ ap (λ x. (out-Arm x).tests) c.arm-item.is) c.loop-arm.invariant.1.ends)
+          (c.in_ok-tests.ensures (all_tests n l c.args.first (arms_of (take i xs)) w) (c.loop-arm.invariant.0 w stands)),
+      subst (Stands c.case_body.new.out) (bodies_next n l 0 xs i c.arm-item.result (record empty { end = c.args.first }) c.loop-arm-test.true)
+          (subst (λ x. Stands c.case_body.new.out (case_body n l 0 (arm_of x) bodies_before)) c.arm-item.is (c.in_ok-case_body.ensures bodies_before c.loop-arm.invariant.1)),
+    )
+
+pub bodies-returns-in-Case : goal.bodies-returns-in-Case
+bodies-returns-in-Case t c =
+    let n = names_at c.args.self.now in
+    let l = loop_at c.args.self.now in
+    subst (Runs c.args.out.now c.case_bodies.result c.case_bodies.new.out)
+    (ap (λ xs. case_bodies n l c.args.end (arms_of xs)) c.deref.ensures.value ∙ bodies_form n l c.args.statement.now.kind c.in-Case.field-0 c.in-Case.arms c.in-Case.field-2 c.args.end c.in-Case.is)
+    c.case_bodies.ensures
+
+pub branches-returns-in-None : goal.branches-returns-in-None
+branches-returns-in-None t c =
+    let n = names_at c.args.self.now in
+    let l = loop_at c.args.self.now in
+    subst (Runs c.args.out.now c.arms.result c.arms.new.out)
+    (ap (λ xs. chain n l (jump n.statement 0x04 c.args.end) (leap n false c.args.end) (arms_of xs)) c.deref.ensures.value
+    ∙ branch_none n l c.args.statement.now.kind c.in-If.arms c.in-If.rest c.args.end c.in-If.is c.in-None.is)
+    c.arms.ensures
+
+pub branches-returns-in_ok-arms-in-Some : goal.branches-returns-in_ok-arms-in-Some
+branches-returns-in_ok-arms-in-Some t c = λ w stands.
+    let n = names_at c.args.self.now in
+    let l = loop_at c.args.self.now in
+    let far = jump n.statement 0x04 c.args.end in
+    subst (λ v. OnOk c.body.result (Stands c.body.new.out v))
+    (ap (λ ss. body n l (statements_of ss) (chain n l far far (arms_of c.deref-in-Some.result.now) w)) c.deref-in-Some-2.ensures.value
+    ∙ ap (λ xs. body n l (statements_of c.in-Some.body.items) (chain n l far far (arms_of xs) w)) c.deref-in-Some.ensures.value
+    ∙ ap (λ (p : Piece). p w) (branch_some n l c.args.statement.now.kind c.in-If.arms c.in-If.rest c.in-Some.body c.args.end c.in-If.is c.in-Some.is))
+    (c.body.ensures _ (c.in_ok-arms-in-Some.ensures w stands))
+
+pub choices-returns-in-None : goal.choices-returns-in-None
+choices-returns-in-None t c = λ w stands.
+    let n = names_at c.args.self.now in
+    let l = loop_at c.args.self.now in
+    subst (λ v. OnOk c.jump.result (Stands c.jump.new.self v))
+    (ap (λ xs. jump n.statement 0x04 c.args.end (byte 0x0C (all_tests n l c.args.first (arms_of xs) (value n (tree_of c.in-Case.value) w)))) c.deref.ensures.value
+    ∙ ap (λ (p : Piece). p w) (choice_none n l c.args.statement.now.kind c.in-Case.value c.in-Case.arms c.in-Case.rest c.args.first c.args.end c.in-Case.is c.in-None.is))
+    (c.jump.ensures _ (c.in_ok-byte-in-Case.ensures _ (c.in_ok-all_tests-in-Case.ensures _ (c.in_ok-value-in-Case.ensures w stands))))
+
+pub choices-returns-in_ok-body-in-Some : goal.choices-returns-in_ok-body-in-Some
+choices-returns-in_ok-body-in-Some t c = λ w stands.
+    let n = names_at c.args.self.now in
+    let l = loop_at c.args.self.now in
+    let tested = byte 0x0C (all_tests n l c.args.first (arms_of c.deref.result.now) (value n (tree_of c.in-Case.value) w)) in
+    subst (λ v. OnOk c.jump-in-Some.result (Stands c.jump-in-Some.new.self v))
+    (ap (λ ss. jump n.statement 0x04 c.args.end (body n l (statements_of ss) tested)) c.deref-in-Some.ensures.value
+    ∙ ap (λ xs. jump n.statement 0x04 c.args.end (body n l (statements_of c.in-Some.body.items) (byte 0x0C (all_tests n l c.args.first (arms_of xs) (value n (tree_of c.in-Case.value) w))))) c.deref.ensures.value
+    ∙ ap (λ (p : Piece). p w) (choice_some n l c.args.statement.now.kind c.in-Case.value c.in-Case.arms c.in-Case.rest c.in-Some.body c.args.first c.args.end c.in-Case.is c.in-Some.is))
+    (c.jump-in-Some.ensures _ (c.in_ok-body-in-Some.ensures _ (c.in_ok-byte-in-Case.ensures _ (c.in_ok-all_tests-in-Case.ensures _ (c.in_ok-value-in-Case.ensures w stands)))))
