@@ -1,19 +1,19 @@
 -- What is written of a method, and when it is refused.
-use Rattle.std.proofs.Common.{◌≡◌, ℕ, ◌+◌, ◌-◌, ◌*◌, ◌^◌, ◌<◌, ◌≤◌, ◌||◌, nat_lt, nat_le, min, Bool, true, false, if◌then◌else◌, Option, Some, None, List, [], ◌∷◌, ◌++◌, map, length, refl, sym, ap, ap₂, ◌∙◌, subst, arith}
+use Rattle.std.proofs.Common.{◌≡◌, ℕ, ◌+◌, ◌-◌, ◌*◌, ◌^◌, ◌<◌, ◌≤◌, ◌||◌, nat_lt, nat_le, Bool, true, false, Some, List, [], ◌∷◌, map, length, refl, sym, ap, ap₂, ◌∙◌, subst, arith}
 use Rattle.std.specs.Prelude.{IfSome, Contains, All, flat_map}
 use Rattle.std.proofs.lemmas.Bool.Decides.{nat_tests}
 use Rattle.p8_tree.specs.declared.places.Place.{Place}
 use Rattle.p8_tree.specs.Sources.{MethodTree}
 use Rattle.p8_bytecode.specs.declared.op.Op.{Op}
 use Rattle.p8_faults.specs.declared.faults.Fault.{Fault}
-use Rattle.p8_faults.specs.Faults.{fault, IsFirstFault}
+use Rattle.p8_faults.specs.Faults.{IsFirstFault}
 use Rattle.p8_faults.proofs.Firsts.{IsFirstFault-along}
 use Rattle.p8_gen.specs.declared.writer.Kept.{Kept}
 use Rattle.p8_gen.specs.declared.writer.Writer.{Writer}
 use Rattle.p8_gen.specs.Depths.{held_in}
 use Rattle.p8_gen.specs.Methods.{method_code}
 use Rattle.p8_gen.specs.Names.{Names}
-use Rattle.p8_gen.specs.Operations.{IsWhole, AreWhole}
+use Rattle.p8_gen.specs.Operations.{IsWhole}
 use Rattle.p8_gen.specs.Pieces.{Written}
 use Rattle.p8_gen.specs.Writing.{Stands}
 use Rattle.p8_stmt.specs.Cutting.{cut, cut_longs}

@@ -1,6 +1,5 @@
 -- How much is held: numbers that stop at a limit, one after the other, and the forms as the code has them.
 use Rattle.std.proofs.Common.{◌≡◌, ℕ, ◌+◌, ◌-◌, ◌^◌, ◌<◌, ◌≤◌, ◌==◌, ◌&&◌, not, min, max, Bool, true, false, if◌then◌else◌, List, [], ◌∷◌, Option, Some, None, Vec, Box, length, take, get_or, refl, sym, ap, ap₂, ◌∙◌, arith}
-use Rattle.std.specs.Prelude.{option_map}
 use Rattle.std.specs.declared.alloc.Global.{Global}
 use Rattle.std.proofs.lemmas.List.{take_more, length-take-le}
 use Rattle.std.proofs.lemmas.Bool.Decides.{nat_tests}
@@ -17,9 +16,9 @@ use Rattle.p8_tree.specs.declared.statements.Stmt as stmt
 use Rattle.p8_tree.specs.declared.statements.Arm as code_arm
 use Rattle.p8_tree.specs.declared.statements.Arm.{out-Arm}
 use Rattle.p8_tree.specs.declared.statements.Loop as loop
-use Rattle.p8_tree.specs.Expressions.{Tree, node, Var, Trees, no_trees, ◌▷◌, Item, Items, no_items, ◌▸◌, single, range}
-use Rattle.p8_tree.specs.Statements.{If, Case, Repeat, Arm, arm, Arms, no_arms, ◌⊳◌}
-use Rattle.p8_tree.specs.Views.{tree_of, form_of, variable_of, call_of, trees_of, trees_after, item_of, items_of, items_after, course_of, action_of, arm_of, arms_of, statement_of, statements_of}
+use Rattle.p8_tree.specs.Expressions.{Tree, node, Trees, no_trees, ◌▷◌, Item, Items, no_items, ◌▸◌, single, range}
+use Rattle.p8_tree.specs.Statements.{If, Case, Arm, arm, Arms, no_arms, ◌⊳◌}
+use Rattle.p8_tree.specs.Views.{tree_of, form_of, variable_of, call_of, trees_of, trees_after, item_of, items_of, items_after, course_of, action_of, arm_of, arms_of, statements_of}
 use Rattle.p8_tree.specs.Bridges.{boxed_index, other_body, built_is, look_is, if_is, case_is, repeat_is, trees_of-push, items_of-push, statements_of-push, arms_of-push}
 use Rattle.p8_fold.specs.Verdicts.{boxed_bits}
 use Rattle.p8_fold.proofs.Rows.{call_form}
@@ -27,7 +26,7 @@ use Rattle.p8_gen.specs.declared.expressions.BuiltForm.TheVariants as built_form
 use Rattle.p8_gen.specs.Names.{Names}
 use Rattle.p8_gen.specs.Expressions.{starts_method}
 use Rattle.p8_gen.specs.Walking.{IsBuiltForm}
-use Rattle.p8_gen.specs.Depths.{over, held, held_by, held_by_naming, held_by_index, held_by_bits, held_by_trees, held_by_items, held_by_built, held_by_arguments, held_alone, held_by_test, held_by_tests, held_in_loop, held_in, held_in_action, held_in_arms, held_in_cases, held_in_other}
+use Rattle.p8_gen.specs.Depths.{over, held, held_by, held_by_naming, held_by_index, held_by_bits, held_by_trees, held_by_items, held_by_built, held_by_arguments, held_alone, held_by_test, held_by_tests, held_in_loop, held_in, held_in_action, held_in_arms, held_in_cases}
 use Rattle.p8_gen.proofs.Rows.{counts}
 use Rattle.p8_stmt.specs.Cutting.{cut, held_by_call, held_by_start}
 use Rattle.p8_stmt.proofs.Walks.{arm_form}
