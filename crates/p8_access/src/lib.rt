@@ -7,8 +7,6 @@ mod kinds;
 mod lives;
 mod memory;
 mod order;
-#[cfg(test)]
-mod tests;
 
 pub use kinds::{Access, Answer, Origin, Reason, Test, Width};
 pub use lives::{Life, Next};

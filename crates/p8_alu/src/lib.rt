@@ -8,6 +8,3 @@ mod sums;
 
 pub use effect::Effect;
 pub use execution::execute;
-
-#[cfg(test)]
-mod tests;

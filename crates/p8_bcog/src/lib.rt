@@ -22,8 +22,6 @@ mod stage;
 mod state;
 mod step;
 mod tables;
-#[cfg(test)]
-mod tests;
 mod variables;
 
 pub use spin::SpinCog;

@@ -5,8 +5,6 @@
 mod op;
 mod operands;
 mod reading;
-#[cfg(test)]
-mod tests;
 mod writing;
 
 pub use op::Op;

@@ -2,7 +2,7 @@
 use p8_access::Access;
 
 /// How an instruction stands with the turns that its accesses have had.
-#[derive(Clone, Copy, Debug, PartialEq, Eq)]
+#[derive(Clone, Copy)]
 pub enum Ending {
     /// The life is over.
     Ended,

@@ -11,7 +11,7 @@ use p8_alu::Effect;
 use p8_instr::Instr;
 
 /// An access of the hub, and the result that it has where its answer holds no number.
-#[derive(Clone, Copy, Debug, PartialEq, Eq)]
+#[derive(Clone, Copy)]
 pub struct Request {
     pub access: Access,
     pub kept: u32,

@@ -39,7 +39,7 @@ pub const WAITCNT: u8 = 62;
 const WAITVID: u8 = 63;
 
 /// How an instruction is carried out (Propeller Manual v1.2, assembly reference).
-#[derive(Clone, Copy, Debug, PartialEq, Eq)]
+#[derive(Clone, Copy)]
 pub enum Kind {
     /// Its condition isn't met, and it does nothing.
     Skipped,

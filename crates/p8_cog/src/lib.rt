@@ -11,7 +11,5 @@ mod progress;
 mod registers;
 mod stage;
 mod state;
-#[cfg(test)]
-mod tests;
 
 pub use pasm::Cog;

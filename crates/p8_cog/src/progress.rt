@@ -18,7 +18,7 @@ use p8_access::{Access, Next, Turn, Width};
 ///
 /// An instruction has at most three accesses: the read of its source, the access of the hub or the wait,
 /// and that of its result. With the last turn it is done.
-#[derive(Clone, Copy, Debug)]
+#[derive(Clone, Copy)]
 pub enum Had {
     Nothing,
     One(Turn),
@@ -34,7 +34,7 @@ pub struct Progress {
 }
 
 /// What a run has done, and why it stopped.
-#[derive(Clone, Copy, Debug)]
+#[derive(Clone, Copy)]
 pub struct Ran {
     /// How many instructions were done.
     pub done: u32,

@@ -1,7 +1,7 @@
 // How far a life is.
 
 /// Where a life is between its start and its end.
-#[derive(Clone, Copy, Debug, PartialEq, Eq)]
+#[derive(Clone, Copy)]
 pub enum Stage {
     /// It reads the 496 longs of its load.
     Loading,

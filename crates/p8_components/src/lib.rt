@@ -9,6 +9,3 @@ mod search;
 pub use graph::Graph;
 pub use numbering::components;
 pub use ordering::in_order;
-
-#[cfg(test)]
-mod tests;

@@ -9,8 +9,6 @@ mod laws;
 mod mentions;
 mod plan;
 mod rows;
-#[cfg(test)]
-mod tests;
 
 pub use found::{Found, constants_of};
 pub use laws::{

@@ -10,8 +10,6 @@ mod name_set;
 mod names;
 mod repeats;
 mod rules;
-#[cfg(test)]
-mod tests;
 
 pub use first_faults::first_of_two;
 pub use instances::first_instance_fault;

@@ -1,5 +1,5 @@
--- What the holder does between taking the ledger out and putting it back.
-use Rattle.std.proofs.Common.{◌≡◌, ◌⊎◌, inl, inr, ⊎_elim, ◌∙◌, ap, sym, subst, refl, ℕ, ◌+◌, ◌*◌, ◌^◌, ◌<◌, List, ◌∷◌, length, Bool, true, Some, arith}
+-- What is done with the ledger under the lock, and what is noted of it.
+use Rattle.std.proofs.Common.{◌≡◌, ◌⊎◌, inl, inr, ⊎_elim, ◌∙◌, ap, sym, subst, refl, ℕ, ◌+◌, ◌*◌, ◌^◌, ◌<◌, List, ◌∷◌, length, Bool, true, Option, Some, None, arith}
 use Rattle.p8_access.specs.declared.order.Turn.{Turn}
 use Rattle.p8_access.specs.declared.lives.Next.{Next}
 use Rattle.p8_access.specs.declared.lives.Next.TheVariants.{More}
@@ -20,17 +20,17 @@ use Rattle.p8_record.specs.declared.ledger.Taken.TheVariants.{Done, Over}
 use Rattle.p8_record.specs.declared.steps.Step.{Step}
 use Rattle.p8_record.specs.declared.steps.Step.TheVariants.{Took, Said}
 use Rattle.p8_record.specs.Records.{Record, turns, mine, said, cog_of, Owes, NoFront, IsTruthful}
-use Rattle.p8_record.specs.Ledgers.{Found, Decides, taken_by}
+use Rattle.p8_record.specs.Ledgers.{Found, Decides}
 use Rattle.p8_record.proofs.Telling.{none-over}
 use Rattle.p8_desk.specs.declared.rule.Known.{Known}
 use Rattle.p8_desk.specs.declared.rule.View.{View}
 use Rattle.p8_desk.specs.declared.runner.Runner.{Runner}
 use Rattle.p8_desk.specs.declared.turned.Turned.{Turned}
 use Rattle.p8_desk.specs.declared.turned.Turned.TheVariants.{Done as Turns, Held as Meets, After as Waits, Ahead as Runs, Over as Ends}
-use Rattle.p8_desk.specs.Rules.{known, world_in, with_step, noting}
+use Rattle.p8_desk.specs.Rules.{known, with_step, noting}
 use Rattle.p8_desk.specs.Runners.{Lives, Rides, Comes, HasFound, GoesOnFrom, pace_in, most_in}
 use Rattle.p8_desk.specs.Tries.{pace_of, most_of, GoesOn, Says, Answers, seen_by}
-use Rattle.p8_desk.specs.Work.{Moved, Holding, Spoken, Granted, Settled, Worked, granting}
+use Rattle.p8_desk.specs.Work.{Moved, Spoken, Granted, Settled, HasRoom, said_by, granting, noting_said}
 use Rattle.p8_desk.proofs.Lookups.{known-changed, known-beside, test-same}
 use Rattle.p8_desk.proofs.Riding.{saying-goes, owes-unsaid}
 
@@ -73,72 +73,28 @@ says-as w n r runner found owes rides =
     by-life (SpinBegun entered) stood = numbers-of runner.life.kind (SpinBegun entered) _ _ stood (λ x. absurd x) (λ x. absurd x) (λ x. refl) (λ x. refl)
 
 -- where the cog owed a saying, it has said it
-pub spoken-says : (w : World) (n : ℕ) (p : Known) (v after : View) (ledger now : Ledger) (old new : Runner) → HasFound old → Holding w n v ledger old p → Owes w p.seen n → after ≡ noting v n (Said n old.next) → Found w now (Said n old.next ∷ p.seen) → Rides w n (Said n old.next ∷ p.seen) new
-    → Spoken w n old.next p v after now new
-spoken-says w n p v after ledger now old new found h owes is stands rides = subst (λ (u : View). Spoken w n old.next p v u now new) (sym is) (record {
-  q = with_step (Said n old.next) p;
-  speaks = inl (refl, says-as w n p.seen old found owes h.rides);
-  own = own-step n (Said n old.next) p refl;
-  found = refl;
-  moved = moved-noting n (Said n old.next) p v h.here;
-  holds = refl;
-  stands = stands;
-  rides = rides;
-})
+pub spoken-says : (w : World) (n : ℕ) (r : Record) (now : Ledger) (old new : Runner) → HasFound old → Owes w r n → Rides w n r old → Found w now (Said n old.next ∷ r) → Rides w n (Said n old.next ∷ r) new
+    → Spoken w n old.next r (Some old.next) now new
+spoken-says w n r now old new found owes rides stands then_ = record { speaks = inl (refl, says-as w n r old found owes rides); stands = stands; rides = then_ }
 
 -- else nothing has changed
-pub spoken-none : (w : World) (n : ℕ) (p : Known) (v : View) (ledger : Ledger) (runner : Runner) → Holding w n v ledger runner p → (Owes w p.seen n → ⊥) → Spoken w n runner.next p v v ledger runner
-spoken-none w n p v ledger runner h owes = record {
-  q = p;
-  speaks = inr (refl, owes);
-  own = λ e. e;
-  found = refl;
-  moved = moved-none n p v h.here;
-  holds = refl;
-  stands = h.stands;
-  rides = h.rides;
-}
-
--- the ledger has decided
-pub granted-as : (w : World) (n : ℕ) (s : Record) (taken : Taken) (old now : Ledger) → Found w old s → Found w now (taken_by taken s) → Decides w s n taken → Granted w n s taken now
-granted-as w n s taken old now found after decides = (after, decides, found.truth, found.legal)
-
--- a seat that holds still does
-pub holding-after : (w : World) (n : ℕ) (next : Next) (p : Known) (v after : View) (ledger now : Ledger) (old new : Runner) → Holding w n v ledger old p → (k : Spoken w n next p v after now new) → Holding w n after now new k.q
-holding-after w n next p v after ledger now old new h k = record {
-  small = h.small;
-  live = k.moved.live ∙ h.live;
-  world = ap world_in k.moved.start ∙ h.world;
-  holds = k.holds ∙ h.holds;
-  here = k.moved.here;
-  stands = k.stands;
-  rides = k.rides;
-}
+pub spoken-none : (w : World) (n : ℕ) (r : Record) (ledger : Ledger) (runner : Runner) → (Owes w r n → ⊥) → Found w ledger r → Rides w n r runner → Spoken w n runner.next r None ledger runner
+spoken-none w n r ledger runner owes stands rides = record { speaks = inr (refl, owes); stands = stands; rides = rides }
 
 -- what a turn that was made has to do with the runner of its cog
-pub comes-as : (w : World) (n : ℕ) (p : Known) (v : View) (before now : Ledger) (runner : Runner) (turn : Turn) (running : Bool) (state : CogState) (memory : List ℕ) → Holding w n v before runner p → Granted w n p.seen (Done turn running) now → memory ≡ w.memory → state ≡ cog_state w (turn ∷ turns p.seen) n
-    → Comes w p.seen runner memory state turn running
-comes-as w n p v before now runner turn running state memory h g memory_is state_is =
-    let d : Decides w p.seen n (Done turn running) = g.1 in
+pub comes-as : (w : World) (n : ℕ) (r : Record) (now : Ledger) (runner : Runner) (turn : Turn) (running : Bool) (state : CogState) (memory : List ℕ) → Granted w n r (Done turn running) now → Rides w n r runner → memory ≡ w.memory → state ≡ cog_state w (turn ∷ turns r) n
+    → Comes w r runner memory state turn running
+comes-as w n r now runner turn running state memory g rides memory_is state_is =
+    let d : Decides w r n (Done turn running) = g.1 in
     let cog : turn.key.cog ≡ n = d.1 in record {
       memory = memory_is;
-      state = state_is ∙ ap (λ (m : ℕ). cog_state w (turn ∷ turns p.seen) m) (sym cog);
-      fits_state = subst (λ (m : ℕ). FitsState running (cog_state w (turns p.seen) m)) (sym cog) d.3;
+      state = state_is ∙ ap (λ (m : ℕ). cog_state w (turn ∷ turns r) m) (sym cog);
+      fits_state = subst (λ (m : ℕ). FitsState running (cog_state w (turns r) m)) (sym cog) d.3;
       extends = d.0;
-      origins = h.stands.origins;
-      announced = λ r. subst (λ (m : ℕ). IsAnnounced (announced_by (said m p.seen)) turn) (sym cog) (d.4 r);
-      rides = subst (λ (m : ℕ). Rides w m p.seen runner) (sym cog) h.rides;
+      origins = (g.2.1).origins;
+      announced = λ b. subst (λ (m : ℕ). IsAnnounced (announced_by (said m r)) turn) (sym cog) (d.4 b);
+      rides = subst (λ (m : ℕ). Rides w m r runner) (sym cog) rides;
     }
-
--- the turn may be added
-pub turn-held : (w : World) (n : ℕ) (p : Known) (v : View) (before now : Ledger) (runner : Runner) (turn : Turn) (running : Bool) → Holding w n v before runner p → Granted w n p.seen (Done turn running) now
-    → (q : Known) × (v.live ≡ true) × (v.holds ≡ Some turn.key.cog) × (known v.passes turn.key.cog ≡ Some q) × (length (turns q.seen) + 1 < 2 ^ 64)
-turn-held w n p v before now runner turn running h g =
-    let d : Decides w p.seen n (Done turn running) = g.1 in
-    let cog : turn.key.cog ≡ n = d.1 in
-    let room : length (turns p.seen) < w.turns = d.0.room in
-    let small : w.turns < 2 ^ 63 = h.small in
-    (p, h.live, h.holds ∙ ap Some (sym cog), ap (known v.passes) cog ∙ h.here, omega arith)
 
 pub turn-fits : (n : ℕ) (w : World) (s : Record) (turn : Turn) (running : Bool) (now : Ledger) → n < 8 → Granted w n s (Done turn running) now → turn.key.cog < 8
 turn-fits n w s turn running now near g = let d : Decides w s n (Done turn running) = g.1 in let cog : turn.key.cog ≡ n = d.1 in omega arith
@@ -152,37 +108,74 @@ settled-done w n s now new turn running g rides =
     }
 
 -- what was decided is what is answered
-pub over-ended : (w : World) (s : Record) → Rattle.p8_history.specs.Histories.Legal asks w (turns s) → IsTruthful w s → (length (turns s) ≡ w.turns) ⊎ NoFront w s → Ended asks w (turns s)
+over-ended : (w : World) (s : Record) → Rattle.p8_history.specs.Histories.Legal asks w (turns s) → IsTruthful w s → (length (turns s) ≡ w.turns) ⊎ NoFront w s → Ended asks w (turns s)
 over-ended w s legal truthful over = record { legal = legal; over = ⊎_elim (λ (full : length (turns s) ≡ w.turns). inl full) (λ (none : NoFront w s). none-over w s truthful none) over }
 
 pub settled-over : (w : World) (n : ℕ) (s : Record) (now : Ledger) (runner : Runner) → Granted w n s Over now → Rides w n s runner → Settled w n s now runner Ends
-settled-over w n s now runner g rides = record { answers = (g.1, over-ended w s g.3 g.2 g.1); stands = g.0; rides = rides }
+settled-over w n s now runner g rides =
+    let before = g.2.1 in record { answers = (g.1, over-ended w s before.legal before.truth g.1); stands = g.0; rides = rides }
 
-abbrev GrantedView : ℕ → Known → View → Turned → Type 0
-GrantedView n q v answer = (t : Known) × (t.seen ≡ seen_by answer q.seen) × (q.own ≡ mine n q.seen → t.own ≡ mine n t.seen) × (t.found ≡ q.found) × Moved n t v (granting v n answer) × ((granting v n answer).holds ≡ v.holds)
+-- a turn that may be made may be counted
+pub has-room : (w : World) (n : ℕ) (s : Record) (answer : Turned) → w.turns < 2 ^ 63 → Answers w s n answer → HasRoom n s answer
+has-room w n s (Turns turn) small a = let room : length (turns s) < w.turns = a.0.room in (a.1, omega arith)
+has-room w n s Ends small a = tt
+has-room w n s (Waits other bound) small a = tt
+has-room w n s (Runs bound) small a = tt
+has-room w n s (Meets by) small a = tt
 
-granted-view : (w : World) (n : ℕ) (q : Known) (v : View) (answer : Turned) → Answers w q.seen n answer → known v.passes n ≡ Some q → GrantedView n q v answer
-granted-view w n q v (Turns turn) a has = (with_step (Took turn) q, refl, own-step n (Took turn) q a.1, refl, moved-noting n (Took turn) q v has, refl)
-granted-view w n q v Ends a has = (q, refl, (λ e. e), refl, moved-none n q v has, refl)
-granted-view w n q v (Waits other bound) a has = (q, refl, (λ e. e), refl, moved-none n q v has, refl)
-granted-view w n q v (Runs bound) a has = (q, refl, (λ e. e), refl, moved-none n q v has, refl)
-granted-view w n q v (Meets by) a has = absurd a
+-- what is known of a pass once it has said something, and once it has its answer
+abbrev pub said_known : ℕ → Option Next → Known → Known
+said_known n None p = p
+said_known n (Some next) p = with_step (Said n next) p
 
-pub worked : (w : World) (n : ℕ) (next : Next) (p : Known) (v mid after : View) (ledger now : Ledger) (middle new : Runner) (answer : Turned) (k : Spoken w n next p v mid ledger middle) → IsTruthful w k.q.seen → after ≡ granting mid n answer → Settled w n k.q.seen now new answer
-    → Worked w n next p v after now new answer
-worked w n next p v mid after ledger now middle new answer k truthful is settled =
-    let g = granted-view w n k.q mid answer settled.answers k.moved.here in
-    subst (λ (u : View). Worked w n next p v u now new answer) (sym is) (record {
-      s = k.q.seen;
-      q = g.0;
-      speaks = k.speaks;
-      truthful = truthful;
-      answers = settled.answers;
-      seen = g.1;
-      own = λ e. g.2 (k.own e);
-      found = g.3 ∙ k.found;
-      moved = moved-twice n k.q g.0 v mid _ k.moved g.4;
-      holds = g.5 ∙ k.holds;
-      stands = subst (λ (r : Record). Found w now r) (sym g.1) settled.stands;
-      rides = subst (λ (r : Record). Rides w n r new) (sym g.1) settled.rides;
-    })
+abbrev pub answered_known : Turned → Known → Known
+answered_known (Turns turn) p = with_step (Took turn) p
+answered_known Ends p = p
+answered_known (Waits other bound) p = p
+answered_known (Runs bound) p = p
+answered_known (Meets by) p = p
+
+-- a view of a holder has changed by steps of its cog
+pub record Noting (n : ℕ) (q : Known) (v after : View) : Type 0 where
+  pub moved : Moved n q v after
+  pub holds : after.holds ≡ v.holds
+
+pub noting-said : (n : ℕ) (said : Option Next) (p : Known) (v : View) → known v.passes n ≡ Some p → Noting n (said_known n said p) v (noting_said v n said)
+noting-said n None p v has = record { moved = moved-none n p v has; holds = refl }
+noting-said n (Some next) p v has = record { moved = moved-noting n (Said n next) p v has; holds = refl }
+
+pub noting-answer : (n : ℕ) (answer : Turned) (p : Known) (v : View) → known v.passes n ≡ Some p → Noting n (answered_known answer p) v (granting v n answer)
+noting-answer n (Turns turn) p v has = record { moved = moved-noting n (Took turn) p v has; holds = refl }
+noting-answer n Ends p v has = record { moved = moved-none n p v has; holds = refl }
+noting-answer n (Waits other bound) p v has = record { moved = moved-none n p v has; holds = refl }
+noting-answer n (Runs bound) p v has = record { moved = moved-none n p v has; holds = refl }
+noting-answer n (Meets by) p v has = record { moved = moved-none n p v has; holds = refl }
+
+pub noting-both : (n : ℕ) (q t : Known) (v u x : View) → Noting n q v u → Noting n t u x → Noting n t v x
+noting-both n q t v u x a b = record { moved = moved-twice n q t v u x a.moved b.moved; holds = b.holds ∙ a.holds }
+
+-- what a pass then has seen and made
+pub record Stepped (n : ℕ) (s : Record) (p q : Known) : Type 0 where
+  pub seen : q.seen ≡ s
+  pub own : p.own ≡ mine n p.seen → q.own ≡ mine n q.seen
+  pub found : q.found ≡ p.found
+
+pub stepped-said : (n : ℕ) (said : Option Next) (p : Known) → Stepped n (said_by n said p.seen) p (said_known n said p)
+stepped-said n None p = record { seen = refl; own = λ e. e; found = refl }
+stepped-said n (Some next) p = record { seen = refl; own = own-step n (Said n next) p refl; found = refl }
+
+pub stepped-answer : (w : World) (n : ℕ) (answer : Turned) (p : Known) → Answers w p.seen n answer → Stepped n (seen_by answer p.seen) p (answered_known answer p)
+stepped-answer w n (Turns turn) p a = record { seen = refl; own = own-step n (Took turn) p a.1; found = refl }
+stepped-answer w n Ends p a = record { seen = refl; own = λ e. e; found = refl }
+stepped-answer w n (Waits other bound) p a = record { seen = refl; own = λ e. e; found = refl }
+stepped-answer w n (Runs bound) p a = record { seen = refl; own = λ e. e; found = refl }
+stepped-answer w n (Meets by) p a = absurd a
+
+pub stepped-both : (w : World) (n : ℕ) (said : Option Next) (answer : Turned) (p : Known) → Answers w (said_by n said p.seen) n answer → Stepped n (seen_by answer (said_by n said p.seen)) p (answered_known answer (said_known n said p))
+stepped-both w n said answer p a =
+    let one = stepped-said n said p in
+    let two = stepped-answer w n answer (said_known n said p) (subst (λ (s : Record). Answers w s n answer) (sym one.seen) a) in record {
+      seen = two.seen ∙ ap (seen_by answer) one.seen;
+      own = λ e. two.own (one.own e);
+      found = two.found ∙ one.found;
+    }

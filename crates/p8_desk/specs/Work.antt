@@ -1,18 +1,17 @@
 -- internal
--- What a seat does between its steps on the lock word.
-use Rattle.std.specs.Prelude.{ℕ, ◌^◌, ◌≡◌, ◌<◌, true, List, Some, length}
+-- What a try does between its steps on the lock word.
+use Rattle.std.specs.Prelude.{ℕ, ◌+◌, ◌^◌, ◌≡◌, ◌<◌, List, ◌∷◌, Option, Some, None, length}
 use Rattle.p8_access.specs.declared.lives.Next.{Next}
 use Rattle.p8_history.specs.Worlds.{World}
-use Rattle.p8_history.specs.Histories.{Legal}
-use Rattle.p8_lives.specs.Lives.{asks}
 use Rattle.p8_record.specs.declared.ledger.Ledger.{Ledger}
 use Rattle.p8_record.specs.declared.ledger.Taken.{Taken}
-use Rattle.p8_record.specs.declared.steps.Step.TheVariants.{Took}
+use Rattle.p8_record.specs.declared.steps.Step.TheVariants.{Took, Said}
 use Rattle.p8_record.specs.Records.{Record, turns, mine, IsTruthful}
 use Rattle.p8_record.specs.Ledgers.{Found, Decides, taken_by}
 use Rattle.p8_desk.specs.declared.rule.Known.{Known}
 use Rattle.p8_desk.specs.declared.rule.View.{View}
 use Rattle.p8_desk.specs.declared.runner.Runner.{Runner}
+use Rattle.p8_desk.specs.declared.tries.Outcome.{Outcome}
 use Rattle.p8_desk.specs.declared.turned.Turned.{Turned}
 use Rattle.p8_desk.specs.declared.turned.Turned.TheVariants.{Done, Held, After, Ahead, Over}
 use Rattle.p8_desk.specs.Passes.{PassSteps}
@@ -30,39 +29,21 @@ pub record Moved (n : ℕ) (q : Known) (v after : View) : Type 0 where
   pub here : known after.passes n ≡ Some q
   pub others : (m : ℕ) → (m ≡ n → ⊥) → known after.passes m ≡ known v.passes m
 
--- a seat that holds for a cog, with the ledger in hand and the runner of that cog
-pub record Holding (w : World) (n : ℕ) (v : View) (ledger : Ledger) (runner : Runner) (p : Known) : Type 0 where
-  pub small : w.turns < 2 ^ 63
-  pub live : v.live ≡ true
-  pub world : world_in v.start ≡ w
-  pub holds : v.holds ≡ Some n
-  pub here : known v.passes n ≡ Some p
-  pub stands : Found w ledger p.seen
-  pub rides : Rides w n p.seen runner
+-- the record, once a cog has said this, if anything
+abbrev pub said_by : ℕ → Option Next → Record → Record
+said_by n None r = r
+said_by n (Some next) r = Said n next ∷ r
 
 -- the cog has said what it owes
-pub record Spoken (w : World) (n : ℕ) (next : Next) (p : Known) (v after : View) (ledger : Ledger) (runner : Runner) : Type 0 where
-  pub q : Known
-  pub speaks : Speaks w n next p.seen q.seen
-  pub own : p.own ≡ mine n p.seen → q.own ≡ mine n q.seen
-  pub found : q.found ≡ p.found
-  pub moved : Moved n q v after
-  pub holds : after.holds ≡ v.holds
-  pub stands : Found w ledger q.seen
-  pub rides : Rides w n q.seen runner
+pub record Spoken (w : World) (n : ℕ) (next : Next) (r : Record) (said : Option Next) (ledger : Ledger) (runner : Runner) : Type 0 where
+  pub speaks : Speaks w n next r (said_by n said r)
+  pub stands : Found w ledger (said_by n said r)
+  pub rides : Rides w n (said_by n said r) runner
 
 -- the ledger has decided what the cog gets, and made the turn where it is the cog's
 abbrev pub Granted : World → ℕ → Record → Taken → Ledger → Type 0
 Granted w n s taken ledger =
-    Found w ledger (taken_by taken s) × Decides w s n taken × IsTruthful w s × Legal asks w (turns s)
-
--- the view once the answer is known
-abbrev pub granting : View → ℕ → Turned → View
-granting v n (Done turn) = noting v n (Took turn)
-granting v n Over = v
-granting v n (After other bound) = v
-granting v n (Ahead bound) = v
-granting v n (Held by) = v
+    Found w ledger (taken_by taken s) × Decides w s n taken × ((before : Ledger) × Found w before s)
 
 -- what the cog gets after that
 pub record Settled (w : World) (n : ℕ) (s : Record) (ledger : Ledger) (runner : Runner) (answer : Turned) : Type 0 where
@@ -70,20 +51,32 @@ pub record Settled (w : World) (n : ℕ) (s : Record) (ledger : Ledger) (runner 
   pub stands : Found w ledger (seen_by answer s)
   pub rides : Rides w n (seen_by answer s) runner
 
--- all that the holder does
-pub record Worked (w : World) (n : ℕ) (next : Next) (p : Known) (v after : View) (ledger : Ledger) (runner : Runner) (answer : Turned) : Type 0 where
-  pub s : Record
-  pub q : Known
-  pub speaks : Speaks w n next p.seen s
-  pub truthful : IsTruthful w s
-  pub answers : Answers w s n answer
-  pub seen : q.seen ≡ seen_by answer s
-  pub own : p.own ≡ mine n p.seen → q.own ≡ mine n q.seen
-  pub found : q.found ≡ p.found
-  pub moved : Moved n q v after
-  pub holds : after.holds ≡ v.holds
-  pub stands : Found w ledger q.seen
-  pub rides : Rides w n q.seen runner
+-- all that is done with the ledger
+pub record Worked (w : World) (n : ℕ) (next : Next) (r : Record) (outcome : Outcome) (ledger : Ledger) (runner : Runner) : Type 0 where
+  pub speaks : Speaks w n next r (said_by n outcome.said r)
+  pub truthful : IsTruthful w (said_by n outcome.said r)
+  pub settled : Settled w n (said_by n outcome.said r) ledger runner outcome.answer
+  pub count : outcome.count ≡ length (turns (seen_by outcome.answer (said_by n outcome.said r)))
+
+-- the view once that is noted
+abbrev pub noting_said : View → ℕ → Option Next → View
+noting_said v n None = v
+noting_said v n (Some next) = noting v n (Said n next)
+
+abbrev pub granting : View → ℕ → Turned → View
+granting v n (Done turn) = noting v n (Took turn)
+granting v n Over = v
+granting v n (After other bound) = v
+granting v n (Ahead bound) = v
+granting v n (Held by) = v
+
+-- a turn that an answer adds is the cog's, and the count has room for it
+abbrev pub HasRoom : ℕ → Record → Turned → Type 0
+HasRoom n r (Done turn) = (turn.key.cog ≡ n) × (length (turns r) + 1 < 2 ^ 64)
+HasRoom n r Over = Unit {0}
+HasRoom n r (After other bound) = Unit {0}
+HasRoom n r (Ahead bound) = Unit {0}
+HasRoom n r (Held by) = Unit {0}
 
 -- a pass whose cog's life has run as far as it may
 pub record IsReady (w : World) (n : ℕ) (p : Known) (runner : Runner) : Type 0 where

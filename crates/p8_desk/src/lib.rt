@@ -12,8 +12,6 @@ mod rider;
 mod rule;
 mod runner;
 mod steps;
-#[cfg(test)]
-mod tests;
 mod tries;
 mod turned;
 

@@ -8,6 +8,3 @@ mod operands;
 
 pub use laws::{nop_is_zero, printed_line_is_assembled};
 pub use lines::{Encoded, encode_line};
-
-#[cfg(test)]
-mod tests;

@@ -6,6 +6,3 @@ mod laws;
 
 pub use faults::Fault;
 pub use laws::{FaultSet, earlier_is_first, first_of_file_is_first, one_first};
-
-#[cfg(test)]
-mod tests;

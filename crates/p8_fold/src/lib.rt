@@ -5,8 +5,6 @@ mod consts;
 mod folding;
 mod laws;
 mod meanings;
-#[cfg(test)]
-mod tests;
 mod values;
 
 pub use consts::Consts;

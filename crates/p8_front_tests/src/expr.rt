@@ -4,6 +4,7 @@ use p8_grammar::Setting;
 use p8_lexer::lex;
 use p8_tree::{Expr, ExprKind};
 use p8_words::Fail;
+use std::alloc::AllocError;
 
 // The operator at the root of a tree, where it stands between operands.
 fn root(expr: &Expr) -> Option<u8> {
@@ -48,9 +49,13 @@ fn reads_a_product_in_a_sum(rt: HostRuntime) {
 }
 
 #[test]
-fn refuses_floating_point_behind_an_operator(rt: HostRuntime) {
+fn refuses_floating_point_behind_an_operator(rt: HostRuntime) -> Result<(), AllocError> {
     match refused_in_dat(&rt, b"x + pi") {
-        Some(fault) => assert!(&rt; fault.number == 9 && fault.place.column == 5),
+        Some(fault) => {
+            let told = fault.to_string(rt.alloc())?;
+            assert_eq!(&rt; told.as_str(), "1:5: 9 Float");
+        }
         None => assert!(&rt; false, "no refusal"),
     }
+    Ok(())
 }

@@ -1,25 +1,10 @@
-//! Tests of the front end: worked sources, lines and words, read with ample memory.
+//! Tests of the lexer and of the reader of one expression: worked texts, read with ample memory. Whole files are read and
+//! printed by the suite of cases.
 //!
 //! They stand apart from the crates that they test, because a crate with tests is proved twice.
 #![tactic(auto)]
 
 #[cfg(test)]
-mod blocks;
-#[cfg(test)]
-mod columns;
-#[cfg(test)]
-mod data;
-#[cfg(test)]
-mod declarations;
-#[cfg(test)]
 mod expr;
 #[cfg(test)]
 mod lexer;
-#[cfg(test)]
-mod lines;
-#[cfg(test)]
-mod printed;
-#[cfg(test)]
-mod rows;
-#[cfg(test)]
-mod statements;

@@ -9,8 +9,6 @@ mod hub_state;
 mod locks;
 mod memory;
 mod pins;
-#[cfg(test)]
-mod tests;
 
 pub use hub_state::Hub;
 pub use p8_history::CogState;

@@ -84,12 +84,13 @@ whole : (xs : List ℕ) → Stands xs 0 xs
 whole xs = record { before = []; after = []; is = sym (append-nil xs); there = refl }
 
 -- the parts of an object
-record ObjectParts (bytes : List ℕ) (object : ObjectPart) : Type 0 where
+record ObjectParts (bytes table : List ℕ) (object : ObjectPart) : Type 0 where
+  table_is : Stands bytes 0 table
   dat : Stands bytes (dat_offset object) object.dat
   codes : Stands bytes (codes_offset object) (codes_of (slice_index (text_offsets object)) object.methods)
   texts : Stands bytes (texts_offset object) (texts_of object.texts)
 
-object_parts : (bases variables : List ℕ) (base : ℕ) (object : ObjectPart) → ObjectParts (object_bytes bases variables base object) object
+object_parts : (bases variables : List ℕ) (base : ℕ) (object : ObjectPart) → ObjectParts (object_bytes bases variables base object) (table_bytes bases variables base object) object
 object_parts bases variables base object =
     let table = table_bytes bases variables base object in
     let dat = padded object.dat in
@@ -106,6 +107,7 @@ object_parts bases variables base object =
     let most_length : length (table ++ dat ++ codes) ≡ texts_offset object =
     length-append (table ++ dat) codes ∙ ap (λ (n : ℕ). n + length codes) front_length ∙ ap (λ (n : ℕ). codes_offset object + n) codes_length in
     record {
+      table_is = front bytes 0 table dat (front bytes 0 (table ++ dat) codes without_texts);
       dat = front bytes (dat_offset object) object.dat _
           (moved bytes _ _ _ (zero-add (dat_offset object)) (back bytes 0 (dat_offset object) table dat table_length (front bytes 0 (table ++ dat) codes without_texts)));
       codes = moved bytes _ _ _ (zero-add (codes_offset object)) (back bytes 0 (codes_offset object) (table ++ dat) codes front_length without_texts);
@@ -125,6 +127,8 @@ all_parts_stand clock objects f object h =
     let parts = object_parts (bases_of objects) (variables_of objects) base object in
     let codes = codes_of (slice_index (text_offsets object)) object.methods in
     record {
+      table = moved memory _ _ _ (add-zero base)
+          (inside memory base 0 bytes (table_bytes (bases_of objects) (variables_of objects) base object) here parts.table_is);
       dat = inside memory base (dat_offset object) bytes object.dat here parts.dat;
       codes = λ m method e. moved memory _ _ _ (add_assoc base (codes_offset object) (total code_size (take m object.methods)))
           (code_stands memory (slice_index (text_offsets object)) (base + codes_offset object) object.methods

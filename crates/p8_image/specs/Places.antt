@@ -3,7 +3,7 @@ use Rattle.std.specs.Prelude.{ℕ, ◌+◌, ◌≡◌, List, [], ◌∷◌, ◌+
 use Rattle.p8_image.specs.declared.clocks.Clock.{Clock}
 use Rattle.p8_image.specs.declared.parts.MethodPart.{MethodPart}
 use Rattle.p8_image.specs.declared.parts.ObjectPart.{ObjectPart}
-use Rattle.p8_image.specs.Layout.{dat_offset, code_offset, text_offsets, bases_of, variables_base, variable_offset, inner_offset, linked, image_of}
+use Rattle.p8_image.specs.Layout.{dat_offset, code_offset, text_offsets, bases_of, variables_base, variables_of, variable_offset, inner_offset, linked, table_bytes, image_of}
 
 -- these bytes stand at a place of a memory
 pub record Stands (memory : List ℕ) (place : ℕ) (bytes : List ℕ) : Type 0 where
@@ -44,6 +44,7 @@ variable_place variables object size v = variables + variable_offset object size
 
 -- each part of an object stands at its place of this memory
 pub record PartsStand (memory : List ℕ) (objects : List ObjectPart) (f : ℕ) (object : ObjectPart) : Type 0 where
+  pub table : Stands memory (base_of objects f) (table_bytes (bases_of objects) (variables_of objects) (base_of objects f) object)
   pub dat : Stands memory (dat_place objects f object) object.dat
   pub codes : (m : ℕ) (method : MethodPart) → slice_get object.methods m ≡ Some method
       → Stands memory (entry_of objects f object m) (linked (slice_index (text_offsets object)) method.uses method.code)

@@ -14,8 +14,8 @@ pub fn image_loads()
     ensures header { (clock : ClockOf) (objects : List ObjectPart) → BeginsWithMain objects → FitsHub (header_by objects) → header_of (image_of clock objects) ≡ header_by objects }
 {}
 
-/// The DAT bytes, the code of each method and each text of a project's objects stand in its image where their places say: at the base of
-/// the object and the offset in it. Where code uses a text, the text's offset stands.
+/// The table, the DAT bytes, the code of each method and each text of a project's objects stand in its image where their places say: at
+/// the base of the object and the offset in it. Where code uses a text, the text's offset stands.
 pub fn parts_stand()
     ensures { (clock : ClockOf) (objects : List ObjectPart) → AllPartsStand clock objects }
 {}

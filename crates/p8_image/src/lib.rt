@@ -21,6 +21,3 @@ pub use laws::{image_loads, parts_stand};
 pub use parts::{MethodPart, ObjectPart, TextUse, Variable};
 pub use project_image::layout;
 pub use sizes::Offsets;
-
-#[cfg(test)]
-mod tests;

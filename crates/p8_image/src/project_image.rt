@@ -135,6 +135,3 @@ fn unfinished(
     push_objects(alloc, &mut bytes, &bases, sizes, FIRST_BASE, objects)?;
     Ok(bytes)
 }
-
-#[cfg(test)]
-mod tests;

@@ -6,8 +6,6 @@ mod inputs;
 mod program;
 mod stop;
 mod telling;
-#[cfg(test)]
-mod tests;
 
 pub use inputs::{Inputs, read_inputs};
 pub use program::{Format, Program};

@@ -9,6 +9,3 @@ mod mnemonics;
 pub use conditions::{condition_name, condition_of};
 pub use instruction::{ALWAYS, FLAG_C, FLAG_I, FLAG_R, FLAG_Z, Instr, decode, encode};
 pub use mnemonics::{default_of, mnemonic};
-
-#[cfg(test)]
-mod tests;

@@ -9,8 +9,6 @@ mod memory_sink;
 mod pieces;
 mod shelf;
 mod sink;
-#[cfg(test)]
-mod tests;
 
 pub use adapters::{FileShelf, StdSink};
 pub use fails::FailList;

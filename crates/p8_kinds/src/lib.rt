@@ -13,8 +13,6 @@ mod scope;
 mod settings;
 mod single;
 mod statements;
-#[cfg(test)]
-mod tests;
 mod uses;
 
 pub use children::{Child, ChildConst, ChildMethod, Children};

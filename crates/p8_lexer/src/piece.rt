@@ -6,7 +6,7 @@ ghost use Rattle.p8_lexer.specs.declared.piece.PieceKind.TheVariants as piece;
 use crate::token::TokenKind;
 
 /// A kind of piece.
-#[derive(Clone, Copy, Debug, PartialEq, Eq)]
+#[derive(Clone, Copy)]
 pub enum PieceKind {
     /// spaces and tabs
     Blank,
@@ -21,7 +21,7 @@ pub enum PieceKind {
 }
 
 /// How the digits of a number are written.
-#[derive(Clone, Copy, Debug, PartialEq, Eq)]
+#[derive(Clone, Copy)]
 pub enum Radix {
     Binary,
     Quaternary,
@@ -30,7 +30,7 @@ pub enum Radix {
 }
 
 /// A class of characters.
-#[derive(Clone, Copy, Debug, PartialEq, Eq)]
+#[derive(Clone, Copy)]
 pub enum Class {
     /// space and tab
     Blank,
@@ -45,7 +45,7 @@ pub enum Class {
 }
 
 /// A piece that begins a text: its kind, and how many characters it has.
-#[derive(Clone, Copy, Debug, PartialEq, Eq)]
+#[derive(Clone, Copy)]
 pub struct Cut {
     pub kind: PieceKind,
     pub length: usize,

@@ -1,7 +1,7 @@
 // The kinds of lives.
 
 /// What a cog runs.
-#[derive(Clone, Copy, Debug, PartialEq, Eq)]
+#[derive(Clone, Copy)]
 pub enum Kind {
     /// Instructions of PASM.
     Pasm,

@@ -3,7 +3,5 @@
 
 mod cog_life;
 mod kind;
-#[cfg(test)]
-mod tests;
 
 pub use cog_life::CogLife;

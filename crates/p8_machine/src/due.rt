@@ -7,7 +7,7 @@ ghost use Rattle.p8_machine.specs.Fronts.{IsStartClock};
 use p8_access::{Access, Key, Origin, Reason, window};
 
 /// The next turn of a cog but for its answer, and whether the cog is running; else it is starting.
-#[derive(Clone, Copy, Debug, PartialEq, Eq)]
+#[derive(Clone, Copy)]
 pub struct Due {
     pub key: Key,
     pub access: Access,

@@ -40,7 +40,7 @@ pub fn first_front(clocks: &[u64; 8]) -> Key
 }
 
 /// A cog's front, and what it waits for.
-#[derive(Clone, Copy, Debug, PartialEq, Eq)]
+#[derive(Clone, Copy)]
 pub struct Front {
     pub clock: u64,
     pub test: Option<Test>,
@@ -95,7 +95,7 @@ fn front_of(cog: u8, state: CogState, next: Option<(u64, Access)>, until: u64) -
 }
 
 /// The fronts of the eight cogs, each renewed where its cog has changed.
-#[derive(Clone, Copy, Debug)]
+#[derive(Clone, Copy)]
 pub struct Fronts {
     pub clocks: [u64; 8],
     /// What each cog waits for, from its clock on.

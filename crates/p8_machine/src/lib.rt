@@ -14,8 +14,6 @@ mod room;
 mod run;
 mod seat;
 mod seats;
-#[cfg(test)]
-mod tests;
 mod waits;
 
 pub use changes::changed_cog;

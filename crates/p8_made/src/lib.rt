@@ -3,7 +3,5 @@
 
 mod image;
 mod instructions;
-#[cfg(test)]
-mod tests;
 
 pub use image::made_image;

@@ -62,6 +62,8 @@ fn assembles_sources(rt: HostRuntime) -> Result<(), AllocError> {
         ("DAT\n  org 0\nx mov x,#4\n", "4 0 252 160 1 labels"),
         ("DAT\n  long 1, 2\n  fit 1\n", "3:3: 22"),
         ("DAT\n  org 0\n  mov 600, #4\n", "3:7: 21"),
+        // There is no `x_ret` to come back by.
+        ("DAT\n  org 0\nx call #x\n", "3:3: 24"),
     ];
     for (text, wanted) in table {
         let found = answer(&rt, text)?;

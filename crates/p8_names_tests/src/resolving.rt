@@ -110,11 +110,15 @@ fn answer(
 fn refuses_sources(rt: HostRuntime) -> Result<(), AllocError> {
     let table = [
         ("CON\n  a = b\n  b = a", false, "12 2:7"),
+        // What uses itself counts as 0 where it is used.
+        ("CON\n  a = 1 / q\n  q = q", false, "13 2:9"),
         ("CON\n  a = 1 / 0", false, "13 2:9"),
         ("CON\n  a = 1", true, "18 1:1"),
         ("CON\n  x = main\nPUB main", true, "12 2:7"),
         ("CON\n  a = 1\nVAR\n  long a\nPUB main", true, "14 4:8"),
         ("PUB main\n  x := 1", true, "15 2:3"),
+        ("PUB main : true", true, "14 1:12"),
+        ("PUB main\nDAT\n:a\n:a", true, "14 4:1"),
         ("VAR\n  long v\nPUB main\n  return v#c", true, "16 4:10"),
         ("PUB main\n  f(1)", true, "15 2:3"),
         ("PUB main(a)\nPUB g\n  main", true, "17 3:3"),
@@ -146,6 +150,24 @@ fn knows_objects(rt: HostRuntime) -> Result<(), AllocError> {
     for (source, verdict) in table {
         let answer = answer(rt.alloc(), source, 1, true, (0, "A"))?;
         assert_eq!(rt; answer.as_str(), verdict);
+    }
+    Ok(())
+}
+
+// A constant may stand before its line, and a counter begins at 0.
+#[test]
+fn finds_constants(rt: HostRuntime) -> Result<(), AllocError> {
+    let source =
+        "CON\n  a = width * h\n  width = 6\n  h = 7\n  c\n  d\n  s = ($FFFFFFFF + 2) >> 1\nPUB main";
+    let table = [
+        ("A", "Const(42)"),
+        ("C", "Const(0)"),
+        ("D", "Const(1)"),
+        ("S", "Const(0)"),
+    ];
+    for (name, kind) in table {
+        let answer = answer(rt.alloc(), source, 0, true, (0, name))?;
+        assert_eq!(rt; answer.as_str(), kind);
     }
     Ok(())
 }

@@ -7,8 +7,6 @@ mod laws;
 mod mentions;
 mod next;
 mod source;
-#[cfg(test)]
-mod tests;
 
 pub use fault::GatherFault;
 pub use gathering::gather;

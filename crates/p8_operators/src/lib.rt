@@ -2,7 +2,5 @@
 #![tactic(auto)]
 
 mod operators;
-#[cfg(test)]
-mod tests;
 
 pub use operators::{binary, binary_result, divides, is_unary, rotated_left, unary, unary_result};

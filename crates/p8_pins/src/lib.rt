@@ -8,8 +8,6 @@ mod matching;
 mod pin_script;
 mod script_fault;
 mod spans;
-#[cfg(test)]
-mod tests;
 
 pub use laws::one_reading;
 pub use pin_script::PinScript;

@@ -9,7 +9,7 @@ ghost use Rattle.p8_pins.specs.Scripts.{Carries, is_skipped as is_skipped_text};
 ghost use Rattle.p8_pins.specs.Changes.{line_of};
 
 /// From the clock on the input pins have these levels.
-#[derive(Clone, Copy, Debug, PartialEq, Eq)]
+#[derive(Clone, Copy)]
 pub struct Change {
     pub clock: u64,
     pub levels: u32,

@@ -9,7 +9,7 @@ ghost use Rattle.p8_prop.specs.Seen.{seen_options, AreWithin};
 use crate::numbers::{number_in, range_in};
 
 /// What a run is given beside its file and its clocks.
-#[derive(Clone, Copy, Debug, PartialEq, Eq)]
+#[derive(Clone, Copy)]
 pub struct Options<'a> {
     /// The file of a pin script.
     pub script: Option<&'a str>,

@@ -8,7 +8,7 @@ use p8_inputs::Stop;
 use p8_io::{Sink, write_pieces};
 
 /// How a command on files ended.
-#[derive(Clone, Copy, Debug, PartialEq, Eq)]
+#[derive(Clone, Copy)]
 pub enum Outcome<'a> {
     /// Its text was written.
     Written,

@@ -1,31 +1,34 @@
-// Worked calls over a shelf and sinks in memory, for each status.
-mod bad_image;
-mod bad_script;
-mod image;
-mod missing;
-mod ok;
-mod shelf_fault;
-mod sink_fault;
-mod usage;
-
+// Worked calls over a shelf and sinks in memory.
 use crate::status::Status;
 use crate::top::prop_alone;
 use p8_io::{FailList, MemShelf, MemSink};
 use p8_words::NoMemory;
 use std::alloc::Global;
+use std::test::Fail;
 
-/// The longs of a program that writes 42 to $0100, asks for its number and stops.
-const PROGRAM: &[u8] = b"\x04\x06\x3C\x08\x01\x0A\xFC\x0C\x03\x0A\x7C\x0C\x2A\0\0\0\0\x01\0\0";
+/// The image of `PUB main`.
+const IMAGE: &[u8] =
+    b"\x00\x1B\xB7\0\0\x6A\x10\0\x1C\0\x24\0\x18\0\x28\0\x0C\0\x02\0\x08\0\0\0\x32\0\0\0";
 
-/// What a call finds: the bytes of the file to run, which is there as `a.bin` and as `a.binary`, and of `a.pins`, and the
-/// numbers of the read and of the write that fail, 0 for none.
+/// Its trace, with the first two bytes of the hub's memory.
+const TEXT: &[u8] =
+    b"16 0 begin 0018 0024\n8224 0 wrlong 0024 00000000\n8272 0 cogstop 0\nended clocks 3\n\
+    locks ........\npins 00000000 00000000\ncog 0 stopped\ncog 1 stopped\ncog 2 stopped\n\
+    cog 3 stopped\ncog 4 stopped\ncog 5 stopped\ncog 6 stopped\ncog 7 stopped\n0000: 00 1B\n";
+
+/// The line of words that are no command.
+const USAGE: &str =
+    "prop: usage: prop build|list FILE, prop raw|run FILE CLOCKS [--pins F] [--turns K] [--dump A:N] [--alone]\n";
+
+/// The numbers of the read and of the write that fail, 0 for none.
 #[derive(Clone, Copy)]
-struct Given<'a> {
-    image: &'a [u8],
-    script: &'a [u8],
+struct Failing {
     read: u64,
     write: u64,
 }
+
+/// Nothing fails.
+const NOTHING: Failing = Failing { read: 0, write: 0 };
 
 /// What a call left.
 #[derive(Drop)]
@@ -35,7 +38,7 @@ struct Left {
     faults: MemSink,
 }
 
-/// The list of one call that is to fail; 0 is none.
+/// The list of one call that is to fail, or of none for 0.
 fn failing_at(alloc: Global, call: u64) -> Result<FailList, NoMemory> {
     let mut fails = FailList::new(alloc);
     fails.at(call)?;
@@ -54,14 +57,14 @@ fn words_of(alloc: Global, words: &[&str]) -> Result<Vec<String>, NoMemory> {
     Ok(line)
 }
 
-/// Makes a call of these words.
-fn left_by(alloc: Global, words: &[&str], given: &Given) -> Result<Left, NoMemory> {
+/// Makes a call of these words, where the shelf has an image, an empty file and a bad pin script.
+fn left_by(alloc: Global, words: &[&str], failing: Failing) -> Result<Left, NoMemory> {
     let mut shelf = MemShelf::new(alloc);
-    shelf.add("a.bin", given.image)?;
-    shelf.add("a.binary", given.image)?;
-    shelf.add("a.pins", given.script)?;
-    let mut shelf = shelf.with(failing_at(alloc, given.read)?);
-    let mut out = MemSink::new(alloc, 4096)?.with(failing_at(alloc, given.write)?);
+    shelf.add("a.binary", IMAGE)?;
+    shelf.add("empty.binary", b"")?;
+    shelf.add("a.pins", b"9000 1")?;
+    let mut shelf = shelf.with(failing_at(alloc, failing.read)?);
+    let mut out = MemSink::new(alloc, 4096)?.with(failing_at(alloc, failing.write)?);
     let mut faults = MemSink::new(alloc, 4096)?;
     let words = words_of(alloc, words)?;
     let status = prop_alone(alloc, &words, &mut shelf, &mut out, &mut faults);
@@ -76,14 +79,76 @@ fn left_by(alloc: Global, words: &[&str], given: &Given) -> Result<Left, NoMemor
 fn refused(
     alloc: Global,
     words: &[&str],
-    given: &Given,
+    failing: Failing,
     status: Status,
     line: &str,
 ) -> Result<bool, NoMemory> {
-    let left = left_by(alloc, words, given)?;
-    Ok(
-        left.status == status
-            && left.out.bytes().is_empty()
-            && left.faults.bytes() == line.as_bytes(),
-    )
+    let left = left_by(alloc, words, failing)?;
+    let is_told = left.faults.bytes() == line.as_bytes();
+    Ok(left.status == status && left.out.bytes().is_empty() && is_told)
+}
+
+// An option stands before FILE, and another one between FILE and CLOCKS.
+#[test]
+fn runs_an_image(rt: HostRuntime) -> Result<(), Fail> {
+    let words = ["run", "--alone", "a.binary", "--dump=0000:2", "20000"];
+    let left = left_by(rt.alloc(), &words, NOTHING)?;
+    assert_eq!(rt; left.status, Status::Ok);
+    assert!(rt; left.out.bytes() == TEXT);
+    assert!(rt; left.faults.bytes().is_empty());
+    Ok(())
+}
+
+#[test]
+fn tells_an_unread_file(rt: HostRuntime) -> Result<(), Fail> {
+    let failing = Failing { read: 1, write: 0 };
+    let words = ["raw", "a.binary", "1"];
+    let line = "prop: cannot read a.binary\n";
+    assert!(rt; refused(rt.alloc(), &words, failing, Status::ShelfFault, line)?);
+    Ok(())
+}
+
+#[test]
+fn tells_an_unwritten_text(rt: HostRuntime) -> Result<(), Fail> {
+    let failing = Failing { read: 0, write: 1 };
+    let words = ["raw", "a.binary", "1"];
+    let line = "prop: cannot write\n";
+    assert!(rt; refused(rt.alloc(), &words, failing, Status::SinkFault, line)?);
+    Ok(())
+}
+
+#[test]
+fn tells_what_cannot_be_run(rt: HostRuntime) -> Result<(), Fail> {
+    let words = ["raw", "b.bin", "1"];
+    let line = "prop: b.bin is missing\n";
+    assert!(rt; refused(rt.alloc(), &words, NOTHING, Status::Missing, line)?);
+    let words = ["run", "empty.binary", "1", "--alone"];
+    let line = "prop: empty.binary: length 0\n";
+    assert!(rt; refused(rt.alloc(), &words, NOTHING, Status::BadImage, line)?);
+    let words = ["raw", "a.binary", "1", "--pins", "a.pins"];
+    let line = "prop: a.pins: line 1\n";
+    assert!(rt; refused(rt.alloc(), &words, NOTHING, Status::BadScript, line)?);
+    Ok(())
+}
+
+#[test]
+fn refuses_an_option_given_twice(rt: HostRuntime) -> Result<(), Fail> {
+    let words = ["raw", "a.binary", "1", "--turns", "2", "--turns=2"];
+    assert!(rt; refused(rt.alloc(), &words, NOTHING, Status::Usage, USAGE)?);
+    Ok(())
+}
+
+// As are no words, and too many clocks.
+#[test]
+fn refuses_runs_that_are_to_come(rt: HostRuntime) -> Result<(), Fail> {
+    let rows: [&[&str]; 4] = [
+        &["run", "a.binary", "1"],
+        &["run", "a.spin", "1", "--alone"],
+        &[],
+        &["raw", "a.binary", "100000001"],
+    ];
+    for words in rows {
+        assert!(rt; refused(rt.alloc(), words, NOTHING, Status::Usage, USAGE)?);
+    }
+    Ok(())
 }

@@ -15,7 +15,7 @@ use p8_words::NoMemory;
 use std::alloc::Global;
 
 /// A run that is asked for.
-#[derive(Clone, Copy, Debug, PartialEq, Eq)]
+#[derive(Clone, Copy)]
 pub struct RunCommand<'a> {
     pub program: Program<'a>,
     /// No turn is made at this clock or later.

@@ -13,7 +13,7 @@ use p8_faults::Fault;
 use p8_kinds::{Children, Named};
 use p8_lexer::{Tokens, lex};
 use p8_names::resolve;
-use p8_report::instr_text;
+use p8_disassembly::instr_text;
 use p8_tree::{List, SourceFile, Text};
 use p8_words::{Fail, NoMemory};
 use std::alloc::Global;

@@ -12,7 +12,7 @@ use p8_history::CogState;
 use p8_machine::{NEVER, start_clock};
 
 /// A cog's front, or where it waits for a test the clock from which the wait may end.
-#[derive(Clone, Copy, Debug, PartialEq, Eq)]
+#[derive(Clone, Copy)]
 pub struct Front {
     pub clock: u64,
     pub test: Option<Test>,

@@ -69,7 +69,7 @@ pub struct Ledger {
 }
 
 /// What stands at the front of a cog.
-#[derive(Clone, Copy, Debug, PartialEq, Eq)]
+#[derive(Clone, Copy)]
 struct Due {
     access: Access,
     /// Whether the cog is running; else it is starting.

@@ -11,8 +11,6 @@ mod laws;
 mod ledger;
 mod start;
 mod steps;
-#[cfg(test)]
-mod tests;
 
 pub use laws::{
     least_front_comes_first, least_front_extends, no_front_ends, saying_keeps_truth, steps_beside,

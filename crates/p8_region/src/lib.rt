@@ -8,8 +8,6 @@
 mod places;
 mod region;
 mod strip;
-#[cfg(test)]
-mod tests;
 
 // A crate can name a strip in a contract only if the types of its fields are exported.
 #[doc(hidden)]

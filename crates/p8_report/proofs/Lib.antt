@@ -1,5 +1,3 @@
-mod Digits
-mod Pairs
 mod LineText
 mod Ranges
 mod LineEnds

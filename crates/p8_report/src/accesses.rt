@@ -1,15 +1,15 @@
 // The text of an access with its answer, in a line.
 ghost use Rattle.std.specs.Prelude.{◌≡◌, ◌≤◌, ◌+◌, ◌++◌, codes, length, take};
 ghost use Rattle.std.specs.Fmt.{decimal};
-ghost use Rattle.p8_report.specs.Numerals.{hex};
+ghost use Rattle.p8_disassembly.specs.Numerals.{hex};
 ghost use Rattle.p8_report.specs.Text.{number_text, previous_text, width_text, digits_of, code_of, parameter_of, kind_text, test_text, reason_text, access_text};
 
 use crate::line::{
     LINE, write_byte, write_decimal, write_long, write_number, write_text, write_word,
 };
-use crate::numerals::register_digits;
 use crate::words::{code_in, kind_name, parameter_in, value_in};
 use p8_access::{Access, Answer, Origin, Reason, Test, Width};
+use p8_disassembly::register_digits;
 
 /// A text, and where a cog's code begins, with PAR or the frame.
 fn write_origin(line: &mut [u8; LINE], at: usize, text: &[u8], origin: &Origin) -> usize

@@ -6,11 +6,11 @@ ghost use Rattle.p8_access.specs.declared.order.Turn.{Turn};
 ghost use Rattle.p8_history.specs.Worlds.{World};
 ghost use Rattle.p8_history.specs.Hub.{byte_at};
 ghost use Rattle.p8_hub.specs.Standing.{IsHub};
-ghost use Rattle.p8_report.specs.Numerals.{hex};
+ghost use Rattle.p8_disassembly.specs.Numerals.{hex};
 ghost use Rattle.p8_report.specs.Text.{dump_line, dump_text};
 
-use crate::numerals::word_digits;
-use crate::phrases::{push_byte, push_text};
+use crate::phrases::push_byte;
+use p8_disassembly::{push_text, word_digits};
 use p8_hub::Hub;
 use p8_words::NoMemory;
 

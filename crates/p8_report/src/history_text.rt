@@ -63,6 +63,3 @@ pub fn trace(alloc: Global, ended: &Ended, dump: Option<(u16, u16)>) -> Result<V
         dump,
     )
 }
-
-#[cfg(test)]
-mod tests;

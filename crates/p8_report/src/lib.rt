@@ -4,15 +4,12 @@
 mod accesses;
 mod dump;
 mod history_text;
-mod instructions;
 mod line;
 mod lines;
-mod numerals;
 mod origins;
 mod phrases;
 mod tail;
 mod words;
 
 pub use history_text::trace;
-pub use instructions::instr_text;
-pub use numerals::{byte_digits, long_digits, word_digits};
+pub use p8_disassembly::instr_text;

@@ -1,10 +1,10 @@
 // A line that is made in a buffer. Each call writes behind what stands before `at`, and answers where that ends.
 ghost use Rattle.std.specs.Prelude.{◌≡◌, ◌<◌, ◌≤◌, ◌+◌, ◌++◌, length, take};
 ghost use Rattle.std.specs.Fmt.{decimal};
-ghost use Rattle.p8_report.specs.Numerals.{hex};
+ghost use Rattle.p8_disassembly.specs.Numerals.{hex};
 
-use crate::numerals::{byte_digits, long_digits, word_digits};
 use itoa::Buffer;
+use p8_disassembly::{byte_digits, long_digits, word_digits};
 
 /// How many bytes a line has at most: the clock 20, the cog 3, the access 27, two spaces and the end.
 pub const LINE: usize = 64;

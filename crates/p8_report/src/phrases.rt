@@ -1,19 +1,11 @@
 // Texts that are appended, with the numbers behind them.
 ghost use Rattle.std.specs.Prelude.{◌≡◌, ◌++◌, codes, OnOk};
 ghost use Rattle.std.specs.Fmt.{decimal};
-ghost use Rattle.p8_report.specs.Numerals.{hex};
+ghost use Rattle.p8_disassembly.specs.Numerals.{hex};
 
-use crate::numerals::{byte_digits, long_digits};
 use itoa::Buffer;
+use p8_disassembly::{byte_digits, long_digits, push_text};
 use p8_words::NoMemory;
-
-/// Appends a text.
-pub fn push_text(out: &mut Vec<u8>, text: &[u8]) -> Result<(), NoMemory>
-    ensures { OnOk result (out.new.items ≡ out.old.items ++ text.now) }
-{
-    out.extend_from_slice(text)?;
-    Ok(())
-}
 
 /// A text and a number in decimal digits, without leading zeros.
 pub fn push_numbered(out: &mut Vec<u8>, text: &[u8], number: u64) -> Result<(), NoMemory>

@@ -6,8 +6,9 @@ ghost use Rattle.p8_history.specs.Hub.{cog_state, cogs, is_taken, is_set, locks}
 ghost use Rattle.p8_hub.specs.Standing.{IsHub};
 ghost use Rattle.p8_report.specs.Text.{ended_text, lock_glyph, locks_text, pins_text, state_text, cog_text};
 
-use crate::phrases::{push_longs, push_numbered, push_text};
+use crate::phrases::{push_longs, push_numbered};
 use crate::words::kind_name;
+use p8_disassembly::push_text;
 use p8_history::CogState;
 use p8_hub::Hub;
 use p8_words::NoMemory;

@@ -5,6 +5,7 @@ use crate::runs::Run;
 use crate::sources::Source;
 use crate::stops::Stopped;
 use crate::texts::Printed;
+use crate::trees::Tree;
 use anyhow::anyhow;
 use p8_inputs::Format;
 
@@ -13,6 +14,8 @@ use p8_inputs::Format;
 pub enum Case<'a> {
     /// `source FILE VERDICT`: a source, and what reading it answers.
     Source(Source<'a>),
+    /// `tree FILE TEXT`: a source, and the file of the text of its tree.
+    Tree(Tree<'a>),
     /// `names FILE VERDICT`: a top file without objects, and what resolving its names answers.
     Names(Names<'a>),
     /// `dat FILE START VERDICT`: a top file without objects, and what assembling its DAT at an offset answers.
@@ -38,6 +41,7 @@ impl<'a> Case<'a> {
             .ok_or_else(|| anyhow!("a case without files"))?;
         match kind {
             "source" => Ok(Case::Source(Source::of_words(rest)?)),
+            "tree" => Ok(Case::Tree(Tree::of_words(rest)?)),
             "names" => Ok(Case::Names(Names::of_words(rest)?)),
             "dat" => Ok(Case::Dat(DatBlocks::of_words(rest)?)),
             "run" => Ok(Case::Run(Run::of_words(Format::Memory, rest)?)),

@@ -11,6 +11,7 @@ mod runs;
 mod sources;
 mod stops;
 mod texts;
+mod trees;
 
 use cases::Case;
 use std::alloc::Global;
@@ -37,6 +38,7 @@ impl Tally {
 fn agrees<R: Files + Alloc<A = Global>>(rt: &R, case: &Case) -> anyhow::Result<bool> {
     match case {
         Case::Source(source) => source.agrees(rt),
+        Case::Tree(tree) => tree.agrees(rt),
         Case::Names(names) => names.agrees(rt),
         Case::Dat(dat) => dat.agrees(rt),
         Case::Run(run) => run.agrees(rt),
@@ -47,6 +49,7 @@ fn agrees<R: Files + Alloc<A = Global>>(rt: &R, case: &Case) -> anyhow::Result<b
 
 fn suite(rt: &HostRuntime) -> anyhow::Result<bool> {
     let mut sources = Tally { agreed: 0, all: 0 };
+    let mut trees = Tally { agreed: 0, all: 0 };
     let mut names = Tally { agreed: 0, all: 0 };
     let mut dats = Tally { agreed: 0, all: 0 };
     let mut runs = Tally { agreed: 0, all: 0 };
@@ -61,6 +64,7 @@ fn suite(rt: &HostRuntime) -> anyhow::Result<bool> {
         }
         match case {
             Case::Source(_) => sources.count(agrees),
+            Case::Tree(_) => trees.count(agrees),
             Case::Names(_) => names.count(agrees),
             Case::Dat(_) => dats.count(agrees),
             Case::Run(_) => runs.count(agrees),
@@ -69,6 +73,7 @@ fn suite(rt: &HostRuntime) -> anyhow::Result<bool> {
         }
     }
     println!(rt; "sources: {} of {} agree", sources.agreed, sources.all)?;
+    println!(rt; "trees: {} of {} agree", trees.agreed, trees.all)?;
     println!(rt; "names: {} of {} agree", names.agreed, names.all)?;
     println!(rt; "dats: {} of {} agree", dats.agreed, dats.all)?;
     println!(rt; "runs: {} of {} agree", runs.agreed, runs.all)?;
@@ -76,6 +81,7 @@ fn suite(rt: &HostRuntime) -> anyhow::Result<bool> {
     println!(rt; "texts: {} of {} agree", texts.agreed, texts.all)?;
     Ok(
         sources.agreed == sources.all
+            && trees.agreed == trees.all
             && names.agreed == names.all
             && dats.agreed == dats.all
             && runs.agreed == runs.all

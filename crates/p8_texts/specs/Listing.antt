@@ -8,8 +8,8 @@ use Rattle.p8_bytecode.specs.Reading.{op_in}
 use Rattle.p8_image.specs.declared.parts.MethodPart.{MethodPart}
 use Rattle.p8_image.specs.declared.parts.ObjectPart.{ObjectPart}
 use Rattle.p8_image.specs.Layout.{dat_offset, codes_offset, text_offsets, size_of, linked}
-use Rattle.p8_report.specs.Instructions.{long_text}
-use Rattle.p8_report.specs.Numerals.{hex}
+use Rattle.p8_disassembly.specs.Instructions.{long_text}
+use Rattle.p8_disassembly.specs.Numerals.{hex}
 
 -- so many bytes behind an address, which has 16 bits
 abbrev pub further : ℕ → ℕ → ℕ

@@ -2,8 +2,8 @@
 ghost use Rattle.std.specs.Prelude.{◌≡◌, ◌<◌, ◌++◌, ◌∷◌, [], length, MatchOption, OnOk};
 ghost use Rattle.p8_texts.specs.Listing.{long_by, long_line, long_lines, longs_of};
 
-use crate::text::{further, push_place, push_text};
-use p8_report::{instr_text, long_digits};
+use crate::text::{further, push_place};
+use p8_disassembly::{instr_text, long_digits, push_text};
 use p8_words::NoMemory;
 use std::alloc::Global;
 

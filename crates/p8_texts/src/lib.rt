@@ -6,8 +6,6 @@ mod dat;
 mod laws;
 mod objects;
 mod project_listing;
-#[cfg(test)]
-mod tests;
 mod text;
 
 pub use laws::operations_have_lines;

@@ -6,8 +6,9 @@ ghost use Rattle.p8_texts.specs.Cutting.{cut_lines};
 
 use crate::code::push_code_lines;
 use crate::dat::push_dat_lines;
-use crate::text::{behind, further, push_place, push_text};
+use crate::text::{behind, further, push_place};
 use itoa::Buffer;
+use p8_disassembly::push_text;
 use p8_image::{MethodPart, ObjectPart, Offsets, linked_codes};
 use p8_words::NoMemory;
 use std::alloc::Global;

@@ -1,18 +1,10 @@
 // Texts that are appended.
 ghost use Rattle.std.specs.Prelude.{◌≡◌, ◌≤◌, ◌++◌, length, drop, OnOk};
-ghost use Rattle.p8_report.specs.Numerals.{hex};
+ghost use Rattle.p8_disassembly.specs.Numerals.{hex};
 ghost use Rattle.p8_texts.specs.Listing.{further as further_by};
 
-use p8_report::word_digits;
+use p8_disassembly::{push_text, word_digits};
 use p8_words::NoMemory;
-
-/// Appends a text.
-pub fn push_text(out: &mut Vec<u8>, text: &[u8]) -> Result<(), NoMemory>
-    ensures { OnOk result (out.new.items ≡ out.old.items ++ text.now) }
-{
-    out.extend_from_slice(text)?;
-    Ok(())
-}
 
 /// Appends an address.
 pub fn push_place(out: &mut Vec<u8>, place: u16) -> Result<(), NoMemory>

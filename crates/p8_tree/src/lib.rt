@@ -16,6 +16,3 @@ pub use sources::{
     Block, ConItem, DatBody, DatItem, DatLine, InstrLine, Method, ObjItem, SourceFile, VarItem,
 };
 pub use statements::{Arm, Loop, Stmt, StmtKind};
-
-#[cfg(test)]
-mod tests;

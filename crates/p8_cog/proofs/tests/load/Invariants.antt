@@ -1,6 +1,0 @@
-use Rattle.std.proofs.Common.{◌≡◌}
-use Rattle.p8_cog.specs.Whole.{cog_of}
-use Rattle.p8_cog.proofs.tests.load.Given as goal
-
-abbrev pub invariant-loop-k : goal.invariant-loop-k
-invariant-loop-k g l = record { own : cog_of l.life ≡ 0 }

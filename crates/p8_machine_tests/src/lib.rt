@@ -1,0 +1,37 @@
+//! Tests of the machine and of what it stands on: worked values, instructions, lives, histories and their texts.
+//!
+//! They stand apart from the crates that they test, because a crate with tests is proved twice.
+#![tactic(auto)]
+
+#[cfg(test)]
+mod access;
+#[cfg(test)]
+mod alu;
+#[cfg(test)]
+mod bytecode;
+#[cfg(test)]
+mod desk;
+#[cfg(test)]
+mod history;
+#[cfg(test)]
+mod hub;
+#[cfg(test)]
+mod instr;
+#[cfg(test)]
+mod instructions;
+#[cfg(test)]
+mod lives;
+#[cfg(test)]
+mod machine;
+#[cfg(test)]
+mod pasm;
+#[cfg(test)]
+mod pins;
+#[cfg(test)]
+mod record;
+#[cfg(test)]
+mod region;
+#[cfg(test)]
+mod spin;
+#[cfg(test)]
+mod words;

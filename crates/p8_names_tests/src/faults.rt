@@ -1,0 +1,24 @@
+// Which of several faults is told.
+use p8_faults::Fault;
+use p8_tree::Place;
+
+fn fault(number: u8, line: u32, column: u32) -> Fault {
+    Fault {
+        number,
+        place: Place { line, column },
+    }
+}
+
+#[test]
+fn tells_the_first(rt: HostRuntime) {
+    let unknown = fault(15, 3, 9);
+    let divisor = fault(13, 3, 11);
+    let constant = fault(12, 3, 9);
+    assert_eq!(rt; unknown.earlier(divisor), unknown);
+    assert_eq!(rt; unknown.earlier(constant), constant);
+    assert_eq!(rt;
+        Fault::first_of(&[divisor, unknown, constant]),
+        Some(constant)
+    );
+    assert_eq!(rt; Fault::first_of(&[]), None);
+}

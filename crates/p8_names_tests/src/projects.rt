@@ -1,0 +1,128 @@
+// Worked projects: their files in order, and why there is none.
+use p8_io::{FailList, MemShelf};
+use p8_objects::{GatherFault, gather};
+use p8_tree::{Project, Text};
+use p8_words::NoMemory;
+use std::alloc::{AllocError, Global};
+use std::test::Fail;
+
+// A file that mentions these, each on a line of its own; the string stands at column 7.
+const MENTIONS_A: &str = "OBJ\n  x : \"a\"\nPUB f";
+
+const MENTIONS_B: &str = "OBJ\n  x : \"b\"\nPUB f";
+
+const MENTIONS_B_AND_C: &str = "OBJ\n  x : \"b\"\n  y : \"c\"\nPUB f";
+
+const MENTIONS_C: &str = "OBJ\n  x : \"c\"\nPUB f";
+
+const MENTIONS_D: &str = "OBJ\n  x : \"d\"\nPUB f";
+
+const NO_MENTION: &str = "PUB f";
+
+const FLOATING: &str = "CON\n  x = 1.5";
+
+// A shelf whose top file is `a.spin`. Files without text aren't on it.
+fn shelf_of(alloc: Global, texts: [&str; 4]) -> Result<MemShelf, NoMemory> {
+    let mut shelf = MemShelf::new(alloc);
+    for (name, text) in ["a.spin", "b.spin", "c.spin", "d.spin"].iter().zip(texts) {
+        if !text.is_empty() {
+            shelf.add(name, text.as_bytes())?;
+        }
+    }
+    Ok(shelf)
+}
+
+fn write_name(out: &mut String, name: &Text) -> Result<(), AllocError> {
+    out.push_str(str::from_utf8(name.as_slice()).unwrap_or("?"))
+}
+
+fn write_files(out: &mut String, project: &Project) -> Result<(), AllocError> {
+    for file in project.files.as_slice() {
+        write_name(out, &file.name)?;
+        out.push_str(" ")?;
+    }
+    Ok(())
+}
+
+fn write_fault(out: &mut String, fault: &GatherFault) -> Result<(), AllocError> {
+    match fault {
+        GatherFault::Source {
+            file,
+            number,
+            place,
+        } => {
+            write_name(out, file)?;
+            write!(out, ":{}:{}: {number}", place.line, place.column)
+        }
+        GatherFault::Missing { file } => {
+            out.push_str("missing ")?;
+            write_name(out, file)
+        }
+        GatherFault::ShelfFault { file } => {
+            out.push_str("not read ")?;
+            write_name(out, file)
+        }
+        GatherFault::NoMemory => out.push_str("out of memory"),
+    }
+}
+
+// What gathering answers: the names of the files, each with a blank behind it, or the fault.
+fn answer(alloc: Global, shelf: &mut MemShelf) -> Result<String, AllocError> {
+    let mut out = String::new(alloc);
+    match gather(alloc, shelf, "a.spin") {
+        Ok(project) => write_files(&mut out, &project)?,
+        Err(fault) => write_fault(&mut out, &fault)?,
+    }
+    Ok(out)
+}
+
+#[test]
+fn gathers_projects(rt: HostRuntime) -> Result<(), Fail> {
+    let alloc = rt.alloc();
+    let table = [
+        ([MENTIONS_B, MENTIONS_A, "", ""], "b.spin:2:7: 19"),
+        ([MENTIONS_A, "", "", ""], "a.spin:2:7: 19"),
+        (
+            [MENTIONS_B_AND_C, MENTIONS_C, NO_MENTION, ""],
+            "a.spin b.spin c.spin ",
+        ),
+        (
+            [MENTIONS_B_AND_C, MENTIONS_D, NO_MENTION, NO_MENTION],
+            "a.spin b.spin d.spin c.spin ",
+        ),
+        ([MENTIONS_B_AND_C, NO_MENTION, "", ""], "missing c.spin"),
+        ([MENTIONS_B_AND_C, FLOATING, "", ""], "b.spin:2:7: 9"),
+        (
+            [MENTIONS_B_AND_C, MENTIONS_C, MENTIONS_B, ""],
+            "c.spin:2:7: 19",
+        ),
+    ];
+    for (texts, wanted) in table {
+        let mut shelf = shelf_of(alloc, texts)?;
+        let found = answer(alloc, &mut shelf)?;
+        assert_eq!(rt; found.as_str(), wanted);
+    }
+    Ok(())
+}
+
+// Each read fails in turn; there is no fourth one, since no file is read twice.
+#[test]
+fn fails_at_each_read(rt: HostRuntime) -> Result<(), Fail> {
+    let alloc = rt.alloc();
+    let table = [
+        (1, "not read a.spin"),
+        (2, "not read b.spin"),
+        (3, "not read c.spin"),
+        (4, "a.spin b.spin c.spin "),
+    ];
+    for (call, wanted) in table {
+        let mut fails = FailList::new(alloc);
+        fails.at(call)?;
+        let mut shelf = shelf_of(alloc, [MENTIONS_B_AND_C, MENTIONS_C, NO_MENTION, ""])?.with(
+            fails,
+        );
+        let found = answer(alloc, &mut shelf)?;
+        assert_eq!(rt; found.as_str(), wanted);
+    }
+    Ok(())
+}

@@ -1,0 +1,3 @@
+PUB main
+  repeat 2
+  1: main

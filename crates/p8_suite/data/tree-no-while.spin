@@ -1,0 +1,4 @@
+PUB main
+  repeat
+  while 0
+  while 0

@@ -1,0 +1,10 @@
+mod Following
+mod Starts
+mod Assembly
+mod Sources
+mod SourceForms
+mod SourceLives
+mod SpinLives
+mod Histories
+mod EachLife
+mod CodeTold
