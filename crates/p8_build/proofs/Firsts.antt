@@ -14,9 +14,9 @@ first_of IsRefused phase file f holds least phases files = record {
   holds = holds;
   first = λ b r before. elim before [
     | inl e ↦ elim e [
-        | inl lower ↦ phases b.phase b.file b.fault lower r
-        | inr same ↦ files b.file b.fault same.1 (subst (λ p. IsRefused (refusal p b.file b.fault)) same.0 r)
-      ]
+      | inl lower ↦ phases b.phase b.file b.fault lower r
+      | inr same ↦ files b.file b.fault same.1 (subst (λ p. IsRefused (refusal p b.file b.fault)) same.0 r)
+    ]
     | inr same ↦ least b.fault (subst (λ j. IsRefused (refusal phase j b.fault)) same.1 (subst (λ p. IsRefused (refusal p b.file b.fault)) same.0 r)) same.2
   ];
 }

@@ -82,7 +82,6 @@ parts_are strings (m ∷ ms) (c ∷ cs) (p ∷ ps) a b each =
 
 module _ (source : Source) (children : Children) (kinds : Kinds) (dat : Dat) (names : ℕ → MethodTree → Names)
     (same : (k : ℕ) (m : MethodTree) → names k m ≡ names_in kinds children dat.labels (k + 1) m.place) where
-
   to_code_fault : (s : Setting) (f : Fault) → s ≡ file_setting kinds children → IsFaultOfOne names (numbered (items source)) f ⊎ IsOneTooMany (instances s (objects (items source))) (numbered (items source)) f → IsCodeFaultOf source children kinds dat f
   to_code_fault s f e (inl (of_one k m at b)) = of_method k m at (subst (λ n. IsMethodFault n m f) (same k m) b)
   to_code_fault s f e (inr (coding.too_many k m at a b is)) = too_many k m at (record {

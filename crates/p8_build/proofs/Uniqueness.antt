@@ -32,8 +32,7 @@ some_clock c d e = same_Some c d e
 pub one_built : (files : List NamedSource) → HaveOneView files → (c d : Clock) (a b : List ObjectPart) → IsBuilt files c a → IsBuilt files d b → (c ≡ d) × (a ≡ b)
 one_built files view c d a b x y =
     let same : y.children ≡ x.children = view y.children x.children y.seen x.seen in
-    let each : AreCompiled files x.children y.compiled = subst (λ (cs : List Children). AreCompiled files cs y.compiled) same y.each in
-    (
+    let each : AreCompiled files x.children y.compiled = subst (λ (cs : List Children). AreCompiled files cs y.compiled) same y.each in (
       some_clock c d (sym x.clock_is ∙ one_clock files x.children x.compiled y.compiled x.seen.one_each x.each each ∙ y.clock_is),
       x.objects_are ∙ one_objects files x.children x.compiled y.compiled x.seen.one_each x.each each ∙ ap (λ (cs : List Children). objects_of files cs y.compiled) (sym same) ∙ sym y.objects_are,
     )
@@ -43,8 +42,7 @@ one_refused files view n m f g x y =
     let same : y.children ≡ x.children = view y.children x.children y.seen x.seen in
     let first : IsFirstRefusal (IsRefusal files x.children) y.refusal = subst (λ (cs : List Children). IsFirstRefusal (IsRefusal files cs) y.refusal) same y.first in
     let refusals : x.refusal ≡ y.refusal = one_first (IsRefusal files x.children) x.refusal y.refusal x.first first in
-    let there : slice_get files x.refusal.file ≡ Some y.file = ap (λ (r : Refusal). slice_get files r.file) refusals ∙ y.stands in
-    (
+    let there : slice_get files x.refusal.file ≡ Some y.file = ap (λ (r : Refusal). slice_get files r.file) refusals ∙ y.stands in (
       x.named ∙ ap (λ (h : NamedSource). h.name) (one_element files x.refusal.file x.stands there) ∙ sym y.named,
       x.told ∙ ap (λ (r : Refusal). r.fault) refusals ∙ sym y.told,
     )

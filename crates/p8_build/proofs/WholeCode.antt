@@ -55,7 +55,6 @@ module _ (source : Source) (children : Children) (kinds : Kinds) (tables : Table
     (publics : (item : ℕ) (name : List ℕ) → own tables.publics item name ≡ public_of children item name)
     (consts : setting_in tables.consts ≡ file_setting kinds children)
     (offsets : (name : List ℕ) → offset_in tables.labels name ≡ first_offset dat.labels name) where
-
   same_names : (k : ℕ) (m : MethodTree) → names_with kinds tables k m ≡ names_in kinds children dat.labels (k + 1) m.place
   same_names k m = names_same kinds (k + 1) tables m.place children dat.labels publics consts offsets
 

@@ -74,16 +74,17 @@ are_objects files children named dats objects beside h k count each =
     let n = element named i (omega (arith, h.count)) in
     let d = element dats i (omega (arith, k.count)) in
     let is : IsFile files children i f.0 c.0 = record { stands = f.1; beside = c.1 } in
-    let made = each.at i o at f.0 c.0 n.0 d.0 is n.1 d.1 in
-    (compiled n.0.kinds d.0 made.codes, λ file seen m here there.
-    let same = one_file is here in
-    let names = one_element named i n.1 there in
-    (
-      ap (λ (y : Named). y.kinds) names,
-      subst (λ (s : Children). IsCompiled file.tree s (i == 0) (compiled n.0.kinds d.0 made.codes)) same.1 (subst (λ (y : NamedSource). IsCompiled y.tree c.0 (i == 0) (compiled n.0.kinds d.0 made.codes)) same.0
-      (record { names = (h.each i n.0 n.1 f.0 c.0 is).names; dat = (let a = k.each i d.0 d.1 f.0 c.0 n.0 is n.1 in record { clean = a.clean; bytes = a.bytes; labels = a.labels }); code = made.code })),
-      subst (λ (s : Children). o ≡ object_of files file.tree s (compiled n.0.kinds d.0 made.codes)) same.1 (subst (λ (y : NamedSource). o ≡ object_of files y.tree c.0 (compiled n.0.kinds d.0 made.codes)) same.0 made.is),
-    ))) in
+    let made = each.at i o at f.0 c.0 n.0 d.0 is n.1 d.1 in (
+      compiled n.0.kinds d.0 made.codes,
+      λ file seen m here there.
+          let same = one_file is here in
+          let names = one_element named i n.1 there in (
+            ap (λ (y : Named). y.kinds) names,
+            subst (λ (s : Children). IsCompiled file.tree s (i == 0) (compiled n.0.kinds d.0 made.codes)) same.1 (subst (λ (y : NamedSource). IsCompiled y.tree c.0 (i == 0) (compiled n.0.kinds d.0 made.codes)) same.0
+                (record { names = (h.each i n.0 n.1 f.0 c.0 is).names; dat = (let a = k.each i d.0 d.1 f.0 c.0 n.0 is n.1 in record { clean = a.clean; bytes = a.bytes; labels = a.labels }); code = made.code })),
+            subst (λ (s : Children). o ≡ object_of files file.tree s (compiled n.0.kinds d.0 made.codes)) same.1 (subst (λ (y : NamedSource). o ≡ object_of files y.tree c.0 (compiled n.0.kinds d.0 made.codes)) same.0 made.is),
+          ),
+    )) in
     record {
       xs = all.0;
       compiled = record {

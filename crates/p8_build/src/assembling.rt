@@ -22,10 +22,7 @@ use p8_words::{Fail, NoMemory};
 use std::alloc::Global;
 
 /// Assembles the data of all files, or tells the first fault.
-pub(crate) fn assemble_all(
-    alloc: Global,
-    named: &[Named<'_>],
-) -> Result<List<Dat>, Fail<FileFault>>
+pub(crate) fn assemble_all(alloc: Global, named: &[Named<'_>]) -> Result<List<Dat>, Fail<FileFault>>
     ensures assembled { (files : list NamedSource) → AreNamed files (seen_by named.now) named.now → IfOk result (AreAssembled files (seen_by named.now) named.now) }
     ensures refused { (files : list NamedSource) → AreNamed files (seen_by named.now) named.now → IfErr result (IfFirst files (seen_by named.now) 1) }
 {
@@ -37,11 +34,7 @@ pub(crate) fn assemble_all(
 }
 
 /// Assembles the data of the file of this number.
-fn assemble_one(
-    alloc: Global,
-    index: usize,
-    named: &Named<'_>,
-) -> Result<Dat, Fail<FileFault>>
+fn assemble_one(alloc: Global, index: usize, named: &Named<'_>) -> Result<Dat, Fail<FileFault>>
     ensures assembled { IfOk result (IsDataOf (source_of named.now.file.now) named.now.children.now named.now.kinds) }
     ensures refused { IfErr result (IfFaultAt index (IsFirstFault (IsDatFault (file_setting named.now.kinds named.now.children.now) (data_start (file_setting named.now.kinds named.now.children.now) (source_of named.now.file.now)) (source_of named.now.file.now)))) }
 {
@@ -82,7 +75,9 @@ pub(crate) fn instances(consts: &Consts, items: &[Item<'_>]) -> Result<u32, NoMe
 {
     let mut all: u32 = 0;
     for item in items {
-        all = all.checked_add(instances_in(consts, *item)).ok_or(NoMemory)?;
+        all = all
+            .checked_add(instances_in(consts, *item))
+            .ok_or(NoMemory)?;
     }
     Ok(all)
 }

@@ -173,11 +173,7 @@ fn put_instances(
     match item {
         Item::Object(object) => {
             let file = number_of(files, &object.file);
-            put_number(
-                instances,
-                file,
-                count_value(consts, object.count.as_ref()),
-            )
+            put_number(instances, file, count_value(consts, object.count.as_ref()))
         }
         _ => Ok(()),
     }

@@ -34,10 +34,7 @@ pub(crate) fn strings_of_all<'a>(
 }
 
 /// Copies of texts, in their order.
-pub(crate) fn copies_of(
-    alloc: Global,
-    strings: &[StringText<'_>],
-) -> Result<List<Text>, AllocError>
+pub(crate) fn copies_of(alloc: Global, strings: &[StringText<'_>]) -> Result<List<Text>, AllocError>
     ensures { IfOk result (λ texts. texts ≡ map (λ x. (text_of x).1) strings.now) }
 {
     let mut texts = List::new(alloc);

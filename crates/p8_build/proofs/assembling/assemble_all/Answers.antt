@@ -1,12 +1,11 @@
-use Rattle.std.proofs.Common.{◌≡◌, ◌==◌, List, length, refl, ◌∙◌, arith}
+use Rattle.std.proofs.Common.{length, refl, ◌∙◌, arith}
 use Rattle.std.proofs.lemmas.Option.{slice_get_read}
-use Rattle.p8_tree.specs.Projects.{NamedSource}
 use Rattle.p8_tree.specs.Views.{source_of}
 use Rattle.p8_faults.specs.Faults.{IsFirstFault}
 use Rattle.p8_kinds.specs.FileSettings.{file_setting}
 use Rattle.p8_dat.specs.Blocks.{IsDatFault}
 use Rattle.p8_build.specs.Parts.{data_start}
-use Rattle.p8_build.specs.Phases.{seen_by, AreNamed, IsDataAt, IfFirst}
+use Rattle.p8_build.specs.Phases.{seen_by, IsDataAt, IfFirst}
 use Rattle.p8_build.proofs.Lists.{told, each_more, count_more}
 use Rattle.p8_build.proofs.Here.{if_first, data_here, data_refused_here}
 use Rattle.p8_build.proofs.assembling.assemble_all.Goals as goal

@@ -1,4 +1,4 @@
-use Rattle.std.proofs.Common.{◌≡◌, ◌==◌, map, length, sym, ◌∙◌, arith}
+use Rattle.std.proofs.Common.{◌==◌, map, ◌∙◌, arith}
 use Rattle.std.proofs.lemmas.List.{length-map}
 use Rattle.p8_tree.specs.Views.{source_of, named_source_of}
 use Rattle.p8_faults.specs.Faults.{IsFirstFault}

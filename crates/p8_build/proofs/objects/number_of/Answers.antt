@@ -1,4 +1,4 @@
-use Rattle.std.proofs.Common.{map, arith}
+use Rattle.std.proofs.Common.{map}
 use Rattle.p8_tree.specs.Views.{named_source_of}
 use Rattle.p8_build.specs.Parts.{number_of}
 use Rattle.p8_build.proofs.Counting.{number_here, number_next, true_not_false}

@@ -1,10 +1,10 @@
-use Rattle.std.proofs.Common.{◌≡◌, ℕ, List, map, refl, ap, sym, ◌∙◌, Bor}
+use Rattle.std.proofs.Common.{List, map, ap, sym, ◌∙◌, Bor}
 use Rattle.std.specs.List.{flat_map}
 use Rattle.p8_tree.specs.declared.sources.Method.{Method}
 use Rattle.p8_tree.specs.Sources.{MethodTree}
 use Rattle.p8_tree.specs.Views.{source_of, named_source_of, method_of}
 use Rattle.p8_fold.specs.Entries.{setting_of as setting_in}
-use Rattle.p8_definitions.specs.Items.{Item, items}
+use Rattle.p8_definitions.specs.Items.{Item}
 use Rattle.p8_definitions.specs.Standing.{items_of}
 use Rattle.p8_names.specs.Kinds.{numbered, objects, instances}
 use Rattle.p8_gen.specs.Files.{first_offset}
