@@ -1,5 +1,5 @@
 // Programs and their traces.
-ghost use Rattle.std.specs.Prelude.{IfOk};
+ghost use Rattle.std.specs.Prelude.{◌≤◌, IfOk};
 ghost use Rattle.p8_access.specs.Proper.{IsProperOrigin};
 
 use crate::ways::{Way, run};
@@ -7,12 +7,14 @@ use anyhow::anyhow;
 use p8_access::Boot;
 use p8_desk::Start;
 use p8_image::load;
-use p8_machine::{Ended, Limits};
+use p8_machine::{Ended, Limits, run_alone};
 use p8_pins::PinScript;
 use p8_report::trace;
 use p8_words::Fail;
 use std::alloc::Global;
 use std::fs::{self, Files};
+use std::sync::Wait;
+use std::thread::Threads;
 
 /// How many bytes the hub has.
 const HUB_BYTES: usize = 32_768;
@@ -133,20 +135,67 @@ impl<'a> Case<'a> {
         Ok(trace(alloc, ended, Some((address, count)))?)
     }
 
-    /// Whether the trace of the program, run in this way, is the one of the file.
-    pub fn agrees<R: Files + Alloc<A = Global>>(&self, rt: &R, way: Way) -> anyhow::Result<bool> {
-        let alloc = rt.alloc();
+    /// What the run begins with.
+    ///
+    /// # Errors
+    ///
+    /// A file that can't be read, that the hub can't hold or that is no image or script, and limits that no run may have.
+    fn start<R: Files + Alloc<A = Global>>(&self, rt: &R) -> anyhow::Result<Start>
+        ensures clocks { IfOk result (λ start. start.limits.clocks ≤ 100000000) }
+        ensures turns { IfOk result (λ start. start.limits.turns ≤ 1000000) }
+        ensures first { IfOk result (λ start. IsProperOrigin start.boot.first) }
+    {
         let limits = self.limits;
         if limits.clocks > MOST_CLOCKS || limits.turns > MOST_TURNS {
             return Err(anyhow!("limits that no run may have"));
         }
-        let start = Start {
+        Ok(Start {
             boot: self.boot(rt)?,
             script: self.script(rt)?,
             limits,
-        };
-        let ended = run(alloc, start, way)?;
-        let text = self.text(alloc, &ended)?;
+        })
+    }
+
+    /// The trace of the program, run at the desk in this way.
+    ///
+    /// # Errors
+    ///
+    /// As for what the run begins with, a dump that isn't in RAM, and want of memory.
+    pub fn traced<R: Files + Alloc<A = Global> + Threads + Wait + Sync>(
+        &self,
+        rt: &R,
+        way: Way,
+    ) -> anyhow::Result<Vec<u8>> {
+        let ended = run(rt, rt.alloc(), self.start(rt)?, way)?;
+        self.text(rt.alloc(), &ended)
+    }
+
+    /// The trace of the program, run by the machine.
+    ///
+    /// # Errors
+    ///
+    /// The same.
+    pub fn alone<R: Files + Alloc<A = Global>>(&self, rt: &R) -> anyhow::Result<Vec<u8>> {
+        let Start {
+            boot,
+            script,
+            limits,
+        } = self.start(rt)?;
+        let ended = run_alone(rt.alloc(), boot, script, limits)?;
+        self.text(rt.alloc(), &ended)
+    }
+
+    /// Whether the trace of the program, run in this way, is the one of the file.
+    ///
+    /// # Errors
+    ///
+    /// The same.
+    pub fn agrees<R: Files + Alloc<A = Global> + Threads + Wait + Sync>(
+        &self,
+        rt: &R,
+        way: Way,
+    ) -> anyhow::Result<bool> {
+        let text = self.traced(rt, way)?;
         let expected = fs::read(rt, self.trace)?;
         Ok(text == expected)
     }

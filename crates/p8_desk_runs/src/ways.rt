@@ -4,10 +4,13 @@ ghost use Rattle.p8_access.specs.Proper.{IsProperOrigin};
 ghost use Rattle.p8_desk.specs.PassSets.{AllThere};
 
 use crate::calls::{call, rounds};
+use crate::threads::turn_in_threads;
 use p8_desk::{Desk, Passes, Start, drive_all};
 use p8_machine::Ended;
 use p8_words::NoMemory;
 use std::alloc::Global;
+use std::sync::Wait;
+use std::thread::Threads;
 
 /// How the passes of a desk are called.
 #[derive(Clone, Copy)]
@@ -20,6 +23,8 @@ pub enum Way {
     Falling,
     /// Cog 7 ten times, and then cogs 0 to 7 in turn.
     LastFirst,
+    /// All cogs at once, each in a thread of its own.
+    Threads,
 }
 
 /// How often cog 7 is called first.
@@ -35,8 +40,17 @@ fn call_last(desk: &Desk, passes: &mut Passes)
     }
 }
 
+/// All passes in threads.
+fn drive_threads<R: Threads + Wait + Sync>(rt: &R, desk: &Desk, passes: &mut Passes)
+    requires { AllThere desk.now passes.old }
+    ensures { AllThere desk.now passes.new }
+{
+    let mut places = [None, None, None, None, None, None, None, None];
+    turn_in_threads(rt, desk, passes, &mut places);
+}
+
 /// Calls the passes in this way until the history has ended, or for very many rounds.
-fn drive(way: Way, desk: &Desk, passes: &mut Passes)
+fn drive<R: Threads + Wait + Sync>(rt: &R, way: Way, desk: &Desk, passes: &mut Passes)
     requires { AllThere desk.now passes.old }
     ensures { AllThere desk.now passes.new }
 {
@@ -48,17 +62,23 @@ fn drive(way: Way, desk: &Desk, passes: &mut Passes)
             call_last(desk, passes);
             rounds(desk, passes, false);
         }
+        Way::Threads => drive_threads(rt, desk, passes),
     }
 }
 
 /// The ended run of a start, made at a desk in one way.
-pub fn run(alloc: Global, start: Start, way: Way) -> Result<Ended, NoMemory>
+pub fn run<R: Threads + Wait + Sync>(
+    rt: &R,
+    alloc: Global,
+    start: Start,
+    way: Way,
+) -> Result<Ended, NoMemory>
     requires clocks { start.limits.clocks ≤ 100000000 }
     requires turns { start.limits.turns ≤ 1000000 }
     requires first { IsProperOrigin start.boot.first }
 {
     let (desk, mut passes) = Desk::open(alloc, start)?;
-    drive(way, &desk, &mut passes);
+    drive(rt, way, &desk, &mut passes);
     drive_all(&desk, &mut passes);
     Ok(desk.close(passes))
 }
