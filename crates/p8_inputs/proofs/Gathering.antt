@@ -7,10 +7,10 @@ use Rattle.p8_tree.specs.declared.places.Place.{Place}
 use Rattle.p8_tree.specs.Sources as trees
 use Rattle.p8_tree.specs.Sources.{BlockTree, Child, Con, Var, Obj, Method, Dat, Source}
 use Rattle.p8_tree.specs.Projects.{NamedSource}
-use Rattle.p8_definitions.specs.Items.{block_items, items, constant, variable, object, method, line}
+use Rattle.p8_definitions.specs.Items.{block_items, items, constant, variable, object, line}
 use Rattle.p8_names.specs.Kinds.{object_in, objects}
 use Rattle.p8_io.specs.Shelves.{Files}
-use Rattle.p8_objects.specs.Lists.{IsAt, HasOne}
+use Rattle.p8_objects.specs.Lists.{IsAt}
 use Rattle.p8_objects.specs.Sources.{mentions_in, mentions}
 use Rattle.p8_objects.specs.Projects.{IsIn}
 use Rattle.p8_objects.specs.Projects as by_name

@@ -1,5 +1,5 @@
 -- Why there is nothing to run, by the step that finds it.
-use Rattle.std.proofs.Common.{◌≡◌, ℕ, ◌<◌, ◌≤◌, inl, inr, List, Option, Some, None, arith}
+use Rattle.std.proofs.Common.{ℕ, ◌≤◌, inl, inr, List, Option, Some, None, arith}
 use Rattle.p8_io.specs.Counts.{Rose}
 use Rattle.p8_io.specs.Shelves.{Files, IsLacking}
 use Rattle.p8_inputs.specs.declared.program.Format.{Format}

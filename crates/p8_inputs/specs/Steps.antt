@@ -1,14 +1,11 @@
 -- internal
 -- Why one file gives nothing.
-use Rattle.std.specs.Prelude.{ℕ, ◌≡◌, List, Option, Some, None}
-use Rattle.p8_tree.specs.Projects.{NamedSource}
-use Rattle.p8_history.specs.Worlds.{Line}
+use Rattle.std.specs.Prelude.{ℕ, ◌≡◌, List, Option, Some}
 use Rattle.p8_access.specs.declared.memory.Boot.{Boot}
 use Rattle.p8_io.specs.Counts.{Rose}
 use Rattle.p8_io.specs.Shelves.{Files, IsLacking, IsRead}
 use Rattle.p8_pins.specs.Scripts.{IsFault}
 use Rattle.p8_inputs.specs.declared.program.Format.{Format}
-use Rattle.p8_inputs.specs.declared.program.Format.TheVariants.{Source}
 use Rattle.p8_inputs.specs.declared.stop.Stop.{Stop}
 use Rattle.p8_inputs.specs.declared.stop.Stop.TheVariants.{Unread, Missing, NoMemory, Refused, BadProgram, BadScript}
 use Rattle.p8_inputs.specs.Inputs.{IsProgram, IsProgramMissing, IsProgramUnread, HasRefusal, HasFault}

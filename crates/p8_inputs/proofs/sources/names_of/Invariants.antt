@@ -1,4 +1,4 @@
-use Rattle.std.proofs.Common.{◌≡◌, ◌++◌, List, drop}
+use Rattle.std.proofs.Common.{◌≡◌, ◌++◌, drop}
 use Rattle.std.specs.Prelude.{map}
 use Rattle.p8_tree.specs.declared.projects.ProjectFile.{ProjectFile}
 use Rattle.p8_inputs.proofs.sources.names_of.Given as goal
