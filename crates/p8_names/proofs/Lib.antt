@@ -4,7 +4,7 @@ mod Advancing
 mod Entering
 mod Showing
 mod OwnNames
-mod TwoFaults
+pub mod TwoFaults
 pub mod Equal
 mod LookingAt
 mod LocalLabels

@@ -1,21 +1,17 @@
 -- What is written of a method, and when it is refused.
-use Rattle.std.proofs.Common.{◌≡◌, ℕ, ◌+◌, ◌-◌, ◌*◌, ◌^◌, ◌<◌, ◌≤◌, ◌||◌, nat_lt, nat_le, min, Bool, true, false, if◌then◌else◌, Option, Some, None, List, [], ◌∷◌, ◌++◌, map, length, refl, sym, ap, ap₂, ◌∙◌, subst, arith}
-use Rattle.std.specs.Prelude.{IfSome, Contains, All, flat_map}
+use Rattle.std.proofs.Common.{◌≡◌, ℕ, ◌+◌, ◌-◌, ◌*◌, ◌^◌, ◌<◌, ◌≤◌, ◌||◌, nat_lt, nat_le, Bool, true, false, List, [], ◌∷◌, map, length, refl, sym, ap, ap₂, ◌∙◌, subst, arith}
+use Rattle.std.specs.Prelude.{Contains, All, flat_map}
 use Rattle.std.proofs.lemmas.Bool.Decides.{nat_tests}
 use Rattle.p8_tree.specs.declared.places.Place.{Place}
 use Rattle.p8_tree.specs.Sources.{MethodTree}
 use Rattle.p8_bytecode.specs.declared.op.Op.{Op}
 use Rattle.p8_faults.specs.declared.faults.Fault.{Fault}
-use Rattle.p8_faults.specs.Faults.{fault, IsFirstFault}
+use Rattle.p8_faults.specs.Faults.{IsFirstFault}
 use Rattle.p8_faults.proofs.Firsts.{IsFirstFault-along}
-use Rattle.p8_gen.specs.declared.writer.Kept.{Kept}
-use Rattle.p8_gen.specs.declared.writer.Writer.{Writer}
 use Rattle.p8_gen.specs.Depths.{held_in}
 use Rattle.p8_gen.specs.Methods.{method_code}
 use Rattle.p8_gen.specs.Names.{Names}
-use Rattle.p8_gen.specs.Operations.{IsWhole, AreWhole}
-use Rattle.p8_gen.specs.Pieces.{Written}
-use Rattle.p8_gen.specs.Writing.{Stands}
+use Rattle.p8_gen.specs.Operations.{IsWhole}
 use Rattle.p8_stmt.specs.Cutting.{cut, cut_longs}
 use Rattle.p8_stmt.specs.Methods.{longs_in, most_longs, most_held, AreResolved, IsMethodFault, IsCodeOf}
 use Rattle.p8_stmt.specs.declared.code.MethodCode.{MethodCode}
@@ -25,9 +21,6 @@ use Rattle.p8_bytecode.specs.Spelling.{spelled}
 use Rattle.p8_stmt.specs.Telling.{faults_of}
 use Rattle.p8_stmt.proofs.Telling.{to_fault, from_fault}
 use Rattle.p8_stmt.proofs.Whole.{method_whole}
-
-pub kept_far : (out : Writer) (w : Written) (k : Kept) → Stands out w → Some k ≡ out.kept → k.too_far.items ≡ w.too_far
-kept_far out w k stands is = subst (λ o. IfSome o (λ k. k.too_far.items ≡ w.too_far)) (sym is) stands.too_far
 
 -- ---- what is too large, by numbers that stop at a limit
 
@@ -95,9 +88,6 @@ module _ (n : Names) (m : MethodTree) {longs held : ℕ} {large : Bool} {far : L
   module _ (clean : faults_of far m.place large ≡ []) where
     small_frame : 1 + length m.params + longs ≤ most_longs
     small_frame = isnt_less most_longs (1 + length m.params + longs) (neither_left _ _ (not_large far m.place large clean ∙ is))
-
-    pub few_longs : longs < most_longs
-    few_longs = let small = small_frame in omega (arith, small)
 
     pub longs_are : longs ≡ longs_in n.constants m.locals
     longs_are = let small = small_frame in omega (arith, small, l_is)

@@ -1,6 +1,5 @@
 -- How much is held: numbers that stop at a limit, one after the other, and the forms as the code has them.
 use Rattle.std.proofs.Common.{◌≡◌, ℕ, ◌+◌, ◌-◌, ◌^◌, ◌<◌, ◌≤◌, ◌==◌, ◌&&◌, not, min, max, Bool, true, false, if◌then◌else◌, List, [], ◌∷◌, Option, Some, None, Vec, Box, length, take, get_or, refl, sym, ap, ap₂, ◌∙◌, arith}
-use Rattle.std.specs.Prelude.{option_map}
 use Rattle.std.specs.declared.alloc.Global.{Global}
 use Rattle.std.proofs.lemmas.List.{take_more, length-take-le}
 use Rattle.std.proofs.lemmas.Bool.Decides.{nat_tests}
@@ -10,35 +9,30 @@ use Rattle.p8_tree.specs.declared.expressions.Item as item
 use Rattle.p8_tree.specs.declared.expressions.Call as call
 use Rattle.p8_tree.specs.declared.expressions.Call.{out-Call}
 use Rattle.p8_tree.specs.declared.expressions.ExprKind.TheVariants as kind_case
-use Rattle.p8_tree.specs.declared.expressions.Target.TheVariants as target_case
 use Rattle.p8_tree.specs.declared.statements.StmtKind as stmt_kind
 use Rattle.p8_tree.specs.declared.statements.StmtKind.TheVariants as stmt_case
 use Rattle.p8_tree.specs.declared.statements.Stmt as stmt
 use Rattle.p8_tree.specs.declared.statements.Arm as code_arm
 use Rattle.p8_tree.specs.declared.statements.Arm.{out-Arm}
 use Rattle.p8_tree.specs.declared.statements.Loop as loop
-use Rattle.p8_tree.specs.Expressions.{Tree, node, Var, Trees, no_trees, ◌▷◌, Item, Items, no_items, ◌▸◌, single, range}
-use Rattle.p8_tree.specs.Statements.{If, Case, Repeat, Arm, arm, Arms, no_arms, ◌⊳◌}
-use Rattle.p8_tree.specs.Views.{tree_of, form_of, variable_of, call_of, trees_of, trees_after, item_of, items_of, items_after, course_of, action_of, arm_of, arms_of, statement_of, statements_of}
+use Rattle.p8_tree.specs.Expressions.{Tree, node, Trees, no_trees, ◌▷◌, Item, Items, no_items, ◌▸◌, single, range}
+use Rattle.p8_tree.specs.Statements.{If, Case, Arm, arm, Arms, no_arms, ◌⊳◌}
+use Rattle.p8_tree.specs.Views.{tree_of, form_of, call_of, trees_of, trees_after, item_of, items_of, items_after, course_of, action_of, arm_of, arms_of, statements_of}
 use Rattle.p8_tree.specs.Bridges.{boxed_index, other_body, built_is, look_is, if_is, case_is, repeat_is, trees_of-push, items_of-push, statements_of-push, arms_of-push}
-use Rattle.p8_fold.specs.Verdicts.{boxed_bits}
 use Rattle.p8_fold.proofs.Rows.{call_form}
 use Rattle.p8_gen.specs.declared.expressions.BuiltForm.TheVariants as built_form
 use Rattle.p8_gen.specs.Names.{Names}
 use Rattle.p8_gen.specs.Expressions.{starts_method}
 use Rattle.p8_gen.specs.Walking.{IsBuiltForm}
-use Rattle.p8_gen.specs.Depths.{over, held, held_by, held_by_naming, held_by_index, held_by_bits, held_by_trees, held_by_items, held_by_built, held_by_arguments, held_alone, held_by_test, held_by_tests, held_in_loop, held_in, held_in_action, held_in_arms, held_in_cases, held_in_other}
+use Rattle.p8_gen.specs.Depths.{over, held, held_by, held_by_index, held_by_trees, held_by_items, held_by_built, held_by_arguments, held_alone, held_by_test, held_by_tests, held_in_loop, held_in, held_in_action, held_in_arms, held_in_cases}
 use Rattle.p8_gen.proofs.Rows.{counts}
-use Rattle.p8_stmt.specs.Cutting.{cut, held_by_call, held_by_start}
+use Rattle.p8_stmt.specs.Cutting.{cut, held_by_call}
 use Rattle.p8_stmt.proofs.Walks.{arm_form}
 
 -- ---- numbers that stop at a limit
 
 pub cut_max : (a b : ℕ) → max (cut a) (cut b) ≡ cut (max a b)
 cut_max a b = omega arith
-
-pub cut_behind : (a k : ℕ) → k < 2 ^ 16 → min (cut a + k) (2 ^ 16 - 1) ≡ cut (k + a)
-cut_behind a k small = omega (arith, small)
 
 pub cut_sum : (a b : ℕ) → min (cut a + cut b) (2 ^ 16 - 1) ≡ cut (a + b)
 cut_sum a b = omega arith
@@ -136,50 +130,12 @@ module _ (n : Names) where
   pub held_of_look : (c : ℕ) (b : Box expr.Expr Global) (v : Vec item.Item Global) → max (max 2 (held n (tree_of b.value))) (held_by_items n (items_of v.items)) ≡ held_by n (form_of (kind_case.Look c b v))
   held_of_look c b v = sym (ap (held_by n) (look_is c b v))
 
-  pub named_is : (name : List ℕ) (i : Option (Box expr.Expr Global)) (q : Place) → held_by_index n (boxed_index i) ≡ held_by_naming n (variable_of (target_case.Named name i q))
-  named_is name None q = refl
-  named_is name (Some b) q = refl
-
-  pub part_is : (name : List ℕ) (size : ℕ) (i : Option (Box expr.Expr Global)) (q : Place) → held_by_index n (boxed_index i) ≡ held_by_naming n (variable_of (target_case.Part name size i q))
-  part_is name size None q = refl
-  part_is name size (Some b) q = refl
-
-  pub register_is : (a : ℕ) (x : Option (Box item.Item Global)) (q : Place) → held_by_bits n (boxed_bits x) ≡ held_by_naming n (variable_of (target_case.Register a x q))
-  register_is a None q = refl
-  register_is a (Some b) q = refl
-
   -- ---- built-ins, by their forms
-
-  pub built_word : (code : ℕ) (es : List expr.Expr) → IsBuiltForm built_form.Word code (length es) → held_by_built n code (trees_of es) ≡ (if code == 0x29 then 0 else 1)
-  built_word code [] is = refl
-  built_word code (e ∷ es) is = absurd cc
 
   pub built_constant : (code : ℕ) (es : List expr.Expr) → IsBuiltForm built_form.Constant code (length es) → held_by_built n code (trees_of es) ≡ 1
   built_constant code [] is = absurd cc
   built_constant code (e ∷ []) is = ap (λ k. held_by_built n k (trees_of (e ∷ []))) is.1
   built_constant code (e ∷ f ∷ es) is = absurd cc
-
-  pub built_new_cog : (code : ℕ) (es : List expr.Expr) (a b : expr.Expr) → IsBuiltForm built_form.NewCog code (length es) → a ≡ get_or es 0 a → b ≡ get_or es 1 b →
-      held_by_start n (tree_of a) (held n (tree_of b)) ≡ held_by_built n code (trees_of es)
-  built_new_cog code [] a b is p q = absurd cc
-  built_new_cog code (e ∷ []) a b is p q = absurd cc
-  built_new_cog code (e ∷ f ∷ []) a b is p q =
-      ap₂ (λ x y. held_by_start n (tree_of x) (held n (tree_of y))) p q ∙ sym (ap (λ k. held_by_built n k (trees_of (e ∷ f ∷ []))) is.1)
-  built_new_cog code (e ∷ f ∷ g ∷ es) a b is p q = absurd cc
-
-  either_start : (t : Bool) (x a b : ℕ) → max x (if t then a else b) ≡ (if t then max x a else max x b)
-  either_start true x a b = refl
-  either_start false x a b = refl
-
-  pub built_told_cog : (code : ℕ) (es : List expr.Expr) (a b c : expr.Expr) → IsBuiltForm built_form.ToldCog code (length es) → a ≡ get_or es 0 a → b ≡ get_or es 1 b → c ≡ get_or es 2 c →
-      max (held n (tree_of a)) (held_by_start n (tree_of b) (held n (tree_of c))) ≡ held_by_built n code (trees_of es)
-  built_told_cog code [] a b c is p q r = absurd cc
-  built_told_cog code (e ∷ []) a b c is p q r = absurd cc
-  built_told_cog code (e ∷ f ∷ []) a b c is p q r = absurd cc
-  built_told_cog code (e ∷ f ∷ g ∷ []) a b c is p q r =
-      ap₂ max (ap (λ x. held n (tree_of x)) p) (ap₂ (λ x y. held_by_start n (tree_of x) (held n (tree_of y))) q r)
-      ∙ either_start (starts_method n (tree_of f)) _ _ _ ∙ sym (ap (λ k. held_by_built n k (trees_of (e ∷ f ∷ g ∷ []))) is.1)
-  built_told_cog code (e ∷ f ∷ g ∷ h ∷ es) a b c is p q r = absurd cc
 
   four_or_more : (code : ℕ) (es : Trees) (a b c d : Tree) (xs : List expr.Expr) → held_by_trees n (trees_after ((((es ▷ a) ▷ b) ▷ c) ▷ d) xs) ≡ held_by_built n code (trees_after ((((es ▷ a) ▷ b) ▷ c) ▷ d) xs)
   four_or_more code es a b c d [] = refl

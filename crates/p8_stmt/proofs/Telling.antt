@@ -1,5 +1,5 @@
 -- The faults of a method, as a set and as a list.
-use Rattle.std.proofs.Common.{◌≡◌, ◌⊎◌, inl, inr, ℕ, ◌+◌, ◌<◌, ◌||◌, nat_lt, Bool, true, false, if◌then◌else◌, List, [], ◌∷◌, ◌++◌, map, length, get_or, refl, sym, ap, ◌∙◌, subst, arith}
+use Rattle.std.proofs.Common.{◌≡◌, inl, inr, ℕ, ◌+◌, ◌<◌, ◌||◌, nat_lt, Bool, true, false, if◌then◌else◌, List, [], ◌∷◌, map, length, get_or, refl, sym, ap, ◌∙◌, subst, arith}
 use Rattle.std.specs.Prelude.{Contains}
 use Rattle.std.proofs.lemmas.Bool.Decides.{nat_tests}
 use Rattle.std.proofs.lemmas.List.{get_or-map, length-map}
@@ -7,8 +7,7 @@ use Rattle.std.proofs.lemmas.List.Elements.{Contains-get_or, Contains-append_lef
 use Rattle.p8_tree.specs.declared.places.Place.{Place}
 use Rattle.p8_tree.specs.Sources.{MethodTree}
 use Rattle.p8_faults.specs.declared.faults.Fault.{Fault}
-use Rattle.p8_faults.specs.Faults.{fault, IsFirstFault}
-use Rattle.p8_faults.proofs.Firsts.{IsFirstFault-along}
+use Rattle.p8_faults.specs.Faults.{fault}
 use Rattle.p8_gen.specs.Depths.{held_in}
 use Rattle.p8_gen.specs.Methods.{method_code}
 use Rattle.p8_gen.specs.Names.{Names}

@@ -1,10 +1,9 @@
 -- The walk over statements: how long pieces are, arms and statements one after the other, and the forms as the code has them.
-use Rattle.std.proofs.Common.{◌≡◌, ℕ, ◌+◌, ◌<◌, ◌≤◌, ◌==◌, nat_lt, ◌||◌, Bool, true, false, if◌then◌else◌, List, [], ◌∷◌, Option, Some, None, Vec, length, take, get_or, refl, sym, ap, ap₂, ◌∙◌, subst, arith}
-use Rattle.std.specs.Prelude.{Result, OnOk, option_map}
+use Rattle.std.proofs.Common.{◌≡◌, ℕ, ◌+◌, ◌<◌, ◌≤◌, nat_lt, ◌||◌, Bool, true, false, List, [], ◌∷◌, Option, Some, None, Vec, length, take, get_or, refl, sym, ap, ap₂, ◌∙◌, subst, arith}
+use Rattle.std.specs.Prelude.{Result, OnOk}
 use Rattle.std.specs.declared.alloc.Global.{Global}
 use Rattle.std.proofs.lemmas.List.{take_more}
 use Rattle.std.proofs.lemmas.Bool.Decides.{nat_tests}
-use Rattle.p8_tree.specs.declared.places.Place.{Place}
 use Rattle.p8_tree.specs.declared.expressions.Expr as expr
 use Rattle.p8_tree.specs.declared.expressions.Item as item
 use Rattle.p8_tree.specs.declared.statements.StmtKind as stmt_kind
@@ -14,18 +13,17 @@ use Rattle.p8_tree.specs.declared.statements.Arm as code_arm
 use Rattle.p8_tree.specs.declared.statements.Arm.{out-Arm, roll-out-Arm}
 use Rattle.p8_tree.specs.declared.statements.Loop as loop
 use Rattle.p8_tree.specs.Expressions.{Tree, Item, Items, single, range, no_items, ◌▸◌}
-use Rattle.p8_tree.specs.Statements.{Course, Forever, Count, Before, After, From, Statement, statement, Action, Do, If, Case, Repeat, Otherwise, nothing_else, otherwise, Arm, arm, Statements, no_statements, ◌▹◌, Arms, no_arms, ◌⊳◌}
+use Rattle.p8_tree.specs.Statements.{Course, Forever, Count, Before, After, From, Action, Do, If, Case, Repeat, Otherwise, nothing_else, otherwise, Arm, arm, Statements, Arms, no_arms, ◌⊳◌}
 use Rattle.p8_tree.specs.Views.{tree_of, item_of, items_of, items_after, course_of, action_of, arm_of, arms_of, statement_of, statements_of}
 use Rattle.p8_tree.specs.Bridges.{other_body, arm_is, if_is, case_is, repeat_is, items_of-push, statements_of-push, arms_of-push}
 use Rattle.p8_gen.specs.Names.{Names}
 use Rattle.p8_gen.specs.Pieces.{Written, empty, Piece, nothing, ◌⨾◌, up_to_end, byte, jump}
-use Rattle.p8_gen.specs.Variables.{home_of, plain_op, Pop}
 use Rattle.p8_gen.specs.Expressions.{value}
 use Rattle.p8_gen.specs.Statements.{Loop, SameLoop, inside, zero_jump, test_of, tests, step_effect, plain_name, code, code_of, body, chain, all_tests, case_bodies}
 use Rattle.p8_gen.specs.Writing.{Stands}
 use Rattle.p8_gen.specs.declared.writer.Writer.{Writer}
 use Rattle.p8_gen.proofs.Widths.{Alike, nothings, same-one, bytes, jumps, steps, both, ups, froms, either, value-alike, test-alike, tests-alike, step-alike, body-alike, chain-alike, other-alike, all-tests-alike, bodies-alike}
-use Rattle.p8_stmt.specs.Walking.{leap, arm_piece, branches, choices, bodies, case_piece, case_body, tests_of_arms, head, first_test, pass_end, up_to_next, looped, loop_piece}
+use Rattle.p8_stmt.specs.Walking.{leap, arm_piece, branches, choices, bodies, case_piece, case_body, tests_of_arms, head, first_test, pass_end, looped, loop_piece}
 
 -- ---- where pieces end
 

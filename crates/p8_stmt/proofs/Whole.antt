@@ -1,19 +1,16 @@
 -- Each bytecode of statements is one that there is, form by form.
-use Rattle.std.proofs.Common.{◌≡◌, ℕ, Bool, true, false, not, ◌&&◌, if◌then◌else◌, inl, inr, ◌<◌, arith, Option, Some, None, List, refl, subst}
-use Rattle.std.specs.Prelude.{IsTrue}
+use Rattle.std.proofs.Common.{◌≡◌, ℕ, Bool, true, false, not, inl, inr, arith, Option, Some, None, List, refl}
 use Rattle.p8_tree.specs.declared.places.Place.{Place}
 use Rattle.p8_tree.specs.Expressions.{Tree, Items, no_items, ◌▸◌, single, range}
-use Rattle.p8_tree.specs.Statements.{Course, Forever, Count, Before, After, From, Statement, statement, Action, Do, If, Case, Repeat, Next, Quit, Return, Abort, arm, Otherwise, nothing_else, otherwise, Statements, no_statements, ◌▹◌, Arms, no_arms, ◌⊳◌}
+use Rattle.p8_tree.specs.Statements.{Forever, Count, Before, After, From, Statement, statement, Action, Do, If, Case, Repeat, Next, Quit, Return, Abort, arm, Otherwise, nothing_else, otherwise, Statements, no_statements, ◌▹◌, Arms, no_arms, ◌⊳◌}
 use Rattle.p8_tree.specs.Proper.{IfThere, IsProperExpression, IsCondition, AreProperTests, IsProperStatement, IsProperAction, AreProperArms, AreProperChoices, IsProperOtherwise, AreProperStatements}
-use Rattle.p8_bytecode.specs.Table.{rows, operands_of}
-use Rattle.p8_bytecode.specs.declared.operands.Operands.TheVariants as operands
+use Rattle.p8_bytecode.specs.Table.{rows}
 use Rattle.p8_faults.specs.declared.faults.Fault.{Fault}
-use Rattle.p8_kinds.specs.declared.name_kinds.NameKind.{NameKind}
 use Rattle.p8_kinds.specs.Environments.{Environment, kind_in}
 use Rattle.p8_kinds.specs.Misuses.{MisuseInOption, MisuseInItems, MisuseInStatements, MisuseInStatement, MisuseInAction, MisuseInArms, MisuseInOtherwise}
 use Rattle.p8_gen.specs.Names.{Names}
-use Rattle.p8_gen.specs.Pieces.{Piece, empty, nothing, ◌⨾◌, from_start, up_to_end, byte, jump}
-use Rattle.p8_gen.specs.Variables.{home_of, plain_op, Pop}
+use Rattle.p8_gen.specs.Pieces.{Piece, empty, from_start, byte, jump}
+use Rattle.p8_gen.specs.Variables.{home_of, Pop}
 use Rattle.p8_gen.specs.Expressions.{value}
 use Rattle.p8_gen.specs.Operations.{HaveBytes, AreWhole}
 use Rattle.p8_gen.specs.Methods.{method_code}

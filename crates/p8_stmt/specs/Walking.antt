@@ -1,6 +1,6 @@
 -- Pieces of statements as the code cuts them: internal.
 use Rattle.std.specs.Prelude.{ℕ, Bool, true, false, not, if◌then◌else◌, List, Option, Some, None}
-use Rattle.p8_tree.specs.Expressions.{Tree, Items}
+use Rattle.p8_tree.specs.Expressions.{Tree}
 use Rattle.p8_tree.specs.Statements.{Action, If, Case, nothing_else, otherwise, Course, Forever, Count, Before, After, From, Arm, arm, Arms, no_arms, ◌⊳◌, Statements}
 use Rattle.p8_gen.specs.Names.{Names}
 use Rattle.p8_gen.specs.Pieces.{Piece, nothing, one, ◌⨾◌, from_start, up_to_end, byte, jump, jumping}

@@ -1,4 +1,4 @@
-use Rattle.std.proofs.Common.{◌≡◌, [], ◌+◌, ◌||◌, nat_lt, map, length, ap, ◌∙◌, subst}
+use Rattle.std.proofs.Common.{◌≡◌, [], ◌+◌, ◌||◌, nat_lt, map, ap, ◌∙◌, subst}
 use Rattle.std.specs.Prelude.{MatchOption, Contains}
 use Rattle.p8_tree.specs.Views.{method_of, declared_of, statements_of}
 use Rattle.p8_faults.specs.Faults.{IsFirstFault}

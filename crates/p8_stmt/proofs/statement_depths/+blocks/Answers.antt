@@ -1,8 +1,8 @@
 use Rattle.std.proofs.Common.{max, ap, ap₂, ◌∙◌}
 use Rattle.p8_tree.specs.declared.statements.Stmt as stmt
 use Rattle.p8_tree.specs.Statements.{no_arms, ◌⊳◌}
-use Rattle.p8_tree.specs.Views.{tree_of, items_of, action_of, arm_of, arms_of, statements_of}
-use Rattle.p8_gen.specs.Depths.{held, held_by_test, held_by_tests, held_in, held_in_action, held_in_arms, held_in_cases}
+use Rattle.p8_tree.specs.Views.{items_of, action_of, arm_of, arms_of, statements_of}
+use Rattle.p8_gen.specs.Depths.{held_by_test, held_by_tests, held_in, held_in_action, held_in_arms, held_in_cases}
 use Rattle.p8_gen.specs.Scopes.{names_of}
 use Rattle.p8_stmt.specs.Cutting.{cut}
 use Rattle.p8_stmt.proofs.Depths.{cut_max, most_next, statements_next, arms_next, cases_next, if_none, if_some, case_none, case_some, repeat_form, arm_held, case_held}

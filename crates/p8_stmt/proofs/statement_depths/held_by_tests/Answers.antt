@@ -1,6 +1,6 @@
 use Rattle.std.proofs.Common.{ap, ◌∙◌}
 use Rattle.p8_tree.specs.Expressions.{no_items, ◌▸◌}
-use Rattle.p8_tree.specs.Views.{item_of, items_of}
+use Rattle.p8_tree.specs.Views.{item_of}
 use Rattle.p8_gen.specs.Depths.{held_by_tests}
 use Rattle.p8_gen.specs.Scopes.{names_of}
 use Rattle.p8_stmt.specs.Cutting.{cut}

@@ -3,9 +3,9 @@ use Rattle.p8_tree.specs.Views.{tree_of, course_of, action_of, arm_of, arms_of, 
 use Rattle.p8_tree.specs.declared.statements.Arm.{out-Arm}
 use Rattle.p8_gen.specs.Pieces.{Piece, empty, up_to_end, byte, jump}
 use Rattle.p8_gen.specs.Expressions.{value}
-use Rattle.p8_gen.specs.Statements.{inside, code, body, chain, tests, test_of, all_tests, case_bodies}
+use Rattle.p8_gen.specs.Statements.{inside, code, body, chain, all_tests, case_bodies}
 use Rattle.p8_gen.specs.Writing.{Stands}
-use Rattle.p8_stmt.specs.Walking.{names_at, loop_at, leap, arm_piece, branches, choices, bodies, case_piece, case_body, tests_of_arms, first_test, head, pass_end, up_to_next, looped, loop_piece, goes_to_begin, keeps_count}
+use Rattle.p8_stmt.specs.Walking.{names_at, loop_at, leap, arm_piece, branches, choices, bodies, case_piece, case_body, tests_of_arms, up_to_next, loop_piece}
 use Rattle.p8_stmt.proofs.Walks.{Runs, up_ends, same_end, branches_same, arm_same, case_ends, case_written, tests_alone, loop_same, next_same, statements_next, arms_next, bodies_next, all_tests_next, arm_to_is, case_body_is, if_form, branch_none, branch_some, case_form, choice_none, choice_some, bodies_form, repeat_form}
 use Rattle.p8_stmt.proofs.context.Context.+statements.Goals as goal
 

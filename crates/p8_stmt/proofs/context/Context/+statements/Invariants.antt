@@ -1,4 +1,4 @@
-use Rattle.std.proofs.Common.{ℕ, length, take, nat_lt, ◌||◌}
+use Rattle.std.proofs.Common.{length, take, nat_lt, ◌||◌}
 use Rattle.p8_tree.specs.Views.{arms_of, statements_of}
 use Rattle.p8_gen.specs.Pieces.{Written, empty, jump}
 use Rattle.p8_gen.specs.Statements.{body, chain, all_tests, case_bodies}
