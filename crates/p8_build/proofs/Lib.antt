@@ -1,0 +1,14 @@
+mod Lists
+mod Firsts
+mod Methods
+mod Ready
+mod One
+mod Refusals
+mod Numbering
+mod OneByOne
+mod Making
+mod Wholes
+mod Uniqueness
+mod Here
+mod Counting
+mod WholeCode

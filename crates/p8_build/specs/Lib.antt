@@ -1,0 +1,10 @@
+-- What the public contracts cite.
+pub mod Parts
+pub mod Files
+pub mod Builds
+pub mod Told
+-- internal: what the code's steps come to.
+pub mod Faults
+pub mod Numbers
+pub mod Coding
+pub mod Phases

@@ -1,0 +1,128 @@
+// The code of the methods of a file.
+ghost use Rattle.std.specs.Prelude.{◌≡◌, ◌+◌, ◌*◌, ◌^◌, ◌<◌, length, map, IfOk, OnOk};
+ghost use Rattle.p8_tree.specs.Views.{method_of};
+ghost use Rattle.p8_fold.specs.Entries.{setting_of};
+ghost use Rattle.p8_stmt.specs.Methods.{AreResolved};
+ghost use Rattle.p8_definitions.specs.Standing.{IsFirstOf};
+ghost use Rattle.p8_build.specs.Numbers.{number_by};
+ghost use Rattle.p8_build.specs.Coding.{part_by, names_by, AreReady, IsOneTooMany, IsCoded, IsOneMore};
+
+use crate::texts::TextNumbers;
+use p8_definitions::first_of_two;
+use p8_faults::Fault;
+use p8_gen::Tables;
+use p8_image::MethodPart;
+use p8_kinds::Kinds;
+use p8_stmt::{MethodCode, method_code};
+use p8_tree::{List, Method};
+use p8_words::{Fail, NoMemory};
+use std::alloc::{AllocError, Global};
+
+/// How many methods a file may have.
+const MOST_METHODS: usize = 254;
+
+/// How many methods and instances of objects together.
+const MOST_ENTRIES: usize = 255;
+
+/// What the methods of a file come to, as far as they have been looked at.
+#[derive(Drop)]
+pub(crate) struct Coded {
+    /// Their parts, where there is no fault.
+    pub(crate) parts: List<MethodPart>,
+    /// The first fault of their code.
+    pub(crate) fault: Option<Fault>,
+}
+
+/// What names and texts are in a file, for the code of its methods.
+#[derive(Clone, Copy)]
+pub(crate) struct FileTables<'a> {
+    pub(crate) kinds: &'a Kinds,
+    pub(crate) tables: &'a Tables,
+    pub(crate) texts: &'a TextNumbers,
+}
+
+/// The code of all methods of a file, which stand in the order of their numbers.
+pub(crate) fn code_of_all(
+    alloc: Global,
+    file: &FileTables<'_>,
+    methods: &[&Method],
+) -> Result<Coded, NoMemory>
+    requires { AreReady (names_by file.now) (map (λ m. method_of m.now) methods.now) }
+    ensures { IfOk result (IsCoded (names_by file.now) (number_by file.now.texts.now) (map (λ m. method_of m.now) methods.now)) }
+{
+    let mut coded = Coded {
+        parts: List::new(alloc),
+        fault: None,
+    };
+    for (index, method) in methods.iter().enumerate() {
+        add_code(alloc, file, index, method, &mut coded)?;
+    }
+    Ok(coded)
+}
+
+/// Adds the code of the next method, or its first fault.
+fn add_code(
+    alloc: Global,
+    file: &FileTables<'_>,
+    index: usize,
+    method: &Method,
+    coded: &mut Coded,
+) -> Result<(), NoMemory>
+    requires { AreResolved (names_by file.now index (method_of method.now)) (method_of method.now).body }
+    ensures { OnOk result (IsOneMore (names_by file.now index (method_of method.now)) (number_by file.now.texts.now) (method_of method.now) coded.old coded.new) }
+{
+    let number = number_behind(index)?;
+    match method_code(alloc, file.kinds, file.tables, method, number) {
+        Ok(code) => {
+            let part = part_of(alloc, method, code, file.texts)?;
+            coded.parts.push(part)?;
+            Ok(())
+        }
+        Err(Fail::Refused(fault)) => {
+            coded.fault = first_of_two(coded.fault, Some(fault));
+            Ok(())
+        }
+        Err(Fail::NoMemory) => Err(NoMemory),
+    }
+}
+
+/// The number of the method with this index.
+fn number_behind(index: usize) -> Result<u32, NoMemory>
+    ensures { IfOk result (λ number. number ≡ index + 1) }
+{
+    match u32::try_from(index) {
+        Ok(index) if index < u32::MAX => Ok(index + 1),
+        _ => Err(NoMemory),
+    }
+}
+
+/// The part of a method with its code.
+fn part_of(
+    alloc: Global,
+    method: &Method,
+    code: MethodCode,
+    texts: &TextNumbers,
+) -> Result<MethodPart, AllocError>
+    requires { 4 * length method.now.params < 2 ^ 16 }
+    ensures { IfOk result (λ part. part ≡ part_by (number_by texts.now) (method_of method.now) code) }
+{
+    let uses = texts.uses(alloc, code.strings.as_slice())?;
+    Ok(MethodPart {
+        parameters: 4 * method.params.len() as u16,
+        locals: code.locals,
+        code: code.bytes,
+        uses,
+    })
+}
+
+/// 27 at the first method too many, in a file with so many instances of objects.
+pub(crate) fn first_too_many(instances: u32, methods: &[&Method]) -> Option<Fault>
+    ensures { IsFirstOf result (IsOneTooMany instances (map (λ m. method_of m.now) methods.now)) }
+{
+    let left = MOST_ENTRIES.checked_sub(instances as usize)?;
+    let method = methods.get(left.min(MOST_METHODS))?;
+    Some(Fault {
+        number: 27,
+        place: method.place,
+    })
+}

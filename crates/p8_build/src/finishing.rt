@@ -1,0 +1,86 @@
+// The image of a project, from its objects.
+ghost use Rattle.std.specs.Prelude.{◌≡◌, None, IfOk, IfErr};
+ghost use Rattle.p8_words.specs.declared.failure.Fail.TheVariants as fail_case;
+ghost use Rattle.p8_faults.specs.Faults.{fault};
+ghost use Rattle.p8_image.specs.Projects.{BeginsWithMain};
+ghost use Rattle.p8_build.specs.Builds.{constant_named, start};
+ghost use Rattle.p8_build.specs.Phases.{clock_in, IsFinished, IfFirstImageFault};
+
+use crate::building::Built;
+use p8_faults::Fault;
+use p8_image::{Clock, ObjectPart, layout};
+use p8_kinds::{Kinds, NameKind};
+use p8_tree::{List, Place, Text};
+use p8_words::{Fail, NoMemory};
+use std::alloc::{AllocError, Global};
+
+/// Where a whole project is refused: the beginning of its top file.
+const START: Place = Place { line: 1, column: 1 };
+
+/// The image of a project with the top file's names and these objects, or why there is none: it is too large, or else no clock is
+/// told.
+pub(crate) fn finish(
+    alloc: Global,
+    kinds: &Kinds,
+    objects: List<ObjectPart>,
+) -> Result<Built, Fail<Fault>>
+    requires { BeginsWithMain objects }
+    ensures built { IfOk result (IsFinished (clock_in kinds.now) objects) }
+    ensures refused { IfErr result (IfFirstImageFault objects (clock_in kinds.now)) }
+{
+    let Some(clock) = clock_of(alloc, kinds)? else {
+        return Err(without_clock(alloc, objects.as_slice()));
+    };
+    match layout(alloc, clock, objects.as_slice()) {
+        Ok(image) => Ok(Built { image, objects }),
+        Err(Fail::Refused(_)) => Err(refused(28)),
+        Err(Fail::NoMemory) => Err(Fail::NoMemory),
+    }
+}
+
+/// Why a project without a clock has no image: it is too large, whatever the clock, or else just that.
+fn without_clock(alloc: Global, objects: &[ObjectPart]) -> Fail<Fault>
+    requires { BeginsWithMain objects.now }
+    ensures { IfFirstImageFault objects.now None result }
+{
+    let none = Clock {
+        mode: 0,
+        frequency: 0,
+    };
+    match layout(alloc, none, objects) {
+        Ok(_) => refused(29),
+        Err(Fail::Refused(_)) => refused(28),
+        Err(Fail::NoMemory) => Fail::NoMemory,
+    }
+}
+
+/// A refusal of the whole project.
+fn refused(number: u8) -> Fail<Fault>
+    ensures { result ≡ fail_case.Refused (fault number start) }
+{
+    Fail::Refused(Fault {
+        number,
+        place: START,
+    })
+}
+
+/// The clock of a program, by the constants of its top file.
+fn clock_of(alloc: Global, kinds: &Kinds) -> Result<Option<Clock>, AllocError>
+    ensures { IfOk result (λ clock. clock ≡ clock_in kinds.now) }
+{
+    let mode = constant(alloc, kinds, b"_CLKMODE".as_slice())?;
+    let frequency = constant(alloc, kinds, b"_CLKFREQ".as_slice())?;
+    let input = constant(alloc, kinds, b"_XINFREQ".as_slice())?;
+    Ok(Clock::told(mode, frequency, input))
+}
+
+/// The value of a constant of a file, if its name is one.
+fn constant(alloc: Global, kinds: &Kinds, name: &[u8]) -> Result<Option<u32>, AllocError>
+    ensures { IfOk result (λ value. value ≡ constant_named kinds.now name.now) }
+{
+    let name = Text::copy_of(alloc, name)?;
+    match kinds.own(0, &name) {
+        Some(NameKind::Const(value)) => Ok(Some(value)),
+        _ => Ok(None),
+    }
+}

@@ -1,0 +1,16 @@
+//! From a gathered project to the parts of its image, its image, or its first refusal.
+#![tactic(auto)]
+
+mod assembling;
+mod building;
+mod coding;
+mod fault;
+mod finishing;
+mod laws;
+mod naming;
+mod objects;
+mod texts;
+
+pub use building::{Built, build, build_parts};
+pub use fault::BuildFault;
+pub use laws::one_build;
