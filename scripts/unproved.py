@@ -15,8 +15,8 @@ ROOT = os.path.dirname(os.path.dirname(os.path.realpath(__file__)))
 
 # What proving and building the program alone takes, in minutes of one processor, and what its crates that stand on
 # one another take, in minutes (docs/GATE.md).
-PROCESSOR_MINUTES = 16
-CHAIN_MINUTES = 9
+PROCESSOR_MINUTES = 110
+CHAIN_MINUTES = 30
 
 # The status of this script where the program gave none.
 NO_STATUS = 70

@@ -1,6 +1,6 @@
 mod Lists
 mod Firsts
-mod Methods
+pub mod Methods
 mod Ready
 mod One
 mod Refusals

@@ -1,2 +1,7 @@
-pub mod Deciding
 mod Digits
+pub mod Deciding
+pub mod Gathering
+mod Building
+mod Stopping
+mod Refusals
+mod Outcomes

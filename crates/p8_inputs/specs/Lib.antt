@@ -1,8 +1,11 @@
 -- What public contracts cite.
 pub mod Programs
+pub mod Sources
 pub mod Inputs
+pub mod Refusals
 pub mod Stops
 pub mod Runs
 -- Machinery that only proofs need.
 pub mod Naming
 pub mod Steps
+pub mod Gathered

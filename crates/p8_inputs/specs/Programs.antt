@@ -1,4 +1,4 @@
--- What is run: the bytes of a file, by what they are taken for (this project's profile).
+-- What is run: bytes, by what they are taken for (this project's profile). Those of a source are its image.
 use Rattle.std.specs.Prelude.{ℕ, ◌≡◌, nat_le, if◌then◌else◌, List, length, Option, Some, None}
 use Rattle.p8_words.specs.declared.failure.Fail.{Fail}
 use Rattle.p8_words.specs.declared.failure.Fail.TheVariants.{Refused, NoMemory}
@@ -11,24 +11,27 @@ use Rattle.p8_image.specs.declared.faults.LoadFault.TheVariants.{BadLength}
 use Rattle.p8_image.specs.Headers.{header_of}
 use Rattle.p8_image.specs.Loading.{first_fault, memory_of, start_of}
 use Rattle.p8_inputs.specs.declared.program.Format.{Format}
-use Rattle.p8_inputs.specs.declared.program.Format.TheVariants.{Memory, Image}
+use Rattle.p8_inputs.specs.declared.program.Format.TheVariants.{Memory, Image, Source}
 
--- the first fault of a file, if it can't be run: hub memory has to fit the hub, and an image has rules of its own
+-- the first fault of what is run, if it can't be: hub memory has to fit the hub, and an image has rules of its own
 abbrev pub fault_of : Format → List ℕ → Option LoadFault
 fault_of Memory bytes = if nat_le (length bytes) 32768 then None else Some (BadLength (length bytes))
 fault_of Image bytes = first_fault bytes
+fault_of Source bytes = first_fault bytes
 
--- the hub memory that a run of the file begins with
+-- the hub memory that a run begins with
 abbrev pub memory_by : Format → List ℕ → List ℕ
 memory_by Memory bytes = ram_of bytes
 memory_by Image bytes = memory_of bytes
+memory_by Source bytes = memory_of bytes
 
 -- what cog 0 is started with: hub memory as PASM at $0000 with PAR 0, an image as its header says
 abbrev pub first_by : Format → List ℕ → Origin
 first_by Memory bytes = Pasm 0 0
 first_by Image bytes = start_of (header_of bytes)
+first_by Source bytes = start_of (header_of bytes)
 
--- the world of a file that is run, with a pin script and limits
+-- the world of what is run, with a pin script and limits
 abbrev pub world_of : Format → (bytes : List ℕ) → (script : List Line) → (clocks turns : ℕ) → World
 world_of format bytes script clocks turns =
     record { memory = memory_by format bytes; first = first_by format bytes; script = script; clocks = clocks; turns = turns }

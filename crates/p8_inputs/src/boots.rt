@@ -1,10 +1,9 @@
-// The boot of a file that is run.
+// The boots of bytes that are run.
 ghost use Rattle.std.specs.Prelude.{◌≡◌, IfOk, OnOk, IfErr, None};
 ghost use Rattle.p8_access.specs.Proper.{IsProperOrigin};
 ghost use Rattle.p8_inputs.specs.Programs.{fault_of, memory_by, first_by, IsFaultOf};
 ghost use Rattle.p8_inputs.specs.declared.program.Format.TheVariants.{Memory, Image};
 
-use crate::program::Format;
 use p8_access::Boot;
 use p8_image::{LoadFault, load};
 use p8_words::{Fail, NoMemory};
@@ -13,8 +12,8 @@ use std::alloc::Global;
 /// How many bytes the hub has.
 const HUB_BYTES: usize = 32_768;
 
-/// The boot of hub memory.
-fn memory_boot(alloc: Global, bytes: &[u8]) -> Result<Boot, Fail<LoadFault>>
+/// The boot of hub memory. It is refused exactly where it has more than 32,768 bytes.
+pub fn memory_boot(alloc: Global, bytes: &[u8]) -> Result<Boot, Fail<LoadFault>>
     ensures ram { IfOk result (λ boot. boot.ram ≡ memory_by Memory bytes.now) }
     ensures first { IfOk result (λ boot. boot.first ≡ first_by Memory bytes.now) }
     ensures good { OnOk result (fault_of Memory bytes.now ≡ None) }
@@ -31,8 +30,8 @@ fn memory_boot(alloc: Global, bytes: &[u8]) -> Result<Boot, Fail<LoadFault>>
     }
 }
 
-/// The boot of an image.
-fn image_boot(alloc: Global, bytes: &[u8]) -> Result<Boot, Fail<LoadFault>>
+/// The boot of an image. Bytes that are none are refused with their first fault.
+pub fn image_boot(alloc: Global, bytes: &[u8]) -> Result<Boot, Fail<LoadFault>>
     ensures ram { IfOk result (λ boot. boot.ram ≡ memory_by Image bytes.now) }
     ensures first { IfOk result (λ boot. boot.first ≡ first_by Image bytes.now) }
     ensures good { OnOk result (fault_of Image bytes.now ≡ None) }
@@ -43,19 +42,5 @@ fn image_boot(alloc: Global, bytes: &[u8]) -> Result<Boot, Fail<LoadFault>>
     match image.boot(alloc) {
         Ok(boot) => Ok(boot),
         Err(NoMemory) => Err(Fail::NoMemory),
-    }
-}
-
-/// The boot of a file's bytes, by what they are taken for.
-pub fn boot_of(alloc: Global, format: Format, bytes: &[u8]) -> Result<Boot, Fail<LoadFault>>
-    ensures ram { IfOk result (λ boot. boot.ram ≡ memory_by format bytes.now) }
-    ensures first { IfOk result (λ boot. boot.first ≡ first_by format bytes.now) }
-    ensures good { OnOk result (fault_of format bytes.now ≡ None) }
-    ensures refused { IfErr result (IsFaultOf format bytes.now) }
-    ensures proper { IfOk result (λ boot. IsProperOrigin boot.first) }
-{
-    match format {
-        Format::Memory => memory_boot(alloc, bytes),
-        Format::Image => image_boot(alloc, bytes),
     }
 }

@@ -7,13 +7,16 @@ ghost use Rattle.p8_inputs.specs.Naming.{name_of};
 ghost use Rattle.p8_inputs.specs.Runs.{Begins};
 ghost use Rattle.p8_inputs.specs.Steps.{IsBootOf, StopsAtFile, StopsAtProgram, StopsAtScript};
 ghost use Rattle.p8_inputs.specs.Stops.{Stops};
+ghost use Rattle.p8_inputs.specs.declared.program.Format.TheVariants.{Memory, Image, Source};
 
-use crate::boots::boot_of;
-use crate::program::Program;
+use crate::boots::{image_boot, memory_boot};
+use crate::program::{Format, Program};
+use crate::sources::image_in;
 use crate::stop::Stop;
 use p8_access::Boot;
 use p8_io::{Shelf, ShelfError};
 use p8_pins::PinScript;
+use p8_tree::Text;
 use p8_words::Fail;
 use std::alloc::Global;
 
@@ -27,57 +30,96 @@ pub struct Inputs {
 }
 
 /// The bytes of a file.
-fn bytes_in<'a, S: Shelf>(alloc: Global, file: &'a str, shelf: &mut S) -> Result<Vec<u8>, Stop<'a>>
+fn bytes_in<S: Shelf>(alloc: Global, file: &str, shelf: &mut S) -> Result<Vec<u8>, Stop>
     ensures read { IfOk result (λ bytes. IsRead (S.files shelf.old) file.now bytes.items) }
     ensures stopped { IfErr result (StopsAtFile (S.files shelf.old) (S.faults shelf.old) (S.faults shelf.new) file.now) }
     ensures later { S.faults shelf.old ≤ S.faults shelf.new }
     ensures kept { S.files shelf.new ≡ S.files shelf.old }
 {
+    let name = Text::copy_of(alloc, file.as_bytes())?;
     match shelf.read(alloc, file) {
         Ok(bytes) => Ok(bytes),
-        Err(ShelfError::Missing) => Err(Stop::Missing { file }),
-        Err(ShelfError::Failed) => Err(Stop::Unread { file }),
+        Err(ShelfError::Missing) => Err(Stop::Missing { file: name }),
+        Err(ShelfError::Failed) => Err(Stop::Unread { file: name }),
         Err(ShelfError::NoMemory) => Err(Stop::NoMemory),
     }
 }
 
-/// The boot of the file to run.
-fn boot_in<'a, S: Shelf>(
-    alloc: Global,
-    program: Program<'a>,
-    shelf: &mut S,
-) -> Result<Boot, Stop<'a>>
+/// The boot of a file of hub memory.
+fn memory_in<S: Shelf>(alloc: Global, file: &str, shelf: &mut S) -> Result<Boot, Stop>
+    ensures boot { IfOk result (IsBootOf (S.files shelf.old) Memory file.now) }
+    ensures proper { IfOk result (λ boot. IsProperOrigin boot.first) }
+    ensures stopped { IfErr result (StopsAtProgram (S.files shelf.old) (S.faults shelf.old) (S.faults shelf.new) Memory file.now) }
+    ensures later { S.faults shelf.old ≤ S.faults shelf.new }
+    ensures kept { S.files shelf.new ≡ S.files shelf.old }
+{
+    let name = Text::copy_of(alloc, file.as_bytes())?;
+    let bytes = bytes_in(alloc, file, shelf)?;
+    match memory_boot(alloc, &bytes) {
+        Ok(boot) => Ok(boot),
+        Err(Fail::Refused(fault)) => Err(Stop::BadProgram { file: name, fault }),
+        Err(Fail::NoMemory) => Err(Stop::NoMemory),
+    }
+}
+
+/// The boot of an image.
+fn image_file_in<S: Shelf>(alloc: Global, file: &str, shelf: &mut S) -> Result<Boot, Stop>
+    ensures boot { IfOk result (IsBootOf (S.files shelf.old) Image file.now) }
+    ensures proper { IfOk result (λ boot. IsProperOrigin boot.first) }
+    ensures stopped { IfErr result (StopsAtProgram (S.files shelf.old) (S.faults shelf.old) (S.faults shelf.new) Image file.now) }
+    ensures later { S.faults shelf.old ≤ S.faults shelf.new }
+    ensures kept { S.files shelf.new ≡ S.files shelf.old }
+{
+    let name = Text::copy_of(alloc, file.as_bytes())?;
+    let bytes = bytes_in(alloc, file, shelf)?;
+    match image_boot(alloc, &bytes) {
+        Ok(boot) => Ok(boot),
+        Err(Fail::Refused(fault)) => Err(Stop::BadProgram { file: name, fault }),
+        Err(Fail::NoMemory) => Err(Stop::NoMemory),
+    }
+}
+
+/// The boot of a source's image.
+fn source_in<S: Shelf>(alloc: Global, file: &str, shelf: &mut S) -> Result<Boot, Stop>
+    ensures boot { IfOk result (IsBootOf (S.files shelf.old) Source file.now) }
+    ensures proper { IfOk result (λ boot. IsProperOrigin boot.first) }
+    ensures stopped { IfErr result (StopsAtProgram (S.files shelf.old) (S.faults shelf.old) (S.faults shelf.new) Source file.now) }
+    ensures later { S.faults shelf.old ≤ S.faults shelf.new }
+    ensures kept { S.files shelf.new ≡ S.files shelf.old }
+{
+    let image = image_in(alloc, file, shelf)?;
+    let boot = image.boot(alloc)?;
+    Ok(boot)
+}
+
+/// The boot of what is run.
+fn boot_in<S: Shelf>(alloc: Global, program: Program<'_>, shelf: &mut S) -> Result<Boot, Stop>
     ensures boot { IfOk result (IsBootOf (S.files shelf.old) program.entry.format program.entry.file.now) }
     ensures proper { IfOk result (λ boot. IsProperOrigin boot.first) }
     ensures stopped { IfErr result (StopsAtProgram (S.files shelf.old) (S.faults shelf.old) (S.faults shelf.new) program.entry.format program.entry.file.now) }
     ensures later { S.faults shelf.old ≤ S.faults shelf.new }
     ensures kept { S.files shelf.new ≡ S.files shelf.old }
 {
-    let file = program.file;
-    let bytes = bytes_in(alloc, file, shelf)?;
-    match boot_of(alloc, program.format, &bytes) {
-        Ok(boot) => Ok(boot),
-        Err(Fail::Refused(fault)) => Err(Stop::BadProgram { file, fault }),
-        Err(Fail::NoMemory) => Err(Stop::NoMemory),
+    match program.format {
+        Format::Memory => memory_in(alloc, program.file, shelf),
+        Format::Image => image_file_in(alloc, program.file, shelf),
+        Format::Source => source_in(alloc, program.file, shelf),
     }
 }
 
 /// The pin script of a file.
-fn script_in<'a, S: Shelf>(
-    alloc: Global,
-    file: &'a str,
-    shelf: &mut S,
-) -> Result<PinScript, Stop<'a>>
+fn script_in<S: Shelf>(alloc: Global, file: &str, shelf: &mut S) -> Result<PinScript, Stop>
     ensures script { IfOk result (IsScriptFor (S.files shelf.old) (Some file.now)) }
     ensures stopped { IfErr result (StopsAtScript (S.files shelf.old) (S.faults shelf.old) (S.faults shelf.new) (Some file.now)) }
     ensures later { S.faults shelf.old ≤ S.faults shelf.new }
     ensures kept { S.files shelf.new ≡ S.files shelf.old }
 {
+    let name = Text::copy_of(alloc, file.as_bytes())?;
     let bytes = bytes_in(alloc, file, shelf)?;
     match PinScript::read(alloc, &bytes) {
         Ok(script) => Ok(script),
         Err(Fail::Refused(fault)) => Err(Stop::BadScript {
-            file,
+            file: name,
             line: fault.line,
         }),
         Err(Fail::NoMemory) => Err(Stop::NoMemory),
@@ -85,11 +127,11 @@ fn script_in<'a, S: Shelf>(
 }
 
 /// The pin script of a run: that of a file, where one is named, and else one without lines.
-fn script_for<'a, S: Shelf>(
+fn script_for<S: Shelf>(
     alloc: Global,
-    script: Option<&'a str>,
+    script: Option<&str>,
     shelf: &mut S,
-) -> Result<PinScript, Stop<'a>>
+) -> Result<PinScript, Stop>
     ensures script { IfOk result (IsScriptFor (S.files shelf.old) (name_of script.entry)) }
     ensures stopped { IfErr result (StopsAtScript (S.files shelf.old) (S.faults shelf.old) (S.faults shelf.new) (name_of script.entry)) }
     ensures later { S.faults shelf.old ≤ S.faults shelf.new }
@@ -101,20 +143,22 @@ fn script_for<'a, S: Shelf>(
     }
 }
 
-/// Reads what a run begins with: the file to run, and then the pin script, if one is named.
+/// Reads what a run begins with: the file to run, with all files of its project where it is a source, and then the pin script, if
+/// one is named.
 ///
 /// # Errors
 ///
-/// The first reason why there is nothing to run. `Missing`: the shelf has no file of that name. `BadProgram`: exactly where
+/// The first reason why there is nothing to run. `Missing`: the shelf has no file of that name. `Refused`: exactly where the project
+/// of a source is refused, with its first refusal ([`image_of_source`](crate::image_of_source)). `BadProgram`: exactly where
 /// the file to run is no image, with its first fault, or is more than 32,768 bytes of hub memory. `BadScript`: exactly
 /// where the pin script has a bad line, or more than 1,048,576 bytes. `Unread`: only where the shelf has counted a fault.
 /// `NoMemory`: there was no memory. The shelf's files stay as they were, and its count never falls.
-pub fn read_inputs<'a, S: Shelf>(
+pub fn read_inputs<S: Shelf>(
     alloc: Global,
-    program: Program<'a>,
-    script: Option<&'a str>,
+    program: Program<'_>,
+    script: Option<&str>,
     shelf: &mut S,
-) -> Result<Inputs, Stop<'a>>
+) -> Result<Inputs, Stop>
     ensures begins { IfOk result (Begins (S.files shelf.old) program.entry.format program.entry.file.now (name_of script.entry)) }
     ensures proper { IfOk result (λ inputs. IsProperOrigin inputs.boot.first) }
     ensures stopped { IfErr result (Stops (S.files shelf.old) (S.faults shelf.old) (S.faults shelf.new) program.entry.format program.entry.file.now (name_of script.entry)) }

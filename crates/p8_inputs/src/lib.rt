@@ -1,12 +1,17 @@
-//! What a run begins with: the file to run and the pin script, read from a shelf, and why there is nothing to run.
+//! What a command begins with: the file to run with all files of its project, and the pin script, read from a shelf; and why
+//! there is nothing to run.
 #![tactic(auto)]
 
 mod boots;
 mod inputs;
+mod laws;
 mod program;
+mod sources;
 mod stop;
 mod telling;
 
 pub use inputs::{Inputs, read_inputs};
+pub use laws::one_source;
 pub use program::{Format, Program};
+pub use sources::{image_of_source, listing_of_source};
 pub use stop::Stop;

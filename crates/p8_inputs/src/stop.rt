@@ -1,41 +1,84 @@
 // Why there is nothing to run.
-ghost use Rattle.std.specs.Prelude.{◌≤◌};
+ghost use Rattle.std.specs.Prelude.{◌≡◌, ◌≤◌};
 ghost use Rattle.p8_io.specs.Sinks.{Wrote};
 ghost use Rattle.p8_inputs.specs.Stops.{line_of};
+ghost use Rattle.p8_inputs.specs.declared.stop.Stop.TheVariants.{NoMemory as OutOfMemory};
 
 use crate::telling::{
-    tell_bad_program, tell_bad_script, tell_missing, tell_no_memory, tell_unread,
+    tell_bad_program, tell_bad_script, tell_missing, tell_no_memory, tell_refused, tell_unread,
 };
 use p8_image::LoadFault;
 use p8_io::Sink;
+use p8_tree::{Place, Text};
+use p8_words::NoMemory;
+use std::alloc::AllocError;
 
-/// Why there is nothing to run.
-#[derive(Clone, Copy, Debug, PartialEq, Eq)]
-pub enum Stop<'a> {
+/// Why there is nothing to run. `file` is the name of a file as the words have it, or as a source mentions it.
+#[derive(Drop)]
+pub enum Stop {
     /// This file could not be read.
-    Unread { file: &'a str },
+    Unread {
+        file: Text,
+    },
     /// This file doesn't exist.
-    Missing { file: &'a str },
+    Missing {
+        file: Text,
+    },
     /// There was no memory.
     NoMemory,
+    /// A source of the project is refused.
+    Refused {
+        file: Text,
+        /// The number of a [`Refusal`](p8_lexer::Refusal).
+        number: u8,
+        /// Where in the file.
+        place: Place,
+    },
     /// The file to run is no image, or too long for hub memory.
-    BadProgram { file: &'a str, fault: LoadFault },
+    BadProgram {
+        file: Text,
+        fault: LoadFault,
+    },
     /// The pin script's first bad line, counted from 1; 0 where the file is too long.
-    BadScript { file: &'a str, line: u32 },
+    BadScript {
+        file: Text,
+        line: u32,
+    },
 }
 
-impl<'a> Stop<'a> {
+impl From<AllocError> for Stop {
+    ghost from_gives = { λ _ given. given ≡ OutOfMemory };
+
+    fn from(_: AllocError) -> Stop {
+        Stop::NoMemory
+    }
+}
+
+impl From<NoMemory> for Stop {
+    ghost from_gives = { λ _ given. given ≡ OutOfMemory };
+
+    fn from(_: NoMemory) -> Stop {
+        Stop::NoMemory
+    }
+}
+
+impl Stop {
     /// Writes the line that tells it, as far as the sink takes it.
     pub fn tell<E: Sink>(&self, faults: &mut E)
         ensures wrote { Wrote (E.faults faults.old) (E.faults faults.new) (E.taken faults.old) (E.taken faults.new) (line_of self.now) }
         ensures later { E.faults faults.old ≤ E.faults faults.new }
     {
         match self {
-            Stop::Unread { file } => tell_unread(file, faults),
-            Stop::Missing { file } => tell_missing(file, faults),
+            Stop::Unread { file } => tell_unread(file.as_slice(), faults),
+            Stop::Missing { file } => tell_missing(file.as_slice(), faults),
             Stop::NoMemory => tell_no_memory(faults),
-            Stop::BadProgram { file, fault } => tell_bad_program(file, *fault, faults),
-            Stop::BadScript { file, line } => tell_bad_script(file, *line, faults),
+            Stop::Refused {
+                file,
+                number,
+                place,
+            } => tell_refused(file.as_slice(), *number, *place, faults),
+            Stop::BadProgram { file, fault } => tell_bad_program(file.as_slice(), *fault, faults),
+            Stop::BadScript { file, line } => tell_bad_script(file.as_slice(), *line, faults),
         }
     }
 }

@@ -3,25 +3,29 @@ ghost use Rattle.std.specs.Prelude.{◌≡◌, ◌≤◌, ◌/◌, ◌%◌, ◌<
 ghost use Rattle.std.specs.Fmt.{decimal};
 ghost use Rattle.p8_io.specs.Sinks.{Wrote};
 ghost use Rattle.p8_image.specs.Messages.{fault_text, hex_digit as hex_digit_of};
+ghost use Rattle.p8_inputs.specs.Refusals.{name_numbered};
+ghost use Rattle.p8_inputs.specs.Stops.{refusal_line};
 
 use itoa::Buffer;
 use p8_image::LoadFault;
 use p8_io::{Sink, write_pieces};
+use p8_lexer::refusal_name;
+use p8_tree::Place;
 
 /// Writes the line of a file that could not be read.
-pub fn tell_unread<E: Sink>(file: &str, faults: &mut E)
+pub fn tell_unread<E: Sink>(file: &[u8], faults: &mut E)
     ensures wrote { Wrote (E.faults faults.old) (E.faults faults.new) (E.taken faults.old) (E.taken faults.new) (codes "prop: cannot read " ++ file.now ++ 10 ∷ []) }
     ensures later { E.faults faults.old ≤ E.faults faults.new }
 {
-    let _ = write_pieces(faults, &[b"prop: cannot read ", file.as_bytes(), b"\n"]);
+    let _ = write_pieces(faults, &[b"prop: cannot read ", file, b"\n"]);
 }
 
 /// Writes the line of a file that doesn't exist.
-pub fn tell_missing<E: Sink>(file: &str, faults: &mut E)
+pub fn tell_missing<E: Sink>(file: &[u8], faults: &mut E)
     ensures wrote { Wrote (E.faults faults.old) (E.faults faults.new) (E.taken faults.old) (E.taken faults.new) (codes "prop: " ++ file.now ++ codes " is missing" ++ 10 ∷ []) }
     ensures later { E.faults faults.old ≤ E.faults faults.new }
 {
-    let _ = write_pieces(faults, &[b"prop: ", file.as_bytes(), b" is missing", b"\n"]);
+    let _ = write_pieces(faults, &[b"prop: ", file, b" is missing", b"\n"]);
 }
 
 /// Writes the line of want of memory.
@@ -30,6 +34,51 @@ pub fn tell_no_memory<E: Sink>(faults: &mut E)
     ensures later { E.faults faults.old ≤ E.faults faults.new }
 {
     let _ = write_pieces(faults, &[b"prop: out of memory", b"\n"]);
+}
+
+/// The name of the refusal of this number, as it is printed; empty where there is no such refusal.
+fn name_of(number: u8) -> &'static str
+    ensures { result.now ≡ name_numbered number }
+{
+    refusal_name(number)
+}
+
+/// Writes the line of a source and where it is refused, with the digits of the line, the column and the refusal's number.
+fn tell_place<'a, E: Sink>(
+    file: &'a [u8],
+    line: &'a [u8],
+    column: &'a [u8],
+    number: &'a [u8],
+    name: &'a [u8],
+    faults: &mut E,
+)
+    ensures wrote { Wrote (E.faults faults.old) (E.faults faults.new) (E.taken faults.old) (E.taken faults.new) (codes "prop: " ++ file.now ++ codes ":" ++ line.now ++ codes ":" ++ column.now ++ codes ": " ++ number.now ++ codes " " ++ name.now ++ 10 ∷ []) }
+    ensures later { E.faults faults.old ≤ E.faults faults.new }
+{
+    let _ = write_pieces(
+        faults,
+        &[
+            b"prop: ", file, b":", line, b":", column, b": ", number, b" ", name, b"\n",
+        ],
+    );
+}
+
+/// Writes the line of a source and where it is refused, by which rule.
+pub fn tell_refused<E: Sink>(file: &[u8], number: u8, place: Place, faults: &mut E)
+    ensures wrote { Wrote (E.faults faults.old) (E.faults faults.new) (E.taken faults.old) (E.taken faults.new) (refusal_line file.now number place) }
+    ensures later { E.faults faults.old ≤ E.faults faults.new }
+{
+    let mut line = Buffer::new();
+    let mut column = Buffer::new();
+    let mut digits = Buffer::new();
+    tell_place(
+        file,
+        line.format(place.line).as_bytes(),
+        column.format(place.column).as_bytes(),
+        digits.format(number).as_bytes(),
+        name_of(number).as_bytes(),
+        faults,
+    );
 }
 
 /// A digit from 0 to 15, in capitals.
@@ -45,7 +94,7 @@ fn hex_digit(digit: u8) -> u8
 }
 
 /// Writes the line of a file and its length, which is wrong.
-fn tell_length<E: Sink>(file: &str, length: usize, faults: &mut E)
+fn tell_length<E: Sink>(file: &[u8], length: usize, faults: &mut E)
     ensures wrote { Wrote (E.faults faults.old) (E.faults faults.new) (E.taken faults.old) (E.taken faults.new) (codes "prop: " ++ file.now ++ codes ": length " ++ decimal length ++ 10 ∷ []) }
     ensures later { E.faults faults.old ≤ E.faults faults.new }
 {
@@ -54,7 +103,7 @@ fn tell_length<E: Sink>(file: &str, length: usize, faults: &mut E)
         faults,
         &[
             b"prop: ",
-            file.as_bytes(),
+            file,
             b": length ",
             digits.format(length).as_bytes(),
             b"\n",
@@ -63,36 +112,27 @@ fn tell_length<E: Sink>(file: &str, length: usize, faults: &mut E)
 }
 
 /// Writes the line of a file and the sum of its bytes, which is wrong.
-fn tell_sum<E: Sink>(file: &str, sum: u8, faults: &mut E)
+fn tell_sum<E: Sink>(file: &[u8], sum: u8, faults: &mut E)
     ensures wrote { Wrote (E.faults faults.old) (E.faults faults.new) (E.taken faults.old) (E.taken faults.new) (codes "prop: " ++ file.now ++ codes ": sum " ++ hex_digit_of (sum / 16) ++ hex_digit_of (sum % 16) ++ 10 ∷ []) }
     ensures later { E.faults faults.old ≤ E.faults faults.new }
 {
     let digits = [hex_digit(sum / 16), hex_digit(sum % 16)];
-    let _ = write_pieces(
-        faults,
-        &[b"prop: ", file.as_bytes(), b": sum ", &digits, b"\n"],
-    );
+    let _ = write_pieces(faults, &[b"prop: ", file, b": sum ", &digits, b"\n"]);
 }
 
 /// Writes the line of a file and the place in its header that is wrong, by the place's name.
-fn tell_header<E: Sink>(file: &str, name: &str, faults: &mut E)
+fn tell_header<E: Sink>(file: &[u8], name: &str, faults: &mut E)
     ensures wrote { Wrote (E.faults faults.old) (E.faults faults.new) (E.taken faults.old) (E.taken faults.new) (codes "prop: " ++ file.now ++ codes ": header " ++ name.now ++ 10 ∷ []) }
     ensures later { E.faults faults.old ≤ E.faults faults.new }
 {
     let _ = write_pieces(
         faults,
-        &[
-            b"prop: ",
-            file.as_bytes(),
-            b": header ",
-            name.as_bytes(),
-            b"\n",
-        ],
+        &[b"prop: ", file, b": header ", name.as_bytes(), b"\n"],
     );
 }
 
 /// Writes the line of a file and what is wrong with it.
-pub fn tell_bad_program<E: Sink>(file: &str, fault: LoadFault, faults: &mut E)
+pub fn tell_bad_program<E: Sink>(file: &[u8], fault: LoadFault, faults: &mut E)
     ensures wrote { Wrote (E.faults faults.old) (E.faults faults.new) (E.taken faults.old) (E.taken faults.new) (codes "prop: " ++ file.now ++ codes ": " ++ fault_text fault ++ 10 ∷ []) }
     ensures later { E.faults faults.old ≤ E.faults faults.new }
 {
@@ -104,7 +144,7 @@ pub fn tell_bad_program<E: Sink>(file: &str, fault: LoadFault, faults: &mut E)
 }
 
 /// Writes the line of a pin script with a bad line.
-pub fn tell_bad_script<E: Sink>(file: &str, line: u32, faults: &mut E)
+pub fn tell_bad_script<E: Sink>(file: &[u8], line: u32, faults: &mut E)
     ensures wrote { Wrote (E.faults faults.old) (E.faults faults.new) (E.taken faults.old) (E.taken faults.new) (codes "prop: " ++ file.now ++ codes ": line " ++ decimal line ++ 10 ∷ []) }
     ensures later { E.faults faults.old ≤ E.faults faults.new }
 {
@@ -113,7 +153,7 @@ pub fn tell_bad_script<E: Sink>(file: &str, line: u32, faults: &mut E)
         faults,
         &[
             b"prop: ",
-            file.as_bytes(),
+            file,
             b": line ",
             digits.format(line).as_bytes(),
             b"\n",

@@ -9,5 +9,5 @@ mod next;
 mod source;
 
 pub use fault::GatherFault;
-pub use gathering::gather;
+pub use gathering::{discard, gather};
 pub use laws::one_outcome;

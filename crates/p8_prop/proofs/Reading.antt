@@ -12,7 +12,7 @@ use Rattle.clap.specs.Matches.{first_value, found_of}
 use Rattle.clap.specs.Simple.{App, matches_of}
 use Rattle.clap.specs.Walk.{Row, Text, first_of, rows_of}
 use Rattle.clap.proofs.WalkLemmas.{first_value-rows}
-use Rattle.p8_prop.specs.Commands.{Entry, app_for, command_of, faultless, raw_entry, run_entry, said_to, table}
+use Rattle.p8_prop.specs.Commands.{Entry, app_for, command_of, faultless, build_entry, list_entry, raw_entry, run_entry, said_to, table}
 use Rattle.p8_prop.specs.Taking.{Takes}
 
 -- where there is a fault nothing is said
@@ -58,6 +58,12 @@ entry-chosen : (entry : Entry) → find (λ (e : Entry). bytes_eq e.word entry.w
 entry-chosen entry found f [] word some at is = absurd (omega arith)
 entry-chosen entry found f (first ∷ words) word some at is = by-word entry (f first) (map f words) found (ap f (sym at) ∙ is)
 
+pub build-chosen : {A : Type 0} (f : A → Text) (words : List A) (word : A) → 1 ≤ length words → word ≡ slice_index_or words 0 word → f word ≡ codes "build" → command_of (map f words) ≡ said_to build_entry (map f words)
+build-chosen f words word some at is = entry-chosen build_entry refl f words word some at is
+
+pub list-chosen : {A : Type 0} (f : A → Text) (words : List A) (word : A) → 1 ≤ length words → word ≡ slice_index_or words 0 word → f word ≡ codes "list" → command_of (map f words) ≡ said_to list_entry (map f words)
+list-chosen f words word some at is = entry-chosen list_entry refl f words word some at is
+
 pub raw-chosen : {A : Type 0} (f : A → Text) (words : List A) (word : A) → 1 ≤ length words → word ≡ slice_index_or words 0 word → f word ≡ codes "raw" → command_of (map f words) ≡ said_to raw_entry (map f words)
 raw-chosen f words word some at is = entry-chosen raw_entry refl f words word some at is
 
@@ -65,13 +71,19 @@ pub run-chosen : {A : Type 0} (f : A → Text) (words : List A) (word : A) → 1
 run-chosen f words word some at is = entry-chosen run_entry refl f words word some at is
 
 -- another word chooses nothing
-other-word : (word : Text) (words : List Text) (a b : Bool) → bytes_eq (codes "raw") word ≡ a → bytes_eq (codes "run") word ≡ b → (word ≡ codes "raw" → ⊥) → (word ≡ codes "run" → ⊥) → command_of (word ∷ words) ≡ None
-unfolding command_of
-other-word word words true b first second raw run = absurd (raw (sym ((bytes_eq-Decides (codes "raw") word).0 first)))
-other-word word words false true first second raw run = absurd (run (sym ((bytes_eq-Decides (codes "run") word).0 second)))
-other-word word words false false first second raw run = rw (first, second) refl
+differs : (entry word : Text) → (word ≡ entry → ⊥) → bytes_eq entry word ≡ false
+differs entry word other = by-test (bytes_eq entry word) refl
+  where
+    by-test : (b : Bool) → bytes_eq entry word ≡ b → b ≡ false
+    by-test true is = absurd (other (sym ((bytes_eq-Decides entry word).0 is)))
+    by-test false is = refl
 
-pub none-chosen : {A : Type 0} (f : A → Text) (words : List A) (word : A) → 1 ≤ length words → word ≡ slice_index_or words 0 word → (f word ≡ codes "raw" → ⊥) → (f word ≡ codes "run" → ⊥) → command_of (map f words) ≡ None
-none-chosen f [] word some at raw run = absurd (omega arith)
-none-chosen f (first ∷ words) word some at raw run =
-    other-word (f first) (map f words) _ _ refl refl (λ is. raw (ap f at ∙ is)) (λ is. run (ap f at ∙ is))
+other-word : (word : Text) (words : List Text) → (word ≡ codes "build" → ⊥) → (word ≡ codes "list" → ⊥) → (word ≡ codes "raw" → ⊥) → (word ≡ codes "run" → ⊥) → command_of (word ∷ words) ≡ None
+unfolding command_of
+other-word word words build list raw run =
+    rw (differs (codes "build") word build, differs (codes "list") word list, differs (codes "raw") word raw, differs (codes "run") word run) refl
+
+pub none-chosen : {A : Type 0} (f : A → Text) (words : List A) (word : A) → 1 ≤ length words → word ≡ slice_index_or words 0 word → (f word ≡ codes "build" → ⊥) → (f word ≡ codes "list" → ⊥) → (f word ≡ codes "raw" → ⊥) → (f word ≡ codes "run" → ⊥) → command_of (map f words) ≡ None
+none-chosen f [] word some at build list raw run = absurd (omega arith)
+none-chosen f (first ∷ words) word some at build list raw run =
+    other-word (f first) (map f words) (λ is. build (ap f at ∙ is)) (λ is. list (ap f at ∙ is)) (λ is. raw (ap f at ∙ is)) (λ is. run (ap f at ∙ is))

@@ -9,7 +9,7 @@ use Rattle.clap.specs.Faults.{fault_of}
 use Rattle.clap.specs.Simple.{App, matches_of, new_app, new_rule, with_rule}
 use Rattle.clap.specs.Walk.{Rule, Text, first_of}
 use Rattle.p8_inputs.specs.declared.program.Format.{Format}
-use Rattle.p8_inputs.specs.declared.program.Format.TheVariants.{Memory, Image}
+use Rattle.p8_inputs.specs.declared.program.Format.TheVariants.{Memory, Image, Source}
 
 -- a decimal digit
 abbrev pub is_digit : ℕ → Bool
@@ -81,9 +81,27 @@ pub record Options : Type 0 where
   pub turns : ℕ
   pub dump : Option (ℕ × ℕ)
 
--- a command: to run a file, by what its bytes are taken for, up to a clock
+-- a command: to write the image of a source or its listing, or to run a file, by what it is taken for, up to a clock
 pub data Command : Type 0 where
+  BuildSource : (file : List ℕ) → Command
+  ListSource : (file : List ℕ) → Command
   Run : (format : Format) (file : List ℕ) (clocks : ℕ) (options : Options) → Command
+
+-- the file of a command, what it is taken for, and the file of its pin script, if any
+abbrev pub file_of : Command → List ℕ
+file_of (BuildSource file) = file
+file_of (ListSource file) = file
+file_of (Run format file clocks options) = file
+
+abbrev pub format_of : Command → Format
+format_of (BuildSource file) = Source
+format_of (ListSource file) = Source
+format_of (Run format file clocks options) = format
+
+abbrev pub script_of : Command → Option (List ℕ)
+script_of (BuildSource file) = None
+script_of (ListSource file) = None
+script_of (Run format file clocks options) = options.script
 
 -- the arguments of a command, as `clap` takes them: what isn't said of one is as in `new_rule`. An operand has no name on
 -- the command line, so it stands by its place, and it has to be there.
@@ -130,20 +148,30 @@ raw_of value = run_as Memory (value (codes "FILE")) value
 abbrev pub is_image_name : Text → Bool
 is_image_name name = ends_with (λ (a b : ℕ). a == b) name (codes ".binary")
 
--- the file of a run, where it is an image
-abbrev pub image_named : Option Text → Option Text
-image_named None = None
-image_named (Some file) = if is_image_name file then Some file else None
+-- what a file to run is taken for, by its name: an image, or else a source
+abbrev pub format_named : Text → Format
+format_named name = if is_image_name name then Image else Source
+
+-- a run of a file of that name, by the values of the arguments that every run has
+abbrev pub run_named : Option Text → (Text → Option Text) → Option Command
+run_named None value = None
+run_named (Some file) value = run_as (format_named file) (Some file) value
 
 -- a flag with this value is given
 abbrev pub is_given : Option Text → Bool
 is_given None = false
 is_given (Some value) = bytes_eq value (codes "true")
 
--- `run FILE CLOCKS --alone` with its options, where FILE is an image. A run of a source and one without `--alone` are still to
--- come: as long as they are, such words say nothing.
+-- `run FILE CLOCKS --alone` with its options. A run without `--alone` is still to come: as long as it is, such words say nothing.
 abbrev pub run_of : (Text → Option Text) → Option Command
-run_of value = if is_given (value (codes "alone")) then run_as Image (image_named (value (codes "FILE"))) value else None
+run_of value = if is_given (value (codes "alone")) then run_named (value (codes "FILE")) value else None
+
+-- `build FILE` and `list FILE`, by the value of FILE
+abbrev pub build_of : (Text → Option Text) → Option Command
+build_of value = option_map BuildSource (value (codes "FILE"))
+
+abbrev pub list_of : (Text → Option Text) → Option Command
+list_of value = option_map ListSource (value (codes "FILE"))
 
 -- the arguments that every run has
 abbrev pub run_arguments : List Rule
@@ -156,6 +184,12 @@ pub record Entry : Type 0 where
   pub arguments : List Rule
   pub meaning : (Text → Option Text) → Option Command
 
+abbrev pub build_entry : Entry
+build_entry = record { word = codes "build"; arguments = operand (codes "FILE") ∷ []; meaning = build_of }
+
+abbrev pub list_entry : Entry
+list_entry = record { word = codes "list"; arguments = operand (codes "FILE") ∷ []; meaning = list_of }
+
 abbrev pub raw_entry : Entry
 raw_entry = record { word = codes "raw"; arguments = run_arguments; meaning = raw_of }
 
@@ -163,7 +197,7 @@ abbrev pub run_entry : Entry
 run_entry = record { word = codes "run"; arguments = run_arguments ++ flag (codes "alone") ∷ []; meaning = run_of }
 
 abbrev pub table : List Entry
-table = raw_entry ∷ run_entry ∷ []
+table = build_entry ∷ list_entry ∷ raw_entry ∷ run_entry ∷ []
 
 -- the simple command of `clap` that takes the words of an entry
 abbrev pub app_for : Entry → App

@@ -5,19 +5,20 @@ use Rattle.p8_io.specs.Counts.{Rose}
 use Rattle.p8_io.specs.Shelves.{Files}
 use Rattle.p8_io.specs.Sinks.{Appended, AppendedPrefix}
 use Rattle.p8_inputs.specs.declared.stop.Stop.{Stop}
-use Rattle.p8_inputs.specs.declared.stop.Stop.TheVariants.{Unread, Missing, NoMemory, BadProgram, BadScript}
+use Rattle.p8_inputs.specs.declared.stop.Stop.TheVariants.{Unread, Missing, NoMemory, Refused, BadProgram, BadScript}
 use Rattle.p8_inputs.specs.Stops as stops
 use Rattle.p8_prop.specs.declared.outcome.Outcome.{Outcome}
 use Rattle.p8_prop.specs.declared.outcome.Outcome.TheVariants.{Written, Unwritten, Stopped}
 use Rattle.p8_prop.specs.declared.status.Status.{Status}
 use Rattle.p8_prop.specs.declared.status.Status.TheVariants as status
-use Rattle.p8_prop.specs.Commands.{Command, Run}
+use Rattle.p8_prop.specs.Commands.{Command, file_of, format_of, script_of}
 use Rattle.p8_prop.specs.Verdicts.{Outside, IsSilent, IsAskedFor}
 
 abbrev pub stop_status : Stop → Status
 stop_status (Unread file) = status.ShelfFault
 stop_status (Missing file) = status.Missing
 stop_status NoMemory = status.NoMemory
+stop_status (Refused file number place) = status.Refused
 stop_status (BadProgram file fault) = status.BadImage
 stop_status (BadScript file line) = status.BadScript
 
@@ -34,7 +35,7 @@ line_of (Stopped stop) = stops.line_of stop
 
 -- why a command has no text
 abbrev pub HasNoText : Files → (before now : ℕ) → Command → Stop → Type 0
-HasNoText files before now (Run format file clocks options) stop = stops.Stops files before now format file options.script stop
+HasNoText files before now command stop = stops.Stops files before now (format_of command) (file_of command) (script_of command) stop
 
 -- an outcome of a command has its cause
 abbrev pub Ends : Outside → Command → Outcome → Type 0

@@ -7,6 +7,7 @@ use Rattle.p8_history.specs.Histories.{Ended}
 use Rattle.p8_image.specs.declared.faults.LoadFault.{LoadFault}
 use Rattle.p8_image.specs.Messages.{fault_text}
 use Rattle.p8_lives.specs.Lives.{asks}
+use Rattle.p8_tree.specs.declared.places.Place.{Place}
 use Rattle.p8_report.specs.Text.{text_of}
 use Rattle.p8_io.specs.Counts.{Rose}
 use Rattle.p8_io.specs.Shelves.{Files}
@@ -14,9 +15,11 @@ use Rattle.p8_io.specs.Sinks.{Appended, AppendedPrefix, Wrote}
 use Rattle.p8_inputs.specs.Inputs as inputs
 use Rattle.p8_inputs.specs.Inputs.{IsProgram, IsScriptFor}
 use Rattle.p8_inputs.specs.Programs.{world_of}
+use Rattle.p8_inputs.specs.Sources.{IsImageFrom, IsListingFrom}
+use Rattle.p8_inputs.specs.Stops.{refusal_line}
 use Rattle.p8_prop.specs.declared.status.Status.{Status}
 use Rattle.p8_prop.specs.declared.status.Status.TheVariants.{Ok as Done, Usage, Refused, ShelfFault, Missing, SinkFault, NoMemory, BadImage, BadScript}
-use Rattle.p8_prop.specs.Commands.{Command, Run}
+use Rattle.p8_prop.specs.Commands.{Command, BuildSource, ListSource, Run, file_of, format_of, script_of}
 
 -- the text of the ended history of a world, with a dump; there is one such history
 abbrev pub IsTrace : World → Option (ℕ × ℕ) → List ℕ → Type 0
@@ -25,6 +28,8 @@ IsTrace world dump text = (past : List Turn) × Ended asks world past × (text �
 -- the text that the words ask for
 abbrev pub IsAskedFor : Files → Option Command → List ℕ → Type 0
 IsAskedFor files None text = ⊥
+IsAskedFor files (Some (BuildSource file)) text = IsImageFrom files file text
+IsAskedFor files (Some (ListSource file)) text = IsListingFrom files file text
 IsAskedFor files (Some (Run format file clocks options)) text =
     (bytes : List ℕ) × (script : List Line) × IsProgram files format file bytes × IsScriptFor files options.script script ×
     IsTrace (world_of format bytes script clocks options.turns) options.dump text
@@ -48,44 +53,50 @@ outside files shelf_before shelf_now out_before out_now taken_before taken_now =
 abbrev pub IsSilent : Outside → Type 0
 IsSilent o = Appended o.taken_before o.taken_now []
 
--- the words name this file
-abbrev pub IsNamed : Option Command → (name : List ℕ) → Type 0
-IsNamed None name = ⊥
-IsNamed (Some (Run format file clocks options)) name = (name ≡ file) ⊎ (options.script ≡ Some name)
+-- a file of the command could not be read: the one that it names, one of that one's project, or the pin script
+abbrev pub IsUnread : Files → (before now : ℕ) → Option Command → (name : List ℕ) → Type 0
+IsUnread files before now None name = ⊥
+IsUnread files before now (Some command) name = inputs.IsUnread files before now (format_of command) (file_of command) (script_of command) name
 
--- a file of the words is missing, by what the shelf tells, with its counts before and now. A pin script is looked at where the
+-- a file of the command is missing, by what the shelf tells, with its counts before and now. A pin script is looked at where the
 -- file to run is good.
 abbrev pub IsMissing : Files → (before now : ℕ) → Option Command → (name : List ℕ) → Type 0
 IsMissing files before now None name = ⊥
-IsMissing files before now (Some (Run format file clocks options)) name = inputs.IsMissing files before now format file options.script name
+IsMissing files before now (Some command) name = inputs.IsMissing files before now (format_of command) (file_of command) (script_of command) name
 
--- the file to run is refused: what is wrong with it
+-- the source is refused: a file of its project, with a number, at a place
+abbrev pub HasRefusal : Files → Option Command → (name : List ℕ) → (number : ℕ) → Place → Type 0
+HasRefusal files None name number place = ⊥
+HasRefusal files (Some command) name number place = inputs.HasRefusal files (format_of command) (file_of command) name number place
+
+-- the image or the hub memory to run is refused: what is wrong with it
 abbrev pub HasFault : Files → Option Command → (name : List ℕ) → LoadFault → Type 0
 HasFault files None name fault = ⊥
-HasFault files (Some (Run format file clocks options)) name fault = inputs.HasFault files format file name fault
+HasFault files (Some command) name fault = inputs.HasFault files (format_of command) (file_of command) name fault
 
 -- the pin script is refused, at this line
 abbrev pub HasBadLine : Files → Option Command → (name : List ℕ) → (line : ℕ) → Type 0
 HasBadLine files None name line = ⊥
-HasBadLine files (Some (Run format file clocks options)) name line = inputs.HasBadLine files format file options.script name line
+HasBadLine files (Some command) name line = inputs.HasBadLine files (format_of command) (file_of command) (script_of command) name line
 
 -- each status has its cause; want of memory is the only one that may always come
 abbrev pub Answers : Outside → Option Command → Status → Type 0
 Answers o command Done = (text : List ℕ) × IsAskedFor o.files command text × Appended o.taken_before o.taken_now text
 Answers o command Usage = (command ≡ None) × IsSilent o
-Answers o command ShelfFault = (name : List ℕ) × IsNamed command name × Rose o.shelf_before o.shelf_now × IsSilent o
+Answers o command ShelfFault = (name : List ℕ) × IsUnread o.files o.shelf_before o.shelf_now command name × IsSilent o
 Answers o command Missing = (name : List ℕ) × IsMissing o.files o.shelf_before o.shelf_now command name × IsSilent o
 Answers o command SinkFault = (text : List ℕ) × IsAskedFor o.files command text × Rose o.out_before o.out_now × AppendedPrefix o.taken_before o.taken_now text
 Answers o command NoMemory = IsSilent o
 Answers o command BadImage = (name : List ℕ) × (fault : LoadFault) × HasFault o.files command name fault × IsSilent o
 Answers o command BadScript = (name : List ℕ) × (line : ℕ) × HasBadLine o.files command name line × IsSilent o
-Answers o command Refused = ⊥
+Answers o command Refused = (name : List ℕ) × (number : ℕ) × (place : Place) × HasRefusal o.files command name number place × IsSilent o
 
 -- a status is due: it is what the words and the files call for
 abbrev pub IsDue : Outside → Option Command → Status → Type 0
 IsDue o command Done = (text : List ℕ) × IsAskedFor o.files command text
 IsDue o command Usage = command ≡ None
 IsDue o command Missing = (name : List ℕ) × IsMissing o.files o.shelf_before o.shelf_now command name
+IsDue o command Refused = (name : List ℕ) × (number : ℕ) × (place : Place) × HasRefusal o.files command name number place
 IsDue o command BadImage = (name : List ℕ) × (fault : LoadFault) × HasFault o.files command name fault
 IsDue o command BadScript = (name : List ℕ) × (line : ℕ) × HasBadLine o.files command name line
 IsDue o command status = ⊥
@@ -113,7 +124,7 @@ usage_line = codes "prop: usage: prop build|list FILE, prop raw|run FILE CLOCKS 
 abbrev pub IsLine : Outside → Option Command → Status → List ℕ → Type 0
 IsLine o command Done line = line ≡ []
 IsLine o command Usage line = line ≡ usage_line
-IsLine o command ShelfFault line = (name : List ℕ) × IsNamed command name × (line ≡ codes "prop: cannot read " ++ name ++ 10 ∷ [])
+IsLine o command ShelfFault line = (name : List ℕ) × IsUnread o.files o.shelf_before o.shelf_now command name × (line ≡ codes "prop: cannot read " ++ name ++ 10 ∷ [])
 IsLine o command Missing line = (name : List ℕ) × IsMissing o.files o.shelf_before o.shelf_now command name × (line ≡ codes "prop: " ++ name ++ codes " is missing" ++ 10 ∷ [])
 IsLine o command SinkFault line = line ≡ codes "prop: cannot write" ++ 10 ∷ []
 IsLine o command NoMemory line = line ≡ codes "prop: out of memory" ++ 10 ∷ []
@@ -121,7 +132,7 @@ IsLine o command BadImage line =
     (name : List ℕ) × (fault : LoadFault) × HasFault o.files command name fault × (line ≡ codes "prop: " ++ name ++ codes ": " ++ fault_text fault ++ 10 ∷ [])
 IsLine o command BadScript line =
     (name : List ℕ) × (n : ℕ) × HasBadLine o.files command name n × (line ≡ codes "prop: " ++ name ++ codes ": line " ++ decimal n ++ 10 ∷ [])
-IsLine o command Refused line = ⊥
+IsLine o command Refused line = (name : List ℕ) × (number : ℕ) × (place : Place) × HasRefusal o.files command name number place × (line ≡ refusal_line name number place)
 
 -- that line was written to a sink, or a prefix of it where the sink's count rose
 abbrev pub TellsLine : Outside → Option Command → Status → (before now : ℕ) → (taken_before taken_now : Option (List ℕ)) → Type 0

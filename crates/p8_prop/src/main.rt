@@ -1,4 +1,4 @@
-//! `prop`: runs images of the Parallax Propeller P8X32A and prints the history of the eight cogs.
+//! `prop`: compiles programs of the Parallax Propeller P8X32A, runs them, and prints the history of the eight cogs.
 #![tactic(auto)]
 
 mod arguments;

@@ -8,30 +8,31 @@ use p8_inputs::Stop;
 use p8_io::{Sink, write_pieces};
 
 /// How a command on files ended.
-#[derive(Clone, Copy)]
-pub enum Outcome<'a> {
+#[derive(Drop)]
+pub enum Outcome {
     /// Its text was written.
     Written,
     /// The text could not be written, or only a part of it.
     Unwritten,
     /// There is no text.
-    Stopped(Stop<'a>),
+    Stopped(Stop),
 }
 
 /// The status that tells why there is no text.
-fn status_of_stop(stop: Stop) -> Status
-    ensures { result ≡ stop_status stop.entry }
+fn status_of_stop(stop: &Stop) -> Status
+    ensures { result ≡ stop_status stop.now }
 {
     match stop {
         Stop::Unread { .. } => Status::ShelfFault,
         Stop::Missing { .. } => Status::Missing,
         Stop::NoMemory => Status::NoMemory,
+        Stop::Refused { .. } => Status::Refused,
         Stop::BadProgram { .. } => Status::BadImage,
         Stop::BadScript { .. } => Status::BadScript,
     }
 }
 
-impl<'a> Outcome<'a> {
+impl Outcome {
     /// The status that tells it.
     pub fn status(&self) -> Status
         ensures { result ≡ status_of self.now }
@@ -39,7 +40,7 @@ impl<'a> Outcome<'a> {
         match self {
             Outcome::Written => Status::Ok,
             Outcome::Unwritten => Status::SinkFault,
-            Outcome::Stopped(stop) => status_of_stop(*stop),
+            Outcome::Stopped(stop) => status_of_stop(stop),
         }
     }
 

@@ -16,6 +16,9 @@ const TEXT: &[u8] =
     locks ........\npins 00000000 00000000\ncog 0 stopped\ncog 1 stopped\ncog 2 stopped\n\
     cog 3 stopped\ncog 4 stopped\ncog 5 stopped\ncog 6 stopped\ncog 7 stopped\n0000: 00 1B\n";
 
+/// The listing of `PUB main`.
+const LISTING: &[u8] = b"object main.spin 0010\nmethod 1 0018\n0018 32\n";
+
 /// The line of words that are no command.
 const USAGE: &str =
     "prop: usage: prop build|list FILE, prop raw|run FILE CLOCKS [--pins F] [--turns K] [--dump A:N] [--alone]\n";
@@ -57,12 +60,14 @@ fn words_of(alloc: Global, words: &[&str]) -> Result<Vec<String>, NoMemory> {
     Ok(line)
 }
 
-/// Makes a call of these words, where the shelf has an image, an empty file and a bad pin script.
+/// Makes a call of these words, where the shelf has an image, an empty file, a bad pin script, and a good and a bad source.
 fn left_by(alloc: Global, words: &[&str], failing: Failing) -> Result<Left, NoMemory> {
     let mut shelf = MemShelf::new(alloc);
     shelf.add("a.binary", IMAGE)?;
     shelf.add("empty.binary", b"")?;
     shelf.add("a.pins", b"9000 1")?;
+    shelf.add("main.spin", b"PUB main\n")?;
+    shelf.add("bad.spin", b"CON\n  a = 1\n")?;
     let mut shelf = shelf.with(failing_at(alloc, failing.read)?);
     let mut out = MemSink::new(alloc, 4096)?.with(failing_at(alloc, failing.write)?);
     let mut faults = MemSink::new(alloc, 4096)?;
@@ -96,6 +101,26 @@ fn runs_an_image(rt: HostRuntime) -> Result<(), Fail> {
     assert_eq!(rt; left.status, Status::Ok);
     assert!(rt; left.out.bytes() == TEXT);
     assert!(rt; left.faults.bytes().is_empty());
+    Ok(())
+}
+
+#[test]
+fn builds_lists_and_runs_a_source(rt: HostRuntime) -> Result<(), Fail> {
+    let rows: [(&[&str], &[u8]); 3] = [
+        (&["build", "main.spin"], IMAGE),
+        (&["list", "main.spin"], LISTING),
+        (
+            &["run", "main.spin", "20000", "--alone", "--dump", "0000:2"],
+            TEXT,
+        ),
+    ];
+    for (words, text) in rows {
+        let left = left_by(rt.alloc(), words, NOTHING)?;
+        assert!(rt; left.out.bytes() == text);
+    }
+    let words = ["build", "bad.spin"];
+    let line = "prop: bad.spin:1:1: 18 NoPub\n";
+    assert!(rt; refused(rt.alloc(), &words, NOTHING, Status::Refused, line)?);
     Ok(())
 }
 
@@ -141,9 +166,8 @@ fn refuses_an_option_given_twice(rt: HostRuntime) -> Result<(), Fail> {
 // As are no words, and too many clocks.
 #[test]
 fn refuses_runs_that_are_to_come(rt: HostRuntime) -> Result<(), Fail> {
-    let rows: [&[&str]; 4] = [
+    let rows: [&[&str]; 3] = [
         &["run", "a.binary", "1"],
-        &["run", "a.spin", "1", "--alone"],
         &[],
         &["raw", "a.binary", "100000001"],
     ];

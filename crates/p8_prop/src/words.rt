@@ -1,10 +1,10 @@
 // The words of the command line.
-ghost use Rattle.std.specs.Prelude.{◌≡◌, fold, map, string_bytes, IfOk, IfSome};
+ghost use Rattle.std.specs.Prelude.{◌≡◌, codes, fold, map, string_bytes, IfOk, IfSome};
 ghost use Rattle.clap.specs.Matches.{first_value, found_of};
 ghost use Rattle.clap.specs.Simple.{app_of, new_app, with_rule};
-ghost use Rattle.p8_prop.specs.Commands.{command_of, said_to, raw_entry, run_entry, raw_of, run_of, run_as, run_arguments as arguments_of_runs, app_for, image_named, is_given as is_given_by};
+ghost use Rattle.p8_prop.specs.Commands.{command_of, said_to, build_entry, list_entry, raw_entry, run_entry, build_of, list_of, raw_of, run_of, run_as, run_named as run_by_name, operand as operand_named, run_arguments as arguments_of_runs, format_named as format_by_name, is_given as is_given_by};
 ghost use Rattle.p8_prop.specs.Naming.{name_of};
-ghost use Rattle.p8_prop.specs.Seen.{seen_if_any, IsWithin};
+ghost use Rattle.p8_prop.specs.Seen.{seen_if_any, seen_run, IsWithin, IsTaskWithin};
 
 use crate::arguments::{flag, matches_in, operand, option};
 use crate::numbers::number_in;
@@ -23,8 +23,67 @@ pub struct RunCommand<'a> {
     pub options: Options<'a>,
 }
 
+/// What is asked for.
+#[derive(Clone, Copy, Debug, PartialEq, Eq)]
+pub enum Task<'a> {
+    /// The image of a source.
+    Build { file: &'a str },
+    /// The listing of a source.
+    List { file: &'a str },
+    /// The trace of a run.
+    Run(RunCommand<'a>),
+}
+
 /// The greatest number of clocks of a run.
 const MOST_CLOCKS: u64 = 100_000_000;
+
+/// A command of this name that takes a file alone, as `clap` takes it.
+fn source_arguments<'a>(alloc: Global, name: &'a str) -> Result<Command<'a>, NoMemory>
+    ensures { IfOk result (λ command. app_of command ≡ with_rule (new_app name.now) (operand_named (codes "FILE"))) }
+{
+    let command = Command::new(alloc, name).arg(operand(alloc, "FILE"))?;
+    Ok(command)
+}
+
+/// The command `build` of the value of its argument.
+fn build_task<'a>(matches: &ArgMatches<'a>) -> Option<Task<'a>>
+    ensures seen { seen_if_any result ≡ build_of (first_value (found_of matches.now)) }
+    ensures within { IfSome result IsTaskWithin }
+{
+    let file = matches.get_str("FILE")?;
+    Some(Task::Build { file })
+}
+
+/// The command `build` that words say, or None where they say another thing.
+fn build_in<'a>(alloc: Global, words: &'a [String]) -> Result<Option<Task<'a>>, NoMemory>
+    ensures seen { IfOk result (λ task. seen_if_any task ≡ said_to build_entry (map string_bytes words.now)) }
+    ensures within { IfOk result (λ task. IfSome task IsTaskWithin) }
+{
+    match matches_in(source_arguments(alloc, "build")?, words)? {
+        None => Ok(None),
+        Some(matches) => Ok(build_task(&matches)),
+    }
+}
+
+/// The command `list` of the value of its argument.
+fn list_task<'a>(matches: &ArgMatches<'a>) -> Option<Task<'a>>
+    ensures seen { seen_if_any result ≡ list_of (first_value (found_of matches.now)) }
+    ensures within { IfSome result IsTaskWithin }
+{
+    let file = matches.get_str("FILE")?;
+    Some(Task::List { file })
+}
+
+/// The command `list` that words say, or None where they say another thing.
+fn list_in<'a>(alloc: Global, words: &'a [String]) -> Result<Option<Task<'a>>, NoMemory>
+    ensures seen { IfOk result (λ task. seen_if_any task ≡ said_to list_entry (map string_bytes words.now)) }
+    ensures within { IfOk result (λ task. IfSome task IsTaskWithin) }
+{
+    match matches_in(source_arguments(alloc, "list")?, words)? {
+        None => Ok(None),
+        Some(matches) => Ok(list_task(&matches)),
+    }
+}
 
 /// A command of this name with the arguments that every run has, as `clap` takes them.
 fn run_arguments<'a>(alloc: Global, name: &'a str) -> Result<Command<'a>, NoMemory>
@@ -46,7 +105,7 @@ fn run_of_file<'a>(
     file: Option<&'a str>,
     matches: &ArgMatches<'a>,
 ) -> Option<RunCommand<'a>>
-    ensures seen { seen_if_any result ≡ run_as format (name_of file.entry) (first_value (found_of matches.now)) }
+    ensures seen { seen_run result ≡ run_as format (name_of file.entry) (first_value (found_of matches.now)) }
     ensures within { IfSome result IsWithin }
 {
     let file = file?;
@@ -64,21 +123,22 @@ fn run_of_file<'a>(
 }
 
 /// The command `raw` of the values of its arguments, or None where one of them has another spelling.
-fn raw_command<'a>(matches: &ArgMatches<'a>) -> Option<RunCommand<'a>>
+fn raw_task<'a>(matches: &ArgMatches<'a>) -> Option<Task<'a>>
     ensures seen { seen_if_any result ≡ raw_of (first_value (found_of matches.now)) }
-    ensures within { IfSome result IsWithin }
+    ensures within { IfSome result IsTaskWithin }
 {
-    run_of_file(Format::Memory, matches.get_str("FILE"), matches)
+    let command = run_of_file(Format::Memory, matches.get_str("FILE"), matches)?;
+    Some(Task::Run(command))
 }
 
 /// The command `raw` that words say, or None where they say another thing.
-fn raw_in<'a>(alloc: Global, words: &'a [String]) -> Result<Option<RunCommand<'a>>, NoMemory>
-    ensures seen { IfOk result (λ command. seen_if_any command ≡ said_to raw_entry (map string_bytes words.now)) }
-    ensures within { IfOk result (λ command. IfSome command IsWithin) }
+fn raw_in<'a>(alloc: Global, words: &'a [String]) -> Result<Option<Task<'a>>, NoMemory>
+    ensures seen { IfOk result (λ task. seen_if_any task ≡ said_to raw_entry (map string_bytes words.now)) }
+    ensures within { IfOk result (λ task. IfSome task IsTaskWithin) }
 {
     match matches_in(run_arguments(alloc, "raw")?, words)? {
         None => Ok(None),
-        Some(matches) => Ok(raw_command(&matches)),
+        Some(matches) => Ok(raw_task(&matches)),
     }
 }
 
@@ -92,54 +152,62 @@ fn is_given(value: Option<&str>) -> bool
     }
 }
 
-/// The file of a run, where it is an image.
-fn image_in<'a>(file: Option<&'a str>) -> Option<&'a str>
-    ensures { name_of result ≡ image_named (name_of file.entry) }
+/// What a file to run is taken for, by its name.
+fn format_named(file: &str) -> Format
+    ensures { result ≡ format_by_name file.now }
 {
-    let name = file?;
-    if name.as_bytes().ends_with(b".binary") {
-        Some(name)
+    if file.as_bytes().ends_with(b".binary") {
+        Format::Image
     } else {
-        None
+        Format::Source
     }
 }
 
+/// A run of a file of that name, by the values of the arguments that every run has.
+fn run_named<'a>(matches: &ArgMatches<'a>) -> Option<Task<'a>>
+    ensures seen { seen_if_any result ≡ run_by_name (first_value (found_of matches.now) (codes "FILE")) (first_value (found_of matches.now)) }
+    ensures within { IfSome result IsTaskWithin }
+{
+    let file = matches.get_str("FILE")?;
+    let command = run_of_file(format_named(file), Some(file), matches)?;
+    Some(Task::Run(command))
+}
+
 /// The command `run` of the values of its arguments, or None where one of them has another spelling.
-fn run_command<'a>(matches: &ArgMatches<'a>) -> Option<RunCommand<'a>>
+fn run_task<'a>(matches: &ArgMatches<'a>) -> Option<Task<'a>>
     ensures seen { seen_if_any result ≡ run_of (first_value (found_of matches.now)) }
-    ensures within { IfSome result IsWithin }
+    ensures within { IfSome result IsTaskWithin }
 {
     if is_given(matches.get_str("alone")) {
-        run_of_file(Format::Image, image_in(matches.get_str("FILE")), matches)
+        run_named(matches)
     } else {
         None
     }
 }
 
 /// The command `run` that words say, or None where they say another thing.
-fn run_in<'a>(alloc: Global, words: &'a [String]) -> Result<Option<RunCommand<'a>>, NoMemory>
-    ensures seen { IfOk result (λ command. seen_if_any command ≡ said_to run_entry (map string_bytes words.now)) }
-    ensures within { IfOk result (λ command. IfSome command IsWithin) }
+fn run_in<'a>(alloc: Global, words: &'a [String]) -> Result<Option<Task<'a>>, NoMemory>
+    ensures seen { IfOk result (λ task. seen_if_any task ≡ said_to run_entry (map string_bytes words.now)) }
+    ensures within { IfOk result (λ task. IfSome task IsTaskWithin) }
 {
     let command = run_arguments(alloc, "run")?.arg(flag(alloc, "alone"))?;
     match matches_in(command, words)? {
         None => Ok(None),
-        Some(matches) => Ok(run_command(&matches)),
+        Some(matches) => Ok(run_task(&matches)),
     }
 }
 
-/// The command that the words say, or None where they are no command. The first word chooses the command.
-pub fn command_in<'a>(
-    alloc: Global,
-    words: &'a [String],
-) -> Result<Option<RunCommand<'a>>, NoMemory>
-    ensures seen { IfOk result (λ command. seen_if_any command ≡ command_of (map string_bytes words.now)) }
-    ensures within { IfOk result (λ command. IfSome command IsWithin) }
+/// What the words ask for, or None where they are no command. The first word chooses the command.
+pub fn task_in<'a>(alloc: Global, words: &'a [String]) -> Result<Option<Task<'a>>, NoMemory>
+    ensures seen { IfOk result (λ task. seen_if_any task ≡ command_of (map string_bytes words.now)) }
+    ensures within { IfOk result (λ task. IfSome task IsTaskWithin) }
 {
     let [word, ..] = words else {
         return Ok(None);
     };
     match word.as_str() {
+        "build" => build_in(alloc, words),
+        "list" => list_in(alloc, words),
         "raw" => raw_in(alloc, words),
         "run" => run_in(alloc, words),
         _ => Ok(None),

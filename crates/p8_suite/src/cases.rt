@@ -1,6 +1,7 @@
 // The line of a case.
 use crate::dats::DatBlocks;
 use crate::names::Names;
+use crate::projects::{Command, Unbuilt, Written};
 use crate::runs::Run;
 use crate::sources::Source;
 use crate::stops::Stopped;
@@ -21,10 +22,15 @@ pub enum Case<'a> {
     /// `dat FILE START VERDICT`: a top file without objects, and what assembling its DAT at an offset answers.
     Dat(DatBlocks<'a>),
     /// `run IMAGE TRACE CLOCKS TURNS PINS DUMP`: a file as hub memory, and its trace; `spin` with the same words: an
-    /// image of compiled Spin.
+    /// image of compiled Spin; `made`: a project, whose image runs, with its pin script among its files.
     Run(Run<'a>),
     /// `stops IMAGE PINS LINE`: an image that can't be run, and the line that tells why, without the program's name.
     Stopped(Stopped<'a>),
+    /// `build PROJECT IMAGE`: a project of sources, whose files stand in one file, and its image; `list PROJECT LISTING`: and its
+    /// listing.
+    Written(Written<'a>),
+    /// `refused PROJECT LINE`: a project that isn't built, and the line that tells why, without the program's name.
+    Unbuilt(Unbuilt<'a>),
     /// `text LONG TEXT`: a long and its text as an instruction.
     Text(Printed<'a>),
 }
@@ -46,6 +52,10 @@ impl<'a> Case<'a> {
             "dat" => Ok(Case::Dat(DatBlocks::of_words(rest)?)),
             "run" => Ok(Case::Run(Run::of_words(Format::Memory, rest)?)),
             "spin" => Ok(Case::Run(Run::of_words(Format::Image, rest)?)),
+            "made" => Ok(Case::Run(Run::of_words(Format::Source, rest)?)),
+            "build" => Ok(Case::Written(Written::of_words(Command::Build, rest)?)),
+            "list" => Ok(Case::Written(Written::of_words(Command::List, rest)?)),
+            "refused" => Ok(Case::Unbuilt(Unbuilt::of_words(rest)?)),
             "stops" => Ok(Case::Stopped(Stopped::of_words(rest)?)),
             "text" => Ok(Case::Text(Printed::of_words(rest)?)),
             _ => Err(anyhow!("a case of no kind: {kind}")),

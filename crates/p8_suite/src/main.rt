@@ -7,6 +7,7 @@
 mod cases;
 mod dats;
 mod names;
+mod projects;
 mod runs;
 mod sources;
 mod stops;
@@ -43,6 +44,8 @@ fn agrees<R: Files + Alloc<A = Global>>(rt: &R, case: &Case) -> anyhow::Result<b
         Case::Dat(dat) => dat.agrees(rt),
         Case::Run(run) => run.agrees(rt),
         Case::Stopped(stopped) => stopped.agrees(rt),
+        Case::Written(written) => written.agrees(rt),
+        Case::Unbuilt(unbuilt) => unbuilt.agrees(rt),
         Case::Text(text) => text.agrees(rt.alloc()),
     }
 }
@@ -54,6 +57,7 @@ fn suite(rt: &HostRuntime) -> anyhow::Result<bool> {
     let mut dats = Tally { agreed: 0, all: 0 };
     let mut runs = Tally { agreed: 0, all: 0 };
     let mut stops = Tally { agreed: 0, all: 0 };
+    let mut projects = Tally { agreed: 0, all: 0 };
     let mut texts = Tally { agreed: 0, all: 0 };
     let lines = fs::read_to_string(rt, "cases.txt")?;
     for line in lines.lines() {
@@ -69,6 +73,7 @@ fn suite(rt: &HostRuntime) -> anyhow::Result<bool> {
             Case::Dat(_) => dats.count(agrees),
             Case::Run(_) => runs.count(agrees),
             Case::Stopped(_) => stops.count(agrees),
+            Case::Written(_) | Case::Unbuilt(_) => projects.count(agrees),
             Case::Text(_) => texts.count(agrees),
         }
     }
@@ -78,6 +83,7 @@ fn suite(rt: &HostRuntime) -> anyhow::Result<bool> {
     println!(rt; "dats: {} of {} agree", dats.agreed, dats.all)?;
     println!(rt; "runs: {} of {} agree", runs.agreed, runs.all)?;
     println!(rt; "stops: {} of {} agree", stops.agreed, stops.all)?;
+    println!(rt; "projects: {} of {} agree", projects.agreed, projects.all)?;
     println!(rt; "texts: {} of {} agree", texts.agreed, texts.all)?;
     Ok(
         sources.agreed == sources.all
@@ -86,6 +92,7 @@ fn suite(rt: &HostRuntime) -> anyhow::Result<bool> {
             && dats.agreed == dats.all
             && runs.agreed == runs.all
             && stops.agreed == stops.all
+            && projects.agreed == projects.all
             && texts.agreed == texts.all,
     )
 }

@@ -2,9 +2,10 @@
 ghost use Rattle.std.specs.Prelude.{IfOk};
 ghost use Rattle.p8_access.specs.Proper.{IsProperOrigin};
 
+use crate::projects::shelved;
 use anyhow::anyhow;
 use p8_inputs::{Format, Inputs, Program, read_inputs};
-use p8_io::FileShelf;
+use p8_io::{FileShelf, Shelf};
 use p8_machine::{Ended, Limits, run_alone};
 use p8_report::trace;
 use std::alloc::Global;
@@ -46,6 +47,21 @@ fn dump(word: &str) -> anyhow::Result<Option<(u16, u16)>> {
     Ok(Some((address.parse()?, count.parse()?)))
 }
 
+/// What the run of a program begins with, from a shelf.
+fn inputs_in<S: Shelf>(
+    alloc: Global,
+    program: Program<'_>,
+    pins: &str,
+    shelf: &mut S,
+) -> anyhow::Result<Inputs>
+    ensures { IfOk result (λ inputs. IsProperOrigin inputs.boot.first) }
+{
+    match read_inputs(alloc, program, named(pins), shelf) {
+        Ok(inputs) => Ok(inputs),
+        Err(_) => Err(anyhow!("there is nothing to run")),
+    }
+}
+
 impl<'a> Run<'a> {
     /// The run of a case's words.
     pub fn of_words(format: Format, words: &'a str) -> anyhow::Result<Run<'a>> {
@@ -66,14 +82,22 @@ impl<'a> Run<'a> {
         })
     }
 
-    /// What the run begins with.
+    /// What the run begins with, from the files of the suite, or where it is of a source from those of its project.
     fn inputs<R: Files + Alloc<A = Global>>(&self, rt: &R) -> anyhow::Result<Inputs>
         ensures { IfOk result (λ inputs. IsProperOrigin inputs.boot.first) }
     {
-        let mut shelf = FileShelf::new(rt);
-        match read_inputs(rt.alloc(), self.program, named(self.pins), &mut shelf) {
-            Ok(inputs) => Ok(inputs),
-            Err(_) => Err(anyhow!("there is nothing to run")),
+        match self.program.format {
+            Format::Source => {
+                let mut project = shelved(rt, self.program.file)?;
+                let program = Program {
+                    file: &project.top,
+                    format: Format::Source,
+                };
+                inputs_in(rt.alloc(), program, self.pins, &mut project.shelf)
+            }
+            Format::Memory | Format::Image => {
+                inputs_in(rt.alloc(), self.program, self.pins, &mut FileShelf::new(rt))
+            }
         }
     }
 

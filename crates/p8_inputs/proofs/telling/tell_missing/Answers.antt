@@ -8,5 +8,4 @@ joined file = ap (λ (rest : List ℕ). codes "prop: " ++ rest) (sym (append_ass
 
 pub returns-clause-wrote : goal.returns-clause-wrote
 returns-clause-wrote g c =
-    let written = subst (λ (bytes : List ℕ). Wrote (g.E.Sink.faults c.args.faults.now) (g.E.Sink.faults c.write_pieces.new.sink) (g.E.Sink.taken c.args.faults.now) (g.E.Sink.taken c.write_pieces.new.sink) (codes "prop: " ++ (bytes ++ (codes " is missing" ++ 10 ∷ [])))) c.as_bytes.ensures.value c.write_pieces.ensures.wrote in
-    subst (λ (line : List ℕ). Wrote (g.E.Sink.faults c.args.faults.now) (g.E.Sink.faults c.write_pieces.new.sink) (g.E.Sink.taken c.args.faults.now) (g.E.Sink.taken c.write_pieces.new.sink) line) (joined c.args.file.now) written
+    subst (λ (line : List ℕ). Wrote (g.E.Sink.faults c.args.faults.now) (g.E.Sink.faults c.write_pieces.new.sink) (g.E.Sink.taken c.args.faults.now) (g.E.Sink.taken c.write_pieces.new.sink) line) (joined c.args.file.now) c.write_pieces.ensures.wrote

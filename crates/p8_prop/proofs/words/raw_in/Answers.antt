@@ -9,5 +9,5 @@ returns-in-None-clause-seen c =
 
 pub returns-in-Some-clause-seen : goal.returns-in-Some-clause-seen
 returns-in-Some-clause-seen c =
-    c.raw_command.ensures.seen
+    c.raw_task.ensures.seen
     ∙ sym (command-said raw_entry _ (map string_bytes c.args.words.now) c.in_ok-matches_in.field-0 c.in-Some.matches c.in_ok-run_arguments.ensures c.in_ok-matches_in.ensures c.in-Some.is)

@@ -12,5 +12,5 @@ returns-in-None-clause-seen c =
 pub returns-in-Some-clause-seen : goal.returns-in-Some-clause-seen
 returns-in-Some-clause-seen c =
     let taken = c.in_ok-command.ensures.shape c.flag.ensures.local ∙ ap₂ with_rule c.in_ok-run_arguments.ensures c.flag.ensures.rule in
-    c.run_command.ensures.seen
+    c.run_task.ensures.seen
     ∙ sym (command-said run_entry _ (map string_bytes c.args.words.now) c.in_ok-matches_in.field-0 c.in-Some.matches taken c.in_ok-matches_in.ensures c.in-Some.is)

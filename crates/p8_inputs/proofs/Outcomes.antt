@@ -1,0 +1,71 @@
+-- A source on a shelf that tells its files has one outcome.
+use Rattle.std.proofs.Common.{◌≡◌, ℕ, List, Option, Some, subst}
+use Rattle.p8_tree.specs.declared.places.Place.{Place}
+use Rattle.p8_tree.specs.Projects.{NamedSource}
+use Rattle.p8_faults.specs.declared.faults.Fault.{Fault}
+use Rattle.p8_faults.specs.Faults.{fault}
+use Rattle.p8_image.specs.declared.clocks.Clock.{Clock}
+use Rattle.p8_image.specs.declared.parts.ObjectPart.{ObjectPart}
+use Rattle.p8_objects.specs.Outcomes.{Outcome, project, refused, missing, shelved, Gathers}
+use Rattle.p8_objects.specs.Whole.{IsOfFiles}
+use Rattle.p8_objects.proofs.Wholes.{whole_project}
+use Rattle.p8_children.specs.Mentions as seen
+use Rattle.p8_build.specs.Builds.{IsBuilt, IsRefusedWith}
+use Rattle.p8_inputs.specs.Sources.{GathersTo, IsBuiltFrom, IsRefusedFrom, while_gathered, when_built, HasOneOutcome}
+use Rattle.p8_inputs.proofs.Gathering.{distinct, mentioned, no_ring}
+
+same-project : {a b : List NamedSource} → project a ≡ project b → a ≡ b
+same-project e = cc
+
+project-not_missing : {a : List NamedSource} {name : List ℕ} → project a ≡ missing name → ⊥
+project-not_missing e = cc
+
+project-not_refused : {a : List NamedSource} {name : List ℕ} {number : ℕ} {place : Place} → project a ≡ refused name number place → ⊥
+project-not_refused e = cc
+
+missing-not_refused : {a name : List ℕ} {number : ℕ} {place : Place} → missing a ≡ refused name number place → ⊥
+missing-not_refused e = cc
+
+-- what gathering comes to is one thing
+abbrev pub OneGathered : Type 0
+OneGathered = (files : List ℕ → Option (List ℕ)) (before now : ℕ) (top : List ℕ) (a b : Outcome) → Gathers (shelved (Some files) before now) top a → Gathers (shelved (Some files) before now) top b → IsOfFiles a → IsOfFiles b → a ≡ b
+
+-- what building comes to is one thing
+abbrev pub OneBuilt : Type 0
+OneBuilt = (files : List NamedSource) → seen.AreDistinct files → seen.HaveMentioned files → seen.HaveNoRing files → (c d : Clock) (a b : List ObjectPart) → IsBuilt files c a → IsBuilt files d b → (c ≡ d) × (a ≡ b)
+
+abbrev pub BuiltOrRefused : Type 0
+BuiltOrRefused = (files : List NamedSource) → seen.AreDistinct files → seen.HaveMentioned files → seen.HaveNoRing files → (c : Clock) (a : List ObjectPart) (name : List ℕ) (f : Fault) → IsBuilt files c a → IsRefusedWith files name f → ⊥
+
+module _ (one : OneGathered) (same : OneBuilt) (either : BuiltOrRefused) (files : List ℕ → Option (List ℕ)) where
+  one-project : (top : List ℕ) (a b : List NamedSource) → GathersTo (Some files) top (project a) → GathersTo (Some files) top (project b) → a ≡ b
+  one-project top a b g h = same-project (one files 0 0 top (project a) (project b) (g 0 0) (h 0 0) tt tt)
+
+  one-image : (top : List ℕ) (some others : List NamedSource) (clock other : Clock) (objects parts : List ObjectPart) → IsBuiltFrom (Some files) top some clock objects → IsBuiltFrom (Some files) top others other parts → (some ≡ others) × (clock ≡ other) × (objects ≡ parts)
+  one-image top some others clock other objects parts g h =
+      let e : some ≡ others = one-project top some others g.gathered h.gathered in
+      let whole = whole_project (h.gathered 0 0) in
+      let is = same others (distinct others whole.distinct) (mentioned others whole.mentioned) (no_ring others whole.no_ring) clock other objects parts (subst (λ s. IsBuilt s clock objects) e g.built) h.built in
+      (e, is.0, is.1)
+
+  not-refused : (top name : List ℕ) (number : ℕ) (place : Place) (sources : List NamedSource) (clock : Clock) (objects : List ObjectPart) → IsBuiltFrom (Some files) top sources clock objects → IsRefusedFrom (Some files) top name number place → ⊥
+  not-refused top name number place sources clock objects g (while_gathered h) =
+      project-not_refused (one files 0 0 top (project sources) (refused name number place) (g.gathered 0 0) (h 0 0) tt tt)
+  not-refused top name number place sources clock objects g (when_built others h refusal) =
+      let e : others ≡ sources = one-project top others sources h g.gathered in
+      let whole = whole_project (g.gathered 0 0) in
+      either sources (distinct sources whole.distinct) (mentioned sources whole.mentioned) (no_ring sources whole.no_ring) clock objects name (fault number place) g.built (subst (λ s. IsRefusedWith s name (fault number place)) e refusal)
+
+  missing-or-refused : (before now : ℕ) (top name other : List ℕ) (number : ℕ) (place : Place) → Gathers (shelved (Some files) before now) top (missing name) → IsRefusedFrom (Some files) top other number place → ⊥
+  missing-or-refused before now top name other number place g (while_gathered h) =
+      missing-not_refused (one files before now top (missing name) (refused other number place) g (h before now) tt tt)
+  missing-or-refused before now top name other number place g (when_built sources h refusal) =
+      project-not_missing (one files before now top (project sources) (missing name) (h before now) g tt tt)
+
+  pub one-outcome : HasOneOutcome files
+  one-outcome = record {
+    one_image = one-image;
+    not_missing = λ before now top name sources clock objects g h. project-not_missing (one files before now top (project sources) (missing name) (g.gathered before now) h tt tt);
+    not_refused = not-refused;
+    missing_or_refused = missing-or-refused;
+  }

@@ -1,0 +1,5 @@
+use Rattle.p8_inputs.proofs.Outcomes.{one-outcome}
+use Rattle.p8_inputs.proofs.laws.one_source.Goals as goal
+
+pub returns : goal.returns
+returns c = one-outcome c.one_outcome.ensures c.one_build.ensures.same c.one_build.ensures.never_both

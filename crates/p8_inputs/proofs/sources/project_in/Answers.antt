@@ -1,0 +1,23 @@
+use Rattle.std.proofs.Common.{subst}
+use Rattle.p8_tree.specs.Views.{named_sources_of}
+use Rattle.p8_objects.specs.Outcomes.{shelved, Answers}
+use Rattle.p8_inputs.proofs.Gathering.{project-gathered, some}
+use Rattle.p8_inputs.proofs.sources.project_in.Goals as goal
+
+pub returns-in-Ok-clause-project : goal.returns-in-Ok-clause-project
+returns-in-Ok-clause-project g c =
+    let before = g.S.Shelf.faults c.args.shelf.now in
+    let now = g.S.Shelf.faults c.gather.new.shelf in
+    let files = g.S.Shelf.files c.args.shelf.now in
+    let answers = subst (λ r. Answers (shelved files before now) c.args.file.now r) c.in-Ok.is c.gather.ensures.answers in
+    record {
+      gathered = project-gathered files before now c.args.file.now (named_sources_of c.in-Ok.project) answers;
+      whole = record { some = some (named_sources_of c.in-Ok.project) c.args.file.now c.in-Ok.ensures.first; few = c.in-Ok.ensures.few; mentioned = c.in-Ok.ensures.mentioned; no_ring = c.in-Ok.ensures.no_ring; proper = c.in-Ok.ensures.proper };
+    }
+
+pub returns-in-Err-clause-stopped : goal.returns-in-Err-clause-stopped
+returns-in-Err-clause-stopped g c =
+    let before = g.S.Shelf.faults c.args.shelf.now in
+    let now = g.S.Shelf.faults c.gather.new.shelf in
+    let files = g.S.Shelf.files c.args.shelf.now in
+    c.stop_of_gathering.ensures files before now c.args.file.now (subst (λ r. Answers (shelved files before now) c.args.file.now r) c.in-Err.is c.gather.ensures.answers)

@@ -1,0 +1,41 @@
+-- internal
+-- What is known of a project that was gathered from a shelf, and why there is none, or no image of it.
+use Rattle.std.specs.Prelude.{ℕ, ◌≡◌, ◌<◌, ◌≤◌, List, length, map}
+use Rattle.p8_tree.specs.Projects.{NamedSource}
+use Rattle.p8_tree.specs.Proper.{IsProperFile}
+use Rattle.p8_faults.specs.Faults.{fault}
+use Rattle.p8_image.specs.declared.clocks.Clock.{Clock}
+use Rattle.p8_image.specs.declared.parts.ObjectPart.{ObjectPart}
+use Rattle.p8_io.specs.Shelves.{Files}
+use Rattle.p8_objects.specs.Outcomes.{project}
+use Rattle.p8_objects.specs.Projects.{most_files}
+use Rattle.p8_objects.specs.Whole.{HaveMentioned, HaveNoRing, EachTree}
+use Rattle.p8_build.specs.Builds.{IsBuilt, IsRefusedWith}
+use Rattle.p8_texts.specs.Listing.{listing_of}
+use Rattle.p8_inputs.specs.Sources.{GathersTo}
+use Rattle.p8_inputs.specs.declared.stop.Stop.{Stop}
+use Rattle.p8_inputs.specs.declared.stop.Stop.TheVariants as stop
+
+-- what is so of each project
+pub record IsWhole (sources : List NamedSource) : Type 0 where
+  pub some : 0 < length sources
+  pub few : length sources ≤ most_files
+  pub mentioned : HaveMentioned sources
+  pub no_ring : HaveNoRing sources
+  pub proper : EachTree IsProperFile sources
+
+-- these files are the project of a top file
+pub record IsProject (files : Files) (top : List ℕ) (sources : List NamedSource) : Type 0 where
+  pub gathered : GathersTo files top (project sources)
+  pub whole : IsWhole sources
+
+-- this text is the listing of a project
+abbrev pub IsListingOf : List NamedSource → List ℕ → Type 0
+IsListingOf sources text =
+    (clock : Clock) × (objects : List ObjectPart) × IsBuilt sources clock objects × (text ≡ listing_of (map (λ source. source.name) sources) objects)
+
+-- why a project isn't built
+abbrev pub StopsAtBuilding : List NamedSource → Stop → Type 0
+StopsAtBuilding sources (stop.Refused name number place) = IsRefusedWith sources name (fault number place)
+StopsAtBuilding sources stop.NoMemory = Unit {0}
+StopsAtBuilding sources _ = ⊥
