@@ -24,7 +24,7 @@ pub struct RunCommand<'a> {
 }
 
 /// What is asked for.
-#[derive(Clone, Copy, Debug, PartialEq, Eq)]
+#[derive(Clone, Copy)]
 pub enum Task<'a> {
     /// The image of a source.
     Build { file: &'a str },
