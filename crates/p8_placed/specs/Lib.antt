@@ -1,0 +1,3 @@
+-- A project as its source's meaning reads it, and where its image has it.
+pub mod Programs
+pub mod Agreements

@@ -1,0 +1,6 @@
+//! That the memory of a project's image has the project's methods. The definitions stand in specs/.
+#![tactic(auto)]
+
+mod laws;
+
+pub use laws::images_have_their_methods;
