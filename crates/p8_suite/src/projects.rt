@@ -38,14 +38,14 @@ pub struct Unbuilt<'a> {
 
 /// A project on a shelf.
 #[derive(Drop)]
-pub struct Shelved {
+pub struct OnShelf {
     /// The name of its top file.
     pub top: String,
     pub shelf: MemShelf,
 }
 
 /// The project of a file that holds its files: each stands behind a line with a mark and its name, the top file first.
-pub fn shelved<R: Files + Alloc<A = Global>>(rt: &R, project: &str) -> anyhow::Result<Shelved> {
+pub fn shelved<R: Files + Alloc<A = Global>>(rt: &R, project: &str) -> anyhow::Result<OnShelf> {
     let alloc = rt.alloc();
     let text = fs::read_to_string(rt, project)?;
     let mut shelf = MemShelf::new(alloc);
@@ -60,7 +60,7 @@ pub fn shelved<R: Files + Alloc<A = Global>>(rt: &R, project: &str) -> anyhow::R
         }
     }
     match top {
-        Some(top) => Ok(Shelved { top, shelf }),
+        Some(top) => Ok(OnShelf { top, shelf }),
         None => Err(anyhow!("a project without files")),
     }
 }
