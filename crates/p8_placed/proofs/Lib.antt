@@ -28,5 +28,8 @@ mod Environments
 mod Publics
 mod Rooms
 mod Sounds
+mod RoomsWays
+mod RoomsGlobals
 mod Agreeing
 mod Whole
+mod Labelled

@@ -111,7 +111,7 @@ named-by false name f files same others =
     let next : suc (number_of files name) ≡ 1 + number_of files name = omega arith in
     subst (λ j. IsNamed (f ∷ files) j name) next (record { file = h.file; stands = h.stands; named = h.named })
 
-number-named : (files : List NamedSource) (j : ℕ) (name : List ℕ) → IsNamed files j name → IsNamed files (number_of files name) name
+pub number-named : (files : List NamedSource) (j : ℕ) (name : List ℕ) → IsNamed files j name → IsNamed files (number_of files name) name
 number-named [] j name h = absurd (none-some h.file h.stands)
 number-named (f ∷ files) zero name h =
     let same : name ≡ f.name = sym h.named ∙ ap (λ (g : NamedSource). g.name) (sym (same_Some f h.file h.stands)) in

@@ -2,7 +2,7 @@
 ghost use Rattle.std.specs.Prelude.{◌≡◌, ◌<◌, ℕ, length, List};
 ghost use Rattle.p8_tree.specs.Projects.{NamedSource};
 ghost use Rattle.p8_kinds.specs.declared.children.Children.{Children};
-ghost use Rattle.p8_children.specs.Mentions.{AreDistinct, HaveMentioned};
+ghost use Rattle.p8_children.specs.Mentions.{AreDistinct, HaveMentioned, HaveNoRing};
 ghost use Rattle.p8_children.specs.Children.{AreChildren};
 ghost use Rattle.p8_history.specs.Worlds.{World};
 ghost use Rattle.p8_image.specs.declared.clocks.Clock.{Clock as ClockOf};
@@ -15,7 +15,6 @@ ghost use Rattle.p8_build.specs.Files.{CompiledFile};
 ghost use Rattle.p8_build.specs.Builds.{AreCompiled, objects_of};
 ghost use Rattle.p8_told_lives.specs.Told.{IsWorldOf};
 ghost use Rattle.p8_placed.specs.Programs.{program_of, addresses_of};
-ghost use Rattle.p8_placed.specs.Agreements.{NamesHaveRoom};
 
 use p8_image::{image_loads, parts_stand};
 
@@ -23,9 +22,9 @@ use p8_image::{image_loads, parts_stand};
 /// method of its top file.
 ///
 /// The files are those of a project with the top file first, each one read, under names of their own, and the file of each object among
-/// them. The variables and labels that a method may name are to stand within the 15 bits that code has for them (`NamesHaveRoom`).
+/// them, and none leads back to itself through its objects.
 pub fn images_have_their_methods()
-    ensures { (files : List NamedSource) → (children : List Children) → (xs : List CompiledFile) → (clock : ClockOf) → AreProper files → 0 < length files → AreDistinct files → HaveMentioned files → AreChildren files children → AreCompiled files children xs → FitsHub (header_by (objects_of files children xs)) → NamesHaveRoom files children xs → (w : World) → w.memory ≡ memory_of (image_of clock (objects_of files children xs)) → w.first ≡ start_of (header_of (image_of clock (objects_of files children xs))) → IsWorldOf (program_of files children xs) (addresses_of files xs (objects_of files children xs)) w }
+    ensures { (files : List NamedSource) → (children : List Children) → (xs : List CompiledFile) → (clock : ClockOf) → AreProper files → 0 < length files → AreDistinct files → HaveMentioned files → HaveNoRing files → AreChildren files children → AreCompiled files children xs → FitsHub (header_by (objects_of files children xs)) → (w : World) → w.memory ≡ memory_of (image_of clock (objects_of files children xs)) → w.first ≡ start_of (header_of (image_of clock (objects_of files children xs))) → IsWorldOf (program_of files children xs) (addresses_of files xs (objects_of files children xs)) w }
 {
     image_loads();
     parts_stand();
