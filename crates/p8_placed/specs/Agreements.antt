@@ -1,3 +1,4 @@
+-- internal
 -- The names of a project's methods, as their code was made, and what of them has room in code.
 use Rattle.std.specs.Prelude.{◌≡◌, ◌<◌, ◌^◌, ℕ, List, slice_get, slice_index, Some}
 use Rattle.p8_tree.specs.Sources.{MethodTree}

@@ -1,3 +1,4 @@
 -- A project as its source's meaning reads it, and where its image has it.
 pub mod Programs
+-- Machinery that only proofs need.
 pub mod Agreements
