@@ -11,7 +11,7 @@ import time
 from concurrent.futures import FIRST_COMPLETED, ThreadPoolExecutor, wait
 
 ROOT = os.path.dirname(os.path.dirname(os.path.realpath(__file__)))
-PROGRAM = "p8_prop"
+PROGRAM = "p8_main"
 USAGE = "prop: usage: "
 FAILED = 70
 

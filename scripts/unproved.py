@@ -134,7 +134,7 @@ def main(words):
     with tempfile.TemporaryFile() as out, tempfile.TemporaryFile() as faults:
         subprocess.run(
             command,
-            cwd=os.path.join(ROOT, "crates", "p8_prop"),
+            cwd=os.path.join(ROOT, "crates", "p8_main"),
             stdin=subprocess.DEVNULL,
             stdout=out,
             stderr=faults,

@@ -9,14 +9,17 @@ use Rattle.p8_objects.specs.Outcomes.{project}
 use Rattle.p8_inputs.specs.declared.program.Format.TheVariants.{Source}
 use Rattle.p8_inputs.specs.declared.stop.Stop.{Stop}
 use Rattle.p8_inputs.specs.declared.stop.Stop.TheVariants.{Unread, Missing, NoMemory, Refused, BadProgram, BadScript}
+use Rattle.p8_objects.specs.Whole.{EachTree}
+use Rattle.p8_tree.specs.Proper.{IsProperFile}
 use Rattle.p8_build.specs.Told.{IsImageOf}
 use Rattle.p8_inputs.specs.Gathered.{StopsAtBuilding, IsListingOf}
+use Rattle.p8_inputs.specs.Runs.{HasProperTrees}
 use Rattle.p8_inputs.specs.Sources.{GathersTo, IsImageFrom, IsListingFrom, when_built}
 use Rattle.p8_inputs.specs.Steps.{StopsAtProgram}
 
 module _ (files : Files) (top : List ℕ) (sources : List NamedSource) (gathered : GathersTo files top (project sources)) where
-  pub image-from : (bytes : List ℕ) → IsImageOf sources bytes → IsImageFrom files top bytes
-  image-from bytes is = (sources, is.clock, is.objects, record { gathered = gathered; built = is.built }, is.is)
+  pub image-from : EachTree IsProperFile sources → (bytes : List ℕ) → IsImageOf sources bytes → HasProperTrees files Source top bytes
+  image-from proper bytes is = (sources, is.clock, is.objects, record { gathered = gathered; built = is.built }, λ i f stands. proper i f (record { is = stands }), is.is)
 
   pub listing-from : (text : List ℕ) → IsListingOf sources text → IsListingFrom files top text
   listing-from text is = (sources, is.0, is.1, record { gathered = gathered; built = is.2 }, is.3)
@@ -28,6 +31,10 @@ module _ (files : Files) (top : List ℕ) (sources : List NamedSource) (gathered
   building-stops before now (Missing name) stops = absurd stops
   building-stops before now (BadProgram name fault) stops = absurd stops
   building-stops before now (BadScript name line) stops = absurd stops
+
+-- the image of proper trees is an image of the project
+pub image-of-project : (files : Files) (top bytes : List ℕ) → HasProperTrees files Source top bytes → IsImageFrom files top bytes
+image-of-project files top bytes is = (is.0, is.1, is.2, is.3, is.5)
 
 -- the names of a project's files
 pub same-names : (files : List ProjectFile) → map (λ (source : NamedSource). source.name) (map named_source_of files) ≡ map (λ (file : ProjectFile). file.name) files

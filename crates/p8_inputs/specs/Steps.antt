@@ -10,11 +10,13 @@ use Rattle.p8_inputs.specs.declared.stop.Stop.{Stop}
 use Rattle.p8_inputs.specs.declared.stop.Stop.TheVariants.{Unread, Missing, NoMemory, Refused, BadProgram, BadScript}
 use Rattle.p8_inputs.specs.Inputs.{IsProgram, IsProgramMissing, IsProgramUnread, HasRefusal, HasFault}
 use Rattle.p8_inputs.specs.Programs.{memory_by, first_by}
+use Rattle.p8_inputs.specs.Runs.{HasProperTrees}
 
 -- this boot is that of what is run
 abbrev pub IsBootOf : Files → Format → (file : List ℕ) → Boot → Type 0
 IsBootOf files format file boot =
-    (bytes : List ℕ) × IsProgram files format file bytes × (boot.ram ≡ memory_by format bytes) × (boot.first ≡ first_by format bytes)
+    (bytes : List ℕ) × IsProgram files format file bytes × HasProperTrees files format file bytes
+    × (boot.ram ≡ memory_by format bytes) × (boot.first ≡ first_by format bytes)
 
 -- why a file gives no bytes
 abbrev pub StopsAtFile : Files → (before now : ℕ) → (file : List ℕ) → Stop → Type 0

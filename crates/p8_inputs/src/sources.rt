@@ -6,6 +6,7 @@ ghost use Rattle.p8_io.specs.Shelves.{Files};
 ghost use Rattle.p8_objects.specs.Outcomes.{shelved, Answers};
 ghost use Rattle.p8_build.specs.Told.{IsImageOf, IsRefusal};
 ghost use Rattle.p8_inputs.specs.Gathered.{IsProject, IsWhole, IsListingOf, StopsAtBuilding};
+ghost use Rattle.p8_inputs.specs.Runs.{HasProperTrees};
 ghost use Rattle.p8_inputs.specs.Sources.{IsImageFrom, IsListingFrom};
 ghost use Rattle.p8_inputs.specs.Steps.{StopsAtProgram};
 ghost use Rattle.p8_inputs.specs.Stops.{Stops};
@@ -111,7 +112,7 @@ fn listing_of_project(alloc: Global, project: &Project) -> Result<Vec<u8>, Stop>
 
 /// The image of the project of a top file.
 pub(crate) fn image_in<S: Shelf>(alloc: Global, file: &str, shelf: &mut S) -> Result<Image, Stop>
-    ensures image { IfOk result (IsImageFrom (S.files shelf.old) file.now) }
+    ensures image { IfOk result (HasProperTrees (S.files shelf.old) Source file.now) }
     ensures stopped { IfErr result (StopsAtProgram (S.files shelf.old) (S.faults shelf.old) (S.faults shelf.new) Source file.now) }
     ensures later { S.faults shelf.old ≤ S.faults shelf.new }
     ensures kept { S.files shelf.new ≡ S.files shelf.old }
@@ -144,6 +145,7 @@ fn listing_in<S: Shelf>(alloc: Global, file: &str, shelf: &mut S) -> Result<Vec<
 /// The shelf's files stay as they were, and its count never falls.
 pub fn image_of_source<S: Shelf>(alloc: Global, file: &str, shelf: &mut S) -> Result<Image, Stop>
     ensures image { IfOk result (IsImageFrom (S.files shelf.old) file.now) }
+    ensures trees { IfOk result (HasProperTrees (S.files shelf.old) Source file.now) }
     ensures stopped { IfErr result (Stops (S.files shelf.old) (S.faults shelf.old) (S.faults shelf.new) Source file.now None) }
     ensures later { S.faults shelf.old ≤ S.faults shelf.new }
     ensures kept { S.files shelf.new ≡ S.files shelf.old }

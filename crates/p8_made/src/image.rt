@@ -1,5 +1,5 @@
 // The memory with which a made program begins.
-ghost use Rattle.std.specs.Prelude.{◌≡◌, ◌+◌, ◌*◌, ◌++◌, ◌∷◌, [], ℕ, map, flat_map, IfOk, OnOk};
+ghost use Rattle.std.specs.Prelude.{◌≡◌, ◌+◌, ◌*◌, ◌++◌, ◌∷◌, [], ℕ, length, map, flat_map, IfOk, OnOk};
 ghost use Rattle.std.specs.Int.{to_le_bytes, w32};
 ghost use Rattle.std.specs.List.{range_with_len};
 ghost use Rattle.p8_instr.specs.Instruction.{long_of};
@@ -97,7 +97,8 @@ fn push_bytes(bytes: &mut Vec<u8>, mut longs: &[u32]) -> Result<(), NoMemory>
 /// Cog 0 starts all eight cogs with the same 400 instructions, which the seed chooses: each reads or writes one of 16
 /// longs of the hub, or works on the 16 registers of its cog. The only error is want of memory.
 pub fn made_image(alloc: Global, seed: u32) -> Result<Vec<u8>, NoMemory>
-    ensures { IfOk result (λ bytes. bytes.items ≡ made_bytes seed) }
+    ensures bytes { IfOk result (λ bytes. bytes.items ≡ made_bytes seed) }
+    ensures length { IfOk result (λ bytes. length bytes.items ≡ 2016) }
 {
     let longs = longs_of(alloc, seed)?;
     let mut bytes = Vec::with_capacity(alloc, 2016)?;

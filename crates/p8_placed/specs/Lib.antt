@@ -1,4 +1,5 @@
 -- A project as its source's meaning reads it, and where its image has it.
 pub mod Programs
+pub mod Meaning
 -- Machinery that only proofs need.
 pub mod Agreements

@@ -15,8 +15,10 @@ ghost use Rattle.p8_build.specs.Files.{CompiledFile};
 ghost use Rattle.p8_build.specs.Builds.{AreCompiled, objects_of};
 ghost use Rattle.p8_told_lives.specs.Told.{IsWorldOf};
 ghost use Rattle.p8_placed.specs.Programs.{program_of, addresses_of};
+ghost use Rattle.p8_placed.specs.Meaning.{KeepsMeaning};
 
 use p8_image::{image_loads, parts_stand};
+use p8_keeps::code_keeps_meaning;
 
 /// Law: the memory that the image of an accepted project starts with has the methods of its source, and what cog 0 starts with is the first
 /// method of its top file.
@@ -28,4 +30,13 @@ pub fn images_have_their_methods()
 {
     image_loads();
     parts_stand();
+}
+
+/// Law: the image of an accepted project keeps the meaning of its source, whatever runs beside it: of each of its methods, in each frame and
+/// each cog. The files are as above.
+pub fn images_keep_meaning()
+    ensures { (files : List NamedSource) → (children : List Children) → (xs : List CompiledFile) → (clock : ClockOf) → AreProper files → 0 < length files → AreDistinct files → HaveMentioned files → HaveNoRing files → AreChildren files children → AreCompiled files children xs → FitsHub (header_by (objects_of files children xs)) → KeepsMeaning (memory_of (image_of clock (objects_of files children xs))) (program_of files children xs) (addresses_of files xs (objects_of files children xs)) }
+{
+    images_have_their_methods();
+    code_keeps_meaning();
 }

@@ -1,21 +1,127 @@
--- The trace of a run is the text that its command asks for.
-use Rattle.std.proofs.Common.{◌≡◌, subst, ℕ, List, Some}
+-- The trace of a run is the text that its command asks for, and what the headline says of it.
+use Rattle.std.proofs.Common.{◌≡◌, ◌<◌, sym, ◌∙◌, ap, subst, refl, Bool, ℕ, List, length}
+use Rattle.p8_access.specs.declared.order.Turn.{Turn}
 use Rattle.p8_history.specs.Worlds.{World}
+use Rattle.p8_history.specs.Histories.{Ended}
+use Rattle.p8_history.proofs.OneHistory.{one-history}
+use Rattle.p8_history.proofs.Rising.{rises}
+use Rattle.p8_tree.specs.Projects.{NamedSource}
+use Rattle.p8_kinds.specs.declared.children.Children.{Children}
+use Rattle.p8_children.specs.Mentions as mentions
+use Rattle.p8_children.specs.Children.{AreChildren}
+use Rattle.p8_image.specs.declared.clocks.Clock.{Clock}
+use Rattle.p8_image.specs.declared.parts.ObjectPart.{ObjectPart}
+use Rattle.p8_image.specs.Headers.{header_of}
+use Rattle.p8_image.specs.Layout.{header_by, image_of}
+use Rattle.p8_image.specs.Loading.{memory_of, start_of}
+use Rattle.p8_image.specs.Projects.{FitsHub}
+use Rattle.p8_build.specs.Parts.{AreProper}
+use Rattle.p8_build.specs.Files.{CompiledFile}
+use Rattle.p8_build.specs.Builds.{AreCompiled, objects_of}
 use Rattle.p8_io.specs.Shelves.{Files}
+use Rattle.p8_lives.specs.Lives.{asks}
+use Rattle.p8_lives.specs.Laws.{one-asked, asked-first, asked-later}
 use Rattle.p8_machine.specs.declared.outcome.Limits.{Limits}
 use Rattle.p8_machine.specs.Worlds as machine
+use Rattle.p8_meaning.specs.Programs.{Program, Addresses}
+use Rattle.p8_objects.proofs.Wholes.{whole_project}
+use Rattle.p8_told_lives.specs.Told.{IsWorldOf, SpinIsTold}
+use Rattle.p8_placed.specs.Programs.{program_of, addresses_of}
+use Rattle.p8_placed.specs.Meaning.{KeepsMeaning}
 use Rattle.p8_inputs.specs.declared.inputs.Inputs.{Inputs}
 use Rattle.p8_inputs.specs.declared.program.Format.{Format}
-use Rattle.p8_inputs.specs.Programs.{world_of}
-use Rattle.p8_inputs.specs.Runs.{Begins}
+use Rattle.p8_inputs.specs.declared.program.Format.TheVariants.{Memory, Image, Source}
+use Rattle.p8_inputs.specs.Programs.{world_of, memory_by, first_by}
+use Rattle.p8_inputs.specs.Runs.{Begins, HasProperTrees}
+use Rattle.p8_inputs.specs.Sources.{IsBuiltFrom}
+use Rattle.p8_inputs.proofs.Gathering.{some, distinct, mentioned, no_ring}
 use Rattle.p8_prop.specs.Commands.{Options, Run}
-use Rattle.p8_prop.specs.Verdicts.{IsTrace, IsAskedFor}
+use Rattle.p8_prop.specs.Verdicts.{IsTrace}
+use Rattle.p8_prop.specs.Headline.{IsToldBySource, IsBuild}
+use Rattle.p8_prop.specs.Outcomes.{IsText}
 
-pub asked : (files : Files) (format : Format) (file : List ℕ) (options : Options) (limits : Limits) (inputs : Inputs) (text : List ℕ)
-    → Begins files format file options.script inputs → limits.turns ≡ options.turns
+-- ---- what a source says of a run
+
+-- the laws of images and of lives
+abbrev pub HaveMethods : Type 0
+HaveMethods = (files : List NamedSource) (children : List Children) (xs : List CompiledFile) (clock : Clock) → AreProper files → 0 < length files → mentions.AreDistinct files → mentions.HaveMentioned files → mentions.HaveNoRing files → AreChildren files children → AreCompiled files children xs → FitsHub (header_by (objects_of files children xs))
+    → (w : World) → w.memory ≡ memory_of (image_of clock (objects_of files children xs)) → w.first ≡ start_of (header_of (image_of clock (objects_of files children xs))) → IsWorldOf (program_of files children xs) (addresses_of files xs (objects_of files children xs)) w
+
+abbrev pub AreTold : Type 0
+AreTold = (program : Program) (addresses : Addresses) (w : World) → IsWorldOf program addresses w → (past : List Turn) → Ended asks w past → SpinIsTold program addresses w past
+
+abbrev pub RunsAreTold : Type 0
+RunsAreTold = (files : Files) (format : Format) (file bytes : List ℕ) → HasProperTrees files format file bytes → (w : World) → w.memory ≡ memory_by format bytes → w.first ≡ first_by format bytes → (past : List Turn) → Ended asks w past → IsToldBySource files format file bytes w past
+
+module _ (methods : HaveMethods) (lives : AreTold) where
+  world-of_source : (files : Files) (file : List ℕ) (sources : List NamedSource) (clock : Clock) (objects : List ObjectPart) (is : IsBuiltFrom files file sources clock objects) → AreProper sources → (w : World) → w.memory ≡ memory_of (image_of clock objects) → w.first ≡ start_of (header_of (image_of clock objects)) → IsWorldOf (program_of sources is.built.children is.built.compiled) (addresses_of sources is.built.compiled objects) w
+  world-of_source files file sources clock objects is proper w memory first =
+      let built = is.built in
+      let whole = whole_project (is.gathered 0 0) in
+      let all = objects_of sources built.children built.compiled in
+      let same : objects ≡ all = built.objects_are in
+      let placed = methods sources built.children built.compiled clock proper (some sources file whole.first) (distinct sources whole.distinct) (mentioned sources whole.mentioned) (no_ring sources whole.no_ring) built.seen built.each
+      (subst (λ (xs : List ObjectPart). FitsHub (header_by xs)) same built.fits) w
+      (memory ∙ ap (λ (xs : List ObjectPart). memory_of (image_of clock xs)) same)
+      (first ∙ ap (λ (xs : List ObjectPart). start_of (header_of (image_of clock xs))) same) in
+      subst (λ (xs : List ObjectPart). IsWorldOf (program_of sources built.children built.compiled) (addresses_of sources built.compiled xs) w) (sym same) placed
+
+  pub runs-are_told : RunsAreTold
+  runs-are_told files Memory file bytes trees w memory first past ended = tt
+  runs-are_told files Image file bytes trees w memory first past ended = tt
+  runs-are_told files Source file bytes trees w memory first past ended =
+      let is = trees.3 in
+      let world = world-of_source files file trees.0 trees.1 trees.2 is trees.4 w (memory ∙ ap memory_of trees.5) (first ∙ ap (λ (bytes : List ℕ). start_of (header_of bytes)) trees.5) in
+      (trees.0, trees.1, trees.2, is, trees.5, lives (program_of trees.0 is.built.children is.built.compiled) (addresses_of trees.0 is.built.compiled trees.2) w world past ended)
+
+-- ---- the image of a source
+
+-- the law of images
+abbrev pub KeepMeaning : Type 0
+KeepMeaning = (files : List NamedSource) (children : List Children) (xs : List CompiledFile) (clock : Clock) → AreProper files → 0 < length files → mentions.AreDistinct files → mentions.HaveMentioned files → mentions.HaveNoRing files → AreChildren files children → AreCompiled files children xs → FitsHub (header_by (objects_of files children xs))
+    → KeepsMeaning (memory_of (image_of clock (objects_of files children xs))) (program_of files children xs) (addresses_of files xs (objects_of files children xs))
+
+pub builds-keep : KeepMeaning → (files : Files) (file bytes : List ℕ) → HasProperTrees files Source file bytes → IsBuild files file bytes
+builds-keep keep files file bytes trees =
+    let sources = trees.0 in
+    let clock = trees.1 in
+    let is = trees.3 in
+    let built = is.built in
+    let whole = whole_project (is.gathered 0 0) in
+    let same : trees.2 ≡ objects_of sources built.children built.compiled = built.objects_are in
+    let kept = keep sources built.children built.compiled clock trees.4 (some sources file whole.first) (distinct sources whole.distinct) (mentioned sources whole.mentioned) (no_ring sources whole.no_ring) built.seen built.each
+    (subst (λ (xs : List ObjectPart). FitsHub (header_by xs)) same built.fits) in
+    let at = subst (λ (xs : List ObjectPart). KeepsMeaning (memory_of (image_of clock xs)) (program_of sources built.children built.compiled) (addresses_of sources built.compiled xs)) (sym same) kept in
+    record {
+      sources = sources;
+      clock = clock;
+      objects = trees.2;
+      from = is;
+      written = trees.5;
+      keeps = subst (λ (image : List ℕ). KeepsMeaning (memory_of image) (program_of sources built.children built.compiled) (addresses_of sources built.compiled trees.2)) (sym trees.5) at;
+    }
+
+-- ---- the text of a run
+
+pub asked : RunsAreTold → (files : Files) (alone : Bool) (format : Format) (file : List ℕ) (clocks : ℕ) (options : Options) (limits : Limits) (inputs : Inputs) (text : List ℕ)
+    → Begins files format file options.script inputs → limits.clocks ≡ clocks → limits.turns ≡ options.turns
     → IsTrace (machine.world_of inputs.boot inputs.script limits) options.dump text
-    → IsAskedFor files (Some (Run format file limits.clocks options)) text
-asked files format file options limits inputs text begins turns trace =
-    let same : machine.world_of inputs.boot inputs.script limits ≡ world_of format begins.0 inputs.script limits.clocks options.turns =
-    λ i. record { memory = begins.2 i; first = begins.3 i; script = inputs.script; clocks = limits.clocks; turns = turns i } in
-    (begins.0, inputs.script, begins.1, begins.4, subst (λ (w : World). IsTrace w options.dump text) same trace)
+    → IsText files (Run alone format file clocks options) text
+asked told files alone format file clocks options limits inputs text begins same_clocks turns trace =
+    let w = world_of format begins.0 inputs.script clocks options.turns in
+    let same : machine.world_of inputs.boot inputs.script limits ≡ w =
+    λ i. record { memory = begins.3 i; first = begins.4 i; script = inputs.script; clocks = same_clocks i; turns = turns i } in
+    let t = subst (λ (v : World). IsTrace v options.dump text) same trace in (
+      (begins.0, inputs.script, begins.1, begins.5, t),
+      record {
+        bytes = begins.0;
+        script = inputs.script;
+        past = t.0;
+        program = begins.1;
+        pins = begins.5;
+        history = record { ended = t.1; rises = rises asks w one-asked asked-first asked-later t.0 t.1.legal; only = λ other ended. one-history asks w one-asked other t.0 ended t.1 };
+        source = told files format file begins.0 begins.2 w refl refl t.0 t.1;
+        printed = t.2;
+      },
+      tt,
+    )

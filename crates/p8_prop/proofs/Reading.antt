@@ -12,7 +12,7 @@ use Rattle.clap.specs.Matches.{first_value, found_of}
 use Rattle.clap.specs.Simple.{App, matches_of}
 use Rattle.clap.specs.Walk.{Row, Text, first_of, rows_of}
 use Rattle.clap.proofs.WalkLemmas.{first_value-rows}
-use Rattle.p8_prop.specs.Commands.{Entry, app_for, command_of, faultless, build_entry, list_entry, raw_entry, run_entry, said_to, table}
+use Rattle.p8_prop.specs.Commands.{Entry, app_for, command_of, faultless, build_entry, list_entry, raw_entry, run_entry, make_entry, said_to, table}
 use Rattle.p8_prop.specs.Taking.{Takes}
 
 -- where there is a fault nothing is said
@@ -70,6 +70,9 @@ raw-chosen f words word some at is = entry-chosen raw_entry refl f words word so
 pub run-chosen : {A : Type 0} (f : A → Text) (words : List A) (word : A) → 1 ≤ length words → word ≡ slice_index_or words 0 word → f word ≡ codes "run" → command_of (map f words) ≡ said_to run_entry (map f words)
 run-chosen f words word some at is = entry-chosen run_entry refl f words word some at is
 
+pub make-chosen : {A : Type 0} (f : A → Text) (words : List A) (word : A) → 1 ≤ length words → word ≡ slice_index_or words 0 word → f word ≡ codes "make" → command_of (map f words) ≡ said_to make_entry (map f words)
+make-chosen f words word some at is = entry-chosen make_entry refl f words word some at is
+
 -- another word chooses nothing
 differs : (entry word : Text) → (word ≡ entry → ⊥) → bytes_eq entry word ≡ false
 differs entry word other = by-test (bytes_eq entry word) refl
@@ -78,12 +81,12 @@ differs entry word other = by-test (bytes_eq entry word) refl
     by-test true is = absurd (other (sym ((bytes_eq-Decides entry word).0 is)))
     by-test false is = refl
 
-other-word : (word : Text) (words : List Text) → (word ≡ codes "build" → ⊥) → (word ≡ codes "list" → ⊥) → (word ≡ codes "raw" → ⊥) → (word ≡ codes "run" → ⊥) → command_of (word ∷ words) ≡ None
+other-word : (word : Text) (words : List Text) → (word ≡ codes "build" → ⊥) → (word ≡ codes "list" → ⊥) → (word ≡ codes "raw" → ⊥) → (word ≡ codes "run" → ⊥) → (word ≡ codes "make" → ⊥) → command_of (word ∷ words) ≡ None
 unfolding command_of
-other-word word words build list raw run =
-    rw (differs (codes "build") word build, differs (codes "list") word list, differs (codes "raw") word raw, differs (codes "run") word run) refl
+other-word word words build list raw run make =
+    rw (differs (codes "build") word build, differs (codes "list") word list, differs (codes "raw") word raw, differs (codes "run") word run, differs (codes "make") word make) refl
 
-pub none-chosen : {A : Type 0} (f : A → Text) (words : List A) (word : A) → 1 ≤ length words → word ≡ slice_index_or words 0 word → (f word ≡ codes "build" → ⊥) → (f word ≡ codes "list" → ⊥) → (f word ≡ codes "raw" → ⊥) → (f word ≡ codes "run" → ⊥) → command_of (map f words) ≡ None
-none-chosen f [] word some at build list raw run = absurd (omega arith)
-none-chosen f (first ∷ words) word some at build list raw run =
-    other-word (f first) (map f words) (λ is. build (ap f at ∙ is)) (λ is. list (ap f at ∙ is)) (λ is. raw (ap f at ∙ is)) (λ is. run (ap f at ∙ is))
+pub none-chosen : {A : Type 0} (f : A → Text) (words : List A) (word : A) → 1 ≤ length words → word ≡ slice_index_or words 0 word → (f word ≡ codes "build" → ⊥) → (f word ≡ codes "list" → ⊥) → (f word ≡ codes "raw" → ⊥) → (f word ≡ codes "run" → ⊥) → (f word ≡ codes "make" → ⊥) → command_of (map f words) ≡ None
+none-chosen f [] word some at build list raw run make = absurd (omega arith)
+none-chosen f (first ∷ words) word some at build list raw run make =
+    other-word (f first) (map f words) (λ is. build (ap f at ∙ is)) (λ is. list (ap f at ∙ is)) (λ is. raw (ap f at ∙ is)) (λ is. run (ap f at ∙ is)) (λ is. make (ap f at ∙ is))

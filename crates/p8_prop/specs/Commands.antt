@@ -81,27 +81,36 @@ pub record Options : Type 0 where
   pub turns : ℕ
   pub dump : Option (ℕ × ℕ)
 
--- a command: to write the image of a source or its listing, or to run a file, by what it is taken for, up to a clock
+-- a command: to write the image of a source or its listing, to run a file, by what it is taken for, up to a clock, or to run the made
+-- program of a seed. A run is made by one thread alone, or by a crew of eight.
 pub data Command : Type 0 where
   BuildSource : (file : List ℕ) → Command
   ListSource : (file : List ℕ) → Command
-  Run : (format : Format) (file : List ℕ) (clocks : ℕ) (options : Options) → Command
+  Run : (alone : Bool) (format : Format) (file : List ℕ) (clocks : ℕ) (options : Options) → Command
+  Make : (alone : Bool) (seed : ℕ) → Command
 
--- the file of a command, what it is taken for, and the file of its pin script, if any
-abbrev pub file_of : Command → List ℕ
-file_of (BuildSource file) = file
-file_of (ListSource file) = file
-file_of (Run format file clocks options) = file
+-- the command, where one thread alone carries it out, and else none
+abbrev pub alone_of : Option Command → Option Command
+alone_of (Some (Run false format file clocks options)) = None
+alone_of (Some (Make false seed)) = None
+alone_of command = command
 
-abbrev pub format_of : Command → Format
-format_of (BuildSource file) = Source
-format_of (ListSource file) = Source
-format_of (Run format file clocks options) = format
+-- what a command reads: a file, by what it is taken for, and the file of a pin script, if any
+pub record Reading : Type 0 where
+  pub format : Format
+  pub file : List ℕ
+  pub script : Option (List ℕ)
 
-abbrev pub script_of : Command → Option (List ℕ)
-script_of (BuildSource file) = None
-script_of (ListSource file) = None
-script_of (Run format file clocks options) = options.script
+abbrev pub reading : Format → List ℕ → Option (List ℕ) → Reading
+reading format file script = record { format = format; file = file; script = script }
+
+-- a made program is run without reading anything
+abbrev pub reading_of : Option Command → Option Reading
+reading_of (Some (BuildSource file)) = Some (reading Source file None)
+reading_of (Some (ListSource file)) = Some (reading Source file None)
+reading_of (Some (Run alone format file clocks options)) = Some (reading format file options.script)
+reading_of (Some (Make alone seed)) = None
+reading_of None = None
 
 -- the arguments of a command, as `clap` takes them: what isn't said of one is as in `new_rule`. An operand has no name on
 -- the command line, so it stands by its place, and it has to be there.
@@ -115,6 +124,10 @@ option name = record (new_rule name) { long = Some name }
 -- a flag `--name`, which takes no value and may be given once. Its value is `true` where it is given, and else `false`.
 abbrev pub flag : Text → Rule
 flag name = record (new_rule name) { long = Some name; action = Some SetTrue }
+
+-- the greatest seed of a made program
+abbrev pub most_seed : ℕ
+most_seed = 4294967295
 
 -- how many turns a run makes at most, by the value of `--turns`
 abbrev pub turns_by : Option Text → Option ℕ
@@ -130,19 +143,19 @@ abbrev pub options_by : Option Text → Option ℕ → Option (Option (ℕ × �
 options_by script (Some turns) (Some dump) = Some (record { script = script; turns = turns; dump = dump })
 options_by script _ _ = None
 
-abbrev pub run_by : Format → Option Text → Option ℕ → Option Options → Option Command
-run_by format (Some file) (Some clocks) (Some options) = Some (Run format file clocks options)
-run_by format _ _ _ = None
+abbrev pub run_by : Bool → Format → Option Text → Option ℕ → Option Options → Option Command
+run_by alone format (Some file) (Some clocks) (Some options) = Some (Run alone format file clocks options)
+run_by alone format _ _ _ = None
 
 -- a run of a file, by the values of the arguments that every run has
-abbrev pub run_as : Format → Option Text → (Text → Option Text) → Option Command
-run_as format file value =
-    run_by format file (option_and_then (number_of most_clocks) (value (codes "CLOCKS")))
+abbrev pub run_as : Bool → Format → Option Text → (Text → Option Text) → Option Command
+run_as alone format file value =
+    run_by alone format file (option_and_then (number_of most_clocks) (value (codes "CLOCKS")))
     (options_by (value (codes "pins")) (turns_by (value (codes "turns"))) (dump_by (value (codes "dump"))))
 
--- `raw FILE CLOCKS` with its options, by the values of its arguments
+-- `raw FILE CLOCKS` with its options, by the values of its arguments; one thread makes it
 abbrev pub raw_of : (Text → Option Text) → Option Command
-raw_of value = run_as Memory (value (codes "FILE")) value
+raw_of value = run_as true Memory (value (codes "FILE")) value
 
 -- the name of an image
 abbrev pub is_image_name : Text → Bool
@@ -153,18 +166,22 @@ abbrev pub format_named : Text → Format
 format_named name = if is_image_name name then Image else Source
 
 -- a run of a file of that name, by the values of the arguments that every run has
-abbrev pub run_named : Option Text → (Text → Option Text) → Option Command
-run_named None value = None
-run_named (Some file) value = run_as (format_named file) (Some file) value
+abbrev pub run_named : Bool → Option Text → (Text → Option Text) → Option Command
+run_named alone None value = None
+run_named alone (Some file) value = run_as alone (format_named file) (Some file) value
 
 -- a flag with this value is given
 abbrev pub is_given : Option Text → Bool
 is_given None = false
 is_given (Some value) = bytes_eq value (codes "true")
 
--- `run FILE CLOCKS --alone` with its options. A run without `--alone` is still to come: as long as it is, such words say nothing.
+-- `run FILE CLOCKS` with its options; `--alone` says that one thread makes it
 abbrev pub run_of : (Text → Option Text) → Option Command
-run_of value = if is_given (value (codes "alone")) then run_named (value (codes "FILE")) value else None
+run_of value = run_named (is_given (value (codes "alone"))) (value (codes "FILE")) value
+
+-- `make SEED`, and `--alone` likewise
+abbrev pub make_of : (Text → Option Text) → Option Command
+make_of value = option_map (Make (is_given (value (codes "alone")))) (option_and_then (number_of most_seed) (value (codes "SEED")))
 
 -- `build FILE` and `list FILE`, by the value of FILE
 abbrev pub build_of : (Text → Option Text) → Option Command
@@ -196,8 +213,11 @@ raw_entry = record { word = codes "raw"; arguments = run_arguments; meaning = ra
 abbrev pub run_entry : Entry
 run_entry = record { word = codes "run"; arguments = run_arguments ++ flag (codes "alone") ∷ []; meaning = run_of }
 
+abbrev pub make_entry : Entry
+make_entry = record { word = codes "make"; arguments = operand (codes "SEED") ∷ flag (codes "alone") ∷ []; meaning = make_of }
+
 abbrev pub table : List Entry
-table = build_entry ∷ list_entry ∷ raw_entry ∷ run_entry ∷ []
+table = build_entry ∷ list_entry ∷ raw_entry ∷ run_entry ∷ make_entry ∷ []
 
 -- the simple command of `clap` that takes the words of an entry
 abbrev pub app_for : Entry → App

@@ -2,6 +2,7 @@
 pub mod Codes
 pub mod Commands
 pub mod Verdicts
+pub mod Headline
 -- Machinery that only proofs need.
 pub mod Naming
 pub mod Outcomes

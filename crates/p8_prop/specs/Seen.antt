@@ -5,7 +5,7 @@ use Rattle.p8_prop.specs.declared.options.Options.{Options as OptionsRead}
 use Rattle.p8_prop.specs.declared.words.RunCommand.{RunCommand}
 use Rattle.p8_prop.specs.declared.words.Task.{Task}
 use Rattle.p8_prop.specs.declared.words.Task.TheVariants as task
-use Rattle.p8_prop.specs.Commands.{Command, BuildSource, ListSource, Run, Options, most_clocks, most_turns}
+use Rattle.p8_prop.specs.Commands.{Command, BuildSource, ListSource, Run, Make, Options, most_clocks, most_turns}
 use Rattle.p8_prop.specs.Naming.{name_of}
 use Rattle.p8_prop.specs.Ranges.{IsInRam}
 
@@ -13,7 +13,7 @@ abbrev pub seen_options : OptionsRead → Options
 seen_options options = record { script = name_of options.script; turns = options.turns; dump = options.dump }
 
 abbrev pub seen : RunCommand → Command
-seen command = Run command.program.format command.program.file.now command.clocks (seen_options command.options)
+seen command = Run command.alone command.program.format command.program.file.now command.clocks (seen_options command.options)
 
 abbrev pub seen_run : Option RunCommand → Option Command
 seen_run None = None
@@ -23,6 +23,7 @@ abbrev pub seen_task : Task → Command
 seen_task (task.Build file) = BuildSource file.now
 seen_task (task.List file) = ListSource file.now
 seen_task (task.Run command) = seen command
+seen_task (task.Make seed alone) = Make alone seed
 
 abbrev pub seen_if_any : Option Task → Option Command
 seen_if_any None = None

@@ -17,22 +17,29 @@ use Rattle.p8_inputs.specs.Inputs.{IsProgram, IsScriptFor}
 use Rattle.p8_inputs.specs.Programs.{world_of}
 use Rattle.p8_inputs.specs.Sources.{IsImageFrom, IsListingFrom}
 use Rattle.p8_inputs.specs.Stops.{refusal_line}
+use Rattle.p8_inputs.specs.declared.program.Format.{Format}
+use Rattle.p8_made.specs.Summary.{made_world, summary_of}
 use Rattle.p8_prop.specs.declared.status.Status.{Status}
 use Rattle.p8_prop.specs.declared.status.Status.TheVariants.{Ok as Done, Usage, Refused, ShelfFault, Missing, SinkFault, NoMemory, BadImage, BadScript}
-use Rattle.p8_prop.specs.Commands.{Command, BuildSource, ListSource, Run, file_of, format_of, script_of}
+use Rattle.p8_prop.specs.Commands.{Command, BuildSource, ListSource, Run, Make, Reading, reading_of}
 
 -- the text of the ended history of a world, with a dump; there is one such history
 abbrev pub IsTrace : World → Option (ℕ × ℕ) → List ℕ → Type 0
 IsTrace world dump text = (past : List Turn) × Ended asks world past × (text ≡ text_of world past dump)
 
--- the text that the words ask for
+-- the summary of the ended history of a made program
+abbrev pub IsSummary : (seed : ℕ) → (text : List ℕ) → Type 0
+IsSummary seed text = (past : List Turn) × Ended asks (made_world seed) past × (text ≡ summary_of seed (made_world seed) past)
+
+-- the text that the words ask for, whether one thread makes a run or a crew does
 abbrev pub IsAskedFor : Files → Option Command → List ℕ → Type 0
 IsAskedFor files None text = ⊥
 IsAskedFor files (Some (BuildSource file)) text = IsImageFrom files file text
 IsAskedFor files (Some (ListSource file)) text = IsListingFrom files file text
-IsAskedFor files (Some (Run format file clocks options)) text =
+IsAskedFor files (Some (Run alone format file clocks options)) text =
     (bytes : List ℕ) × (script : List Line) × IsProgram files format file bytes × IsScriptFor files options.script script ×
     IsTrace (world_of format bytes script clocks options.turns) options.dump text
+IsAskedFor files (Some (Make alone seed)) text = IsSummary seed text
 
 -- a call as it is seen from outside: the shelf's files and its count of faults before and now, and of
 -- the output its count and the bytes that it took, before and now
@@ -53,31 +60,31 @@ outside files shelf_before shelf_now out_before out_now taken_before taken_now =
 abbrev pub IsSilent : Outside → Type 0
 IsSilent o = Appended o.taken_before o.taken_now []
 
+-- what is so of the file that is read, by what it is taken for, and of the pin script, where anything is read
+abbrev pub OfReading : Option Reading → (Format → (file : List ℕ) → (script : Option (List ℕ)) → Type 0) → Type 0
+OfReading None P = ⊥
+OfReading (Some reading) P = P reading.format reading.file reading.script
+
 -- a file of the command could not be read: the one that it names, one of that one's project, or the pin script
 abbrev pub IsUnread : Files → (before now : ℕ) → Option Command → (name : List ℕ) → Type 0
-IsUnread files before now None name = ⊥
-IsUnread files before now (Some command) name = inputs.IsUnread files before now (format_of command) (file_of command) (script_of command) name
+IsUnread files before now command name = OfReading (reading_of command) (λ format file script. inputs.IsUnread files before now format file script name)
 
 -- a file of the command is missing, by what the shelf tells, with its counts before and now. A pin script is looked at where the
 -- file to run is good.
 abbrev pub IsMissing : Files → (before now : ℕ) → Option Command → (name : List ℕ) → Type 0
-IsMissing files before now None name = ⊥
-IsMissing files before now (Some command) name = inputs.IsMissing files before now (format_of command) (file_of command) (script_of command) name
+IsMissing files before now command name = OfReading (reading_of command) (λ format file script. inputs.IsMissing files before now format file script name)
 
 -- the source is refused: a file of its project, with a number, at a place
 abbrev pub HasRefusal : Files → Option Command → (name : List ℕ) → (number : ℕ) → Place → Type 0
-HasRefusal files None name number place = ⊥
-HasRefusal files (Some command) name number place = inputs.HasRefusal files (format_of command) (file_of command) name number place
+HasRefusal files command name number place = OfReading (reading_of command) (λ format file script. inputs.HasRefusal files format file name number place)
 
 -- the image or the hub memory to run is refused: what is wrong with it
 abbrev pub HasFault : Files → Option Command → (name : List ℕ) → LoadFault → Type 0
-HasFault files None name fault = ⊥
-HasFault files (Some command) name fault = inputs.HasFault files (format_of command) (file_of command) name fault
+HasFault files command name fault = OfReading (reading_of command) (λ format file script. inputs.HasFault files format file name fault)
 
 -- the pin script is refused, at this line
 abbrev pub HasBadLine : Files → Option Command → (name : List ℕ) → (line : ℕ) → Type 0
-HasBadLine files None name line = ⊥
-HasBadLine files (Some command) name line = inputs.HasBadLine files (format_of command) (file_of command) (script_of command) name line
+HasBadLine files command name line = OfReading (reading_of command) (λ format file script. inputs.HasBadLine files format file script name line)
 
 -- each status has its cause; want of memory is the only one that may always come
 abbrev pub Answers : Outside → Option Command → Status → Type 0

@@ -1,12 +1,12 @@
 // Numbers and ranges in the words of the command line.
 ghost use Rattle.std.specs.Prelude.{◌≡◌, ◌<◌, ◌≤◌, Some, None, ℕ, length, IfSome};
 ghost use Rattle.std.specs.Option.{ForSome};
-ghost use Rattle.p8_prop.specs.Commands.{number_of, count_of, range_of, range_by, address_by, hexadecimal_digit as hexadecimal_digit_of, value_within, most_clocks};
+ghost use Rattle.p8_prop.specs.Commands.{number_of, count_of, range_of, range_by, address_by, hexadecimal_digit as hexadecimal_digit_of, value_within, most_seed};
 ghost use Rattle.p8_prop.specs.Ranges.{IsInRam};
 
 /// The number of some decimal digits, or None where it is above a limit or another byte is among them.
 fn value_of(digits: &[u8], limit: u64) -> Option<u64>
-    requires { limit ≤ most_clocks }
+    requires { limit ≤ most_seed }
     ensures value { result ≡ value_within limit digits.now }
     ensures within { ForSome result (λ value. value ≤ limit) }
 {
@@ -25,7 +25,7 @@ fn value_of(digits: &[u8], limit: u64) -> Option<u64>
 
 /// The number of one to ten decimal digits that is at most a limit, or None for any other text.
 pub fn number_in(text: &[u8], limit: u64) -> Option<u64>
-    requires { limit ≤ most_clocks }
+    requires { limit ≤ most_seed }
     ensures number { result ≡ number_of limit text.now }
     ensures within { ForSome result (λ number. number ≤ limit) }
 {

@@ -1,6 +1,7 @@
 // Worked calls over a shelf and sinks in memory.
 use crate::status::Status;
-use crate::top::prop_alone;
+use crate::top::{prop, prop_alone};
+use p8_crew::ThreadStarter;
 use p8_io::{FailList, MemShelf, MemSink};
 use p8_words::NoMemory;
 use std::alloc::Global;
@@ -18,6 +19,9 @@ const TEXT: &[u8] =
 
 /// The listing of `PUB main`.
 const LISTING: &[u8] = b"object main.spin 0010\nmethod 1 0018\n0018 32\n";
+
+/// The summary of the made program of seed 1.
+const MADE: &[u8] = b"made 1\nturns 36299\nlast 99998 7\nwords 319AD0F5\n";
 
 /// The line of words that are no command.
 const USAGE: &str =
@@ -163,16 +167,51 @@ fn refuses_an_option_given_twice(rt: HostRuntime) -> Result<(), Fail> {
     Ok(())
 }
 
-// As are no words, and too many clocks.
 #[test]
-fn refuses_runs_that_are_to_come(rt: HostRuntime) -> Result<(), Fail> {
-    let rows: [&[&str]; 3] = [
+fn makes_a_program(rt: HostRuntime) -> Result<(), Fail> {
+    let words = ["make", "--alone", "01"];
+    let left = left_by(rt.alloc(), &words, NOTHING)?;
+    assert_eq!(rt; left.status, Status::Ok);
+    assert!(rt; left.out.bytes() == MADE);
+    Ok(())
+}
+
+// As are no words, too many clocks and too great a seed. A run by a crew is no command for one thread.
+#[test]
+fn refuses_other_words(rt: HostRuntime) -> Result<(), Fail> {
+    let rows: [&[&str]; 6] = [
         &["run", "a.binary", "1"],
+        &["make", "1"],
+        &["make", "4294967296", "--alone"],
+        &["make", "--alone"],
         &[],
         &["raw", "a.binary", "100000001"],
     ];
     for words in rows {
         assert!(rt; refused(rt.alloc(), words, NOTHING, Status::Usage, USAGE)?);
     }
+    Ok(())
+}
+
+#[test]
+fn runs_by_a_crew(rt: HostRuntime) -> Result<(), Fail> {
+    let alloc = rt.alloc();
+    let mut shelf = MemShelf::new(alloc);
+    shelf.add("main.spin", b"PUB main\n")?;
+    let mut out = MemSink::new(alloc, 4096)?;
+    let mut faults = MemSink::new(alloc, 4096)?;
+    let mut starter = ThreadStarter::new();
+    let words = words_of(alloc, &["run", "main.spin", "20000", "--dump=0000:2"])?;
+    let status = prop(
+        &rt,
+        alloc,
+        &words,
+        &mut shelf,
+        &mut out,
+        &mut faults,
+        &mut starter,
+    );
+    assert_eq!(rt; status, Status::Ok);
+    assert!(rt; out.bytes() == TEXT);
     Ok(())
 }

@@ -1,8 +1,13 @@
 use Rattle.std.proofs.Common.{None}
-use Rattle.std.proofs.lemmas.Result.{IfErr-weaker}
+use Rattle.std.proofs.lemmas.Result.{IfOk-weaker, IfErr-weaker}
 use Rattle.p8_inputs.specs.declared.program.Format.TheVariants.{Source}
+use Rattle.p8_inputs.proofs.Building.{image-of-project}
 use Rattle.p8_inputs.proofs.Stopping.{program-stops}
 use Rattle.p8_inputs.proofs.sources.image_of_source.Goals as goal
+
+pub returns-clause-image : goal.returns-clause-image
+returns-clause-image g c =
+    IfOk-weaker c.image_in.result _ _ (λ image is. image-of-project (g.S.Shelf.files c.args.shelf.now) c.args.file.now image is) c.image_in.ensures.image
 
 pub returns-clause-stopped : goal.returns-clause-stopped
 returns-clause-stopped g c =

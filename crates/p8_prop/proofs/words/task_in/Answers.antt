@@ -1,6 +1,6 @@
 use Rattle.std.proofs.Common.{◌∙◌, string_bytes, sym}
 use Rattle.std.proofs.lemmas.Result.{IfOk-weaker}
-use Rattle.p8_prop.proofs.Reading.{no-words, none-chosen, build-chosen, list-chosen, raw-chosen, run-chosen}
+use Rattle.p8_prop.proofs.Reading.{no-words, none-chosen, build-chosen, list-chosen, raw-chosen, run-chosen, make-chosen}
 use Rattle.p8_prop.proofs.words.task_in.Goals as goal
 
 pub returns-in_default-clause-seen : goal.returns-in_default-clause-seen
@@ -26,6 +26,11 @@ returns-in-run-clause-seen c =
     let chosen = run-chosen string_bytes c.args.words.now c.word-item.result c.in-len1-up.len_at_least c.word-item.is (sym c.as_str.ensures.value ∙ c.in-run.is) in
     IfOk-weaker c.run_in.result _ _ (λ task seen. seen ∙ sym chosen) c.run_in.ensures.seen
 
+pub returns-in-make-clause-seen : goal.returns-in-make-clause-seen
+returns-in-make-clause-seen c =
+    let chosen = make-chosen string_bytes c.args.words.now c.word-item.result c.in-len1-up.len_at_least c.word-item.is (sym c.as_str.ensures.value ∙ c.in-make.is) in
+    IfOk-weaker c.make_in.result _ _ (λ task seen. seen ∙ sym chosen) c.make_in.ensures.seen
+
 pub returns-in_default-as_str-clause-seen : goal.returns-in_default-as_str-clause-seen
 returns-in_default-as_str-clause-seen c =
-    sym (none-chosen string_bytes c.args.words.now c.word-item.result c.in-len1-up.len_at_least c.word-item.is (λ is. c.in_default-as_str.not-build (c.as_str.ensures.value ∙ is)) (λ is. c.in_default-as_str.not-list (c.as_str.ensures.value ∙ is)) (λ is. c.in_default-as_str.not-raw (c.as_str.ensures.value ∙ is)) (λ is. c.in_default-as_str.not-run (c.as_str.ensures.value ∙ is)))
+    sym (none-chosen string_bytes c.args.words.now c.word-item.result c.in-len1-up.len_at_least c.word-item.is (λ is. c.in_default-as_str.not-build (c.as_str.ensures.value ∙ is)) (λ is. c.in_default-as_str.not-list (c.as_str.ensures.value ∙ is)) (λ is. c.in_default-as_str.not-raw (c.as_str.ensures.value ∙ is)) (λ is. c.in_default-as_str.not-run (c.as_str.ensures.value ∙ is)) (λ is. c.in_default-as_str.not-make (c.as_str.ensures.value ∙ is)))
