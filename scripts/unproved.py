@@ -15,7 +15,7 @@ ROOT = os.path.dirname(os.path.dirname(os.path.realpath(__file__)))
 
 # What proving and building the program alone takes, in minutes of one processor, and what its crates that stand on
 # one another take, in minutes (docs/GATE.md).
-PROCESSOR_MINUTES = 110
+PROCESSOR_MINUTES = 125
 CHAIN_MINUTES = 30
 
 # The status of this script where the program gave none.
