@@ -135,7 +135,7 @@ IsNear most reached Quiet = Unit {0}
 IsNear most reached (More bound) = Unit {0}
 
 -- what is told is no further than this clock: an access comes up to it, and below `until` none comes only where
--- `until` isn't behind it
+-- `until` isn't after it
 abbrev pub IsWithin : (limit until : ℕ) → Next → Type 0
 IsWithin limit until (At clock access) = clock ≤ limit
 IsWithin limit until Quiet = until ≤ limit

@@ -32,7 +32,7 @@ pub trait Life {
     ghost asked: { Begun → List Turn → ℕ → Access → Type 0 };
 
     /// With these turns so many instructions or bytecodes of the life are done whole, and the next one
-    /// begins at this clock. While a start is under way none is, and the first one begins behind it.
+    /// begins at this clock. While a start is under way none is, and the first one begins after it.
     ghost begins: { Begun → List Turn → (place : ℕ) → (clock : ℕ) → Type 0 };
 
     /// How many instructions or bytecodes it has done since its start.

@@ -26,7 +26,7 @@ impl Model for Ram {
     ghost invariant = { λ r. length r.bytes.now ≡ 32768 };
 }
 
-/// These bytes, and 0 behind them up to a size.
+/// These bytes, and 0 after them up to a size.
 fn padded(alloc: Global, bytes: &[u8], size: usize) -> Result<Vec<u8>, AllocError>
     requires { length bytes.now ≤ size }
     ensures padded { IfOk result (λ all. all.items ≡ bytes.now ++ replicate (size - length bytes.now) 0) }
@@ -38,7 +38,7 @@ fn padded(alloc: Global, bytes: &[u8], size: usize) -> Result<Vec<u8>, AllocErro
 }
 
 impl Ram {
-    /// A memory of these bytes from address 0 on, and 0 behind them.
+    /// A memory of these bytes from address 0 on, and 0 after them.
     pub fn new(alloc: Global, bytes: &[u8]) -> Result<Ram, NoMemory>
         requires { length bytes.now ≤ 32768 }
         ensures { IfOk result (λ ram. ram ≡ ram_of bytes.now) }

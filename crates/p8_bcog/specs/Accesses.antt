@@ -28,7 +28,7 @@ ends access left s = Ask access (λ answer. Finish (left_by left s))
 unfoldable pub gets : Access → State → Course State
 gets access s = Ask access (λ answer. Finish (pushed (word_in answer) s))
 
--- the cog stops itself with all its methods ended, and nothing comes behind that
+-- the cog stops itself with all its methods ended, and nothing comes after that
 abbrev pub stops : (cog : ℕ) → State → Course State
 stops cog s = ends (CogStop cog) None (record s { calls = [] })
 

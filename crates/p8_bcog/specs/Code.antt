@@ -20,7 +20,7 @@ code_end memory = min (word_at memory 8) 32768
 abbrev pub code_of : (memory : List ℕ) → List ℕ
 code_of memory = take (code_end memory) memory
 
--- the bytecode at an address and the address behind it, or nothing where none stands there whole
+-- the bytecode at an address and the address after it, or nothing where none stands there whole
 abbrev pub fetched_in : (code : List ℕ) (address : ℕ) → Option (Op × ℕ)
 fetched_in code address = if nat_lt address 16 then None else op_at code address
 

@@ -16,7 +16,7 @@ use Rattle.p8_bcog.specs.Places.{uses, value_in, asks_for}
 use Rattle.p8_bcog.specs.Calls.{gives}
 use Rattle.p8_bcog.specs.Moves.{fills, moves, counts, compares, room_from}
 
--- a write of an element, behind which a move goes on
+-- a write of an element, after which a move goes on
 unfoldable pub stores : Access → (later : Course State) → Course State
 stores access later = Ask access (λ answer. later)
 

@@ -46,7 +46,7 @@ stopped_by (Some reason) course = Stop reason
 abbrev pub tested : (takes leaves : ℕ) → State → Course State → Course State
 tested takes leaves s course = stopped_by (refusal takes leaves s) course
 
--- a jump counts from the byte behind it; an offset is a word in two's complement
+-- a jump counts from the byte after it; an offset is a word in two's complement
 abbrev pub jumped : (offset : ℕ) → State → State
 jumped offset s = record s { at = (s.at + offset) % 2 ^ 16 }
 

@@ -102,7 +102,7 @@ updated effect value right =
     else if is_unary (effect + 0xA0) then unary_value (effect + 0xA0) value
     else binary_value (effect + 0xA0) value right
 
--- `++` and `--` behind a variable leave the old value
+-- `++` and `--` after a variable leave the old value
 abbrev pub leaves_old : (effect : ℕ) → Bool
 leaves_old effect = (nat_le 0x28 effect && nat_lt effect 0x30) || (nat_le 0x38 effect && nat_lt effect 0x40)
 

@@ -49,7 +49,7 @@ entry_of e = enters_at (first_of e.origin)
 abbrev pub engine_of : (memory : List ℕ) (cog : ℕ) → Engine State
 engine_of memory cog = record { cog = cog; next = bytecode memory cog; cost = clocks memory }
 
--- so many bytecodes behind the entry, with these turns. The entry counts from 8,192 clocks behind the turn of
+-- so many bytecodes after the entry, with these turns. The entry counts from 8,192 clocks after the turn of
 -- Begin on.
 abbrev pub lived : (count : ℕ) → Entered → List Turn → Outcome State
 lived count e turns = replayed (engine_of e.memory e.cog) (e.begin + 8192) (entry_of e) count turns
@@ -73,12 +73,12 @@ BeginsAt clock Ends = ⊥
 abbrev pub IsEntering : Entered → List Turn → Type 0
 IsEntering entered turns = (clock : ℕ) × (access : Access) × (lived 0 entered turns ≡ Asks clock access)
 
--- where the first bytecode begins: 7 clocks behind the window of the entry's write
+-- where the first bytecode begins: 7 clocks after the window of the entry's write
 abbrev pub first_begin : Entered → ℕ
 first_begin entered = window_of entered.cog (entered.begin + 8192 + 1) + 7
 
 -- with these turns so many bytecodes are done whole, and the next one begins at this clock; while the entry
--- asks none is, and the first one begins behind it
+-- asks none is, and the first one begins after it
 abbrev pub Begins : Begun → List Turn → (place clock : ℕ) → Type 0
 Begins (SpinBegun entered) turns place clock =
     BeginsAt clock (lived place entered turns) ⊎ (IsEntering entered turns × (place ≡ 0) × (clock ≡ first_begin entered))

@@ -26,7 +26,7 @@ come_to (Asked access later) done = done + 1
 come_to (Halted reason) done = done + 1
 come_to Over done = done
 
--- behind the entry and before the end
+-- after the entry and before the end
 abbrev pub is_under : Stage → Bool
 is_under Entering = false
 is_under Ready = true

@@ -18,7 +18,7 @@ use Rattle.p8_bcog.specs.Ready.{IsReady}
 use Rattle.p8_bcog.specs.Replay.{engine_of}
 use Rattle.p8_bcog.specs.Standing.{standing, come_to}
 
--- how far a life is behind a bytecode that stands so
+-- how far a life is after a bytecode that stands so
 abbrev pub stage_of : Result Step Reason → Stage
 stage_of (Ok Done) = Ready
 stage_of (Ok (Asking access later)) = Asked access later

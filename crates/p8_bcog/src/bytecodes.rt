@@ -74,7 +74,7 @@ fn clocks_of(op: Op) -> u64
     if is_slow(op) { 544 } else { 32 }
 }
 
-/// The bytecode at an address and the address behind it.
+/// The bytecode at an address and the address after it.
 #[inline]
 fn fetch(code: &[u8], at: u16) -> Option<(Op, u16)>
     requires { length code.now ≤ 32768 }

@@ -91,7 +91,7 @@ impl State {
         self.size = ((4 * parameters + usize::from(callee.locals)) & 0xFFFF) as u16;
     }
 
-    /// What longs are written for comes behind the last of them.
+    /// What longs are written for comes after the last of them.
     fn give(&mut self, given: Given) -> Result<Step, Reason>
         requires { CanGive given self.old }
         ensures does { comes result self.new ≡ given_to given self.old }

@@ -22,7 +22,7 @@ pub struct Ran {
     pub stage: Stage,
 }
 
-/// How far a life is behind a bytecode.
+/// How far a life is after a bytecode.
 pub fn stage_of(stepped: Result<Step, Reason>) -> Stage
     ensures { result ≡ stage_of stepped }
 {
@@ -61,7 +61,7 @@ pub fn earliest(cog: u8, clock: u64, access: Access) -> u64
     }
 }
 
-/// Where the life is behind the turn of an access that counted from a clock on.
+/// Where the life is after the turn of an access that counted from a clock on.
 pub fn behind(clock: u64, access: Access, turn: u64) -> u64
     requires clock { clock < 2 ^ 62 + 2 ^ 16 }
     requires turn { turn < 2 ^ 62 }

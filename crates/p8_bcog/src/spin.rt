@@ -36,7 +36,7 @@ pub struct SpinCog {
     stage: Stage,
     /// The clock at which the next bytecode begins, or from which the access at hand counts.
     clock: u64,
-    /// The clock that it has come to: where the bytecode at hand began, or is behind its last turn.
+    /// The clock that it has come to: where the bytecode at hand began, or is after its last turn.
     reached: u64,
     /// How many bytecodes it has done since its start.
     done: u64,

@@ -53,7 +53,7 @@ pub enum Given {
     },
 }
 
-/// What comes behind an answer.
+/// What comes after an answer.
 #[derive(Clone, Copy)]
 pub enum Later {
     /// The bytecode is done, and leaves this value if there is one.
@@ -97,7 +97,7 @@ pub enum Later {
         value: u32,
         left: u32,
     },
-    /// The answer is an element to be moved, and so many are behind it.
+    /// The answer is an element to be moved, and so many are after it.
     Fetched {
         width: Width,
         to: u16,

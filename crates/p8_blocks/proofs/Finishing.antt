@@ -52,7 +52,7 @@ newest ps a o done h e = go ps (subst (λ o. ArePartsOf ps o done) e h)
     go [] h = absurd h
     go (p ∷ ps) h = record { part = p; others = ps; is = refl; stands = h.0; before = h.1 }
 
--- a block begins behind another, or before all
+-- a block begins after another, or before all
 pub begun_behind : (x : Position) (p : Part) (before : opened.Open) (old : Growing) (b : Block) (o : opened.Open) (done : List Block) {now : Option opened.Open} → StandsFor x old → old.current ≡ Some before → ((p : Part) → IsOpen p before → IsBlock p (block_of b)) → done ≡ old.done ++ b ∷ [] → now ≡ Some o → IsOpen p o → StandsFor (at (p ∷ x.parts) None) (record { done = done; current = now; begun = None })
 begun_behind x p before old b o done {now} s e k d n i = record {
   parts = subst (λ c. ArePartsOf (p ∷ x.parts) c done) (sym n) (i, done_more x.parts before old.current old.done done b s.parts e k d);

@@ -1,4 +1,4 @@
--- What begins a file within the limits, and the line at hand behind some lines.
+-- What begins a file within the limits, and the line at hand after some lines.
 use Rattle.std.proofs.Common.{◌≡◌, ℕ, List, [], ◌∷◌, ◌++◌, Option, Bool, false, refl, sym, ap, ◌∙◌, subst, append_assoc, append-nil}
 use Rattle.p8_tree.specs.declared.places.Place.{Place}
 use Rattle.p8_tree.specs.Sources.{Source}
@@ -70,7 +70,7 @@ not_row vs u b row r =
     let z = cancel vs [] (u ∷ b.0) (append-nil vs ∙ o.tokens ∙ append_assoc vs (u ∷ []) b.0) in
     cc
 
--- A line that is read from this state behind these tokens of its own, where what follows them is so.
+-- A line that is read from this state after these tokens of its own, where what follows them is so.
 pub record AtHand (x : Progress) (pre : List LineToken) (q : State) (So : List LineToken → Type 0) : Type 0 where
   pub rows : (y : Progress) (xs ys zs : List LineToken) → Line any_height x xs y → xs ++ ys ≡ pre ++ zs → So zs → (row : List Piece) × (us : List LineToken) × Row q row us × (xs ≡ pre ++ us)
   pub completes : (row : List Piece) (us : List LineToken) → Row q row us → So us → (y : Progress) × Line any_height x (pre ++ us) y
@@ -167,7 +167,7 @@ module _ (all : AllValues) where
         unfit_at ts pre vs u rest us e y (none_begins_so vs u b n stop s)
         (subst (λ s. NumberAt (ts ++ (pre ++ vs)) u (number_of s (word u))) (settings vs b) (by_word (λ l. o l.0 false l.1) (λ l. o l.0 l.1 l.2)))
 
-    -- the same behind some of its tokens
+    -- the same after some of its tokens
     pub stopped_within : (vs : List LineToken) (u : LineToken) (rest us : List LineToken) → us ≡ vs ++ u ∷ rest → line_specs.Begins q vs → ((row : List Piece) → ¬ Row q row vs) → ¬ line_specs.Begins q (vs ++ u ∷ []) → LowLine q vs → (t : LineToken) (l : List LineToken) → pre ++ vs ≡ t ∷ l → ((rest : List LineToken) → So (vs ++ rest)) → IsRefused (ts ++ (pre ++ us)) (number_of (setting_at q) (word u)) u.place
     stopped_within vs u rest us e b n stop y t l f s =
         stopped_so vs u rest us e b n stop (λ rest. s (u ∷ rest)) (begins_low vs y (s y.rest)) (λ ls c. no_method vs b n t l f (subst So (append-nil vs) (s [])))

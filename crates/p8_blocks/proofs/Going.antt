@@ -181,7 +181,7 @@ added_before (more_variables v) h = (tt, h.1)
 added_before (more_objects v) h = (tt, h.1)
 added_before (more_assembly v) h = (tt, h.1)
 
--- a line of the text is begun behind an item
+-- a line of the text is begun after an item
 pub begun_behind : (k : Kind) (b : Option Place) (t : LineToken) → is_begun (begun_by k b t) ≡ is_item k
 begun_behind k b t = go (is_item k)
   where

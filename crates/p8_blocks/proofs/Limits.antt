@@ -37,7 +37,7 @@ use Rattle.p8_blocks.proofs.Ends.{is_over, in_item, last_word, Last, behind_all,
 use Rattle.p8_blocks.proofs.Passing.{not_nested, high_line, begins_line_so}
 
 module _ (all : AllValues) where
-  -- lines behind a walk
+  -- lines after a walk
 
   head_goes : (w : Word) → is_over (head_state w) ≡ false
   head_goes word_case.Con = refl

@@ -50,7 +50,7 @@ more_reached {ts} {us} {vs} {old} {new} r c = record { position = c.next; goes =
 pub refused_there : {ts us : List LineToken} {file : Growing} (n : ℕ) (p : Place) (r : Reached ts us file) → Fails r.position us n p → Parses ts (fault n p)
 refused_there n p r f = fails r.goes f
 
--- behind the last token
+-- after the last token
 ends : {ts : List LineToken} (us : List LineToken) {x : Position} (e : LineToken) (s : Source) → Goes start ts x us → us ≡ e ∷ [] → word e ≡ word_case.LineEnd → AreBlocks x.parts s → Parses ts (source s)
 ends {ts} us {x} e s g h w b = whole {x = at x.parts None} (go_on (subst (λ us. Goes start ts x us) h g) (blank w)) b
 

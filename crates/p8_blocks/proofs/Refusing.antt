@@ -150,7 +150,7 @@ module _ (all : AllValues) where
       go m qs (assembly xs ∷ ps) d e = absurd cc
       go m qs (method n ms ∷ ps) d e = absurd cc
 
-  -- the tokens of a walk, with nothing behind them
+  -- the tokens of a walk, with nothing after them
   behind : {x : Progress} {ts : List LineToken} → Walk within_limits x ts → AllShallow x.0 → BeginsWithinLimits (ts ++ [])
   behind {ts = ts} w h = subst BeginsWithinLimits (sym (append-nil ts)) (itself_within all w h)
 

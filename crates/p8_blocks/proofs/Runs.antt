@@ -81,7 +81,7 @@ compare {qs = qs} {rs = rs} {us = us} {vs = vs} (go_on {qs = ps'} xs ws g e l) h
             let rests : zs ≡ us = cancel xs zs us (ap (λ l. l ++ zs) (sym o.rests) ∙ sym f ∙ e) in
             inl (subst (λ qs. Run qs us rs vs) o.values (subst (λ zs. Run ns zs rs vs) rests r))
 
--- no line behind the last token
+-- no line after the last token
 pub nothing_left : {ps rs : Progress} {vs : List LineToken} → Run ps [] rs vs → vs ≡ []
 nothing_left {ps} {rs} {vs} g = go (gone g)
   where

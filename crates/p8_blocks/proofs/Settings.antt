@@ -1,4 +1,4 @@
--- The setting behind the tokens of a walk, and of a line that is begun.
+-- The setting after the tokens of a walk, and of a line that is begun.
 use Rattle.std.proofs.Common.{◌≡◌, List, [], ◌∷◌, ◌++◌, false, refl, sym, ap, ◌∙◌}
 use Rattle.std.specs.Prelude.{IsTrue, if◌then◌else◌, ◌&&◌, ◌==◌}
 use Rattle.p8_lexer.specs.declared.word.Word.{Word}

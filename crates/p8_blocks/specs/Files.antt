@@ -1,7 +1,7 @@
 -- Which tokens are a file, and with which tree (Propeller Manual v1.2, "Spin Language Reference": the block designators;
 -- what it leaves open is this project's profile).
 --
--- A file is blocks, one after the other. A block is its word in column 1 with what stands behind it, and further lines.
+-- A file is blocks, one after the other. A block is its word in column 1 with what stands after it, and further lines.
 -- The lines of a method are its statements by their columns. Ends of lines may stand between lines.
 use Rattle.std.specs.Prelude.{◌≡◌, ℕ, Bool, true, false, ◌&&◌, ◌||◌, IsTrue, List, [], ◌∷◌, ◌++◌, Option, Some, None, option_map}
 use Rattle.p8_tree.specs.declared.places.Place.{Place}
@@ -56,7 +56,7 @@ pub data Declare (h : Heights) {X : Type 0} (value : List Piece → Option (List
   a_blank : {xs : List X} {ts : List LineToken} (t : LineToken) → word t ≡ word_case.LineEnd → Declare h value q xs ts → Declare h value q xs (ts ++ t ∷ [])
   a_line : {xs ys : List X} {ts : List LineToken} (us : List LineToken) (row : List Piece) → IsLine h q row us → value row ≡ Some ys → Declare h value q xs ts → Declare h value q (xs ++ ys) (ts ++ us)
 
--- behind the colon of a CASE's item its line of the text goes on
+-- after the colon of a CASE's item its line of the text goes on
 abbrev pub is_item : Kind → Bool
 is_item (lines.Item xs) = true
 is_item lines.Other = true
@@ -68,7 +68,7 @@ begins_text state.ChainLine = true
 begins_text state.LoopEndLine = true
 begins_text q = false
 
--- The lines of a method, each with the place of its first token, and whether a line of the text is begun: behind the
+-- The lines of a method, each with the place of its first token, and whether a line of the text is begun: after the
 -- colon of a CASE's item a line may begin on the same line of the text.
 pub data AreLines (h : Heights) : List lines.Line → Bool → List LineToken → Type 0 where
   no_line : AreLines h [] false []
@@ -149,7 +149,7 @@ pub record StopsAt (ts : List LineToken) (n : ℕ) (p : Place) : Type 0 where
   pub begins : Begins before
   pub stops : ¬ Begins (before ++ token ∷ [])
 
--- Behind these tokens the lines that begin with this one are those that are read from this state.
+-- After these tokens the lines that begin with this one are those that are read from this state.
 pub record LinesFrom (ts : List LineToken) (t : LineToken) (q : State) : Type 0 where
   pub may : (row : List Piece) (us : List LineToken) → Row q row (t ∷ us) → (s : Source) × IsFile any_height s (ts ++ t ∷ us)
   pub must : (rest : List LineToken) (s : Source) → IsFile any_height s (ts ++ t ∷ rest) → (row : List Piece) × (us : List LineToken) × (vs : List LineToken) × Row q row (t ∷ us) × (us ++ vs ≡ rest)
@@ -167,8 +167,8 @@ pub data EndsLine : List LineToken → Type 0 where
   nothing : EndsLine []
   line_end : (ts : List LineToken) (t : LineToken) → word t ≡ word_case.LineEnd → EndsLine (ts ++ t ∷ [])
 
--- Behind these tokens the line of the text on which this one stands begins at this place: there, or where the CASE's item
--- begins behind whose colon it stands.
+-- After these tokens the line of the text on which this one stands begins at this place: there, or where the CASE's item
+-- begins after whose colon it stands.
 pub data LineBegins : List LineToken → LineToken → Place → Type 0 where
   here : {ts : List LineToken} {t : LineToken} → EndsLine ts → LineBegins ts t t.place
   behind_item : {ts : List LineToken} {t u : LineToken} {p : Place} {row : List Piece} (us : List LineToken) → LinesFrom ts u state.CaseItem → Row state.CaseItem row (u ∷ us) → LineBegins ts u p → LineBegins (ts ++ u ∷ us) t p

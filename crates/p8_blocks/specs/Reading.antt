@@ -40,7 +40,7 @@ pub data Part : Type 0 where
   assembly : List trees.Line → Part
   method : MethodTree → List lines.Line → Part
 
--- The blocks so far, the newest first; and behind the colon of a CASE's item, where its line begins.
+-- The blocks so far, the newest first; and after the colon of a CASE's item, where its line begins.
 pub record Position : Type 0 where
   pub parts : List Part
   pub begun : Option Place
@@ -86,12 +86,12 @@ abbrev pub declares : List Part → Bool
 declares (method m ls ∷ ps) = false
 declares ps = true
 
--- whether a line of the text is begun, behind the colon of a CASE's item
+-- whether a line of the text is begun, after the colon of a CASE's item
 abbrev pub is_begun : Option Place → Bool
 is_begun None = false
 is_begun (Some p) = true
 
--- behind the colon no line goes on with a chain or ends a loop
+-- after the colon no line goes on with a chain or ends a loop
 abbrev pub goes_on_chain : Bool → Word → Bool
 goes_on_chain begun w = not begun && is_chain_word w
 
@@ -103,7 +103,7 @@ pub data Entry : Type 0 where
   from : State → Entry
   barred : ℕ → Entry
 
--- After these lines of a method, a line whose first token is this one is entered so: behind the colon of a CASE's item,
+-- After these lines of a method, a line whose first token is this one is entered so: after the colon of a CASE's item,
 -- or where a line of the text begins.
 pub data Enters (ls : List lines.Line) (b : Bool) (t : LineToken) : Entry → Type 0 where
   -- an ELSE kind goes on with the chain at its column, unless that has its ELSE

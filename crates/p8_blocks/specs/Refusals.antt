@@ -34,7 +34,7 @@ use Rattle.p8_blocks.specs.Reading.{IsHead as BeginsBlock, is_block_word, head_s
 abbrev pub BeginsWithinLimits : List LineToken → Type 0
 BeginsWithinLimits ts = (rest : List LineToken) × (s : Source) × IsFileWithinLimits s (ts ++ rest)
 
--- Where a token stands: in a method behind PUB and PRI in column 1, in DAT behind that word, and else in a declaration.
+-- Where a token stands: in a method after PUB and PRI in column 1, in DAT after that word, and else in a declaration.
 
 abbrev pub block_setting : Word → Setting
 block_setting word_case.Pub = in_method
@@ -76,14 +76,14 @@ LacksOpener before t = (ls : List lines.Line) × EndsInMethod before ls false ×
 abbrev pub LacksLoop : List LineToken → LineToken → Type 0
 LacksLoop before t = (ls : List lines.Line) × (b : Bool) × EndsInMethod before ls b × IsOutsideLoop ls t
 
--- The number of the refusal of a token that can't stand behind these: 7 and 11 where a line begins with it that lacks its
+-- The number of the refusal of a token that can't stand after these: 7 and 11 where a line begins with it that lacks its
 -- opener or its loop, else the number of its word, which is 9, 10 or 6.
 pub data NumberAt (before : List LineToken) (t : LineToken) : ℕ → Type 0 where
   no_opener : LacksOpener before t → NumberAt before t (refusal_number BadIndent)
   no_loop : LacksLoop before t → NumberAt before t (refusal_number LoopWord)
   by_word : ¬ LacksOpener before t → ¬ LacksLoop before t → NumberAt before t (number_of (setting_behind before) (word t))
 
--- Where the line of the text begins on which a token stands: at the first token behind the last end of a line.
+-- Where the line of the text begins on which a token stands: at the first token after the last end of a line.
 
 abbrev pub is_line_end : Word → Bool
 is_line_end word_case.LineEnd = true
@@ -113,7 +113,7 @@ last_state [] = Some state.ConItem
 last_state (b ∷ []) = block_state b
 last_state (b ∷ c ∷ bs) = last_state (c ∷ bs)
 
--- Behind these tokens a line begins with this one, or what stands behind a block's word, and is read from this state.
+-- After these tokens a line begins with this one, or what stands after a block's word, and is read from this state.
 pub data BeginsLine : List LineToken → LineToken → State → Type 0 where
   behind_word : {s : Source} {ts : List LineToken} {t : LineToken} (u : LineToken) → IsFile any_height s ts → BeginsBlock u → BeginsLine (ts ++ u ∷ []) t (head_state (word u))
   declaration : {s : Source} {ts : List LineToken} {t : LineToken} {q : State} → IsFile any_height s ts → last_state s ≡ Some q → word t ≢ word_case.LineEnd → ¬ BeginsBlock t → BeginsLine ts t q

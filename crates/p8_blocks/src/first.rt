@@ -14,13 +14,13 @@ use p8_tree::Place;
 pub struct First {
     pub word: Word,
     pub place: Place,
-    /// Where the line begins. Behind the colon of a `CASE`'s item that is where the item begins.
+    /// Where the line begins. After the colon of a `CASE`'s item that is where the item begins.
     pub begin: Place,
-    /// Whether it goes on behind the colon of a `CASE`'s item.
+    /// Whether it goes on after the colon of a `CASE`'s item.
     pub begun: bool,
 }
 
-// Whether a line of the text is begun, behind the colon of a `CASE`'s item.
+// Whether a line of the text is begun, after the colon of a `CASE`'s item.
 fn is_begun(begun: Option<Place>) -> bool
     ensures { result ≡ is_begun begun }
 {

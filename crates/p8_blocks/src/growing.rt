@@ -36,11 +36,11 @@ pub struct Growing {
     pub done: List<Block>,
     /// The one at hand; none before the first line.
     pub current: Option<Open>,
-    /// Behind the colon of a `CASE`'s item, where its line begins.
+    /// After the colon of a `CASE`'s item, where its line begins.
     pub begun: Option<Place>,
 }
 
-// The number of the token behind that of this number.
+// The number of the token after that of this number.
 fn behind(tokens: &Tokens, at: usize) -> usize
     requires { at < length tokens.now }
     ensures { result ≡ at + 1 }
@@ -85,7 +85,7 @@ impl Growing {
         }
     }
 
-    /// Reads the line from the token of this number on: gives the number of the token behind it, or
+    /// Reads the line from the token of this number on: gives the number of the token after it, or
     /// the line's refusal.
     ///
     /// # Errors
@@ -200,7 +200,7 @@ impl Growing {
         }
     }
 
-    // Puts the block at hand back, with one more line; gives the number of the token behind that.
+    // Puts the block at hand back, with one more line; gives the number of the token after that.
     fn extend(&mut self, line: Extended) -> usize
         ensures end { result ≡ line.end }
         ensures stands { (p : Part) (ps : List Part) → IsOpen p line.block → AreBlocks ps (map block_of self.old.done) → StandsFor (position (p ∷ ps) line.begun) self.new }

@@ -32,9 +32,9 @@ use std::alloc::{AllocError, Global};
 #[derive(Drop)]
 pub struct Extended {
     pub block: Open,
-    /// Behind the colon of a `CASE`'s item, where its line begins.
+    /// After the colon of a `CASE`'s item, where its line begins.
     pub begun: Option<Place>,
-    /// The number of the token behind the line.
+    /// The number of the token after the line.
     pub end: usize,
 }
 
@@ -53,7 +53,7 @@ impl Extended {
     }
 }
 
-// A list with more elements behind it.
+// A list with more elements after it.
 fn appended<T: Drop>(items: List<T>, more: List<T>) -> Result<List<T>, AllocError>
     ensures { IfOk result (λ all. all ≡ items ++ more) }
 {
@@ -77,7 +77,7 @@ fn lines_in(alloc: Global, line: Option<DatLine>) -> Result<List<DatLine>, Alloc
     }
 }
 
-/// Reads what follows a block's word on its line: gives the block, and the number of the token behind
+/// Reads what follows a block's word on its line: gives the block, and the number of the token after
 /// the line.
 ///
 /// # Errors
@@ -208,7 +208,7 @@ fn more_data(
     Ok(Extended::new(Open::Data(appended(lines, more)?), end))
 }
 
-// Whether a line goes on behind its colon.
+// Whether a line goes on after its colon.
 fn is_item(kind: &LineKind) -> bool
     ensures { result ≡ is_item (kind_of kind.now) }
 {
@@ -218,7 +218,7 @@ fn is_item(kind: &LineKind) -> bool
     }
 }
 
-// Where the line begins that goes on behind this one, if one does.
+// Where the line begins that goes on after this one, if one does.
 fn begun_by(kind: &LineKind, first: First) -> Option<Place>
     ensures { result ≡ (if is_item (kind_of kind.now) then Some first.begin else None) }
 {

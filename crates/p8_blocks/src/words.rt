@@ -47,7 +47,7 @@ fn is_loop_end_word(word: Word) -> bool
     matches!(word, Word::While | Word::Until)
 }
 
-/// Whether a line that begins with the word goes on with a chain, where it doesn't go on behind the
+/// Whether a line that begins with the word goes on with a chain, where it doesn't go on after the
 /// colon of a `CASE`'s item.
 pub fn goes_on_chain(begun: bool, word: Word) -> bool
     ensures { result ≡ goes_on_chain begun word }

@@ -60,7 +60,7 @@ clock_by (top ∷ xs) = clock_of (constant_named top.kinds (codes "_CLKMODE")) (
 abbrev pub start : Place
 start = record { line = 1; column = 1 }
 
--- 28 where the first frame would end behind the hub, 29 where the clock's constants tell none, at the beginning of the top file
+-- 28 where the first frame would end after the hub, 29 where the clock's constants tell none, at the beginning of the top file
 pub data IsImageFault (objects : List ObjectPart) (clock : Option Clock) (f : Fault) : Type 0 where
   too_large : 32768 < (header_by objects).dcurr → fault 28 start ≡ f → IsImageFault objects clock f
   no_clock : clock ≡ None → fault 29 start ≡ f → IsImageFault objects clock f

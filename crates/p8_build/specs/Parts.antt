@@ -80,7 +80,7 @@ instances_of files s x = replicate (count_in s x.count) (number_of files x.file)
 
 -- ---- an object
 
--- where its DAT begins: behind its size, two counts, and four bytes for each method and each instance inside
+-- where its DAT begins: after its size, two counts, and four bytes for each method and each instance inside
 abbrev pub data_start : Setting → Source → ℕ
 data_start s source = 4 + 4 * length (numbered (items source)) + 4 * instances s (objects (items source))
 

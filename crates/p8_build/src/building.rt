@@ -36,7 +36,7 @@ pub struct Built {
 ///
 /// `Source` with the first refusal of the project: by phase, then by file in their order, then by place, then by number. The phases
 /// are names and constants (12 to 18 and 20), data (12, 13 and 21 to 24), code (25 to 27), and the image: 28 where the first frame
-/// would end behind the hub's 32,768 bytes, else 29 where the clock's constants tell none, both at the beginning of the top file.
+/// would end after the hub's 32,768 bytes, else 29 where the clock's constants tell none, both at the beginning of the top file.
 ///
 /// `NoMemory` may come at any point. It takes time and memory in proportion to the project and to its data, but for look-ups of
 /// names and places, which take the logarithm of their number.

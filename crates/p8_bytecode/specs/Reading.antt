@@ -29,12 +29,12 @@ offset_size long_form = if long_form then 2 else 1
 
 -- ---- effects
 
--- the operation with the offset of a step of REPEAT, behind so many bytes
+-- the operation with the offset of a step of REPEAT, after so many bytes
 abbrev pub stepping : Op → ℕ → Option (ℕ × Bool) → Option (Op × ℕ)
 stepping op size None = None
 stepping op size (Some offset) = Some (record op { second = offset.0; long_form = offset.1 }, size + offset_size offset.1)
 
--- the operation with the effect at the head of these bytes, which stand behind so many others
+-- the operation with the effect at the head of these bytes, which stand after so many others
 abbrev pub effect_in : Op → ℕ → List ℕ → Option (Op × ℕ)
 effect_in op size [] = None
 effect_in op size (effect ∷ rest) =

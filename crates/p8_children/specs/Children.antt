@@ -39,7 +39,7 @@ abbrev pub method_at : List (List ℕ) → Item → List ChildMethod
 method_at before (method m) = if m.public then shown_method before m ∷ [] else []
 method_at before x = []
 
--- the PUBs of items that stand behind these names
+-- the PUBs of items that stand after these names
 abbrev pub methods_from : List (List ℕ) → List Item → List ChildMethod
 methods_from before [] = []
 methods_from before (x ∷ xs) = method_at before x ++ methods_from (behind before x) xs

@@ -26,7 +26,7 @@ struct Found {
 /// What each file of a project sees of the files of its objects, in the order of the project's files: for each item of `OBJ` the
 /// PUBs of its file and the file's constants, of several definitions of one name the first.
 ///
-/// Each file is looked at once, behind those that it mentions. It takes time and memory in proportion to the files and to what
+/// Each file is looked at once, after those that it mentions. It takes time and memory in proportion to the files and to what
 /// they see, but for look-ups of names, which take the logarithm of their number.
 pub fn children_of(alloc: Global, project: &Project) -> Result<Vec<Children>, NoMemory>
     requires mentioned { HaveMentioned (named_sources_of project.now) }

@@ -25,7 +25,7 @@ use Rattle.p8_cog.specs.Reaching.{begin-near, last-ends, ended-behind}
 
 -- ---- what is told where a replay has come
 
--- a replay behind one more step than it has come
+-- a replay after one more step than it has come
 beyond : (loaded : Loaded) (ts : List Turn) (done m n : ℕ) (here : Outcome) → replayed done loaded ts ≡ here → n ≡ m + (done + 1) → replayed n loaded ts ≡ after loaded.cog m (step loaded.cog here)
 beyond loaded ts done m n here is e =
     ap (λ (k : ℕ). replayed k loaded ts) e ∙ after-plus loaded.cog m (done + 1) _
@@ -320,7 +320,7 @@ half-stands done cog code stage p new turn is keeps (SpinBegun entered) ts stand
 
 -- ---- the load
 
--- what a load asks that goes on behind these longs
+-- what a load asks that goes on after these longs
 reading-asks : (code : ℕ) (s : State) (loaded : Loaded) (ts : List Turn) → IsReading code s loaded ts → loaded_by loaded ts ≡ Asks (s.clock + 16) (Read Long (code + 4 * s.at))
 unfolding loading
 reading-asks code s loaded ts r =
@@ -355,7 +355,7 @@ unloaded-stands cog code par load p same-par at clock =
       goes_on = λ more. refl;
     })
 
--- behind one more long the load goes on so
+-- after one more long the load goes on so
 goes-more : (loaded : Loaded) (ts : List Turn) (turn : Turn) (to_come : ℕ) (longs : List ℕ) → ((more : List Turn) → played (loading loaded 496 []) (ts ++ more) ≡ played (loading loaded (suc to_come) longs) more) → (more : List Turn) → played (loading loaded 496 []) (ts ++ turn ∷ [] ++ more) ≡ played (loading loaded to_come (longs ++ value_of turn.answer ∷ [])) more
 unfolding loading
 goes-more loaded ts turn to_come longs goes_on more =
@@ -375,7 +375,7 @@ read-more code old new loaded ts turn longs (suc n) r held count all goes_on loa
   goes_on = goes-more loaded ts turn (suc n) longs goes_on;
 }
 
--- behind the last read the first instruction begins
+-- after the last read the first instruction begins
 read-last : (old : State) (new : Progress) (loaded : Loaded) (ts : List Turn) (turn : Turn) (longs : List ℕ) (to_come : ℕ) → old.par ≡ loaded.par → old.clock ≡ loaded.load + 16 * old.at → take old.at old.registers ≡ longs → old.at + suc to_come ≡ 496 → ((more : List Turn) → played (loading loaded 496 []) (ts ++ more) ≡ played (loading loaded (suc to_come) longs) more) → Loads old (value_of turn.answer) new Running → loaded_by loaded (ts ++ turn ∷ []) ≡ running_at new
 unfolding loading
 read-last old new loaded ts turn longs (suc n) par clock held all goes_on loads = absurd (omega (arith, all, loads.0))
@@ -388,7 +388,7 @@ read-last old new loaded ts turn longs zero par clock held all goes_on loads =
     ap (loaded_by loaded) (sym (append-nil (ts ++ turn ∷ []))) ∙ goes-more loaded ts turn zero longs goes_on []
     ∙ ap (λ (s : State). Goes s []) first ∙ ap (λ (had : Had). Goes new.begun (turns_of had)) (sym loads.2)
 
--- the last long of a load, and the first instruction behind it
+-- the last long of a load, and the first instruction after it
 pub last-loads : (old mid new : State) (long : ℕ) → mid.par ≡ old.par → mid.at ≡ old.at + 1 → mid.clock ≡ old.clock + 16 → take (old.at + 1) mid.registers ≡ take old.at old.registers ++ long ∷ [] → old.at < 496 → 496 ≤ mid.at → new ≡ first_with (take 496 mid.registers) mid.par (mid.clock + 256) → (old.at ≡ 495) × (new ≡ first_with (take old.at old.registers ++ long ∷ []) old.par (old.clock + 272))
 last-loads old mid new long par at clock longs below all begins =
     let last : old.at ≡ 495 = omega (arith, at, below, all) in

@@ -27,14 +27,14 @@ IsWithin base (Ask clock access go) = clock ≤ base + 16
 IsWithin base (Go s) = s.clock ≤ base + 8
 IsWithin base End = Unit {0}
 
--- and so it does behind each turn that is on time
+-- and so it does after each turn that is on time
 abbrev pub IsClose : Course → Type 0
 IsClose (Ask clock access go) =
     (turn : Turn) → (IsOnTime access clock turn.key.clock → IsWithin turn.key.clock (go turn)) × IsClose (go turn)
 IsClose (Go s) = Unit {0}
 IsClose End = Unit {0}
 
--- it ends only behind a last access; `last` says whether the access before is one
+-- it ends only after a last access; `last` says whether the access before is one
 abbrev pub EndsBy : (cog : ℕ) → (last : Bool) → Course → Type 0
 EndsBy cog last (Ask clock access go) = (turn : Turn) → EndsBy cog (is_last cog access) (go turn)
 EndsBy cog last (Go s) = Unit {0}
@@ -222,7 +222,7 @@ pub begin-near : (cog clock : ℕ) (s : State) (access : Access) → played (ins
 begin-near cog clock s access e =
     subst (IsUpTo s.clock) e (played-up (instruction cog s) s.clock (does-within (kind_of (at_hand s) s.c s.z) cog s))
 
--- what a turn leads to isn't far behind it
+-- what a turn leads to isn't far after it
 came-near : (cog : ℕ) (s : State) (ts : List Turn) (turn : Turn) → Comes (played (instruction cog s) ts) turn → IsUpTo turn.key.clock (played (instruction cog s) (ts ++ turn ∷ []))
 came-near cog s ts turn comes =
     played-on (instruction cog s) ts turn comes.0 turn.access (does-close (kind_of (at_hand s) s.c s.z) cog s) comes.2 comes.1

@@ -134,7 +134,7 @@ written_by (Some access) cog clock next = ask cog clock access (λ turn. Go next
 abbrev pub write : (cog : ℕ) → State → Effect → (clock : ℕ) → (next : State) → Course
 write cog s e clock next = written_by (result_access (at_hand s) e.result) cog clock next
 
--- behind an access the result is written at this clock, and the instruction ends a clock later
+-- after an access the result is written at this clock, and the instruction ends a clock later
 abbrev pub ends_after : (cog : ℕ) → State → Effect → (clock : ℕ) → Course
 ends_after cog s e clock = write cog s e clock (fetched_before s e (next_of s) (clock + 1))
 
@@ -222,7 +222,7 @@ hub_request i value source =
     if i.opcode == hubop then operation_request (source % 8) value
     else move_request i (width_of i.opcode) value source
 
--- an access of the hub, at the cog's first window after the instruction's begin; behind its turn the
+-- an access of the hub, at the cog's first window after the instruction's begin; after its turn the
 -- result is written 6 clocks later
 abbrev pub ask_hub : (cog : ℕ) → State → Request → Course
 ask_hub cog s r =
@@ -249,7 +249,7 @@ abbrev pub wait_effect : (opcode value source : ℕ) → Effect
 wait_effect opcode value source =
     if opcode == waitcnt then sum_effect (value + source) else plain_effect value false
 
--- a wait, from the fourth clock on; its result is written a clock behind its turn
+-- a wait, from the fourth clock on; its result is written a clock after its turn
 abbrev pub wait : (cog : ℕ) → State → (source : ℕ) → Course
 wait cog s source =
     ask cog (s.clock + 4) (Wait (test_of (at_hand s).opcode (destination_value s) source))
@@ -311,7 +311,7 @@ first_with longs par begin = record {
   z = false;
 }
 
--- The load behind a PASM start: 496 reads, long k from the address code + 4k at the clock load + 16(k + 1).
+-- The load after a PASM start: 496 reads, long k from the address code + 4k at the clock load + 16(k + 1).
 -- These longs have been read, and so many are to come; then the first instruction begins, 8,192 clocks
 -- after the turn of Load.
 unfoldable pub loading : Loaded → (to_come : ℕ) → (longs : List ℕ) → Course
@@ -324,7 +324,7 @@ loading l (suc to_come) longs =
 abbrev pub loaded_by : Loaded → List Turn → Outcome
 loaded_by loaded turns = played (loading loaded 496 []) turns
 
--- so many instructions behind the load, with these turns
+-- so many instructions after the load, with these turns
 abbrev pub replayed : (count : ℕ) → Loaded → List Turn → Outcome
 replayed count loaded turns = after loaded.cog count (loaded_by loaded turns)
 
@@ -344,7 +344,7 @@ abbrev pub IsLoading : Loaded → List Turn → Type 0
 IsLoading loaded turns = (clock : ℕ) × (access : Access) × (loaded_by loaded turns ≡ Asks clock access)
 
 -- with these turns so many instructions are done whole, and the next one begins at this clock; while the
--- load asks none is, and the first one begins behind it
+-- load asks none is, and the first one begins after it
 abbrev pub Begins : Begun → List Turn → (place clock : ℕ) → Type 0
 Begins (PasmBegun loaded) turns place clock =
     BeginsAt clock (replayed place loaded turns) ⊎ (IsLoading loaded turns × (place ≡ 0) × (clock ≡ loaded.load + 8192))

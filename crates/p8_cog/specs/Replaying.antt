@@ -33,7 +33,7 @@ IsNotBefore least (Ask clock access go) = least ≤ clock
 IsNotBefore least (Go s) = least ≤ s.clock
 IsNotBefore least End = Unit {0}
 
--- what comes in a course behind a turn that is on time comes later than it
+-- what comes in a course after a turn that is on time comes later than it
 abbrev pub IsOrderly : Course → Type 0
 IsOrderly (Ask clock access go) =
     (turn : Turn) → (IsOnTime access clock turn.key.clock → IsNotBefore (turn.key.clock + 1) (go turn)) × IsOrderly (go turn)
@@ -118,7 +118,7 @@ ends-orderly cog s e clock = written-orderly (at_hand s) e.result cog clock _ (o
 ends-short : (cog : ℕ) (s : State) (e : Effect) (clock n : ℕ) → IsShort (ends_after cog s e clock) (suc n)
 ends-short cog s e clock n = written-short (result_access (at_hand s) e.result) cog clock n _
 
--- how an instruction goes on behind an access of the hub, and behind a wait
+-- how an instruction goes on after an access of the hub, and after a wait
 abbrev pub behind_hub : (cog : ℕ) → State → Request → Turn → Course
 behind_hub cog s r turn = ends_after cog s (answered r.kept turn.answer) (turn.key.clock + 6)
 
@@ -235,7 +235,7 @@ played-from (Ask clock access go) least from = from
 played-from (Go s) least from = from
 played-from End least from = tt
 
--- more turns behind: they are left where the outcome doesn't wait for one
+-- more turns after: they are left where the outcome doesn't wait for one
 abbrev pub more : Outcome → List Turn → Outcome
 more (Goes s left) extra = Goes s (left ++ extra)
 more (Asks clock access) extra = Asks clock access
@@ -379,7 +379,7 @@ unfolding loading
 loading-not_before least l zero longs room le = omega (arith, room, le)
 loading-not_before least l (suc n) longs room le = omega (arith, le)
 
--- what comes behind a read comes later than it
+-- what comes after a read comes later than it
 loading-orderly : (l : Loaded) (n : ℕ) (longs : List ℕ) → length longs + n ≤ 496 → IsOrderly (loading l n longs)
 unfolding loading
 loading-orderly l zero longs room = tt

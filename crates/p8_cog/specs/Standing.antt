@@ -29,7 +29,7 @@ standing_at Loading code p = Asks (p.begun.clock + 16) (Read Long (code + 4 * p.
 standing_at Running code p = running_at p
 standing_at Over code p = Ends
 
--- the registers hold the longs that were read, and whatever turns come, the load goes on behind these
+-- the registers hold the longs that were read, and whatever turns come, the load goes on after these
 pub record IsReading (code : ℕ) (state : State) (loaded : Loaded) (turns : List Turn) : Type 0 where
   pub own : loaded.code ≡ code
   pub par : state.par ≡ loaded.par

@@ -202,7 +202,7 @@ impl State {
         }
     }
 
-    /// Ends an instruction behind its access, with its result written at a clock.
+    /// Ends an instruction after its access, with its result written at a clock.
     fn end_after(&mut self, i: Instr, cog: u8, effect: Effect, clock: u64, had: &[Turn]) -> Ending
         requires decoded { i ≡ at_hand self.old }
         requires fits { FitsFields i }

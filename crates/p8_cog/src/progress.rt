@@ -190,7 +190,7 @@ impl Progress {
         }
     }
 
-    /// The life is over; behind its end nothing looks at the instruction.
+    /// The life is over; after its end nothing looks at the instruction.
     fn close(&mut self, clock: u64)
         requires { clock < 2 ^ 62 }
         ensures had { self.new.had ≡ Nothing }

@@ -49,7 +49,7 @@ impl Registers {
         clear_special(&mut self.longs);
     }
 
-    /// Writes a register behind those that were loaded.
+    /// Writes a register after those that were loaded.
     pub fn load(&mut self, register: u16, value: u32)
         requires { register < 512 }
         ensures { take (register + 1) self.new ≡ take register self.old ++ value ∷ [] }

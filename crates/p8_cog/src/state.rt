@@ -83,7 +83,7 @@ impl State {
         self.clock += 16;
     }
 
-    /// Begins the first instruction behind the last read of the load, 8,192 clocks after the Load.
+    /// Begins the first instruction after the last read of the load, 8,192 clocks after the Load.
     pub fn begin(&mut self)
         requires { self.old.clock < 2 ^ 62 + 2 ^ 8 }
         ensures { self.new ≡ first_with (take 496 self.old.registers) self.old.par (self.old.clock + 256) }
@@ -144,7 +144,7 @@ impl State {
         }
     }
 
-    /// The value of the source, and the turns that are left behind its read; or the access that reads it
+    /// The value of the source, and the turns that are left after its read; or the access that reads it
     /// and has had no turn.
     #[inline]
     pub fn source<'a>(&self, i: Instr, had: &'a [Turn]) -> Result<(u32, &'a [Turn]), Access>

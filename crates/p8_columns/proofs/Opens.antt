@@ -66,7 +66,7 @@ pub none_right : (c : ℕ) (xs : List Line) → Past c xs → open_for c xs ≡ 
 none_right c [] p = refl
 none_right c (x ∷ xs) p = unseen c x xs (λ h. absurd (omega (arith, h.1, p.0))) ∙ none_right c xs p.1
 
--- where no line is open for a later one, none is open behind it
+-- where no line is open for a later one, none is open after it
 pub skips : (c : ℕ) (ws : List Line) (l : Line) (vs : List Line) → open_for (column l) ws ≡ [] → open_for c (ws ++ l ∷ vs) ≡ open_for c (l ∷ vs)
 skips c [] l vs h = refl
 skips c (w ∷ ws) l vs h = go (λ g. skips c ws l vs g) (is_open (column l) w ws) refl h

@@ -36,7 +36,7 @@ two_under_a_loop a b = reads (line (place 1 3) (Repeat Forever) ∷ line (place 
 pub chain_of_three : (t u : Tree) (a b c : Action) → AreStatements (no_statements ▹ statement (place 1 3) (trees.If (no_arms ⊳ condition false t (no_statements ▹ statement (place 2 5) a) ⊳ condition true u (no_statements ▹ statement (place 4 5) b)) (otherwise (no_statements ▹ statement (place 6 5) c)))) (line (place 1 3) (If false t) ∷ line (place 2 5) (Plain a) ∷ line (place 3 3) (ElseIf true u) ∷ line (place 4 5) (Plain b) ∷ line (place 5 3) Else ∷ line (place 6 5) (Plain c) ∷ [])
 chain_of_three t u a b c = reads (line (place 1 3) (If false t) ∷ line (place 2 5) (Plain a) ∷ line (place 3 3) (ElseIf true u) ∷ line (place 4 5) (Plain b) ∷ line (place 5 3) Else ∷ line (place 6 5) (Plain c) ∷ []) (tt, (λ h. cc, ((refl, refl), (λ h. cc, ((refl, refl), (λ h. cc, tt))))))
 
--- CASE with an item, whose first statement stands behind its colon, and OTHER
+-- CASE with an item, whose first statement stands after its colon, and OTHER
 pub case_with_other : (e : Tree) (ts : Items) (a b c : Action) → AreStatements (no_statements ▹ statement (place 1 3) (trees.Case e (no_arms ⊳ arm ts false (no_statements ▹ statement (place 2 8) a ▹ statement (place 3 7) b)) (otherwise (no_statements ▹ statement (place 4 12) c)))) (line (place 1 3) (Case e) ∷ line (place 2 5) (Item ts) ∷ line (place 2 8) (Plain a) ∷ line (place 3 7) (Plain b) ∷ line (place 4 5) Other ∷ line (place 4 12) (Plain c) ∷ [])
 case_with_other e ts a b c = reads (line (place 1 3) (Case e) ∷ line (place 2 5) (Item ts) ∷ line (place 2 8) (Plain a) ∷ line (place 3 7) (Plain b) ∷ line (place 4 5) Other ∷ line (place 4 12) (Plain c) ∷ []) (tt, ((refl, λ h. h), (λ h. cc, (λ h. cc, ((refl, none_other [] (line (place 2 5) (Item ts) ∷ line (place 2 8) (Plain a) ∷ line (place 3 7) (Plain b) ∷ []) refl), (λ h. cc, tt))))))
 
@@ -56,6 +56,6 @@ else_without_chain t a h = let e = h.1 in cc
 pub until_without_loop : (n t : Tree) → ¬ Fits (line (place 1 3) (Repeat (Count n)) ∷ []) (line (place 2 3) (End true t))
 until_without_loop n t h = let e = h.1 in cc
 
--- an item behind OTHER
+-- an item after OTHER
 pub item_behind_other : (e : Tree) (ts : Items) → ¬ Fits (line (place 1 3) (Case e) ∷ line (place 2 5) Other ∷ []) (line (place 3 5) (Item ts))
 item_behind_other e ts h = h.1 (inl (refl, refl))

@@ -59,7 +59,7 @@ closes (f ∷ k) c b x ls m s = go (λ b' x' ls'. closes k c b' x' ls') (nat_le 
     go ih true e = let y = ended s.pending b x s.vs s.made s.sort in ih (UpTo (column f.opener)) (closed f.outer f.opener x) ls (leb-true c (column f.opener) e) (record { us = y.us; vs = y.vs; pending = y.pending; made = y.made; sort = y.sort; is = s.is ∙ y.is })
     go ih false e = record { b = b; may = m; stands = s; below = leb-false c (column f.opener) e }
 
--- a line behind the blocks that it closes
+-- a line after the blocks that it closes
 puts : (s : State) (l : Line) (ls : List Line) (b : Bound) → May (column l) b → Stands b s.contents s.frames ls → top s.frames ≤ column l → Joins b s.contents l → Stands Anywhere (put s l).contents (put s l).frames (ls ++ l ∷ [])
 puts s l ls b m w le j = go (is_opener l.kind) refl
   where

@@ -20,7 +20,7 @@ use Rattle.p8_columns.specs.declared.line.LineKind.TheVariants as kind_case
 pub chain_kind : (v : Vec code_arm.Arm Global) (xs : List code_arm.Arm) (a : Arm) → xs ≡ [] → arms_of v.items ≡ arms_of xs ⊳ a → action_of (stmt_case.If v None) ≡ If (no_arms ⊳ a) nothing_else
 chain_kind v xs a e h = if_is v None ∙ ap (λ x. If x nothing_else) (h ∙ ap (λ x. arms_of x ⊳ a) e)
 
--- a loop and a CASE behind statements
+-- a loop and a CASE after statements
 pub body_repeat : (ss : Statements) (p : Place) (k : kind.LineKind) (c : loop.Loop) (v : Vec stmt.Stmt Global) → k ≡ kind_case.Repeat c → ss ▹ statement p (action_of (stmt_case.Repeat c v)) ≡ with_body ss p (kind_of k) (statements_of v.items)
 body_repeat ss p k c v e = ap (λ n. ss ▹ statement p n) (repeat_is c v) ∙ ap (λ k. with_body ss p (kind_of k) (statements_of v.items)) (sym e)
 

@@ -55,7 +55,7 @@ abbrev pub is_repeat : Kind → Bool
 is_repeat (Repeat course) = true
 is_repeat _ = false
 
--- a REPEAT with nothing behind it
+-- a REPEAT with nothing after it
 abbrev pub is_plain_repeat : Kind → Bool
 is_plain_repeat (Repeat Forever) = true
 is_plain_repeat _ = false

@@ -93,7 +93,7 @@ abbrev pub close : ℕ → Contents → List Frame → State
 close c x [] = state x []
 close c x (f ∷ k) = if nat_le c (column f.opener) then close c (closed f.outer f.opener x) k else state x (f ∷ k)
 
--- a line behind the contents of its block
+-- a line after the contents of its block
 abbrev pub put : State → Line → State
 put s l = if is_opener l.kind then state (begun l.kind) (frame l s.contents ∷ s.frames) else state (closed s.contents l (body no_statements)) s.frames
 

@@ -48,7 +48,7 @@ fn close(
     Ok(contents)
 }
 
-// A line behind the blocks that it closes.
+// A line after the blocks that it closes.
 fn put(
     alloc: Global,
     line: Line,

@@ -100,7 +100,7 @@ fn with_item(
     }
 }
 
-// Statements and a line behind them, with the contents of its block.
+// Statements and a line after them, with the contents of its block.
 fn with_block(
     alloc: Global,
     statements: Vec<Stmt>,
@@ -121,7 +121,7 @@ fn with_block(
     }
 }
 
-// The items of a `CASE` and a line behind them, with the contents of its block.
+// The items of a `CASE` and a line after them, with the contents of its block.
 fn with_case_block(
     arms: Vec<Arm>,
     other: Option<Vec<Stmt>>,
@@ -147,7 +147,7 @@ impl Contents {
         }
     }
 
-    /// These contents and a line behind them, with the contents of its block.
+    /// These contents and a line after them, with the contents of its block.
     pub fn with(self, alloc: Global, line: Line, inner: Contents) -> Result<Contents, AllocError>
         ensures { IfOk result (λ x. contents_of x ≡ closed (contents_of self) (line_of line) (contents_of inner)) }
     {

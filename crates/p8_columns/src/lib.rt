@@ -4,7 +4,7 @@
 //! whose opener stands at column c or to the right of it, and then stands in the innermost block that
 //! is left, the method itself at last. An `ELSE` kind goes on with the `IF` chain at its own column,
 //! a line that begins with `WHILE` or `UNTIL` ends the plain `REPEAT` at its own column, and items and
-//! `OTHER` stand directly under a `CASE`, with nothing behind `OTHER`.
+//! `OTHER` stand directly under a `CASE`, with nothing after `OTHER`.
 //!
 //! `Blocks` takes the lines one after another, each where it fits, and gives the statements. Its
 //! queries tell what fits at a column, how deep a line there would stand and whether in a loop; what

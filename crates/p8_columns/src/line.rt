@@ -5,7 +5,7 @@ ghost use Rattle.p8_columns.specs.Views.{kind_of};
 
 use p8_tree::{Expr, Item, List, Loop, Place};
 
-/// A line of a method, or the statement behind the colon of a `CASE`'s item: a line of its own, at
+/// A line of a method, or the statement after the colon of a `CASE`'s item: a line of its own, at
 /// its own column.
 #[derive(Drop)]
 pub struct Line {
@@ -76,7 +76,7 @@ impl LineKind {
         }
     }
 
-    /// Whether it is a `REPEAT` with nothing behind it.
+    /// Whether it is a `REPEAT` with nothing after it.
     pub fn is_plain_repeat(&self) -> bool
         ensures { result ≡ is_plain_repeat (kind_of self.now) }
     {

@@ -84,7 +84,7 @@ module _ (g : List (List ℕ)) (marks : List Mark) (nodes ts : List ℕ) (bs : L
   target_left : (x : ℕ) → x < length ts → node_at ts' x ≡ node_at ts x
   target_left x h = at_left ts (targets_of g t) 0 x h
 
-  -- a target behind the old ones is that of an edge of the node
+  -- a target after the old ones is that of an edge of the node
   new_target : (x : ℕ) → length ts ≤ x → x < length ts' → IsEdge g t (node_at ts' x)
   new_target x low high =
       subst (IsEdge g t) (sym (get_or-append_right ts (targets_of g t) (length ts) x 0 refl low)) (edge_to g t (x - length ts) (omega (arith, more_targets)))

@@ -33,13 +33,13 @@ abbrev pub sum_of : Sum → ℕ → Option Tree → Sum
 sum_of counter k None = counter
 sum_of counter k (Some e) = record { whole = 0; terms = value_term k e ∷ [] }
 
--- the counter behind a name: a name without a value moves it by its step
+-- the counter after a name: a name without a value moves it by its step
 abbrev pub stepped : Sum → ℕ → Option Tree → Option Tree → Sum
 stepped counter k (Some e) step = counter
 stepped counter k None None = record counter { whole = counter.whole + 1 }
 stepped counter k None (Some e) = record counter { terms = counter.terms ++ step_term k e ∷ [] }
 
--- the counter behind the item k
+-- the counter after the item k
 abbrev pub after : Sum → ℕ → Constant → Sum
 after counter k x = if x.sets then sum_of counter k x.value else stepped counter k x.value x.step
 

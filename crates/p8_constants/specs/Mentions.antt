@@ -1,4 +1,4 @@
--- Which names stand alone in an expression, so that what they mean decides its value. Names behind `#`, which belong to other
+-- Which names stand alone in an expression, so that what they mean decides its value. Names after `#`, which belong to other
 -- files, are not among them; the name before `#` is.
 use Rattle.std.specs.Prelude.{◌≡◌, ◌⊎◌, ℕ, List, [], ◌∷◌, ◌++◌, Option, Some, None}
 use Rattle.p8_tree.specs.Expressions.{Tree, node, Form, Number, Str, Here, Var, Call, Unary, Binary, Assign, Change, Address, ObjectAddress, ObjConst, Built, Look, Variable, Named, Part, Memory, Register, Index, no_index, index, Bits, whole, bits, Item, single, range, Trees, no_trees, ◌▷◌, Items, no_items, ◌▸◌}

@@ -145,7 +145,7 @@ impl Evaluation {
         self.moved(plan.rows.len(), k - 1, move_of(plan.rows.item(k - 1)))
     }
 
-    // The counter behind an item.
+    // The counter after an item.
     fn moved(&self, count: usize, k: usize, movement: Move) -> u32
         requires item { k < count }
         requires size { length self.now.values.items ≡ 2 * count + count }

@@ -14,7 +14,7 @@ use p8_tree::{ConItem, Expr};
 use p8_words::NoMemory;
 use std::alloc::{AllocError, Global};
 
-/// The graph of the expressions of a file's items, each item's value and then its step, and behind them of the counters as
+/// The graph of the expressions of a file's items, each item's value and then its step, and after them of the counters as
 /// they come to each item. Each leads to what its value is made of.
 pub(crate) fn graph_of(alloc: Global, rows: &Rows, index: &Index) -> Result<Graph, NoMemory>
     requires { 2 * length rows.now + length rows.now < 2 ^ 64 }
@@ -94,7 +94,7 @@ fn before(alloc: Global, rows: &Rows, k: usize) -> Result<Vec<usize>, AllocError
     behind(alloc, rows.len(), k - 1, move_of(rows.item(k - 1)))
 }
 
-// The nodes to which a counter leads behind an item.
+// The nodes to which a counter leads after an item.
 fn behind(alloc: Global, count: usize, k: usize, movement: Move) -> Result<Vec<usize>, AllocError>
     requires within { k < count }
     requires room { 2 * count + count < 2 ^ 64 }

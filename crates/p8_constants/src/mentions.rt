@@ -41,7 +41,7 @@ impl<'a> Names<'a> {
 }
 
 /// The names that stand alone in an expression, from left to right, each as often as it stands there: those whose meanings
-/// decide its value, but for names behind `#`.
+/// decide its value, but for names after `#`.
 pub fn names_in<'a>(alloc: Global, expr: &'a Expr) -> Result<Names<'a>, NoMemory>
     ensures in_order { IfOk result (λ names. names ≡ mentioned (tree_of expr.now)) }
     ensures each { IfOk result (λ names. (n : List ℕ) → Contains names n ↔ Mentions (tree_of expr.now) n) }

@@ -28,10 +28,10 @@ pub data Told (S : Type 0) : Type 0 where
   Wants : (made : List Access) (access : Access) → Told S
   -- it is done, and these answers are left
   Leaves : (made : List Access) (state : S) (left : List Answer) → Told S
-  -- a halt, or the cog's stop of itself, was answered, and nothing comes behind that
+  -- a halt, or the cog's stop of itself, was answered, and nothing comes after that
   Closes : (made : List Access) → Told S
 
--- a course with these answers, behind the accesses that were made: each access takes the first that is left
+-- a course with these answers, after the accesses that were made: each access takes the first that is left
 abbrev pub told : {S : Type 0} → (cog : ℕ) (made : List Access) → Course S → List Answer → Told S
 told cog made (Finish s) answers = Leaves made s answers
 told cog made (Stop reason) [] = Wants made (Halt reason)

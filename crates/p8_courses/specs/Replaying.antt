@@ -30,7 +30,7 @@ earliest-near cog p (Wait test) = omega arith
 earliest-near cog p (Halt reason) = omega arith
 earliest-near cog p _ = omega arith
 
--- what comes behind a turn that is on time is later than it, and not far behind
+-- what comes after a turn that is on time is later than it, and not far after
 pub behind-later : (cog p : ℕ) (access : Access) (turn : ℕ) → IsOnTime access (earliest cog p access) turn → turn + 1 ≤ behind p access turn
 behind-later cog p PinsIn turn on = omega (arith, on)
 behind-later cog p Clock turn on = omega (arith, on)
@@ -67,7 +67,7 @@ played-from cog p least (Finish s) le = le
 played-from cog p least (Stop reason) le = le
 played-from cog p least (Ask access go) le = omega (arith, le, earliest-from cog p access)
 
--- more turns behind: they are left where the outcome doesn't wait for one
+-- more turns after: they are left where the outcome doesn't wait for one
 abbrev pub more : {S : Type 0} → Outcome S → List Turn → Outcome S
 more (Goes s clock left) extra = Goes s clock (left ++ extra)
 more (Asks clock access) extra = Asks clock access

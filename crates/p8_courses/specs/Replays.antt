@@ -24,7 +24,7 @@ unfoldable pub after : {S : Type 0} → Engine S → (count : ℕ) → Outcome S
 after e zero o = o
 after e (suc n) o = step e (after e n o)
 
--- a life that begins with this course at this clock, with these turns, and so many courses behind the first
+-- a life that begins with this course at this clock, with these turns, and so many courses after the first
 abbrev pub replayed : {S : Type 0} → Engine S → (start : ℕ) → (first : Course S) → (count : ℕ) → List Turn → Outcome S
 replayed e start first count turns = after e count (played e.cog start first turns)
 

@@ -10,7 +10,7 @@ use Rattle.p8_courses.specs.Courses.{Course, Finish, Stop, Ask}
 
 -- the earliest clock of an access that is asked at p: the pins and the counter are read 2 clocks later, OUTA
 -- and DIRA written 3 clocks later, a wait begins 4 clocks later, a halt comes at once, and each access of
--- the hub at the cog's first window behind p
+-- the hub at the cog's first window after p
 abbrev pub earliest : (cog p : ℕ) → Access → ℕ
 earliest cog p PinsIn = p + 2
 earliest cog p Clock = p + 2
@@ -20,8 +20,8 @@ earliest cog p (Wait test) = p + 4
 earliest cog p (Halt reason) = p
 earliest cog p _ = window_of cog (p + 1)
 
--- where the course is behind the turn of an access that was asked at p: 4 clocks behind p, 2 behind the end of
--- a wait, 7 behind a window
+-- where the course is after the turn of an access that was asked at p: 4 clocks after p, 2 after the end of
+-- a wait, 7 after a window
 abbrev pub behind : (p : ℕ) → Access → (turn : ℕ) → ℕ
 behind p PinsIn turn = p + 4
 behind p Clock turn = p + 4
@@ -34,9 +34,9 @@ behind p _ turn = turn + 7
 pub data Outcome (S : Type 0) : Type 0 where
   -- this access is the first that has none, and this is its earliest clock
   Asks : (clock : ℕ) (access : Access) → Outcome S
-  -- it is done and leaves this at this clock, and these turns are left for what comes behind it
+  -- it is done and leaves this at this clock, and these turns are left for what comes after it
   Goes : (state : S) (clock : ℕ) (left : List Turn) → Outcome S
-  -- a halt, or the cog's stop of itself, had its turn, and nothing comes behind that
+  -- a halt, or the cog's stop of itself, had its turn, and nothing comes after that
   Ends : Outcome S
 
 -- a course from this clock on with these turns: each access takes the first that is left

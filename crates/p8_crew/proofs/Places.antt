@@ -56,7 +56,7 @@ module _ (desk : DeskValue) where
       let same = some-some was.pass pass (sym was.at ∙ at) in
       (subst (Owns desk) same was.owns, ap (λ (p : PassValue). p.cog) (sym same) ∙ was.cog)
 
-  -- a pass is put behind those that are there
+  -- a pass is put after those that are there
   pub one-put : (places next : List (Option PassValue)) (high : ℕ) (pass : PassValue) → AreThere desk 0 high places → high < 8 → Owns desk pass → pass.cog ≡ high → next ≡ slice_set places high (Some pass) → AreThere desk 0 (high + 1) next
   one-put places next high pass there near owns cog is = record {
     inside = λ n le lt. dite (ℕ_discrete n high)

@@ -1,4 +1,4 @@
--- Regions, and that behind a region names mean what they meant before it.
+-- Regions, and that after a region names mean what they meant before it.
 use Rattle.std.proofs.Common.{◌≡◌, ℕ, zero, suc, ◌<◌, Bool, true, false, List, [], ◌∷◌, ◌++◌, length, take, drop, map, Option, Some, None, inl, inr, refl, sym, ap, ◌∙◌, append_assoc, arith}
 use Rattle.std.specs.Prelude.{if◌then◌else◌, ◌&&◌, ◌||◌, not}
 use Rattle.std.specs.List.{fold}
@@ -50,7 +50,7 @@ cut (p ∷ ps) n h is =
     ∙ ap (λ r. map placed_of (take (suc k) (p ∷ ps)) ∷ regions r) (sym (map_drop placed_of k ps))
     ∙ ap (λ n. map placed_of (take n (p ∷ ps)) ∷ regions (map placed_of (drop n (p ∷ ps)))) (sym is)
 
--- ---- behind a region
+-- ---- after a region
 
 -- local labels, each with a meaning
 abbrev entering : (Placed → Meaning) → Setting → Placed → Setting
@@ -164,7 +164,7 @@ pub unplaced_common : (s : Setting) (xs : List Placed) → unplaced (fold with_c
 unplaced_common s [] = refl
 unplaced_common s (x ∷ xs) = unplaced_common (with_common s x) xs ∙ ap (λ t. fold with_common t xs) (unplaced_label x.line.label (common x) s)
 
--- behind a region: u is the setting there
+-- after a region: u is the setting there
 pub behind_region : (s e p u : Setting) (xs : List Placed) → AreHidden (unplaced s) xs → e ≡ fold with_local s xs → unplaced p ≡ unplaced e → u ≡ fold without_local p xs → unplaced u ≡ unplaced s
 behind_region s e p u xs hidden entered put left =
     ap unplaced left ∙ unplaced_all (λ x. meaning_case.Other) p xs

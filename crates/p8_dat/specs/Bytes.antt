@@ -26,7 +26,7 @@ in_data t p = record t { here = outside_operands (Some (p.cog / 4)) }
 abbrev pub in_instruction : Setting → Spot → Setting
 in_instruction t p = record t { here = in_operand (p.cog / 4) }
 
--- where the elements of a row of n stand; there are none behind the limit
+-- where the elements of a row of n stand; there are none after the limit
 abbrev pub spots : ℕ → ℕ → Spot → List Spot
 spots size zero p = []
 spots size (suc n) p = if nat_lt p.offset limit then p ∷ spots size n (advanced size p) else []

@@ -59,7 +59,7 @@ with_labels s xs = fold with_common s xs
 abbrev pub Region : Type 0
 Region = List Placed
 
--- a line in front of the regions behind it: it belongs to the first of them, unless that begins with a label of the file
+-- a line in front of the regions after it: it belongs to the first of them, unless that begins with a label of the file
 abbrev pub in_front : Placed → List Region → List Region
 in_front x [] = (x ∷ []) ∷ []
 in_front x ([] ∷ rs) = (x ∷ []) ∷ rs

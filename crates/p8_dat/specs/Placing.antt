@@ -11,7 +11,7 @@ use Rattle.p8_dat.specs.Names.{with_label, is_local, is_named}
 abbrev pub placed_of : code.Placed → Placed
 placed_of x = record { line = line_of x.line.now; from = x.from; at = x.at }
 
--- the setting behind a region, in which its local labels mean nothing again
+-- the setting after a region, in which its local labels mean nothing again
 abbrev pub without_local : Setting → Placed → Setting
 without_local s x = if is_named x.line.label then s else with_label x.line.label meaning_case.Other s
 

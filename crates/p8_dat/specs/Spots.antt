@@ -35,7 +35,7 @@ abbrev pub number : Setting → ℕ → Option Tree → ℕ
 number s n None = n
 number s n (Some e) = unwrap_or (value s e) 0
 
--- where the contents of a line begin, behind zero bytes; here stands its label
+-- where the contents of a line begin, after zero bytes; here stands its label
 abbrev pub begun : Setting → Contents → Spot → Spot
 begun s (Org e) p = record (advanced (padding 4 p.offset) p) { cog = min (4 * number s 0 e) limit }
 begun s c p = advanced (padding (alignment c) p.offset) p

@@ -56,7 +56,7 @@ fn without_labels(file: &SourceFile, counts: &mut Consts) -> Result<(), NoMemory
     Ok(())
 }
 
-// Places the lines of a block, and gives the spot behind them.
+// Places the lines of a block, and gives the spot after them.
 fn place_block<'a>(
     block: &'a Block,
     from: Spot,

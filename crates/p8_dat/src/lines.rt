@@ -157,7 +157,7 @@ fn put_contents(
     }
 }
 
-// Puts a line, behind zero bytes where its contents stand further on.
+// Puts a line, after zero bytes where its contents stand further on.
 fn put_line(
     alloc: Global,
     out: &mut Output,

@@ -82,7 +82,7 @@ fn ended(body: &DatBody, at: Spot, counts: &Consts) -> Spot
     }
 }
 
-// Places lines from a spot on, and gives the spot behind them.
+// Places lines from a spot on, and gives the spot after them.
 pub(crate) fn place_lines<'a>(
     mut lines: &'a [DatLine],
     mut from: Spot,

@@ -43,7 +43,7 @@ fn region_length(places: &[Placed]) -> usize
     }
 }
 
-// The lines behind the first ones.
+// The lines after the first ones.
 fn behind<'a, 'b>(places: &'b [Placed<'a>], count: usize) -> &'b [Placed<'a>]
     requires { count ≤ length places.now }
     ensures { result.now ≡ drop count places.now }
@@ -51,7 +51,7 @@ fn behind<'a, 'b>(places: &'b [Placed<'a>], count: usize) -> &'b [Placed<'a>]
     places.split_at(count).1
 }
 
-// Puts a region, whose local labels have no values before and behind it.
+// Puts a region, whose local labels have no values before and after it.
 fn put_region(
     alloc: Global,
     out: &mut Output,

@@ -33,7 +33,7 @@ fn padding(size: u32, offset: u32) -> u32
 }
 
 impl Spot {
-    // The spot behind a number of elements of a size.
+    // The spot after a number of elements of a size.
     pub(crate) fn behind(self, count: u64, size: u8) -> Spot
         ensures { result ≡ advanced (count * size) self }
     {
@@ -44,7 +44,7 @@ impl Spot {
         }
     }
 
-    // The spot behind some bytes.
+    // The spot after some bytes.
     pub(crate) fn next(self, bytes: u8) -> Spot
         ensures { result ≡ advanced bytes self }
     {

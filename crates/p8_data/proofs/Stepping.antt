@@ -17,7 +17,7 @@ stops whole read after s x row e h = sym (e ∙ h row)
 pub goes_on : (whole : Option (List Datum)) (read after : List Datum) (s t : Stage) (x : Part) (row : List Part) → whole ≡ items read s (x ∷ row) → Steps read s x after (Some t) → whole ≡ items after t row
 goes_on whole read after s t x row e h = e ∙ h row
 
--- what is left is the part that stands next and what is left behind it
+-- what is left is the part that stands next and what is left after it
 pub next_from : (o : Option code.Part) (old new : Row) → MatchOption o (rest old ≡ []) (λ x. rest old ≡ part_of x ∷ rest new) → rest old ≡ from o new
 next_from None old new h = h
 next_from (Some x) old new h = h

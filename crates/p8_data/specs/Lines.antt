@@ -73,7 +73,7 @@ immediate x e p = record x { immediate = true; source = Some e; source_place = p
 abbrev pub label : List ℕ → Place → Tree
 label n p = node p (Var (Named n no_index p))
 
--- behind `#`: a value, or the label that CALL names
+-- after `#`: a value, or the label that CALL names
 abbrev pub behind_hash : Instruction → List Part → Option Instruction
 behind_hash x (tree e p ∷ row) = effects (immediate x e p) row
 behind_hash x (name n p ∷ row) = effects (immediate x (label n p) p) row
@@ -86,7 +86,7 @@ source x (hash ∷ row) = behind_hash x row
 source x (tree e p ∷ row) = effects (direct x e p) row
 source x row = effects x row
 
--- behind a destination: a comma and a source, or effects
+-- after a destination: a comma and a source, or effects
 abbrev pub behind_destination : Instruction → List Part → Option Instruction
 behind_destination x (comma ∷ row) = source x row
 behind_destination x row = effects x row
@@ -106,7 +106,7 @@ instruction c x (jump p ∷ row) = option_map (λ i. filled x p (Instr i)) (sour
 instruction c x (other w p ∷ row) = option_map (λ i. filled x p (Instr i)) (operands (bare c w p) row)
 instruction c x row = None
 
--- what stands behind a label, or in a line without one
+-- what stands after a label, or in a line without one
 abbrev pub body : Line → List Part → Option Line
 body x [] = Some x
 body x (size n p ∷ row) = option_map (λ d. filled x p (Data n d)) (all_items row)
@@ -116,7 +116,7 @@ body x (fit p ∷ row) = option_map (λ v. filled x p (Fit v)) (value row)
 body x (condition c ∷ row) = instruction c x row
 body x row = instruction 15 x row
 
--- a line with nothing behind its label
+-- a line with nothing after its label
 abbrev pub blank : Place → Option (List ℕ) → Line
 blank p n = record { place = p; label = n; word_place = p; contents = Nothing }
 

@@ -36,7 +36,7 @@ part_of (code_case.Tree e p) = tree (tree_of e) p
 abbrev pub rest : Row → List Part
 rest row = parts (pieces_of (into_iter_items row.pieces))
 
--- the part that stands next, if there is one, and what is left behind it
+-- the part that stands next, if there is one, and what is left after it
 abbrev pub from : Option code.Part → Row → List Part
 from None row = []
 from (Some x) row = part_of x ∷ rest row
@@ -58,6 +58,6 @@ abbrev pub Affects : Instruction → Part → Option Instruction → Type 0
 Affects i x None = (row : List Part) → effects i (x ∷ row) ≡ None
 Affects i x (Some j) = (row : List Part) → effects i (x ∷ row) ≡ effects j row
 
--- a line with nothing behind its label
+-- a line with nothing after its label
 abbrev pub begun : Head → Line
 begun head = blank head.place head.label

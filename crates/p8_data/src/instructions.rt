@@ -78,7 +78,7 @@ fn with_effects(mut instr: InstrLine, first: Option<Part>, mut row: Row) -> Opti
     Some(instr)
 }
 
-// The instruction with a source behind `#`, and the effects behind that.
+// The instruction with a source after `#`, and the effects after that.
 fn with_immediate(
     mut instr: InstrLine,
     value: Expr,
@@ -94,7 +94,7 @@ fn with_immediate(
     with_effects(instr, next, row)
 }
 
-// The instruction with the local label of this name behind `#`.
+// The instruction with the local label of this name after `#`.
 fn with_local_name(
     alloc: Global,
     instr: InstrLine,
@@ -113,7 +113,7 @@ fn with_local_name(
     }
 }
 
-// The instruction with a local label behind `#:`.
+// The instruction with a local label after `#:`.
 fn with_local_label(
     alloc: Global,
     instr: InstrLine,
@@ -136,7 +136,7 @@ fn with_local_label(
     }
 }
 
-// The instruction with what stands behind `#`.
+// The instruction with what stands after `#`.
 fn behind_hash(alloc: Global, instr: InstrLine, mut row: Row) -> Result<Option<InstrLine>, NoMemory>
     ensures { IfOk result (λ r. option_map instruction_of r ≡ behind_hash (instruction_of instr) (rest row)) }
 {
@@ -156,7 +156,7 @@ fn behind_hash(alloc: Global, instr: InstrLine, mut row: Row) -> Result<Option<I
     }
 }
 
-// The instruction with a source that has no `#`, and the effects behind it.
+// The instruction with a source that has no `#`, and the effects after it.
 fn with_direct(mut instr: InstrLine, value: Expr, place: Place, mut row: Row) -> Option<InstrLine>
     ensures { option_map instruction_of result ≡ effects (direct (instruction_of instr) (tree_of value) place) (rest row) }
 {

@@ -23,7 +23,7 @@ pub enum Stage {
     OpenBracket(Option<u8>, Expr),
     // Its count.
     Counted(Option<u8>, Expr, Expr),
-    // Its end: the bracket behind its count, or a string, which has none.
+    // Its end: the bracket after its count, or a string, which has none.
     Over(Option<u8>, Expr, Option<Expr>),
 }
 
@@ -55,7 +55,7 @@ fn from_size(size: Option<u8>, part: Part) -> Option<Stage>
     }
 }
 
-// Puts an item behind those that are read.
+// Puts an item after those that are read.
 fn put(
     read: &mut List<DatItem>,
     size: Option<u8>,
@@ -112,7 +112,7 @@ fn from_count(size: Option<u8>, value: Expr, count: Expr, part: Part) -> Option<
     }
 }
 
-// What stands behind an item.
+// What stands after an item.
 fn from_end(
     read: &mut List<DatItem>,
     size: Option<u8>,
@@ -137,7 +137,7 @@ fn from_end(
 }
 
 impl Stage {
-    // Goes on by a part; a comma puts the item that it ends behind those that are read.
+    // Goes on by a part; a comma puts the item that it ends after those that are read.
     fn step(self, read: &mut List<DatItem>, part: Part) -> Result<Option<Stage>, NoMemory>
         ensures { IfOk result (λ s. Steps (map datum_of read.old) (stage_of self) (part_of part) (map datum_of read.new) (option_map stage_of s)) }
     {

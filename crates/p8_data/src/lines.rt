@@ -64,7 +64,7 @@ impl Head {
         Head { place, label }
     }
 
-    // The line with nothing behind its label.
+    // The line with nothing after its label.
     fn alone(self) -> DatLine
         ensures { line_of result ≡ begun self }
     {
@@ -157,7 +157,7 @@ fn with_instruction(
     }
 }
 
-// The line as an instruction, from behind its condition on.
+// The line as an instruction, from after its condition on.
 fn with_condition(
     alloc: Global,
     head: Head,
@@ -175,7 +175,7 @@ fn with_condition(
     }
 }
 
-// The line with what stands behind its label, from this part on.
+// The line with what stands after its label, from this part on.
 fn body_from(alloc: Global, head: Head, first: Part, row: Row) -> Result<Option<DatLine>, NoMemory>
     ensures { IfOk result (λ r. option_map line_of r ≡ body (begun head) (part_of first ∷ rest row)) }
 {
@@ -189,7 +189,7 @@ fn body_from(alloc: Global, head: Head, first: Part, row: Row) -> Result<Option<
     }
 }
 
-// The line with what stands behind its label.
+// The line with what stands after its label.
 fn body(alloc: Global, head: Head, mut row: Row) -> Result<Option<DatLine>, NoMemory>
     ensures { IfOk result (λ r. option_map line_of r ≡ body (begun head) (rest row)) }
 {
@@ -199,7 +199,7 @@ fn body(alloc: Global, head: Head, mut row: Row) -> Result<Option<DatLine>, NoMe
     }
 }
 
-// The line that begins with a local label, from behind its colon on.
+// The line that begins with a local label, from after its colon on.
 fn local_line(
     alloc: Global,
     place: Place,

@@ -16,13 +16,13 @@ abbrev pub constant : List ℕ → Place → Option Tree → Option Tree → Con
 constant n p value step = record { place = p; name = Some n; value = value; step = step; sets = false }
 
 abbrev mutual
-  -- one item and those behind it
+  -- one item and those after it
   pub constants : List Part → Option (List Constant)
   constants (hash p ∷ tree e ∷ rest) = with_first (setting p e) (constants_behind rest)
   constants (name n p ∷ rest) = constants_named n p rest
   constants _ = None
 
-  -- what stands behind the name of an item
+  -- what stands after the name of an item
   pub constants_named : List ℕ → Place → List Part → Option (List Constant)
   constants_named n p (equals ∷ tree e ∷ rest) = with_first (constant n p (Some e) None) (constants_behind rest)
   constants_named n p (left_bracket ∷ tree e ∷ right_bracket ∷ rest) = with_first (constant n p None (Some e)) (constants_behind rest)
@@ -30,7 +30,7 @@ abbrev mutual
   constants_named n p (line_end ∷ rest) = with_first (constant n p None None) (ended rest)
   constants_named n p _ = None
 
-  -- what stands behind an item
+  -- what stands after an item
   pub constants_behind : List Part → Option (List Constant)
   constants_behind (comma ∷ rest) = constants rest
   constants_behind (line_end ∷ rest) = ended rest

@@ -1,4 +1,4 @@
--- The heads of methods, behind PUB or PRI (Propeller Manual v1.2, "PUB" and "PRI"): a name, parameters in
+-- The heads of methods, after PUB or PRI (Propeller Manual v1.2, "PUB" and "PRI"): a name, parameters in
 -- parentheses, `: name` for the result and `| name, name[e]` for locals.
 use Rattle.std.specs.Prelude.{ℕ, Bool, List, [], ◌∷◌, ◌++◌, Option, Some, None, option_map}
 use Rattle.p8_tree.specs.declared.places.Place.{Place}
@@ -51,12 +51,12 @@ behind_parameters m (colon ∷ rest) = result_named m rest
 behind_parameters m rest = behind_result m rest
 
 abbrev mutual
-  -- one parameter and those behind it
+  -- one parameter and those after it
   pub parameters : MethodTree → List Part → Option MethodTree
   parameters m (name n p ∷ rest) = behind_parameter (with_parameter m n p) rest
   parameters m _ = None
 
-  -- what stands behind a parameter
+  -- what stands after a parameter
   pub behind_parameter : MethodTree → List Part → Option MethodTree
   behind_parameter m (comma ∷ rest) = parameters m rest
   behind_parameter m (right_parenthesis ∷ rest) = behind_parameters m rest
@@ -67,11 +67,11 @@ abbrev pub behind_name : MethodTree → List Part → Option MethodTree
 behind_name m (left_parenthesis ∷ rest) = parameters m rest
 behind_name m rest = behind_parameters m rest
 
--- the name and what stands behind it
+-- the name and what stands after it
 abbrev pub head : Bool → List Part → Option MethodTree
 head public (name n p ∷ rest) = behind_name (bare public n p) rest
 head public _ = None
 
--- what a row of pieces declares behind PUB, or behind PRI, unless it is no head of a method
+-- what a row of pieces declares after PUB, or after PRI, unless it is no head of a method
 abbrev pub method_of_row : Bool → List Piece → Option MethodTree
 method_of_row public row = head public (parts row)

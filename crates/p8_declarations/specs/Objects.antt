@@ -20,7 +20,7 @@ abbrev pub in_file : List ℕ → Place → Option Tree → List Part → Option
 in_file n p count (text t q ∷ line_end ∷ []) = Some (child n p count t q)
 in_file n p count _ = None
 
--- what stands behind the name
+-- what stands after the name
 abbrev pub object_named : List ℕ → Place → List Part → Option Child
 object_named n p (colon ∷ rest) = in_file n p None rest
 object_named n p (left_bracket ∷ tree e ∷ right_bracket ∷ colon ∷ rest) = in_file n p (Some e) rest

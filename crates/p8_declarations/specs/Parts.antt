@@ -59,12 +59,12 @@ abbrev pub is_line_end : List Part → Bool
 is_line_end (line_end ∷ []) = true
 is_line_end _ = false
 
--- no more items, where nothing stands behind the end of the line
+-- no more items, where nothing stands after the end of the line
 abbrev pub ended : {A : Type 0} → List Part → Option (List A)
 ended [] = Some []
 ended _ = None
 
--- an item in front of those behind it, where those are any
+-- an item in front of those after it, where those are any
 abbrev pub with_first : {A : Type 0} → A → Option (List A) → Option (List A)
 with_first x None = None
 with_first x (Some xs) = Some (x ∷ xs)

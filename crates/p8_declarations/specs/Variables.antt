@@ -12,19 +12,19 @@ abbrev pub variable : ℕ → List ℕ → Place → Option Tree → Declared
 variable s n p count = record { place = p; size = s; name = n; count = count }
 
 abbrev mutual
-  -- one variable and those behind it
+  -- one variable and those after it
   pub variables : ℕ → List Part → Option (List Declared)
   variables s (name n p ∷ rest) = variables_named s n p rest
   variables s _ = None
 
-  -- what stands behind the name of a variable
+  -- what stands after the name of a variable
   pub variables_named : ℕ → List ℕ → Place → List Part → Option (List Declared)
   variables_named s n p (left_bracket ∷ tree e ∷ right_bracket ∷ rest) = with_first (variable s n p (Some e)) (variables_behind s rest)
   variables_named s n p (comma ∷ rest) = with_first (variable s n p None) (variables s rest)
   variables_named s n p (line_end ∷ rest) = with_first (variable s n p None) (ended rest)
   variables_named s n p _ = None
 
-  -- what stands behind a variable
+  -- what stands after a variable
   pub variables_behind : ℕ → List Part → Option (List Declared)
   variables_behind s (comma ∷ rest) = variables s rest
   variables_behind s (line_end ∷ rest) = ended rest

@@ -40,13 +40,13 @@ abbrev pub is_end : Behind → Bool
 is_end behind_case.Comma = false
 is_end behind_case.End = true
 
--- what stands behind an item, and what the row is from there on
+-- what stands after an item, and what the row is from there on
 abbrev pub continued : {A : Type 0} → Option Behind → Option (List A) → Option (List A)
 continued None rest = None
 continued (Some behind_case.Comma) rest = rest
 continued (Some behind_case.End) rest = Some []
 
--- an item that was read with what stands behind it, and what the row is from there on
+-- an item that was read with what stands after it, and what the row is from there on
 abbrev pub with_constant : Option (ConItem × Behind) → Option (List Constant) → Option (List Constant)
 with_constant None rest = None
 with_constant (Some x) rest = with_first (constant_of x.0) (continued (Some x.1) rest)
@@ -59,7 +59,7 @@ with_variable (Some x) rest = with_first (declared_of x.0) (continued (Some x.1)
 abbrev pub child_in : ObjItem → Child
 child_in x = child x.name x.place (option_map tree_of x.count) x.file x.file_place
 
--- items, and those behind them
+-- items, and those after them
 abbrev pub with_all : {A : Type 0} → List A → Option (List A) → Option (List A)
 with_all xs rest = option_map (λ ys. xs ++ ys) rest
 
@@ -97,7 +97,7 @@ abbrev pub has_file : List Part → Bool
 has_file (text t q ∷ rest) = is_line_end rest
 has_file _ = false
 
--- what may stand behind an item, where the row is over behind it or isn't
+-- what may stand after an item, where the row is over after it or isn't
 abbrev pub behind_of : Part → List Part → Option Behind
 behind_of comma rest = Some behind_case.Comma
 behind_of line_end [] = Some behind_case.End

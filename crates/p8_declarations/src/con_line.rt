@@ -13,7 +13,7 @@ use p8_tree::{ConItem, Expr, List, Place, Text};
 use p8_words::NoMemory;
 use std::alloc::Global;
 
-/// The items of a line of `CON`, or of what stands behind `CON` in its line: `name = e`, `#e`, `name` and `name[e]`, with
+/// The items of a line of `CON`, or of what stands after `CON` in its line: `name = e`, `#e`, `name` and `name[e]`, with
 /// commas between them, up to the end of the line. The end of the line alone has no items.
 ///
 /// None where the pieces are no such line. Want of memory may come at any point. Source: Propeller Manual v1.2, "CON".
@@ -26,7 +26,7 @@ pub fn constants(alloc: Global, pieces: Vec<Piece>) -> Result<Option<List<ConIte
     read(alloc, Row::new(pieces))
 }
 
-// One item and those behind it.
+// One item and those after it.
 fn read(alloc: Global, row: Row) -> Result<Option<List<ConItem>>, NoMemory>
     ensures { IfOk result (λ items. option_map (λ xs. map constant_of xs) items ≡ constants (parts_in row)) }
 {
@@ -59,7 +59,7 @@ fn named(name: Text, place: Place, value: Option<Expr>, step: Option<Expr>) -> C
 }
 
 impl Row {
-    // Takes an item and what stands behind it.
+    // Takes an item and what stands after it.
     fn constant(&mut self) -> Option<(ConItem, Behind)>
         ensures items { constants (parts_in self.old) ≡ with_constant result (constants (parts_in self.new)) }
         ensures shorter { IfSome result (λ x. length (parts_in self.new) < length (parts_in self.old)) }
@@ -74,7 +74,7 @@ impl Row {
         }
     }
 
-    // Takes what stands behind `#`.
+    // Takes what stands after `#`.
     #[tactic(auto, using(crate::proofs::Rows::no_value))]
     fn setting(&mut self, place: Place) -> Option<(ConItem, Behind)>
         ensures items { constants (hash place ∷ parts_in self.old) ≡ with_constant result (constants (parts_in self.new)) }
@@ -90,7 +90,7 @@ impl Row {
         })
     }
 
-    // Takes what stands behind the name of an item.
+    // Takes what stands after the name of an item.
     fn constant_named(&mut self, name: Text, place: Place) -> Option<(ConItem, Behind)>
         ensures items { constants_named name place (parts_in self.old) ≡ with_constant result (constants (parts_in self.new)) }
         ensures shorter { IfSome result (λ x. length (parts_in self.new) < length (parts_in self.old)) }
@@ -107,7 +107,7 @@ impl Row {
         }
     }
 
-    // Takes what stands behind `=`.
+    // Takes what stands after `=`.
     #[tactic(auto, using(crate::proofs::Rows::no_value_named))]
     fn valued(&mut self, name: Text, place: Place) -> Option<(ConItem, Behind)>
         ensures items { constants_named name place (equals ∷ parts_in self.old) ≡ with_constant result (constants (parts_in self.new)) }
@@ -117,7 +117,7 @@ impl Row {
         self.before(named(name, place, Some(value), None))
     }
 
-    // Takes what stands behind `[`.
+    // Takes what stands after `[`.
     #[tactic(auto, using(crate::proofs::Rows::no_step))]
     fn stepped(&mut self, name: Text, place: Place) -> Option<(ConItem, Behind)>
         ensures items { constants_named name place (left_bracket ∷ parts_in self.old) ≡ with_constant result (constants (parts_in self.new)) }
@@ -127,7 +127,7 @@ impl Row {
         self.before(named(name, place, None, Some(step)))
     }
 
-    // Takes what stands behind an item.
+    // Takes what stands after an item.
     fn before(&mut self, item: ConItem) -> Option<(ConItem, Behind)>
         ensures items { with_first (constant_of item) (constants_behind (parts_in self.old)) ≡ with_constant result (constants (parts_in self.new)) }
         ensures shorter { IfSome result (λ x. length (parts_in self.new) < length (parts_in self.old)) }
@@ -141,7 +141,7 @@ impl Row {
         }
     }
 
-    // The last item, where nothing stands behind the end of the line.
+    // The last item, where nothing stands after the end of the line.
     fn last(&self, item: ConItem) -> Option<(ConItem, Behind)>
         ensures { with_first (constant_of item) (ended (parts_in self.now)) ≡ with_constant result (constants (parts_in self.now)) }
     {

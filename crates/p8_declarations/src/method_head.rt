@@ -15,7 +15,7 @@ use p8_tree::{List, Method, Place, Text};
 use p8_words::NoMemory;
 use std::alloc::{AllocError, Global};
 
-/// The head of a method, from what stands behind `PUB`, or behind `PRI` where the method isn't public: a name, parameters
+/// The head of a method, from what stands after `PUB`, or after `PRI` where the method isn't public: a name, parameters
 /// in parentheses, `: name` for the result and `| name, name[e]` for locals, which are longs, up to the end of the line.
 /// The method has no body.
 ///
@@ -49,7 +49,7 @@ fn bare(alloc: Global, public: bool, name: Text, place: Place) -> Method
     }
 }
 
-// Reads what stands behind the name.
+// Reads what stands after the name.
 fn behind_name(alloc: Global, row: Row, method: Method) -> Result<Option<Method>, NoMemory>
     ensures { IfOk result (λ m. option_map method_of m ≡ behind_name (method_of method) (parts_in row)) }
 {
@@ -64,7 +64,7 @@ fn behind_name(alloc: Global, row: Row, method: Method) -> Result<Option<Method>
     }
 }
 
-// Reads parameters, behind `(`.
+// Reads parameters, after `(`.
 fn with_parameters(alloc: Global, row: Row, method: Method) -> Result<Option<Method>, NoMemory>
     ensures { IfOk result (λ m. option_map method_of m ≡ parameters (method_of method) (parts_in row)) }
 {
@@ -100,7 +100,7 @@ fn with_parameter(method: Method, name: Text, place: Place) -> Result<Method, Al
     }
 }
 
-// Puts a parameter behind those of a method.
+// Puts a parameter after those of a method.
 fn add_parameter(method: &mut Method, name: Text, place: Place) -> Result<(), AllocError>
     ensures { OnOk result (method_of method.new ≡ with_parameter (method_of method.old) name place) }
 {
@@ -109,7 +109,7 @@ fn add_parameter(method: &mut Method, name: Text, place: Place) -> Result<(), Al
     Ok(())
 }
 
-// Reads what stands behind `)`.
+// Reads what stands after `)`.
 fn behind_parenthesis(alloc: Global, row: Row, method: Method) -> Result<Option<Method>, NoMemory>
     ensures { IfOk result (λ m. option_map method_of m ≡ behind_parameters (method_of method) (parts_in row)) }
 {
@@ -123,7 +123,7 @@ fn behind_parenthesis(alloc: Global, row: Row, method: Method) -> Result<Option<
     }
 }
 
-// Reads what stands behind the parameters: this part, and the row behind it.
+// Reads what stands after the parameters: this part, and the row after it.
 fn behind_parameters(
     alloc: Global,
     part: Part,
@@ -138,7 +138,7 @@ fn behind_parameters(
     }
 }
 
-// Reads the name of the result, behind `:`.
+// Reads the name of the result, after `:`.
 #[tactic(auto, using(crate::proofs::Rows::no_result))]
 fn with_result(alloc: Global, row: Row, method: Method) -> Result<Option<Method>, NoMemory>
     ensures { IfOk result (λ m. option_map method_of m ≡ result_named (method_of method) (parts_in row)) }
@@ -163,7 +163,7 @@ fn result_named(method: Method, name: Text, place: Place) -> Method
     method
 }
 
-// Reads what stands behind the name of the result.
+// Reads what stands after the name of the result.
 fn behind_result_name(alloc: Global, row: Row, method: Method) -> Result<Option<Method>, NoMemory>
     ensures { IfOk result (λ m. option_map method_of m ≡ behind_result (method_of method) (parts_in row)) }
 {
@@ -177,7 +177,7 @@ fn behind_result_name(alloc: Global, row: Row, method: Method) -> Result<Option<
     }
 }
 
-// Reads locals or the end: this part, and the row behind it.
+// Reads locals or the end: this part, and the row after it.
 fn behind_result(
     alloc: Global,
     part: Part,
@@ -197,7 +197,7 @@ fn behind_result(
     }
 }
 
-// Reads locals, behind `|`.
+// Reads locals, after `|`.
 fn with_locals(alloc: Global, row: Row, method: Method) -> Result<Option<Method>, NoMemory>
     ensures { IfOk result (λ m. option_map method_of m ≡ behind_result (method_of method) (bar ∷ parts_in row)) }
 {
@@ -218,7 +218,7 @@ fn with_locals(alloc: Global, row: Row, method: Method) -> Result<Option<Method>
     }
 }
 
-// The method, where nothing stands behind the end of the line.
+// The method, where nothing stands after the end of the line.
 fn ended(row: &Row, method: Method) -> Option<Method>
     ensures { option_map method_of result ≡ behind_result (method_of method) (line_end ∷ parts_in row.now) }
 {
@@ -231,7 +231,7 @@ fn ended(row: &Row, method: Method) -> Option<Method>
 }
 
 impl Row {
-    // Takes a parameter with the comma or the parenthesis behind it, and says whether it is the parenthesis.
+    // Takes a parameter with the comma or the parenthesis after it, and says whether it is the parenthesis.
     #[tactic(auto, using(crate::proofs::Rows::no_parameter))]
     fn parameter(&mut self) -> Option<(Text, Place, bool)>
         ensures { MatchOption result ((m : MethodTree) → parameters m (parts_in self.old) ≡ None) (λ x. parts_in self.old ≡ name x.0 x.1 ∷ (if x.2 then right_parenthesis else comma) ∷ parts_in self.new) }

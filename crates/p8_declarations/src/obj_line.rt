@@ -14,7 +14,7 @@ use p8_tree::{Expr, List, ObjItem, Place, Text};
 use p8_words::NoMemory;
 use std::alloc::{AllocError, Global};
 
-/// The item of a line of `OBJ`, or of what stands behind `OBJ` in its line: `name : "file"` or `name[e] : "file"`, up to
+/// The item of a line of `OBJ`, or of what stands after `OBJ` in its line: `name : "file"` or `name[e] : "file"`, up to
 /// the end of the line. The end of the line alone has no item. The file's name is as the string has it, with `.spin`
 /// where it has no dot.
 ///
@@ -77,7 +77,7 @@ fn has_dot(name: &[u8]) -> bool
     name.iter().any(|c| *c == b'.')
 }
 
-// The name with `.spin` behind it.
+// The name with `.spin` after it.
 fn extended(alloc: Global, name: &Text) -> Result<Text, AllocError>
     ensures { IfOk result (λ t. t ≡ name.now ++ codes ".spin") }
 {
@@ -100,7 +100,7 @@ impl Row {
         }
     }
 
-    // Takes what stands behind the name.
+    // Takes what stands after the name.
     fn object_named(&mut self, name: Text, place: Place) -> Option<ObjItem>
         ensures { option_map child_in result ≡ object_named name place (parts_in self.old) }
     {
@@ -114,7 +114,7 @@ impl Row {
         }
     }
 
-    // Takes what stands behind the bracket.
+    // Takes what stands after the bracket.
     #[tactic(auto, using(crate::proofs::Rows::no_objects, crate::proofs::Rows::no_colon))]
     fn object_counted(&mut self, name: Text, place: Place) -> Option<ObjItem>
         ensures { option_map child_in result ≡ object_named name place (left_bracket ∷ parts_in self.old) }

@@ -58,7 +58,7 @@ impl Row {
         }
     }
 
-    /// Takes an expression and the bracket behind it.
+    /// Takes an expression and the bracket after it.
     pub fn count(&mut self) -> Option<Expr>
         ensures { MatchOption result (has_count (parts_in self.old) ≡ false) (λ e. parts_in self.old ≡ tree (tree_of e) ∷ right_bracket ∷ parts_in self.new) }
     {
@@ -154,7 +154,7 @@ impl Row {
         }
     }
 
-    /// Takes what may stand behind an item.
+    /// Takes what may stand after an item.
     pub fn behind(&mut self) -> Option<Behind>
         ensures constants { constants_behind (parts_in self.old) ≡ continued result (constants (parts_in self.new)) }
         ensures variables { (s : ℕ) → variables_behind s (parts_in self.old) ≡ continued result (variables s (parts_in self.new)) }
@@ -164,7 +164,7 @@ impl Row {
         self.behind_at(part)
     }
 
-    // What stands behind an item where it is this piece that was taken.
+    // What stands after an item where it is this piece that was taken.
     fn behind_at(&self, part: Part) -> Option<Behind>
         ensures { result ≡ behind_of (part_of part) (parts_in self.now) }
     {
@@ -178,7 +178,7 @@ impl Row {
         }
     }
 
-    /// What stands behind the end of the line, where nothing does.
+    /// What stands after the end of the line, where nothing does.
     pub fn end(&self) -> Option<Behind>
         ensures { result ≡ behind_of line_end (parts_in self.now) }
     {
@@ -190,7 +190,7 @@ impl Row {
     }
 }
 
-/// What stands behind an item.
+/// What stands after an item.
 #[derive(Clone, Copy)]
 pub enum Behind {
     /// A comma, and then another item.

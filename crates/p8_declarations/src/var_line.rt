@@ -14,7 +14,7 @@ use p8_tree::{Expr, List, Place, Text, VarItem};
 use p8_words::NoMemory;
 use std::alloc::Global;
 
-/// The variables of a line of `VAR`, or of what stands behind `VAR` in its line: `BYTE`, `WORD` or `LONG` and names with
+/// The variables of a line of `VAR`, or of what stands after `VAR` in its line: `BYTE`, `WORD` or `LONG` and names with
 /// counts in brackets or without, with commas between them, up to the end of the line. The end of the line alone has
 /// none. Sizes are 1, 2 and 4 bytes.
 ///
@@ -33,7 +33,7 @@ pub fn variables(alloc: Global, pieces: Vec<Piece>) -> Result<Option<List<VarIte
     }
 }
 
-/// One variable of this size and those behind it, up to the end of the line.
+/// One variable of this size and those after it, up to the end of the line.
 pub fn variables_of_size(
     alloc: Global,
     row: Row,
@@ -69,7 +69,7 @@ fn named(size: u8, name: Text, place: Place, count: Option<Expr>) -> VarItem
 }
 
 impl Row {
-    // Takes a variable and what stands behind it.
+    // Takes a variable and what stands after it.
     fn variable(&mut self, size: u8) -> Option<(VarItem, Behind)>
         ensures items { variables size (parts_in self.old) ≡ with_variable result (variables size (parts_in self.new)) }
         ensures shorter { IfSome result (λ x. length (parts_in self.new) < length (parts_in self.old)) }
@@ -83,7 +83,7 @@ impl Row {
         }
     }
 
-    // Takes what stands behind the name of a variable.
+    // Takes what stands after the name of a variable.
     fn variable_named(&mut self, size: u8, name: Text, place: Place) -> Option<(VarItem, Behind)>
         ensures items { variables_named size name place (parts_in self.old) ≡ with_variable result (variables size (parts_in self.new)) }
         ensures shorter { IfSome result (λ x. length (parts_in self.new) < length (parts_in self.old)) }
@@ -99,7 +99,7 @@ impl Row {
         }
     }
 
-    // Takes what stands behind the bracket of a variable.
+    // Takes what stands after the bracket of a variable.
     #[tactic(auto, using(crate::proofs::Rows::no_count))]
     fn variable_counted(&mut self, size: u8, name: Text, place: Place) -> Option<(VarItem, Behind)>
         ensures items { variables_named size name place (left_bracket ∷ parts_in self.old) ≡ with_variable result (variables size (parts_in self.new)) }
@@ -109,7 +109,7 @@ impl Row {
         self.before_variables(size, named(size, name, place, Some(count)))
     }
 
-    // Takes what stands behind a variable.
+    // Takes what stands after a variable.
     fn before_variables(&mut self, size: u8, item: VarItem) -> Option<(VarItem, Behind)>
         ensures items { with_first (declared_of item) (variables_behind size (parts_in self.old)) ≡ with_variable result (variables size (parts_in self.new)) }
         ensures shorter { IfSome result (λ x. length (parts_in self.new) < length (parts_in self.old)) }
@@ -123,7 +123,7 @@ impl Row {
         }
     }
 
-    // The last variable, where nothing stands behind the end of the line.
+    // The last variable, where nothing stands after the end of the line.
     fn last_variable(&self, item: VarItem) -> Option<(VarItem, Behind)>
         ensures { (rest : Option (List Declared)) → with_first (declared_of item) (ended (parts_in self.now)) ≡ with_variable result rest }
     {

@@ -28,7 +28,7 @@ HasOwnRepeat names x f = ⊥
 
 -- ---- local labels
 
--- the local labels since the last other label, behind a line with this label
+-- the local labels since the last other label, after a line with this label
 abbrev pub region_behind : List (List ℕ) → Option (List ℕ) → List (List ℕ)
 region_behind region None = region
 region_behind region (Some n) = if is_local n then region ++ n ∷ [] else []

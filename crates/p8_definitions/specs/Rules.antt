@@ -76,7 +76,7 @@ abbrev pub HasWrongInstances : Setting → ℕ → Item → Fault → Type 0
 HasWrongInstances s before (object x) f = IsTrue (has_no_instance s x.count || passes_limit before (count_in s x.count)) × (fault 20 x.place ≡ f)
 HasWrongInstances s before x f = ⊥
 
--- the instances behind an item
+-- the instances after an item
 abbrev pub instances_behind : Setting → ℕ → Item → ℕ
 instances_behind s before (object x) = before + count_in s x.count
 instances_behind s before x = before

@@ -59,7 +59,7 @@ fn instance_fault(consts: &Consts, before: u32, item: Item<'_>) -> Option<Fault>
     }
 }
 
-// The instances behind an item, as far as 256.
+// The instances after an item, as far as 256.
 fn behind(consts: &Consts, before: u32, item: Item<'_>) -> u32
     requires { before ≤ 256 }
     ensures bound { result ≤ 256 }

@@ -33,7 +33,7 @@ pub fn items_of<'a>(alloc: Global, file: &'a SourceFile) -> Result<Vec<Item<'a>>
     Ok(items)
 }
 
-// Puts the items of a block behind those before it.
+// Puts the items of a block after those before it.
 fn put_items<'a>(block: &'a Block, items: &mut Vec<Item<'a>>) -> Result<(), AllocError>
     ensures { OnOk result (map item_of items.new.items ≡ map item_of items.old.items ++ block_items (block_of block.now)) }
 {

@@ -2,7 +2,7 @@
 use Rattle.std.proofs.Common.{◌≡◌, ℕ, suc, ◌/◌, [], ◌∷◌, ◌++◌, drop, refl, ap, ◌∙◌, arith, append_assoc}
 use Rattle.p8_disassembly.specs.Numerals.{hex}
 
--- the last two digits behind the others
+-- the last two digits after the others
 last_two : (width n : ℕ) → hex (suc (suc width)) n ≡ hex width (n / 256) ++ hex 2 n
 unfolding hex
 last_two width n =

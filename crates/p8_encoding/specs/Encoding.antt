@@ -1,7 +1,7 @@
 -- The long of an instruction's line, and what is wrong with the line.
 --
 -- The word of the line gives the opcode and what its flags are unless an effect says otherwise; the operands are values from
--- 0 to 511, addresses of the cog's longs or, behind `#`, the source itself. CALL #x is a jump to x that writes the place to
+-- 0 to 511, addresses of the cog's longs or, after `#`, the source itself. CALL #x is a jump to x that writes the place to
 -- return to into x_RET, the label of the subroutine's last instruction. Source: the Propeller Manual v1.2, assembly chapter,
 -- "Syntax Definitions", "CALL", "RET" and "NOP"; refusals are this project's profile.
 use Rattle.std.specs.Prelude.{◌≡◌, ◌⊎◌, ℕ, ◌+◌, ◌*◌, ◌/◌, ◌%◌, ◌^◌, Bool, false, nat_lt, ◌==◌, ◌||◌, not, if◌then◌else◌, List, ◌++◌, Option, Some, None, is_some, codes}

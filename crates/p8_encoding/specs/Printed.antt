@@ -1,5 +1,5 @@
 -- The line that a listing prints for an instruction, once it is read: its condition, the word of its opcode, its operands as numbers,
--- behind `#` where the source is one itself, and the effects that say which flags it writes and whether it writes its result.
+-- after `#` where the source is one itself, and the effects that say which flags it writes and whether it writes its result.
 -- The words of the opcodes 0 to 2 say the latter themselves.
 use Rattle.std.specs.Prelude.{ℕ, ◌+◌, ◌*◌, nat_lt, if◌then◌else◌, [], Some, unwrap_or}
 use Rattle.std.specs.Int.{from_bool}

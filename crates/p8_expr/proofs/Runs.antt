@@ -197,7 +197,7 @@ has_tree s ts o x e h = subst (λ o. MatchOption o ((e : Tree) → ¬ IsExpressi
 pub has_none : (s : Setting) (ts : List Token) (o : Option Expr) → o ≡ None → MatchOption o ((e : Tree) → ¬ IsExpression s e ts) (λ x. IsExpression s (tree_of x) ts) → (e : Tree) → ¬ IsExpression s e ts
 has_none s ts o e h = subst (λ o. MatchOption o ((e : Tree) → ¬ IsExpression s e ts) (λ x. IsExpression s (tree_of x) ts)) e h
 
--- the token behind the run, or the last one
+-- the token after the run, or the last one
 pub last_or_next : (end count m : ℕ) → end ≤ count → m ≡ min end (count - 1) → m ≡ (if nat_lt end count then end else end - 1)
 last_or_next end count m le e = go (nat_lt end count) refl
   where

@@ -1,4 +1,4 @@
--- The words that are refused by themselves where they stand behind what begins an expression (this project's profile:
+-- The words that are refused by themselves where they stand after what begins an expression (this project's profile:
 -- no floating point, and nothing of the chip that the machine doesn't carry out).
 use Rattle.std.specs.Prelude.{Option, Some, None, if◌then◌else◌}
 use Rattle.p8_lexer.specs.declared.word.Word.{Word}

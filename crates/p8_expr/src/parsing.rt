@@ -26,12 +26,12 @@ use std::alloc::Global;
 pub const GREATEST_HEIGHT: u8 = 64;
 
 /// Reads an expression of a method, from the token of this number on: gives its tree and the number
-/// of the token behind it, or the refusal and its place.
+/// of the token after it, or the refusal and its place.
 ///
 /// The longest run of tokens that begins an expression is read. It is refused with 8 at its first
 /// token where every expression that begins so is higher than 64. Else it is refused with 9 or 10 at
-/// the token behind it, where that is refused by itself, as [`refusal_of`] says. Else it is refused
-/// with 6 where it is no expression, at the token behind it, or at its own last token where none
+/// the token after it, where that is refused by itself, as [`refusal_of`] says. Else it is refused
+/// with 6 where it is no expression, at the token after it, or at its own last token where none
 /// follows. Want of memory may come at any point.
 pub fn parse_expr(
     alloc: Global,
@@ -81,7 +81,7 @@ pub fn parse_expr_in(
 
 // Takes the longest run of tokens from one on that begins an expression, but stops where it is
 // higher than this height already, so that no tree grows much higher: gives the reader that took
-// them, and the number of the token behind them.
+// them, and the number of the token after them.
 fn longest_run(
     alloc: Global,
     bytes: &[u8],
@@ -157,7 +157,7 @@ fn token_at(tokens: &Tokens, at: usize) -> Token
 }
 
 /// Reading from a token on has one answer, in each setting and with each limit of heights: one tree
-/// and one token behind it, or one refusal at one token. The function does nothing, and its contract
+/// and one token after it, or one refusal at one token. The function does nothing, and its contract
 /// is the law.
 pub fn one_answer()
     ensures outcome { (s : lexemes.Setting) (limit : ℕ) (bytes : List ℕ) (tokens : List lexer_token.Token) (at : ℕ) (one another : Outcome)

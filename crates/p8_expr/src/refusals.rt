@@ -26,7 +26,7 @@ fn refused_in_dat(setting: Setting) -> Option<Refusal>
     }
 }
 
-/// The refusal of a word that is refused by itself in this setting, wherever it stands behind the
+/// The refusal of a word that is refused by itself in this setting, wherever it stands after the
 /// beginning of an expression: 9 for floating point, 10 for what the machine doesn't carry out.
 #[tactic(auto, unfolding(crate::specs::Refusals::refusal_of))]
 pub fn refusal_of(setting: Setting, word: Word) -> Option<Refusal>

@@ -2,7 +2,7 @@
 use p8_made::made_image;
 use std::test::Fail;
 
-/// The first instruction of seed 1 is XOR $1E9, $1E5, behind the eight longs of cog 0's program.
+/// The first instruction of seed 1 is XOR $1E9, $1E5, after the eight longs of cog 0's program.
 #[test]
 fn the_image_of_seed_1(rt: HostRuntime) -> Result<(), Fail> {
     let image = made_image(rt.alloc(), 1)?;

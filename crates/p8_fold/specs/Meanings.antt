@@ -9,7 +9,7 @@ use Rattle.p8_fold.specs.declared.meanings.Meaning.TheVariants as meaning_case
 pub record Setting : Type 0 where
   -- what a name means, where it has an entry
   pub name : List ℕ → Option Meaning
-  -- what a name behind `#` means, by the name before `#` and itself
+  -- what a name after `#` means, by the name before `#` and itself
   pub constant : List ℕ → List ℕ → Option Meaning
   -- what `$` is, where it has a value, and whether registers have values
   pub here : Here
@@ -22,7 +22,7 @@ outside_operands at = record { address = at; registers = false }
 abbrev pub in_operand : ℕ → Here
 in_operand at = record { address = Some at; registers = true }
 
--- an entry, of a name alone or of one behind an object's name
+-- an entry, of a name alone or of one after an object's name
 abbrev pub entry : Setting → Option (List ℕ) → List ℕ → Option Meaning
 entry s None name = s.name name
 entry s (Some object) name = s.constant object name

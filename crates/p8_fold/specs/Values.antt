@@ -17,7 +17,7 @@ use Rattle.p8_operators.specs.Operators.{unary_result, binary_result, divides}
 
 -- ---- values
 
--- the value of a name behind `#`: the name before it is that of an object, and it that of a constant of the object's file
+-- the value of a name after `#`: the name before it is that of an object, and it that of a constant of the object's file
 abbrev pub constant_of : Setting → Option Meaning → List ℕ → List ℕ → Option ℕ
 constant_of s (Some meaning_case.Object) object name = given value_of_meaning (s.constant object name)
 constant_of s _ object name = None

@@ -44,7 +44,7 @@ verdict_between operator place (Ok a) (Err g) = Err (with_further g (fault_betwe
 verdict_between operator place (Err f) (Ok b) = Err (with_further f (fault_between operator place (Some b)))
 verdict_between operator place (Err f) (Err g) = Err (with_further (earlier f g) (fault_between operator place None))
 
--- a name behind `#`
+-- a name after `#`
 abbrev pub verdict_of_constant : Setting → Option Meaning → List ℕ → List ℕ → Place → Place → Result ℕ Fault
 verdict_of_constant s None object name first second = Err (fault 15 first)
 verdict_of_constant s (Some meaning_case.Object) object name first second =

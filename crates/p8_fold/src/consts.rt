@@ -16,7 +16,7 @@ type Names = BTreeMap<Vec<u8>, Meaning>;
 
 type Objects = BTreeMap<Vec<u8>, Names>;
 
-/// What the names of an expression mean: those that stand alone, those behind an object's name and `#`, `$`, and the names
+/// What the names of an expression mean: those that stand alone, those after an object's name and `#`, `$`, and the names
 /// of registers.
 #[derive(Drop)]
 pub struct Consts {
@@ -118,7 +118,7 @@ impl Consts {
         }
     }
 
-    /// What a name behind an object's name and `#` means, where it has an entry.
+    /// What a name after an object's name and `#` means, where it has an entry.
     pub fn constant(&self, object: &Text, name: &Text) -> Option<Meaning>
         ensures { result ≡ (setting_of self.now).constant object.now name.now }
     {

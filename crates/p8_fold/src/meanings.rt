@@ -8,7 +8,7 @@ pub enum Meaning {
     /// A label of DAT: its cog address in longs, which is its value, and its offset in the object, which is the value of
     /// `@` before it.
     Label { cog: u32, offset: u32 },
-    /// An object, whose constants stand behind `#`.
+    /// An object, whose constants stand after `#`.
     Object,
     /// Anything else: a variable, a method, or a word of a method.
     Other,

@@ -50,7 +50,7 @@ one_of P (n ∷ ns) a h e = go (a == n) refl (λ later. one_of P ns a later e.1)
 
 -- ---- effects
 
--- one that stands behind a bytecode, and doesn't jump
+-- one that stands after a bytecode, and doesn't jump
 abbrev pub is_good : ℕ → Bool
 is_good effect = is_effect effect && not (is_step effect)
 

@@ -20,7 +20,7 @@ use Rattle.p8_gen.specs.Expressions.{alone}
 abbrev p : Place
 p = record { line = 1; column = 1 }
 
--- longs of VAR, the last of them behind the first eight; a label; a constant; methods; objects, four of them
+-- longs of VAR, the last of them after the first eight; a label; a constant; methods; objects, four of them
 abbrev found : List (List ℕ × NameKind)
 found =
     (codes "A", kinds.Global 4 0) ∷ (codes "B", kinds.Global 4 4) ∷ (codes "V", kinds.Global 4 32) ∷ (codes "T", kinds.Label 1) ∷ (codes "K", kinds.Const 10) ∷

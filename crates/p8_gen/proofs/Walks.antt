@@ -32,7 +32,7 @@ module _ (n : Names) where
       sym (ap (λ es. values n (trees_of es) w) (take_more xs i d lt) ∙ ap (λ es. values n es w) (trees_of-push (take i xs) (get_or xs i d)))
 
   module _ (down : Bool) (end : ℕ) where
-    -- an item behind others
+    -- an item after others
     item_behind : (xs : Items) (x : Item) (w : Written) → looks n down end (no_items ▸ x) (looks n down end xs w) ≡ looks n down end (xs ▸ x) w
     item_behind xs (single e) w = refl
     item_behind xs (range a b) w = refl

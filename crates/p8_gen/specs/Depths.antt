@@ -6,7 +6,7 @@ use Rattle.p8_tree.specs.Statements.{Course, Forever, Count, Before, After, From
 use Rattle.p8_gen.specs.Names.{Names}
 use Rattle.p8_gen.specs.Expressions.{starts_method, count_of}
 
--- behind so many longs, where anything is held at all
+-- after so many longs, where anything is held at all
 abbrev pub over : (below above : ℕ) → ℕ
 over below above = if above == 0 then 0 else below + above
 
@@ -51,12 +51,12 @@ abbrev mutual
   held_by_bits names (bits (single e)) = held names e
   held_by_bits names (bits (range a b)) = max (held names a) (1 + held names b)
 
-  -- arguments, each behind those before it
+  -- arguments, each after those before it
   pub held_by_trees : Names → Trees → ℕ
   held_by_trees names no_trees = 0
   held_by_trees names (es ▷ e) = max (held_by_trees names es) (count_of es + held names e)
 
-  -- the items of a LOOK function, behind its value and its count
+  -- the items of a LOOK function, after its value and its count
   pub held_by_items : Names → Items → ℕ
   held_by_items names no_items = 0
   held_by_items names (xs ▸ single e) = max (held_by_items names xs) (2 + held names e)
@@ -99,7 +99,7 @@ abbrev pub held_by_test : Names → Items → ℕ
 held_by_test names (no_items ▸ single e) = held names e
 held_by_test names _ = 0
 
--- the tests of an arm of CASE, behind the value that is compared
+-- the tests of an arm of CASE, after the value that is compared
 abbrev pub held_by_tests : Names → Items → ℕ
 held_by_tests names no_items = 0
 held_by_tests names (xs ▸ single e) = max (held_by_tests names xs) (1 + held names e)

@@ -84,7 +84,7 @@ built_value code =
     else if code == 0xC0 then byte 0x35 ⨾ byte 0xC0
     else with_number 0x38 4 ⨾ byte 0x80
 
--- a built-in behind its arguments, where it stands alone: LOCKNEW, LOCKSET and LOCKCLR have a form that leaves nothing; the
+-- a built-in after its arguments, where it stands alone: LOCKNEW, LOCKSET and LOCKCLR have a form that leaves nothing; the
 -- values of STRSIZE and STRCOMP are dropped
 abbrev pub built_alone : (code : ℕ) → Piece
 built_alone code =
@@ -103,7 +103,7 @@ dropped used = if used then nothing else byte 0x14
 abbrev pub built_without : (used : Bool) (code : ℕ) → Piece
 built_without used code = if code == 0x29 then built used code else built_value code ⨾ dropped used
 
--- ---- COGNEW and COGINIT, behind the number of the cog
+-- ---- COGNEW and COGINIT, after the number of the cog
 
 abbrev pub is_method : Option NameKind → Bool
 is_method (Some (kinds.Method number params)) = true
@@ -123,13 +123,13 @@ starts_method names _ = false
 abbrev pub start_of_method : (number count : ℕ) → Piece
 start_of_method number count = one (record (bare 0x15) { first = number; second = count })
 
--- the start of a method, behind its arguments and the address of its frame
+-- the start of a method, after its arguments and the address of its frame
 abbrev pub starts : Names → Tree → Piece
 starts names (node p (Call trap object i method q args)) = start_of_method (method_number (names.kind method)) (count_of args)
 starts names (node p (Var (Named name i q))) = start_of_method (method_number (names.kind name)) 0
 starts names _ = nothing
 
--- the start of PASM, behind its address and PAR
+-- the start of PASM, after its address and PAR
 abbrev pub pasm : (used : Bool) → Piece
 pasm used = byte (if used then 0x28 else 0x2C)
 

@@ -24,7 +24,7 @@ pub record Written : Type 0 where
 abbrev pub empty : Written
 empty = record { ops = []; end = 0; texts = []; too_far = [] }
 
--- a piece, by the code with it behind the code before it
+-- a piece, by the code with it after the code before it
 abbrev pub Piece : Type 0
 Piece = Written → Written
 
@@ -53,7 +53,7 @@ one op w = record w { ops = w.ops ++ op ∷ []; end = w.end + length (spelled op
 abbrev pub byte : ℕ → Piece
 byte code = one (bare code)
 
--- one with a number behind it
+-- one with a number after it
 abbrev pub with_number : (code number : ℕ) → Piece
 with_number code number = one (record (bare code) { first = number })
 

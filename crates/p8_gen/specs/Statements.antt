@@ -113,7 +113,7 @@ abbrev mutual
 
   -- ---- IF
 
-  -- arms, each with its test, and its body where the test holds; behind the body of the last one stands `last`, behind those
+  -- arms, each with its test, and its body where the test holds; after the body of the last one stands `last`, after those
   -- of the others `further`
   pub chain : Names → Option Loop → (further last : Piece) → Arms → Piece
   chain names loop further last no_arms = nothing

@@ -16,7 +16,7 @@ call_piece names used _ = nothing
 abbrev pub started_value : Names → Tree → Piece
 started_value names m = if starts_method names m then arguments names m else value names m
 
--- the items of a LOOK function with the end behind them
+-- the items of a LOOK function with the end after them
 abbrev pub looked : Names → (down : Bool) → Items → (end : ℕ) → Piece
 looked names down xs end = looks names down end xs ⨾ byte 0x0F
 

@@ -1,4 +1,4 @@
-// The bytecodes of calls and of starts, behind their arguments.
+// The bytecodes of calls and of starts, after their arguments.
 ghost use Rattle.std.specs.Prelude.{◌≡◌, OnOk};
 ghost use Rattle.p8_tree.specs.Views.{tree_of};
 ghost use Rattle.p8_tree.specs.Bridges.{boxed_index};
@@ -104,7 +104,7 @@ impl Writer {
         }
     }
 
-    /// Appends a built-in, behind its arguments.
+    /// Appends a built-in, after its arguments.
     pub fn built(&mut self, used: bool, code: u8) -> Result<(), AllocError>
         ensures { (w : Written) → Stands self.old w → OnOk result (Stands self.new (built used code w)) }
     {
@@ -127,14 +127,14 @@ impl Writer {
         }
     }
 
-    /// Appends the start of PASM, behind its address and PAR.
+    /// Appends the start of PASM, after its address and PAR.
     pub fn pasm(&mut self, used: bool) -> Result<(), AllocError>
         ensures { (w : Written) → Stands self.old w → OnOk result (Stands self.new (pasm used w)) }
     {
         self.byte(if used { 0x28 } else { 0x2C })
     }
 
-    /// Appends an operator behind its operand; the sign `+` adds nothing.
+    /// Appends an operator after its operand; the sign `+` adds nothing.
     pub fn unary(&mut self, operator: u8) -> Result<(), AllocError>
         ensures { (w : Written) → Stands self.old w → OnOk result (Stands self.new (unary operator w)) }
     {
@@ -190,7 +190,7 @@ impl Writer {
 }
 
 impl Coder<'_> {
-    /// Appends the bytecode of a call, behind its arguments and the index of its object.
+    /// Appends the bytecode of a call, after its arguments and the index of its object.
     pub fn callee(
         &self,
         object: &Option<Text>,
@@ -242,7 +242,7 @@ impl Coder<'_> {
         }
     }
 
-    /// Appends the start of a method or of PASM, behind what it is given.
+    /// Appends the start of a method or of PASM, after what it is given.
     pub fn started(&self, used: bool, begun: &Expr, out: &mut Writer) -> Result<(), AllocError>
         ensures { (w : Written) → Stands out.old w → OnOk result (Stands out.new (started (names_of self.now) used (tree_of begun.now) w)) }
     {

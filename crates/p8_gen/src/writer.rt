@@ -158,7 +158,7 @@ impl Writer {
         self.one(bare(code))
     }
 
-    /// Appends a bytecode with a number behind it.
+    /// Appends a bytecode with a number after it.
     pub fn with_number(&mut self, code: u8, number: u32) -> Result<(), AllocError>
         ensures { (w : Written) → Stands self.old w → OnOk result (Stands self.new (with_number code number w)) }
     {

@@ -63,7 +63,7 @@ not_some : (o : Option State) → is_some o ≡ false → o ≡ None
 not_some None h = refl
 not_some (Some x) h = absurd cc
 
--- a mark that ends no form is refused behind each tree
+-- a mark that ends no form is refused after each tree
 pub mark_refused : (m : Mark) (k : List Frame) (t : Option Tree) → allows m (ends_of k) ≡ false → option_and_then (λ e. shut m (reduce 22 e k).0 (reduce 22 e k).1) t ≡ None
 mark_refused m k None h = refl
 mark_refused m k (Some e) h = not_some _ (shut_some m k e ∙ h)

@@ -1,4 +1,4 @@
--- A variable with AND or OR behind it.
+-- A variable with AND or OR after it.
 use Rattle.std.proofs.Common.{◌≡◌, ℕ, zero, suc, ◌*◌, ◌<◌, ◌≤◌, List, [], ◌∷◌, Option, Some, None, Bool, true, false, refl, sym, ap, ◌∙◌, arith, le-leb}
 use Rattle.std.specs.Prelude.{option_and_then, IsTrue, nat_le, nat_lt, if◌then◌else◌, ◌&&◌}
 use Rattle.std.proofs.lemmas.Bool.{leb-true, ltb-true, lt-ltb}
@@ -87,14 +87,14 @@ past_word s r c p v k (token q x ∷ us) s' sh k' top t h = h
 same_tree : (x y : Tree) → Some x ≡ Some y → x ≡ y
 same_tree x y h = cc
 
--- nothing is ended by AND or OR behind a variable that may be assigned
+-- nothing is ended by AND or OR after a variable that may be assigned
 pub reduced_is : (sh : Shape) (k : List Frame) (r : ℕ) (top : Tree) (v : Variable) → tree sh ≡ Some top → target sh ≡ Some v → IsTrue (is_boolean (suc r) && nat_lt 21 (bar_of k)) → reduce (2 * suc r) top k ≡ (used reading v, k)
 reduced_is sh k r top v t w h =
     let most : suc r ≤ 10 = boolean_most (suc r) (first_true (is_boolean (suc r)) (nat_lt 21 (bar_of k)) h) in
     let low : 21 < bar_of k = ltb-true 21 (bar_of k) (second_true (is_boolean (suc r)) (nat_lt 21 (bar_of k)) h) in
     kept (2 * suc r) top k (omega (arith, most, low)) ∙ ap (λ e. (e, k)) (same_tree top (used reading v) (sym t ∙ target_tree sh v w))
 
--- AND or OR behind a variable, and an operand behind it
+-- AND or OR after a variable, and an operand after it
 pub joined_walk : (s : Setting) (sh : Shape) (k : List Frame) (p : Place) (r c : ℕ) (top : Tree) (v : Variable) (us : List Token) (s' : Setting) (sh' : Shape) (k' : List Frame) (top' : Tree) → tree sh ≡ Some top → target sh ≡ Some v → IsTrue (is_boolean (suc r) && nat_lt 21 (bar_of k)) → tree sh' ≡ Some top' → walk (state s fresh (infix_frame r c p (reduce (2 * suc r) top k).0 ∷ (reduce (2 * suc r) top k).1)) us ≡ Some (state s' sh' k') → walk (joined s r c p v k) us ≡ Some (state s' sh' k')
 joined_walk s sh k p r c top v us s' sh' k' top' t w h t' is =
     past_word s r c p v k us s' sh' k' top' t' (ap (λ q. walk (state s fresh (infix_frame r c p q.0 ∷ q.1)) us) (sym (reduced_is sh k r top v t w h)) ∙ is)

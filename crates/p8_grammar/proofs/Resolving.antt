@@ -1,4 +1,4 @@
--- A word behind a variable and AND or OR, by what it is.
+-- A word after a variable and AND or OR, by what it is.
 use Rattle.std.proofs.Common.{◌≡◌, ℕ, List, ◌∷◌, Option, Some, None, refl, sym, ap, subst}
 use Rattle.std.specs.Prelude.{IfOk}
 use Rattle.std.specs.declared.result.Result.{Result}

@@ -35,7 +35,7 @@ pub record Begun (s0 s : Setting) (n : Next) (k : List Frame) (ts : List Token) 
   pub spells : Spells s row vs
   pub is : ts ≡ us ++ vs
 
--- a variable with AND or OR behind it, and what was begun before them
+-- a variable with AND or OR after it, and what was begun before them
 pub record Joint (s0 s : Setting) (r c : ℕ) (p : Place) (v : Variable) (k : List Frame) (ts : List Token) : Type 0 where
   pub us : List Token
   pub vs : List Token
@@ -103,7 +103,7 @@ same_some x y h = cc
 arrived : (s0 : Setting) (ts : List Token) (x y : State) → Some x ≡ Some y → Stands s0 x ts → Stands s0 y ts
 arrived s0 ts x y h st = subst (λ x. Stands s0 x ts) (same_some x y h) st
 
--- a fresh operand behind frames
+-- a fresh operand after frames
 fresh_stands : (s0 s : Setting) (k : List Frame) (ts : List Token) → Pending s0 s k ts → Stands s0 (state s fresh k) ts
 fresh_stands s0 s k ts p = record { us = ts; vs = []; row = begin; pending = p; stands = is_using at_reading; spells = nothing; is = sym (append-nil ts) }
 

@@ -22,14 +22,14 @@ pub data Row : Type 0 where
 abbrev pub result_name : List ℕ
 result_name = 82 ∷ 69 ∷ 83 ∷ 85 ∷ 76 ∷ 84 ∷ []
 
--- a variable's name behind what stands before it, with its place; that of a local label of DAT
+-- a variable's name after what stands before it, with its place; that of a local label of DAT
 -- begins with its colon
 pub data Names (s : Setting) (before : Row) : List ℕ → Place → Row → Type 0 where
   plain_name : {n : List ℕ} {p : Place} → Names s before n p (before ▹ word p (name n))
   result_word : {p : Place} → Names s before result_name p (before ▹ word p method_result)
   local_label : {n : List ℕ} {p q : Place} → IsTrue (is_dat s) → Names s before (58 ∷ n) p (before ▹ word p (mark colon) ▹ word q (name n))
 
--- a variable behind what stands before it, and what may be done with it
+-- a variable after what stands before it, and what may be done with it
 pub data Variables (s : Setting) (before : Row) : Access → Variable → Row → Type 0 where
   -- name
   named : {n : List ℕ} {p : Place} {row : Row} → Names s before n p row → Variables s before memory (Named n no_index p) row

@@ -49,7 +49,7 @@ filled h (look_for p k) = suc (max h 1)
 filled h (choice_of p k x xs) = suc (max (height x) (max (height_of_items xs) h))
 filled h (choice_to p k x xs low) = suc (max (height x) (max (height_of_items xs) (max (height low) h)))
 
--- of an expression with an operand of height h behind these frames
+-- of an expression with an operand of height h after these frames
 abbrev pub need : ℕ → List Frame → ℕ
 need h [] = h
 need h (prefix_frame o p ∷ k) = need (suc h) k

@@ -39,11 +39,11 @@ Takes o st (taken_case.On s x) k = o ≡ Some (state (setting_of s) (shape_of x)
 Takes o st (taken_case.Joins s x) k = o ≡ Some (joined_at s x k)
 Takes o st (taken_case.Dead x) k = (o ≡ None) × IsSame st x k
 
--- what a variable with AND or OR behind it makes the operator's left operand
+-- what a variable with AND or OR after it makes the operator's left operand
 abbrev pub operator_frames : Joined → List machine.Frame → List machine.Frame
 operator_frames x k = machine.infix_frame x.lower x.code x.place (machine.used machine.reading (target_of x.variable)) ∷ k
 
--- a word was taken behind AND or OR, or can't be
+-- a word was taken after AND or OR, or can't be
 abbrev pub Resolves : Option State → State → setting.Setting → resolved.Resolved → List machine.Frame → Type 0
 Resolves o st s (resolved_case.On s' x) k = o ≡ Some (state (setting_of s') (shape_of x) k)
 Resolves o st s (resolved_case.Dead x) k = (o ≡ None) × (joined_at s x k ≡ st)

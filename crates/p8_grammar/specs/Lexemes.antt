@@ -68,7 +68,7 @@ pub data Mark : Type 0 where
   backslash : Mark
   equal : Mark
 
--- Numbers behind a word are its bytecode or effect byte, a size in bytes or a register's address.
+-- Numbers after a word are its bytecode or effect byte, a size in bytes or a register's address.
 pub data Lexeme : Type 0 where
   number : ℕ → Lexeme
   -- a name in capitals

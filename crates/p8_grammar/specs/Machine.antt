@@ -314,7 +314,7 @@ reduce m e (f ∷ k) = if nat_le (bar f) m then reduce m (wrap f e) k else (e, f
 
 pub data State : Type 0 where
   state : Setting → Shape → List Frame → State
-  -- a variable and AND or OR, behind which `=` may come; the rank is one more than the number
+  -- a variable and AND or OR, after which `=` may come; the rank is one more than the number
   joined : Setting → ℕ → ℕ → Place → Variable → List Frame → State
 
 abbrev pub fresh : Shape
@@ -352,7 +352,7 @@ abbrev pub assign : Setting → Option Variable → Option ℕ → Place → Lis
 assign s None o p k = None
 assign s (Some v) o p k = if nat_lt 21 (bar_of k) then Some (state s fresh (assign_frame o p v ∷ k)) else None
 
--- an operator between operands that is a word: behind a variable that may be assigned `=` may come
+-- an operator between operands that is a word: after a variable that may be assigned `=` may come
 abbrev pub join : Setting → Option Variable → Option (ℕ × ℕ) → Place → Tree → List Frame → Option State
 join s None o p e k = operate s o p e k
 join s (Some v) None p e k = None
@@ -374,7 +374,7 @@ abbrev pub go_on : Option Next → Setting → Shape → List Frame → Place �
 go_on (Some n) s sh k p x = Some (entered s k n)
 go_on None s sh k p x = beyond (tree sh) s sh k p x
 
--- a word behind a variable and AND or OR: `=`, or the first one of the right operand
+-- a word after a variable and AND or OR: `=`, or the first one of the right operand
 abbrev pub resolve : Setting → ℕ → ℕ → Place → Variable → List Frame → Place → Lexeme → Option State
 resolve s r c p v k q (mark equal) = Some (state s fresh (assign_frame (Some c) p v ∷ k))
 resolve s r c p v k q x = go_on (grow s fresh q x) s fresh (infix_frame r c p (used reading v) ∷ k) q x

@@ -180,7 +180,7 @@ frame_of (frame_case.Infix r k p a) = machine.infix_frame r k p (expr_of a)
 frame_of (frame_case.Assign o p v) = machine.assign_frame o p (target_of v)
 frame_of (frame_case.Inside s h) = machine.inside_frame (setting_of s) (hole_of h)
 
--- a form goes on behind an expression
+-- a form goes on after an expression
 abbrev pub Closes : Option Next → closed.Closed → Type 0
 Closes o (closed_case.Stays x) = o ≡ Some (stays (shape_of x))
 Closes o (closed_case.Opens y) = o ≡ Some (opens (hole_of y))

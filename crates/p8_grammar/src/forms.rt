@@ -13,7 +13,7 @@ use crate::shapes::{Head, Hole, Shape, Use};
 use p8_tree::{Place, Text};
 use std::alloc::{AllocError, Global};
 
-/// What the mark behind an expression made of the form that waited for it.
+/// What the mark after an expression made of the form that waited for it.
 #[derive(Drop)]
 pub enum Closed {
     /// It goes on with a word, or is whole.
@@ -112,7 +112,7 @@ pub fn target(shape: Shape) -> Written
     }
 }
 
-// `]` behind a name's index.
+// `]` after a name's index.
 fn named_element(usage: Use, plain: bool, place: Place, name: Text, position: Tall) -> Shape
     ensures { named_element (use_of usage) plain place name (expr_of position) ≡ stays (shape_of result) }
 {
@@ -178,7 +178,7 @@ fn called(alloc: Global, head: Head, arguments: TallList, last: Tall) -> Result<
     }
 }
 
-// A call with one more argument, behind which another comes.
+// A call with one more argument, after which another comes.
 fn another_argument(head: Head, arguments: TallList, tree: Tall) -> Result<Closed, AllocError>
     ensures { IfOk result (λ c. Closes (Some (opens (argument_of (head_of head) (list_of arguments ▷ expr_of tree)))) c) }
 {

@@ -1,4 +1,4 @@
-// A variable with AND or OR behind it: `=` makes them an assignment, else they are an operator
+// A variable with AND or OR after it: `=` makes them an assignment, else they are an operator
 // between operands.
 ghost use Rattle.std.specs.Prelude.{◌≡◌, ◌∷◌, IfOk, OnOk, Option, Some, min, max, suc, option_map};
 ghost use Rattle.p8_grammar.specs.Grammar.{prefix_of};
@@ -17,7 +17,7 @@ use crate::stack::{Frame, Prefix, Stack};
 use p8_tree::Place;
 use std::alloc::{AllocError, Global};
 
-/// A variable that may be assigned, with AND or OR behind it.
+/// A variable that may be assigned, with AND or OR after it.
 #[derive(Drop)]
 pub struct Joined {
     /// The operator's place.
@@ -170,7 +170,7 @@ fn resolve_mark(
     }
 }
 
-/// The next word behind a variable and AND or OR.
+/// The next word after a variable and AND or OR.
 pub fn resolve(
     alloc: Global,
     setting: Setting,

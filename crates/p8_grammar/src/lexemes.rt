@@ -142,7 +142,7 @@ pub enum Operator {
     ObjectAddress,
 }
 
-/// A word that an operand has. Numbers behind it are its bytecode or effect byte, a size in bytes
+/// A word that an operand has. Numbers after it are its bytecode or effect byte, a size in bytes
 /// or a register's address.
 #[derive(Drop)]
 pub enum Term {

@@ -26,7 +26,7 @@ use std::mem;
 pub enum Stage {
     /// In a form.
     Form(Shape),
-    /// Behind a variable and AND or OR, which with `=` are an assignment.
+    /// After a variable and AND or OR, which with `=` are an assignment.
     Joined(Joined),
 }
 
@@ -53,7 +53,7 @@ impl Reader {
         }
     }
 
-    /// Takes the token, where some expression begins with it behind those that were taken, and says
+    /// Takes the token, where some expression begins with it after those that were taken, and says
     /// whether it did. Else it is as before.
     pub fn take(&mut self, alloc: Global, place: Place, lexeme: Lexeme) -> Result<bool, NoMemory>
         ensures begins { (s : lexemes.Setting) (ts : List Token) → HasTaken s ts self.old → IfOk result (λ b. IsTrue b ↔ IsFront s (ts ++ token place (lexeme_of lexeme) ∷ [])) }
@@ -101,7 +101,7 @@ impl Reader {
         }
     }
 
-    // One step behind AND or OR.
+    // One step after AND or OR.
     fn resolve(
         &mut self,
         alloc: Global,

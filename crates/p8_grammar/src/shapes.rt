@@ -45,28 +45,28 @@ impl Head {
 #[derive(Drop)]
 pub enum Shape {
     Using(Use),
-    /// Behind the colon of a local label.
+    /// After the colon of a local label.
     Coloned(Use, Place),
-    /// Behind a size word.
+    /// After a size word.
     Sized(Use, Place, u8),
     /// A name, and whether a method or an object may have it.
     Named(Use, bool, Place, Text),
     IndexedName(Place, Text, Tall),
-    /// Behind a name's dot.
+    /// After a name's dot.
     Dotted(Use, bool, Place, Text),
     Parted(Use, Place, Text, u8),
     MemoryWord(Use, Place, u8, Tall),
     RegisterWord(Use, Place, u16, Access),
     /// A variable that nothing more belongs to.
     Ready(Use, TallTarget, Access),
-    /// Behind `\`.
+    /// After `\`.
     Trapping,
     TrappedName(Place, Text),
     TrappedElement(Place, Text, Tall),
-    /// Behind an object's dot.
+    /// After an object's dot.
     ObjectDot(bool, Place, Text, Option<Tall>),
     Headed(Head),
-    /// Behind an object's `#`.
+    /// After an object's `#`.
     Hashed(Place, Text),
     StringBegun(Place),
     StringOpened(Place),

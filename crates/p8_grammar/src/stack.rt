@@ -47,7 +47,7 @@ pub enum Frame {
     Inside(Setting, Hole),
 }
 
-// The level that the operand behind a frame stays below.
+// The level that the operand after a frame stays below.
 fn bar(frame: &Frame) -> u32
     ensures { result ≡ bar (frame_of frame.now) }
 {
@@ -164,7 +164,7 @@ fn ends_of_frame(frame: &Frame) -> Ends
     }
 }
 
-// The marks that end the innermost form behind a frame, from those below it.
+// The marks that end the innermost form after a frame, from those below it.
 fn ends_behind(frame: &Frame, below: Ends) -> Ends
     ensures { (k : List machine.Frame) → below ≡ ends_of k → result ≡ ends_of (frame_of frame.now ∷ k) }
 {

@@ -21,7 +21,7 @@ use std::alloc::{AllocError, Global};
 #[derive(Drop)]
 pub enum Taken {
     On(Setting, Shape),
-    /// Behind a variable and AND or OR.
+    /// After a variable and AND or OR.
     Joins(Setting, Joined),
     Dead(Shape),
 }
@@ -127,7 +127,7 @@ fn prefix(
     }
 }
 
-// An operator between its operands, behind the left one.
+// An operator between its operands, after the left one.
 fn operate(
     alloc: Global,
     place: Place,
@@ -168,7 +168,7 @@ fn infix(
     }
 }
 
-// Whether `=` may come behind the operator, where a variable is before it.
+// Whether `=` may come after the operator, where a variable is before it.
 fn may_join(rank: u8, stack: &Stack) -> bool
     ensures joins { result ≡ (is_boolean rank && nat_lt 21 (bar_of (frames_in stack.now))) }
     ensures rank { IsTrue result → 9 ≤ rank }

@@ -40,7 +40,7 @@ back memory p n xs ys h s = record {
 moved : (memory : List ℕ) (p q : ℕ) (xs : List ℕ) → p ≡ q → Stands memory p xs → Stands memory q xs
 moved memory p q xs e s = let P : ℕ → Type 0 = λ place. Stands memory place xs in subst P e s
 
--- the codes of methods, one behind the other
+-- the codes of methods, one after the other
 code_stands : (memory : List ℕ) (offset : ℕ → ℕ) (p : ℕ) (methods : List MethodPart) → Stands memory p (codes_of offset methods)
     → (m : ℕ) (method : MethodPart) → slice_get methods m ≡ Some method
     → Stands memory (p + total code_size (take m methods)) (linked offset method.uses method.code)
@@ -54,7 +54,7 @@ code_stands memory offset p (first ∷ methods) s (suc m) method h =
     moved memory _ _ _ (add_assoc p (code_size first) (total code_size (take m methods)))
     (code_stands memory offset (p + code_size first) methods rest m method h)
 
--- texts, one behind the other
+-- texts, one after the other
 text_stands : (memory : List ℕ) (p : ℕ) (texts : List (List ℕ)) → Stands memory p (texts_of texts)
     → (k : ℕ) (text : List ℕ) → slice_get texts k ≡ Some text
     → Stands memory (slice_index (places_from text_size p texts) k) (text ++ 0 ∷ [])
@@ -66,7 +66,7 @@ text_stands memory p (first ∷ texts) s zero text h =
 text_stands memory p (first ∷ texts) s (suc k) text h =
     text_stands memory (p + text_size first) texts (back memory p (text_size first) (first ++ 0 ∷ []) (texts_of texts) (length-append first (0 ∷ [])) s) k text h
 
--- objects, one behind the other
+-- objects, one after the other
 object_stands : (memory bases variables : List ℕ) (p : ℕ) (objects : List ObjectPart) → Stands memory p (objects_bytes bases variables p objects)
     → (f : ℕ) (object : ObjectPart) → slice_get objects f ≡ Some object
     → Stands memory (slice_index (places_from size_of p objects) f) (object_bytes bases variables (slice_index (places_from size_of p objects) f) object)

@@ -132,12 +132,12 @@ from_here xs i x h e = rw (add-one, drop-cons xs i x) (cc)
 pub kept_counts : (n : ℕ) → (n % 256 + 1) % 256 ≡ (n + 1) % 256
 kept_counts n = omega arith
 
--- four parts, one appended behind the other
+-- four parts, one appended after the other
 pub four_parts : (a b c d out0 out1 out2 out3 out4 : List ℕ) → out0 ≡ [] → out1 ≡ out0 ++ a → out2 ≡ out1 ++ b → out3 ≡ out2 ++ c → out4 ≡ out3 ++ d
     → out4 ≡ a ++ b ++ c ++ d
 four_parts a b c d out0 out1 out2 out3 out4 e0 e1 e2 e3 e4 =
     e4 ∙ ap (λ (out : List ℕ). out ++ d) (e3 ∙ ap (λ (out : List ℕ). out ++ c) (e2 ∙ ap (λ (out : List ℕ). out ++ b) (e1 ∙ ap (λ (out : List ℕ). out ++ a) e0)))
 
--- one more part behind what was appended
+-- one more part after what was appended
 pub more : (out xs ys out1 out2 : List ℕ) → out1 ≡ out ++ xs → out2 ≡ out1 ++ ys → out2 ≡ out ++ (xs ++ ys)
 more out xs ys out1 out2 e f = f ∙ ap (λ (o : List ℕ). o ++ ys) e ∙ append_assoc out xs ys

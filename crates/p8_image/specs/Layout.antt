@@ -33,18 +33,18 @@ long n = word n ++ word (n / 65536)
 
 -- ---- an object: its places, counted from its base
 
--- the DAT, behind the size, the two counts, and four bytes for each method and for each object inside
+-- the DAT, after the size, the two counts, and four bytes for each method and for each object inside
 abbrev pub dat_offset : ObjectPart → ℕ
 dat_offset object = 4 + 4 * length object.methods + 4 * length object.instances
 
--- the codes of the methods, behind the DAT
+-- the codes of the methods, after the DAT
 abbrev pub codes_offset : ObjectPart → ℕ
 codes_offset object = dat_offset object + whole_longs (length object.dat)
 
 abbrev pub code_size : MethodPart → ℕ
 code_size method = length method.code
 
--- the code of method m, counted from 0, behind the codes of the methods before it
+-- the code of method m, counted from 0, after the codes of the methods before it
 abbrev pub code_offset : ObjectPart → ℕ → ℕ
 code_offset object m = codes_offset object + total code_size (take m object.methods)
 
@@ -52,12 +52,12 @@ code_offset object m = codes_offset object + total code_size (take m object.meth
 abbrev pub text_size : List ℕ → ℕ
 text_size text = length text + 1
 
--- where things of some sizes stand, one behind the other from a place on
+-- where things of some sizes stand, one after the other from a place on
 abbrev pub places_from : {A : Type 0} → (A → ℕ) → (place : ℕ) → List A → List ℕ
 places_from size place [] = []
 places_from size place (x ∷ xs) = place ∷ places_from size (place + size x) xs
 
--- the texts, behind all codes
+-- the texts, after all codes
 abbrev pub texts_offset : ObjectPart → ℕ
 texts_offset object = codes_offset object + total code_size object.methods
 
@@ -99,19 +99,19 @@ inner_offset objects object i = own_variables object + total (slice_index (varia
 
 -- ---- the hub
 
--- the objects, behind the image's header
+-- the objects, after the image's header
 abbrev pub bases_of : List ObjectPart → List ℕ
 bases_of objects = places_from size_of 16 objects
 
--- where the variables begin: behind all objects
+-- where the variables begin: after all objects
 abbrev pub variables_base : List ObjectPart → ℕ
 variables_base objects = 16 + total size_of objects
 
--- where the first frame begins: behind the top object's variables and two longs
+-- where the first frame begins: after the top object's variables and two longs
 abbrev pub first_frame : List ObjectPart → ℕ
 first_frame objects = variables_base objects + slice_index (variables_of objects) 0 + 8
 
--- the bytes of a method's first frame behind its result
+-- the bytes of a method's first frame after its result
 abbrev pub frame_size : List MethodPart → ℕ
 frame_size [] = 0
 frame_size (method ∷ methods) = method.parameters + method.locals
@@ -135,7 +135,7 @@ linked offset [] code = code
 linked offset (place ∷ uses) code =
     linked offset uses (slice_set (slice_set code place.at (128 + offset place.text / 256 % 128)) (place.at + 1) (offset place.text % 256))
 
--- the entries of methods whose codes stand one behind the other from an offset on: where the code stands, and the bytes of the locals
+-- the entries of methods whose codes stand one after the other from an offset on: where the code stands, and the bytes of the locals
 abbrev pub method_entries : ℕ → List MethodPart → List ℕ
 method_entries offset [] = []
 method_entries offset (method ∷ methods) = word offset ++ word method.locals ++ method_entries (offset + length method.code) methods
@@ -148,7 +148,7 @@ inner_entries bases variables base offset (f ∷ instances) =
     word (slice_index bases f + 65536 - base % 65536) ++ word offset
     ++ inner_entries bases variables base (offset + slice_index variables f) instances
 
--- the codes of methods, one behind the other
+-- the codes of methods, one after the other
 abbrev pub codes_of : (ℕ → ℕ) → List MethodPart → List ℕ
 codes_of offset methods = flat_map (λ (method : MethodPart). linked offset method.uses method.code) methods
 
@@ -172,7 +172,7 @@ object_bytes bases variables base object =
     ++ codes_of (slice_index (text_offsets object)) object.methods
     ++ texts_of object.texts)
 
--- such objects, one behind the other from a base on
+-- such objects, one after the other from a base on
 abbrev pub objects_bytes : (bases variables : List ℕ) → (base : ℕ) → List ObjectPart → List ℕ
 objects_bytes bases variables base [] = []
 objects_bytes bases variables base (object ∷ objects) =

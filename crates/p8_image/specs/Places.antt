@@ -28,7 +28,7 @@ entry_of objects f object m = base_of objects f + code_offset object m
 abbrev pub text_place : List ObjectPart → ℕ → ObjectPart → ℕ → ℕ
 text_place objects f object k = base_of objects f + slice_index (text_offsets object) k
 
--- where its DAT begins; a label stands as far behind it as in the DAT
+-- where its DAT begins; a label stands as far after it as in the DAT
 abbrev pub dat_place : List ObjectPart → ℕ → ObjectPart → ℕ
 dat_place objects f object = base_of objects f + dat_offset object
 

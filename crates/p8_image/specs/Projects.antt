@@ -22,7 +22,7 @@ abbrev pub BeginsWithMain : List ObjectPart → Type 0
 BeginsWithMain [] = ⊥
 BeginsWithMain (top ∷ objects) = HasMain top.methods
 
--- the memory behind the first frame belongs to the hub, which has 32,768 bytes
+-- the memory after the first frame belongs to the hub, which has 32,768 bytes
 abbrev pub FitsHub : Header → Type 0
 FitsHub h = h.dcurr ≤ 32768
 

@@ -42,7 +42,7 @@ pub fn push_texts(out: &mut Vec<u8>, texts: &[Text]) -> Result<(), NoMemory>
     Ok(())
 }
 
-/// Appends the entries of methods whose codes stand one behind the other from an offset on.
+/// Appends the entries of methods whose codes stand one after the other from an offset on.
 pub fn push_method_entries(
     out: &mut Vec<u8>,
     mut offset: u32,
@@ -78,7 +78,7 @@ pub fn push_inner_entries(
     Ok(())
 }
 
-/// The number at a place of a list, or 0 behind its end.
+/// The number at a place of a list, or 0 after its end.
 pub fn number_at(numbers: &[u32], place: u8) -> u32
     ensures { result ≡ slice_index numbers.now place }
 {
@@ -177,7 +177,7 @@ pub fn text_offsets(alloc: Global, mut offset: u32, texts: &[Text]) -> Result<Ve
     Ok(offsets)
 }
 
-/// The codes of an object's methods, one behind the other, with the offsets of the texts that they use.
+/// The codes of an object's methods, one after the other, with the offsets of the texts that they use.
 pub fn linked_codes(alloc: Global, object: &ObjectPart) -> Result<Vec<u8>, NoMemory>
     ensures { IfOk result (λ codes. codes.items ≡ codes_of (slice_index (text_offsets object.now)) object.now.methods) }
 {
@@ -206,7 +206,7 @@ fn object_parts(
     Ok(bytes)
 }
 
-/// Appends objects, one behind the other from a base on.
+/// Appends objects, one after the other from a base on.
 pub fn push_objects(
     alloc: Global,
     out: &mut Vec<u8>,

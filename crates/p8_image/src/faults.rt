@@ -43,7 +43,7 @@ pub enum LoadFault {
     },
 }
 
-/// The first frame of a project's image would end behind the hub's memory of 32,768 bytes.
+/// The first frame of a project's image would end after the hub's memory of 32,768 bytes.
 #[derive(Clone, Copy, Debug, PartialEq, Eq)]
 pub struct TooLarge;
 

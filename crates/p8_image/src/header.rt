@@ -14,7 +14,7 @@ pub struct Header {
     pub pbase: u16,
     /// Where the objects end, with the file, and the variables begin.
     pub vbase: u16,
-    /// Where the frame of the first method begins, 8 behind the end of the variables.
+    /// Where the frame of the first method begins, 8 after the end of the variables.
     pub dbase: u16,
     /// Where the code of the first method begins.
     pub pcurr: u16,

@@ -147,7 +147,7 @@ impl Image {
     }
 }
 
-/// These bytes, zeros behind them, and the two longs that stand below the first frame, which begins at `frame`.
+/// These bytes, zeros after them, and the two longs that stand below the first frame, which begins at `frame`.
 fn marked(alloc: Global, bytes: &[u8], frame: usize) -> Result<Vec<u8>, AllocError>
     requires { length bytes.now + 8 ≤ frame }
     ensures value { IfOk result (λ memory. memory.items ≡ bytes.now ++ replicate (frame - 8 - length bytes.now) 0 ++ frame_mark ++ frame_mark) }

@@ -9,10 +9,10 @@ use crate::sizes::{add, add_object, own_variables};
 use p8_words::NoMemory;
 use std::alloc::Global;
 
-/// Where the first object stands: behind the header of the image.
+/// Where the first object stands: after the header of the image.
 pub const FIRST_BASE: u32 = 16;
 
-/// Where the objects of a project stand, one behind the other.
+/// Where the objects of a project stand, one after the other.
 pub fn bases(alloc: Global, objects: &[ObjectPart]) -> Result<Vec<u32>, NoMemory>
     ensures { IfOk result (λ bases. bases.items ≡ map kept (bases_of objects.now)) }
 {

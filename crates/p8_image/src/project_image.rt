@@ -16,7 +16,7 @@ use crate::sizes::codes_offset;
 use p8_words::{Fail, NoMemory};
 use std::alloc::Global;
 
-/// The bytes of the first frame behind its result.
+/// The bytes of the first frame after its result.
 fn frame_size(methods: &[MethodPart]) -> u32
     ensures { result ≡ frame_size methods.now }
 {
@@ -102,7 +102,7 @@ fn finished(mut bytes: Vec<u8>) -> Vec<u8>
 ///
 /// # Errors
 ///
-/// `Refused` exactly where the first frame would end behind the hub's 32,768 bytes; `NoMemory` where there is no memory for the image.
+/// `Refused` exactly where the first frame would end after the hub's 32,768 bytes; `NoMemory` where there is no memory for the image.
 pub fn layout(alloc: Global, clock: Clock, objects: &[ObjectPart]) -> Result<Image, Fail<TooLarge>>
     requires { BeginsWithMain objects.now }
     ensures image { IfOk result (λ image. image ≡ image_of clock objects.now) }

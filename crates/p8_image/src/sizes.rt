@@ -46,7 +46,7 @@ fn whole_longs(bytes: u32) -> u32
 pub struct Offsets {
     /// Where its DAT bytes stand.
     pub dat: u16,
-    /// Where the codes of its methods stand, one behind the other.
+    /// Where the codes of its methods stand, one after the other.
     pub codes: u16,
     /// How many bytes it has.
     pub size: u16,

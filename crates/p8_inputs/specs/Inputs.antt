@@ -22,7 +22,7 @@ abbrev pub IsScriptFor : Files → Option (List ℕ) → List Line → Type 0
 IsScriptFor files None script = script ≡ []
 IsScriptFor files (Some name) script = (bytes : List ℕ) × IsRead files name bytes × IsReadAs bytes script
 
--- a pin script of this name is looked at, which comes behind what can be run
+-- a pin script of this name is looked at, which comes after what can be run
 abbrev pub HasScript : Files → Format → (file : List ℕ) → Option (List ℕ) → (name : List ℕ) → Type 0
 HasScript files format file script name = (bytes : List ℕ) × IsProgram files format file bytes × (script ≡ Some name)
 

@@ -337,7 +337,7 @@ module _ (w : Working) where
     m-if true count f own x y r u m n = m
     m-if false count f own x y r u m n = n
 
-    -- the test of a loop behind its body
+    -- the test of a loop after its body
     tail-meets : (until : Bool) (e : Tree) (target p p1 q : ℕ) → standing.ValueAt t e p p1 → At t p1 (takes_one 0 (bodies.jumps_where until target)) q → height e ≤ 64 → (b : ℕ) (xs : List ℕ) → Fine b xs → length xs + depth e ≤ room w → (again k : Rest) → Paid b (St target xs) again → Then w b (St q xs) k →
         Then w b (St p xs) (statements.decides most_passes callee (s w) return abort until e again k)
     tail-meets until e target p p1 q h jump low b xs here fits again k jumps m =

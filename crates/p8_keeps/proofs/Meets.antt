@@ -65,7 +65,7 @@ module _ {S : Type 0} (e : Engine S) where
   pub meets-ask : (f : ℕ) (access : Access) {go : Answer → Course S} {on : Answer → Course (Unit {0})} → ((answer : Answer) → Meets f (go answer) (on answer)) → Meets f (Ask access go) (Ask access on)
   meets-ask f access {go} {on} m = record { by = ask-by f access go on m }
 
-  -- behind its stop of itself a cog does nothing
+  -- after its stop of itself a cog does nothing
   last-by : (f : ℕ) (access : Access) (go : Answer → Course S) (on : Answer → Course (Unit {0})) → is_last e.cog access ≡ true → (made : List Access) (answers : List Answer) →
       (j : ℕ) × (f ≤ j) × (forgets (told_after e j (told e.cog made (Ask access go) answers)) ≡ told e.cog made (Ask access on) answers)
   last-by f access go on last made [] = (f, omega arith, ap forgets (after-wants f made access))

@@ -112,7 +112,7 @@ module _ (memory : List ℕ) (cog : ℕ) (program : Program) (addresses : Addres
         (body-meets working (suc d) return (omega (arith, within)) returns tree.body outside _ code.0 code.2 is_placed.proper f stack starts (omega (arith, room.values, is_placed.shallow)) untold untold (return (Result frame)) tt
         (return_result-meets working (suc d) return (omega (arith, within)) returns code.0 code.1 code.3 f stack starts) f own (omega arith))
 
-  -- what a method does behind the writes that begin it
+  -- what a method does after the writes that begin it
   abbrev body : (par d : ℕ) (target : Target) (file : File) (tree : MethodTree) (frame active : ℕ) (return abort : Returned → Rest) → Rest
   body par d target file tree frame active return abort =
       statements.executes_all (suc d) (meaning d program addresses par) (scope_with program addresses par target file tree frame active) return abort tree.body untold untold (return (Result frame))

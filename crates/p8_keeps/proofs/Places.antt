@@ -45,7 +45,7 @@ at c p base marks stack own = record {
   par = c.par;
 }
 
--- what lies on the stack behind a form whose value may be used
+-- what lies on the stack after a form whose value may be used
 abbrev pub left_on : (used : Bool) → List ℕ → ℕ → List ℕ
 left_on true xs value = xs ++ value ∷ []
 left_on false xs value = xs
@@ -76,7 +76,7 @@ module _ (e : Engine State) (c : Frame) (q base : ℕ) (marks : List Mark) (stac
   follows-read s par wanted (Pins register high low) is_outa count f own go m = record { meets = (m (places.pins_of high low own.outa)).meets }
   follows-read s par wanted (Pins register high low) is_dira count f own go m = record { meets = (m (places.pins_of high low own.dira)).meets }
 
-  -- a write, behind which this value is left
+  -- a write, after which this value is left
   pub follows-write : (where_is : Location) → IsThere true where_is → (value : ℕ) (left : Option ℕ) (count f : ℕ) (own : Registers) (go : Rest) →
       ((o : Registers) → Follows e count f o (Finish (left_by left (at c q base marks stack o))) go) →
       Follows e count f own (places.writes_place (place_of where_is) value left (at c q base marks stack own)) (stores where_is value go)

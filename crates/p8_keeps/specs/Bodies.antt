@@ -131,7 +131,7 @@ abbrev mutual
   OtherAt t nothing_else inner p q = p ≡ q
   OtherAt t (otherwise body) inner p q = BodyAt t body inner p q
 
-  -- the arms of an IF chain, from p up to where none holds; `end` is behind the chain
+  -- the arms of an IF chain, from p up to where none holds; `end` is after the chain
   pub ArmsAt : Compiled → Arms → Inner → (end p q : ℕ) → Type 0
   ArmsAt t no_arms inner end p q = p ≡ q
   ArmsAt t (arms ⊳ arm (no_items ▸ single e) negated body) inner end p q =

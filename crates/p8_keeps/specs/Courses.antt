@@ -10,7 +10,7 @@ use Rattle.p8_bcog.specs.Code.{fetched}
 use Rattle.p8_bcog.specs.Bytecodes.{row}
 use Rattle.p8_meaning.specs.Variables.{Location, Hub, Pins}
 
--- at p stands a bytecode that does this, and q is the place behind it
+-- at p stands a bytecode that does this, and q is the place after it
 abbrev pub Does : (memory : List ℕ) (cog p : ℕ) → (State → Course State) → (q : ℕ) → Type 0
 Does memory cog p course q = (op : Op) × (fetched memory p ≡ Some (op, q)) × ((s : State) → s.at ≡ q → row memory cog op s ≡ course s)
 

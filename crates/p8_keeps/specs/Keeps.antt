@@ -64,6 +64,6 @@ forgets (Wants made access) = Wants made access
 forgets (Leaves made state left) = Leaves made tt left
 forgets (Closes made) = Closes made
 
--- what a life makes of these answers in so many bytecodes behind its entry
+-- what a life makes of these answers in so many bytecodes after its entry
 abbrev pub bytes : (memory : List ℕ) → Origin → (cog : ℕ) → List Answer → (count : ℕ) → Told (Unit {0})
 bytes memory origin cog answers count = forgets (retold_life count (record { memory = memory; origin = origin; cog = cog; begin = 0 }) answers)

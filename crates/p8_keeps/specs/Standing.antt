@@ -430,7 +430,7 @@ abbrev mutual
   ValuesAt t no_trees p q = p ≡ q
   ValuesAt t (es ▷ e) p q = (p1 : ℕ) × ValuesAt t es p p1 × ValueAt t e p1 q
 
-  -- the items of a LOOK function, each of which may lead behind the whole
+  -- the items of a LOOK function, each of which may lead after the whole
   pub LooksAt : Compiled → (up : Bool) → Items → (target p q : ℕ) → Type 0
   LooksAt t up no_items target p q = p ≡ q
   LooksAt t up (items ▸ item) target p q = (p1 : ℕ) × LooksAt t up items target p p1 × LookAt t up item target p1 q

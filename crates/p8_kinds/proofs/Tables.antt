@@ -130,7 +130,7 @@ constants_next o cs i d lt h k =
 
 -- ---- a name
 
--- behind a name that is no object stands nothing
+-- after a name that is no object stands nothing
 pub nothing_behind : (children : Children) (k : NameKind) → ((item position count : ℕ) → ¬ (k ≡ kind.Object item position count)) → (n : List ℕ) → constant_behind children (Some k) n ≡ None
 nothing_behind children (kind.Object item position count) h n = absurd (h item position count refl)
 nothing_behind children (kind.Const v) h n = refl

@@ -12,9 +12,9 @@ use Rattle.p8_kinds.specs.Kinds.{own, kind_of}
 pub record Environment : Type 0 where
   -- what a name is
   pub kind : List ℕ → Option NameKind
-  -- what a name behind `.` is: a PUB of an object's file, by the object's number among the items of OBJ
+  -- what a name after `.` is: a PUB of an object's file, by the object's number among the items of OBJ
   pub public : ℕ → List ℕ → Option NameKind
-  -- what names mean where a constant is needed; here the constants behind `#` have their entries
+  -- what names mean where a constant is needed; here the constants after `#` have their entries
   pub constants : Setting
 
 -- RESULT is a word and has no entry: it is the first long of the frame

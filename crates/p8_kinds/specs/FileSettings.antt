@@ -1,5 +1,5 @@
 -- What the names of a whole file mean where a constant is needed, by their kinds: a constant has its value, and an object the
--- constants of its file behind `#`; other names are no constants (Propeller Manual v1.2, "CON" and "OBJ" of the Spin chapter).
+-- constants of its file after `#`; other names are no constants (Propeller Manual v1.2, "CON" and "OBJ" of the Spin chapter).
 use Rattle.std.specs.Prelude.{◌≡◌, ℕ, List, [], ◌∷◌, Option, Some, None, if◌then◌else◌, slice_get, option_map}
 use Rattle.std.specs.Option.{option_or}
 use Rattle.std.specs.Str.{bytes_eq}
@@ -33,7 +33,7 @@ abbrev pub constant_in : Option Child → List ℕ → Option Meaning
 constant_in None name = None
 constant_in (Some child) name = constant_among child.consts name
 
--- a constant behind `#`, by the kind of the name before it
+-- a constant after `#`, by the kind of the name before it
 abbrev pub constant_behind : Children → Option NameKind → List ℕ → Option Meaning
 constant_behind children (Some (kind.Object item position count)) name = constant_in (slice_get children.items item) name
 constant_behind children k name = None
@@ -54,7 +54,7 @@ pub record HasEntered (s t : Setting) (object : List ℕ) (further : List ℕ �
   pub others : (o n : List ℕ) → ¬ (o ≡ object) → t.constant o n ≡ s.constant o n
   pub here : t.here ≡ s.here
 
--- a name has got its meaning and what stands behind it, and nothing else has changed
+-- a name has got its meaning and what stands after it, and nothing else has changed
 pub record HasMeaning (s t : Setting) (name : List ℕ) (k : NameKind) (children : Children) : Type 0 where
   pub named : t.name name ≡ Some (meaning_of_kind k)
   pub others : (n : List ℕ) → ¬ (n ≡ name) → t.name n ≡ s.name n

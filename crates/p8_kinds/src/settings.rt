@@ -12,7 +12,7 @@ use p8_tree::Text;
 use p8_words::NoMemory;
 use std::alloc::Global;
 
-/// What the names of a whole file mean where a constant is needed: constants have their values, behind an object's name and `#`
+/// What the names of a whole file mean where a constant is needed: constants have their values, after an object's name and `#`
 /// stand the constants of its file, and all other names are no constants. `$` has no value.
 pub fn consts_of(alloc: Global, kinds: &Kinds, children: &Children) -> Result<Consts, NoMemory>
     ensures { IfOk result (λ consts. setting_of consts ≡ file_setting kinds.now children.now) }
@@ -57,7 +57,7 @@ fn meaning_of(kind: NameKind) -> Meaning
     }
 }
 
-// Enters what a name means, and what stands behind it.
+// Enters what a name means, and what stands after it.
 fn enter_meaning(
     consts: &mut Consts,
     name: &Text,

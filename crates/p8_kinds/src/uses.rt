@@ -9,7 +9,7 @@ use crate::name_kinds::NameKind;
 pub enum Use {
     /// Alone, as a value; a method without parameters is called there.
     Value,
-    /// As a variable: with an index or with a size behind it, written, behind `@`, or as the counter of a `REPEAT`.
+    /// As a variable: with an index or with a size after it, written, after `@`, or as the counter of a `REPEAT`.
     Variable,
     /// As a method with so many arguments; a name that is a whole statement has none.
     Method(usize),

@@ -36,13 +36,13 @@ ended (inner {bs = os} {cs = bs} o i) cs h = subst (Open _) (regroup os bs cs) (
 shallower : {d : ℕ} {bs : List ℕ} → Open (suc (suc d)) bs → Open (suc d) (bs ++ 125 ∷ [])
 shallower (inner {cs = cs} o h) = ended o cs h
 
--- how many comments are open behind characters, where so many were open before; 0 as soon as the first has ended
+-- how many comments are open after characters, where so many were open before; 0 as soon as the first has ended
 depth : ℕ → List ℕ → ℕ
 depth zero cs = zero
 depth (suc d) [] = suc d
 depth (suc d) (c ∷ cs) = depth (if c == 123 then suc (suc d) else (if c == 125 then d else suc d)) cs
 
--- what stands behind the end of the first comment
+-- what stands after the end of the first comment
 rest : ℕ → List ℕ → List ℕ
 rest zero cs = cs
 rest (suc d) [] = []
@@ -74,7 +74,7 @@ inside_rest empty d cs = refl
 inside_rest (character {c = c} {cs = bs} p q h) d cs = ap (λ e. rest e (bs ++ cs)) (stays c d p q) ∙ inside_rest h d cs
 inside_rest (nested {cs = os} {ds = bs} h k) d cs = ap (rest (suc (suc d))) (append_assoc os (125 ∷ bs) cs) ∙ inside_rest h (suc d) (125 ∷ (bs ++ cs)) ∙ inside_rest k d cs
 
--- the first brace, and the depth behind it
+-- the first brace, and the depth after it
 record Counted (d : ℕ) (bs : List ℕ) : Type 0 where
   cs : List ℕ
   is : bs ≡ 123 ∷ cs

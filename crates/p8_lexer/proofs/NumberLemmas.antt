@@ -94,7 +94,7 @@ dot_or_mark : (c : ℕ) → c ≡ 46 → (c ≡ 69) ⊎ (c ≡ 101) → ⊥
 dot_or_mark c d h = grind arith
 
 module _ (text : List ℕ) (from k : ℕ) (frac : IsGreatest (IsFraction text from) (length text) k) where
-  -- a fraction and an exponent behind it meet where the longest fraction ends
+  -- a fraction and an exponent after it meet where the longest fraction ends
   meets : (j m : ℕ) → m ≤ length text → IsFraction text from j → IsExponent text j m → j ≡ k
   meets j m within f e = go (cases_lt j k) (cases_lt k j)
     where

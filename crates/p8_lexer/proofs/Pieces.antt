@@ -145,7 +145,7 @@ after_mark text m n (inr (inr (j, f, e))) = (inl f.0, omega (arith, f.1.0, expon
 pub no_tail : (c : ℕ) → (c ≡ 46) ⊎ ((c ≡ 69) ⊎ (c ≡ 101)) → IsTrue (is_in (class.Digits radix.Decimal) c) → ⊥
 no_tail c h d = grind (arith, nat_tests)
 
--- digits that a float's tail stands behind are as many as there are
+-- digits that a float's tail stands after are as many as there are
 pub meets_tail : (text : List ℕ) (end m n : ℕ) → IsGreatest (AreDigits radix.Decimal text 0) (length text) end → AreDigits radix.Decimal text 0 m → n ≤ length text → IsFloatTail text m n → m ≡ end
 meets_tail text end m n digits d within t = go (cases_lt m end) (cases_lt end m)
   where

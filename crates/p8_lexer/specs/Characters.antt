@@ -1,5 +1,5 @@
 -- The characters of a file, each below 256.
--- A file is bytes, or UTF-16 with the low byte first behind the mark FF FE (Propeller Manual v1.2, "Spin Language",
+-- A file is bytes, or UTF-16 with the low byte first after the mark FF FE (Propeller Manual v1.2, "Spin Language",
 -- for the two encodings of the Propeller Tool; what stands for a wide unit is this project's profile).
 use Rattle.std.specs.Prelude.{ℕ, ◌+◌, ◌-◌, ◌*◌, ◌%◌, Bool, ◌==◌, ◌&&◌, if◌then◌else◌, List, [], ◌∷◌, length, take, drop, slice_index}
 use Rattle.p8_lexer.specs.declared.token.Token.{Token}

@@ -70,7 +70,7 @@ base radix.Hexadecimal = 16
 abbrev pub digit_value : ℕ → ℕ
 digit_value c = if nat_le c 57 then c - 48 else (if nat_le c 70 then c - 55 else c - 87)
 
--- what digits stand for behind others that stand for v; `_` between them stands for nothing
+-- what digits stand for after others that stand for v; `_` between them stands for nothing
 abbrev pub value_behind : ℕ → ℕ → List ℕ → ℕ
 value_behind b v [] = v
 value_behind b v (c ∷ cs) = value_behind b (if c == 95 then v else b * v + digit_value c) cs
@@ -136,7 +136,7 @@ pub record Cuts (k : PieceKind) (text : List ℕ) (n : ℕ) : Type 0 where
   pub longest : (j : PieceKind) (m : ℕ) → n < m → m ≤ length text → ¬ Is j text m
 
 -- what a piece has to keep, beside its form: a name has at most 30 characters, and a number is below 2 ^ 32 and has
--- neither a letter nor a digit behind it
+-- neither a letter nor a digit after it
 abbrev pub IsGood : PieceKind → List ℕ → ℕ → Type 0
 IsGood (TokenOf Name) text n = n ≤ 30
 IsGood (TokenOf (Number v)) text n = (v < 2 ^ 32) × (is_in class.Name (slice_index text n) ≡ false)
@@ -158,7 +158,7 @@ CutsUpTo text at (p ∷ ps) end =
 abbrev pub NoneIs : PieceKind → List ℕ → Type 0
 NoneIs k text = (n : ℕ) → n ≤ length text → ¬ Is k text n
 
--- why nothing can be cut off a text, which may have half a unit behind it
+-- why nothing can be cut off a text, which may have half a unit after it
 abbrev pub IsStuck : Refusal → Bool → List ℕ → Type 0
 IsStuck BadByte half text =
     ((0 < length text) × ((k : PieceKind) → NoneIs k text) × (slice_index text 0 ≢ 123) × (slice_index text 0 ≢ 34) × (slice_index text 0 ≢ 37))
@@ -191,7 +191,7 @@ AreTokens bytes tokens =
     (ends_in_half bytes ≡ false)
     × ((ps : List Piece) × CutsUpTo (text_of bytes) 0 ps (length (text_of bytes)) × (tokens ≡ filter_map (token_of bytes) ps))
 
--- behind some pieces nothing more can be cut off a file of any length, for this reason and at this place
+-- after some pieces nothing more can be cut off a file of any length, for this reason and at this place
 abbrev pub IsRefused : List ℕ → Refusal → Place → Type 0
 IsRefused bytes refusal place =
     (ps : List Piece) × (at : ℕ) × CutsUpTo (text_of bytes) 0 ps at × IsStuck refusal (ends_in_half bytes) (drop at (text_of bytes)) × (place ≡ place_of (text_of bytes) at)

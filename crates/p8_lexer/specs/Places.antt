@@ -12,18 +12,18 @@ next_line p = record { line = p.line + 1; column = 1 }
 abbrev pub next_column : Place → Place
 next_column p = record { line = p.line; column = p.column + 1 }
 
--- the least column of the form 8k + 1 behind this one
+-- the least column of the form 8k + 1 after this one
 abbrev pub next_tab : Place → Place
 next_tab p = record { line = p.line; column = 8 * ((p.column - 1) / 8) + 9 }
 
--- the place behind a character: LF (10) ends a line unless it stands behind CR (13), which has ended it
+-- the place after a character: LF (10) ends a line unless it stands after CR (13), which has ended it
 abbrev pub behind : ℕ → Place → ℕ → Place
 behind before p c =
     if c == 10 then (if before == 13 then p else next_line p) else
     (if c == 13 then next_line p else
     (if c == 9 then next_tab p else next_column p))
 
--- the place behind characters that stand behind another
+-- the place after characters that stand after another
 abbrev pub place_behind : ℕ → Place → List ℕ → Place
 place_behind before p [] = p
 place_behind before p (c ∷ cs) = place_behind c (behind before p c) cs

@@ -1,5 +1,5 @@
 -- The words of Spin and Propeller Assembly, and how each is spelled (Propeller Manual v1.2, "Reserved Words"
--- and the operator tables; the symbols with `=` behind an operator are this project's profile).
+-- and the operator tables; the symbols with `=` after an operator are this project's profile).
 use Rattle.std.specs.Prelude.{ℕ, ◌-◌, Bool, ◌&&◌, ◌||◌, nat_le, if◌then◌else◌, List, [], ◌∷◌, ◌++◌, codes, map, slice_get, Option, Some, None, unwrap_or}
 pub use Rattle.p8_tree.specs.Names.{same, is_among}
 use Rattle.p8_lexer.specs.declared.word.Word.{Word}

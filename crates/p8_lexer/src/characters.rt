@@ -42,7 +42,7 @@ pub fn ends_in_half(bytes: &[u8]) -> bool
     is_utf16(bytes) && bytes.len() % 2 == 1
 }
 
-// The bytes behind the first `n`.
+// The bytes after the first `n`.
 fn rest(bytes: &[u8], n: usize) -> &[u8]
     requires { n ≤ length bytes.now }
     ensures { result.now ≡ drop n bytes.now }
@@ -132,7 +132,7 @@ impl<'a> Characters<'a> {
         }
     }
 
-    /// The characters behind the first `n`.
+    /// The characters after the first `n`.
     pub fn skip(&self, n: usize) -> Characters<'a>
         requires { n ≤ length self.now }
         ensures { result ≡ drop n self.now }

@@ -9,7 +9,7 @@ use p8_tree::Place;
 /// Where a text begins.
 pub const START: Place = Place { line: 1, column: 1 };
 
-// The place behind a character that stands at a place, behind another character.
+// The place after a character that stands at a place, after another character.
 fn behind(before: u8, place: Place, c: u8) -> Place
     requires line { place.line < 2 ^ 31 }
     requires counted { 1 ≤ place.column }

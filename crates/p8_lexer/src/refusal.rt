@@ -11,7 +11,7 @@ ghost use Rattle.p8_lexer.specs.declared.refusal.Refusal as refusal;
 pub enum Refusal {
     /// a byte begins no token, or a UTF-16 file ends in half a unit
     BadByte,
-    /// a number has no digit, is too large, or has a letter or a digit behind it
+    /// a number has no digit, is too large, or has a letter or a digit after it
     BadNumber,
     /// a comment isn't closed
     OpenComment,

@@ -9,7 +9,7 @@ use crate::word::Word;
 pub const SYMBOL_COUNT: u8 = 71;
 
 // The spellings, in capitals, each with its word. Each word stands here at its own number, so the symbols come first; the
-// five that are neither a symbol nor reserved have no characters. Behind them stand the further spellings of conditions.
+// five that are neither a symbol nor reserved have no characters. After them stand the further spellings of conditions.
 static TABLE: [(&str, Word); 267] = [
     ("++", Word::PlusPlus),
     ("--", Word::MinusMinus),

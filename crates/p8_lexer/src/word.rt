@@ -12,7 +12,7 @@ use std::fmt::{self, Debug, Formatter, Write};
 /// first, in the order of their numbers.
 #[derive(Clone, Copy, PartialEq, Eq)]
 pub enum Word {
-    // Operators before or behind a variable, and addresses.
+    // Operators before or after a variable, and addresses.
     /// `++`, adds 1 to a variable
     PlusPlus,
     /// `--`, subtracts 1 from a variable

@@ -35,7 +35,7 @@ use Rattle.p8_line_words.proofs.Operands.{colon_part}
 use Rattle.p8_line_words.proofs.Items.{size_part, data_read}
 use Rattle.p8_line_words.proofs.InstructionsRead.{Starts, line_starts, body_starts, conditioned_starts, word_read}
 
--- the value behind ORG, RES or FIT
+-- the value after ORG, RES or FIT
 record HasValue (v : Option Tree) (ps : List Part) : Type 0 where
   pub other : Option Tree
   pub is : value ps ≡ Some other
@@ -51,7 +51,7 @@ value_read (Some e) ts was are =
     behind_tree state.DatValue in_dat line_end_alone (HasValue (Some e)) refl y (at_end line_end_alone y.right {K = λ ps. ps ≡ []} y.rest (λ n. refl) refl)
     (λ ps k. record { other = Some y.other; is = ap (λ ps. value (tree y.other y.first.place ∷ ps)) k; same = ap (λ e. Some e) y.same })
 
--- what a line has behind its label
+-- what a line has after its label
 record HasBody (c : Contents) (ps : List Part) : Type 0 where
   pub place : Place
   pub other : Contents
@@ -167,7 +167,7 @@ fit_part : (t : LineToken) → tokens.word t ≡ word.Fit → part_of_piece (pie
 unfolding part_of_word
 fit_part t m = plain_part t word.Fit refl m
 
--- what a line has behind its label, if its word is another than that of an instruction
+-- what a line has after its label, if its word is another than that of an instruction
 module _ (l : List Arrow) (starts : StartsBody l) where
   without_condition : (i : Instruction) (ts : List LineToken) → IsInstruction i → i.cond ≡ 15 → AreEnded (reserved (instruction_word i.word) ∷ (words_of_operands i ++ words_of_effects i.effects)) ts → Going l ts (HasBody (Instr i))
   without_condition i ts is e are =

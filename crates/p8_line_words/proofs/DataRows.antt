@@ -195,7 +195,7 @@ with_res row y x p l = mapped (λ v. filled x p (Res v)) (λ v is. with_contents
 with_fit : (row : List Part) → Has (IfThere (IsRead in_dat)) (value row) → (x : Line) (p : Place) → IfThere IsLabel x.label → Has IsLine (body x (fit p ∷ row))
 with_fit row y x p l = mapped (λ v. filled x p (Fit v)) (λ v is. with_contents l (of_fit is)) y
 
--- an instruction's word, with what stands behind it
+-- an instruction's word, with what stands after it
 
 as_line : (x : Line) (p : Place) → IfThere IsLabel x.label → (i : Instruction) → IsInstruction i → IsLine (filled x p (Instr i))
 as_line x p l i h = with_contents l (of_instruction h)

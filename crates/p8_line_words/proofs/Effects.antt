@@ -1,4 +1,4 @@
--- Effects behind an instruction's operands, read back.
+-- Effects after an instruction's operands, read back.
 use Rattle.std.proofs.Common.{◌≡◌, ℕ, List, [], ◌∷◌, ◌++◌, map, Option, Some, Bool, true, false, All, refl, sym, ap, subst}
 use Rattle.std.specs.Prelude.{IsTrue, if◌then◌else◌}
 use Rattle.std.proofs.lemmas.List.Elements.{All-nil, All-cons}
@@ -102,7 +102,7 @@ module _ (class : Word → Bool) (q : State) (part : (t : LineToken) (w : Word) 
       on l t w q (effect_part w) (λ ps. ps ≡ map effect_part (w ∷ ws)) are.0.word (λ n. takes w n y.0) (part t w y.0 are.0.word) (inside w)
       (by_arrow q (run (choices q).arrows again over ws y.1 ts are.1)) (λ ps e. ap (λ ps. effect_part w ∷ ps) e)
 
--- behind the operands of an instruction
+-- after the operands of an instruction
 abbrev pub behind_operands : List Arrow
 behind_operands = any sign.Flag state.MoreEffects ∷ any sign.Write state.MoreEffects ∷ word.LineEnd ⇒ state.End ∷ []
 

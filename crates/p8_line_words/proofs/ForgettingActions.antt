@@ -68,7 +68,7 @@ method_in_same trap n i p row = refl
 trapped_element_same : (n : List ℕ) (e : Tree) (p : Place) (s : Sign) (row : List Piece) → trapped_element n (tree_anywhere e) anywhere (sign_anywhere s) (row_anywhere row) ≡ option_map tree_anywhere (trapped_element n e p s row)
 trapped_element_same n e p s row = either tree_anywhere (is_dot s.role) (method_in true n (index e) p row) None (method_in_same true n (index e) p row) refl
 
--- an index in brackets, and what is read behind it
+-- an index in brackets, and what is read after it
 element_read : (g g' : Tree → Sign → List Piece → Option Tree) → ((e : Tree) (s : Sign) (row : List Piece) → g' (tree_anywhere e) (sign_anywhere s) (row_anywhere row) ≡ option_map tree_anywhere (g e s row)) → (row : List Piece) → (up_to_bracket (row_anywhere row) ▶ λ e row. word_in row ▶ λ s row. g' e s row) ≡ option_map tree_anywhere (up_to_bracket row ▶ λ e row. word_in row ▶ λ s row. g e s row)
 element_read g g' k row =
     after tree_anywhere tree_anywhere (λ e row. word_in row ▶ λ s row. g e s row) (λ e row. word_in row ▶ λ s row. g' e s row)

@@ -41,7 +41,7 @@ ended (w ∷ ws) (u ∷ ts) t are e = (are.0, ended ws ts t are.1 e)
 ended [] (u ∷ ts) t are e = absurd are
 ended (w ∷ ws) [] t are e = absurd are
 
--- words behind others
+-- words after others
 pub record Cut (xs ys : List Spelled) (ts : List LineToken) : Type 0 where
   pub left : List LineToken
   pub right : List LineToken
@@ -84,7 +84,7 @@ kept : (x : Part) (ps : List Part) → ends_here x ≡ false → before_end (x �
 kept line_end ps h = absurd cc
 kept x ps h = refl
 
--- a token that is a part, and what is behind it
+-- a token that is a part, and what is after it
 pub on : (l : List Arrow) (t : LineToken) (w : Word) (r : State) (x : Part) {ts : List LineToken} {K : List Part → Type 0} (K' : List Part → Type 0) → tokens.word t ≡ w → ((n : ℕ) → target l w n ≡ Some r) → part_of_piece (piece t) ≡ x → ends_here x ≡ false → Leading r ts K → ((ps : List Part) → K ps → K' (x ∷ ps)) → Going l (t ∷ ts) K'
 on l t w r x {ts = ts} K' e goes is inside y f = record {
   token = t;
@@ -117,7 +117,7 @@ at_end l (t ∷ []) {K = K} are goes k = record {
 pub reserved_word : {w : Word} {t : LineToken} → IsSpelled (reserved w) t → tokens.word t ≡ w
 reserved_word h = h.word
 
--- an expression in parentheses, read again, and what is behind it
+-- an expression in parentheses, read again, and what is after it
 pub record TreeRead (s : Setting) (e : Tree) (ys : List Spelled) (ts : List LineToken) : Type 0 where
   pub first : LineToken
   pub others : List LineToken

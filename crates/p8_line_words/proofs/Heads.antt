@@ -90,7 +90,7 @@ these_locals public m xs h y = record {
   same = ap (λ m. with_locals m (map declared_anywhere xs)) h.same;
 }
 
--- what stands behind the result, the parameters and the name of the method as it is so far
+-- what stands after the result, the parameters and the name of the method as it is so far
 
 result_is : (public : Bool) (m v : MethodTree) (ps : List Part) → IsHead public m → AreGood in_method ps → behind_result m ps ≡ Some v → IsHead public v
 result_is public m v (bar ∷ rest) y g h = go (variables 4 rest) refl h
@@ -177,7 +177,7 @@ module _ (public : Bool) (n : List ℕ) where
       (locals_back state.ResultNamed behind_result ns (Some k) xs (λ k. refl) (λ k. refl) (λ m ps. refl) (λ m. refl) h)))
 
   module _ (r : Option (List ℕ)) (xs : List Declared) (y : IsMaybeName r) (h : AllByRecursion (IsVariable in_method 4) xs) where
-    -- more parameters, and what stands behind them
+    -- more parameters, and what stands after them
     more_back : (ns before : List (List ℕ)) → AllByRecursion IsName ns → Back state.MoreParameters (more_names ns ++ spelled.reserved word_case.RightParenthesis ∷ (words_of_result r ++ words_of_locals xs)) (Makes behind_parameter (made public n before None []) (made public n (before ++ ns) r xs))
     unfolding part_of_word
     more_back [] before g =

@@ -139,7 +139,7 @@ pub record HasInstruction (i : Instruction) (ps : List Part) : Type 0 where
   pub as_body : (x : Line) → body x ps ≡ instruction 15 x ps
   pub as_line : (p : Place) → maybe_line p ps ≡ option_map (λ x. Some x) (body (blank p None) ps)
 
--- behind a word but JMP
+-- after a word but JMP
 from_word : (i j : Instruction) (w : Word) (p : Place) (ps : List Part) → operands (made i.cond w None p false None p 0) ps ≡ Some j → instruction_anywhere j ≡ instruction_anywhere i → HasInstruction i (other w p ∷ ps)
 unfolding bare
 from_word i j w p ps e same = record {

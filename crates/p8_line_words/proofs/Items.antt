@@ -39,7 +39,7 @@ size_part n t byte_size m = plain_part t word.ByteSize refl m
 size_part n t word_size m = plain_part t word.WordSize refl m
 size_part n t long_size m = plain_part t word.LongSize refl m
 
--- the items that stand for these, behind those that were read
+-- the items that stand for these, after those that were read
 pub record Gives (xs read : List Datum) (o : Option (List Datum)) : Type 0 where
   pub others : List Datum
   pub is : o ≡ Some (read ++ others)
@@ -53,7 +53,7 @@ record IsWhole (stage : Stage) (d : Datum) : Type 0 where
   pub last : (read : List Datum) → items read stage [] ≡ Some (read ++ d ∷ [])
   pub next : (read : List Datum) (row : List Part) → items read stage (comma ∷ row) ≡ items (read ++ d ∷ []) (before None) row
 
--- items behind one that is whole
+-- items after one that is whole
 abbrev HasMore : List Datum → List Part → Type 0
 HasMore xs ps = (stage : Stage) (d : Datum) → IsWhole stage d → (read : List Datum) → Gives xs (read ++ d ∷ []) (items read stage ps)
 
@@ -65,7 +65,7 @@ record HasItems (xs : List Datum) (ps : List Part) : Type 0 where
   pub given : (read : List Datum) → Gives xs read (items read (before None) ps)
   pub whole : all_items ps ≡ items [] (before None) ps
 
--- a count and the items behind it
+-- a count and the items after it
 record HasCount (c : Option Tree) (xs read : List Datum) (s : Option ℕ) (e : Tree) (o : Option (List Datum)) : Type 0 where
   pub count : Option Tree
   pub same : option_map tree_anywhere count ≡ option_map tree_anywhere c
@@ -107,7 +107,7 @@ count_read (Some c) xs was more (t ∷ ts) are =
     let words = subst (λ ws. AreEnded ws ts) (append_assoc (wrapped c) (reserved word.RightBracket ∷ []) (more_data xs)) are.1 in
     on behind_item t word.LeftBracket state.DataCount left_bracket (HasCounts (Some c) xs behind) are.0.word (λ n. refl) (left_bracket_part t are.0.word) refl (counting c xs was more ts words) (λ ps k. k)
 
--- a value, its count and the items behind it
+-- a value, its count and the items after it
 value_read : (q : State) → (choices q).phrase ≡ Some (outer in_data_item behind_item) → (s : Option ℕ) (v : Tree) (c : Option Tree) (xs : List Datum) (K : List Part → Type 0) → IsRead in_data_item v → IfThere (IsRead in_dat) c → ReadsMore xs → (ts : List LineToken) → AreEnded ((wrapped v ++ words_of_count c) ++ more_data xs) ts → ((e : Tree) → IsSameTree e v → (ps : List Part) → HasCounts c xs behind ps → (p : Place) → K (tree e p ∷ ps)) → Leading q ts K
 value_read q some s v c xs K was counts more ts are f =
     let words = subst (λ ws. AreEnded ws ts) (append_assoc (wrapped v) (words_of_count c) (more_data xs)) are in

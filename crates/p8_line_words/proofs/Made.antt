@@ -98,7 +98,7 @@ pub data IsContents : Contents → Type 0 where
   of_fit : {v : Option Tree} → IfThere (IsRead in_dat) v → IsContents (Fit v)
   of_instruction : {i : Instruction} → IsInstruction i → IsContents (Instr i)
 
--- a label alone, or contents behind a label or without one
+-- a label alone, or contents after a label or without one
 pub data IsLine : Line → Type 0 where
   label_alone : {p q : Place} {n : List ℕ} → IsLabel n → IsLine (record { place = p; label = Some n; word_place = q; contents = Nothing })
   with_contents : {p q : Place} {l : Option (List ℕ)} {x : Contents} → IfThere IsLabel l → IsContents x → IsLine (record { place = p; label = l; word_place = q; contents = x })

@@ -46,7 +46,7 @@ pub record HasSource (b : Bool) (e : Tree) (f : ℕ) (read : Instruction → Lis
   pub same : IsSameTree other e
   pub given : (c : ℕ) (w : Word) (d : Option Tree) (p q : Place) → read (made c w d p false None q 0) ps ≡ Some (made c w d p b (Some other) place f)
 
--- an expression and effects behind it
+-- an expression and effects after it
 abbrev pub ReadsEffects : (ℕ → Type 0) → List Arrow → Type 0
 ReadsEffects E l = (f : ℕ) (ts : List LineToken) → E f → AreEnded (words_of_effects f) ts → Going l ts (HasEffects f)
 
@@ -77,7 +77,7 @@ pub record HasBoth (d : Tree) (b : Bool) (e : Tree) (f : ℕ) (ps : List Part) :
   pub second_same : IsSameTree second e
   pub given : (c : ℕ) (w : Word) (p q : Place) → operands (made c w None p false None q 0) ps ≡ Some (made c w (Some first) first_place b (Some second) second_place f)
 
--- the second of two operands, behind its comma
+-- the second of two operands, after its comma
 abbrev HasSecond : Bool → Tree → ℕ → List Part → Type 0
 HasSecond b e f ps = HasSource b e f behind_destination ps
 
@@ -127,7 +127,7 @@ pub record HasLabel (n : List ℕ) (f : ℕ) (read : Instruction → List Part �
   pub place : Place
   pub given : (c : ℕ) (w : Word) (p q : Place) → read (made c w None p false None q 0) ps ≡ Some (made c w None p true (Some (label n place)) place f)
 
--- effects behind a label
+-- effects after a label
 effects_behind : (f : ℕ) (ts : List LineToken) → IsEffects f → AreEnded (words_of_effects f) ts → Leading state.Effects ts (HasEffects f)
 effects_behind f ts ef are = by_arrow state.Effects (effects_read f ts ef are)
 

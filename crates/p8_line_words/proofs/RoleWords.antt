@@ -61,7 +61,7 @@ is_word w = refl
 pub word_is : {w : Word} (r : Role) → role_of w ≡ r → word_of r w ≡ w
 word_is {w = w} r e = subst (λ r. word_of r w ≡ w) e (is_word w)
 
--- a change behind its variable
+-- a change after its variable
 abbrev word_behind : Role → Word → Word
 word_behind (role.Changes before behind) w = change_word behind
 word_behind r w = w

@@ -32,7 +32,7 @@ use Rattle.p8_rereading.proofs.ReadWords.{lexeme_is}
 use Rattle.p8_rereading.proofs.Printed.{wrapped_printed, wrapped_back}
 use Rattle.p8_line_words.proofs.Readings.{IsRead, IsName}
 
--- These words can be read back, and where they are read from a state on, with a line's end behind them, this holds of
+-- These words can be read back, and where they are read from a state on, with a line's end after them, this holds of
 -- the parts.
 pub record Back (q : State) (ws : List Spelled) (P : List Part → Type 0) : Type 0 where
   pub readable : All IsReadable ws
@@ -86,7 +86,7 @@ ends q {P = P} h p = record { readable = All-nil IsReadable; capitals = All-nil 
     go [] t h' e = (piece t ∷ [], by_token (takes (choices q).arrows word_case.LineEnd state.End t h e) nowhere, subst (λ x. P (x ∷ [])) (sym (end_part t e)) p)
     go (u ∷ ts) t h' e = absurd h'
 
--- one word and those behind it
+-- one word and those after it
 pub one : (q r : State) (w : Spelled) {ws : List Spelled} {P : List Part → Type 0} → IsReadable w → IsInCapitals w → ((t : LineToken) → IsSpelled w t → Follows (choices q).arrows t r) → Back r ws (λ ps. (p : Place) → P (part_at w p ∷ ps)) → Back q (w ∷ ws) P
 one q r w {ws = ws} {P = P} readable capitals f b = record {
   readable = All-cons IsReadable w ws readable b.readable;
@@ -154,7 +154,7 @@ behind_outer s l us {t = t} {r = r} f = go (is_name us)
     go true = f
     go false = f
 
--- where such an expression stands, and the arrows behind it
+-- where such an expression stands, and the arrows after it
 abbrev pub Expects : State → Setting → List Arrow → Type 0
 Expects q s l = (choices q).phrase ≡ Some (outer s l)
 
@@ -175,7 +175,7 @@ last q s e {l = l} {P = P} some r h p = record {
           subst (λ y. P (tree x.other ∷ y ∷ [])) (sym (end_part t end)) (p x.other x.same),
         )
 
--- an expression, a word and those behind it
+-- an expression, a word and those after it
 pub before : (q r : State) (s : Setting) (e : Tree) (w : Word) {l : List Arrow} {ws : List Spelled} {P : List Part → Type 0} → Expects q s l → IsRead s e → is_free w ≡ false → LeadsTo l w r
     → Back r ws (λ ps. (p : Place) (e' : Tree) → IsSameTree e' e → P (tree e' ∷ part_of_word w p ∷ ps)) → Back q (wrapped e ++ spelled.reserved w ∷ ws) P
 before q r s e w {l = l} {ws = ws} {P = P} some y free h b = record {

@@ -57,7 +57,7 @@ mutual
 abbrev pub AreVariables : ℕ → List Declared → List Part → Type 0
 AreVariables z xs ps = (ys : List Declared) × (variables z ps ≡ Some ys) × (map declared_anywhere ys ≡ map declared_anywhere xs)
 
--- the states of such names: before a name, behind it, in its brackets and behind them
+-- the states of such names: before a name, after it, in its brackets and after them
 pub record Names (s : Setting) (q named inside more : State) : Type 0 where
   pub arrows : List Arrow
   pub name : LeadsTo (choices q).arrows word_case.Name named

@@ -100,7 +100,7 @@ applied_gives {full = full} f ws same w p row t = mapped (IsWritten full) f (arg
     weaker None h = tt
     weaker (Some es) h = by_words (same es) h
 
--- methods of objects, from the piece behind their dot on
+-- methods of objects, from the piece after their dot on
 
 abbrev object_words : Bool → List ℕ → Index → List Spelled
 object_words trap n i = words_of_trap trap ++ spelled.name n ∷ (words_of_index i ++ dot_word ∷ [])
@@ -115,7 +115,7 @@ method_gives trap n i p row t = tt
 trapped_element_gives : {full : List Piece} (n : List ℕ) (e : Tree) (p : Place) (w : Word) (q : Place) (row : List Piece) → Takes full (reserved word_case.Backslash ∷ spelled.name n ∷ words_of_index (index e)) (word w q ∷ row) → Gives (IsWritten full) (trapped_element n e p (sign w q) row)
 trapped_element_gives {full = full} n e p w q row t = tested (IsWritten full) roles.dot w (method_in true n (index e) p row) None (λ is. method_gives true n (index e) p row (word_taken role.Dot refl is t)) tt
 
--- an element, from the expression behind its bracket on, with the word behind it
+-- an element, from the expression after its bracket on, with the word after it
 element_read : {full : List Piece} {ws : List Spelled} (g : Tree → Sign → List Piece → Option Tree) (row : List Piece) → Takes full ws row → ((e : Tree) (w : Word) (p : Place) (row : List Piece) → Takes full (ws ++ (words_of e ++ right_bracket_word ∷ [])) (word w p ∷ row) → Gives (IsWritten full) (g e (sign w p) row)) → Gives (IsWritten full) (up_to_bracket row ▶ λ e row. word_in row ▶ λ s row. g e s row)
 element_read {full = full} {ws = ws} g row t k =
     after (IsWritten full) (up_to_bracket row) (λ e row. word_in row ▶ λ s row. g e s row) (bracket_gives (λ x. Gives (IsWritten full) (word_in x.1 ▶ λ s row. g x.0 s row)) row t go)

@@ -38,7 +38,7 @@ more {full = full} {ws = ws} t us k = record { goes = λ vs x. by_words (sym (ap
 pub word_taken : {full row : List Piece} {ws : List Spelled} {w : Word} {p : Place} (r : Role) → IsTrue (is_written r) → role_of w ≡ r → Takes full ws (word w p ∷ row) → Takes full (ws ++ reserved (word_of r w) ∷ []) row
 word_taken {ws = ws} {w = w} r written e t = as_words (ap (λ v. ws ++ reserved v ∷ []) (sym (word_is r e))) (more t (reserved w ∷ []) (λ vs x. a_word (not_free w r written e) x))
 
--- a change behind its variable
+-- a change after its variable
 pub behind_taken : {full row : List Piece} {ws : List Spelled} {w : Word} {p : Place} {before behind : ℕ} → role_of w ≡ role.Changes before behind → Takes full ws (word w p ∷ row) → Takes full (ws ++ reserved (change_word behind) ∷ []) row
 behind_taken {ws = ws} {w = w} {before = before} {behind = behind} e t =
     as_words (ap (λ v. ws ++ reserved v ∷ []) (sym (behind_is e))) (more t (reserved w ∷ []) (λ vs x. a_word (not_free w (role.Changes before behind) refl e) x))
@@ -88,7 +88,7 @@ tested P {test = test} {r = r} for w x y k h = go (test (role_of w)) (for (role_
     go true is = k (is refl)
     go false is = h
 
--- where a row must end behind a word
+-- where a row must end after a word
 pub closed : {X : Type 0} (P : X → Type 0) {test : Role → Bool} {r : Role} → TestsFor test r → (x : X) (w : Word) (row : List Piece) → (role_of w ≡ r → IsTrue (is_empty row) → P x) → Gives P (if (if test (role_of w) then is_empty row else false) then Some x else None)
 closed P {test = test} {r = r} for x w row k = go (test (role_of w)) (for (role_of w)) (is_empty row) k
   where

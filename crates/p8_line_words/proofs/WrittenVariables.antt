@@ -40,7 +40,7 @@ index_gives P {full = full} {ws = ws} w p row t k =
     go e (word w p ∷ row) t = k (index e) w p row (as_words (append_assoc ws (left_bracket_word ∷ []) (words_of e ++ right_bracket_word ∷ [])) t)
     go e row t = tt
 
--- a variable before a word, behind the words before it
+-- a variable before a word, after the words before it
 abbrev pub Found : ((Variable × Sign) × List Piece → Type 0) → List Piece → List Spelled → Type 0
 Found P full ws = (v : Variable) (w : Word) (p : Place) (row : List Piece) → Takes full (ws ++ words_of_variable v) (word w p ∷ row) → P ((v, sign w p), row)
 
@@ -50,7 +50,7 @@ indexed_gives P f us same {full = full} ws w p row t k =
     after P (index_in (sign w p) row) (λ x row. Some ((f x.0, x.1), row))
     (index_gives (λ x. P ((f x.0.0, x.0.1), x.1)) w p row t (λ i w p row t. k (f i) w p row (as_words (append_assoc ws us (words_of_index i) ∙ ap (λ vs. ws ++ vs) (same i)) t)))
 
--- behind a name and a dot
+-- after a name and a dot
 pub part_gives : (P : (Variable × Sign) × List Piece → Type 0) (n : List ℕ) (p : Place) {full : List Piece} (ws : List Spelled) (w : Word) (q : Place) (row : List Piece) → Takes full (ws ++ (words_of_name n ++ dot_word ∷ [])) (word w q ∷ row) → Found P full ws → Gives P (part (role_of w) n p row)
 part_gives P n p {full = full} ws w q row t k = go (role_of w) refl
   where
@@ -65,7 +65,7 @@ part_gives P n p {full = full} ws w q row t k = go (role_of w) refl
     go (role.Size z) e = sized z row (word_taken (role.Size z) refl e t)
     go r e = tt
 
--- behind a name
+-- after a name
 pub named_gives : (P : (Variable × Sign) × List Piece → Type 0) (n : List ℕ) (p : Place) {full : List Piece} (ws : List Spelled) (w : Word) (q : Place) (row : List Piece) → Takes full (ws ++ words_of_name n) (word w q ∷ row) → Found P full ws → Gives P (named n p (sign w q) row)
 named_gives P n p {full = full} ws w q row t k =
     tested P roles.dot w (word_in row ▶ λ t row. part t.role n p row) (index_in (sign w q) row ▶ λ x row. Some ((Named n x.0 p, x.1), row))
@@ -76,7 +76,7 @@ named_gives P n p {full = full} ws w q row t k =
     go (word w q ∷ row) t = part_gives P n p ws w q row (as_words (append_assoc ws (words_of_name n) (dot_word ∷ [])) t) k
     go row t = tt
 
--- behind a size
+-- after a size
 memory_gives : (P : (Variable × Sign) × List Piece → Type 0) (z : ℕ) (p : Place) {full : List Piece} (ws : List Spelled) (w : Word) (q : Place) (row : List Piece) → Takes full (ws ++ reserved (size_word z) ∷ []) (word w q ∷ row) → Found P full ws → Gives P (memory z p (sign w q) row)
 memory_gives P z p {full = full} ws w q row t k =
     tested P roles.left_bracket w (up_to_bracket row ▶ λ e row. word_in row ▶ λ t row. index_in t row ▶ λ x row. Some ((Memory z e x.0 p, x.1), row)) None
@@ -105,7 +105,7 @@ bits_gives P {full = full} {ws = ws} (tree e p ∷ word w q ∷ row) t k = go (r
     go r is = tt
 bits_gives P row t k = tt
 
--- behind a register
+-- after a register
 register_gives : (P : (Variable × Sign) × List Piece → Type 0) (a : ℕ) (p : Place) {full : List Piece} (ws : List Spelled) (w : Word) (q : Place) (row : List Piece) → Takes full (ws ++ reserved (register_word a) ∷ []) (word w q ∷ row) → Found P full ws → Gives P (register a p (sign w q) row)
 register_gives P a p {full = full} ws w q row t k =
     tested P roles.left_bracket w (bits_in row ▶ λ b row. word_in row ▶ λ t row. Some ((Register a (bits b) p, t), row)) (Some ((Register a whole p, sign w q), row))

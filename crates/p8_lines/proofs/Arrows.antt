@@ -36,7 +36,7 @@ pub taken : (p : Arrow → Bool) {l : List Arrow} {t : LineToken} {r : State} �
 taken p (here {a = a} {others = others} is) h = record { arrow = a; is = is; goes = refl; good = first_good p a others h }
 taken p (further {a = a} {others = others} n f) h = taken p f (others_good p a others h)
 
--- it is true of all arrows behind an expression
+-- it is true of all arrows after an expression
 abbrev pub all_good_behind : (Arrow → Bool) → Phrase → Bool
 all_good_behind p h = if all_good p h.behind_name then all_good p h.behind_other else false
 

@@ -1,4 +1,4 @@
--- From each state on a line can be completed, and behind each expression some token may stand.
+-- From each state on a line can be completed, and after each expression some token may stand.
 use Rattle.std.proofs.Common.{◌≡◌, ℕ, ◌<◌, length, map, List, [], ◌∷◌, Option, Some, None, Bool, true, false, refl, ap, ◌∙◌, subst, arith}
 use Rattle.std.specs.Prelude.{IsTrue, if◌then◌else◌, is_some, unwrap_or}
 use Rattle.p8_tree.specs.declared.places.Place.{Place}
@@ -186,7 +186,7 @@ by_token {q = q} {r = r} x h y = record { row = piece x.token ∷ y.row; tokens 
 abbrev zero_token : LineToken
 zero_token = record { place = somewhere; text = []; kind = kind.Number 0 }
 
--- an expression stands there, and a token behind it
+-- an expression stands there, and a token after it
 by_phrase : {q r : State} (x : Spelled) → IsTrue (is_some (choices q).phrase) → target (behind_in (choices q).phrase) x.word (string_length x.token) ≡ Some r → Completion r → Completion q
 by_phrase {q = q} {r = r} x some h y = go (choices q).phrase refl some h
   where
@@ -425,7 +425,7 @@ completed state.ChangedLastPin = by_phrase right_bracket refl refl from_line_end
 pub completion : (q : State) → (row : List Piece) × (ts : List LineToken) × Row q row ts
 completion q = let x = completed q in (x.row, x.tokens, x.is)
 
--- what may stand behind an expression
+-- what may stand after an expression
 
 abbrev token_of_word : Word → Option Spelled
 token_of_word word.LineEnd = Some line_end

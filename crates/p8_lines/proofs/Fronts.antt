@@ -1,5 +1,5 @@
 -- No expression begins with a token that has an arrow beside it, and none goes on with a token that may stand
--- behind it.
+-- after it.
 use Rattle.std.proofs.Common.{◌≡◌, ℕ, ◌<◌, length, List, [], ◌∷◌, ◌++◌, Option, Some, None, Bool, true, false, refl, sym, ap, ◌∙◌, subst, arith}
 use Rattle.std.specs.Prelude.{IsTrue, option_and_then}
 use Rattle.p8_tree.specs.declared.places.Place.{Place}
@@ -91,7 +91,7 @@ before_fails q h t r e f =
     let none = sign_fails h.setting t x.arrow.sign x.is x.good in
     dead h.setting (term t ∷ []) (ap (λ o. option_and_then (λ st. walk st []) o) none)
 
--- behind an expression
+-- after an expression
 
 abbrev ends_any : Word → Bool
 ends_any word.Comma = true
@@ -150,7 +150,7 @@ no_index in_data_item sh h = go sh
     go sh = refl
 no_index s sh h = absurd cc
 
--- behind a whole expression the reader has no step
+-- after a whole expression the reader has no step
 no_step : (s : Setting) (sh : Shape) (k : List Frame) (top e : Tree) (p : Place) (x : Lexeme) → tree sh ≡ Some top → reduce 22 top k ≡ (e, []) → Ends s x → step (state s sh k) (token p x) ≡ None
 no_step s sh k top e p x h r by_other = ap (λ o. beyond o s sh k p other) h
 no_step s sh k top e p x h r by_comma = ap (λ o. beyond o s sh k p (mark comma)) h ∙ ap (λ q. shut comma q.0 q.1) r
@@ -228,7 +228,7 @@ sign_ends s t sign.Flag m h = ending s (lexeme t) other (flag_lexeme t m) by_oth
 sign_ends s t sign.Write m h = ending s (lexeme t) other (write_lexeme t m) by_other
 sign_ends s t x m h = absurd cc
 
--- a token that may stand behind an expression does not go on with it
+-- a token that may stand after an expression does not go on with it
 pub behind_fails : (q : line_state.State) (h : Phrase) (e : Tree) (us : List LineToken) (t : LineToken) (r : line_state.State) → (choices q).phrase ≡ Some h → IsExpression h.setting e (terms us) → Follows (behind h us) t r → ¬ IsFront h.setting (terms us ++ term t ∷ [])
 behind_fails q h e us t r is x f =
     let y = taken_behind (λ a. ends_in h.setting a.sign) h us f (subst (λ o. IsTrue (good_behind o)) is (states_behind q)) in

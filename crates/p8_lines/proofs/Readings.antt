@@ -21,7 +21,7 @@ use Rattle.p8_lines.proofs.Settings.{setting_fits, keeps_setting, keeps_setting_
 use Rattle.p8_lines.proofs.Ways.{Step, token, phrase, Way, none, more, goes_on, cancel}
 use Rattle.p8_lines.proofs.Rows.{leads_way, way_leads, way_row, row_way, at_end, at_once, blocked, begun_with, way_begins, front_begins, none_there}
 
--- what is left behind a list of its own beginning
+-- what is left after a list of its own beginning
 nothing_more : {X : Type 0} (us vs ws : List X) → us ≡ (us ++ vs) ++ ws → vs ≡ []
 nothing_more us vs ws e = go vs ws (cancel us [] (vs ++ ws) (append-nil us ∙ e ∙ append_assoc us vs ws))
   where

@@ -100,7 +100,7 @@ keeps_setting_behind q r h us t e f =
     let x = taken_behind (keeps (setting_at q)) h us f (subst (λ o. IsTrue (phrase_keeps o (setting_at q))) e (phrases_keep q)) in
     kept_to (setting_at q) r (subst (λ r. IsTrue (keeps_to (setting_at q) r)) x.goes x.good)
 
--- the words behind an expression
+-- the words after an expression
 
 abbrev is_good_word : Word → Bool
 is_good_word word.Comma = true

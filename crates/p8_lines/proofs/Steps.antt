@@ -83,7 +83,7 @@ stops_behind_tree s first bytes tokens at end q k e arrows n p lt expects parses
     stops_as s first q (tokens_from bytes tokens at) (number_of s (line_tokens.word (token_at bytes tokens end))) n (token_at bytes tokens end).place p
     (tree_stops s first bytes tokens at end q h e y.1 unfollowed x (λ r f. no_arrow r (subst (λ l. Follows l (token_at bytes tokens end) r) (sym (arrows_are h y.1)) f))) number place
 
--- what comes behind the text's end
+-- what comes after the text's end
 
 end_word : (bytes : List ℕ) (tokens : List lexer_token.Token) (at : ℕ) → length tokens < at + 1 → line_tokens.word (token_at bytes tokens at) ≡ word.LineEnd
 end_word bytes tokens at lt = ap line_tokens.word (is_end bytes tokens at (slice_get_past tokens at (omega (arith, lt))))

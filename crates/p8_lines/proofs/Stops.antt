@@ -203,7 +203,7 @@ split_there : {h : Phrase} {bytes : List ℕ} {tokens : List lexer_token.Token} 
 split_there {bytes = bytes} {tokens = tokens} {at = at} {end = end} y =
     y.longest.split ∙ ap (λ l. run bytes tokens at (end - at) ++ l) (ap (tokens_from bytes tokens) y.behind ∙ first_at bytes tokens end (within y))
 
--- a tree with an arrow behind it leads on
+-- a tree with an arrow after it leads on
 pub tree_goes : (bytes : List ℕ) (tokens : List lexer_token.Token) (at end : ℕ) (q r : State) (h : Phrase) (e : Tree) → (choices q).phrase ≡ Some h → Spelled h bytes tokens at end e → Follows (behind h (run bytes tokens at (end - at))) (token_at bytes tokens end) r → Goes bytes tokens at (end + 1) q (pieces.tree e (token_at bytes tokens at).place ∷ piece (token_at bytes tokens end) ∷ []) r
 tree_goes bytes tokens at end q r h e p y f = go (run bytes tokens at (end - at)) refl
   where
@@ -223,7 +223,7 @@ tree_goes bytes tokens at end q r h e p y f = go (run bytes tokens at (end - at)
               (by_phrase others p (subst (λ l. IsExpression h.setting e (terms l)) n y.is) y.low (subst (λ l. Follows (behind h l) (token_at bytes tokens end) r) n f) nowhere);
         }
 
--- and without one reading stops behind it
+-- and without one reading stops after it
 pub tree_stops : (s : Setting) (first : Place) (bytes : List ℕ) (tokens : List lexer_token.Token) (at end : ℕ) (q : State) (h : Phrase) (e : Tree) → (choices q).phrase ≡ Some h → ((r : State) → ¬ Follows (choices q).arrows (token_at bytes tokens at) r) → Spelled h bytes tokens at end e → ((r : State) → ¬ Follows (behind h (run bytes tokens at (end - at))) (token_at bytes tokens end) r) → Stops s first q (tokens_from bytes tokens at) (number_of s (line_tokens.word (token_at bytes tokens end))) (token_at bytes tokens end).place
 tree_stops s first bytes tokens at end q h e p unfollowed y not_behind =
     let le : at ≤ length tokens = (let w = within y in let o = y.ordered in omega (arith, w, o)) in

@@ -127,7 +127,7 @@ piece_end bytes tokens at p h d =
     let is = is_end bytes tokens at h in
     ap (λ p. pieces.word word.LineEnd p) (d ∙ ap (λ t. t.place) is) ∙ ap piece (sym is)
 
--- the arrows behind an expression
+-- the arrows after an expression
 one_token : (bytes : List ℕ) (tokens : List lexer_token.Token) (at n : ℕ) → at ≤ length tokens → n ≡ 1 → run bytes tokens at n ≡ token_at bytes tokens at ∷ []
 one_token bytes tokens at n le e = ap (λ n. take n (tokens_from bytes tokens at)) e ∙ ap (λ l. take 1 l) (first_at bytes tokens at le)
 

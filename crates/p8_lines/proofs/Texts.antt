@@ -17,7 +17,7 @@ use Rattle.p8_expr.proofs.Runs.{next_token}
 use Rattle.p8_lines.specs.Tokens.{LineToken, lexeme, term, terms, line_token, last_place, text_end, tokens_from}
 use Rattle.p8_lines.specs.Stopping.{token_at, run}
 
--- the token of this number, and those behind it
+-- the token of this number, and those after it
 drop_at : {A B : Type 0} (f : A → B) (e : B) (xs : List A) (at : ℕ) → at ≤ length xs → drop at (map f xs ++ e ∷ []) ≡ unwrap_or (option_map f (slice_get xs at)) e ∷ drop (at + 1) (map f xs ++ e ∷ [])
 drop_at f e [] zero le = ap (λ n. e ∷ drop n (e ∷ [])) (sym (add-one 0))
 drop_at f e [] (suc at) le = absurd (omega (arith, le))

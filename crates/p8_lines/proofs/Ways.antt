@@ -1,4 +1,4 @@
--- Ways through the diagram: a token or an expression with the token behind it at a time. A way is found by its tokens.
+-- Ways through the diagram: a token or an expression with the token after it at a time. A way is found by its tokens.
 use Rattle.std.proofs.Common.{◌≡◌, ◌≤◌, Bool, IsTrue, List, [], ◌∷◌, ◌++◌, Some, refl, sym, ap, ◌∙◌, subst, append_assoc}
 use Rattle.p8_tree.specs.Expressions.{Tree}
 use Rattle.p8_grammar.specs.Lexemes.{Setting}
@@ -38,7 +38,7 @@ one_follower (here x) (further y f) = absurd (y x)
 one_follower (further x f) (here y) = absurd (x y)
 one_follower (further x f) (further y g) = one_follower f g
 
--- one step: a token, or an expression with the token behind it; `low` says that it isn't too high
+-- one step: a token, or an expression with the token after it; `low` says that it isn't too high
 pub data Step (low : Bool) : State → List LineToken → List Piece → State → Type 0 where
   token : {q r : State} {t : LineToken} → Follows (choices q).arrows t r → Step low q (t ∷ []) (piece t ∷ []) r
   phrase : {q r : State} {h : Phrase} {e : Tree} {first t : LineToken} (others : List LineToken) → (choices q).phrase ≡ Some h → IsExpression h.setting e (terms (first ∷ others)) → (IsTrue low → height e ≤ greatest_height h) → Follows (behind h (first ∷ others)) t r → Step low q (first ∷ (others ++ t ∷ [])) (tree e first.place ∷ piece t ∷ []) r

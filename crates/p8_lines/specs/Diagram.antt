@@ -1,5 +1,5 @@
 -- The forms of lines as a diagram: at each of its states, which tokens may stand next, or an expression
--- and what may stand behind it (Propeller Manual v1.2, "Spin Language Reference" and "Propeller Assembly
+-- and what may stand after it (Propeller Manual v1.2, "Spin Language Reference" and "Propeller Assembly
 -- Language Reference": the entries of the words; all that they leave open is this project's profile).
 use Rattle.std.specs.Prelude.{Bool, true, false, List, [], ◌∷◌, Option, Some, None}
 use Rattle.p8_lexer.specs.declared.word.Word.{Word}
@@ -21,7 +21,7 @@ abbrev pub any : Sign → State → Arrow
 any s q = record { sign = s; to = q }
 
 -- an expression: where it stands, whether it is a part of an action's own tree, and the tokens that may
--- stand behind it, where it is one name and where it is any other
+-- stand after it, where it is one name and where it is any other
 pub record Phrase : Type 0 where
   pub setting : Setting
   pub inner : Bool
@@ -214,7 +214,7 @@ setting_at state.MoreFlags = in_dat
 setting_at state.FlagEffect = in_dat
 setting_at _ = in_method
 
--- internal: the arrows behind the expression at a state
+-- internal: the arrows after the expression at a state
 abbrev pub behind_in : Option Phrase → List Arrow
 behind_in None = []
 behind_in (Some h) = h.behind_other

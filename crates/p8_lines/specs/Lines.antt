@@ -37,7 +37,7 @@ is_name [] = false
 is_name (t ∷ []) = is_name_word (lexeme t)
 is_name (t ∷ u ∷ ts) = false
 
--- what may stand behind the expression of these tokens
+-- what may stand after the expression of these tokens
 abbrev pub behind : Phrase → List LineToken → List Arrow
 behind h us = if is_name us then h.behind_name else h.behind_other
 
@@ -88,7 +88,7 @@ abbrev pub number_of : Setting → Word → ℕ
 number_of s w = refusal_number (unwrap_or (refusal_of s w) Unexpected)
 
 pub data Outcome : Type 0 where
-  -- a line's pieces, and the tokens behind it
+  -- a line's pieces, and the tokens after it
   read : List Piece → List LineToken → Outcome
   -- the number of a refusal and its place
   refused : ℕ → Place → Outcome

@@ -46,7 +46,7 @@ is_assignment word.LessOrEqualAssign = true
 is_assignment word.GreaterOrEqualAssign = true
 is_assignment _ = false
 
--- AND and OR: with `=` behind them they are assignments of two tokens
+-- AND and OR: with `=` after them they are assignments of two tokens
 abbrev pub is_boolean : Word → Bool
 is_boolean word.And = true
 is_boolean word.Or = true

@@ -37,7 +37,7 @@ pub record Goes (bytes : List ℕ) (tokens : List lexer_token.Token) (at end : �
   pub split : tokens_from bytes tokens at ≡ taken ++ tokens_from bytes tokens end
   pub leads : Leads q taken row r
 
--- they are read: their pieces stand behind the others, and nothing but a line's end ends a text
+-- they are read: their pieces stand after the others, and nothing but a line's end ends a text
 pub record Advances (bytes : List ℕ) (tokens : List lexer_token.Token) (at end : ℕ) (q : State) (old new : List Piece) (r : State) : Type 0 where
   pub row : List Piece
   pub kept : new ≡ old ++ row

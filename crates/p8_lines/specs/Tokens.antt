@@ -49,7 +49,7 @@ piece t = piece_from (lexeme t) (word t) t.place
 abbrev pub line_token : List ℕ → lexer_token.Token → LineToken
 line_token bytes t = record { place = t.place; text = characters bytes t; kind = t.kind }
 
--- the place of the last of these tokens, behind one at another place
+-- the place of the last of these tokens, after one at another place
 abbrev pub last_place : Place → List LineToken → Place
 last_place p [] = p
 last_place p (t ∷ ts) = last_place t.place ts

@@ -243,7 +243,7 @@ impl State {
         )
     }
 
-    /// The tokens that may stand behind that expression.
+    /// The tokens that may stand after that expression.
     pub fn behind(self) -> &'static [Arrow]
         ensures { result.now ≡ behind_in (choices self).phrase }
     {
@@ -285,7 +285,7 @@ impl State {
         }
     }
 
-    /// The tokens that may stand behind that expression where it's one name.
+    /// The tokens that may stand after that expression where it's one name.
     pub fn behind_name(self) -> &'static [Arrow]
         ensures { result.now ≡ behind_name_in (choices self).phrase }
     {

@@ -23,17 +23,17 @@ use p8_words::{Fail, NoMemory};
 use std::alloc::{AllocError, Global};
 
 /// Tokens are read as a line in one way: from each state of the diagram there is one answer, either
-/// the pieces and the tokens behind them, or one refusal at one place. The function does nothing, and
+/// the pieces and the tokens after them, or one refusal at one place. The function does nothing, and
 /// its contract is the law.
 pub fn one_reading()
     ensures { OneReading }
 {}
 
 /// Reads a line, or what is left of one, from a state of the diagram and from the token of this
-/// number on: gives its pieces and the number of the token behind it.
+/// number on: gives its pieces and the number of the token after it.
 ///
-/// The state says what may stand there, as [`State::ConHead`] behind the word `CON`. The text's end
-/// counts as the end of a line: `at` may be the number of tokens, and the number behind that end is
+/// The state says what may stand there, as [`State::ConHead`] after the word `CON`. The text's end
+/// counts as the end of a line: `at` may be the number of tokens, and the number after that end is
 /// one more.
 ///
 /// The line is refused at the first token with which what was read begins no line: with 9 where that
@@ -84,8 +84,8 @@ fn is_end(state: State) -> bool
     matches!(state, State::End)
 }
 
-// Reads the next token, where it may stand at a state, or else an expression with the token behind
-// it: keeps their pieces, and gives the next state and the number of the token behind them.
+// Reads the next token, where it may stand at a state, or else an expression with the token after
+// it: keeps their pieces, and gives the next state and the number of the token after them.
 fn step(
     alloc: Global,
     bytes: &[u8],
@@ -109,7 +109,7 @@ fn step(
     Ok((next, number_behind(tokens, at)))
 }
 
-// Reads an expression with the token behind it, where they may stand at a state.
+// Reads an expression with the token after it, where they may stand at a state.
 fn step_over_tree(
     alloc: Global,
     bytes: &[u8],
@@ -198,7 +198,7 @@ fn told(fault: ParseFault, inner: bool, first: Place) -> ParseFault
     }
 }
 
-// The tokens that may stand behind the expression that these tokens spell.
+// The tokens that may stand after the expression that these tokens spell.
 fn arrows_behind(
     bytes: &[u8],
     tokens: &Tokens,
@@ -313,7 +313,7 @@ fn piece_from(lexeme: Lexeme, word: Word, place: Place) -> Piece
     }
 }
 
-// The number behind that of a token, or of the text's end.
+// The number after that of a token, or of the text's end.
 fn number_behind(tokens: &Tokens, at: usize) -> usize
     requires { at ≤ length tokens.now }
     ensures { result ≡ at + 1 }

@@ -19,7 +19,7 @@ pub enum Sign {
     Pins,
     /// `:=`, or an operator between two values with `=`.
     Assignment,
-    /// `AND` or `OR`: with `=` behind them they are assignments of two tokens.
+    /// `AND` or `OR`: with `=` after them they are assignments of two tokens.
     Boolean,
     /// `++`, `--`, `~` or `~~`.
     Change,

@@ -119,11 +119,11 @@ pub enum State {
     Effects,
     /// What follows an effect.
     MoreEffects,
-    /// An effect behind a comma.
+    /// An effect after a comma.
     Effect,
     /// What follows an effect of an instruction on main memory.
     MoreFlags,
-    /// An effect behind a comma, of an instruction on main memory.
+    /// An effect after a comma, of an instruction on main memory.
     FlagEffect,
     // Statements. An action is described below.
     /// A statement.
@@ -185,17 +185,17 @@ pub enum State {
     LastPin,
     /// What follows `\`.
     Trap,
-    /// What follows the name behind `\`.
+    /// What follows the name after `\`.
     Trapped,
-    /// What follows the `[` of an object behind `\`.
+    /// What follows the `[` of an object after `\`.
     TrappedIndex,
-    /// What follows the index of an object behind `\`.
+    /// What follows the index of an object after `\`.
     TrappedDot,
     /// What follows a built-in's word.
     BuiltIn,
     /// An argument.
     Arguments,
-    /// What follows AND or OR behind a variable.
+    /// What follows AND or OR after a variable.
     AssignedByWord,
     /// What follows an assignment's word.
     Assigned,

@@ -21,7 +21,7 @@ fn life_in(alloc: Global, memory: &Ram) -> Result<CogLife, NoMemory> {
     }
 }
 
-/// The first read of a load from $0100, behind a Load at cog 3's window of clock 22.
+/// The first read of a load from $0100, after a Load at cog 3's window of clock 22.
 #[test]
 fn begins_with_a_read(rt: HostRuntime) -> Result<(), Fail> {
     let memory = Ram::new(rt.alloc(), &[])?;

@@ -21,7 +21,7 @@ macro_rules! has_turn {
     };
 }
 
-/// Answers the read of long k of a load from $0100 on behind the clock 16.
+/// Answers the read of long k of a load from $0100 on after the clock 16.
 fn read(rt: &impl Abort, life: &mut Cog, k: u16, long: u32)
     requires cog { ⟦<Cog as Life>⟧.cog life.old ≡ 0 }
     requires k { k < 496 }
@@ -49,7 +49,7 @@ fn read(rt: &impl Abort, life: &mut Cog, k: u16, long: u32)
     });
 }
 
-/// Answers the reads of a load: these longs, and 0 behind them.
+/// Answers the reads of a load: these longs, and 0 after them.
 fn load(rt: &impl Abort, life: &mut Cog, code: &[u32])
     requires { ⟦<Cog as Life>⟧.cog life.old ≡ 0 }
     ensures { ⟦<Cog as Life>⟧.cog life.new ≡ 0 }

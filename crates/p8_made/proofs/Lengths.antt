@@ -17,7 +17,7 @@ instr_count : (seed count : ℕ) → length (instr_longs seed count) ≡ count
 unfolding instr_longs
 instr_count seed count = length-map-range_with_len (λ (i : ℕ). long_of (made_instr (number seed (i + 1)))) 0 count
 
--- five parts, one behind the other
+-- five parts, one after the other
 joined_length : (a b c d e : List ℕ) → length (a ++ b ++ c ++ d ++ e) ≡ length a + length b + length c + length d + length e
 joined_length a b c d e = simp length-append
 

@@ -28,7 +28,7 @@ pub number_step : (seed n k last next : ℕ) → last ≡ number seed n → next
 unfolding number
 number_step seed n k last next is more e = more ∙ ap after is ∙ ap (number seed) (sym e)
 
--- parts that are appended one behind the other; the jump and the zeros are one part
+-- parts that are appended one after the other; the jump and the zeros are one part
 joined : (first instrs jump zeros addresses values a b c d e f : List ℕ)
     → a ≡ first → b ≡ a ++ instrs → c ≡ b ++ jump → d ≡ c ++ zeros → e ≡ d ++ addresses → f ≡ e ++ values
     → f ≡ first ++ instrs ++ (jump ++ zeros) ++ addresses ++ values

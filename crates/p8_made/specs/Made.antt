@@ -7,7 +7,7 @@ use Rattle.p8_instr.specs.declared.instruction.Instr.{Instr}
 use Rattle.p8_instr.specs.Instruction.{long_of}
 use Rattle.p8_instr.specs.Mnemonics.{writing, quiet, hub_writing}
 
--- the number behind a number, and the k-th behind a seed
+-- the number after a number, and the k-th after a seed
 abbrev pub after : ℕ → ℕ
 after number = (1664525 * number + 1013904223) % 2 ^ 32
 

@@ -54,7 +54,7 @@ fn push_addresses(longs: &mut Vec<u32>) -> Result<(), NoMemory>
     Ok(())
 }
 
-/// Appends the 16 numbers behind number 400 of the seed.
+/// Appends the 16 numbers after number 400 of the seed.
 fn push_values(longs: &mut Vec<u32>, seed: u32, mut last: u32) -> Result<(), NoMemory>
     requires { last ≡ number seed 400 }
     ensures { OnOk result (longs.new.items ≡ longs.old.items ++ map (λ j. number seed (401 + j)) (range_with_len 0 16)) }
@@ -91,7 +91,7 @@ fn push_bytes(bytes: &mut Vec<u8>, mut longs: &[u32]) -> Result<(), NoMemory>
     Ok(())
 }
 
-/// The first 2,016 bytes of the hub memory with which the made program of a seed begins; behind them all is 0. It is
+/// The first 2,016 bytes of the hub memory with which the made program of a seed begins; after them all is 0. It is
 /// run from cog 0 as PASM with code $0000 and PAR $0000.
 ///
 /// Cog 0 starts all eight cogs with the same 400 instructions, which the seed chooses: each reads or writes one of 16

@@ -5,7 +5,7 @@ ghost use Rattle.p8_made.specs.Made.{after, made_instr, chosen};
 
 use p8_instr::{ALWAYS, FLAG_I, FLAG_R, Instr};
 
-/// The number behind a number.
+/// The number after a number.
 pub fn after(number: u32) -> u32
     ensures { result ≡ after number }
 {

@@ -264,7 +264,7 @@ a = variable (codes "A")
 abbrev gets : (value : ℕ) → Statement
 gets value = alone (Assign a None (number value))
 
--- A is a byte of VAR at $24 and B a word behind it
+-- A is a byte of VAR at $24 and B a word after it
 abbrev one_method : Statements → File
 one_method body = file (method true (codes "MAIN") [] [] body ∷ []) ((codes "A", kind.Global 1 0) ∷ (codes "B", kind.Global 2 2) ∷ [])
 
@@ -295,7 +295,7 @@ looked_up = refl
 --     next
 --   elseifnot a++ == 7
 --     quit
--- `~` reads the variable where its value is used, and `++` behind it gives the old value.
+-- `~` reads the variable where its value is used, and `++` after it gives the old value.
 in_turn : runs (one_method (no_statements ▹ act (Repeat (Count (number 3)) (no_statements ▹ act (If
     (no_arms ⊳ arm (no_items ▸ single (node here (Change a 0x18))) false (no_statements ▹ act Next)
     ⊳ arm (no_items ▸ single (node here (Binary 0xFC (node here (Change a 0x28)) (number 7)))) true (no_statements ▹ act Quit))

@@ -49,7 +49,7 @@ calls_object callee s stops item position count index method arguments return ab
 abbrev pub method_of : File → (number : ℕ) → Option MethodTree
 method_of file number = numbered (methods_of file.source) number
 
--- COGNEW and COGINIT of a method of the same object: the arguments are written behind the new frame's result, and the cog is started
+-- COGNEW and COGINIT of a method of the same object: the arguments are written after the new frame's result, and the cog is started
 abbrev pub starts_method : Scope → (id : ℕ) → Option Target → List ℕ → (stack : ℕ) → Gives ℕ
 starts_method s id target arguments stack go =
     given target (λ t. given (method_of s.file t.method) (λ m.

@@ -17,7 +17,7 @@ pub record Registers : Type 0 where
   pub outa : ℕ
   pub dira : ℕ
 
--- What is still to be done, by the cog's registers and by a bound. Each pass of a loop behind its first, and each call, takes one of the
+-- What is still to be done, by the cog's registers and by a bound. Each pass of a loop after its first, and each call, takes one of the
 -- bound. Where nothing of it is left what follows isn't told, and that is the one way in which a course here finishes.
 abbrev pub Rest : Type 0
 Rest = (bound : ℕ) → Registers → Course (Unit {0})
@@ -26,7 +26,7 @@ Rest = (bound : ℕ) → Registers → Course (Unit {0})
 abbrev pub Gives : Type 0 → Type 0
 Gives A = (A → Rest) → Rest
 
--- what isn't told: all that is behind the bound, and what no accepted source asks for
+-- what isn't told: all that is after the bound, and what no accepted source asks for
 abbrev pub untold : Rest
 untold bound own = Finish tt
 

@@ -160,7 +160,7 @@ module _ (callee : Callee) (s : Scope) (abort : Returned → Rest) where
     begins id (node place (Var (Named name no_index at))) first second go = begins_name id name (kind_of s name) first second go
     begins id e first second go = begins_pasm id first second go
 
-    -- the items of a LOOK are evaluated in order, up to the first that has what is looked for; `none` follows with the count behind them
+    -- the items of a LOOK are evaluated in order, up to the first that has what is looked for; `none` follows with the count after them
     pub looks : (up : Bool) (wanted : ℕ) → Items → (found none : ℕ → Rest) → (count : ℕ) → Rest
     looks up wanted no_items found none count = none count
     looks up wanted (items ▸ item) found none count = looks up wanted items found (looks_at up wanted item found none) count

@@ -51,7 +51,7 @@ numbered methods (suc n) = slice_get methods n
 
 -- ---- constants
 
--- behind an object's name stand the constants of its file, of which the first with a name counts
+-- after an object's name stand the constants of its file, of which the first with a name counts
 abbrev pub constant_named : List ℕ → List ChildConst → Option ℕ
 constant_named name [] = None
 constant_named name (c ∷ cs) = if bytes_eq name c.name then Some c.value else constant_named name cs
@@ -86,7 +86,7 @@ abbrev pub locals_size : Setting → List Declared → ℕ
 locals_size setting [] = 0
 locals_size setting (x ∷ xs) = 4 * longs_of setting x.count + locals_size setting xs
 
--- the bytes of a frame behind the result
+-- the bytes of a frame after the result
 abbrev pub frame_size : File → MethodTree → ℕ
 frame_size file m = 4 * length m.params + locals_size (setting_of file 0) m.locals
 

@@ -51,7 +51,7 @@ module _ (most : ℕ) (callee : Callee) (s : Scope) (return abort : Returned →
   ends_pass counter from to step again go =
       step_of step (λ by. value_of from (λ a. value_of to (λ b. steps counter by a b again go)))
 
-  -- ---- loops: NEXT goes to where a pass ends, and QUIT behind the loop
+  -- ---- loops: NEXT goes to where a pass ends, and QUIT after the loop
 
   abbrev pub repeats : Course → (body : Body) → Rest → Rest
   repeats Forever body go = passes most (λ again. body again go again)

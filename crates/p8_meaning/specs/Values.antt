@@ -83,6 +83,6 @@ changed change value =
     else if is_unary (change + 0xA0) then unary_value (change + 0xA0) value
     else binary_value (change + 0xA0) value 0
 
--- `++` and `--` behind a variable give the old value
+-- `++` and `--` after a variable give the old value
 abbrev pub gives_old : (change : ℕ) → Bool
 gives_old change = (nat_le 0x28 change && nat_lt change 0x30) || (nat_le 0x38 change && nat_lt change 0x40)

@@ -111,7 +111,7 @@ abbrev pub assigns : Scope → Option ℕ → Location → (right : ℕ) → Giv
 assigns s None place right go = stores place right (go right)
 assigns s (Some operator) place right go = assigns_by s operator place right go
 
--- `~` and `~~` behind a variable write 0 and -1, and give the old value
+-- `~` and `~~` after a variable write 0 and -1, and give the old value
 abbrev pub replaces : Scope → Location → (value : ℕ) → Gives ℕ
 replaces s place value go = fetches s place (λ old. stores place value (go old))
 
@@ -122,7 +122,7 @@ changes s change place go =
     else if change == 0x1C then replaces s place (2 ^ 32 - 1) go
     else fetches s place (λ old. stores place (changed change old) (go (reduced place (if gives_old change then old else changed change old))))
 
--- one whose value isn't used: `~` and `~~` behind a variable don't read it then
+-- one whose value isn't used: `~` and `~~` after a variable don't read it then
 abbrev pub changes_alone : Scope → (change : ℕ) → Location → Rest → Rest
 changes_alone s change place go =
     if change == 0x18 then stores place 0 go

@@ -47,7 +47,7 @@ position_more s all before x =
     let h = ap (instances s) (made_more object_in before x) ∙ instances-append s (objects before) (object_in x) in
     omega (arith, h)
 
--- what holds of the next one holds behind an item, if each part goes on by what the item has
+-- what holds of the next one holds after an item, if each part goes on by what the item has
 pub next_more : (s : Setting) (all before : List Item) (x : Item) (old new : Next) → new.long ≡ min (old.long + bytes_in s (λ z. z == 4) x) greatest_offset → new.word ≡ min (old.word + bytes_in s (λ z. z == 2) x) greatest_offset → new.byte ≡ min (old.byte + bytes_in s (λ z. z == 1) x) greatest_offset → new.public ≡ min (old.public + length (public_in x)) greatest_number → new.private ≡ min (old.private + length (private_in x)) greatest_number → new.item ≡ old.item + length (object_in x) → new.position ≡ min (old.position + instances s (object_in x)) greatest_number → IsNext s all before old → IsNext s all (before ++ x ∷ []) new
 next_more s all before x old new long word byte public private item position h = record {
   long = long ∙ ap (λ o. min (o + bytes_in s (λ z. z == 4) x) greatest_offset) h.long ∙ offset_more s all before x 4;
@@ -91,7 +91,7 @@ room_end s size xs i n whole l b was =
     let nothing : room s (nat_lt size) (items_of (drop i xs)) ≡ 0 = ap (λ ys. room s (nat_lt size) (items_of ys)) (drop_all i xs l) in
     sym (was ∙ ap (λ r. min (n + r) greatest_offset) nothing ∙ (let e : min (n + 0) greatest_offset ≡ n = grind (arith, b) in e))
 
--- behind an item without a part
+-- after an item without a part
 pub nothing_more : (s : Setting) (all before : List Item) (x : Item) (next : Next) → HasNoPart x → IsNext s all before next → IsNext s all (before ++ x ∷ []) next
 nothing_more s all before (constant x) n p h =
     next_more s all before (constant x) n n (same_number n.long _ greatest_offset h.long) (same_number n.word _ greatest_offset h.word) (same_number n.byte _ greatest_offset h.byte)

@@ -30,7 +30,7 @@ own_here old new s ms i m at put n =
     let number : suc i ≡ i + 1 = omega arith in
     ap (λ j. own new j n) number ∙ put.here n ∙ ap (λ o. own_kind s o n) (sym at)
 
--- one method more, whose number is behind those before it
+-- one method more, whose number is after those before it
 pub methods_more : (initial old new : Kinds) (s : Setting) (ms : List MethodTree) (i : ℕ) (m : MethodTree) → slice_get ms i ≡ Some m → HasMethods initial old s ms i → HasOwnKinds old new (i + 1) s m → HasMethods initial new s ms (i + 1)
 methods_more initial old new s ms i m at h put = record {
   file = λ n. put.others 0 n (λ e. omega (arith, e)) ∙ h.file n;

@@ -27,7 +27,7 @@ abbrev pub over : Option ℕ → Option Meaning → Option Meaning
 over None m = m
 over (Some v) m = Some (meaning_case.Value v)
 
--- a setting with these constants behind an object's name, where it had none
+-- a setting with these constants after an object's name, where it had none
 pub record HasConstants (s t : Setting) (owner : List ℕ) (f : List ℕ → Option ℕ) : Type 0 where
   pub at : (n : List ℕ) → t.constant owner n ≡ over (f n) (s.constant owner n)
   pub others : (o n : List ℕ) → ¬ (o ≡ owner) → t.constant o n ≡ s.constant o n

@@ -12,7 +12,7 @@ use Rattle.p8_definitions.specs.Items.{Item, constant, variable, line}
 use Rattle.p8_names.specs.declared.next_kinds.Next.{Next}
 use Rattle.p8_names.specs.Kinds.{offset_in, kind_or, publics, privates, objects, position_in, greatest_number}
 
--- what the next item gets, behind these of all
+-- what the next item gets, after these of all
 pub record IsNext (s : Setting) (all before : List Item) (next : Next) : Type 0 where
   pub long : next.long ≡ offset_in s all before 4
   pub word : next.word ≡ offset_in s all before 2
@@ -27,7 +27,7 @@ abbrev pub HasSize : Item → Type 0
 HasSize (variable x) = IsSize x.size
 HasSize x = Unit {0}
 
--- an item of CON and a line of DAT, behind which the next one gets the same
+-- an item of CON and a line of DAT, after which the next one gets the same
 abbrev pub HasNoPart : Item → Type 0
 HasNoPart (constant x) = Unit {0}
 HasNoPart (line x) = Unit {0}

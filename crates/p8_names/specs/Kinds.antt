@@ -1,7 +1,7 @@
 -- The kinds of a file's names.
 --
 -- Variables stand in the object's memory longs first, then words, then bytes, each in the order of the source. PUBs are
--- numbered from 1 in their order, and PRIs behind them. The instances of objects come behind the methods in the object's
+-- numbered from 1 in their order, and PRIs after them. The instances of objects come after the methods in the object's
 -- table. A label has the size of what stands at it. A method's frame has its result, its parameters and its locals, each a
 -- long. Sources: the Propeller Manual v1.2, "VAR", "PUB", "OBJ" and "DAT" of the Spin chapter; the limits, at which offsets and
 -- numbers stop, are this project's profile.
@@ -37,7 +37,7 @@ abbrev pub room : Setting → (ℕ → Bool) → List Item → ℕ
 room s fits [] = 0
 room s fits (x ∷ xs) = bytes_in s fits x + room s fits xs
 
--- where a variable stands: behind those of greater sizes, and behind those of its size that come before it
+-- where a variable stands: after those of greater sizes, and after those of its size that come before it
 abbrev pub offset_in : Setting → List Item → List Item → ℕ → ℕ
 offset_in s all before size = min (room s (nat_lt size) all + room s (λ z. z == size) before) greatest_offset
 
@@ -127,7 +127,7 @@ abbrev pub value_in : Setting → Option (List ℕ) → ℕ
 value_in s None = 0
 value_in s (Some n) = counted (given value_of_meaning (meaning_of s n))
 
--- the kind of what an item defines, by all items, by those before it and by those behind it
+-- the kind of what an item defines, by all items, by those before it and by those after it
 abbrev pub item_kind : Setting → List Item → List Item → Item → List Item → NameKind
 item_kind s all before (constant x) behind = kind.Const (value_in s x.name)
 item_kind s all before (variable x) behind = kind.Global x.size (offset_in s all before x.size)
@@ -135,7 +135,7 @@ item_kind s all before (object x) behind = kind.Object (length (objects before))
 item_kind s all before (method m) behind = kind.Method (min (number_in all before m.public) greatest_number) (min (length m.params) greatest_number)
 item_kind s all before (line x) behind = kind.Label (label_size (line x ∷ behind))
 
--- the kind of a name by its first definition among items that stand behind others
+-- the kind of a name by its first definition among items that stand after others
 abbrev pub kind_among : Setting → List Item → List Item → List Item → List ℕ → Option NameKind
 kind_among s all before [] n = None
 kind_among s all before (x ∷ xs) n = if has_name (name_of x) n then Some (item_kind s all before x xs) else kind_among s all (before ++ x ∷ []) xs n
@@ -150,7 +150,7 @@ file_kind s xs n = kind_or (predefined_value n) (kind_among s xs [] xs n)
 
 -- ---- the names of a method
 
--- the kind of a parameter, the result or a local: it stands in the frame behind so many longs
+-- the kind of a parameter, the result or a local: it stands in the frame after so many longs
 abbrev pub behind_longs : ℕ → NameKind
 behind_longs n = kind.Local (min (4 * n) greatest_offset)
 

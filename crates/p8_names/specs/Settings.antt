@@ -1,6 +1,6 @@
 -- What the names of a file mean where a constant is needed (Propeller Manual v1.2, "CON" and "OBJ" of the Spin chapter).
 --
--- The first definition of a name counts. A constant of the file has its value; an object stands before `#`, and behind it the
+-- The first definition of a name counts. A constant of the file has its value; an object stands before `#`, and after it the
 -- constants of its file; all other names are no constants.
 use Rattle.std.specs.Prelude.{◌≡◌, ℕ, Bool, false, ◌||◌, if◌then◌else◌, List, [], ◌∷◌, ◌++◌, map, Option, Some, None, IsSome, option_map}
 use Rattle.std.specs.Map.{lookup}
@@ -32,7 +32,7 @@ predefined_value n = lookup (bytes_eq n) predefined
 
 -- ---- the constants of objects
 
--- an object with what is seen of its file, the first of what is left, and what is left behind it
+-- an object with what is seen of its file, the first of what is left, and what is left after it
 abbrev pub object_with : Item → List Child → List (List ℕ × Child)
 object_with (object x) (c ∷ cs) = (x.name, c) ∷ []
 object_with x cs = []

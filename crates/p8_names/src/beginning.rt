@@ -51,7 +51,7 @@ fn meanings(
 }
 
 /// What the names of a file mean where a constant is needed: the constants of `CON` with their values, those that the language
-/// defines, and behind an object's name and `#` the constants of its file; all other names are no constants. A refused
+/// defines, and after an object's name and `#` the constants of its file; all other names are no constants. A refused
 /// expression counts as 0.
 ///
 /// `children` has what is seen of the file of each item of `OBJ`, in order. It takes time and memory in proportion to the file

@@ -116,7 +116,7 @@ fn enter_labels(kinds: &mut Kinds, number: u32, items: &[Item<'_>]) -> Result<()
     Ok(())
 }
 
-// Enters the local labels of what stands behind a label at the next number.
+// Enters the local labels of what stands after a label at the next number.
 fn begin_region(scope: &mut Scope, behind: &[Item<'_>]) -> Result<(), NoMemory>
     requires { (m : ℕ) (n : List ℕ) → scope.old.number < m → own scope.old.kinds m n ≡ None }
     ensures { OnOk result ((initial : declared_scope) (first : ℕ) (region : List (List ℕ)) → IsInRegion initial scope.old first region → IsInRegion initial scope.new first (labels_ahead (items_of behind.now))) }
@@ -127,7 +127,7 @@ fn begin_region(scope: &mut Scope, behind: &[Item<'_>]) -> Result<(), NoMemory>
     Ok(())
 }
 
-// Comes to a line: one with a label that isn't local sees the local labels behind it.
+// Comes to a line: one with a label that isn't local sees the local labels after it.
 fn come_to(scope: &mut Scope, label: Option<&Text>, behind: &[Item<'_>]) -> Result<(), NoMemory>
     requires { (m : ℕ) (n : List ℕ) → scope.old.number < m → own scope.old.kinds m n ≡ None }
     ensures { OnOk result ((initial : declared_scope) (first : ℕ) (region : List (List ℕ)) → IsInRegion initial scope.old first region → IsInRegion initial scope.new first (labels_at region (option_map (λ n. n.now) label.entry) (items_of behind.now))) }
@@ -139,7 +139,7 @@ fn come_to(scope: &mut Scope, label: Option<&Text>, behind: &[Item<'_>]) -> Resu
     }
 }
 
-// The items behind one of them.
+// The items after one of them.
 fn behind<'a, 'b>(items: &'a [Item<'b>], index: usize) -> &'a [Item<'b>]
     requires { index < length items.now }
     ensures { result.now ≡ drop (index + 1) items.now }

@@ -9,7 +9,7 @@ use p8_definitions::Item;
 use p8_tree::{DatBody, DatItem};
 use std::alloc::{AllocError, Global};
 
-/// The size of a label without an element behind it.
+/// The size of a label without an element after it.
 const LONG: u8 = 4;
 
 // The size of the first datum of a line.

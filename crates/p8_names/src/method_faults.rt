@@ -47,7 +47,7 @@ pub(crate) fn method_fault(scope: &Scope, method: &Method) -> Option<Fault>
 }
 
 /// Enters the own names of a method at its number, and tells the first fault of its locals' counts and of its body. What names
-/// mean where a constant is needed is the same behind it.
+/// mean where a constant is needed is the same after it.
 pub(crate) fn look_at(
     alloc: Global,
     scope: &mut Scope,

@@ -27,7 +27,7 @@ pub(crate) fn number_behind(index: usize) -> Result<u32, NoMemory>
 }
 
 /// Enters the own names of methods, the first at the number 1, and tells the first fault of their locals' counts and of their
-/// bodies. What names mean where a constant is needed is the same behind it.
+/// bodies. What names mean where a constant is needed is the same after it.
 pub(crate) fn look_at_all(
     alloc: Global,
     scope: &mut Scope,

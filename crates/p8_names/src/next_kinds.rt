@@ -120,7 +120,7 @@ fn counted(number: u8, so: bool) -> u8
     number.saturating_add(u8::from(so))
 }
 
-// Behind a variable.
+// After a variable.
 fn behind_variable(next: &mut Next, consts: &Consts, item: &VarItem)
     requires { IsSize item.now.size }
     ensures { (all before : List item_tree) → IsNext (setting_of consts.now) all before next.old → IsNext (setting_of consts.now) all (before ++ variable (declared_of item.now) ∷ []) next.new }
@@ -131,7 +131,7 @@ fn behind_variable(next: &mut Next, consts: &Consts, item: &VarItem)
     next.byte = advanced(next.byte, bytes_where(item.size == 1, bytes));
 }
 
-// Behind a method.
+// After a method.
 fn behind_method(next: &mut Next, consts: &Consts, method: &Method)
     ensures { (all before : List item_tree) → IsNext (setting_of consts.now) all before next.old → IsNext (setting_of consts.now) all (before ++ method_tree (method_of method.now) ∷ []) next.new }
 {
@@ -153,14 +153,14 @@ fn behind_instances(position: u8, count: u32) -> u8
     (u64::from(position) + u64::from(count)).min(GREATEST_NUMBER) as u8
 }
 
-// The number of the item behind: there is no memory for more than a number tells.
+// The number of the item after: there is no memory for more than a number tells.
 pub(crate) fn one_more(item: u32) -> Result<u32, NoMemory>
     ensures { IfOk result (λ n. n ≡ item + 1) }
 {
     item.checked_add(1).ok_or(NoMemory)
 }
 
-// Behind an object.
+// After an object.
 fn behind_object(next: &mut Next, consts: &Consts, object: &ObjItem) -> Result<(), NoMemory>
     ensures { OnOk result ((all before : List item_tree) → IsNext (setting_of consts.now) all before next.old → IsNext (setting_of consts.now) all (before ++ object_tree (child_of object.now) ∷ []) next.new) }
 {
@@ -169,13 +169,13 @@ fn behind_object(next: &mut Next, consts: &Consts, object: &ObjItem) -> Result<(
     Ok(())
 }
 
-// Behind any other item.
+// After any other item.
 fn behind_nothing(next: &Next, consts: &Consts, item: Item<'_>)
     requires { HasNoPart (item_of item) }
     ensures { (all before : List item_tree) → IsNext (setting_of consts.now) all before next.now → IsNext (setting_of consts.now) all (before ++ item_of item.entry ∷ []) next.now }
 {}
 
-// Behind an item.
+// After an item.
 pub(crate) fn go_behind(next: &mut Next, consts: &Consts, item: Item<'_>) -> Result<(), NoMemory>
     requires { HasSize (item_of item) }
     ensures { OnOk result ((all before : List item_tree) → IsNext (setting_of consts.now) all before next.old → IsNext (setting_of consts.now) all (before ++ item_of item.entry ∷ []) next.new) }

@@ -76,7 +76,7 @@ fn put_predefined(consts: &mut Consts, constants: &[NamedConstant]) -> Result<()
     Ok(())
 }
 
-// Puts the constants of an object's file behind the object's name.
+// Puts the constants of an object's file after the object's name.
 fn put_constants(
     consts: &mut Consts,
     owner: &Text,
@@ -123,7 +123,7 @@ fn put_object(
     Ok(())
 }
 
-// Goes behind an item: an object takes the first child.
+// Goes after an item: an object takes the first child.
 fn put_next<'a>(
     consts: &mut Consts,
     seen: &mut NameSet,

@@ -64,7 +64,7 @@ fn put_private<'a>(item: Item<'a>, methods: &mut Vec<&'a Method>) -> Result<(), 
     }
 }
 
-// Puts a method behind those before it, where it is so.
+// Puts a method after those before it, where it is so.
 fn put_where<'a>(
     so: bool,
     method: &'a Method,
@@ -148,7 +148,7 @@ fn enter_at_0(kinds: &mut Kinds, number: u32, name: &Text) -> Result<(), NoMemor
     enter(kinds, number, name, NameKind::Local { offset: 0 })
 }
 
-// Where the first local stands, behind the result and so many parameters.
+// Where the first local stands, after the result and so many parameters.
 fn first_local(params: usize) -> u32
     ensures { result ≡ min (4 * (params + 1)) greatest_offset }
 {

@@ -66,7 +66,7 @@ fn write_fault(out: &mut String, fault: &GatherFault) -> Result<(), AllocError> 
     }
 }
 
-// What gathering answers: the names of the files, each with a blank behind it, or the fault.
+// What gathering answers: the names of the files, each with a blank after it, or the fault.
 fn answer(alloc: Global, shelf: &mut MemShelf) -> Result<String, AllocError> {
     let mut out = String::new(alloc);
     match gather(alloc, shelf, "a.spin") {

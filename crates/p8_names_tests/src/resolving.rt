@@ -131,7 +131,7 @@ fn refuses_sources(rt: HostRuntime) -> Result<(), AllocError> {
     Ok(())
 }
 
-// A `PRI` of an object's file and the constants of the language have no definition behind its name.
+// A `PRI` of an object's file and the constants of the language have no definition after its name.
 #[test]
 fn knows_objects(rt: HostRuntime) -> Result<(), AllocError> {
     let table = [

@@ -92,7 +92,7 @@ one_last (lists.here p n) (lists.later l) = absurd (n (last_holds l))
 one_last (lists.later l) (lists.here p n) = absurd (n (last_holds l))
 one_last (lists.later l) (lists.later m) = one_last l m
 
--- the one behind which none is so is the last
+-- the one after which none is so is the last
 pub last_at : {X : Type 0} {P : X → Type 0} (xs : List X) (i : ℕ) {x : X} → IsAt xs i x → P x → ((j : ℕ) (y : X) → i < j → IsAt xs j y → ¬ P y) → IsLast P xs x
 last_at [] i a p n = absurd (none_at a)
 last_at {P = P} (z ∷ xs) zero {x = x} a p n =

@@ -47,7 +47,7 @@ left_not_open : {files : List NamedSource} {done : List ℕ} (s : Stands files d
 left_not_open s x at d e (inl new) = new (finished_is_in e)
 left_not_open s x at d e (inr ring) = true_not_false (is_finished_at s at (stays_finished s ring e)) d
 
--- behind the first of these none has an open mention
+-- after the first of these none has an open mention
 none_open_behind : {files : List NamedSource} {done : List ℕ} (s : Stands files done) {n : ℕ} (d : DoneFrom files done n) (j : ℕ) (g : NamedSource) → n ≤ j → IsAt files j g → ¬ HasOpen files g
 none_open_behind s d j g l at = λ h. done_not_open s at (d.each j l (is_within at)) h.stands h.holds
 

@@ -53,7 +53,7 @@ pub finished_block : {files : List NamedSource} {done : List ℕ} (bs : List Blo
 finished_block {files = files} {done = done} bs i b xs l e m a f =
     subst (λ ys. AreFinished files done ys) (sym (before_more bs i b xs l e m)) (both_finished (before bs i) xs a f)
 
--- the item of this number stands in this block, so many items behind those before it
+-- the item of this number stands in this block, so many items after those before it
 pub at_in_block : (bs cs : List Block) (i : ℕ) (b : Block) (xs : List Child) (x : Child) (n k : ℕ) → bs ≡ cs → i < length bs → b ≡ get_or bs i b → xs ≡ mentions_in (block_of b) → k + length (before bs i) ≡ n → IsAt xs k x → IsAt (mentions (map block_of cs)) n x
 at_in_block bs cs i b xs x n k s l e m c at =
     in_block bs cs i b xs (λ ys. IsAt ys n x) s l e m

@@ -53,7 +53,7 @@ fn asked(
     Ok(Text::copy_of(alloc, item.file.as_slice())?)
 }
 
-/// The file that is read next behind these, if there is one. Those whose mentions are all finished are finished too, from
+/// The file that is read next after these, if there is one. Those whose mentions are all finished are finished too, from
 /// the last one back.
 pub(crate) fn next_file(
     alloc: Global,

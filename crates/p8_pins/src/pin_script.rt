@@ -200,7 +200,7 @@ impl PinScript {
     }
 
     /// The span from a clock on, as `span_at` gives it: at once where the clock is in this span of the
-    /// script or in the one behind it.
+    /// script or in the one after it.
     #[inline]
     pub fn span_near(&self, near: &Span, clock: u64) -> Span
         ensures levels { result.levels ≡ level_of self.now clock }
@@ -211,7 +211,7 @@ impl PinScript {
         self.span_by(self.lines_near(near.count, clock))
     }
 
-    /// The span behind so many lines.
+    /// The span after so many lines.
     #[inline]
     fn span_by(&self, count: usize) -> Span
         requires { count ≤ length self.now }

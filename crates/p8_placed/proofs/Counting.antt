@@ -151,7 +151,7 @@ behind-row : (n v i : ℕ) (rest : List ℕ) → slice_get (replicate n v ++ res
 behind-row zero v i rest = ap (slice_get rest) (omega arith)
 behind-row (suc n) v i rest = let next : suc n + i ≡ suc (n + i) = omega arith in ap (slice_get (v ∷ replicate n v ++ rest)) next ∙ behind-row n v i rest
 
--- the instances of an item stand behind those of the items before it
+-- the instances of an item stand after those of the items before it
 pub instance-at : (files : List NamedSource) (s : Setting) (first : List Child) (x : Child) (rest : List Child) (index : ℕ) → index < count_in s x.count
     → slice_get (flat_map (instances_of files s) (first ++ x ∷ rest)) (instances s first + index) ≡ Some (number_of files x.file)
 instance-at files s [] x rest index less =

@@ -161,7 +161,7 @@ some-defined k (trees.Method y ∷ bs) n x is none =
 some-defined k (trees.Dat xs ∷ bs) n x is none =
     elim (one-of-both (map line xs) (items bs) n (constant x) is) [ inl h ↦ not-constant line (λ a. refl) xs n x h | inr h ↦ some-defined k bs n x h none ]
 
--- ---- what stands behind an object's name
+-- ---- what stands after an object's name
 
 pub with-constant : (b : Bool) (v : ℕ) (x : Option Meaning) (y : Option ℕ) → x ≡ option_map meaning_case.Value y → option_or (if b then Some (meaning_case.Value v) else None) x ≡ option_map meaning_case.Value (if b then Some v else y)
 with-constant true v x y is = refl

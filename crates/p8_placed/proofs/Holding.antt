@@ -130,7 +130,7 @@ module _ (names : Names) (m : List ℕ → Bool) (same : (name : List ℕ) → m
     deep-trees (es ▷ e) =
         both (law.trees_depth m es) (count_of_trees es + law.depth m e) (held_by_trees names es) (count_of es + held names e) (deep-trees es) (omega (arith, counts es, deep e))
 
-    -- behind the value and the count of a LOOK function
+    -- after the value and the count of a LOOK function
     deep-items : (xs : Items) → 2 + law.items_depth m xs ≤ max 2 (held_by_items names xs)
     deep-items no_items = omega arith
     deep-items (xs ▸ single e) = omega (arith, deep-items xs, deep e)

@@ -98,7 +98,7 @@ code-is bytes lies =
     ap (λ n. take n (memory_of bytes)) end ∙ ap (take (length bytes)) (memory-is bytes)
     ∙ take-append-le (length bytes) bytes (behind bytes ++ filling bytes) (omega arith) ∙ take_all (length bytes) bytes (omega arith)
 
--- the bytes behind a place where some stand
+-- the bytes after a place where some stand
 pub drop-is : (bytes : List ℕ) (p : ℕ) (xs : List ℕ) (s : Stands bytes p xs) → drop p bytes ≡ xs ++ s.after
 drop-is bytes p xs s =
     ap (drop p) (s.is ∙ append_assoc s.before xs s.after) ∙ ap (λ q. drop q (s.before ++ (xs ++ s.after))) (sym s.there) ∙ drop-front s.before (xs ++ s.after)

@@ -46,7 +46,7 @@ element-length : (size v : ℕ) (p : Spot) → length (element size v p) ≡ min
 element-length size v p =
     length-take (limit - p.offset) (take size (to_le_bytes w32 v)) ∙ ap (λ n. min (limit - p.offset) n) (length-take size (to_le_bytes w32 v))
 
--- one element, and those behind it
+-- one element, and those after it
 one-more : (o size more e l : ℕ) → size ≤ 4 → e ≡ min (limit - o) (min size 4) → min (min (o + size) limit + more) limit ≤ min (o + size) limit + l → min (o + (size + more)) limit ≤ o + (e + l)
 one-more o size more e l small is rest = omega (arith, small, is, rest)
 
@@ -213,7 +213,7 @@ dat-proper [] proper = All-nil IsProperLine
 dat-proper (b ∷ bs) proper =
     All-append IsProperLine (block_lines b) (dat_lines bs) (block-proper b (All-head IsProperBlock b bs proper)) (dat-proper bs (All-tail IsProperBlock b bs proper))
 
--- no label stands behind the bytes of a file's DAT
+-- no label stands after the bytes of a file's DAT
 pub label-in-dat : (kinds : Kinds) (base : Setting) (start : ℕ) (file : Source) (name : List ℕ) → IsProperFile file
     → or_zero (first_offset (labels_of kinds (placed_lines base start file)) name) ≤ start + length (dat_bytes base start file)
 label-in-dat kinds base start file name proper =

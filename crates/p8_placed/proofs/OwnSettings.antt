@@ -75,7 +75,7 @@ module _ (files : List NamedSource) (source : Source) (seen : Children) (top : B
       given-same (Some meaning_case.Other) f other (bytes_eq n result_word) (own x.kinds (suc k) n) (own x.kinds 0 n) (apart n)
       ∙ ap (λ o. given f (if bytes_eq n result_word then Some meaning_case.Other else option_map meaning_of_kind o)) (sym (number-so n))
 
-  -- what stands behind a name
+  -- what stands after a name
   behind-same : (r : Bool) (a b : Option NameKind) (o n : List ℕ) → IsApart a b
       → constant_of s (if r then Some meaning_case.Other else option_map meaning_of_kind b) o n ≡ constant_of s (if r then Some meaning_case.Other else option_map meaning_of_kind (or_else a b)) o n
   behind-same true a b o n apart = refl

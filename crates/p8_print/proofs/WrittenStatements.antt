@@ -32,7 +32,7 @@ lines_append xs ys = ap text_of_lines (map-append spelled_line xs ys) ∙ flat_m
 and_lines : (a : List ℕ) {b c : List ℕ} (xs ys : List Indented) → b ≡ a ++ text_of xs → c ≡ b ++ text_of ys → c ≡ a ++ text_of (xs ++ ys)
 and_lines a xs ys h k = k ∙ ap (λ t. t ++ text_of ys) h ∙ append_assoc a (text_of xs) (text_of ys) ∙ ap (λ t. a ++ t) (sym (lines_append xs ys))
 
--- a line, and the lines behind it
+-- a line, and the lines after it
 and_block : (a : List ℕ) {b c : List ℕ} (x : Indented) (ys : List Indented) → b ≡ a ++ text_of_line (spelled_line x) → c ≡ b ++ text_of ys → c ≡ a ++ text_of (x ∷ ys)
 and_block a x ys h k = and_lines a (x ∷ []) ys (h ∙ ap (λ t. a ++ t) (sym (append-nil (text_of_line (spelled_line x))))) k
 

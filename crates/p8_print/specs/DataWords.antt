@@ -23,7 +23,7 @@ words_of_size (Some n) = reserved (size_word n) ∷ []
 abbrev pub words_of_datum : Datum → List Spelled
 words_of_datum x = words_of_size x.size ++ (wrapped x.value ++ words_of_count x.count)
 
--- items behind others, each with the comma before it
+-- items after others, each with the comma before it
 abbrev pub more_data : List Datum → List Spelled
 more_data [] = []
 more_data (x ∷ xs) = reserved word.Comma ∷ (words_of_datum x ++ more_data xs)

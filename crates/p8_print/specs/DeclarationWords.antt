@@ -33,7 +33,7 @@ words_of_variable x = reserved (size_word x.size) ∷ words_of_name_and_count x
 abbrev pub words_of_child : Child → List Spelled
 words_of_child x = name x.name ∷ (words_of_count x.count ++ reserved word.Colon ∷ string x.file ∷ [])
 
--- names behind others, each with the comma before it
+-- names after others, each with the comma before it
 abbrev pub more_names : List (List ℕ) → List Spelled
 more_names [] = []
 more_names (n ∷ ns) = reserved word.Comma ∷ name n ∷ more_names ns
@@ -48,7 +48,7 @@ abbrev pub words_of_result : Option (List ℕ) → List Spelled
 words_of_result None = []
 words_of_result (Some n) = reserved word.Colon ∷ name n ∷ []
 
--- locals behind others, each with the comma before it
+-- locals after others, each with the comma before it
 abbrev pub more_locals : List Declared → List Spelled
 more_locals [] = []
 more_locals (x ∷ xs) = reserved word.Comma ∷ (words_of_name_and_count x ++ more_locals xs)
@@ -58,6 +58,6 @@ abbrev pub words_of_locals : List Declared → List Spelled
 words_of_locals [] = []
 words_of_locals (x ∷ xs) = reserved word.BitOr ∷ (words_of_name_and_count x ++ more_locals xs)
 
--- the head of a method, behind PUB or PRI
+-- the head of a method, after PUB or PRI
 abbrev pub words_of_head : MethodTree → List Spelled
 words_of_head m = name m.name ∷ (words_of_parameters m.params ++ (words_of_result m.result_name ++ words_of_locals m.locals))

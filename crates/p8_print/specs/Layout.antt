@@ -37,12 +37,12 @@ abbrev pub arm_kind : Bool → Bool → Tree → Kind
 arm_kind true negated e = If negated e
 arm_kind false negated e = ElseIf negated e
 
--- what stands behind REPEAT itself
+-- what stands after REPEAT itself
 abbrev pub head_course : Course → Course
 head_course (After until e) = Forever
 head_course course = course
 
--- the test behind a REPEAT's statements, if it stands there
+-- the test after a REPEAT's statements, if it stands there
 abbrev pub end_lines : ℕ → Course → List Indented
 end_lines n (After until e) = indented n (End until e) ∷ []
 end_lines n course = []

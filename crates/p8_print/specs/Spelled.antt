@@ -52,7 +52,7 @@ spell (name n) = n
 spell (number v) = decimal v
 spell (string s) = 34 ∷ (s ++ 34 ∷ [])
 
--- a word and the blank behind it
+-- a word and the blank after it
 abbrev pub written : Spelled → List ℕ
 written w = spell w ++ 32 ∷ []
 

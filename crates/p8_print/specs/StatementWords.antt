@@ -25,7 +25,7 @@ abbrev pub words_of_step : Option Tree → List Spelled
 words_of_step None = []
 words_of_step (Some e) = reserved word.Step ∷ wrapped e
 
--- what stands behind REPEAT; the test behind its statements has a line of its own
+-- what stands after REPEAT; the test after its statements has a line of its own
 abbrev pub words_of_course : Course → List Spelled
 words_of_course Forever = []
 words_of_course (Count e) = wrapped e

@@ -81,7 +81,7 @@ assignments =
     (0xFE, word.GreaterOrEqualAssign) ∷
     []
 
--- changes before a variable and behind it, and the operators that alone before a variable write it
+-- changes before a variable and after it, and the operators that alone before a variable write it
 unfoldable pub changes_of : List (ℕ × Word)
 changes_of =
     (0x20, word.PlusPlus) ∷
@@ -104,7 +104,7 @@ changes_of =
 abbrev pub change_word : ℕ → Word
 change_word k = beside k changes_of
 
--- whether a change stands behind its variable
+-- whether a change stands after its variable
 abbrev pub is_behind : ℕ → Bool
 is_behind k = k == 0x28 || k == 0x38 || k == 0x18 || k == 0x1C
 

@@ -33,7 +33,7 @@ abbrev pub object_with : Option (List ℕ) → List Spelled → List Spelled
 object_with None words = []
 object_with (Some object) words = name object ∷ (words ++ reserved word.Dot ∷ [])
 
--- the words of a change, before its variable or behind it
+-- the words of a change, before its variable or after it
 abbrev pub change_with : ℕ → List Spelled → List Spelled
 change_with effect words = if is_behind effect then words ++ reserved (change_word effect) ∷ [] else reserved (change_word effect) ∷ words
 
@@ -105,7 +105,7 @@ abbrev mutual
 abbrev pub wrapped : Tree → List Spelled
 wrapped e = reserved word.LeftParenthesis ∷ (words_of e ++ reserved word.RightParenthesis ∷ [])
 
--- a value behind its word, if there is one
+-- a value after its word, if there is one
 abbrev pub words_of_value : Option Tree → List Spelled
 words_of_value None = []
 words_of_value (Some e) = wrapped e

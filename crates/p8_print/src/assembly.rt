@@ -72,7 +72,7 @@ fn write_data(alloc: Global, script: &mut Script, items: &[DatItem]) -> Result<(
     write_more(alloc, script, others)
 }
 
-// Items behind others, each with the comma before it.
+// Items after others, each with the comma before it.
 fn write_more(alloc: Global, script: &mut Script, items: &[DatItem]) -> Result<(), NoMemory>
     ensures { OnOk result (script.new ≡ script.old ++ text_of_words (more_data (map datum_of items.now))) }
 {

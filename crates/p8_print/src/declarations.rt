@@ -82,7 +82,7 @@ pub(crate) fn write_object(
     write_text(script, &item.file)
 }
 
-// Writes the head of a method, behind `PUB` or `PRI`.
+// Writes the head of a method, after `PUB` or `PRI`.
 pub(crate) fn write_head(
     alloc: Global,
     script: &mut Script,
@@ -109,7 +109,7 @@ fn write_parameters(script: &mut Script, params: &[Text]) -> Result<(), NoMemory
     write_word(script, Word::RightParenthesis)
 }
 
-// Names behind others, each with the comma before it.
+// Names after others, each with the comma before it.
 fn write_more_names(script: &mut Script, names: &[Text]) -> Result<(), NoMemory>
     ensures { OnOk result (script.new ≡ script.old ++ text_of_words (more_names names.now)) }
 {
@@ -145,7 +145,7 @@ fn write_locals(alloc: Global, script: &mut Script, locals: &[VarItem]) -> Resul
     write_more_locals(alloc, script, others)
 }
 
-// Locals behind others, each with the comma before it.
+// Locals after others, each with the comma before it.
 fn write_more_locals(alloc: Global, script: &mut Script, locals: &[VarItem]) -> Result<(), NoMemory>
     ensures { OnOk result (script.new ≡ script.old ++ text_of_words (more_locals (map declared_of locals.now))) }
 {

@@ -38,7 +38,7 @@ pub(crate) fn write_enclosed(
     write_word(script, Word::RightParenthesis)
 }
 
-// A value behind its word, if there is one.
+// A value after its word, if there is one.
 pub(crate) fn write_value(
     alloc: Global,
     script: &mut Script,
@@ -230,7 +230,7 @@ fn write_item(alloc: Global, script: &mut Script, item: &Item) -> Result<(), NoM
     }
 }
 
-// A change, before its variable or behind it.
+// A change, before its variable or after it.
 #[cycle(writing)]
 fn write_change(
     alloc: Global,

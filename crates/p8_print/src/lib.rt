@@ -1,6 +1,6 @@
 //! The text of a source's tree.
 //!
-//! What [`print_tree`] writes is said by the lines of a tree, each of them words behind some blanks: words of expressions,
+//! What [`print_tree`] writes is said by the lines of a tree, each of them words after some blanks: words of expressions,
 //! of declarations, of lines of methods and of lines of `DAT`. That the tree of a file is read from this text, but for
 //! places, is a law of the crate `p8_printed`.
 #![tactic(auto)]

@@ -46,7 +46,7 @@ pub(crate) fn write_expr_line(
     script.end_line()
 }
 
-// A line with a word and an expression behind it.
+// A line with a word and an expression after it.
 pub(crate) fn write_headed_line(
     alloc: Global,
     script: &mut Script,
@@ -62,7 +62,7 @@ pub(crate) fn write_headed_line(
     script.end_line()
 }
 
-// A line with a word and an expression behind it, if there is one.
+// A line with a word and an expression after it, if there is one.
 pub(crate) fn write_value_line(
     alloc: Global,
     script: &mut Script,
@@ -189,7 +189,7 @@ pub(crate) fn write_other_line(script: &mut Script, indent: usize) -> Result<(),
     script.end_line()
 }
 
-// The line of a REPEAT; the test behind its statements has a line of its own.
+// The line of a REPEAT; the test after its statements has a line of its own.
 pub(crate) fn write_repeat_line(
     alloc: Global,
     script: &mut Script,
@@ -204,7 +204,7 @@ pub(crate) fn write_repeat_line(
     script.end_line()
 }
 
-// What stands behind REPEAT.
+// What stands after REPEAT.
 fn write_course(alloc: Global, script: &mut Script, course: &Loop) -> Result<(), NoMemory>
     ensures { OnOk result (script.new ≡ script.old ++ text_of_words (words_of_course (course_of course.now))) }
 {
@@ -240,7 +240,7 @@ fn write_step(alloc: Global, script: &mut Script, step: &Option<Expr>) -> Result
     }
 }
 
-// The line of the test behind the statements of a REPEAT, if it stands there.
+// The line of the test after the statements of a REPEAT, if it stands there.
 pub(crate) fn write_end(
     alloc: Global,
     script: &mut Script,

@@ -12,7 +12,7 @@ use std::marker::Model;
 
 // The text of a Spin source while it is written, line by line and word by word.
 //
-// A line is begun, each of its words is written with one blank behind it, and the line is ended. Contracts see a
+// A line is begun, each of its words is written with one blank after it, and the line is ended. Contracts see a
 // script as the list of its bytes.
 //
 // A call that finds no memory may leave a part of what it was to write; such a script is of no further use.
@@ -100,7 +100,7 @@ impl Script {
         bytes
     }
 
-    // Writes characters, and a blank behind them.
+    // Writes characters, and a blank after them.
     fn push_word(&mut self, characters: &[u8]) -> Result<(), NoMemory>
         ensures { OnOk result (self.new ≡ self.old ++ (characters.now ++ 32 ∷ [])) }
     {

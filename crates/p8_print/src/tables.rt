@@ -88,7 +88,7 @@ pub(crate) fn assignment_word(operator: u8) -> Word
     }
 }
 
-// A change, before its variable or behind it.
+// A change, before its variable or after it.
 #[tactic(auto, unfolding(crate::specs::Tables::changes_of))]
 pub(crate) fn change_word(effect: u8) -> Word
     ensures { result ≡ change_word effect }
@@ -110,7 +110,7 @@ pub(crate) fn change_word(effect: u8) -> Word
     }
 }
 
-// Whether a change stands behind its variable.
+// Whether a change stands after its variable.
 pub(crate) fn is_behind(effect: u8) -> bool
     ensures { result ≡ is_behind effect }
 {

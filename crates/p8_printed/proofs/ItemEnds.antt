@@ -33,7 +33,7 @@ item_kept (Case e) = refl
 pub item_anywhere : (k' k : Kind) → kind_anywhere k' ≡ kind_anywhere k → is_item k' ≡ is_item k
 item_anywhere k' k e = sym (item_kept k') ∙ ap is_item e ∙ item_kept k
 
--- a piece behind a word
+-- a piece after a word
 behind_word : (w : Word) (p : Place) (x : Piece) (row : List Piece) → ends_line (word w p ∷ x ∷ row) ≡ ends_line (x ∷ row)
 behind_word word_case.LineEnd p x row = refl
 behind_word w p x row = refl

@@ -68,7 +68,7 @@ two_tokens {q = q} h (by_token {r = r} {t = t} {ts = ts} f y) = go ts refl
 two_tokens h (by_phrase {first = first} {t = t} [] {ts = ts} p x le f y) = record { first = first; second = t; others = ts; are = refl }
 two_tokens h (by_phrase {first = first} {t = t} (u ∷ others) {ts = ts} p x le f y) = record { first = first; second = u; others = others ++ t ∷ ts; are = refl }
 
--- Tokens and the line's end behind them are a line of this kind, but for places. Behind an item of a CASE the line's end
+-- Tokens and the line's end after them are a line of this kind, but for places. After an item of a CASE the line's end
 -- is no part of the line.
 pub record IsReadAs (k : Kind) (ts : List LineToken) (t : LineToken) : Type 0 where
   pub first : LineToken

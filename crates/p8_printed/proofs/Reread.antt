@@ -49,7 +49,7 @@ end_piece : (t : LineToken) → word t ≡ word_case.LineEnd → piece t ≡ pie
 unfolding lexeme_of_word
 end_piece t e = λ i. piece_from (plain_lexeme t word_case.LineEnd refl e i) (e i) t.place
 
--- a line that ends where it begins, behind the word of its block
+-- a line that ends where it begins, after the word of its block
 record Blank (q : State) {X : Type 0} (value : List Piece → Option (List X)) (t : LineToken) : Type 0 where
   row : List Piece
   leads : Leads q (t ∷ []) row state.End
@@ -71,7 +71,7 @@ dat_blank : (t : LineToken) → word t ≡ word_case.LineEnd → Blank state.Dat
 unfolding data_parts.part_of_word
 dat_blank t e = record { row = piece t ∷ []; leads = by_token (here e) nowhere; is = ap (λ x. lines_of_row (x ∷ [])) (end_piece t e) }
 
--- the tokens of a line in column 1 that begins with a word, and of the lines behind it
+-- the tokens of a line in column 1 that begins with a word, and of the lines after it
 record Headed (w : Word) (words : List Spelled) (ls : List SpelledLine) (us : List LineToken) : Type 0 where
   token : LineToken
   own : List LineToken

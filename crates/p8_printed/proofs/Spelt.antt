@@ -62,7 +62,7 @@ spelled_lines bytes n (l ∷ ls) tokens h =
     let whole : map (line_token bytes) tokens ≡ first.words ++ first.end ∷ map (line_token bytes) others = ap (map (line_token bytes)) h.2 ∙ map_append (line_token bytes) own others ∙ ap (λ z. z ++ map (line_token bytes) others) first.split ∙ append_assoc first.words (first.end ∷ []) (map (line_token bytes) others) in
     subst (AreSpelledLines (l ∷ ls)) (sym whole) (a_line l first.words first.end first.spelled (subst (λ c. BeginsAt c first.words) column first.begins) first.ends rest)
 
--- the tokens of some lines, and of those behind them
+-- the tokens of some lines, and of those after them
 pub record Parted (xs ys : List SpelledLine) (us : List LineToken) : Type 0 where
   pub first : List LineToken
   pub rest : List LineToken

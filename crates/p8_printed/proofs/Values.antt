@@ -51,7 +51,7 @@ where_ended P x r row h = where_if P (is_end r row) (Some x) None h tt
 pub where_ending : {X : Type 0} (P : X → Type 0) (x : X) (row : List Piece) → P x → Where P (ending x row)
 where_ending P x row h = where_if P (ends row) (Some x) None h tt
 
--- what stands behind REPEAT
+-- what stands after REPEAT
 
 abbrev Heads : Course → Type 0
 Heads c = IsTrue (is_headed c)

@@ -32,8 +32,8 @@ const USAGE: &[u8] =
 /// which it builds first. A source is the top file of a project: the files that its objects mention are read from the shelf too.
 ///
 /// `words` are those after the program's name, and are read by the rules of `clap`: the first is the command's,
-/// and FILE and CLOCKS stand in this order, with options before, between and behind them, each once at most,
-/// its value in the next word or behind `=`. CLOCKS is one to ten decimal digits, at most 100,000,000: no turn is
+/// and FILE and CLOCKS stand in this order, with options before, between and after them, each once at most,
+/// its value in the next word or after `=`. CLOCKS is one to ten decimal digits, at most 100,000,000: no turn is
 /// made at that clock or later. `--pins F` gives the levels of the input pins by a pin script, `--turns K` ends
 /// the run after K turns, one to ten decimal digits and at most 1,000,000, where it isn't given after 100,000,
 /// and `--dump A:N` adds a dump of N bytes from the address A on; A is four hexadecimal digits and N one to

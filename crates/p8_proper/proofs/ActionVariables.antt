@@ -1,4 +1,4 @@
--- The variables of actions: in front of what uses them, and behind what changes them.
+-- The variables of actions: in front of what uses them, and after what changes them.
 use Rattle.std.proofs.Common.{◌≡◌, ℕ, ◌≤◌, Bool, true, false, List, [], ◌∷◌, Option, Some, refl, ap, ◌∙◌, arith}
 use Rattle.std.specs.Prelude.{IsTrue, codes}
 use Rattle.p8_tree.specs.Expressions.{Tree, node, Change, Variable, Named, Part, Memory, Register, no_index, index, whole, bits, single, range}
@@ -46,7 +46,7 @@ pub record VariableLine (v : Variable) : Type 0 where
   pub line : (row : List Piece) → LineSpelled at row → LineSpelled state.Statement (before row)
   pub is : (w : Word) (row : List Piece) → IsTrue (is_use (role_of w)) → kind_of_row (before (word w anywhere ∷ row)) ≡ doing (used variable (role_of w) anywhere row)
 
--- and behind what changes it
+-- and after what changes it
 pub record ChangedLine (v : Variable) : Type 0 where
   pub variable : Variable
   pub same : variable_anywhere variable ≡ variable_anywhere v
@@ -266,7 +266,7 @@ variable_line (Register a whole p) h w low = register_line a p (pins_word a w)
 variable_line (Register a (bits (single e)) p) h w low = bit_line a p (pins_word a w) (value_within 63 e h.2 low)
 variable_line (Register a (bits (range e d)) p) h w low = bits_line a p (pins_word a w) (value_within 63 e h.2.0 (omega (arith, low))) (value_within 63 d h.2.1 (omega (arith, low)))
 
--- behind what changes them
+-- after what changes them
 
 abbrev pub end_piece : List Piece
 end_piece = word word_case.LineEnd anywhere ∷ []
@@ -295,7 +295,7 @@ changed_indexed n p result_name x = record {
 }
 changed_indexed n p (local_label d h) x = absurd cc
 
--- the rest of a change behind its variable
+-- the rest of a change after its variable
 abbrev ends_change : ℕ → Reading (Variable × Sign) → Option Tree
 ends_change k o = o ▶ λ x row. ended (node anywhere (Change x.0 k)) x.1.role row
 

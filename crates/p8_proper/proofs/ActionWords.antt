@@ -236,7 +236,7 @@ giving_none k h = one_of BuiltWord (0x18 ∷ 0x19 ∷ 0x1A ∷ 0x1B ∷ 0x1C ∷
 pub built_word : (k : ℕ) → IsTrue (gives_value k || gives_no_value k) → BuiltWord k
 built_word k h = either (gives_value k) (gives_no_value k) h (giving_value k) (giving_none k)
 
--- where a variable's use leads from the states behind a variable
+-- where a variable's use leads from the states after a variable
 
 pub record TakesUse (q : State) : Type 0 where
   pub assigned : (t : LineToken) → IsTrue (signs.is_assignment (tokens.word t)) → Follows (choices q).arrows t state.Assigned

@@ -131,7 +131,7 @@ arguments_spelled (es ▷ e) h low =
       is = λ row. r.is (tree x.phrase.tree x.phrase.first.place ∷ word word_case.Comma anywhere ∷ row);
     }
 
--- what stands behind `(`
+-- what stands after `(`
 record ClosedSpelled (es : Trees) : Type 0 where
   trees : Trees
   same : trees_anywhere trees ≡ trees_anywhere es

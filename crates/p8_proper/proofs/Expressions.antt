@@ -48,7 +48,7 @@ assign_lexeme : IsLexeme (assigns None)
 unfolding lexeme_of_word
 assign_lexeme = (word_case.Assign, refl)
 
--- a variable behind what stands before it
+-- a variable after what stands before it
 record VariableSpelled (s : Setting) (before : Row) (v : Variable) : Type 0 where
   access : Access
   variable : Variable

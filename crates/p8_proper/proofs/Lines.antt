@@ -57,7 +57,7 @@ a_name {q} r n h goes l = let t = name_token n h in token_on t (takes t.token t.
 pub line_end : {q : State} → Goes (choices q).arrows word_case.LineEnd state.End → LineSpelled q (pieces.word word_case.LineEnd anywhere ∷ [])
 line_end goes = token_on end_token (takes end_token.token end_token.same_word goes) over
 
--- an expression, and what stands behind it
+-- an expression, and what stands after it
 
 behind_phrase : (h : Expected) (us : List LineToken) {t : LineToken} {r : State} → is_name us ≡ false → Follows h.behind_other t r → Follows (behind h us) t r
 behind_phrase h us {t = t} {r = r} e f = subst (λ b. Follows (if b then h.behind_name else h.behind_other) t r) (sym e) f

@@ -139,7 +139,7 @@ infix_operator k h =
     table_end
     ) range.0 (omega (arith, range.1)) range.2
 
--- changes, before their variable or behind it
+-- changes, before their variable or after it
 
 pub data IsChange (k : ℕ) : Type 0 where
   before : (a : ℕ) → IsLexeme (changes k a) → IsChange k

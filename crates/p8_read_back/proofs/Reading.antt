@@ -44,7 +44,7 @@ found_so {bytes = bytes} f r = record { tokens = r.tokens; run = r.run; holds = 
 pub so : {bytes rest : List ℕ} {K K' : List LineToken → Type 0} → ((ts : List LineToken) → K ts → K' ts) → Reads bytes rest K → Reads bytes rest K'
 so f h at within here = found_so f (h at within here)
 
--- a token at this place, of this kind and with these characters, and behind it others
+-- a token at this place, of this kind and with these characters, and after it others
 record Begins (p : Place) (k : TokenKind) (text : List ℕ) (K : List LineToken → Type 0) (ts : List LineToken) : Type 0 where
   token : LineToken
   others : List LineToken

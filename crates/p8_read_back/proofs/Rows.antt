@@ -55,7 +55,7 @@ either_way : (b : Bool) (l : List Arrow) {t : LineToken} {r : State} → Follows
 either_way true l f = f
 either_way false l f = f
 
--- a number where an expression stands, and what is behind it
+-- a number where an expression stands, and what is after it
 behind_number : (q : State) (l : List Arrow) (v : ℕ) (t : LineToken) (us : List LineToken) {K : List Part → Type 0} (K' : List Part → Type 0) → (choices q).phrase ≡ Some (outer in_dat l) → t.kind ≡ kind.Number v → Going l us K → ((ps : List Part) → K ps → K' (tree (node t.place (Number v)) t.place ∷ ps)) → Leading q (t ∷ us) K'
 behind_number q l v t us K' some e g f =
     let row = pieces.tree (node t.place (Number v)) t.place ∷ piece g.token ∷ g.row in

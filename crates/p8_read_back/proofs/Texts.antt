@@ -94,7 +94,7 @@ text_is i =
 
 -- ---- what is read of it
 
--- the tokens behind the comma, and from the word of the instruction on
+-- the tokens after the comma, and from the word of the instruction on
 abbrev pub SourceOf : Bool → ℕ → ℕ → List LineToken → Type 0
 SourceOf true v f = Worded word.Hash (Numbered v (AreEnded (words_of_effects f)))
 SourceOf false v f = Numbered v (AreEnded (words_of_effects f))

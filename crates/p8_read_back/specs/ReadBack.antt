@@ -48,7 +48,7 @@ file_with line = Dat (line ∷ []) ∷ []
 abbrev pub IsFileOf : ℕ → Source → Type 0
 IsFileOf long file = (line : Line) × IsLineOf long line × (file ≡ file_with line)
 
--- where its DAT begins in the object's memory: behind two entries of its table
+-- where its DAT begins in the object's memory: after two entries of its table
 abbrev pub start : ℕ
 start = 8
 

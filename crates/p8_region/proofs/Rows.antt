@@ -24,7 +24,7 @@ module _ {X : Type 0} where
   pub filled : (cs : List (Option X)) (n : ℕ) → n ≤ length cs → length (somes (take n cs)) ≡ n → IsFilled cs n
   filled cs n le e = (somes (take n cs), e, front_filled cs n le e)
 
-  -- a value behind the first n is one more
+  -- a value after the first n is one more
   pub somes-pushed : (cs : List (Option X)) (n : ℕ) (x : X) → n < length cs → somes (take (suc n) (set cs n (Some x))) ≡ somes (take n cs) ++ x ∷ []
   somes-pushed [] n x lt = absurd (omega arith)
   somes-pushed (c ∷ cs) zero x lt = refl

@@ -41,7 +41,7 @@ fn text(
 /// it has, the locks, the pins, the cogs, and the dump where one is asked for.
 ///
 /// A dump is an address and how many bytes from there on, of the memory that the history leaves: at
-/// least one, and none behind RAM, which has 32,768. Every line ends with a line feed. The only error is
+/// least one, and none after RAM, which has 32,768. Every line ends with a line feed. The only error is
 /// want of memory.
 pub fn trace(alloc: Global, ended: &Ended, dump: Option<(u16, u16)>) -> Result<Vec<u8>, NoMemory>
     requires some { ForSome dump (λ range. 1 ≤ range.1) }

@@ -1,4 +1,4 @@
-// A line that is made in a buffer. Each call writes behind what stands before `at`, and answers where that ends.
+// A line that is made in a buffer. Each call writes after what stands before `at`, and answers where that ends.
 ghost use Rattle.std.specs.Prelude.{◌≡◌, ◌<◌, ◌≤◌, ◌+◌, ◌++◌, length, take};
 ghost use Rattle.std.specs.Fmt.{decimal};
 ghost use Rattle.p8_disassembly.specs.Numerals.{hex};

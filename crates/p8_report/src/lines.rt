@@ -17,7 +17,7 @@ use std::alloc::Global;
 /// Where a clock ends in a line. The greatest has so many digits.
 const CLOCK: usize = 20;
 
-/// Writes the line of a turn behind the clock; `own` is what its cog was started with.
+/// Writes the line of a turn after the clock; `own` is what its cog was started with.
 #[inline(always)]
 fn write_turn(line: &mut [u8; LINE], own: &Origin, turn: &Turn) -> usize
     ensures end { result ≤ 64 }

@@ -1,4 +1,4 @@
-// Texts that are appended, with the numbers behind them.
+// Texts that are appended, with the numbers after them.
 ghost use Rattle.std.specs.Prelude.{◌≡◌, ◌++◌, codes, OnOk};
 ghost use Rattle.std.specs.Fmt.{decimal};
 ghost use Rattle.p8_disassembly.specs.Numerals.{hex};

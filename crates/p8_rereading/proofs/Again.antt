@@ -140,7 +140,7 @@ onward {bare = bare} {r = r} {s = s} {row = row} t ts end le (more {w = w} {ws =
           again = later ws us y z.1;
         }
 
--- FROM isn't behind parentheses
+-- FROM isn't after parentheses
 not_from : (t : LineToken) (row : List Piece) → begins_from (piece t ∷ row) ≡ false → word t ≡ word_case.From → ⊥
 not_from t row h e =
     let is : piece t ≡ pieces.word word_case.From t.place = ap (λ x. piece_from x (word t) t.place) (from_lexeme t e) ∙ ap (λ w. pieces.word w t.place) e in

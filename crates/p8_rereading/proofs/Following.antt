@@ -60,7 +60,7 @@ pub still_follows : {l : List Arrow} {t u : LineToken} {r : State} → IsLike t 
 still_follows like (here {a = a} is) = here (still_matches like a.sign is)
 still_follows like (further {a = a} n f) = further (λ is. n (still_matches (likewise like) a.sign is)) (still_follows like f)
 
--- Behind one name alone FROM may stand, and all that may stand behind another expression.
+-- After one name alone FROM may stand, and all that may stand after another expression.
 
 abbrev is_from_word : Word → Bool
 is_from_word word_case.From = true
@@ -134,7 +134,7 @@ restored (a ∷ others) t r e f = go (is_from a.sign) refl f (restored others t 
     go true h f later = further (from_on a.sign (word t) (string_length t) e h) (later f)
     go false h f later = put f later
 
--- FROM stands behind one name alone
+-- FROM stands after one name alone
 no_from : (q r : State) (h : Phrase) (t : LineToken) → (choices q).phrase ≡ Some h → Follows h.behind_other t r → word t ≢ word_case.From
 no_from q r h t p f e =
     let x = taken (λ a. not (is_from a.sign)) f (subst (λ o. IsTrue (all_good (λ a. not (is_from a.sign)) (behind_in o))) p (never_from q)) in

@@ -22,7 +22,7 @@ words_of_row begin = []
 words_of_row (row ▹ word p x) = words_of_row row ++ spelled_of x ∷ []
 words_of_row (row ▹ upto e m) = words_of_row row ++ (words_of e ++ reserved (mark_word m) ∷ [])
 
--- the words of a row, and others behind them
+-- the words of a row, and others after them
 abbrev pub words_from : Row → List Spelled → List Spelled
 words_from begin rest = rest
 words_from (row ▹ word p x) rest = words_from row (spelled_of x ∷ rest)

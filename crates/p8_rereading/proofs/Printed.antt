@@ -275,7 +275,7 @@ between_printed s p x r k a b good is le pa pb = record {
 
 -- assignments
 
--- what stands behind an operator's words
+-- what stands after an operator's words
 record Operated (s : Setting) (o : Option ℕ) (x : Access) (us : List Token) (rest : List Spelled) : Type 0 where
   others : List Token
   words : AreWords others rest

@@ -225,6 +225,6 @@ no_boolean k h = negated (is_boolean k) (subst (λ x. by_neither x ≡ true) h.1
 pub assignment_prints : (o : Option ℕ) → IsLexeme (assigns o) → Prints (spelled.reserved (assignment_word o)) (assigns o)
 assignment_prints o h = reserved_prints (assignment_word o) (assigns o) (is_for (assigns o) h.0 h.1)
 
--- the word of a change that stands behind its variable is the word of the change before it
+-- the word of a change that stands after its variable is the word of the change before it
 pub change_word_same : (b a : ℕ) → IsLexeme (changes b a) → change_word a ≡ change_word b
 change_word_same b a h = words_same (changes b a) h.0 h.1

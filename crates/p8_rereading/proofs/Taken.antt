@@ -122,7 +122,7 @@ taken_plain word_case.Number h = absurd cc
 taken_plain word_case.Str h = absurd cc
 taken_plain _ h = refl
 
--- whether a row ends with the end of its line is told behind all other pieces
+-- whether a row ends with the end of its line is told after all other pieces
 
 word_ends : (w : Word) (p : Place) (row : List Piece) → is_free w ≡ false → ends_line (pieces.word w p ∷ row) ≡ ends_line row
 word_ends word_case.LineEnd p row h = absurd cc

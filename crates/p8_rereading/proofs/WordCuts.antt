@@ -1,4 +1,4 @@
--- A word with a blank behind it is cut off as it was written.
+-- A word with a blank after it is cut off as it was written.
 use Rattle.std.proofs.Common.{◌≡◌, ℕ, zero, suc, ◌+◌, ◌<◌, ◌≤◌, ◌⊎◌, inl, inr, Bool, true, false, List, [], ◌∷◌, ◌++◌, length, take, get_or, replicate, Some, refl, sym, ap, ◌∙◌, subst, arith}
 use Rattle.std.specs.Prelude.{◌==◌, ◌||◌, not, IsTrue, slice_get, unwrap_or}
 use Rattle.std.specs.Fmt.{decimal}
@@ -26,7 +26,7 @@ use Rattle.p8_print.specs.Spelled.{Spelled, reserved, name, number, string, IsRe
 use Rattle.p8_rereading.specs.Reading.{IsKind, word_read}
 use Rattle.p8_rereading.proofs.SpelledWords.{HasLetters, IsReserved, reserved_is, spelled_back, no_blank_inside, AreDigitsOf, decimal_digits}
 
--- characters with a blank behind them
+-- characters with a blank after them
 module _ (cs rest : List ℕ) where
   at_end : get_or (cs ++ 32 ∷ rest) (length cs) 0 ≡ 32
   at_end = get_or_at cs 32 rest 0 (length cs) refl

@@ -10,7 +10,7 @@ use Rattle.p8_lexer.specs.Lexing.{is_letter}
 use Rattle.p8_lexer.specs.Words.{spelling, symbols, word_of}
 use Rattle.p8_print.specs.Spelled.{Spelled, reserved, name, number, string, SpelledLine, spell}
 
--- the column behind characters of a line, the first of which stands at a column: one more each, but for a tab (9),
+-- the column after characters of a line, the first of which stands at a column: one more each, but for a tab (9),
 -- which a string may have inside and which goes to the next column of the form 8k + 1
 abbrev pub column_behind : ℕ → List ℕ → ℕ
 column_behind column [] = column
@@ -50,7 +50,7 @@ AreWords bytes line column [] (t ∷ []) = IsLineEnd bytes line column t
 AreWords bytes line column (w ∷ ws) (t ∷ ts) = IsWord bytes line column w t × AreWords bytes line (column_behind column (spell w) + 1) ws ts
 AreWords bytes line column _ _ = ⊥
 
--- the tokens of lines, the first of which has this number; a line's first word stands behind its indentation
+-- the tokens of lines, the first of which has this number; a line's first word stands after its indentation
 abbrev pub AreLines : List ℕ → ℕ → List SpelledLine → List Token → Type 0
 AreLines bytes line [] tokens = tokens ≡ []
 AreLines bytes line (l ∷ ls) tokens =

@@ -10,7 +10,7 @@ use Rattle.p8_print.specs.Spelled as spelled
 use Rattle.p8_print.specs.Spelled.{Spelled, is_free}
 use Rattle.p8_print.specs.Wording.{words_of, wrapped}
 
--- whether FROM stands next, behind the name of a loop's counter
+-- whether FROM stands next, after the name of a loop's counter
 abbrev pub begins_from : List Piece → Bool
 begins_from (word word_case.From p ∷ row) = true
 begins_from _ = false

@@ -39,7 +39,7 @@ pub built_in_keeps : (row : List Piece) → Keeps Goal state.BuiltIn row
 unfolding role_of
 built_in_keeps row = record { arrows = (λ g q. g no_trees) & (λ g q. no_arguments row g) & none; phrase = tt }
 
--- `=` and e, behind AND or OR
+-- `=` and e, after AND or OR
 pub assigned_by_word_keeps : (row : List Piece) → Keeps Goal state.AssignedByWord row
 unfolding role_of
 assigned_by_word_keeps row = record { arrows = (λ g q v k p. mapped (λ e. node p (Assign v (Some k) e)) g) & none; phrase = tt }
@@ -122,7 +122,7 @@ pub trapped_dot_keeps : (row : List Piece) → Keeps Goal state.TrappedDot row
 unfolding role_of
 trapped_dot_keeps row = record { arrows = (λ g q n p e. g true n (index e) p) & none; phrase = tt }
 
--- variables that an assignment or a change stands behind
+-- variables that an assignment or a change stands after
 
 pub indexable_keeps : (row : List Piece) → Keeps Goal state.Indexable row
 unfolding role_of
@@ -206,7 +206,7 @@ last_pin_keeps row =
       phrase = both state.LastPin row (λ b. ((λ g q last o k a p e. whole_variable (Register a (bits (range e last)) p) writes (word_in row) (g (Register a (bits (range e last)) p))) & none));
     }
 
--- a variable behind the word that changes it
+-- a variable after the word that changes it
 
 pub changed_keeps : (row : List Piece) → Keeps Goal state.Changed row
 unfolding role_of

@@ -188,7 +188,7 @@ module _ (F : Facts) where
   with_fit : (row : List Part) → Has (IfThere (F.IsValue in_dat)) (value row) → (x : Line) (p : Place) → IfThere (IsLabel F) x.label → Has (IsLine F) (body x (fit p ∷ row))
   with_fit row y x p l = mapped (λ v. filled x p (Fit v)) (λ v is. with_contents l (of_fit is)) y
 
-  -- an instruction's word, with what stands behind it
+  -- an instruction's word, with what stands after it
 
   as_line : (x : Line) (p : Place) → IfThere (IsLabel F) x.label → (i : Instruction) → IsInstruction F i → IsLine F (filled x p (Instr i))
   as_line x p l i h = with_contents l (of_instruction h)

@@ -106,7 +106,7 @@ pub data IsContents (F : Facts) : Contents → Type 0 where
   of_fit : {v : Option Tree} → IfThere (F.IsValue in_dat) v → IsContents F (Fit v)
   of_instruction : {i : Instruction} → IsInstruction F i → IsContents F (Instr i)
 
--- a label alone, or contents behind a label or without one
+-- a label alone, or contents after a label or without one
 pub data IsLine (F : Facts) : Line → Type 0 where
   label_alone : {p q : Place} {n : List ℕ} → IsLabel F n → IsLine F (record { place = p; label = Some n; word_place = q; contents = Nothing })
   with_contents : {p q : Place} {l : Option (List ℕ)} {x : Contents} → IfThere (IsLabel F) l → IsContents F x → IsLine F (record { place = p; label = l; word_place = q; contents = x })

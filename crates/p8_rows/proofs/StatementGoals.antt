@@ -21,7 +21,7 @@ use Rattle.p8_rows.proofs.StatementRows.{Has, found, Owes, Behind}
 abbrev pub HasKind : State → Option Kind → Type 0
 HasKind q o = (k : Kind) × (o ≡ Some k) × IsTrue (suits q k)
 
--- a variable with the word behind it, as an action
+-- a variable with the word after it, as an action
 abbrev pub writes : Variable × Sign → List Piece → Option Tree
 writes x row = used x.0 x.1.role x.1.place row
 
@@ -107,7 +107,7 @@ Goal state.ChangedLastPin row = (k : ℕ) (p : Place) (a : ℕ) (q : Place) (e :
 -- no line of a method
 Goal q row = Unit {0}
 
--- what the arrows behind an expression owe, be it a name or not
+-- what the arrows after an expression owe, be it a name or not
 abbrev pub Outs : State → List Piece → Bool → Type 0
 Outs q row b = Owes Goal row (Behind Goal q row b) (behind_in (choices q).phrase)
 
@@ -140,7 +140,7 @@ at_end k p v (name n q ∷ row) h = absurd cc
 at_end k p v (text x q ∷ row) h = absurd cc
 at_end k p v (tree e q ∷ row) h = absurd cc
 
--- a variable with an index or bits, read with the word behind it
+-- a variable with an index or bits, read with the word after it
 pub with_index : (f : Index → Variable) (i : Index) (g : Variable × Sign → List Piece → Option Tree) (o : Reading Sign) → Has (o ▶ λ s row. g (f i, s) row) → Has ((indexed i o ▶ λ x row. Some ((f x.0, x.1), row)) ▶ g)
 with_index f i g None h = none_is h.value h.is
 with_index f i g (Some (s, row)) h = h

@@ -32,7 +32,7 @@ name_tree s p (lexemes.name n) e h r = subst (λ e. Has (counter e)) (one_tree s
 name_tree s p lexemes.method_result e h r = subst (λ e. Has (counter e)) (one_tree s (lexemes.token p lexemes.method_result ∷ []) (node p (Var (Named result_name no_index p))) e (operand (variable (named result_word)) (a_word nothing)) r) (found (result_name, p))
 name_tree s p x e h r = absurd cc
 
--- what is known of an expression behind which stands what may follow a name alone
+-- what is known of an expression after which stands what may follow a name alone
 abbrev pub Known : Bool → Tree → Type 0
 Known true e = Has (counter e)
 Known false e = Unit {0}

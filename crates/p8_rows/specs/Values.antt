@@ -7,7 +7,7 @@ use Rattle.p8_lines.specs.declared.state.State.TheVariants as state
 use Rattle.p8_lines.specs.Tokens.{LineToken}
 use Rattle.p8_lines.specs.Lines.{read, Reads, Row}
 
--- Reading these tokens from a state on gives a line with this value, and these tokens behind it.
+-- Reading these tokens from a state on gives a line with this value, and these tokens after it.
 pub record ReadsAs {V : Type 0} (value : List Piece → Option V) (q : State) (ts : List LineToken) (v : V) (rest : List LineToken) : Type 0 where
   pub row : List Piece
   pub reads : Reads q ts (read row rest)

@@ -22,7 +22,7 @@ use p8_words::Fail;
 use std::alloc::Global;
 
 /// Reads a line of `CON`, or what follows the word `CON` on its line: gives its items, and the number
-/// of the token behind it; or the refusal of the line and its place, as [`read_line`] does.
+/// of the token after it; or the refusal of the line and its place, as [`read_line`] does.
 pub fn read_constants(
     alloc: Global,
     bytes: &[u8],
@@ -80,7 +80,7 @@ pub fn read_objects(
 }
 
 /// Reads what follows `PUB` or `PRI` on its line: gives the method with no body, and the number of the
-/// token behind the line; or the line's refusal, as [`read_line`] does.
+/// token after the line; or the line's refusal, as [`read_line`] does.
 pub fn read_method(
     alloc: Global,
     bytes: &[u8],
@@ -99,7 +99,7 @@ pub fn read_method(
 }
 
 /// Reads a line of `DAT`, or what follows the word `DAT` on its line: gives the line, unless nothing
-/// follows the word, and the number of the token behind it; or the line's refusal, as [`read_line`]
+/// follows the word, and the number of the token after it; or the line's refusal, as [`read_line`]
 /// does.
 pub fn read_data(
     alloc: Global,

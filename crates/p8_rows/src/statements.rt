@@ -17,7 +17,7 @@ use p8_words::Fail;
 use std::alloc::Global;
 
 /// Reads a line of a method, or an item of a `CASE` up to its colon, from the state that says which
-/// lines may stand there: gives what it is, and the number of the token behind it; or the line's
+/// lines may stand there: gives what it is, and the number of the token after it; or the line's
 /// refusal, as [`read_line`] does.
 pub fn read_statement(
     alloc: Global,

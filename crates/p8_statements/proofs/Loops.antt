@@ -45,7 +45,7 @@ range_behind : (r : Role) (low : Tree) (xs : Items) (row : List Piece) (further 
 range_behind role.DotDot low xs row further last = refl
 range_behind _ low xs row further last = refl
 
--- a value with no `..` behind it is a test
+-- a value with no `..` after it is a test
 pub single_read : (xs : Items) (row rest : List Piece) (e : Tree) (r : Role) → Some ((e, r), rest) ≡ phrase row → is_dot_dot r ≡ false → tests_after xs None row ≡ behind_test r (xs ▸ single e) rest (tests_after (xs ▸ single e) None rest)
 single_read xs row rest e r h stops = tests_read xs None row rest e r h ∙ single_behind r (xs ▸ single e) rest (tests_after (xs ▸ single e) None rest) (tests_after xs (Some e) rest) stops
 
@@ -53,10 +53,10 @@ dots_behind : (r : Role) (xs : Items) (row : List Piece) (further last : Option 
 dots_behind role.DotDot xs row further last h = refl
 dots_behind _ xs row further last h = cc
 
--- a value with `..` behind it is the first of a range
+-- a value with `..` after it is the first of a range
 pub low_read : (xs : Items) (row rest : List Piece) (e : Tree) (r : Role) → Some ((e, r), rest) ≡ phrase row → is_dot_dot r ≡ true → tests_after xs None row ≡ tests_after xs (Some e) rest
 low_read xs row rest e r h goes = tests_read xs None row rest e r h ∙ dots_behind r (xs ▸ single e) rest (tests_after (xs ▸ single e) None rest) (tests_after xs (Some e) rest) goes
 
--- a value behind the first of a range ends it
+-- a value after the first of a range ends it
 pub range_read : (xs : Items) (low : Tree) (row rest : List Piece) (e : Tree) (r : Role) → Some ((e, r), rest) ≡ phrase row → tests_after xs (Some low) row ≡ behind_test r (xs ▸ range low e) rest (tests_after (xs ▸ range low e) None rest)
 range_read xs low row rest e r h = tests_read xs (Some low) row rest e r h ∙ range_behind r low (xs ▸ range low e) rest (tests_after (xs ▸ range low e) None rest) (tests_after xs (Some e) rest)

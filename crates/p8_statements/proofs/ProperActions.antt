@@ -100,7 +100,7 @@ method_in_gives trap o i p row is_o l a =
     after IsDone (NameIs 63) (name_in row) (λ m row. method trap o i p m.0 m.1 row) (name_gives 63 row a)
     (λ m row b. method_gives trap o i p m.0 m.1 row is_o l b.name b.rest)
 
--- an element, from the expression behind its bracket on, with the word behind it
+-- an element, from the expression after its bracket on, with the word after it
 element_read : (g : Tree → Sign → List Piece → Option Tree) (row : List Piece) → AreProper false 63 row → ((e : Tree) (s : Sign) (row : List Piece) → IsProperUpTo false 63 e → IsTrue (is_proper_role s.role) → AreProper false 63 row → Gives IsDone (g e s row)) → Gives IsDone (up_to_bracket row ▶ λ e row. word_in row ▶ λ s row. g e s row)
 element_read g row a k =
     after IsDone (TreeIs 63) (up_to_bracket row) (λ e row. word_in row ▶ λ s row. g e s row) (bracket_gives 63 row a)

@@ -45,7 +45,7 @@ role_of word.WordSize = role.Size 2
 role_of word.LongSize = role.Size 4
 role_of word.Outa = role.Pins 0x1F4
 role_of word.Dira = role.Pins 0x1F6
--- changes of a variable, by their effect bytes before it and behind it
+-- changes of a variable, by their effect bytes before it and after it
 role_of word.PlusPlus = role.Changes 0x20 0x28
 role_of word.MinusMinus = role.Changes 0x30 0x38
 role_of word.Tilde = role.Changes 0x10 0x18
@@ -83,7 +83,7 @@ role_of word.NotEqualAssign = role.Assigns (Some 0xFB)
 role_of word.EqualAssign = role.Assigns (Some 0xFC)
 role_of word.LessOrEqualAssign = role.Assigns (Some 0xFD)
 role_of word.GreaterOrEqualAssign = role.Assigns (Some 0xFE)
--- AND and OR, by their bytecodes: with `=` behind them they are assignments
+-- AND and OR, by their bytecodes: with `=` after them they are assignments
 role_of word.And = role.Boolean 0xF0
 role_of word.Or = role.Boolean 0xF2
 role_of word.EqualSign = role.EqualSign

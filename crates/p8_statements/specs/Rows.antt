@@ -37,7 +37,7 @@ abbrev pub name_in : List Piece → Reading (List ℕ × Place)
 name_in (name n p ∷ row) = Some ((n, p), row)
 name_in _ = None
 
--- an expression, and the word behind it
+-- an expression, and the word after it
 abbrev pub phrase : List Piece → Reading (Tree × Role)
 phrase (tree e p ∷ word w q ∷ row) = Some ((e, role_of w), row)
 phrase _ = None
@@ -46,7 +46,7 @@ abbrev pub is_empty : List Piece → Bool
 is_empty [] = true
 is_empty _ = false
 
--- the end of the line, with nothing behind it
+-- the end of the line, with nothing after it
 abbrev pub is_end : Role → List Piece → Bool
 is_end r row = if is_line_end r then is_empty row else false
 

@@ -13,13 +13,13 @@ use Rattle.p8_statements.specs.Roles.{role_of, is_comma, is_dot_dot, is_colon, i
 use Rattle.p8_statements.specs.Rows.{◌▶◌, word_in, phrase, is_empty, ended, ending, value_in}
 use Rattle.p8_statements.specs.Actions.{named_action, action}
 
--- what stands behind RETURN and ABORT: a value, or nothing
+-- what stands after RETURN and ABORT: a value, or nothing
 abbrev pub maybe_value : List Piece → Option (Option Tree)
 maybe_value (word w p ∷ row) = ended None (role_of w) row
 maybe_value (tree e p ∷ row) = ending (Some e) row
 maybe_value _ = None
 
--- the last value of a counter, by the word behind it, with a step or without one
+-- the last value of a counter, by the word after it, with a step or without one
 abbrev pub counted : List ℕ → Place → Tree → Tree → Role → List Piece → Option Course
 counted n p a b r row = if is_step r then option_map (λ c. From n a b (Some c) p) (value_in row) else ended (From n a b None p) r row
 
@@ -32,17 +32,17 @@ abbrev pub counter : Tree → Option (List ℕ × Place)
 counter (node q (Var (Named n no_index p))) = Some (n, p)
 counter _ = None
 
--- REPEAT and an expression, by the word behind it
+-- REPEAT and an expression, by the word after it
 abbrev pub course_by : Tree → Role → List Piece → Option Course
 course_by e r row = if is_from r then option_and_then (λ c. counting c.0 c.1 row) (counter e) else ended (Count e) r row
 
--- REPEAT alone, and REPEAT with a word behind it
+-- REPEAT alone, and REPEAT with a word after it
 abbrev pub course_before : Role → List Piece → Option Course
 course_before (role.End until) row = option_map (Before until) (value_in row)
 course_before role.LineEnd row = if is_empty row then Some Forever else None
 course_before _ row = None
 
--- what stands behind REPEAT
+-- what stands after REPEAT
 abbrev pub course : List Piece → Option Course
 course (word w p ∷ row) = course_before (role_of w) row
 course (tree e p ∷ row) = word_in row ▶ λ s row. course_by e s.role row
@@ -57,11 +57,11 @@ abbrev pub unless_in_range : Option Tree → Option Items → Option Items
 unless_in_range None last = last
 unless_in_range (Some low) last = None
 
--- the colon, with nothing behind it
+-- the colon, with nothing after it
 abbrev pub is_last_colon : Role → List Piece → Bool
 is_last_colon r row = if is_colon r then is_empty row else false
 
--- what stands behind a value of an item: the last value of a range, a further test, or the end
+-- what stands after a value of an item: the last value of a range, a further test, or the end
 abbrev pub behind_value : Role → Option Tree → Items → List Piece → Option Items → Option Items → Option Items
 behind_value r low xs row further last =
     if is_dot_dot r then unless_in_range low last
@@ -69,12 +69,12 @@ behind_value r low xs row further last =
     else if is_last_colon r row then Some xs
     else None
 
--- the tests e, e..e: behind these tests, and behind the first value of a range
+-- the tests e, e..e: after these tests, and after the first value of a range
 abbrev pub tests_after : Items → Option Tree → List Piece → Option Items
 tests_after xs low (tree e p ∷ word w q ∷ row) = behind_value (role_of w) low (xs ▸ test low e) row (tests_after (xs ▸ test low e) None row) (tests_after xs (Some e) row)
 tests_after xs low _ = None
 
--- the colon behind OTHER
+-- the colon after OTHER
 abbrev pub other_line : List Piece → Option Kind
 other_line row = word_in row ▶ λ s row. if is_last_colon s.role row then Some Other else None
 

@@ -1,4 +1,4 @@
--- Variables that a statement writes, each with the word behind it.
+-- Variables that a statement writes, each with the word after it.
 use Rattle.std.specs.Prelude.{ℕ, if◌then◌else◌, List, ◌∷◌, codes, None, Some}
 use Rattle.p8_tree.specs.declared.places.Place.{Place}
 use Rattle.p8_tree.specs.Expressions.{Tree, Variable, Named, Part, Memory, Register, Index, no_index, index, whole, bits, Item, single, range}
@@ -18,7 +18,7 @@ abbrev pub part : Role → List ℕ → Place → List Piece → Reading (Variab
 part (role.Size z) n p row = word_in row ▶ λ s row. index_in s row ▶ λ x row. Some ((Part n z x.0 p, x.1), row)
 part _ n p row = None
 
--- name, name[e] and a part of it, from the word behind the name on
+-- name, name[e] and a part of it, from the word after the name on
 abbrev pub named : List ℕ → Place → Sign → List Piece → Reading (Variable × Sign)
 named n p s row = if is_dot s.role then (word_in row ▶ λ t row. part t.role n p row) else (index_in s row ▶ λ x row. Some ((Named n x.0 p, x.1), row))
 
@@ -26,7 +26,7 @@ named n p s row = if is_dot s.role then (word_in row ▶ λ t row. part t.role n
 abbrev pub memory : ℕ → Place → Sign → List Piece → Reading (Variable × Sign)
 memory z p s row = if is_left_bracket s.role then (up_to_bracket row ▶ λ e row. word_in row ▶ λ t row. index_in t row ▶ λ x row. Some ((Memory z e x.0 p, x.1), row)) else None
 
--- e] and e..e], by the word behind the first e
+-- e] and e..e], by the word after the first e
 abbrev pub bits_behind : Role → Tree → List Piece → Reading Item
 bits_behind role.RightBracket e row = Some (single e, row)
 bits_behind role.DotDot e row = up_to_bracket row ▶ λ last row. Some (range e last, row)
@@ -35,7 +35,7 @@ bits_behind _ e row = None
 abbrev pub bits_in : List Piece → Reading Item
 bits_in row = phrase row ▶ λ x row. bits_behind x.1 x.0 row
 
--- OUTA, OUTA[e] and OUTA[e..e], from the word behind the register on
+-- OUTA, OUTA[e] and OUTA[e..e], from the word after the register on
 abbrev pub register : ℕ → Place → Sign → List Piece → Reading (Variable × Sign)
 register a p s row = if is_left_bracket s.role then (bits_in row ▶ λ b row. word_in row ▶ λ t row. Some ((Register a (bits b) p, t), row)) else Some ((Register a whole p, s), row)
 

@@ -43,7 +43,7 @@ abbrev pub with_argument : Trees → Option Phrase → List Piece → Option Tre
 with_argument es None row = None
 with_argument es (Some x) row = behind_argument x.behind (es ▷ tree_of x.tree) row (arguments_after (es ▷ tree_of x.tree) row)
 
--- what stands behind a test: a further one, or the end
+-- what stands after a test: a further one, or the end
 abbrev pub behind_test : Role → Items → List Piece → Option Items → Option Items
 behind_test r xs row further = if is_comma r then further else if is_last_colon r row then Some xs else None
 

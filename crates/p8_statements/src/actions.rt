@@ -120,7 +120,7 @@ fn call(place: Place, call: Call) -> Expr
 }
 
 impl Row {
-    // What is done to a variable, by the word behind it.
+    // What is done to a variable, by the word after it.
     fn used(&mut self, alloc: Global, target: Target, sign: Sign) -> Result<Option<Expr>, NoMemory>
         ensures { IfOk result (λ o. option_map tree_of o ≡ used (variable_of target) sign.role sign.place (rest_of self.old)) }
     {
@@ -135,7 +135,7 @@ impl Row {
         }
     }
 
-    // `=` and a value that is written to a variable, behind AND or OR.
+    // `=` and a value that is written to a variable, after AND or OR.
     fn assigned_by_word(
         &mut self,
         alloc: Global,
@@ -187,7 +187,7 @@ impl Row {
         }
     }
 
-    // A variable behind the word that changes it.
+    // A variable after the word that changes it.
     fn changed(&mut self, alloc: Global, effect: u8, place: Place) -> Result<Option<Expr>, NoMemory>
         ensures { IfOk result (λ o. option_map tree_of o ≡ changed effect place (rest_of self.old)) }
     {
@@ -211,7 +211,7 @@ impl Row {
         }
     }
 
-    // The arguments behind `(`, up to the end of the line.
+    // The arguments after `(`, up to the end of the line.
     fn arguments_after(&mut self, alloc: Global) -> Result<Option<Vec<Expr>>, NoMemory>
         ensures { IfOk result (λ o. option_map (λ v. trees_of v.items) o ≡ arguments_after no_trees (rest_of self.old)) }
     {
@@ -229,7 +229,7 @@ impl Row {
         }
     }
 
-    // An argument, and the word behind it.
+    // An argument, and the word after it.
     fn argument(&mut self) -> Option<Phrase>
         ensures read { (es : Trees) → arguments_after es (rest_of self.old) ≡ with_argument es result (rest_of self.new) }
         ensures shorter { IfSome result (λ x. length (rest_of self.new) < length (rest_of self.old)) }
@@ -237,7 +237,7 @@ impl Row {
         self.phrase()
     }
 
-    // These arguments, where `)` and the end of the line stand behind them.
+    // These arguments, where `)` and the end of the line stand after them.
     fn last_argument(&mut self, role: Role, arguments: Vec<Expr>) -> Option<Vec<Expr>>
         ensures { option_map (λ v. trees_of v.items) result ≡ last_argument role (trees_of arguments.items) (rest_of self.old) }
     {
@@ -249,7 +249,7 @@ impl Row {
         }
     }
 
-    // The arguments in parentheses, or none, by the word behind what is called.
+    // The arguments in parentheses, or none, by the word after what is called.
     fn arguments(&mut self, alloc: Global, role: Role) -> Result<Option<Vec<Expr>>, NoMemory>
         ensures { IfOk result (λ o. option_map (λ v. trees_of v.items) o ≡ arguments role (rest_of self.old)) }
     {
@@ -263,7 +263,7 @@ impl Row {
         }
     }
 
-    // What is called, with its arguments, by the word behind it.
+    // What is called, with its arguments, by the word after it.
     fn call(
         &mut self,
         alloc: Global,
@@ -286,7 +286,7 @@ impl Row {
         }
     }
 
-    // What is called, with its arguments, from the word behind it on.
+    // What is called, with its arguments, from the word after it on.
     fn call_behind(
         &mut self,
         alloc: Global,
@@ -334,7 +334,7 @@ impl Row {
         }
     }
 
-    // A call that stops an abort, by the word behind its first name.
+    // A call that stops an abort, by the word after its first name.
     fn trapped(
         &mut self,
         alloc: Global,
@@ -368,7 +368,7 @@ impl Row {
         }
     }
 
-    // `\object[e]`, from the word behind it on.
+    // `\object[e]`, from the word after it on.
     fn trapped_behind(
         &mut self,
         alloc: Global,
@@ -387,7 +387,7 @@ impl Row {
         }
     }
 
-    // `\object[e]`, by the word behind it.
+    // `\object[e]`, by the word after it.
     fn trapped_element(
         &mut self,
         alloc: Global,
@@ -421,7 +421,7 @@ impl Row {
         }
     }
 
-    // `name[e]`, from the word behind it on.
+    // `name[e]`, from the word after it on.
     fn element_behind(
         &mut self,
         alloc: Global,
@@ -440,7 +440,7 @@ impl Row {
         }
     }
 
-    // `name[e]`, by the word behind it.
+    // `name[e]`, by the word after it.
     fn element(
         &mut self,
         alloc: Global,
@@ -474,7 +474,7 @@ impl Row {
         }
     }
 
-    // What stands behind a name and its dot.
+    // What stands after a name and its dot.
     fn member(&mut self, alloc: Global, name: Text, place: Place) -> Result<Option<Expr>, NoMemory>
         ensures { IfOk result (λ o. option_map tree_of o ≡ member name place (rest_of self.old)) }
     {
@@ -499,7 +499,7 @@ impl Row {
         }
     }
 
-    // The action that begins with a name, from the word behind it on.
+    // The action that begins with a name, from the word after it on.
     pub fn named_action(
         &mut self,
         alloc: Global,
@@ -524,7 +524,7 @@ impl Row {
         self.used(alloc, Target::Named(name, None, place), sign)
     }
 
-    // A name, where the line ends behind it.
+    // A name, where the line ends after it.
     fn name_alone(&self, name: Text, place: Place, role: Role) -> Option<Expr>
         ensures { option_map tree_of result ≡ ended (node place (Var (Named name no_index place))) role (rest_of self.now) }
     {
@@ -538,7 +538,7 @@ impl Row {
         }
     }
 
-    // A call of a method of the same object, by the word behind its name.
+    // A call of a method of the same object, by the word after its name.
     fn plain_call(
         &mut self,
         alloc: Global,
@@ -563,7 +563,7 @@ impl Row {
         )
     }
 
-    // A call that stops an abort, from the piece behind `\` on.
+    // A call that stops an abort, from the piece after `\` on.
     fn trapping(&mut self, alloc: Global) -> Result<Option<Expr>, NoMemory>
         ensures { IfOk result (λ o. option_map tree_of o ≡ trapping (rest_of self.old)) }
     {
@@ -576,7 +576,7 @@ impl Row {
         self.trapped(alloc, name, place, sign.role)
     }
 
-    // A built-in with its arguments, from the word behind it on.
+    // A built-in with its arguments, from the word after it on.
     fn built_in(&mut self, alloc: Global, code: u8, place: Place) -> Result<Option<Expr>, NoMemory>
         ensures { IfOk result (λ o. option_map tree_of o ≡ built_in code place (rest_of self.old)) }
     {

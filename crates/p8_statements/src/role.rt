@@ -41,13 +41,13 @@ pub enum Role {
     Size(u8),
     /// `OUTA` or `DIRA`, by its address.
     Pins(u16),
-    /// `++`, `--`, `~` or `~~`: its effect byte before a variable, and behind it.
+    /// `++`, `--`, `~` or `~~`: its effect byte before a variable, and after it.
     Changes(u8, u8),
     /// An operator before a value: its effect byte where it stands alone with a variable.
     Operator(u8),
     /// `:=`, or an operator between two values with `=`.
     Assigns(Option<u8>),
-    /// `AND` or `OR`, by its bytecode: with `=` behind it, an assignment.
+    /// `AND` or `OR`, by its bytecode: with `=` after it, an assignment.
     Boolean(u8),
     EqualSign,
     /// `COGID`, `CLKFREQ` or `CLKMODE`.
@@ -101,7 +101,7 @@ pub fn role_of(word: Word) -> Role
         Word::LongSize => Role::Size(4),
         Word::Outa => Role::Pins(0x1F4),
         Word::Dira => Role::Pins(0x1F6),
-        // Changes of a variable, by their effect bytes before it and behind it.
+        // Changes of a variable, by their effect bytes before it and after it.
         Word::PlusPlus => Role::Changes(0x20, 0x28),
         Word::MinusMinus => Role::Changes(0x30, 0x38),
         Word::Tilde => Role::Changes(0x10, 0x18),
@@ -139,7 +139,7 @@ pub fn role_of(word: Word) -> Role
         Word::EqualAssign => Role::Assigns(Some(0xFC)),
         Word::LessOrEqualAssign => Role::Assigns(Some(0xFD)),
         Word::GreaterOrEqualAssign => Role::Assigns(Some(0xFE)),
-        // AND and OR, by their bytecodes: with `=` behind them they are assignments.
+        // AND and OR, by their bytecodes: with `=` after them they are assignments.
         Word::And => Role::Boolean(0xF0),
         Word::Or => Role::Boolean(0xF2),
         Word::EqualSign => Role::EqualSign,

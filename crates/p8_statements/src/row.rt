@@ -29,7 +29,7 @@ impl Sign {
     }
 }
 
-/// An expression, and the word behind it.
+/// An expression, and the word after it.
 #[derive(Drop)]
 pub struct Phrase {
     pub tree: Expr,
@@ -65,7 +65,7 @@ impl Row {
         self.pieces.len() == 0
     }
 
-    // Whether the line ends with this word, with nothing behind it.
+    // Whether the line ends with this word, with nothing after it.
     pub fn is_end(&self, role: Role) -> bool
         ensures { result ≡ is_end role (rest_of self.now) }
     {
@@ -106,7 +106,7 @@ impl Row {
         }
     }
 
-    // An expression, and the word behind it.
+    // An expression, and the word after it.
     pub fn phrase(&mut self) -> Option<Phrase>
         ensures { reading phrase_of result self.new ≡ phrase (rest_of self.old) }
     {
@@ -119,7 +119,7 @@ impl Row {
         }
     }
 
-    // This expression, and the word behind it.
+    // This expression, and the word after it.
     fn with_word(&mut self, value: Expr, place: Place) -> Option<Phrase>
         ensures { reading phrase_of result self.new ≡ phrase (tree (tree_of value) place ∷ rest_of self.old) }
     {

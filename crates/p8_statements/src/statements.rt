@@ -86,7 +86,7 @@ fn doing(tree: Option<Expr>) -> Option<LineKind>
     Some(LineKind::Plain(Action::Do(tree?)))
 }
 
-/// A test of an item, and the word behind it.
+/// A test of an item, and the word after it.
 #[derive(Drop)]
 struct Tested {
     item: Item,
@@ -127,7 +127,7 @@ impl Row {
         }
     }
 
-    // A counter's course, by the word behind its last value.
+    // A counter's course, by the word after its last value.
     fn counted(
         &mut self,
         name: Text,
@@ -179,7 +179,7 @@ impl Row {
         }
     }
 
-    // A counter's course, from the piece behind FROM on.
+    // A counter's course, from the piece after FROM on.
     fn counting(&mut self, name: Text, place: Place) -> Option<Loop>
         ensures { option_map course_of result ≡ counting name place (rest_of self.old) }
     {
@@ -192,7 +192,7 @@ impl Row {
         }
     }
 
-    // A counter's course, from the piece behind TO on.
+    // A counter's course, from the piece after TO on.
     fn counting_to(&mut self, name: Text, place: Place, first: Expr) -> Option<Loop>
         ensures { option_map course_of result ≡ (phrase (rest_of self.old) ▶ λ b row. counted name place (tree_of first) b.0 b.1 row) }
     {
@@ -205,7 +205,7 @@ impl Row {
         }
     }
 
-    // REPEAT and an expression, by the word behind it.
+    // REPEAT and an expression, by the word after it.
     fn course_by(&mut self, tree: Expr, role: Role) -> Option<Loop>
         ensures { option_map course_of result ≡ course_by (tree_of tree) role (rest_of self.old) }
     {
@@ -216,7 +216,7 @@ impl Row {
         }
     }
 
-    // REPEAT and a counter, from the piece behind FROM on.
+    // REPEAT and a counter, from the piece after FROM on.
     fn course_from(&mut self, tree: Expr) -> Option<Loop>
         ensures { option_map course_of result ≡ option_and_then (λ c. counting c.0 c.1 (rest_of self.old)) (counter (tree_of tree)) }
     {
@@ -236,7 +236,7 @@ impl Row {
         }
     }
 
-    // REPEAT alone, or with a word behind it.
+    // REPEAT alone, or with a word after it.
     fn course_before(&mut self, role: Role) -> Option<Loop>
         ensures { option_map course_of result ≡ course_before role (rest_of self.old) }
     {
@@ -258,7 +258,7 @@ impl Row {
         }
     }
 
-    // What stands behind REPEAT.
+    // What stands after REPEAT.
     fn course(&mut self) -> Option<Loop>
         ensures { option_map course_of result ≡ course (rest_of self.old) }
     {
@@ -272,7 +272,7 @@ impl Row {
         }
     }
 
-    // REPEAT and an expression, from the word behind it on.
+    // REPEAT and an expression, from the word after it on.
     fn course_behind(&mut self, tree: Expr) -> Option<Loop>
         ensures { option_map course_of result ≡ (word_in (rest_of self.old) ▶ λ s row. course_by (tree_of tree) s.role row) }
     {
@@ -285,7 +285,7 @@ impl Row {
         }
     }
 
-    // Whether this word is the colon, with nothing behind it.
+    // Whether this word is the colon, with nothing after it.
     fn is_last_colon(&self, role: Role) -> bool
         ensures { result ≡ is_last_colon role (rest_of self.now) }
     {
@@ -310,7 +310,7 @@ impl Row {
         }
     }
 
-    // A test, and the word behind it.
+    // A test, and the word after it.
     fn test(&mut self) -> Option<Tested>
         ensures read { (xs : Items) → tests_after xs None (rest_of self.old) ≡ with_test xs result (rest_of self.new) }
         ensures shorter { IfSome result (λ x. length (rest_of self.new) < length (rest_of self.old)) }
@@ -329,7 +329,7 @@ impl Row {
         }
     }
 
-    // A range from this value on, and the word behind it.
+    // A range from this value on, and the word after it.
     fn range_from(&mut self, low: Expr) -> Option<Tested>
         ensures read { (xs : Items) → tests_after xs (Some (tree_of low)) (rest_of self.old) ≡ with_test xs result (rest_of self.new) }
         ensures shorter { IfSome result (λ x. length (rest_of self.new) < length (rest_of self.old)) }
@@ -349,7 +349,7 @@ impl Row {
         }
     }
 
-    // These tests, where the colon stands behind them and nothing else.
+    // These tests, where the colon stands after them and nothing else.
     fn last_test(&self, role: Role, tests: List<Item>) -> Option<List<Item>>
         ensures { option_map items_of result ≡ (if is_last_colon role (rest_of self.now) then Some (items_of tests) else None) }
     {
@@ -371,7 +371,7 @@ impl Row {
         }
     }
 
-    // The colon behind OTHER.
+    // The colon after OTHER.
     fn other_line(&mut self) -> Option<LineKind>
         ensures { option_map kind_of result ≡ other_line (rest_of self.old) }
     {

@@ -13,14 +13,14 @@ use p8_tree::{Expr, Item, Place, Target, Text};
 use p8_words::NoMemory;
 use std::alloc::{AllocError, Global};
 
-/// An index, where there is one, and the word behind it.
+/// An index, where there is one, and the word after it.
 #[derive(Drop)]
 pub struct Indexed {
     pub index: Option<Expr>,
     pub behind: Sign,
 }
 
-/// A variable, and the word behind it.
+/// A variable, and the word after it.
 #[derive(Drop)]
 pub struct Found {
     pub target: Target,
@@ -147,7 +147,7 @@ impl Row {
         }
     }
 
-    // This index, and the word behind it.
+    // This index, and the word after it.
     fn indexed(&mut self, value: Expr) -> Option<Indexed>
         ensures { reading indexed_of result self.new ≡ (word_in (rest_of self.old) ▶ λ t row. Some ((index (tree_of value), t), row)) }
     {
@@ -188,7 +188,7 @@ impl Row {
         }
     }
 
-    // A named variable or a part of it, from the word behind the name on.
+    // A named variable or a part of it, from the word after the name on.
     fn named(
         &mut self,
         alloc: Global,
@@ -232,7 +232,7 @@ impl Row {
         }
     }
 
-    // Main memory, from the word behind its address on.
+    // Main memory, from the word after its address on.
     fn memory_at(
         &mut self,
         alloc: Global,
@@ -251,7 +251,7 @@ impl Row {
         }
     }
 
-    // Main memory, by the word behind its address.
+    // Main memory, by the word after its address.
     fn memory_by(
         &mut self,
         alloc: Global,
@@ -274,7 +274,7 @@ impl Row {
         }
     }
 
-    // The bits between brackets, by the word behind the first expression.
+    // The bits between brackets, by the word after the first expression.
     fn bits_behind(&mut self, role: Role, low: Expr) -> Option<Item>
         ensures { reading item_of result self.new ≡ bits_behind role (tree_of low) (rest_of self.old) }
     {
@@ -311,7 +311,7 @@ impl Row {
         self.bits_behind(behind, tree)
     }
 
-    // A register, from the word behind it on.
+    // A register, from the word after it on.
     fn register(
         &mut self,
         alloc: Global,
@@ -333,7 +333,7 @@ impl Row {
         }
     }
 
-    // Some bits of a register, and the word behind them.
+    // Some bits of a register, and the word after them.
     fn register_bits(
         &mut self,
         alloc: Global,

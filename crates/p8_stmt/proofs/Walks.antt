@@ -136,7 +136,7 @@ module _ (n : Names) (l : Option Loop) where
   statements_next xs i d w lt =
       sym (ap (λ ss. body n l (statements_of ss) w) (take_more xs i d lt) ∙ ap (λ ss. body n l ss w) (statements_of-push (take i xs) (get_or xs i d)))
 
-  -- an arm behind others, each of which jumps to the end
+  -- an arm after others, each of which jumps to the end
   arm_behind : (further last : Piece) (xs : Arms) (x : Arm) (w : Written) → up_to_end (arm_piece n l last x) (chain n l further further xs w) ≡ chain n l further last (xs ⊳ x) w
   arm_behind further last xs (arm items negated ss) w = refl
 

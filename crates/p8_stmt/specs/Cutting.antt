@@ -22,7 +22,7 @@ abbrev pub held_by_call : Names → Form → ℕ
 held_by_call names (Call trap object i method q args) = max (held_by_trees names args) (over (count_of args) (held_by_index names i))
 held_by_call names _ = 0
 
--- what is started, and what it is given, which holds so many, behind the number of the cog
+-- what is started, and what it is given, which holds so many, after the number of the cog
 abbrev pub held_by_start : Names → (begun : Tree) → (given : ℕ) → ℕ
 held_by_start names m given =
     if starts_method names m then max (1 + held_by_arguments names m) (1 + arguments_of m + given)

@@ -5,7 +5,7 @@ use Rattle.p8_bytecode.specs.declared.op.Op.{Op}
 use Rattle.p8_bytecode.specs.Spelling.{spelled}
 use Rattle.p8_stmt.specs.declared.spelling.Spelled.{Spelled}
 
--- where each bytecode begins, behind so many bytes
+-- where each bytecode begins, after so many bytes
 abbrev pub begins_of : (before : ℕ) → List Op → List ℕ
 begins_of before [] = []
 begins_of before (op ∷ ops) = before ∷ begins_of (before + length (spelled op)) ops

@@ -23,7 +23,7 @@ places_of (Some l) = inside l.next l.quit l.counted
 abbrev pub loop_at : Context → Option Loop
 loop_at c = places_of c.enclosing
 
--- the jump of QUIT, behind what drops a count
+-- the jump of QUIT, after what drops a count
 abbrev pub leaving : Names → (counted : Bool) → (quit : ℕ) → Piece
 leaving names counted quit = (if counted then byte 0x14 else nothing) ⨾ jump names.statement 0x04 quit
 
@@ -114,7 +114,7 @@ keeps_count (Before until e) = false
 keeps_count (After until e) = false
 keeps_count (From name a b step q) = false
 
--- a loop's body, behind which NEXT goes
+-- a loop's body, after which NEXT goes
 abbrev pub up_to_next : Names → (quit : ℕ) → (counted : Bool) → Statements → Piece
 up_to_next names quit counted ss = up_to_end (λ next. body names (inside next quit counted) ss)
 

@@ -18,7 +18,7 @@ fn short(length: usize) -> u16
     u16::try_from(length).unwrap_or(u16::MAX)
 }
 
-/// What is held behind so many longs, where anything is held at all.
+/// What is held after so many longs, where anything is held at all.
 fn over(below: u16, above: u16) -> u16
     ensures { (n : ℕ) → above ≡ cut n → result ≡ cut (over below n) }
 {
@@ -105,7 +105,7 @@ fn held_by_bits(coder: &Coder<'_>, bits: &Option<Box<Item>>) -> u16
     }
 }
 
-// Arguments, each behind those before it.
+// Arguments, each after those before it.
 #[cycle(depths)]
 fn held_by_trees(coder: &Coder<'_>, arguments: &[Expr]) -> u16
     ensures { result ≡ cut (held_by_trees (names_of coder.now) (trees_of arguments.now)) }
@@ -117,7 +117,7 @@ fn held_by_trees(coder: &Coder<'_>, arguments: &[Expr]) -> u16
     most
 }
 
-// The items of a LOOK function, behind its value and its count.
+// The items of a LOOK function, after its value and its count.
 #[cycle(depths)]
 fn held_by_items(coder: &Coder<'_>, items: &[Item]) -> u16
     ensures { result ≡ cut (held_by_items (names_of coder.now) (items_of items.now)) }
@@ -157,7 +157,7 @@ fn held_by_built(coder: &Coder<'_>, code: u8, arguments: &[Expr]) -> u16
     }
 }
 
-// A method or PASM that is started, and what it is given, which holds so many, behind the number of the cog.
+// A method or PASM that is started, and what it is given, which holds so many, after the number of the cog.
 #[cycle(depths)]
 fn held_by_start(coder: &Coder<'_>, begun: &Expr, given: u16) -> u16
     ensures { (k : ℕ) → given ≡ cut k → result ≡ cut (held_by_start (names_of coder.now) (tree_of begun.now) k) }

@@ -72,7 +72,7 @@ impl Context<'_> {
         }
     }
 
-    // Appends the jump that leaves a loop, behind what drops its count.
+    // Appends the jump that leaves a loop, after what drops its count.
     fn leave(&self, counted: bool, quit: u32, out: &mut Writer) -> Result<(), AllocError>
         ensures { (w : Written) → Stands out.old w → OnOk result (Stands out.new (leaving (names_at self.now) counted quit w)) }
     {
@@ -84,7 +84,7 @@ impl Context<'_> {
         }
     }
 
-    /// Appends a bytecode, alone or behind its value.
+    /// Appends a bytecode, alone or after its value.
     pub fn with_value(
         &self,
         value: &Option<Expr>,

@@ -63,7 +63,7 @@ pub(crate) fn place_uses(
     Ok(placed)
 }
 
-// The text's offset stands behind the bytecode's byte.
+// The text's offset stands after the bytecode's byte.
 fn place_use(spelled: &Spelled, text: StringUse) -> Result<StringUse, NoMemory>
     ensures { (ops : List Op) → IsSpelled spelled.now ops → IfOk result (λ use_placed. use_of use_placed ≡ placed ops (use_of text)) }
 {

@@ -41,7 +41,7 @@ fn held_by_condition(coder: &Coder<'_>, test: &Item) -> u16
     }
 }
 
-// The tests of an arm of CASE, behind the value that is compared.
+// The tests of an arm of CASE, after the value that is compared.
 fn held_by_tests(coder: &Coder<'_>, tests: &[Item]) -> u16
     ensures { result ≡ cut (held_by_tests (names_of coder.now) (items_of tests.now)) }
 {

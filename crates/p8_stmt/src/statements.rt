@@ -288,7 +288,7 @@ impl Context<'_> {
         }
     }
 
-    // Appends the body of a loop, behind which its NEXT goes.
+    // Appends the body of a loop, after which its NEXT goes.
     #[cycle(statements)]
     fn up_to_next(
         &self,

@@ -1,6 +1,6 @@
 -- The texts of the STRINGs of a method's statements, each with the place of its STRING, in the order of the source (Propeller
 -- Manual v1.2, "STRING" of the Spin chapter): what is assigned to stands before the value, an object's index before the
--- arguments, and a WHILE or UNTIL behind a loop's body after what is in it.
+-- arguments, and a WHILE or UNTIL after a loop's body after what is in it.
 use Rattle.std.specs.Prelude.{ℕ, List, [], ◌∷◌, ◌++◌, Option, Some, None}
 use Rattle.p8_tree.specs.declared.places.Place.{Place}
 use Rattle.p8_tree.specs.Expressions.{Tree, node, Form, Number, Str, Here, Var, Call, Unary, Binary, Assign, Change, Address, ObjectAddress, ObjConst, Built, Look, Variable, Named, Part, Memory, Register, Index, no_index, index, Bits, whole, bits, Item, single, range, Trees, no_trees, ◌▷◌, Items, no_items, ◌▸◌}
@@ -64,7 +64,7 @@ in_option (Some e) = in_tree e
 
 -- ---- statements
 
--- what a loop has before its body, and what it has behind it
+-- what a loop has before its body, and what it has after it
 abbrev pub before_body : Course → Texts
 before_body (Count e) = in_tree e
 before_body (Before until e) = in_tree e

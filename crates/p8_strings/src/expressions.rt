@@ -11,7 +11,7 @@ use crate::texts::StringText;
 use p8_tree::{Call, Expr, ExprKind, Item, Target};
 use std::alloc::AllocError;
 
-/// Puts the texts of an expression behind those before it.
+/// Puts the texts of an expression after those before it.
 #[cycle(expressions)]
 pub(crate) fn put_tree<'a>(
     expr: &'a Expr,
@@ -121,7 +121,7 @@ fn put_trees<'a>(trees: &'a [Expr], texts: &mut Vec<StringText<'a>>) -> Result<(
     Ok(())
 }
 
-/// Puts the texts of items behind those before them.
+/// Puts the texts of items after those before them.
 #[cycle(expressions)]
 pub(crate) fn put_items<'a>(
     items: &'a [Item],

@@ -38,7 +38,7 @@ fn put_before<'a>(course: &'a Loop, texts: &mut Vec<StringText<'a>>) -> Result<(
     }
 }
 
-// What a loop has behind its body.
+// What a loop has after its body.
 fn put_behind<'a>(course: &'a Loop, texts: &mut Vec<StringText<'a>>) -> Result<(), AllocError>
     ensures { OnOk result (texts_of texts.new.items ≡ texts_of texts.old.items ++ behind_body (course_of course.now)) }
 {

@@ -44,7 +44,7 @@ pub struct OnShelf {
     pub shelf: MemShelf,
 }
 
-/// The project of a file that holds its files: each stands behind a line with a mark and its name, the top file first.
+/// The project of a file that holds its files: each stands after a line with a mark and its name, the top file first.
 pub fn shelved<R: Files + Alloc<A = Global>>(rt: &R, project: &str) -> anyhow::Result<OnShelf> {
     let alloc = rt.alloc();
     let text = fs::read_to_string(rt, project)?;

@@ -132,7 +132,7 @@ module _ (t : Compiled) (base : ℕ) where
   locks-stand : (used : Bool) → EachOf (Without used) (0x16 ∷ 0x17 ∷ 0x28 ∷ 0x29 ∷ 0x2A ∷ 0x2B ∷ 0x2C ∷ [])
   locks-stand used = (λ fits. absurd (cc), (λ fits. absurd (cc), (λ fits. absurd (cc), (λ fits. new-lock-stand used, (λ fits. absurd (cc), (λ fits. absurd (cc), (λ fits. absurd (cc), tt)))))))
 
-  -- ---- behind arguments
+  -- ---- after arguments
 
   abbrev One : (used : Bool) → ℕ → Type 0
   One used k = (1 == argument_count k) ≡ true → S (built used k) (OneAt t used k)

@@ -44,7 +44,7 @@ module _ (n : Names) (t : Compiled) (base : ℕ) where
     abbrev there : State → place.Place
     there s = site_of t v (tops (names_count v) s) s
 
-    -- behind the test the place is that of the source
+    -- after the test the place is that of the source
     placed : (takes leaves : ℕ) (s : State) (course : place.Place → Course State) → names_count v ≤ takes → tested takes leaves s (course (f.at s)) ≡ tested takes leaves s (course (there s))
     placed takes leaves s course le = tested-same takes leaves s _ _ (λ enough. ap course (f.site s (omega (arith, le, enough))))
 

@@ -93,7 +93,7 @@ home-of-name n t name a is =
 
 -- ---- variables
 
--- the bytecode behind what names a variable
+-- the bytecode after what names a variable
 abbrev pub op_for_home : Home → Index → Operation → Op
 op_for_home home no_index o = plain_op home o
 op_for_home home (index e) o = memory_op true home o

@@ -1,4 +1,4 @@
--- Operands by their place on the stack, behind the test that there are so many.
+-- Operands by their place on the stack, after the test that there are so many.
 use Rattle.std.proofs.Common.{◌≡◌, refl, sym, ap, ◌∙◌, arith, ℕ, suc, ◌+◌, ◌-◌, ◌≤◌, Bool, true, false, if◌then◌else◌, nat_lt, List, [], ◌∷◌, ◌++◌, length, take, get_or, Option, Some}
 use Rattle.std.proofs.lemmas.Bool.Decides.{nat_tests}
 use Rattle.std.proofs.lemmas.List.{get_or-drop, take_more}
@@ -54,7 +54,7 @@ top-1 s n below is le =
     let i : length s.stack - n + 1 ≡ length s.stack - 1 - below = omega (arith, is, le) in
     number-1 (tops n s) ∙ get_or-drop (length s.stack - n) s.stack 1 0 ∙ ap (λ k. get_or s.stack k 0) i
 
--- a value that stays below what is taken, behind a jump
+-- a value that stays below what is taken, after a jump
 pub stays : (jumps : Bool) (target : ℕ) (s : State) (n : ℕ) → suc n ≤ length s.stack → (if jumps then goes_to target (taken n s) else taken n s) ≡ pushed (operand s n) (goes_if jumps target (taken (suc n) s))
 stays true target s n le = ap (goes_to target) (sym (pushed-taken s n le))
 stays false target s n le = sym (pushed-taken s n le)

@@ -210,7 +210,7 @@ module _ (t : Compiled) (base : ℕ) where
 
   -- ---- IF
 
-  -- behind the body of the last arm of a chain stands a jump, or nothing
+  -- after the body of the last arm of a chain stands a jump, or nothing
   abbrev last_of : Names → (jumps : Bool) → (end : ℕ) → Piece
   last_of n true end = jump n.statement 0x04 end
   last_of n false end = nothing

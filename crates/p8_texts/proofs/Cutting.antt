@@ -1,4 +1,4 @@
--- Codes that stand one behind the other, cut into the codes of methods and these into lines.
+-- Codes that stand one after the other, cut into the codes of methods and these into lines.
 use Rattle.std.proofs.Common.{◌≡◌, ◌∙◌, ap, ap₂, sym, refl, arith, ℕ, zero, suc, ◌+◌, ◌-◌, ◌<◌, ◌≤◌, List, [], ◌∷◌, ◌++◌, Option, Some, None, length, length-append, append_assoc, take, drop}
 use Rattle.std.proofs.lemmas.List.{append-nil, length-drop, length-set, length-take-le}
 use Rattle.std.proofs.Math.Seq.{take-append_seam, drop-append_seam}
@@ -63,7 +63,7 @@ length-linked offset (place ∷ uses) code =
     ∙ length-set (slice_set code place.at (128 + offset place.text / 256 % 128)) (place.at + 1) (offset place.text % 256)
     ∙ length-set code place.at (128 + offset place.text / 256 % 128)
 
--- the codes of methods as they stand one behind the other have their lines
+-- the codes of methods as they stand one after the other have their lines
 pub uncut : (offset : ℕ → ℕ) (methods : List MethodPart) (number place : ℕ) → cut_lines number place (codes_of offset methods) methods ≡ method_lines offset number place methods
 uncut offset [] number place = refl
 uncut offset (method ∷ methods) number place =
@@ -79,7 +79,7 @@ uncut offset (method ∷ methods) number place =
     (ap (λ (bytes : List ℕ). cut_lines (number + 1) (further place (length method.code)) bytes methods) left
     ∙ uncut offset methods (number + 1) (further place (length method.code)))
 
--- an address is told mod 65,536, and so is what stands behind it
+-- an address is told mod 65,536, and so is what stands after it
 pub further-mod : (base bytes : ℕ) → further base (bytes % 65536) ≡ further base bytes
 further-mod base bytes = omega arith
 

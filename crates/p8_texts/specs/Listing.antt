@@ -11,7 +11,7 @@ use Rattle.p8_image.specs.Layout.{dat_offset, codes_offset, text_offsets, size_o
 use Rattle.p8_disassembly.specs.Instructions.{long_text}
 use Rattle.p8_disassembly.specs.Numerals.{hex}
 
--- so many bytes behind an address, which has 16 bits
+-- so many bytes after an address, which has 16 bits
 abbrev pub further : ℕ → ℕ → ℕ
 further place bytes = (place + bytes) % 65536
 
@@ -39,7 +39,7 @@ code_line place bytes = hex 4 place ++ flat_map (λ (byte : ℕ). 32 ∷ hex 2 b
 abbrev pub long_by : (a b c d : ℕ) → ℕ
 long_by a b c d = a + 256 * b + 65536 * c + 16777216 * d
 
--- the longs of some bytes. Zeros stand behind the last byte up to a whole long.
+-- the longs of some bytes. Zeros stand after the last byte up to a whole long.
 abbrev pub longs_of : List ℕ → List ℕ
 longs_of (a ∷ b ∷ c ∷ d ∷ rest) = long_by a b c d ∷ longs_of rest
 longs_of (a ∷ b ∷ c ∷ []) = long_by a b c 0 ∷ []
@@ -47,7 +47,7 @@ longs_of (a ∷ b ∷ []) = long_by a b 0 0 ∷ []
 longs_of (a ∷ []) = long_by a 0 0 0 ∷ []
 longs_of [] = []
 
--- the lines of longs that stand one behind the other
+-- the lines of longs that stand one after the other
 abbrev pub long_lines : (place : ℕ) → (longs : List ℕ) → List ℕ
 long_lines place [] = []
 long_lines place (long ∷ longs) = long_line place long ++ long_lines (further place 4) longs
@@ -69,7 +69,7 @@ pieces_within (suc most) (byte ∷ code) =
 abbrev pub pieces_of : List ℕ → List (List ℕ)
 pieces_of code = pieces_within (length code) code
 
--- the lines of pieces that stand one behind the other
+-- the lines of pieces that stand one after the other
 abbrev pub piece_lines : (place : ℕ) → List (List ℕ) → List ℕ
 piece_lines place [] = []
 piece_lines place (piece ∷ pieces) = code_line place piece ++ piece_lines (further place (length piece)) pieces
@@ -79,26 +79,26 @@ code_lines place code = piece_lines place (pieces_of code)
 
 -- ---- objects
 
--- methods from a number on whose codes stand one behind the other, with the offsets of the texts that they use
+-- methods from a number on whose codes stand one after the other, with the offsets of the texts that they use
 abbrev pub method_lines : (offset : ℕ → ℕ) → (number place : ℕ) → List MethodPart → List ℕ
 method_lines offset number place [] = []
 method_lines offset number place (method ∷ methods) =
     method_line number place ++ code_lines place (linked offset method.uses method.code)
     ++ method_lines offset (number + 1) (further place (length method.code)) methods
 
--- an object that begins there: its DAT with the zeros behind it, and its methods, which are counted from 1
+-- an object that begins there: its DAT with the zeros after it, and its methods, which are counted from 1
 abbrev pub object_lines : (name : List ℕ) → (base : ℕ) → ObjectPart → List ℕ
 object_lines name base object =
     object_line name base
     ++ long_lines (further base (dat_offset object)) (longs_of object.dat)
     ++ method_lines (slice_index (text_offsets object)) 1 (further base (codes_offset object)) object.methods
 
--- objects one behind the other, each with the name of its file
+-- objects one after the other, each with the name of its file
 abbrev pub objects_lines : (base : ℕ) → (names : List (List ℕ)) → List ObjectPart → List ℕ
 objects_lines base (name ∷ names) (object ∷ objects) =
     object_lines name base object ++ objects_lines (further base (size_of object)) names objects
 objects_lines base _ _ = []
 
--- the objects of a project, the top file's first. They stand behind the image's header.
+-- the objects of a project, the top file's first. They stand after the image's header.
 abbrev pub listing_of : (names : List (List ℕ)) → List ObjectPart → List ℕ
 listing_of names objects = objects_lines 16 names objects

@@ -27,7 +27,7 @@ fn long_of(a: u8, b: u8, c: u8, d: u8) -> u32
     u32::from(a) + 0x100 * u32::from(b) + 0x1_0000 * u32::from(c) + 0x100_0000 * u32::from(d)
 }
 
-/// The long of fewer than four bytes, with zeros behind them; none where there is no byte.
+/// The long of fewer than four bytes, with zeros after them; none where there is no byte.
 fn last_long(bytes: &[u8]) -> Option<u32>
     requires { length bytes.now < 4 }
     ensures { MatchOption result (longs_of bytes.now ≡ []) (λ long. longs_of bytes.now ≡ long ∷ []) }
@@ -40,7 +40,7 @@ fn last_long(bytes: &[u8]) -> Option<u32>
     }
 }
 
-/// Appends the lines of a DAT that stands at an address, with the zeros behind it.
+/// Appends the lines of a DAT that stands at an address, with the zeros after it.
 pub fn push_dat_lines(
     alloc: Global,
     out: &mut Vec<u8>,

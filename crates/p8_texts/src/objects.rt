@@ -35,7 +35,7 @@ fn push_method_line(out: &mut Vec<u8>, number: u64, place: u16) -> Result<(), No
     push_text(out, b"\n")
 }
 
-/// Appends the lines of methods, of which these are the codes, one behind the other.
+/// Appends the lines of methods, of which these are the codes, one after the other.
 fn push_method_lines(
     out: &mut Vec<u8>,
     place: u16,

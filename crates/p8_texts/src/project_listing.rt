@@ -9,7 +9,7 @@ use p8_tree::Text;
 use p8_words::NoMemory;
 use std::alloc::Global;
 
-/// Where the first object stands: behind the header of the image.
+/// Where the first object stands: after the header of the image.
 const FIRST_BASE: u16 = 16;
 
 /// The listing of a project, whose objects stand in the order of its files, the top file's first; `names` are those of the files.

@@ -13,14 +13,14 @@ pub fn push_place(out: &mut Vec<u8>, place: u16) -> Result<(), NoMemory>
     push_text(out, &word_digits(u32::from(place)))
 }
 
-/// So many bytes behind an address, mod 65,536.
+/// So many bytes after an address, mod 65,536.
 pub fn further(place: u16, bytes: usize) -> u16
     ensures { result ≡ further_by place bytes }
 {
     place.wrapping_add((bytes % 65_536) as u16)
 }
 
-/// The bytes behind the first ones.
+/// The bytes after the first ones.
 pub fn behind(bytes: &[u8], count: usize) -> &[u8]
     requires { count ≤ length bytes.now }
     ensures { result.now ≡ drop count bytes.now }

@@ -119,7 +119,7 @@ module _ (program : Program) (addresses : Addresses) (w : World) (world : IsWorl
       turns-by : (b : Bool) → (turn.key.cog == n && not (is_started n later)) ≡ b → turns_of_life n (turn ∷ later) ≡ (if b then its ++ turn ∷ [] else its)
       turns-by b e = ap (λ (x : Bool). if x then its ++ turn ∷ [] else its) e
 
-      -- behind the life's end
+      -- after the life's end
       lived-behind : is_started n later ≡ true → Lived (turn ∷ later)
       lived-behind gone = record {
         follows = subst (LifeOf program addresses w world code n first.key.clock origin) (sym (turns-by false (and-not (turn.key.cog == n) (not (is_started n later)) (ap not gone)))) lived.follows;

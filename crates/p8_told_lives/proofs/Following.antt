@@ -18,7 +18,7 @@ map-push f [] x = refl
 map-push f (y ∷ ys) x = ap (λ zs. f y ∷ zs) (map-push f ys x)
 
 module _ {S : Type 0} (e : Engine S) (start : ℕ) (first : Course S) where
-  -- behind these turns so many courses are done behind the first, and this one is at hand at this clock
+  -- after these turns so many courses are done after the first, and this one is at hand at this clock
   pub record StandsAt (turns : List Turn) (count clock : ℕ) (course : Course S) : Type 0 where
     pub timed : (more : List Turn) → replayed e start first count (turns ++ more) ≡ played e.cog clock course more
     pub untimed : (more : List Answer) → retold e first count (map answer_of turns ++ more) ≡ told e.cog (map access_of turns) course more

@@ -99,7 +99,7 @@ last-holds P [] x h = h 0 x (omega arith)
 last-holds P (y ∷ ys) x h = last-holds P ys x (λ k d lt. h (suc k) d (omega (arith, lt)))
 
 module _ (program : Program) (addresses : Addresses) (w : World) (world : IsWorldOf program addresses w) (code : (cog : ℕ) → cog < 8 → CodeIsTold program addresses w.memory cog) where
-  -- a life behind its begin follows its turns
+  -- a life after its begin follows its turns
   abbrev pub LifeOf : (n clock : ℕ) → Origin → List Turn → Type 0
   LifeOf n clock (Pasm code par) turns = Unit {0}
   LifeOf n clock (Spin entry pbase vbase frame size) turns =

@@ -19,14 +19,14 @@ abbrev pub is_started : ℕ → List Turn → Bool
 is_started n [] = false
 is_started n (turn ∷ past) = starts_by n turn.access turn.answer || is_started n past
 
--- Of the turns behind the one with which a life of this cog began those of the life, the oldest first: the cog's own up to its next start, and that
+-- Of the turns after the one with which a life of this cog began those of the life, the oldest first: the cog's own up to its next start, and that
 -- one too where the cog makes it itself. So no start comes before any of them.
 abbrev pub turns_of_life : ℕ → List Turn → List Turn
 turns_of_life n [] = []
 turns_of_life n (turn ∷ past) =
     if turn.key.cog == n && not (is_started n past) then turns_of_life n past ++ turn ∷ [] else turns_of_life n past
 
--- a life of a cog in a past: what the cog was started with, and the turns of the life behind its Begin or Load
+-- a life of a cog in a past: what the cog was started with, and the turns of the life after its Begin or Load
 pub record IsLife (w : World) (past : List Turn) (n : ℕ) (origin : Origin) (turns : List Turn) : Type 0 where
   pub later : List Turn
   pub first : Turn

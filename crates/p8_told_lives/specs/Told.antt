@@ -29,7 +29,7 @@ pub record IsTold (program : Program) (addresses : Addresses) (bound cog : ℕ) 
   pub is_method : IsMethodOrigin program addresses origin target frame
   pub accesses : map access_of turns ≡ made_of (says program addresses target frame cog (map answer_of turns) bound)
 
--- Every life of Spin is. The limit of clocks is enough as a bound: what takes one of the bound, a call or a pass of a loop behind its first, takes
+-- Every life of Spin is. The limit of clocks is enough as a bound: what takes one of the bound, a call or a pass of a loop after its first, takes
 -- a bytecode, and a bytecode takes 32 clocks or more.
 abbrev pub SpinIsTold : Program → Addresses → World → List Turn → Type 0
 SpinIsTold program addresses w past =
@@ -37,7 +37,7 @@ SpinIsTold program addresses w past =
 
 -- ---- what a world begins with
 
--- each method's frame has less than 65,536 bytes behind its result
+-- each method's frame has less than 65,536 bytes after its result
 abbrev pub FramesFit : Program → Type 0
 FramesFit program =
     (number : ℕ) (file : File) → slice_get program number ≡ Some file → (method : ℕ) (tree : MethodTree) → method_of file method ≡ Some tree → frame_size file tree < 2 ^ 16

@@ -111,7 +111,7 @@ pub struct DatItem {
     pub count: Option<Expr>,
 }
 
-/// An instruction. A place of an operand is that of its first token, behind `#` where it has one;
+/// An instruction. A place of an operand is that of its first token, after `#` where it has one;
 /// where there is no operand, it is that of the instruction's word.
 #[derive(Drop)]
 pub struct InstrLine {
