@@ -35,7 +35,7 @@ PRI put(data) : acknowledged
   outa[SCL]~
 
 PRI get : data
-'' Takes a byte. The data stays high behind it: so the device knows that no other is wanted.
+'' Takes a byte. The data stays high after it: so the device knows that no other is wanted.
   repeat 8
     outa[SCL]~~
     data := data << 1 | ina[SDA]

@@ -15,7 +15,7 @@ PUB main
 
 PRI send(data) | edge
 '' Sends one byte, its lowest bit first.
-  data := data << 1 | %10_0000_0000     ' a start bit, which is low, before it; a stop bit, which is high, behind it
+  data := data << 1 | %10_0000_0000     ' a start bit, which is low, before it; a stop bit, which is high, after it
   edge := cnt
   repeat 10
     outa[TX] := data                    ' a pin takes the lowest bit of what is assigned

@@ -11,7 +11,7 @@ use Rattle.p8_access.specs.declared.kinds.Access.TheVariants.{CogId, CogInit, Co
 use Rattle.p8_meaning.specs.Values.{count_of}
 use Rattle.p8_meaning.specs.Doing.{Rest, Gives, untold, halts, asks, tells, asks_for, halts_at_rom, reads, writes, next_address}
 
--- ---- rows of elements go by ascending address
+-- ---- rows of elements go by ascending address, whatever they overlap (profile)
 
 -- BYTEFILL, WORDFILL, LONGFILL
 abbrev pub fills : Width → (address value left : ℕ) → Rest → Rest
@@ -45,7 +45,7 @@ compares (suc room) first second go bound own =
 
 -- ---- cogs
 
--- an id of 0 to 7 names a cog, and another one asks for a new cog
+-- an id of 0 to 7 names a cog, and another one asks for a new cog (profile)
 abbrev pub cog_named : (id : ℕ) → Option ℕ
 cog_named id = if nat_lt id 8 then Some id else None
 
@@ -53,7 +53,7 @@ cog_named id = if nat_lt id 8 then Some id else None
 abbrev pub new_cog : ℕ
 new_cog = 2 ^ 32 - 1
 
--- the low 16 bits of a value with bits 1 and 0 cleared
+-- the low 16 bits of a value with bits 1 and 0 cleared (profile)
 abbrev pub long_address : (value : ℕ) → ℕ
 long_address value = value % 2 ^ 16 / 4 * 4
 
@@ -61,7 +61,7 @@ long_address value = value % 2 ^ 16 / 4 * 4
 abbrev pub starts_pasm : (id code par : ℕ) → Gives ℕ
 starts_pasm id code par go = asks (CogInit (cog_named id) (Pasm (long_address code) (long_address par))) go
 
--- ---- waits for pins, of which there is port 0 alone
+-- ---- waits for pins, of which there is port 0 alone: another one halts (profile)
 
 abbrev pub waits_for : (port : ℕ) → Test → Rest → Rest
 waits_for port test go = if port == 0 then tells (Wait test) go else halts Why.Port

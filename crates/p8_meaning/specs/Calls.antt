@@ -1,6 +1,5 @@
 -- Calls, and starts of methods in a cog.
--- Sources: the Propeller Manual v1.2, "PUB", "RETURN", "ABORT", "COGNEW" and "COGINIT" of the Spin chapter; the greatest depth of calls is
--- this project's profile.
+-- Sources: the Propeller Manual v1.2, "PUB", "RETURN", "ABORT", "COGNEW" and "COGINIT" of the Spin chapter.
 use Rattle.std.specs.Prelude.{ℕ, ◌+◌, ◌*◌, ◌%◌, ◌^◌, nat_lt, Bool, List, length, Option, if◌then◌else◌}
 use Rattle.p8_access.specs.declared.kinds.Width.TheVariants.{Long}
 use Rattle.p8_access.specs.declared.kinds.Origin.TheVariants.{Spin}
@@ -13,7 +12,7 @@ use Rattle.p8_meaning.specs.Builtins.{cog_named, long_address}
 
 -- ---- what a method gives
 
--- a value, or its RESULT, which is read where the value is used and nowhere else
+-- a value, or its RESULT, which is read where the value is used and nowhere else (profile)
 pub data Returned : Type 0 where
   Value : (value : ℕ) → Returned
   Result : (frame : ℕ) → Returned
@@ -29,15 +28,16 @@ uses (Result frame) go = reads Long frame go
 abbrev pub Callee : Type 0
 Callee = Target → List ℕ → (frame active : ℕ) → (Returned → Rest) → (Returned → Rest) → Rest
 
--- A call begins the frame of the new method where the frame at hand ends. It takes one of the bound. With `\` it stops an abort, whose
--- value it then has. At most 128 methods are active.
+-- A call begins the frame of the new method where the frame at hand ends (profile). It takes one of the bound, once it is known to be made.
+-- With `\` it stops an abort, whose value it then has. At most 128 methods are active (profile).
 abbrev pub calls : Callee → Scope → (stops : Bool) → Option Target → List ℕ → (return abort : Returned → Rest) → Rest
 calls callee s stops target arguments return abort =
     given target (λ t.
     if nat_lt s.active 128 then costs (callee t arguments s.frame_end (s.active + 1) return (if stops then return else abort))
     else halts Why.Deep)
 
--- A call of an object's method: the index of the instance is below their number, and 0 where none is written.
+-- A call of an object's method: the index of the instance is below their number, and 0 where none is written. Another index halts
+-- (profile), before it is looked at how many methods are active.
 abbrev pub calls_object : Callee → Scope → (stops : Bool) → (item position count index : ℕ) → (method : List ℕ) → List ℕ → (return abort : Returned → Rest) → Rest
 calls_object callee s stops item position count index method arguments return abort =
     if nat_lt index count then calls callee s stops (object_target s item (position + index) method) arguments return abort
@@ -49,7 +49,8 @@ calls_object callee s stops item position count index method arguments return ab
 abbrev pub method_of : File → (number : ℕ) → Option MethodTree
 method_of file number = numbered (methods_of file.source) number
 
--- COGNEW and COGINIT of a method of the same object: the arguments are written after the new frame's result, and the cog is started
+-- COGNEW and COGINIT of a method of the same object: the frame is at the stack's address; the arguments are written after its result, and
+-- the cog is started (profile)
 abbrev pub starts_method : Scope → (id : ℕ) → Option Target → List ℕ → (stack : ℕ) → Gives ℕ
 starts_method s id target arguments stack go =
     given target (λ t. given (method_of s.file t.method) (λ m.

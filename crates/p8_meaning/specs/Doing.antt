@@ -66,7 +66,7 @@ tells access go = asks access (λ word. go)
 abbrev pub aligned : Width → (address : ℕ) → ℕ
 aligned width address = address % 2 ^ 16 / bytes_in width * bytes_in width
 
--- ROM, from $8000 on, can't be read
+-- ROM, from $8000 on, can't be read: the cog halts in place of the read (profile)
 abbrev pub is_readable : Width → (address : ℕ) → Bool
 is_readable width address = nat_lt (aligned width address) 32768
 

@@ -15,7 +15,8 @@ use Rattle.p8_meaning.specs.Variables.{Location, Pins, element, named, part, add
 use Rattle.p8_meaning.specs.Builtins.{new_cog, starts_pasm, does_none, does_one, does_two, does_three}
 use Rattle.p8_meaning.specs.Calls.{Callee, Returned, uses, calls, calls_object, starts_method}
 
--- ---- LOOKUP and LOOKDOWN: an item is tried with the count of its first value
+-- ---- LOOKUP and LOOKDOWN: an item is tried with the count of its first value. Items are evaluated up to the first that has what is looked
+-- for (profile).
 
 -- LOOKUP finds the value whose count is looked for
 abbrev pub looks_up : (wanted count value : ℕ) → (found none : ℕ → Rest) → Rest
@@ -64,7 +65,7 @@ module _ (callee : Callee) (s : Scope) (abort : Returned → Rest) where
       calls_object callee s stops item position count number method arguments go abort
   calls_of_object stops _ number method arguments go = untold
 
-  -- the arguments come before the index of the object
+  -- the arguments come before the index of the object (profile)
   abbrev pub makes_call : (stops : Bool) → (object : Option (List ℕ)) (method : List ℕ) → (arguments : Gives (List ℕ)) (number : Gives ℕ) → Gives Returned
   makes_call stops None method arguments number go = arguments (λ values. calls_own stops (kind_of s method) values go)
   makes_call stops (Some object) method arguments number go =
@@ -119,7 +120,7 @@ module _ (callee : Callee) (s : Scope) (abort : Returned → Rest) where
     evaluates_variable (Memory size e i place) go = evaluates e (λ address. indexes i (λ number. fetches s (element size address number) go))
     evaluates_variable (Register register x place) go = selects register x (λ pins. fetches s pins go)
 
-    -- where a variable is: its address comes first, and then its index
+    -- where a variable is: its address comes first, and then its index. An assignment's right side comes before both (profile).
     pub locates : Variable → Gives Location
     locates (Named name i place) go = indexes i (λ number. go (named s name number))
     locates (Part name size i place) go = indexes i (λ number. go (part s name size number))
@@ -160,7 +161,7 @@ module _ (callee : Callee) (s : Scope) (abort : Returned → Rest) where
     begins id (node place (Var (Named name no_index at))) first second go = begins_name id name (kind_of s name) first second go
     begins id e first second go = begins_pasm id first second go
 
-    -- the items of a LOOK are evaluated in order, up to the first that has what is looked for; `none` follows with the count after them
+    -- the items of a LOOK are evaluated in order, up to the first that has what is looked for (profile); `none` follows with the count after them
     pub looks : (up : Bool) (wanted : ℕ) → Items → (found none : ℕ → Rest) → (count : ℕ) → Rest
     looks up wanted no_items found none count = none count
     looks up wanted (items ▸ item) found none count = looks up wanted items found (looks_at up wanted item found none) count

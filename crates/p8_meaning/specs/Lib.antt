@@ -1,4 +1,5 @@
 -- What the source of a project means: what each of its methods does, as accesses and their answers. Each file is a chapter.
+-- What is marked (profile) is this project's rule where the Manual leaves it open or the machine differs; all else is the Manual's.
 pub mod Values
 pub mod Programs
 pub mod Doing

@@ -16,8 +16,8 @@ use Rattle.p8_meaning.specs.Statements.{executes_all}
 
 -- ---- methods
 
--- a method begins with a frame, whose result is 0 and whose first parameters are its arguments; its locals have what stands there. The
--- end of its body is a RETURN.
+-- a method begins with a frame: 0 is written to its result and then its arguments to its first parameters (profile); its locals have what
+-- stands there. The end of its body is a RETURN.
 abbrev pub begins : (most : ℕ) → Callee → Scope → MethodTree → List ℕ → (return abort : Returned → Rest) → Rest
 begins most callee s m arguments return abort =
     writes_longs s.frame (0 ∷ arguments) (executes_all most callee s return abort m.body untold untold (return (Result s.frame)))
@@ -46,7 +46,7 @@ meaning (suc most) program addresses par target arguments frame active return ab
 
 -- ---- lives
 
--- a cog whose first method returns, or that nothing stops in an abort, stops itself
+-- a cog whose first method returns, or that nothing stops in an abort (profile), stops itself
 abbrev pub stops : (cog : ℕ) → Returned → Rest
 stops cog returned = tells (CogStop cog) untold
 

@@ -25,7 +25,7 @@ module _ (most : ℕ) (callee : Callee) (s : Scope) (return abort : Returned →
   abbrev pub decides : (negated : Bool) → Tree → (met unmet : Rest) → Rest
   decides negated e met unmet = value_of e (λ value. if holds negated value then met else unmet)
 
-  -- the items of an arm of CASE are evaluated in order up to the first that fits; a range fits in either order of its ends
+  -- the items of an arm of CASE are evaluated in order up to the first that fits (profile); a range fits in either order of its ends
   abbrev pub fits : (value : ℕ) → Item → (met unmet : Rest) → Rest
   fits value (single e) met unmet = value_of e (λ x. if value == x then met else unmet)
   fits value (range e f) met unmet = value_of e (λ low. value_of f (λ high. if is_between value low high then met else unmet))
@@ -40,18 +40,18 @@ module _ (most : ℕ) (callee : Callee) (s : Scope) (return abort : Returned →
   step_of None go = go 1
   step_of (Some e) go = value_of e go
 
-  -- the counter is stepped and written, and the loop goes on where its new value, before it is reduced to the counter's size, lies between
-  -- the ends
+  -- the counter is read, stepped and written, and the loop goes on where its new value, before it is reduced to the counter's size, lies
+  -- between the ends (profile)
   abbrev pub steps : (counter : Location) (by from to : ℕ) → (again go : Rest) → Rest
   steps counter by from to again go =
       fetches s counter (λ old. stores counter (stepped old by from to) (if is_between (stepped old by from to) from to then again else go))
 
-  -- the step and both ends are evaluated anew
+  -- the step and both ends are evaluated anew, in this order (profile)
   abbrev pub ends_pass : (counter : Location) (from to : Tree) → Option Tree → (again go : Rest) → Rest
   ends_pass counter from to step again go =
       step_of step (λ by. value_of from (λ a. value_of to (λ b. steps counter by a b again go)))
 
-  -- ---- loops: NEXT goes to where a pass ends, and QUIT after the loop
+  -- ---- loops: NEXT goes to where a pass ends, and QUIT after the loop. A count is unsigned and evaluated once (profile).
 
   abbrev pub repeats : Course → (body : Body) → Rest → Rest
   repeats Forever body go = passes most (λ again. body again go again)

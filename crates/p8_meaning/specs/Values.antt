@@ -32,11 +32,11 @@ toward a b far = if is_at_most a b then sum_of a far else difference a far
 abbrev pub holds : (negated : Bool) (value : ℕ) → Bool
 holds negated value = if negated then value == 0 else not (value == 0)
 
--- the counter of a REPEAT with FROM, TO and STEP after a pass: it goes up where `from` is at most `to`, else down
+-- the counter of a REPEAT with FROM, TO and STEP after a pass: it goes up where `from` is at most `to`, signed, else down (profile)
 abbrev pub stepped : (value by from to : ℕ) → ℕ
 stepped value by from to = if is_at_most from to then sum_of value by else difference value by
 
--- the count of a FILL or a MOVE: one that is negative is 0
+-- the count of a FILL or a MOVE: one that is negative is 0 (profile)
 abbrev pub count_of : (value : ℕ) → ℕ
 count_of value = if nat_lt value (2 ^ 31) then value else 0
 
@@ -73,7 +73,7 @@ abbrev pub extended : (bits value : ℕ) → ℕ
 extended bits value =
     if nat_lt (value % 2 ^ bits) (2 ^ (bits - 1)) then value % 2 ^ bits else value % 2 ^ bits + (2 ^ 32 - 2 ^ bits)
 
--- `~` and `~~` before a variable; `++`; `--`; a unary operator E0 + k that stands alone with it, as 40 + k
+-- `~` and `~~` before a variable, which write it (profile); `++`; `--`; a unary operator E0 + k that stands alone with it, as 40 + k
 abbrev pub changed : (change value : ℕ) → ℕ
 changed change value =
     if change == 0x10 then extended 8 value

@@ -28,7 +28,8 @@ width_of size = if size == 1 then Byte else if size == 2 then Word else Long
 abbrev pub element : (size address number : ℕ) → Location
 element size address number = Hub (width_of size) ((address + number * bytes_in (width_of size)) % 2 ^ 16)
 
--- ---- names: RESULT, parameters and locals are longs of the method's frame, variables of VAR and labels of DAT belong to the object
+-- ---- names: RESULT, parameters and locals are longs of the method's frame, in this order (profile); variables of VAR and labels of DAT
+-- belong to the object
 
 abbrev pub size_of_kind : Option NameKind → ℕ
 size_of_kind (Some (Global size offset)) = size
@@ -60,7 +61,7 @@ abbrev pub address_at : Location → ℕ
 address_at (Hub width address) = address
 address_at (Pins register high low) = 0
 
--- ---- registers: OUTA and DIRA are the cog's own and PAR is its first frame; INA and CNT are asked of the machine
+-- ---- registers: OUTA and DIRA are the cog's own and PAR is its first frame (profile); INA and CNT are asked of the machine
 
 abbrev pub own_word : (par register : ℕ) → Registers → ℕ
 own_word par register own =
@@ -101,7 +102,8 @@ abbrev pub reduced : Location → (value : ℕ) → ℕ
 reduced (Hub width address) value = value % 256 ^ bytes_in width
 reduced (Pins register high low) value = bit_and value (ones (pins_in high low))
 
--- an operator with `=`: the variable is read, the operator's value is written, and given as far as the variable holds it
+-- an operator with `=`: the variable is read after its right side is known (profile), the operator's value is written, and given as far as the
+-- variable holds it
 abbrev pub assigns_by : Scope → (operator : ℕ) → Location → (right : ℕ) → Gives ℕ
 assigns_by s operator place right go =
     fetches s place (λ old. stores place (binary_value operator old right) (go (reduced place (binary_value operator old right))))
@@ -122,7 +124,7 @@ changes s change place go =
     else if change == 0x1C then replaces s place (2 ^ 32 - 1) go
     else fetches s place (λ old. stores place (changed change old) (go (reduced place (if gives_old change then old else changed change old))))
 
--- one whose value isn't used: `~` and `~~` after a variable don't read it then
+-- one whose value isn't used: `~` and `~~` after a variable don't read it then (profile)
 abbrev pub changes_alone : Scope → (change : ℕ) → Location → Rest → Rest
 changes_alone s change place go =
     if change == 0x18 then stores place 0 go
