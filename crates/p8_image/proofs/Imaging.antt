@@ -100,7 +100,7 @@ met : (length sum : ℕ) (h : Header) → 16 ≤ length → length ≤ 32768 →
     → h.pbase ≡ 16 → h.vbase ≡ length → h.vbase + 8 ≤ h.dbase → h.dbase ≤ 32764 → h.dbase % 4 ≡ 0 → 24 ≤ h.pcurr → h.pcurr < h.vbase
     → h.dbase + 4 ≤ h.dcurr → h.dcurr ≤ 32768 → h.dcurr % 4 ≡ 0
     → first_unmet ((nat_le 16 length && nat_le length 32768 && length % 4 == 0, BadLength length) ∷
-    (sum % 256 == 0x14, BadChecksum (sum % 256)) ∷ header_demands h length) ≡ None
+    (sum % 256 == 0x14, BadChecksum (sum % 256)) ∷ header_demands h (h.vbase == length)) ≡ None
 met length sum h a b c d e f g i j k l m n o = grind (arith, nat_tests)
 
 -- all demands on an image are met
@@ -111,7 +111,7 @@ pub no_fault : (bytes : List ℕ) (h : Header) → 16 ≤ length bytes → lengt
 no_fault bytes h a b c d e f g i j k l m n o p =
     ap (λ (header : Header). first_unmet
     ((nat_le 16 (length bytes) && nat_le (length bytes) 32768 && length bytes % 4 == 0, BadLength (length bytes)) ∷
-    (sum bytes % 256 == 0x14, BadChecksum (sum bytes % 256)) ∷ header_demands header (length bytes))) p
+    (sum bytes % 256 == 0x14, BadChecksum (sum bytes % 256)) ∷ header_demands header (header.vbase == length bytes))) p
     ∙ met (length bytes) (sum bytes) h a b c d e f g i j k l m n o
 
 multiple_in_map : {A : Type 0} (f : A → ℕ) → ((x : A) → f x % 4 ≡ 0) → (xs : List A) (i : ℕ) → slice_index (map f xs) i % 4 ≡ 0
@@ -198,7 +198,7 @@ placed (top ∷ objects) main fits =
 abbrev header : (pbase vbase dbase pcurr dcurr : ℕ) → Header
 header pbase vbase dbase pcurr dcurr = record { pbase = pbase; vbase = vbase; dbase = dbase; pcurr = pcurr; dcurr = dcurr }
 
-same_header : (a b c d e v w x y z : ℕ) → a ≡ v → b ≡ w → c ≡ x → d ≡ y → e ≡ z
+pub same_header : (a b c d e v w x y z : ℕ) → a ≡ v → b ≡ w → c ≡ x → d ≡ y → e ≡ z
     → header a b c d e ≡ header v w x y z
 same_header a b c d e v w x y z p q r s t =
     ap (λ (n : ℕ). header n b c d e) p ∙ ap (λ (n : ℕ). header v n c d e) q ∙ ap (λ (n : ℕ). header v w n d e) r

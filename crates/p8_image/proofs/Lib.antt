@@ -5,3 +5,4 @@ mod Depths
 mod Imaging
 mod Placing
 mod Standing
+pub mod Memories

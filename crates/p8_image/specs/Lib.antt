@@ -8,3 +8,4 @@ pub mod Projects
 pub mod Places
 -- Internal.
 pub mod Keeping
+pub mod Images

@@ -1,7 +1,7 @@
 // The image of a project.
-ghost use Rattle.std.specs.Prelude.{◌≡◌, ◌<◌, ◌≤◌, ◌+◌, ◌-◌, ◌%◌, ◌++◌, length, map, sum, slice_set, IfOk, OnOk, IfErr, IfSome, IfNone};
+ghost use Rattle.std.specs.Prelude.{◌≡◌, ◌<◌, ◌≤◌, ◌+◌, ◌++◌, length, map, IfOk, OnOk, IfErr, IfSome, IfNone};
 ghost use Rattle.p8_image.specs.Keeping.{kept};
-ghost use Rattle.p8_image.specs.Loading.{IsImage};
+ghost use Rattle.p8_image.specs.Loading.{IsImage, image_in};
 ghost use Rattle.p8_image.specs.Layout.{word, variables_of, header_by, frame_size, header_bytes, bytes_with, image_of};
 ghost use Rattle.p8_image.specs.Projects.{BeginsWithMain, FitsHub, IsTooLarge};
 
@@ -9,7 +9,7 @@ use crate::bytes::{number_at, push_objects, push_word};
 use crate::clocks::Clock;
 use crate::faults::TooLarge;
 use crate::header::Header;
-use crate::image::{CHECKSUM, Image, checksum};
+use crate::image::{Image, finished};
 use crate::parts::{MethodPart, ObjectPart};
 use crate::plan::{FIRST_BASE, bases, variables, variables_base};
 use crate::sizes::codes_offset;
@@ -76,25 +76,6 @@ fn push_header(out: &mut Vec<u8>, clock: Clock, header: Header) -> Result<(), No
     Ok(())
 }
 
-/// The last eight bits of the number that makes these bytes add to $14.
-fn checksum_for(bytes: &[u8]) -> u8
-    requires { length bytes.now ≤ 32768 }
-    ensures { result ≡ (0x14 + 256 - sum bytes.now % 256) % 256 }
-{
-    CHECKSUM.wrapping_sub(checksum(bytes))
-}
-
-/// An image with the checksum that makes all bytes add to $14, of one that has 0 in its place.
-fn finished(mut bytes: Vec<u8>) -> Vec<u8>
-    requires header { 16 ≤ length bytes.items }
-    requires hub { length bytes.items ≤ 32768 }
-    ensures { result.items ≡ slice_set bytes.items 5 ((0x14 + 256 - sum bytes.items % 256) % 256) }
-{
-    let checksum = checksum_for(&bytes);
-    bytes[5] = checksum;
-    bytes
-}
-
 /// The image of a project, whose objects stand in the order of its files, the top file's first.
 ///
 /// Each object stands in the hub once: its table, its DAT bytes, the codes of its methods and its texts. The checksum makes all bytes
@@ -105,7 +86,7 @@ fn finished(mut bytes: Vec<u8>) -> Vec<u8>
 /// `Refused` exactly where the first frame would end after the hub's 32,768 bytes; `NoMemory` where there is no memory for the image.
 pub fn layout(alloc: Global, clock: Clock, objects: &[ObjectPart]) -> Result<Image, Fail<TooLarge>>
     requires { BeginsWithMain objects.now }
-    ensures image { IfOk result (λ image. image ≡ image_of clock objects.now) }
+    ensures image { IfOk result (λ image. image ≡ image_in (image_of clock objects.now)) }
     ensures fits { OnOk result (FitsHub (header_by objects.now)) }
     ensures refused { IfErr result (IsTooLarge (header_by objects.now)) }
 {

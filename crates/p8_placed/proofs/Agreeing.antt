@@ -22,7 +22,7 @@ use Rattle.p8_placed.proofs.Alike.{value-alike}
 use Rattle.p8_placed.proofs.OwnSettings.{own-alike}
 use Rattle.p8_placed.proofs.Constants.{value-word}
 use Rattle.p8_placed.proofs.Files.{IsThere, object-at}
-use Rattle.p8_placed.proofs.Images.{Lies}
+use Rattle.p8_image.proofs.Memories.{Lies}
 use Rattle.p8_placed.proofs.Instances.{IsProject, compiled-at}
 use Rattle.p8_placed.proofs.Texts.{near-texts, text-is, kind-in-method}
 use Rattle.p8_placed.proofs.Results.{no-result}

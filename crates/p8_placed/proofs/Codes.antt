@@ -21,7 +21,8 @@ use Rattle.p8_templates.proofs.Lengths.{method-measured}
 use Rattle.p8_build.specs.Parts.{text_number, use_of_text}
 use Rattle.p8_placed.proofs.Linking.{zeros, same, twins}
 use Rattle.p8_placed.proofs.Linked.{linked-is, used}
-use Rattle.p8_placed.proofs.Images.{Lies, code-is, drop-is}
+use Rattle.p8_image.proofs.Memories.{Lies}
+use Rattle.p8_placed.proofs.Images.{code-is, drop-is}
 
 module _ (strings : List (Place × List ℕ)) (offsets : List ℕ) where
   abbrev pub text : Place → ℕ

@@ -34,7 +34,7 @@ use Rattle.p8_build.specs.Builds.{objects_of}
 use Rattle.p8_placed.specs.Agreements.{names_of}
 use Rattle.p8_placed.proofs.Tables.{stands-fits}
 use Rattle.p8_placed.proofs.Files.{IsThere, object-at}
-use Rattle.p8_placed.proofs.Images.{Lies}
+use Rattle.p8_image.proofs.Memories.{Lies}
 use Rattle.p8_placed.proofs.Instances.{IsProject, compiled-at, counts-of}
 
 -- ---- elements

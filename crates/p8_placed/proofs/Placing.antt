@@ -21,7 +21,7 @@ use Rattle.p8_placed.specs.Programs.{file_of, program_of, addresses_of, instance
 use Rattle.p8_placed.proofs.Tables.{stands-fits, TableSays, table-says}
 use Rattle.p8_placed.proofs.Files.{file-of, object-at}
 use Rattle.p8_placed.proofs.Counting.{element}
-use Rattle.p8_placed.proofs.Images.{Lies, stands-in, memory-length}
+use Rattle.p8_image.proofs.Memories.{Lies, stands-in, memory-length}
 use Rattle.p8_placed.proofs.Instances.{IsProject, IsInner, inner-of}
 
 places-low : {A : Type 0} (size : A → ℕ) (p : ℕ) (xs : List A) (i : ℕ) (x : A) → slice_get xs i ≡ Some x → p ≤ slice_index (places_from size p xs) i

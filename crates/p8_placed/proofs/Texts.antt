@@ -23,7 +23,7 @@ use Rattle.p8_build.specs.Builds.{objects_of}
 use Rattle.p8_placed.specs.Programs.{kind_by, of_file, addresses_of}
 use Rattle.p8_placed.proofs.Tables.{stands-fits}
 use Rattle.p8_placed.proofs.Files.{IsThere, object-at}
-use Rattle.p8_placed.proofs.Images.{Lies}
+use Rattle.p8_image.proofs.Memories.{Lies}
 use Rattle.p8_placed.proofs.OwnKinds.{number_by, number-is}
 use Rattle.p8_placed.proofs.Placing.{of-file}
 

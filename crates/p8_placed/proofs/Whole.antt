@@ -50,7 +50,8 @@ use Rattle.p8_placed.proofs.Tables.{stands-fits}
 use Rattle.p8_placed.proofs.Definitions.{same-bytes}
 use Rattle.p8_placed.proofs.Files.{IsThere, file-of, program-at, object-at, method-place, method-there}
 use Rattle.p8_placed.proofs.Counting.{element, part-at}
-use Rattle.p8_placed.proofs.Images.{Lies, frame-whole}
+use Rattle.p8_image.proofs.Memories.{Lies}
+use Rattle.p8_placed.proofs.Images.{frame-whole}
 use Rattle.p8_placed.proofs.Codes.{has-code}
 use Rattle.p8_placed.proofs.Instances.{IsProject, compiled-at, counts-of}
 use Rattle.p8_placed.proofs.Placing.{of-file, between, base-high, IsAt, says, is-at, object-placed}
