@@ -21,6 +21,7 @@ use Rattle.p8_image.specs.declared.parts.MethodPart.{MethodPart}
 use Rattle.p8_image.specs.declared.parts.ObjectPart.{ObjectPart}
 use Rattle.p8_image.specs.Clocks.{clock_of}
 use Rattle.p8_image.specs.Layout.{header_by, image_of}
+use Rattle.p8_image.specs.Loading.{image_in}
 use Rattle.p8_image.specs.Projects.{FitsHub}
 use Rattle.p8_stmt.specs.declared.code.MethodCode.{MethodCode}
 use Rattle.p8_build.specs.declared.building.Built.{Built}
@@ -135,7 +136,7 @@ pub record IsFinished (told : Option Clock) (objects : List ObjectPart) (b : Bui
   pub clock : Clock
   pub is : told ≡ Some clock
   pub fits : FitsHub (header_by objects)
-  pub image : b.image ≡ image_of clock objects
+  pub image : b.image ≡ image_in (image_of clock objects)
 
 abbrev pub IfFirstImageFault : List ObjectPart → Option Clock → Fail Fault → Type 0
 IfFirstImageFault objects clock fail = IfFault (IsFirstFault (IsImageFault objects clock)) fail

@@ -3,7 +3,7 @@ ghost use Rattle.std.specs.Prelude.{◌≡◌, ◌≤◌, ◌<◌, length, map, 
 ghost use Rattle.p8_tree.specs.Views.{named_sources_of, named_source_of};
 ghost use Rattle.p8_children.specs.Mentions.{HaveMentioned, HaveNoRing};
 ghost use Rattle.p8_build.specs.Parts.{AreProper, most_files};
-ghost use Rattle.p8_build.specs.Told.{IsBuiltTo, IsImageOf, IsRefusal};
+ghost use Rattle.p8_build.specs.Told.{IsBuiltTo, IsImageBuilt, IsRefusal};
 ghost use Rattle.p8_build.specs.Phases.{IsBuiltBy, IfFirstRefused};
 
 use crate::assembling::assemble_all;
@@ -65,7 +65,7 @@ pub fn build(alloc: Global, project: &Project) -> Result<Image, BuildFault>
     requires mentioned { HaveMentioned (named_sources_of project.now) }
     requires no_ring { HaveNoRing (named_sources_of project.now) }
     requires proper { AreProper (named_sources_of project.now) }
-    ensures built { IfOk result (IsImageOf (named_sources_of project.now)) }
+    ensures built { IfOk result (IsImageBuilt (named_sources_of project.now)) }
     ensures refused { IfErr result (IsRefusal (named_sources_of project.now)) }
 {
     let Built { image, objects } = build_parts(alloc, project)?;
