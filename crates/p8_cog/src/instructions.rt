@@ -11,7 +11,8 @@ ghost use Rattle.p8_cog.specs.Stops.{ComesTo, Keeps, IsMadeIn, IsMadeIf, is_aski
 use crate::ending::Ending;
 use crate::hub::{Request, answered, hub_request, is_last, plain_effect};
 use crate::kind::{
-    CTRA, DIRA, DJNZ, JMPRET, Kind, OUTA, TJZ, WAITCNT, WAITPEQ, WAITPNE, kind_of, source_access,
+    CTRA, DIRA, DJNZ, JMPRET, Kind, OUTA, TJZ, WAITCNT, WAITPEQ, WAITPNE, asks_for_source,
+    executed_kind, kind_of, source_access,
 };
 use crate::state::State;
 use p8_access::{Access, Reason, Test, Turn, window};
@@ -19,7 +20,7 @@ use p8_alu::Effect;
 use p8_instr::{Instr, decode};
 
 /// The address in a cog that a value is taken as.
-#[inline]
+#[inline(always)]
 fn address_in(value: u32) -> u16
     ensures address { result ≡ value % 512 }
     ensures below { result < 512 }
@@ -28,7 +29,7 @@ fn address_in(value: u32) -> u16
 }
 
 /// Whether DJNZ, TJNZ or TJZ jumps.
-#[inline]
+#[inline(always)]
 fn jumps(opcode: u8, value: u32) -> bool
     ensures { result ≡ jumps opcode value }
 {
@@ -57,7 +58,7 @@ fn register_access(register: u16, value: u32) -> Option<Access>
 }
 
 /// The access that a result makes where it is written.
-#[inline]
+#[inline(always)]
 fn result_access(i: Instr, value: u32) -> Option<Access>
     ensures access { result ≡ result_access i value }
     ensures made { IsMadeIf result }
@@ -71,7 +72,7 @@ fn result_access(i: Instr, value: u32) -> Option<Access>
 }
 
 /// How an instruction stands at the write of its result: it is whole where that may be done.
-#[inline]
+#[inline(always)]
 fn written(i: Instr, cog: u8, value: u32, clock: u64, had: &[Turn]) -> Ending
     ensures comes { (next : State) → ComesTo (played (written_by (result_access i value) cog clock next) had.now) result next }
     ensures made { IsMadeIn result }
@@ -122,7 +123,7 @@ fn wait_effect(opcode: u8, value: u32, source: u32) -> Effect
 
 impl State {
     /// The address at which an instruction goes on that computes and isn't a tested jump.
-    #[inline]
+    #[inline(always)]
     fn plain_next(&self, i: Instr, source: u32) -> u16
         requires decoded { i ≡ at_hand self.now }
         requires at { self.now.at < 512 }
@@ -137,7 +138,7 @@ impl State {
     }
 
     /// Ends DJNZ, TJNZ or TJZ.
-    #[inline]
+    #[inline(always)]
     fn end_tested_jump(&mut self, i: Instr, source: u32, given: Effect)
         requires decoded { i ≡ at_hand self.old }
         requires fits { FitsFields i }
@@ -409,7 +410,7 @@ impl State {
     }
 
     /// Does an instruction that computes, and tells whether it did: it does nothing where it asks.
-    #[inline]
+    #[inline(always)]
     fn compute_apart(&mut self, i: Instr) -> bool
         requires decoded { i ≡ at_hand self.old }
         requires fits { FitsFields i }
@@ -423,7 +424,7 @@ impl State {
         ensures at { self.new.at < 512 }
         ensures clock { self.new.clock < 2 ^ 62 + 2 ^ 10 }
     {
-        if source_access(i).is_some() {
+        if asks_for_source(i) {
             return false;
         }
         let source = self.source_value(i);
@@ -438,7 +439,7 @@ impl State {
     /// Does the instruction at hand, and tells whether it did: it does nothing where it asks.
     ///
     /// So a loop of instructions holds no call that takes the state and comes back.
-    #[inline]
+    #[inline(always)]
     pub fn run_apart(&mut self) -> bool
         requires at { self.old.at < 512 }
         requires clock { self.old.clock < 2 ^ 62 }
@@ -449,13 +450,13 @@ impl State {
         ensures clock { self.new.clock < 2 ^ 62 + 2 ^ 10 }
     {
         let i = decode(self.long);
-        match kind_of(i, self.c, self.z) {
-            Kind::Skipped => {
-                self.pass();
-                true
-            }
+        if !self.executes(i) {
+            self.pass();
+            return true;
+        }
+        match executed_kind(i.opcode) {
             Kind::Computing => self.compute_apart(i),
-            Kind::OfHub | Kind::Waiting | Kind::Halting => false,
+            Kind::OfHub | Kind::Waiting | Kind::Halting | Kind::Skipped => false,
         }
     }
 }

@@ -1,5 +1,6 @@
 // How an instruction is carried out.
 ghost use Rattle.std.specs.Prelude.{◌≡◌, ◌<◌, ◌≤◌, ◌⊎◌};
+ghost use Rattle.std.specs.Option.{is_some};
 ghost use Rattle.p8_cog.specs.Instructions.{executed_kind, kind_of, width_of, source_access};
 ghost use Rattle.p8_cog.specs.Stops.{IsComputed, IsMadeIf};
 
@@ -70,8 +71,8 @@ fn other_kind(opcode: u8) -> Kind
 }
 
 /// How an instruction is carried out whose condition is met.
-#[inline]
-fn executed_kind(opcode: u8) -> Kind
+#[inline(always)]
+pub fn executed_kind(opcode: u8) -> Kind
     requires opcode { opcode < 64 }
     ensures kind { result ≡ executed_kind opcode }
     ensures computed { IsComputed result opcode }
@@ -84,7 +85,7 @@ fn executed_kind(opcode: u8) -> Kind
 }
 
 /// How an instruction is carried out under the flags C and Z.
-#[inline]
+#[inline(always)]
 pub fn kind_of(i: Instr, c: bool, z: bool) -> Kind
     requires opcode { i.opcode < 64 }
     ensures kind { result ≡ kind_of i c z }
@@ -98,7 +99,7 @@ pub fn kind_of(i: Instr, c: bool, z: bool) -> Kind
 }
 
 /// How wide the access of the opcodes 0 to 2 is.
-#[inline]
+#[inline(always)]
 pub fn width_of(opcode: u8) -> Width
     ensures { result ≡ width_of opcode }
 {
@@ -110,7 +111,7 @@ pub fn width_of(opcode: u8) -> Width
 }
 
 /// The access by which an instruction reads its source, where that is CNT or INA.
-#[inline]
+#[inline(always)]
 pub fn source_access(i: Instr) -> Option<Access>
     ensures access { result ≡ source_access i }
     ensures made { IsMadeIf result }
@@ -124,4 +125,13 @@ pub fn source_access(i: Instr) -> Option<Access>
     } else {
         None
     }
+}
+
+/// Whether an instruction reads its source by an access.
+#[inline(always)]
+pub fn asks_for_source(i: Instr) -> bool
+    ensures { result ≡ is_some (source_access i) }
+{
+    // Most instructions name a number or a general register.
+    !i.is_immediate() && i.source >= PAR && source_access(i).is_some()
 }

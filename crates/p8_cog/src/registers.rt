@@ -8,7 +8,7 @@ use std::marker::Model;
 /// The 512 longs of a cog: $000 to $1EF are general, $1F0 to $1FF are the shadows of the special ones.
 #[derive(Drop)]
 pub struct Registers {
-    longs: Vec<u32>,
+    longs: Box<[u32; 512]>,
 }
 
 impl Model for Registers {
@@ -16,9 +16,9 @@ impl Model for Registers {
 
     ghost Value = { List ℕ };
 
-    ghost view = { λ r. r.longs.items };
+    ghost view = { λ r. r.longs.value };
 
-    ghost invariant = { λ r. length r.longs.items ≡ 512 };
+    ghost invariant = { λ r. length r.longs.value ≡ 512 };
 }
 
 /// How many longs a cog loads.
@@ -37,16 +37,17 @@ fn clear_special(all: &mut [u32])
 impl Registers {
     /// Registers with 0 in each.
     pub fn new(alloc: Global) -> Result<Registers, NoMemory> {
-        let mut longs = Vec::new(alloc);
-        longs.resize(512, 0)?;
-        Ok(Registers { longs })
+        match Box::new(alloc, [0; 512]) {
+            Ok(longs) => Ok(Registers { longs }),
+            Err(_) => Err(NoMemory),
+        }
     }
 
     /// Puts 0 into the special registers, the last 16.
     pub fn clear_special(&mut self)
         ensures { self.new ≡ take 496 self.old ++ replicate 16 0 }
     {
-        clear_special(&mut self.longs);
+        clear_special(&mut self.longs[..]);
     }
 
     /// Writes a register after those that were loaded.
@@ -58,7 +59,7 @@ impl Registers {
     }
 
     /// The long in a register.
-    #[inline]
+    #[inline(always)]
     pub fn get(&self, register: u16) -> u32
         requires { register < 512 }
         ensures { result ≡ slice_index self.now register }
@@ -67,7 +68,7 @@ impl Registers {
     }
 
     /// Writes a register.
-    #[inline]
+    #[inline(always)]
     pub fn set(&mut self, register: u16, value: u32)
         requires { register < 512 }
         ensures { self.new ≡ slice_set self.old register value }
@@ -76,7 +77,7 @@ impl Registers {
     }
 
     /// Writes a register where the flag is set.
-    #[inline]
+    #[inline(always)]
     pub fn set_where(&mut self, flag: bool, register: u16, value: u32)
         requires { register < 512 }
         ensures { self.new ≡ (if flag then slice_set self.old register value else self.old) }

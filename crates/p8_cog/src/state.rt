@@ -2,6 +2,7 @@
 ghost use Rattle.std.specs.Prelude.{ℕ, ◌≡◌, ◌<◌, ◌≤◌, ◌+◌, ◌^◌, ◌++◌, ◌∷◌, [], take, if◌then◌else◌, IfOk, IfErr};
 ghost use Rattle.p8_access.specs.Lives.{IsMade};
 ghost use Rattle.p8_instr.specs.Instruction.{FitsFields};
+ghost use Rattle.p8_instr.specs.Conditions.{is_met};
 ghost use Rattle.p8_cog.specs.Replay.{at_hand, register_value, source_value, sourced, played, Asks, Course, destination_value, next_of, effect, fetched_before, fetched_after, passed, first_with};
 ghost use Rattle.p8_cog.specs.Stops.{left_with, latest};
 
@@ -10,7 +11,7 @@ use crate::kind::{INB, PAR, source_access};
 use crate::registers::{LOADED_LONGS, Registers};
 use p8_access::{Access, Turn};
 use p8_alu::{Effect, execute};
-use p8_instr::Instr;
+use p8_instr::{ALWAYS, FLAG_C, Instr};
 use p8_words::NoMemory;
 use std::alloc::Global;
 
@@ -33,7 +34,7 @@ pub struct State {
 }
 
 /// The one or the other.
-#[inline]
+#[inline(always)]
 fn flag_of(writes: bool, new: bool, old: bool) -> bool
     ensures { result ≡ (if writes then new else old) }
 {
@@ -96,6 +97,15 @@ impl State {
         self.z = false;
     }
 
+    /// Whether an instruction executes.
+    #[inline(always)]
+    pub fn executes(&self, i: Instr) -> bool
+        ensures { result ≡ is_met i.cond self.now.c self.now.z }
+    {
+        // Most instructions always execute.
+        i.cond == ALWAYS || i.is_met(self.c, self.z)
+    }
+
     /// The value of a special register in the source field.
     fn special_value(&self, register: u16) -> u32
         requires { register < 512 }
@@ -111,7 +121,7 @@ impl State {
     }
 
     /// The value of a source that isn't read by an access.
-    #[inline]
+    #[inline(always)]
     pub fn source_value(&self, i: Instr) -> u32
         requires decoded { i ≡ at_hand self.now }
         requires fits { FitsFields i }
@@ -146,7 +156,7 @@ impl State {
 
     /// The value of the source, and the turns that are left after its read; or the access that reads it
     /// and has had no turn.
-    #[inline]
+    #[inline(always)]
     pub fn source<'a>(&self, i: Instr, had: &'a [Turn]) -> Result<(u32, &'a [Turn]), Access>
         requires decoded { i ≡ at_hand self.now }
         requires fits { FitsFields i }
@@ -164,7 +174,7 @@ impl State {
     }
 
     /// The value of the destination.
-    #[inline]
+    #[inline(always)]
     pub fn destination_value(&self, i: Instr) -> u32
         requires decoded { i ≡ at_hand self.now }
         requires fits { FitsFields i }
@@ -174,7 +184,7 @@ impl State {
     }
 
     /// The next address.
-    #[inline]
+    #[inline(always)]
     pub fn next(&self) -> u16
         requires { self.now.at < 512 }
         ensures next { result ≡ next_of self.now }
@@ -198,19 +208,22 @@ impl State {
     }
 
     /// Goes on at an address and a clock with the long that was fetched, when the result is written.
-    #[inline]
+    #[inline(always)]
     fn go_on(&mut self, i: Instr, effect: Effect, at: u16, long: u32, clock: u64)
         ensures { self.new ≡ left_with self.old i effect at long clock }
     {
         self.at = at;
         self.long = long;
         self.clock = clock;
-        self.c = flag_of(i.writes_c(), effect.c, self.c);
-        self.z = flag_of(i.writes_z(), effect.z, self.z);
+        // Most instructions write no flag.
+        if i.flags >= FLAG_C {
+            self.c = flag_of(i.writes_c(), effect.c, self.c);
+            self.z = flag_of(i.writes_z(), effect.z, self.z);
+        }
     }
 
     /// Writes, and goes on with the long that stood at an address before.
-    #[inline]
+    #[inline(always)]
     pub fn fetch_and_write(&mut self, i: Instr, effect: Effect, at: u16, clock: u64)
         requires decoded { i ≡ at_hand self.old }
         requires fits { FitsFields i }
@@ -224,7 +237,7 @@ impl State {
     }
 
     /// Writes, and goes on with the long that stands at an address then.
-    #[inline]
+    #[inline(always)]
     pub fn write_and_fetch(&mut self, i: Instr, effect: Effect, at: u16, clock: u64)
         requires decoded { i ≡ at_hand self.old }
         requires fits { FitsFields i }
@@ -238,7 +251,7 @@ impl State {
     }
 
     /// Passes over an instruction.
-    #[inline]
+    #[inline(always)]
     pub fn pass(&mut self)
         requires at { self.old.at < 512 }
         requires clock { self.old.clock < 2 ^ 62 }
