@@ -18,7 +18,7 @@ pub struct Request {
 }
 
 /// A result with the flag C, where Z says whether it is 0.
-#[inline]
+#[inline(always)]
 pub fn plain_effect(value: u32, c: bool) -> Effect
     ensures { result ≡ plain_effect value c }
 {
@@ -30,6 +30,7 @@ pub fn plain_effect(value: u32, c: bool) -> Effect
 }
 
 /// The result and the flags by an answer.
+#[inline(always)]
 pub fn answered(kept: u32, answer: Answer) -> Effect
     ensures { result ≡ answered kept answer }
 {
@@ -43,6 +44,7 @@ pub fn answered(kept: u32, answer: Answer) -> Effect
 }
 
 /// The value that an answer carries for a register.
+#[inline(always)]
 pub fn value_in(answer: Answer) -> u32
     ensures { result ≡ value_of answer }
 {
@@ -53,6 +55,7 @@ pub fn value_in(answer: Answer) -> u32
 }
 
 /// Whether a life is over by the turn of an access.
+#[inline(always)]
 pub fn is_last(cog: u8, access: Access) -> bool
     ensures { result ≡ is_last cog access }
 {
@@ -64,6 +67,7 @@ pub fn is_last(cog: u8, access: Access) -> bool
 }
 
 /// A hub address, rounded down to a multiple of its bytes.
+#[inline(always)]
 fn aligned(source: u32, width: Width) -> u16
     ensures address { result ≡ hub_address source width }
     ensures aligned { IsAligned width result }
@@ -76,6 +80,7 @@ fn aligned(source: u32, width: Width) -> u16
 }
 
 /// A value reduced to a width.
+#[inline(always)]
 fn reduced(value: u32, width: Width) -> u32
     ensures reduced { result ≡ value % 256 ^ bytes_in width }
     ensures below { IsReduced width result }
@@ -88,6 +93,7 @@ fn reduced(value: u32, width: Width) -> u32
 }
 
 /// A read of hub memory, which is a halt in ROM, from $8000 on.
+#[inline(always)]
 fn read_access(width: Width, address: u16) -> Access
     requires { IsAligned width address }
     ensures access { result ≡ read_access width address }
@@ -103,6 +109,7 @@ fn read_access(width: Width, address: u16) -> Access
 }
 
 /// What CLKSET asks.
+#[inline(always)]
 fn mode_access(value: u32) -> Access
     ensures access { result ≡ mode_access value }
     ensures made { IsMade result }
@@ -119,6 +126,7 @@ fn mode_access(value: u32) -> Access
 }
 
 /// What COGINIT asks.
+#[inline(always)]
 fn start_access(value: u32) -> Access
     ensures access { result ≡ start_access value }
     ensures made { IsMade result }
@@ -140,6 +148,7 @@ fn start_access(value: u32) -> Access
 }
 
 /// What RDBYTE to WRLONG ask.
+#[inline(always)]
 fn move_request(i: Instr, width: Width, value: u32, source: u32) -> Request
     ensures request { result ≡ move_request i width value source }
     ensures made { IsMade result.access }
@@ -164,6 +173,7 @@ fn move_request(i: Instr, width: Width, value: u32, source: u32) -> Request
 }
 
 /// What HUBOP asks.
+#[inline(always)]
 fn operation_request(operation: u32, value: u32) -> Request
     requires { operation < 8 }
     ensures request { result ≡ operation_request operation value }
@@ -184,6 +194,7 @@ fn operation_request(operation: u32, value: u32) -> Request
 }
 
 /// What an instruction of the hub asks, by the values of its destination and its source.
+#[inline(always)]
 pub fn hub_request(i: Instr, value: u32, source: u32) -> Request
     ensures request { result ≡ hub_request i value source }
     ensures made { IsMade result.access }

@@ -41,6 +41,7 @@ fn jumps(opcode: u8, value: u32) -> bool
 }
 
 /// The access that a result makes in a register.
+#[inline(always)]
 fn register_access(register: u16, value: u32) -> Option<Access>
     ensures access { result ≡ register_access register value }
     ensures made { IsMadeIf result }
@@ -93,6 +94,7 @@ fn written(i: Instr, cog: u8, value: u32, clock: u64, had: &[Turn]) -> Ending
 }
 
 /// What WAITPEQ, WAITPNE or WAITCNT waits for.
+#[inline(always)]
 fn test_of(opcode: u8, value: u32, source: u32) -> Test
     ensures { result ≡ test_of opcode value source }
 {
@@ -110,6 +112,7 @@ fn test_of(opcode: u8, value: u32, source: u32) -> Test
 }
 
 /// What a wait leaves.
+#[inline(always)]
 fn wait_effect(opcode: u8, value: u32, source: u32) -> Effect
     ensures { result ≡ wait_effect opcode value source }
 {
@@ -179,6 +182,7 @@ impl State {
     }
 
     /// Does an instruction that computes, with the value of its source.
+    #[inline(always)]
     fn compute(&mut self, i: Instr, cog: u8, source: u32, had: &[Turn]) -> Ending
         requires decoded { i ≡ at_hand self.old }
         requires fits { FitsFields i }
@@ -204,6 +208,7 @@ impl State {
     }
 
     /// Ends an instruction after its access, with its result written at a clock.
+    #[inline(always)]
     fn end_after(&mut self, i: Instr, cog: u8, effect: Effect, clock: u64, had: &[Turn]) -> Ending
         requires decoded { i ≡ at_hand self.old }
         requires fits { FitsFields i }
@@ -228,6 +233,7 @@ impl State {
     }
 
     /// Does an instruction of the hub, with the value of its source.
+    #[inline(always)]
     fn use_hub(&mut self, i: Instr, cog: u8, source: u32, had: &[Turn]) -> Ending
         requires decoded { i ≡ at_hand self.old }
         requires fits { FitsFields i }
@@ -258,6 +264,7 @@ impl State {
     }
 
     /// Does a wait, with the value of its source.
+    #[inline(always)]
     fn wait(&mut self, i: Instr, cog: u8, source: u32, had: &[Turn]) -> Ending
         requires decoded { i ≡ at_hand self.old }
         requires fits { FitsFields i }
@@ -287,6 +294,7 @@ impl State {
     }
 
     /// How an instruction stands that halts.
+    #[inline(always)]
     fn halted(&self, reason: Reason, had: &[Turn]) -> Ending
         ensures comes { ComesTo (played (halt self.now.clock reason) had.now) result self.now }
         ensures made { IsMadeIn result }
@@ -301,6 +309,7 @@ impl State {
     }
 
     /// WAITPEQ or WAITPNE for the port that this machine doesn't have.
+    #[inline(always)]
     fn is_port_wait(&self, i: Instr) -> bool
         requires { i ≡ at_hand self.now }
         ensures { result ≡ is_port_wait self.now }
@@ -309,6 +318,7 @@ impl State {
     }
 
     /// How an instruction stands that isn't the hub's and is to read its source by an access.
+    #[inline(always)]
     fn asks_source(&self, access: Access) -> Ending
         requires { self.now.clock < 2 ^ 62 }
         ensures { result ≡ Half (self.now.clock + 2) access }
@@ -320,6 +330,7 @@ impl State {
     }
 
     /// Begins or goes on with a wait.
+    #[inline(always)]
     fn begin_wait(&mut self, i: Instr, cog: u8, had: &[Turn]) -> Ending
         requires decoded { i ≡ at_hand self.old }
         requires fits { FitsFields i }
@@ -342,6 +353,7 @@ impl State {
     }
 
     /// Begins or goes on with an instruction of the hub.
+    #[inline(always)]
     fn begin_hub(&mut self, i: Instr, cog: u8, had: &[Turn]) -> Ending
         requires decoded { i ≡ at_hand self.old }
         requires fits { FitsFields i }
@@ -365,6 +377,7 @@ impl State {
     }
 
     /// Begins or goes on with an instruction that computes.
+    #[inline(always)]
     fn begin_computing(&mut self, i: Instr, cog: u8, had: &[Turn]) -> Ending
         requires decoded { i ≡ at_hand self.old }
         requires fits { FitsFields i }
@@ -385,6 +398,7 @@ impl State {
     }
 
     /// Goes as far with the instruction at hand as the turns bring it that its accesses have had.
+    #[inline(always)]
     pub fn advance(&mut self, cog: u8, had: &[Turn]) -> Ending
         requires at { self.old.at < 512 }
         requires cog { cog < 8 }

@@ -42,7 +42,7 @@ pub struct Ran {
 }
 
 /// An access that comes at a clock, if that is below `until`.
-#[inline]
+#[inline(always)]
 fn below(clock: u64, access: Access, until: u64) -> Next
     ensures { result ≡ (if nat_lt clock until then At clock access else Quiet) }
 {
@@ -54,6 +54,7 @@ fn below(clock: u64, access: Access, until: u64) -> Next
 }
 
 /// Tells the first access below a clock of an instruction that asks where it begins.
+#[inline(never)]
 fn first_below(state: &mut State, cog: u8, until: u64) -> Next
     requires at { state.old.at < 512 }
     requires cog { cog < 8 }
@@ -191,6 +192,7 @@ impl Progress {
     }
 
     /// The life is over; after its end nothing looks at the instruction.
+    #[inline(always)]
     fn close(&mut self, clock: u64)
         requires { clock < 2 ^ 62 }
         ensures had { self.new.had ≡ Nothing }
@@ -202,6 +204,7 @@ impl Progress {
     }
 
     /// Goes on with the instruction at hand by its first turn.
+    #[inline(always)]
     fn take_first(&mut self, cog: u8, turn: &Turn) -> Ending
         requires at { self.old.begun.at < 512 }
         requires cog { cog < 8 }
@@ -284,6 +287,7 @@ impl Progress {
     }
 
     /// Takes the turn of the access that the instruction at hand asked.
+    #[inline(always)]
     pub fn take(&mut self, cog: u8, turn: &Turn) -> Ending
         requires at { self.old.begun.at < 512 }
         requires cog { cog < 8 }

@@ -137,6 +137,7 @@ impl State {
     }
 
     /// The value of a source of a special register, as `source` gives it.
+    #[inline(always)]
     fn special_source<'a>(&self, i: Instr, had: &'a [Turn]) -> Result<(u32, &'a [Turn]), Access>
         requires decoded { i ≡ at_hand self.now }
         requires fits { FitsFields i }
