@@ -18,7 +18,8 @@ use Rattle.p8_cog.specs.declared.progress.Had.TheVariants.{Nothing, One, Two}
 use Rattle.p8_cog.specs.declared.progress.Progress.{Progress}
 use Rattle.p8_cog.specs.declared.stage.Stage.{Stage}
 use Rattle.p8_cog.specs.declared.stage.Stage.TheVariants.{Loading, Running, Over}
-use Rattle.p8_cog.specs.Replay.{instruction, played, Outcome, Asks, Goes, Ends, step, after, first_with, BeginsAt}
+use Rattle.p8_cog.specs.Instructions.{kind_of, source_access}
+use Rattle.p8_cog.specs.Replay.{at_hand, destination_value, source_value, hub_request, instruction, played, Outcome, Asks, Goes, Ends, step, after, first_with, BeginsAt}
 use Rattle.p8_cog.specs.Standing.{turns_of, running_at, standing_at, clock_of}
 
 -- what the processor computes has an opcode from 8 to 59
@@ -40,6 +41,12 @@ left_with s i e address long clock = record s {
 }
 
 -- ---- one instruction
+
+-- the instruction at hand is the hub's, no access reads its source, and this is its result where the answer holds
+-- no number
+abbrev pub IsAtHub : State → (kept : ℕ) → Type 0
+IsAtHub s kept =
+    (kind_of (at_hand s) s.c s.z ≡ OfHub) × (source_access (at_hand s) ≡ None) × (kept ≡ (hub_request (at_hand s) (destination_value s) (source_value s)).kept)
 
 -- the turns that are left where an instruction is done
 abbrev pub left_of : Outcome → List Turn

@@ -1,12 +1,14 @@
 // What each kind of instruction does, with the turns that its accesses have had.
-ghost use Rattle.std.specs.Prelude.{ℕ, true, false, None, [], ◌≡◌, ◌<◌, ◌≤◌, ◌+◌, ◌%◌, ◌^◌};
+ghost use Rattle.std.specs.Prelude.{ℕ, true, false, Some, None, IfSome, [], ◌∷◌, ◌≡◌, ◌<◌, ◌≤◌, ◌+◌, ◌%◌, ◌^◌};
 ghost use Rattle.p8_instr.specs.Instruction.{FitsFields};
 ghost use Rattle.p8_access.specs.Lives.{IsMade};
+ghost use Rattle.p8_access.specs.Windows.{window_of};
+ghost use Rattle.p8_cog.specs.Instructions.{source_access};
 ghost use Rattle.p8_cog.specs.declared.ending.Ending.TheVariants.{Half};
 ghost use Rattle.p8_cog.specs.declared.kind.Kind.TheVariants.{Computing, OfHub, Waiting};
 ghost use Rattle.p8_cog.specs.declared.state.State.{State};
-ghost use Rattle.p8_cog.specs.Replay.{at_hand, source_value, destination_value, effect, jumps, tested_jump, plain_next, computed, compute, register_access, result_access, written_by, ends_after, use_hub, is_port_wait, test_of, wait_effect, wait, halt, does, instruction, played, Goes};
-ghost use Rattle.p8_cog.specs.Stops.{ComesTo, Keeps, IsMadeIn, IsMadeIf, is_asking, latest};
+ghost use Rattle.p8_cog.specs.Replay.{at_hand, source_value, destination_value, effect, jumps, tested_jump, plain_next, computed, compute, register_access, result_access, written_by, ends_after, use_hub, is_port_wait, test_of, wait_effect, wait, halt, does, instruction, hub_request, played, Goes, Asks};
+ghost use Rattle.p8_cog.specs.Stops.{ComesTo, Keeps, IsMadeIn, IsMadeIf, IsAtHub, Comes, is_asking, latest};
 
 use crate::ending::Ending;
 use crate::hub::{Request, answered, hub_request, is_last, plain_effect};
@@ -420,6 +422,80 @@ impl State {
             Kind::OfHub => self.begin_hub(i, cog, had),
             Kind::Waiting => self.begin_wait(i, cog, had),
             Kind::Halting => self.halted(Reason::Opcode(self.long), had),
+        }
+    }
+
+    /// What an instruction of the hub asks, where no access reads its source.
+    #[inline(always)]
+    fn request_of(&self, i: Instr) -> Option<Request>
+        requires decoded { i ≡ at_hand self.now }
+        requires fits { FitsFields i }
+        ensures none { IfSome result (λ r. source_access (at_hand self.now) ≡ None) }
+        ensures request { IfSome result (λ r. r ≡ hub_request (at_hand self.now) (destination_value self.now) (source_value self.now)) }
+        ensures made { IfSome result (λ r. IsMade r.access) }
+    {
+        if asks_for_source(i) {
+            return None;
+        }
+        let source = self.source_value(i);
+        Some(hub_request(i, self.destination_value(i), source))
+    }
+
+    /// Ends the instruction at hand, which asked the hub, by its turn. Its result is `kept` where the answer
+    /// holds no number.
+    #[inline(always)]
+    fn answer_hub(&mut self, cog: u8, kept: u32, turn: &Turn) -> Ending
+        requires at { self.old.at < 512 }
+        requires cog { cog < 8 }
+        requires clock { self.old.clock + 1 < 2 ^ 62 }
+        requires below { turn.now.key.clock < 2 ^ 62 }
+        requires comes { Comes (played (instruction cog self.old) []) turn.now }
+        requires kept { IsAtHub self.old kept }
+        ensures comes { ComesTo (played (instruction cog self.old) (turn.now ∷ [])) result self.new }
+        ensures keeps { Keeps result self.old self.new }
+        ensures made { IsMadeIn result }
+        ensures at { self.new.at < 512 }
+        ensures clock { self.new.clock < 2 ^ 62 + 2 ^ 10 }
+    {
+        if is_last(cog, turn.access) {
+            return Ending::Ended;
+        }
+        let effect = answered(kept, turn.answer);
+        self.end_after(decode(self.long), cog, effect, turn.key.clock + 6, &[])
+    }
+
+    /// Goes on with the instruction at hand by its first turn.
+    #[inline(always)]
+    pub fn first_turn(&mut self, cog: u8, kept: Option<u32>, turn: &Turn) -> Ending
+        requires at { self.old.at < 512 }
+        requires cog { cog < 8 }
+        requires clock { self.old.clock + 1 < 2 ^ 62 }
+        requires below { turn.now.key.clock < 2 ^ 62 }
+        requires comes { Comes (played (instruction cog self.old) []) turn.now }
+        requires kept { (k : ℕ) → kept ≡ Some k → IsAtHub self.old k }
+        ensures comes { ComesTo (played (instruction cog self.old) (turn.now ∷ [])) result self.new }
+        ensures keeps { Keeps result self.old self.new }
+        ensures made { IsMadeIn result }
+        ensures at { self.new.at < 512 }
+        ensures clock { self.new.clock < 2 ^ 62 + 2 ^ 10 }
+    {
+        match kept {
+            Some(kept) => self.answer_hub(cog, kept, turn),
+            None => self.advance(cog, &[*turn]),
+        }
+    }
+
+    /// What the instruction at hand asks of the hub, where it is the hub's and no access reads its source.
+    #[inline(always)]
+    pub fn request(&self) -> Option<Request>
+        ensures at_hub { IfSome result (λ r. IsAtHub self.now r.kept) }
+        ensures asks { IfSome result (λ r. (cog : ℕ) → played (instruction cog self.now) [] ≡ Asks (window_of cog (self.now.clock + 1)) r.access) }
+        ensures made { IfSome result (λ r. IsMade r.access) }
+    {
+        let i = decode(self.long);
+        match kind_of(i, self.c, self.z) {
+            Kind::OfHub => self.request_of(i),
+            Kind::Skipped | Kind::Computing | Kind::Waiting | Kind::Halting => None,
         }
     }
 

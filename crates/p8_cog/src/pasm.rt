@@ -1,12 +1,12 @@
 // A cog as a life.
-ghost use Rattle.std.specs.Prelude.{◌≡◌, ◌<◌, ◌≤◌, ◌+◌, ◌%◌, ◌^◌, [], None, Some, IfOk};
+ghost use Rattle.std.specs.Prelude.{ℕ, ◌≡◌, ◌<◌, ◌≤◌, ◌+◌, ◌%◌, ◌^◌, [], None, Some, IfOk};
 ghost use Rattle.std.proofs.Math.Nat.{le_refl};
 ghost use Rattle.p8_access.specs.Windows.{IsWindow};
 ghost use Rattle.p8_access.specs.Lives.{PasmBegun, announced_by};
 ghost use Rattle.p8_cog.specs.declared.stage.Stage.TheVariants.{Loading};
 ghost use Rattle.p8_cog.specs.Replay.{IsAsked, Begins};
 ghost use Rattle.p8_cog.specs.Standing.{StandsFor, clock_of};
-ghost use Rattle.p8_cog.specs.Stops.{Announces, IsHalf, IsInLoad};
+ghost use Rattle.p8_cog.specs.Stops.{Announces, IsAtHub, IsHalf, IsInLoad};
 ghost use Rattle.p8_cog.specs.Replaying.{one-asked, asked-first, asked-later};
 
 use crate::ending::Ending;
@@ -33,6 +33,8 @@ pub struct Cog {
     /// How many instructions it has done since its start.
     done: u64,
     announced: Option<(u64, Access)>,
+    /// As a run told it of the instruction at hand.
+    kept: Option<u32>,
     ghost at: { state.begun.at < 512 },
     ghost aligned: { code % 4 ≡ 0 },
     ghost room: { code ≤ 30784 },
@@ -40,6 +42,7 @@ pub struct Cog {
     ghost clock: { clock_of state < 2 ^ 62 + 2 ^ 10 },
     ghost counts: { done ≤ clock_of state },
     ghost half: { IsHalf cog state },
+    ghost at_hub: { (k : ℕ) → kept ≡ Some k → IsAtHub state.begun k },
     ghost loads: { stage ≡ Loading → IsInLoad state },
     ghost announces: { Announces cog code stage state announced },
 }
@@ -86,6 +89,7 @@ impl Cog {
             stage: Stage::Loading,
             done: 0,
             announced: None,
+            kept: None,
         })
     }
 
@@ -107,6 +111,7 @@ impl Cog {
         ensures cog { ⟦<Cog as Life>⟧.cog self.new ≡ cog }
     {
         self.announced = None;
+        self.kept = None;
         self.state.had = Had::Nothing;
         self.state.begun.unload(par, load);
         self.code = code;
@@ -141,6 +146,7 @@ impl Life for Cog {
 
     fn run_to_access(&mut self, until: u64, budget: u32) -> Next {
         self.announced = None;
+        self.kept = None;
         match self.stage {
             Stage::Loading => {
                 let next = self.state.next_read(self.code, until);
@@ -150,6 +156,7 @@ impl Life for Cog {
             Stage::Running => {
                 let ran = self.state.next_below(self.cog, until, budget);
                 self.done += u64::from(ran.done);
+                self.kept = ran.kept;
                 self.announced = announced_in(ran.next);
                 ran.next
             }
@@ -158,10 +165,12 @@ impl Life for Cog {
     }
 
     fn take_answer(&mut self, turn: &Turn) {
+        let kept = self.kept;
         self.announced = None;
+        self.kept = None;
         match self.stage {
             Stage::Loading => self.stage = self.state.take_long(value_in(turn.answer)),
-            Stage::Running => match self.state.take(self.cog, turn) {
+            Stage::Running => match self.state.take(self.cog, kept, turn) {
                 Ending::Ended => {
                     self.stage = Stage::Over;
                     self.done += 1;

@@ -1,18 +1,18 @@
 // How far a cog is in the instruction at hand.
-ghost use Rattle.std.specs.Prelude.{ℕ, nat_lt, if◌then◌else◌, ◌≡◌, ◌<◌, ◌≤◌, ◌+◌, ◌*◌, ◌%◌, ◌^◌, ◌++◌, ◌∷◌, [], true};
+ghost use Rattle.std.specs.Prelude.{ℕ, nat_lt, if◌then◌else◌, ◌≡◌, ◌<◌, ◌≤◌, ◌+◌, ◌*◌, ◌%◌, ◌^◌, ◌++◌, ◌∷◌, [], true, Some};
 ghost use Rattle.p8_access.specs.declared.lives.Next.TheVariants.{At, Quiet};
 ghost use Rattle.p8_access.specs.Lives.{IsMadeNext};
 ghost use Rattle.p8_cog.specs.declared.progress.Had.TheVariants.{Nothing, One, Two};
 ghost use Rattle.p8_cog.specs.declared.stage.Stage.TheVariants.{Loading};
 ghost use Rattle.p8_cog.specs.Replay.{Goes, instruction, played, step};
 ghost use Rattle.p8_cog.specs.Standing.{turns_of, running_at, standing_at, clock_in, clock_of};
-ghost use Rattle.p8_cog.specs.Stops.{latest, is_asking, is_half, IsHalf, IsInLoad, IsTold, Comes, Stops, Leads, IsSpent, Loads, Takes};
+ghost use Rattle.p8_cog.specs.Stops.{latest, is_asking, is_half, IsAtHub, IsHalf, IsInLoad, IsTold, Comes, Stops, Leads, IsSpent, Loads, Takes};
 
 use crate::ending::Ending;
 use crate::registers::LOADED_LONGS;
 use crate::stage::Stage;
 use crate::state::State;
-use p8_access::{Access, Next, Turn, Width};
+use p8_access::{Access, Next, Turn, Width, window};
 
 /// The turns that the instruction at hand has had, the oldest first.
 ///
@@ -33,12 +33,23 @@ pub struct Progress {
     pub had: Had,
 }
 
+/// What an instruction tells where it begins.
+#[derive(Clone, Copy)]
+struct Told {
+    next: Next,
+    /// As in `Ran`.
+    kept: Option<u32>,
+}
+
 /// What a run has done, and why it stopped.
 #[derive(Clone, Copy)]
 pub struct Ran {
     /// How many instructions were done.
     pub done: u32,
     pub next: Next,
+    /// Where the instruction at hand is the hub's and no access reads its source, the result that it has if
+    /// its answer holds no number.
+    pub kept: Option<u32>,
 }
 
 /// An access that comes at a clock, if that is below `until`.
@@ -54,8 +65,7 @@ fn below(clock: u64, access: Access, until: u64) -> Next
 }
 
 /// Tells the first access below a clock of an instruction that asks where it begins.
-#[inline(never)]
-fn first_below(state: &mut State, cog: u8, until: u64) -> Next
+fn other_below(state: &mut State, cog: u8, until: u64) -> Next
     requires at { state.old.at < 512 }
     requires cog { cog < 8 }
     requires clock { state.old.clock + 1 < 2 ^ 62 }
@@ -71,6 +81,31 @@ fn first_below(state: &mut State, cog: u8, until: u64) -> Next
     }
 }
 
+/// The same, and the result that is known by then.
+#[inline(never)]
+fn first_below(state: &mut State, cog: u8, until: u64) -> Told
+    requires at { state.old.at < 512 }
+    requires cog { cog < 8 }
+    requires clock { state.old.clock + 1 < 2 ^ 62 }
+    requires asks { is_asking (played (instruction cog state.old) []) ≡ true }
+    ensures stops { Stops cog (Goes state.old []) state.old.clock until result.next }
+    ensures told { IsTold result.next }
+    ensures made { IsMadeNext result.next }
+    ensures kept { (k : ℕ) → result.kept ≡ Some k → IsAtHub state.new k }
+    ensures same { state.new ≡ state.old }
+{
+    match state.request() {
+        Some(request) => Told {
+            next: below(window(cog, state.clock + 1), request.access, until),
+            kept: Some(request.kept),
+        },
+        None => Told {
+            next: other_below(state, cog, until),
+            kept: None,
+        },
+    }
+}
+
 /// Does instructions up to one that asks, within a budget and below a clock.
 ///
 /// This loop is where a cog that computes spends its time.
@@ -83,6 +118,7 @@ fn run(state: &mut State, cog: u8, until: u64, budget: u32) -> Ran
     ensures leads { Leads cog result.done (Goes state.old []) (Goes state.new []) }
     ensures stops { Stops cog (Goes state.new []) state.new.clock until result.next }
     ensures made { IsMadeNext result.next }
+    ensures kept { (k : ℕ) → result.kept ≡ Some k → IsAtHub state.new k }
     ensures spent { IsSpent result.done budget state.new.clock until result.next }
     ensures counts { state.old.clock + 4 * result.done ≤ state.new.clock }
     ensures stride { state.new.clock ≤ state.old.clock + 8 * result.done }
@@ -92,11 +128,12 @@ fn run(state: &mut State, cog: u8, until: u64, budget: u32) -> Ran
     for done in 0..budget {
         if state.clock >= until {
             let next = Next::Quiet;
-            return Ran { done, next };
+            let kept = None;
+            return Ran { done, next, kept };
         }
         if !state.run_apart() {
-            let next = first_below(state, cog, until);
-            return Ran { done, next };
+            let Told { next, kept } = first_below(state, cog, until);
+            return Ran { done, next, kept };
         }
     }
     Ran {
@@ -106,6 +143,7 @@ fn run(state: &mut State, cog: u8, until: u64, budget: u32) -> Ran
         } else {
             Next::Quiet
         },
+        kept: None,
     }
 }
 
@@ -171,6 +209,7 @@ impl Progress {
         ensures leads { Leads cog result.done (running_at self.old) (running_at self.new) }
         ensures stops { Stops cog (running_at self.new) (clock_of self.new) until result.next }
         ensures made { IsMadeNext result.next }
+        ensures kept { (k : ℕ) → result.kept ≡ Some k → IsAtHub self.new.begun k }
         ensures spent { IsSpent result.done budget (clock_of self.new) until result.next }
         ensures counts { clock_of self.old + 4 * result.done ≤ clock_of self.new }
         ensures stride { clock_of self.new ≤ clock_of self.old + 8 * result.done }
@@ -183,10 +222,12 @@ impl Progress {
             Had::One(first) => Ran {
                 done: 0,
                 next: self.further_below(cog, until, &[first]),
+                kept: None,
             },
             Had::Two(first, second) => Ran {
                 done: 0,
                 next: self.further_below(cog, until, &[first, second]),
+                kept: None,
             },
         }
     }
@@ -205,9 +246,10 @@ impl Progress {
 
     /// Goes on with the instruction at hand by its first turn.
     #[inline(always)]
-    fn take_first(&mut self, cog: u8, turn: &Turn) -> Ending
+    fn take_first(&mut self, cog: u8, kept: Option<u32>, turn: &Turn) -> Ending
         requires at { self.old.begun.at < 512 }
         requires cog { cog < 8 }
+        requires kept { (k : ℕ) → kept ≡ Some k → IsAtHub self.old.begun k }
         requires begun { self.old.begun.clock + 1 < 2 ^ 62 }
         requires had { self.old.had ≡ Nothing }
         requires below { turn.now.key.clock < 2 ^ 62 }
@@ -217,7 +259,7 @@ impl Progress {
         ensures clock { clock_of self.new < 2 ^ 62 + 2 ^ 10 }
         ensures half { IsHalf cog self.new }
     {
-        match self.begun.advance(cog, &[*turn]) {
+        match self.begun.first_turn(cog, kept, turn) {
             Ending::Ended => {
                 self.close(turn.key.clock);
                 Ending::Ended
@@ -288,9 +330,10 @@ impl Progress {
 
     /// Takes the turn of the access that the instruction at hand asked.
     #[inline(always)]
-    pub fn take(&mut self, cog: u8, turn: &Turn) -> Ending
+    pub fn take(&mut self, cog: u8, kept: Option<u32>, turn: &Turn) -> Ending
         requires at { self.old.begun.at < 512 }
         requires cog { cog < 8 }
+        requires kept { (k : ℕ) → kept ≡ Some k → IsAtHub self.old.begun k }
         requires half { IsHalf cog self.old }
         requires below { turn.now.key.clock < 2 ^ 62 }
         requires comes { Comes (step cog (running_at self.old)) turn.now }
@@ -300,7 +343,7 @@ impl Progress {
         ensures half { IsHalf cog self.new }
     {
         match self.had {
-            Had::Nothing => self.take_first(cog, turn),
+            Had::Nothing => self.take_first(cog, kept, turn),
             Had::One(first) => self.take_second(cog, first, turn),
             Had::Two(first, second) => self.end_by(cog, first, second, turn),
         }

@@ -1,4 +1,4 @@
-use Rattle.std.proofs.Common.{◌≡◌, ℕ, ◌+◌, ◌++◌, ◌∷◌, [], subst, arith}
+use Rattle.std.proofs.Common.{◌≡◌, Some, None, ℕ, ◌+◌, ◌++◌, ◌∷◌, [], subst, arith}
 use Rattle.p8_cog.specs.declared.stage.Stage.TheVariants.{Loading, Over}
 use Rattle.p8_cog.specs.Standing.{clock_of}
 use Rattle.p8_cog.specs.Stops.{Loads}
@@ -29,6 +29,7 @@ invariant_of-self c =
       clock = omega (arith, h.most, at, c.requires.clock);
       counts = omega (arith, h.least, here, c.args.self.now.counts);
       half = h.half;
+      at_hub = λ k e. absurd (let x : None ≡ Some k = e in cc);
       loads = h.loads;
       announces = announces-none c.args.self.now.cog c.args.self.now.code c.take_long-self.result c.take_long-self.new.self;
     }
@@ -44,6 +45,7 @@ invariant_of-self-in-Ended c =
       clock = c.in-Ended.ensures.clock;
       counts = omega (arith, c.in-Ended.ensures.takes.1, comes.1, c.args.self.now.counts);
       half = c.in-Ended.ensures.half;
+      at_hub = λ k e. absurd (let x : None ≡ Some k = e in cc);
       loads = λ is. absurd (let x : Over ≡ Loading = is in cc);
       announces = announces-none c.args.self.now.cog c.args.self.now.code Over c.take.new.self;
     }
@@ -59,6 +61,7 @@ invariant_of-self-in-Whole c =
       clock = c.in-Whole.ensures.clock;
       counts = omega (arith, c.in-Whole.ensures.takes.1, comes.1, c.args.self.now.counts);
       half = c.in-Whole.ensures.half;
+      at_hub = λ k e. absurd (let x : None ≡ Some k = e in cc);
       loads = not-in-load c.args.self.now.stage c.take.new.self c.in-Running.is;
       announces = announces-none c.args.self.now.cog c.args.self.now.code c.args.self.now.stage c.take.new.self;
     }
@@ -74,6 +77,7 @@ invariant_of-self-in-Half c =
       clock = c.in-Half.ensures.clock;
       counts = omega (arith, c.in-Half.ensures.takes.1, comes.1, c.args.self.now.counts);
       half = c.in-Half.ensures.half;
+      at_hub = λ k e. absurd (let x : None ≡ Some k = e in cc);
       loads = not-in-load c.args.self.now.stage c.take.new.self c.in-Running.is;
       announces = announces-none c.args.self.now.cog c.args.self.now.code c.args.self.now.stage c.take.new.self;
     }
