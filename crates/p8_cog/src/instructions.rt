@@ -156,10 +156,12 @@ impl State {
     {
         if jumps(i.opcode, given.result) {
             let target = address_in(source);
-            self.fetch_and_write(i, given, target, self.clock + 4);
+            self.fetch_and_write(i, given, target);
+            self.clock += 4;
         } else {
             let at = self.next();
-            self.write_and_fetch(i, given, at, self.clock + 8);
+            self.write_and_fetch(i, given, at);
+            self.clock += 8;
         }
     }
 
@@ -179,7 +181,8 @@ impl State {
             self.end_tested_jump(i, source, given);
         } else {
             let at = self.plain_next(i, source);
-            self.fetch_and_write(i, given, at, self.clock + 4);
+            self.fetch_and_write(i, given, at);
+            self.clock += 4;
         }
     }
 
@@ -226,7 +229,8 @@ impl State {
         match written(i, cog, effect.result, clock, had) {
             Ending::Whole => {
                 let at = self.next();
-                self.fetch_and_write(i, effect, at, clock + 1);
+                self.fetch_and_write(i, effect, at);
+                self.clock = clock + 1;
                 Ending::Whole
             }
             Ending::Ended => Ending::Ended,

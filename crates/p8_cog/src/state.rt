@@ -208,14 +208,13 @@ impl State {
         execute(i, destination, source, self.c, self.z, self.next())
     }
 
-    /// Goes on at an address and a clock with the long that was fetched, when the result is written.
+    /// Goes on at an address with the long that was fetched, when the result is written.
     #[inline(always)]
-    fn go_on(&mut self, i: Instr, effect: Effect, at: u16, long: u32, clock: u64)
-        ensures { self.new ≡ left_with self.old i effect at long clock }
+    fn go_on(&mut self, i: Instr, effect: Effect, at: u16, long: u32)
+        ensures { self.new ≡ left_with self.old i effect at long self.old.clock }
     {
         self.at = at;
         self.long = long;
-        self.clock = clock;
         // Most instructions write no flag.
         if i.flags >= FLAG_C {
             self.c = flag_of(i.writes_c(), effect.c, self.c);
@@ -223,32 +222,32 @@ impl State {
         }
     }
 
-    /// Writes, and goes on with the long that stood at an address before.
+    /// Writes, and goes on with the long that stood at an address before. The clock stays.
     #[inline(always)]
-    pub fn fetch_and_write(&mut self, i: Instr, effect: Effect, at: u16, clock: u64)
+    pub fn fetch_and_write(&mut self, i: Instr, effect: Effect, at: u16)
         requires decoded { i ≡ at_hand self.old }
         requires fits { FitsFields i }
         requires at { at < 512 }
-        ensures { self.new ≡ fetched_before self.old effect at clock }
+        ensures { self.new ≡ fetched_before self.old effect at self.old.clock }
     {
         let long = self.registers.get(at);
         self.registers
             .set_where(i.writes_result(), i.dest, effect.result);
-        self.go_on(i, effect, at, long, clock);
+        self.go_on(i, effect, at, long);
     }
 
-    /// Writes, and goes on with the long that stands at an address then.
+    /// Writes, and goes on with the long that stands at an address then. The clock stays.
     #[inline(always)]
-    pub fn write_and_fetch(&mut self, i: Instr, effect: Effect, at: u16, clock: u64)
+    pub fn write_and_fetch(&mut self, i: Instr, effect: Effect, at: u16)
         requires decoded { i ≡ at_hand self.old }
         requires fits { FitsFields i }
         requires at { at < 512 }
-        ensures { self.new ≡ fetched_after self.old effect at clock }
+        ensures { self.new ≡ fetched_after self.old effect at self.old.clock }
     {
         self.registers
             .set_where(i.writes_result(), i.dest, effect.result);
         let long = self.registers.get(at);
-        self.go_on(i, effect, at, long, clock);
+        self.go_on(i, effect, at, long);
     }
 
     /// Passes over an instruction.
