@@ -3,4 +3,5 @@ pub mod Keeping
 pub mod Looping
 pub mod Returning
 pub mod OneMore
+pub mod FirstBytes
 pub mod Taken

@@ -1,23 +1,22 @@
 -- A run of bytecodes, one more at a time.
-use Rattle.std.proofs.Common.{◌≡◌, ℕ, ◌+◌, ◌≤◌, Bool, true, false, List, Option, Some, None, Result, Ok, Err, refl, sym, ◌∙◌, ap, subst, arith, if◌then◌else◌}
+use Rattle.std.proofs.Common.{◌≡◌, ℕ, ◌+◌, ◌<◌, ◌≤◌, ◌⊎◌, true, false, List, Result, Ok, Err, refl, sym, ◌∙◌, ap, subst}
 use Rattle.p8_access.specs.declared.kinds.Reason.{Reason}
 use Rattle.p8_access.specs.declared.order.Turn.{Turn}
 use Rattle.p8_courses.specs.Courses.{Course}
 use Rattle.p8_courses.specs.Timing.{Outcome, Goes, played}
 use Rattle.p8_courses.specs.Replays.{step, after}
 use Rattle.p8_courses.specs.Replaying.{after-one}
-use Rattle.p8_bytecode.specs.declared.op.Op.{Op}
 use Rattle.p8_bcog.specs.declared.step.Step.{Step}
 use Rattle.p8_bcog.specs.declared.step.Step.TheVariants.{Done, Asking}
 use Rattle.p8_bcog.specs.declared.stage.Stage.{Stage}
 use Rattle.p8_bcog.specs.declared.stage.Stage.TheVariants.{Entering, Ready, Asked, Halted, Over}
 use Rattle.p8_bcog.specs.declared.state.State.{State}
-use Rattle.p8_bcog.specs.Bytecodes.{bytecode, clocks, clocks_of, is_slow}
+use Rattle.p8_bcog.specs.Bytecodes.{bytecode, clocks}
 use Rattle.p8_bcog.specs.Laters.{comes}
 use Rattle.p8_bcog.specs.Ready.{IsGood}
 use Rattle.p8_bcog.specs.Replay.{engine_of}
-use Rattle.p8_bcog.specs.Standing.{standing}
-use Rattle.p8_bcog.specs.Stops.{stage_of, IsSound, Led}
+use Rattle.p8_bcog.specs.Standing.{standing, is_under}
+use Rattle.p8_bcog.specs.Stops.{stage_of, is_ready, at_stage, IsSound, Leads, Led, IsBehind}
 
 -- ---- how a bytecode stands
 
@@ -25,6 +24,14 @@ pub stage_plays : (cog p : ℕ) (r : Result Step Reason) (s : State) (more : Lis
 stage_plays cog p (Ok Done) s more = refl
 stage_plays cog p (Ok (Asking access later)) s more = refl
 stage_plays cog p (Err reason) s more = refl
+
+-- what is still to come of a bytecode is how the life goes on
+under_plays : (cog p : ℕ) (stage : Stage) (s : State) (more : List Turn) → is_under stage ≡ true → played cog p (at_stage stage s) more ≡ standing cog stage s p more
+under_plays cog p Entering s more is = absurd (cc)
+under_plays cog p Ready s more is = refl
+under_plays cog p (Asked access later) s more is = refl
+under_plays cog p (Halted reason) s more is = refl
+under_plays cog p Over s more is = absurd (cc)
 
 pub good_sound : (r : Result Step Reason) (s : State) → IsGood r s → IsSound (stage_of r) s
 good_sound (Ok Done) s good = tt
@@ -41,34 +48,57 @@ never_over (Ok Done) is = let e : Ready ≡ Over = is in cc
 never_over (Ok (Asking access later)) is = let e : Asked access later ≡ Over = is in cc
 never_over (Err reason) is = let e : Halted reason ≡ Over = is in cc
 
--- ---- the clocks of a bytecode
-
-pub clocks_range : (found : Option (Op × ℕ)) → (32 ≤ clocks_of found) × (clocks_of found ≤ 544)
-clocks_range None = (omega arith, omega arith)
-clocks_range (Some found) = slow_range (is_slow found.0)
-  where
-    slow_range : (b : Bool) → (32 ≤ (if b then 544 else 32)) × ((if b then 544 else 32) ≤ 544)
-    slow_range true = (omega arith, omega arith)
-    slow_range false = (omega arith, omega arith)
-
 -- ---- one more bytecode
 
 pub none_done : (memory : List ℕ) (cog : ℕ) (o : Outcome State) → after (engine_of memory cog) 0 o ≡ o
 unfolding after
 none_done memory cog o = refl
 
-pub one_more : (memory : List ℕ) (cog done : ℕ) (old : State) (begin : ℕ) (s : State) (clock cost : ℕ) (r : Result Step Reason) (new : State) → Led memory cog done old begin s clock → cost ≡ clocks memory s → comes r new ≡ bytecode memory cog s → (more : List Turn) → after (engine_of memory cog) (done + 1) (Goes old begin more) ≡ standing cog (stage_of r) new (clock + cost) more
-one_more memory cog done old begin s clock cost r new led takes does more =
+-- how a bytecode leads from where it begins to where the life is then
+pub one_more : (memory : List ℕ) (cog done : ℕ) (old : State) (begin : ℕ) (s : State) (clock cost : ℕ) (stage : Stage) (new : State) → Led memory cog done old begin s clock → cost ≡ clocks memory s → at_stage stage new ≡ bytecode memory cog s → is_under stage ≡ true → (more : List Turn) → after (engine_of memory cog) (done + 1) (Goes old begin more) ≡ standing cog stage new (clock + cost) more
+one_more memory cog done old begin s clock cost stage new led takes does under more =
     after-one (engine_of memory cog) done (Goes old begin more)
     ∙ ap (step (engine_of memory cog)) (led more)
     ∙ ap (λ (k : ℕ). played cog (clock + k) (bytecode memory cog s) more) (sym takes)
     ∙ ap (λ (course : Course State). played cog (clock + cost) course more) (sym does)
-    ∙ stage_plays cog (clock + cost) r new more
+    ∙ under_plays cog (clock + cost) stage new more under
 
-pub one_more_at : (memory : List ℕ) (cog done : ℕ) (old : State) (begin : ℕ) (s : State) (clock cost : ℕ) (r : Result Step Reason) (new : State) (stage : Stage) → stage_of r ≡ stage → Led memory cog done old begin s clock → cost ≡ clocks memory s → comes r new ≡ bytecode memory cog s → (more : List Turn) → after (engine_of memory cog) (done + 1) (Goes old begin more) ≡ standing cog stage new (clock + cost) more
-one_more_at memory cog done old begin s clock cost r new stage is led takes does more =
-    one_more memory cog done old begin s clock cost r new led takes does more
-    ∙ ap (λ (st : Stage). standing cog st new (clock + cost) more) is
+-- one that isn't done yet
+pub asks_leads : (memory : List ℕ) (cog done : ℕ) (old : State) (begin : ℕ) (s : State) (clock cost : ℕ) (stage : Stage) (new : State) → Led memory cog done old begin s clock → cost ≡ clocks memory s → at_stage stage new ≡ bytecode memory cog s → is_under stage ≡ true → is_ready stage ≡ false → Leads memory cog done old begin stage new (clock + cost)
+asks_leads memory cog done old begin s clock cost Entering new led takes does under asks = absurd (cc)
+asks_leads memory cog done old begin s clock cost Ready new led takes does under asks = absurd (cc)
+asks_leads memory cog done old begin s clock cost (Asked access later) new led takes does under asks = one_more memory cog done old begin s clock cost (Asked access later) new led takes does under
+asks_leads memory cog done old begin s clock cost (Halted reason) new led takes does under asks = one_more memory cog done old begin s clock cost (Halted reason) new led takes does under
+asks_leads memory cog done old begin s clock cost Over new led takes does under asks = absurd (cc)
+
+pub asks_behind : (done budget begun clock until : ℕ) (stage : Stage) → is_under stage ≡ true → is_ready stage ≡ false → begun < until → begun ≤ clock → clock ≤ begun + 544 → done < budget → IsBehind done budget begun clock until stage
+asks_behind done budget begun clock until Entering under asks below from near left = absurd (cc)
+asks_behind done budget begun clock until Ready under asks below from near left = absurd (cc)
+asks_behind done budget begun clock until (Asked access later) under asks below from near left = (below, from, near, left)
+asks_behind done budget begun clock until (Halted reason) under asks below from near left = (below, from, near, left)
+asks_behind done budget begun clock until Over under asks below from near left = absurd (cc)
+
+-- one that is done
+pub becomes_ready : (stage : Stage) → is_ready stage ≡ true → stage ≡ Ready
+becomes_ready Entering is = absurd (cc)
+becomes_ready Ready is = refl
+becomes_ready (Asked access later) is = absurd (cc)
+becomes_ready (Halted reason) is = absurd (cc)
+becomes_ready Over is = absurd (cc)
+
+pub done_leads : (memory : List ℕ) (cog done : ℕ) (old : State) (begin : ℕ) (s : State) (clock cost : ℕ) (stage : Stage) (new : State) → Led memory cog done old begin s clock → cost ≡ clocks memory s → at_stage stage new ≡ bytecode memory cog s → is_under stage ≡ true → is_ready stage ≡ true → Led memory cog (done + 1) old begin new (clock + cost)
+done_leads memory cog done old begin s clock cost stage new led takes does under is = λ more.
+    one_more memory cog done old begin s clock cost stage new led takes does under more
+    ∙ ap (λ (st : Stage). standing cog st new (clock + cost) more) (becomes_ready stage is)
+
+pub ready_leads : (memory : List ℕ) (cog done : ℕ) (old : State) (begin : ℕ) (stage : Stage) (new : State) (clock : ℕ) → stage ≡ Ready → Led memory cog done old begin new clock → Leads memory cog done old begin stage new clock
+ready_leads memory cog done old begin stage new clock is led = subst (λ (st : Stage). Leads memory cog done old begin st new clock) (sym is) led
+
+pub ready_behind : (done budget clock until : ℕ) (stage : Stage) → stage ≡ Ready → (until ≤ clock) ⊎ (done ≡ budget) → IsBehind done budget clock clock until stage
+ready_behind done budget clock until stage is ends = subst (λ (st : Stage). IsBehind done budget clock clock until st) (sym is) (refl, ends)
+
+pub ready_sound : (stage : Stage) (s : State) → stage ≡ Ready → IsSound stage s
+ready_sound stage s is = subst (λ (st : Stage). IsSound st s) (sym is) tt
 
 pub sound_at : (r : Result Step Reason) (s : State) (stage : Stage) → stage_of r ≡ stage → IsGood r s → IsSound stage s
 sound_at r s stage is good = subst (λ (st : Stage). IsSound st s) is (good_sound r s good)

@@ -19,6 +19,7 @@ pub mod Whole
 -- Machinery that only proofs need.
 pub mod Reversing
 pub mod Ready
+pub mod Quick
 pub mod Stops
 pub mod Laws
 pub mod Single

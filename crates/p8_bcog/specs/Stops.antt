@@ -6,6 +6,7 @@ use Rattle.p8_access.specs.declared.order.Turn.{Turn}
 use Rattle.p8_access.specs.declared.lives.Next.{Next}
 use Rattle.p8_access.specs.declared.lives.Next.TheVariants.{At, Quiet, More}
 use Rattle.p8_access.specs.Lives.{IsMade}
+use Rattle.p8_courses.specs.Courses.{Course, Finish, Stop}
 use Rattle.p8_courses.specs.Timing.{Outcome, Asks, Goes}
 use Rattle.p8_courses.specs.Replays.{after}
 use Rattle.p8_courses.specs.Replaying.{IsFrom}
@@ -14,6 +15,7 @@ use Rattle.p8_bcog.specs.declared.step.Step.TheVariants.{Done, Asking}
 use Rattle.p8_bcog.specs.declared.stage.Stage.{Stage}
 use Rattle.p8_bcog.specs.declared.stage.Stage.TheVariants.{Entering, Ready, Asked, Halted, Over}
 use Rattle.p8_bcog.specs.declared.state.State.{State}
+use Rattle.p8_bcog.specs.Laters.{asking}
 use Rattle.p8_bcog.specs.Ready.{IsReady}
 use Rattle.p8_bcog.specs.Replay.{engine_of}
 use Rattle.p8_bcog.specs.Standing.{standing, come_to}
@@ -31,6 +33,14 @@ is_ready Ready = true
 is_ready (Asked access later) = false
 is_ready (Halted reason) = false
 is_ready Over = false
+
+-- what is still to come of a bytecode
+abbrev pub at_stage : Stage → State → Course State
+at_stage Entering s = Finish s
+at_stage Ready s = Finish s
+at_stage (Asked access later) s = asking access later s
+at_stage (Halted reason) s = Stop reason
+at_stage Over s = Finish s
 
 -- a bytecode is done
 abbrev pub done_by : Stage → ℕ

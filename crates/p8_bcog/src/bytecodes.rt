@@ -1,16 +1,26 @@
 // The table of Spin's bytecodes.
-ghost use Rattle.std.specs.Prelude.{ℕ, ◌≡◌, ◌<◌, ◌≤◌, ◌%◌, length, IfSome, if◌then◌else◌};
+ghost use Rattle.std.specs.Prelude.{ℕ, ◌≡◌, ◌<◌, ◌≤◌, ◌%◌, true, length, IfSome, if◌then◌else◌};
 ghost use Rattle.p8_bcog.specs.Code.{code_of, fetched_in};
-ghost use Rattle.p8_bcog.specs.Bytecodes.{call_row, test_row, look_row, wait_row, move_row, cog_row, less_one_if, inverted_if, packed, constant, constant_row, return_row, operator_row, row, bytecode, is_slow, clocks};
+ghost use Rattle.p8_bcog.specs.Bytecodes.{call_row, test_row, look_row, wait_row, move_row, cog_row, less_one_if, inverted_if, packed, constant, return_row, operator_row, row, bytecode, is_slow, clocks};
 ghost use Rattle.p8_bcog.specs.Control.{jump};
 ghost use Rattle.p8_bcog.specs.Cogs.{pasm_start};
 ghost use Rattle.p8_bcog.specs.Laters.{comes};
 ghost use Rattle.p8_bcog.specs.Ready.{IsGood};
 ghost use Rattle.p8_access.specs.Lives.{IsMade};
 ghost use Rattle.p8_bytecode.specs.Spelling.{IsOp};
+ghost use Rattle.p8_bytecode.specs.Reading.{bare};
+ghost use Rattle.p8_courses.specs.Courses.{Finish};
+ghost use Rattle.p8_bcog.specs.declared.stage.Stage.TheVariants.{Ready};
+ghost use Rattle.p8_bcog.specs.Operands.{tested, pushed};
+ghost use Rattle.p8_bcog.specs.declared.state.State.{State};
+ghost use Rattle.p8_bcog.specs.Quick.{finishes};
+ghost use Rattle.p8_bcog.specs.Standing.{is_under};
+ghost use Rattle.p8_bcog.specs.Stops.{at_stage, IsSound};
 
 use crate::cogs::{long_address, number_in, target_of};
 use crate::operands::difference;
+use crate::running::stage_of;
+use crate::stage::Stage;
 use crate::state::State;
 use crate::step::Step;
 use p8_access::{Access, Origin, Reason, Test, Width};
@@ -32,7 +42,7 @@ fn inverted_if(flag: bool, value: u32) -> u32
 }
 
 /// The constant that a byte packs.
-fn packed(byte: u32) -> u32
+pub fn packed(byte: u32) -> u32
     ensures { result ≡ packed byte }
 {
     let power = rotated_left(2, byte % 32);
@@ -90,6 +100,19 @@ fn fetch(code: &[u8], at: u16) -> Option<(Op, u16)>
     }
 }
 
+/// How far a life is after a bytecode that asks nothing.
+#[inline]
+fn settle(stage: &mut Stage, finished: Result<(), Reason>)
+    requires ready { stage.old ≡ Ready }
+    ensures does { (s : State) → at_stage stage.new s ≡ finishes finished s }
+    ensures under { is_under stage.new ≡ true }
+    ensures sound { (s : State) → IsSound stage.new s }
+{
+    if let Err(reason) = finished {
+        *stage = Stage::Halted { reason };
+    }
+}
+
 impl State {
     /// The bytecodes 00 to 07.
     #[tactic(auto, unfolding(crate::specs::Bytecodes::call_row))]
@@ -114,9 +137,8 @@ impl State {
 
     /// The bytecodes 08 to 0F.
     #[tactic(auto, unfolding(crate::specs::Bytecodes::test_row))]
-    fn test_row(&mut self, op: Op) -> Result<Step, Reason>
-        ensures does { comes result self.new ≡ test_row op self.old }
-        ensures good { IsGood result self.new }
+    fn test_row(&mut self, op: Op) -> Result<(), Reason>
+        ensures does { finishes result self.new ≡ test_row op self.old }
     {
         match op.code {
             0x08 => self.loop_begins(op.first),
@@ -144,7 +166,10 @@ impl State {
             0x11 => self.lookdown_value(op.first),
             0x12 => self.lookup_range(op.first),
             0x13 => self.lookdown_range(op.first),
-            0x14 => self.drops(),
+            0x14 => {
+                self.drops()?;
+                Ok(Step::Done)
+            }
             0x15 => self.start_method(memory, op.first, op.second),
             _ => unreachable!(),
         }
@@ -227,19 +252,18 @@ impl State {
         }
     }
 
-    /// The bytecodes 34 to 3B.
-    #[tactic(auto, unfolding(crate::specs::Bytecodes::constant_row))]
-    fn constant_row(&mut self, op: Op) -> Result<Step, Reason>
-        ensures does { comes result self.new ≡ constant_row op self.old }
-        ensures good { IsGood result self.new }
+    /// The bytecodes 34 to 3B leave a constant.
+    #[inline]
+    pub fn leave_constant(&mut self, value: u32) -> Result<(), Reason>
+        ensures does { finishes result self.new ≡ tested 0 1 self.old (Finish (pushed value self.old)) }
     {
         self.test(0, 1)?;
-        self.push(constant(op));
-        Ok(Step::Done)
+        self.push(value);
+        Ok(())
     }
 
     /// The bytecodes 30 to 3F.
-    #[tactic(auto, unfolding(crate::specs::Bytecodes::return_row))]
+    #[tactic(auto, unfolding(crate::specs::Bytecodes::return_row, crate::specs::Bytecodes::constant_row))]
     fn return_row(&mut self, cog: u8, op: Op) -> Result<Step, Reason>
         requires cog { cog < 8 }
         requires taken { IsOp op }
@@ -253,34 +277,36 @@ impl State {
             0x31 => self.abort_value(cog),
             0x32 => self.return_result(cog),
             0x33 => self.return_value(cog),
-            0x34..=0x3B => self.constant_row(op),
+            0x34..=0x3B => {
+                self.leave_constant(constant(op))?;
+                Ok(Step::Done)
+            }
             0x3D => self.one_pin(op),
             0x3E => self.some_pins(op),
             _ => self.whole_register(op),
         }
     }
 
-    /// The bytecodes E0 to FF.
+    /// The bytecodes E0 to FF are operators.
     #[inline]
     #[tactic(auto, unfolding(crate::specs::Bytecodes::operator_row))]
-    fn operator_row(&mut self, op: Op) -> Result<Step, Reason>
-        ensures does { comes result self.new ≡ operator_row op self.old }
-        ensures good { IsGood result self.new }
+    pub fn operate(&mut self, code: u8) -> Result<(), Reason>
+        ensures does { finishes result self.new ≡ operator_row (bare code) self.old }
     {
-        if is_unary(op.code) {
+        if is_unary(code) {
             self.test(1, 1)?;
-            let value = unary(op.code, self.operand(0));
+            let value = unary(code, self.operand(0));
             self.replace(1, value);
         } else {
             self.test(2, 1)?;
-            let value = binary(op.code, self.operand(1), self.operand(0));
+            let value = binary(code, self.operand(1), self.operand(0));
             self.replace(2, value);
         }
-        Ok(Step::Done)
+        Ok(())
     }
 
     /// Does a bytecode whose successor is at hand.
-    #[tactic(auto, unfolding(crate::specs::Bytecodes::row))]
+    #[tactic(auto, unfolding(crate::specs::Bytecodes::row, crate::specs::Bytecodes::operator_row))]
     fn row(&mut self, memory: &[u8], cog: u8, op: Op) -> Result<Step, Reason>
         requires cog { cog < 8 }
         requires taken { IsOp op }
@@ -289,35 +315,70 @@ impl State {
     {
         match op.code {
             0x00..=0x07 => self.call_row(memory, op),
-            0x08..=0x0F => self.test_row(op),
+            0x08..=0x0F => {
+                self.test_row(op)?;
+                Ok(Step::Done)
+            }
             0x10..=0x15 => self.look_row(memory, op),
             0x16..=0x1F => self.move_row(op),
             0x20..=0x2F => self.cog_row(op),
             0x30..=0x3F => self.return_row(cog, op),
             0x40..=0x7F => self.short_variable(op),
             0x80..=0xDF => self.variable(op),
-            _ => self.operator_row(op),
+            _ => {
+                self.operate(op.code)?;
+                Ok(Step::Done)
+            }
         }
     }
 
-    /// Does the bytecode that stands where the cog is, in code that begins at address 0. It also tells the
-    /// clocks up to where its first access counts.
+    /// Does the bytecode that stands where the cog is, in code that begins at address 0, and tells how far it is
+    /// then. It answers the clocks up to where its first access counts.
     #[inline]
-    pub fn bytecode(&mut self, memory: &[u8], code: &[u8], cog: u8) -> (u64, Result<Step, Reason>)
+    pub fn bytecode(&mut self, memory: &[u8], code: &[u8], cog: u8, stage: &mut Stage) -> u64
+        requires ready { stage.old ≡ Ready }
         requires code { code.now ≡ code_of memory.now }
         requires room { length code.now ≤ 32768 }
         requires cog { cog < 8 }
-        ensures clocks { result.0 ≡ clocks memory.now self.old }
-        ensures least { 32 ≤ result.0 }
-        ensures most { result.0 ≤ 544 }
-        ensures does { comes result.1 self.new ≡ bytecode memory.now cog self.old }
-        ensures good { IsGood result.1 self.new }
+        ensures clocks { result ≡ clocks memory.now self.old }
+        ensures least { 32 ≤ result }
+        ensures most { result ≤ 544 }
+        ensures does { at_stage stage.new self.new ≡ bytecode memory.now cog self.old }
+        ensures sound { IsSound stage.new self.new }
+        ensures under { is_under stage.new ≡ true }
+    {
+        match self.quick(code) {
+            Some(finished) => {
+                settle(stage, finished);
+                32
+            }
+            None => self.any_bytecode(memory, code, cog, stage),
+        }
+    }
+
+    /// Does any bytecode as `bytecode` does.
+    fn any_bytecode(&mut self, memory: &[u8], code: &[u8], cog: u8, stage: &mut Stage) -> u64
+        requires code { code.now ≡ code_of memory.now }
+        requires room { length code.now ≤ 32768 }
+        requires cog { cog < 8 }
+        ensures clocks { result ≡ clocks memory.now self.old }
+        ensures least { 32 ≤ result }
+        ensures most { result ≤ 544 }
+        ensures does { at_stage stage.new self.new ≡ bytecode memory.now cog self.old }
+        ensures sound { IsSound stage.new self.new }
+        ensures under { is_under stage.new ≡ true }
     {
         match fetch(code, self.at) {
-            None => (32, Err(Reason::Byte(self.at))),
+            None => {
+                *stage = Stage::Halted {
+                    reason: Reason::Byte(self.at),
+                };
+                32
+            }
             Some((op, next)) => {
                 self.at = next;
-                (clocks_of(op), self.row(memory, cog, op))
+                *stage = stage_of(self.row(memory, cog, op));
+                clocks_of(op)
             }
         }
     }

@@ -15,6 +15,7 @@ mod moves;
 mod operands;
 mod place;
 mod places;
+mod quick;
 mod running;
 mod spin;
 mod stack;

@@ -3,7 +3,8 @@ ghost use Rattle.std.specs.Prelude.{◌≡◌, ◌<◌, ◌≤◌, ◌+◌, ◌*
 ghost use Rattle.p8_courses.specs.Timing.{earliest, behind};
 ghost use Rattle.p8_bcog.specs.Code.{code_of};
 ghost use Rattle.p8_bcog.specs.declared.state.State.{State};
-ghost use Rattle.p8_bcog.specs.Stops.{stage_of, done_by, IsSound, Leads, Led, IsBehind};
+ghost use Rattle.p8_bcog.specs.declared.stage.Stage.TheVariants.{Ready};
+ghost use Rattle.p8_bcog.specs.Stops.{stage_of, is_ready, done_by, IsSound, Leads, Led, IsBehind};
 
 use crate::stage::Stage;
 use crate::state::State;
@@ -19,7 +20,6 @@ pub struct Ran {
     pub begun: u64,
     /// The clock from which its access counts.
     pub clock: u64,
-    pub stage: Stage,
 }
 
 /// How far a life is after a bytecode.
@@ -33,9 +33,21 @@ pub fn stage_of(stepped: Result<Step, Reason>) -> Stage
     }
 }
 
+/// Whether a bytecode is to be done next.
+#[inline]
+pub fn is_ready(stage: &Stage) -> bool
+    ensures { result ≡ is_ready stage.now }
+{
+    match stage {
+        Stage::Ready => true,
+        Stage::Entering | Stage::Asked { .. } | Stage::Halted { .. } | Stage::Over => false,
+    }
+}
+
 /// How many bytecodes are done with the one that stands so.
-pub fn done_by(stage: Stage) -> u64
-    ensures done { result ≡ done_by stage }
+#[inline]
+pub fn done_by(stage: &Stage) -> u64
+    ensures done { result ≡ done_by stage.now }
     ensures most { result ≤ 1 }
 {
     match stage {
@@ -74,11 +86,12 @@ pub fn behind(clock: u64, access: Access, turn: u64) -> u64
     }
 }
 
-/// Does bytecodes up to one that asks, within a budget and below a clock.
+/// Does bytecodes up to one that asks, within a budget and below a clock, and tells how far the last one is.
 ///
 /// This loop is where a cog that computes spends its time.
 pub fn run(
     state: &mut State,
+    stage: &mut Stage,
     memory: &[u8],
     code: &[u8],
     cog: u8,
@@ -86,16 +99,17 @@ pub fn run(
     until: u64,
     budget: u32,
 ) -> Ran
+    requires ready { stage.old ≡ Ready }
     requires code { code.now ≡ code_of memory.now }
     requires cog { cog < 8 }
     requires room { length code.now ≤ 32768 }
     requires begin { begin < 2 ^ 62 + 2 ^ 14 }
     requires until { until < 2 ^ 62 }
     ensures budget { result.done ≤ budget }
-    ensures leads { Leads memory.now cog result.done state.old begin result.stage state.new result.clock }
+    ensures leads { Leads memory.now cog result.done state.old begin stage.new state.new result.clock }
     ensures began { (s : State) × Led memory.now cog result.done state.old begin s result.begun }
-    ensures sound { IsSound result.stage state.new }
-    ensures is_behind { IsBehind result.done budget result.begun result.clock until result.stage }
+    ensures sound { IsSound stage.new state.new }
+    ensures is_behind { IsBehind result.done budget result.begun result.clock until stage.new }
     ensures least { begin + 32 * result.done ≤ result.begun }
     ensures most { result.begun ≤ begin + 544 * result.done }
     ensures clock { result.begun < 2 ^ 62 + 2 ^ 14 }
@@ -107,35 +121,22 @@ pub fn run(
                 done,
                 begun: clock,
                 clock,
-                stage: Stage::Ready,
             };
         }
-        let (cost, stepped) = state.bytecode(memory, code, cog);
-        match stage_of(stepped) {
-            Stage::Ready => clock += cost,
-            Stage::Asked { access, later } => {
-                return Ran {
-                    done,
-                    begun: clock,
-                    clock: clock + cost,
-                    stage: Stage::Asked { access, later },
-                };
-            }
-            Stage::Halted { reason } => {
-                return Ran {
-                    done,
-                    begun: clock,
-                    clock: clock + cost,
-                    stage: Stage::Halted { reason },
-                };
-            }
-            Stage::Entering | Stage::Over => unreachable!(),
+        let cost = state.bytecode(memory, code, cog, stage);
+        if is_ready(stage) {
+            clock += cost;
+        } else {
+            return Ran {
+                done,
+                begun: clock,
+                clock: clock + cost,
+            };
         }
     }
     Ran {
         done: budget,
         begun: clock,
         clock,
-        stage: Stage::Ready,
     }
 }

@@ -7,12 +7,12 @@ ghost use Rattle.p8_bcog.specs.declared.stage.Stage.TheVariants.{Ready, Over};
 ghost use Rattle.p8_bcog.specs.Origins.{IsSpin};
 ghost use Rattle.p8_bcog.specs.Replay.{IsAsked, Begins};
 ghost use Rattle.p8_bcog.specs.Standing.{standing, StandsFor};
-ghost use Rattle.p8_bcog.specs.Stops.{is_ready, IsSound, Stops, Announces};
+ghost use Rattle.p8_bcog.specs.Stops.{IsSound, Stops, Announces};
 ghost use Rattle.p8_bcog.specs.Single.{is_prop-IsSound};
 ghost use Rattle.p8_bcog.specs.Laws.{one-asked, asked-first, asked-later, pace_holds};
 
 use crate::accesses::{word_in, write_of};
-use crate::running::{behind, done_by, earliest, run, stage_of};
+use crate::running::{behind, done_by, earliest, is_ready, run, stage_of};
 use crate::stack::{OperandStack, own_strip};
 use crate::stage::Stage;
 use crate::state::State;
@@ -73,16 +73,6 @@ fn is_last(cog: u8, access: Access) -> bool
     }
 }
 
-/// Whether a bytecode is to be done next.
-fn is_ready(stage: Stage) -> bool
-    ensures { result ≡ is_ready stage }
-{
-    match stage {
-        Stage::Ready => true,
-        Stage::Entering | Stage::Asked { .. } | Stage::Halted { .. } | Stage::Over => false,
-    }
-}
-
 /// An access that counts from a clock on, if it comes below `until`.
 fn below(cog: u8, clock: u64, access: Access, until: u64) -> Next
     requires cog { cog < 8 }
@@ -107,13 +97,13 @@ fn below(cog: u8, clock: u64, access: Access, until: u64) -> Next
 }
 
 /// What a life tells that stands so.
-fn told(stage: Stage, state: &State, cog: u8, clock: u64, until: u64) -> Next
+fn told(stage: &Stage, state: &State, cog: u8, clock: u64, until: u64) -> Next
     requires cog { cog < 8 }
     requires until { until < 2 ^ 62 }
-    requires sound { IsSound stage state.now }
-    ensures stops { (reached : ℕ) → reached ≤ clock → clock ≤ reached + 544 → (stage ≡ Ready → reached ≡ clock) → Stops (standing cog stage state.now clock []) reached until result }
+    requires sound { IsSound stage.now state.now }
+    ensures stops { (reached : ℕ) → reached ≤ clock → clock ≤ reached + 544 → (stage.now ≡ Ready → reached ≡ clock) → Stops (standing cog stage.now state.now clock []) reached until result }
     ensures made { IsMadeNext result }
-    ensures near { result ≡ Quiet → (stage ≡ Over) ⊎ (until ≤ clock + 16) }
+    ensures near { result ≡ Quiet → (stage.now ≡ Over) ⊎ (until ≤ clock + 16) }
 {
     match stage {
         Stage::Entering => below(cog, clock, write_of(Width::Long, state.frame, 0), until),
@@ -124,8 +114,8 @@ fn told(stage: Stage, state: &State, cog: u8, clock: u64, until: u64) -> Next
                 Next::Quiet
             }
         }
-        Stage::Asked { access, .. } => below(cog, clock, access, until),
-        Stage::Halted { reason } => below(cog, clock, Access::Halt { reason }, until),
+        Stage::Asked { access, .. } => below(cog, clock, *access, until),
+        Stage::Halted { reason } => below(cog, clock, Access::Halt { reason: *reason }, until),
         Stage::Over => Next::Quiet,
     }
 }
@@ -250,11 +240,12 @@ impl Life for SpinCog {
 
     fn run_to_access(&mut self, until: u64, budget: u32) -> Next {
         self.announced = None;
-        if is_ready(self.stage) {
+        if is_ready(&self.stage) {
             let memory = self.code.bytes();
             let code = &memory[..code_end(memory)];
             let ran = run(
                 &mut self.state,
+                &mut self.stage,
                 memory,
                 code,
                 self.cog,
@@ -265,12 +256,11 @@ impl Life for SpinCog {
             self.done += u64::from(ran.done);
             self.reached = ran.begun;
             self.clock = ran.clock;
-            self.stage = ran.stage;
-            let next = told(ran.stage, &self.state, self.cog, ran.clock, until);
+            let next = told(&self.stage, &self.state, self.cog, ran.clock, until);
             self.announced = announced_in(next);
             next
         } else {
-            let next = told(self.stage, &self.state, self.cog, self.clock, until);
+            let next = told(&self.stage, &self.state, self.cog, self.clock, until);
             self.announced = announced_in(next);
             next
         }
@@ -292,9 +282,8 @@ impl Life for SpinCog {
                     self.stage = Stage::Over;
                     self.done += 1;
                 } else {
-                    let stage = stage_of(self.state.go_on(later, word_in(turn.answer)));
-                    self.stage = stage;
-                    self.done += done_by(stage);
+                    self.stage = stage_of(self.state.go_on(later, word_in(turn.answer)));
+                    self.done += done_by(&self.stage);
                 }
             }
             Stage::Halted { .. } => {

@@ -11,7 +11,7 @@ use Rattle.p8_bcog.proofs.spin.told.Goals as goal
 pub returns-in-Entering-clause-stops : goal.returns-in-Entering-clause-stops
 returns-in-Entering-clause-stops c = λ reached early late ready.
     subst (λ (o : Outcome State). Stops o reached c.args.until c.below.result)
-    (sym (entering_here c.args.cog c.args.stage c.args.state.now c.args.clock c.in-Entering.is
+    (sym (entering_here c.args.cog c.args.stage.now c.args.state.now c.args.clock c.in-Entering.is
     ∙ ap (λ (a : Access). Asks (earliest c.args.cog c.args.clock a) a) (sym c.write_of.ensures.access)))
     (c.below.ensures.stops reached early late)
 
@@ -22,11 +22,11 @@ returns-then-clock-until-clause-stops c = λ reached early late ready.
 pub returns-in-Asked-clause-stops : goal.returns-in-Asked-clause-stops
 returns-in-Asked-clause-stops c = λ reached early late ready.
     subst (λ (o : Outcome State). Stops o reached c.args.until c.below-in-Asked.result)
-    (sym (asked_here c.args.cog c.args.stage c.args.state.now c.args.clock c.in-Asked.access c.in-Asked.later c.in-Asked.is))
+    (sym (asked_here c.args.cog c.args.stage.now c.args.state.now c.args.clock c.in-Asked.access c.in-Asked.later c.in-Asked.is))
     (c.below-in-Asked.ensures.stops reached early late)
 
 pub returns-in-Halted-clause-stops : goal.returns-in-Halted-clause-stops
 returns-in-Halted-clause-stops c = λ reached early late ready.
     subst (λ (o : Outcome State). Stops o reached c.args.until c.below-in-Halted.result)
-    (sym (halted_here c.args.cog c.args.stage c.args.state.now c.args.clock c.in-Halted.reason c.in-Halted.is))
+    (sym (halted_here c.args.cog c.args.stage.now c.args.state.now c.args.clock c.in-Halted.reason c.in-Halted.is))
     (c.below-in-Halted.ensures.stops reached early late)

@@ -54,8 +54,8 @@ invariant_of-self-else-is_last c =
       below = omega (arith, near, c.behind-clock.ensures, c.requires.clock);
       counts = omega (arith, later, h.2, c.behind-clock.ensures, c.args.self.now.counts, c.done_by.ensures.most);
       ready = λ is. refl;
-      sound = sound_at c.go_on.result c.go_on.new.self c.stage_of-stage.result (sym c.stage_of-stage.ensures) c.go_on.ensures.good;
-      announces = announces_none c.args.self.now.cog c.stage_of-stage.result c.go_on.new.self c.behind-clock.result c.behind-clock.result;
+      sound = sound_at c.go_on.result c.go_on.new.self c.stage_of-self.result (sym c.stage_of-self.ensures) c.go_on.ensures.good;
+      announces = announces_none c.args.self.now.cog c.stage_of-self.result c.go_on.new.self c.behind-clock.result c.behind-clock.result;
     }
 
 pub invariant_of-self-in-Halted : goal.invariant_of-self-in-Halted
@@ -90,11 +90,11 @@ returns-then-is_last-clause-placed c = λ b ts stands live.
 
 pub returns-else-is_last-clause-stands : goal.returns-else-is_last-clause-stands
 returns-else-is_last-clause-stands c =
-    asked_stands c.args.self.now.code c.args.self.now.done c.done_by.result c.args.self.now.cog c.args.self.now.stage c.stage_of-stage.result c.args.self.now.state c.go_on.new.self c.args.self.now.clock c.behind-clock.result c.word_in.result c.in-Asked.access c.in-Asked.later c.go_on.result c.args.turn.now c.in-Asked.is (sym c.is_last.ensures ∙ c.if-is_last.false) c.stage_of-stage.ensures c.done_by.ensures.done c.behind-clock.ensures c.word_in.ensures c.go_on.ensures.does
+    asked_stands c.args.self.now.code c.args.self.now.done c.done_by.result c.args.self.now.cog c.args.self.now.stage c.stage_of-self.result c.args.self.now.state c.go_on.new.self c.args.self.now.clock c.behind-clock.result c.word_in.result c.in-Asked.access c.in-Asked.later c.go_on.result c.args.turn.now c.in-Asked.is (sym c.is_last.ensures ∙ c.if-is_last.false) c.stage_of-self.ensures c.done_by.ensures.done c.behind-clock.ensures c.word_in.ensures c.go_on.ensures.does
 
 pub returns-else-is_last-clause-placed : goal.returns-else-is_last-clause-placed
 returns-else-is_last-clause-placed c = λ b ts stands live.
-    placed c.args.self.now.code (c.args.self.now.done + c.done_by.result) c.args.self.now.cog c.stage_of-stage.result c.go_on.new.self c.behind-clock.result b (ts ++ c.args.turn.now ∷ []) (returns-else-is_last-clause-stands c b ts stands) live
+    placed c.args.self.now.code (c.args.self.now.done + c.done_by.result) c.args.self.now.cog c.stage_of-self.result c.go_on.new.self c.behind-clock.result b (ts ++ c.args.turn.now ∷ []) (returns-else-is_last-clause-stands c b ts stands) live
 
 pub returns-else-is_last-clause-reached : goal.returns-else-is_last-clause-reached
 returns-else-is_last-clause-reached c =

@@ -1,0 +1,179 @@
+-- Bytecodes that ask nothing, read from their first two bytes.
+use Rattle.std.proofs.Common.{◌≡◌, refl, sym, ap, ◌∙◌, arith, ℕ, ◌+◌, ◌-◌, ◌^◌, ◌≤◌, ◌<◌, Bool, true, false, ◌&&◌, if◌then◌else◌, nat_lt, nat_le, List, [], ◌∷◌, drop, length, slice_index, Option, Some, None, option_map, Result, MatchOption, subst}
+use Rattle.std.proofs.lemmas.List.{drop_more}
+use Rattle.p8_access.specs.declared.kinds.Reason.{Reason}
+use Rattle.std.proofs.lemmas.Bool.Decides.{nat_tests}
+use Rattle.p8_courses.specs.Courses.{Course, Finish}
+use Rattle.p8_bytecode.specs.declared.op.Op.{Op}
+use Rattle.p8_bytecode.specs.declared.operands.Operands.{Operands}
+use Rattle.p8_bytecode.specs.declared.operands.Operands.TheVariants.{Nothing, Offset}
+use Rattle.p8_bytecode.specs.Table.{rows, in_rows, is_within, operands_of}
+use Rattle.p8_bytecode.specs.Reading.{bare, sign_extended, offset_in, jump_in, coded}
+use Rattle.p8_bcog.specs.declared.state.State.{State}
+use Rattle.p8_bcog.specs.Operands.{tested, pushed}
+use Rattle.p8_bcog.specs.Control.{jump, loop_begins, loop_ends, jump_if_zero, jump_unless_zero}
+use Rattle.p8_bcog.specs.Bytecodes.{row, call_row, test_row, return_row, constant_row, operator_row, packed, does_found, clocks_of, is_slow, bytecode, clocks}
+use Rattle.p8_bcog.specs.Code.{code_of, fetched}
+use Rattle.p8_bcog.specs.Quick.{finishes, passed, found_at, IsQuick, is_fast_operator}
+
+-- ---- tests
+
+if-no : {A : Type 0} (b : Bool) (x y : A) → b ≡ false → (if b then x else y) ≡ y
+if-no b x y is = ap (λ (c : Bool). if c then x else y) is
+
+if-yes : {A : Type 0} (b : Bool) (x y : A) → b ≡ true → (if b then x else y) ≡ x
+if-yes b x y is = ap (λ (c : Bool). if c then x else y) is
+
+not-less : (n m : ℕ) → m ≤ n → nat_lt n m ≡ false
+not-less n m le = grind (arith, nat_tests)
+
+less : (n m : ℕ) → n < m → nat_lt n m ≡ true
+less n m is = grind (arith, nat_tests)
+
+above : (first last n : ℕ) → last < n → is_within first last n ≡ false
+above first last n less = grind (arith, nat_tests)
+
+inside : (first last n : ℕ) → first ≤ n → n ≤ last → is_within first last n ≡ true
+inside first last n least most = grind (arith, nat_tests)
+
+-- ---- a bytecode that is found
+
+-- what was read behind the byte of a bytecode that stands at an address
+abbrev further : (at : ℕ) → Option (Op × ℕ) → Option (Op × ℕ)
+further at read = option_map (λ (r : Op × ℕ). (r.0, at + r.1)) (option_map (λ (r : Op × ℕ). (r.0, 1 + r.1)) read)
+
+found-quick : (bytes : List ℕ) (s : State) (op : Op) (next : ℕ) (course : Course State) → found_at bytes s.at ≡ Some (op, next) → is_slow op ≡ false → ((memory : List ℕ) (cog : ℕ) → row memory cog op (record s { at = next }) ≡ course) → IsQuick bytes s course
+found-quick bytes s op next course found fast does = λ memory cog. (
+  ap (λ (f : Option (Op × ℕ)). does_found memory cog f s) found ∙ does memory cog,
+  ap clocks_of found ∙ if-no (is_slow op) 544 32 fast,
+)
+
+-- where the code's parts are known by equations
+pub quick-by : (byte code operand value wanted size : ℕ) (rest : List ℕ) (s at : State) (f : ℕ → State → Course State) (course : Course State) → byte ≡ code → at ≡ passed size s → value ≡ wanted → course ≡ f value at → IsQuick (code ∷ operand ∷ rest) s (f wanted (passed size s)) → IsQuick (byte ∷ operand ∷ rest) s course
+quick-by byte code operand value wanted size rest s at f course is goes same comes quick =
+    subst (λ (c : Course State). IsQuick (byte ∷ operand ∷ rest) s c)
+    (ap (λ (v : ℕ). f v (passed size s)) (sym same) ∙ ap (f value) (sym goes) ∙ sym comes)
+    (subst (λ (b : ℕ). IsQuick (b ∷ operand ∷ rest) s (f wanted (passed size s))) (sym is) quick)
+
+-- ---- jumps of two bytes
+
+short-offset : (operand : ℕ) (rest : List ℕ) → nat_lt operand 128 ≡ true → offset_in (operand ∷ rest) ≡ Some (sign_extended 7 operand, false)
+short-offset operand [] is = if-yes (nat_lt operand 128) _ _ is
+short-offset operand (low ∷ rest) is = if-yes (nat_lt operand 128) _ _ is
+
+abbrev jumping : (code operand : ℕ) → Op
+jumping code operand = record (bare code) { first = sign_extended 7 operand; long_form = false }
+
+found-jump : (code operand at : ℕ) (rest : List ℕ) → nat_lt operand 128 ≡ true → operands_of code ≡ Some Offset → found_at (code ∷ operand ∷ rest) at ≡ Some (jumping code operand, at + 2)
+found-jump code operand at rest is jumps =
+    ap (λ (o : Option Operands). further at (coded o code (operand ∷ rest))) jumps
+    ∙ ap (λ (o : Option (ℕ × Bool)). further at (jump_in code o)) (short-offset operand rest is)
+
+pub quick-jump : (operand : ℕ) (rest : List ℕ) (s : State) → operand < 128 → IsQuick (0x04 ∷ operand ∷ rest) s (jump (sign_extended 7 operand) (passed 2 s))
+unfolding rows row call_row
+quick-jump operand rest s is = found-quick (0x04 ∷ operand ∷ rest) s _ _ _ (found-jump 0x04 operand s.at rest (less operand 128 is) refl) refl (λ memory cog. refl)
+
+pub quick-loop-begins : (operand : ℕ) (rest : List ℕ) (s : State) → operand < 128 → IsQuick (0x08 ∷ operand ∷ rest) s (loop_begins (sign_extended 7 operand) (passed 2 s))
+unfolding rows row test_row
+quick-loop-begins operand rest s is = found-quick (0x08 ∷ operand ∷ rest) s _ _ _ (found-jump 0x08 operand s.at rest (less operand 128 is) refl) refl (λ memory cog. refl)
+
+pub quick-loop-ends : (operand : ℕ) (rest : List ℕ) (s : State) → operand < 128 → IsQuick (0x09 ∷ operand ∷ rest) s (loop_ends (sign_extended 7 operand) (passed 2 s))
+unfolding rows row test_row
+quick-loop-ends operand rest s is = found-quick (0x09 ∷ operand ∷ rest) s _ _ _ (found-jump 0x09 operand s.at rest (less operand 128 is) refl) refl (λ memory cog. refl)
+
+pub quick-jump-if-zero : (operand : ℕ) (rest : List ℕ) (s : State) → operand < 128 → IsQuick (0x0A ∷ operand ∷ rest) s (jump_if_zero (sign_extended 7 operand) (passed 2 s))
+unfolding rows row test_row
+quick-jump-if-zero operand rest s is = found-quick (0x0A ∷ operand ∷ rest) s _ _ _ (found-jump 0x0A operand s.at rest (less operand 128 is) refl) refl (λ memory cog. refl)
+
+pub quick-jump-unless-zero : (operand : ℕ) (rest : List ℕ) (s : State) → operand < 128 → IsQuick (0x0B ∷ operand ∷ rest) s (jump_unless_zero (sign_extended 7 operand) (passed 2 s))
+unfolding rows row test_row
+quick-jump-unless-zero operand rest s is = found-quick (0x0B ∷ operand ∷ rest) s _ _ _ (found-jump 0x0B operand s.at rest (less operand 128 is) refl) refl (λ memory cog. refl)
+
+-- ---- constants
+
+abbrev pub leaves : (value : ℕ) → State → Course State
+leaves value s = tested 0 1 s (Finish (pushed value s))
+
+pub quick-minus-one : (operand : ℕ) (rest : List ℕ) (s : State) → IsQuick (0x34 ∷ operand ∷ rest) s (leaves (2 ^ 32 - 1) (passed 1 s))
+unfolding rows row return_row constant_row
+quick-minus-one operand rest s = λ memory cog. (refl, refl)
+
+pub quick-zero : (operand : ℕ) (rest : List ℕ) (s : State) → IsQuick (0x35 ∷ operand ∷ rest) s (leaves 0 (passed 1 s))
+unfolding rows row return_row constant_row
+quick-zero operand rest s = λ memory cog. (refl, refl)
+
+pub quick-one : (operand : ℕ) (rest : List ℕ) (s : State) → IsQuick (0x36 ∷ operand ∷ rest) s (leaves 1 (passed 1 s))
+unfolding rows row return_row constant_row
+quick-one operand rest s = λ memory cog. (refl, refl)
+
+pub quick-packed : (operand : ℕ) (rest : List ℕ) (s : State) → operand < 128 → IsQuick (0x37 ∷ operand ∷ rest) s (leaves (packed operand) (passed 2 s))
+unfolding rows row return_row constant_row
+quick-packed operand rest s is = found-quick (0x37 ∷ operand ∷ rest) s (record (bare 0x37) { first = operand }) (s.at + 2) _
+    (ap (further s.at) (if-yes (nat_lt operand 128) (Some (record (bare 0x37) { first = operand }, 1)) None (less operand 128 is)))
+    refl (λ memory cog. refl)
+
+pub quick-byte : (operand : ℕ) (rest : List ℕ) (s : State) → IsQuick (0x38 ∷ operand ∷ rest) s (leaves operand (passed 2 s))
+unfolding rows row return_row constant_row
+quick-byte operand rest s = λ memory cog. (refl, refl)
+
+-- ---- operators
+
+-- the rows from the first on that doesn't end below n
+from-row : (n : ℕ) → List (ℕ × ℕ × Operands) → List (ℕ × ℕ × Operands)
+from-row n [] = []
+from-row n (line ∷ lines) = if nat_lt line.1 n then from-row n lines else line ∷ lines
+
+skipped : (n k : ℕ) (ends : Bool) (line : ℕ × ℕ × Operands) (lines : List (ℕ × ℕ × Operands)) → nat_lt line.1 n ≡ ends → n ≤ k → in_rows lines k ≡ in_rows (from-row n lines) k → in_rows (line ∷ lines) k ≡ in_rows (if ends then from-row n lines else line ∷ lines) k
+skipped n k true line lines is le same = if-no (is_within line.0 line.1 k) _ _ (above line.0 line.1 k (grind (arith, nat_tests))) ∙ same
+skipped n k false line lines is le same = refl
+
+skips : (n k : ℕ) (lines : List (ℕ × ℕ × Operands)) → n ≤ k → in_rows lines k ≡ in_rows (from-row n lines) k
+unfolding from-row
+skips n k [] le = refl
+skips n k (line ∷ lines) le = skipped n k (nat_lt line.1 n) line lines refl le (skips n k lines le)
+
+operator-alone : (k : ℕ) → 0xE0 ≤ k → k ≤ 0xFF → operands_of k ≡ Some Nothing
+unfolding rows from-row
+operator-alone k least most = skips 0xE0 k rows least ∙ if-yes (is_within 0xE0 0xFF k) _ _ (inside 0xE0 0xFF k least most)
+
+operator-row : (k : ℕ) (memory : List ℕ) (cog : ℕ) (s : State) → 0xE0 ≤ k → row memory cog (bare k) s ≡ operator_row (bare k) s
+unfolding row
+operator-row k memory cog s least =
+    if-no (nat_lt k 0x08) _ _ (not-less k 0x08 (omega (arith, least)))
+    ∙ if-no (nat_lt k 0x10) _ _ (not-less k 0x10 (omega (arith, least)))
+    ∙ if-no (nat_lt k 0x16) _ _ (not-less k 0x16 (omega (arith, least)))
+    ∙ if-no (nat_lt k 0x20) _ _ (not-less k 0x20 (omega (arith, least)))
+    ∙ if-no (nat_lt k 0x30) _ _ (not-less k 0x30 (omega (arith, least)))
+    ∙ if-no (nat_lt k 0x40) _ _ (not-less k 0x40 (omega (arith, least)))
+    ∙ if-no (nat_lt k 0x80) _ _ (not-less k 0x80 (omega (arith, least)))
+    ∙ if-no (nat_lt k 0xE0) _ _ (not-less k 0xE0 least)
+
+fast-least : (k : ℕ) → is_fast_operator k ≡ true → 0xE0 ≤ k
+fast-least k is = grind (arith, nat_tests)
+
+fast-not-slow : (k : ℕ) → is_fast_operator k ≡ true → is_slow (bare k) ≡ false
+fast-not-slow k is = if-no (nat_lt k 0xE0) _ _ (not-less k 0xE0 (fast-least k is)) ∙ between k is
+  where
+    between : (k : ℕ) → is_fast_operator k ≡ true → (nat_le 0xF4 k && nat_le k 0xF8) ≡ false
+    between k is = grind (arith, nat_tests)
+
+pub quick-operator : (k operand : ℕ) (rest : List ℕ) (s at : State) (course : Course State) → is_fast_operator k ≡ true → k ≤ 0xFF → at ≡ passed 1 s → course ≡ operator_row (bare k) at → IsQuick (k ∷ operand ∷ rest) s course
+quick-operator k operand rest s at course fast most goes comes = found-quick (k ∷ operand ∷ rest) s (bare k) (s.at + 1) course
+    (ap (λ (o : Option Operands). further s.at (coded o k (operand ∷ rest))) (operator-alone k (fast-least k fast) most))
+    (fast-not-slow k fast)
+    (λ memory cog. operator-row k memory cog (passed 1 s) (fast-least k fast) ∙ ap (operator_row (bare k)) (sym goes) ∙ sym comes)
+
+-- ---- the first two bytes in the code
+
+pub reads-two : {A : Type 0} (code : List ℕ) (s new : State) (at byte operand : ℕ) (r : Option (Result A Reason)) → at ≡ s.at → 16 ≤ at → at + 1 < length code → byte ≡ slice_index code at → operand ≡ slice_index code (at + 1) → MatchOption r (new ≡ s) (λ finished. (rest : List ℕ) → IsQuick (byte ∷ operand ∷ rest) s (finishes finished new)) → MatchOption r (new ≡ s) (λ finished. (memory : List ℕ) (cog : ℕ) → code ≡ code_of memory → (finishes finished new ≡ bytecode memory cog s) × (clocks memory s ≡ 32))
+reads-two code s new at byte operand None is least within first second same = same
+reads-two code s new at byte operand (Some finished) is least within first second quick = λ memory cog of.
+    let found : fetched memory s.at ≡ found_at (byte ∷ operand ∷ drop (at + 1 + 1) code) s.at =
+    if-no (nat_lt s.at 16) None (found_at (drop s.at (code_of memory)) s.at) (not-less s.at 16 (omega (arith, least, is)))
+    ∙ ap (λ (c : List ℕ). found_at (drop s.at c) s.at) (sym of)
+    ∙ ap (λ (place : ℕ). found_at (drop place code) s.at) (sym is)
+    ∙ ap (λ (bytes : List ℕ). found_at bytes s.at) (drop_more code at 0 (omega (arith, within)) ∙ ap (λ (bytes : List ℕ). slice_index code at ∷ bytes) (drop_more code (at + 1) 0 within))
+    ∙ ap (λ (b : ℕ). found_at (b ∷ slice_index code (at + 1) ∷ drop (at + 1 + 1) code) s.at) (sym first)
+    ∙ ap (λ (b : ℕ). found_at (byte ∷ b ∷ drop (at + 1 + 1) code) s.at) (sym second) in
+    let does = quick (drop (at + 1 + 1) code) memory cog in
+    (sym (ap (λ (f : Option (Op × ℕ)). does_found memory cog f s) found ∙ does.0), ap clocks_of found ∙ does.1)

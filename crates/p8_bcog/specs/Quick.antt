@@ -1,0 +1,30 @@
+-- internal: bytecodes that ask nothing, and how a bytecode is read from its first bytes. No public contract cites it.
+use Rattle.std.specs.Prelude.{ℕ, ◌+◌, ◌≡◌, Bool, not, ◌&&◌, nat_le, List, Option, Result, Ok, Err, option_map}
+use Rattle.p8_access.specs.declared.kinds.Reason.{Reason}
+use Rattle.p8_courses.specs.Courses.{Course, Finish, Stop}
+use Rattle.p8_bytecode.specs.declared.op.Op.{Op}
+use Rattle.p8_bytecode.specs.Reading.{op_in}
+use Rattle.p8_bcog.specs.declared.state.State.{State}
+use Rattle.p8_bcog.specs.Bytecodes.{does_found, clocks_of}
+
+-- what comes of a bytecode that asks nothing: it is done, or an error halts the cog
+abbrev pub finishes : {A : Type 0} → Result A Reason → State → Course State
+finishes (Ok done) s = Finish s
+finishes (Err reason) s = Stop reason
+
+-- so many bytes further on
+abbrev pub passed : (bytes : ℕ) → State → State
+passed bytes s = record s { at = s.at + bytes }
+
+-- the bytecode at the head of some bytes that begin at an address, and the address after it
+abbrev pub found_at : (bytes : List ℕ) (at : ℕ) → Option (Op × ℕ)
+found_at bytes at = option_map (λ read. (read.0, at + read.1)) (op_in bytes)
+
+-- the bytecode at the head of these bytes takes 32 clocks, and comes to this whatever the memory and the cog
+abbrev pub IsQuick : (bytes : List ℕ) → State → Course State → Type 0
+IsQuick bytes s course =
+    (memory : List ℕ) (cog : ℕ) → (does_found memory cog (found_at bytes s.at) s ≡ course) × (clocks_of (found_at bytes s.at) ≡ 32)
+
+-- the operators that take 32 clocks
+abbrev pub is_fast_operator : (code : ℕ) → Bool
+is_fast_operator code = nat_le 0xE0 code && not (nat_le 0xF4 code && nat_le code 0xF8)

@@ -1,0 +1,123 @@
+// Bytecodes that ask nothing, done straight on their bytes.
+ghost use Rattle.std.specs.Prelude.{ℕ, ◌≡◌, ◌<◌, ◌≤◌, ◌+◌, ◌^◌, ◌∷◌, List, length, slice_index, MatchOption};
+ghost use Rattle.p8_bytecode.specs.Reading.{sign_extended};
+ghost use Rattle.p8_bcog.specs.Code.{code_of};
+ghost use Rattle.p8_bcog.specs.Bytecodes.{bytecode, clocks};
+ghost use Rattle.p8_bcog.specs.Quick.{finishes, passed, IsQuick, is_fast_operator};
+
+use crate::bytecodes::packed;
+use crate::state::State;
+use p8_access::Reason;
+
+/// The offset of a jump of one byte, a word in two's complement.
+#[inline]
+fn short_offset(byte: u8) -> u32
+    requires { byte < 128 }
+    ensures { result ≡ sign_extended 7 byte }
+{
+    if byte < 64 {
+        u32::from(byte)
+    } else {
+        u32::from(byte) + 0xFFFF_FF80
+    }
+}
+
+/// Whether a bytecode is an operator that takes 32 clocks.
+#[inline]
+fn is_fast_operator(code: u8) -> bool
+    ensures { result ≡ is_fast_operator code }
+{
+    code >= 0xE0 && !(code >= 0xF4 && code <= 0xF8)
+}
+
+/// A byte of the code.
+#[inline]
+fn byte_of(code: &[u8], place: usize) -> u8
+    requires { place < length code.now }
+    ensures { result ≡ slice_index code.now place }
+{
+    code[place]
+}
+
+impl State {
+    /// Goes on after so many bytes.
+    #[inline]
+    fn pass(&mut self, bytes: u16)
+        requires { self.old.at + bytes < 2 ^ 16 }
+        ensures { self.new ≡ passed bytes self.old }
+    {
+        self.at += bytes;
+    }
+
+    /// Does the bytecode that these two bytes begin, if it is one of the most frequent that ask nothing and take 32 clocks.
+    #[inline]
+    fn quick_on(&mut self, byte: u8, operand: u8) -> Option<Result<(), Reason>>
+        requires { self.old.at + 2 < 2 ^ 16 }
+        ensures { MatchOption result (self.new ≡ self.old) (λ finished. (rest : List ℕ) → IsQuick (byte ∷ operand ∷ rest) self.old (finishes finished self.new)) }
+    {
+        match byte {
+            0x04 if operand < 128 => {
+                self.pass(2);
+                self.jump(short_offset(operand));
+                Some(Ok(()))
+            }
+            0x08 if operand < 128 => {
+                self.pass(2);
+                Some(self.loop_begins(short_offset(operand)))
+            }
+            0x09 if operand < 128 => {
+                self.pass(2);
+                Some(self.loop_ends(short_offset(operand)))
+            }
+            0x0A if operand < 128 => {
+                self.pass(2);
+                Some(self.jump_if_zero(short_offset(operand)))
+            }
+            0x0B if operand < 128 => {
+                self.pass(2);
+                Some(self.jump_unless_zero(short_offset(operand)))
+            }
+            0x34 => {
+                self.pass(1);
+                Some(self.leave_constant(u32::MAX))
+            }
+            0x35 => {
+                self.pass(1);
+                Some(self.leave_constant(0))
+            }
+            0x36 => {
+                self.pass(1);
+                Some(self.leave_constant(1))
+            }
+            0x37 if operand < 128 => {
+                self.pass(2);
+                Some(self.leave_constant(packed(u32::from(operand))))
+            }
+            0x38 => {
+                self.pass(2);
+                Some(self.leave_constant(u32::from(operand)))
+            }
+            _ if is_fast_operator(byte) => {
+                self.pass(1);
+                Some(self.operate(byte))
+            }
+            _ => None,
+        }
+    }
+
+    /// Does the bytecode that stands where the cog is, if it is one of the most frequent that ask nothing and take 32 clocks.
+    #[inline]
+    pub fn quick(&mut self, code: &[u8]) -> Option<Result<(), Reason>>
+        requires room { length code.now ≤ 32768 }
+        ensures { MatchOption result (self.new ≡ self.old) (λ finished. (memory : List ℕ) (cog : ℕ) → code.now ≡ code_of memory → (finishes finished self.new ≡ bytecode memory cog self.old) × (clocks memory self.old ≡ 32)) }
+    {
+        let at = usize::from(self.at);
+        if at < 16 {
+            return None;
+        }
+        if at + 1 >= code.len() {
+            return None;
+        }
+        self.quick_on(byte_of(code, at), byte_of(code, at + 1))
+    }
+}
