@@ -1,0 +1,5 @@
+pub mod Back
+pub mod Forms
+pub mod Judging
+pub mod Walking
+pub mod OneVerdict

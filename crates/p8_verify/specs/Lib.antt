@@ -1,0 +1,7 @@
+-- What public contracts cite.
+pub mod Table
+pub mod Files
+pub mod Verdicts
+pub mod Answers
+-- internal: how a record is read.
+pub mod Reading
