@@ -1,5 +1,5 @@
 -- A turn that has a record is the one that is made from the record's numbers.
-use Rattle.std.proofs.Common.{◌≡◌, ◌∙◌, ap, sym, subst, refl, ℕ, zero, suc, ◌+◌, ◌*◌, ◌/◌, ◌%◌, ◌^◌, ◌==◌, ◌<◌, ◌≤◌, nat_lt, if◌then◌else◌, List, [], ◌∷◌, ◌++◌, drop, take, length, slice_index, Option, Some, None, true, false, arith}
+use Rattle.std.proofs.Common.{◌≡◌, ◌∙◌, ap, sym, subst, refl, ℕ, ◌/◌, ◌%◌, ◌^◌, ◌<◌, ◌≤◌, nat_lt, List, [], ◌++◌, drop, take, length, Option, Some, None, true, false, arith}
 use Rattle.std.proofs.Math.Nat.{mod-eq_of_lt}
 use Rattle.std.proofs.lemmas.List.{take-append-drop}
 use Rattle.std.proofs.lemmas.Bool.Decides.{nat_tests}
@@ -20,9 +20,8 @@ use Rattle.p8_access.specs.declared.kinds.Answer.TheVariants.{Done, Value, Numbe
 use Rattle.p8_access.specs.declared.order.Turn.{Turn}
 use Rattle.p8_access.specs.Proper.{IsNumber}
 use Rattle.p8_verify.specs.declared.table.AccessFields.{AccessFields}
-use Rattle.p8_verify.specs.declared.table.AnswerFields.{AnswerFields}
-use Rattle.p8_verify.specs.Table.{fields, pair, width_number, target_number, start_fields, test_fields, reason_fields, access_fields, answer_fields, record_of, turn_bytes, IsOriginWithin, IsTestWithin, IsReasonWithin, IsAccessWithin, IsAnswerWithin, IsWithin, IsRecord, NoRecord}
-use Rattle.p8_verify.specs.Reading.{width_by, target_by, origin_by, test_by, reason_by, access_by, answer_by, turn_by}
+use Rattle.p8_verify.specs.Table.{fields, pair, width_number, target_number, start_fields, test_fields, reason_fields, access_fields, answer_fields, turn_bytes, IsOriginWithin, IsTestWithin, IsReasonWithin, IsAccessWithin, IsAnswerWithin, IsWithin, IsRecord, NoRecord}
+use Rattle.p8_verify.specs.Reading.{width_by, target_by, origin_by, access_by, answer_by, turn_by}
 
 low : (a b : ℕ) → a < 65536 → pair a b % 65536 ≡ a
 low a b h = omega arith
@@ -173,11 +172,11 @@ pub turn-back : (turn : Turn) (rest : List ℕ) → IsWithin turn → turn_by (t
 turn-back turn rest w =
     let longs = access-longs turn.access w.access in
     let access : access_by (fields (access_fields turn.access).kind (access_fields turn.access).extra (little_number 4 (little_bytes 4 (access_fields turn.access).a)) (little_number 4 (little_bytes 4 (access_fields turn.access).b)) (little_number 4 (little_bytes 4 (access_fields turn.access).c))) ≡ turn.access =
-      (λ i. access_by (fields (access_fields turn.access).kind (access_fields turn.access).extra (long-back (access_fields turn.access).a longs.a i) (long-back (access_fields turn.access).b longs.b i) (long-back (access_fields turn.access).c longs.c i)))
-      ∙ access-back turn.access w.access in
+    (λ i. access_by (fields (access_fields turn.access).kind (access_fields turn.access).extra (long-back (access_fields turn.access).a longs.a i) (long-back (access_fields turn.access).b longs.b i) (long-back (access_fields turn.access).c longs.c i)))
+    ∙ access-back turn.access w.access in
     let answer : answer_by (record { kind = (answer_fields turn.answer).kind; value = little_number 4 (little_bytes 4 (answer_fields turn.answer).value) }) ≡ turn.answer =
-      (λ i. answer_by (record { kind = (answer_fields turn.answer).kind; value = long-back (answer_fields turn.answer).value (answer-long turn.answer w.answer) i }))
-      ∙ answer-back turn.answer w.answer in
+    (λ i. answer_by (record { kind = (answer_fields turn.answer).kind; value = long-back (answer_fields turn.answer).value (answer-long turn.answer w.answer) i }))
+    ∙ answer-back turn.answer w.answer in
     λ i. record { key = record { clock = long-back turn.key.clock w.clock i; cog = turn.key.cog }; access = access i; answer = answer i }
 
 -- bytes that begin with a record: they are long enough, and it is the record of the turn that is made from it
@@ -195,7 +194,7 @@ no-other bytes made e none turn rest is =
 pub split-record : (bytes : List ℕ) (turn : Turn) → IsWithin turn → take 24 bytes ≡ turn_bytes turn → IsRecord bytes turn (drop 24 bytes)
 split-record bytes turn within e = record {
   within = within;
-  bytes_are = sym (take-append-drop 24 bytes) ∙ ap (λ (xs : List ℕ). xs ++ drop 24 bytes) e
+  bytes_are = sym (take-append-drop 24 bytes) ∙ ap (λ (xs : List ℕ). xs ++ drop 24 bytes) e;
 }
 
 -- bytes begin with the record of one turn

@@ -1,8 +1,7 @@
 -- A file has one head, and its bytes are the records of one list of turns, or break at one turn.
-use Rattle.std.proofs.Common.{◌≡◌, ◌∙◌, ap, sym, subst, refl, ℕ, zero, suc, ◌+◌, ◌-◌, ◌<◌, ◌≤◌, ◌^◌, ◌⊎◌, inl, inr, List, [], ◌∷◌, ◌++◌, drop, length, arith}
-use Rattle.std.specs.List.{All}
+use Rattle.std.proofs.Common.{◌≡◌, ◌∙◌, ap, sym, subst, refl, ℕ, zero, suc, ◌+◌, ◌-◌, ◌<◌, inl, inr, List, [], ◌∷◌, ◌++◌, drop, length, arith}
 use Rattle.std.proofs.lemmas.List.Elements.{All-nil, All-cons, All-head, All-tail}
-use Rattle.byteorder.specs.Endian.{little_bytes, little_number}
+use Rattle.byteorder.specs.Endian.{little_number}
 use Rattle.byteorder.specs.Numbers.{little_number-reads_back}
 use Rattle.p8_access.specs.declared.order.Turn.{Turn}
 use Rattle.p8_verify.specs.declared.head.Head.{Head}
@@ -15,7 +14,7 @@ head-in : List ℕ → Head
 head-in bytes = record {
   clocks = little_number 4 (drop 4 bytes);
   turns = little_number 4 (drop 8 bytes);
-  count = little_number 4 (drop 12 bytes)
+  count = little_number 4 (drop 12 bytes);
 }
 
 head-back : (head : Head) (rest : List ℕ) → IsHeadWithin head → head-in (head_bytes head ++ rest) ≡ head
@@ -39,7 +38,7 @@ other-records : (count : ℕ) (bytes : List ℕ) (turn : Turn) (turns : List Tur
 other-records count bytes turn turns are = record {
   within = All-tail IsWithin turn turns are.within;
   count_is = (let h = are.count_is in omega arith);
-  bytes_are = refl
+  bytes_are = refl;
 }
 
 pub one-list : (count : ℕ) (bytes : List ℕ) (ts us : List Turn) → AreRecords count bytes ts → AreRecords count bytes us → ts ≡ us
@@ -61,8 +60,8 @@ whole (suc count) n bytes [] at are breaks = absurd (let h = are.count_is in ome
 whole (suc count) n bytes (t ∷ ts) at are breaks = elim breaks [
   | inl here ↦ here.1 t (records ts) (first-record (suc count) bytes t ts are)
   | inr later ↦
-    (let same = one-record bytes t later.0 (records ts) later.1 (first-record (suc count) bytes t ts are) later.2 in
-    whole count (n + 1) later.1 ts at (subst (λ (xs : List ℕ). AreRecords count xs ts) same.1 (other-records count bytes t ts are)) later.3)
+      (let same = one-record bytes t later.0 (records ts) later.1 (first-record (suc count) bytes t ts are) later.2 in
+      whole count (n + 1) later.1 ts at (subst (λ (xs : List ℕ). AreRecords count xs ts) same.1 (other-records count bytes t ts are)) later.3)
 ]
 
 -- records break at one turn
@@ -76,8 +75,8 @@ one-break (suc count) n bytes a b p q = elim p [
   | inr on ↦ elim q [
     | inl here ↦ absurd (here.1 on.0 on.1 on.2)
     | inr later ↦
-      (let same = one-record bytes on.0 later.0 on.1 later.1 on.2 later.2 in
-      one-break count (n + 1) later.1 a b (subst (λ (xs : List ℕ). BreaksAt count (n + 1) xs a) same.1 on.3) later.3)
+        (let same = one-record bytes on.0 later.0 on.1 later.1 on.2 later.2 in
+        one-break count (n + 1) later.1 a b (subst (λ (xs : List ℕ). BreaksAt count (n + 1) xs a) same.1 on.3) later.3)
   ]
 ]
 
@@ -102,11 +101,12 @@ pub records-with : (count index : ℕ) (bytes rest : List ℕ) (turn : Turn) (tu
 records-with count index bytes rest turn turns h is are = record {
   within = All-cons IsWithin turn turns is.within are.within;
   count_is = (let e = are.count_is in omega arith);
-  bytes_are = is.bytes_are ∙ ap (λ (xs : List ℕ). turn_bytes turn ++ xs) are.bytes_are
+  bytes_are = is.bytes_are ∙ ap (λ (xs : List ℕ). turn_bytes turn ++ xs) are.bytes_are;
 }
 
-pub no-records : (count index : ℕ) (bytes : List ℕ) → index ≡ count → bytes ≡ [] → AreRecords (count - index) bytes []
-no-records count index bytes e none = record { within = All-nil IsWithin; count_is = omega arith; bytes_are = none }
+pub no-records : (count index : ℕ) (bytes : List ℕ) → index ≡ count → length bytes ≡ 0 → AreRecords (count - index) bytes []
+no-records count index [] e none = record { within = All-nil IsWithin; count_is = omega arith; bytes_are = refl }
+no-records count index (byte ∷ bytes) e none = absurd (omega arith)
 
 -- what is read of records that are whole: the first turn, and the others after it
 pub record Taken (count index : ℕ) (bytes : List ℕ) (turns : List Turn) (turn : Turn) (rest : List ℕ) : Type 0 where

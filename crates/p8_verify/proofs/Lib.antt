@@ -2,4 +2,6 @@ pub mod Back
 pub mod Forms
 pub mod Judging
 pub mod Walking
+pub mod Clocks
+pub mod Appending
 pub mod OneVerdict

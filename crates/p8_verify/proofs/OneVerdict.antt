@@ -1,5 +1,5 @@
 -- A file has one verdict, and it is good exactly where the file is that of an ended history.
-use Rattle.std.proofs.Common.{◌≡◌, ◌∙◌, ap, sym, subst, refl, ℕ, ◌≤◌, ◌⊎◌, inl, inr, List, [], ◌∷◌, ◌++◌, length, reverse, arith}
+use Rattle.std.proofs.Common.{◌≡◌, ◌∙◌, ap, sym, subst, refl, ℕ, inl, inr, List, [], ◌++◌, length, reverse}
 use Rattle.std.proofs.lemmas.List.{reverse-reverse, length-reverse, append-nil}
 use Rattle.std.specs.List.{All}
 use Rattle.p8_access.specs.declared.memory.Boot.{Boot}
@@ -7,16 +7,13 @@ use Rattle.p8_access.specs.declared.order.Turn.{Turn}
 use Rattle.p8_history.specs.Worlds.{World, Line}
 use Rattle.p8_history.specs.Histories.{Ended}
 use Rattle.p8_lives.specs.Lives.{asks}
-use Rattle.p8_machine.specs.declared.outcome.Limits.{Limits}
 use Rattle.p8_machine.specs.Worlds.{world_of}
 use Rattle.p8_verify.specs.declared.head.Head.{Head}
-use Rattle.p8_verify.specs.declared.verdicts.Cause.{Cause}
-use Rattle.p8_verify.specs.declared.verdicts.Cause.TheVariants.{Form, Extra, Key, Access, Answer, More}
 use Rattle.p8_verify.specs.declared.verdicts.Verdict.{Verdict}
 use Rattle.p8_verify.specs.declared.verdicts.Verdict.TheVariants.{Good, Bad}
 use Rattle.p8_verify.specs.Table.{IsWithin}
-use Rattle.p8_verify.specs.Files.{head_of, file_of, head_bytes, records, IsFile, IsHeadWithin, IsHead, AreRecords, BreaksAt, IsFormed, IsMalformed}
-use Rattle.p8_verify.specs.Verdicts.{IsWrong, Differs, Judged, world_by, IsJudged, IsVerdict, IsEndedFile}
+use Rattle.p8_verify.specs.Files.{head_of, head_bytes, records, IsHeadWithin, AreRecords, BreaksAt, IsFormed, IsMalformed}
+use Rattle.p8_verify.specs.Verdicts.{Judged, world_by, IsJudged, IsVerdict, IsEndedFile}
 use Rattle.p8_verify.proofs.Forms.{one-head, one-list, whole, one-break}
 use Rattle.p8_verify.proofs.Judging.{one-judgement, good-ends, ends-good}
 
@@ -25,9 +22,9 @@ formed : (bytes : List ℕ) (head : Head) (turns : List Turn) (at : ℕ) → IsF
 formed bytes head turns at is malformed = elim malformed [
   | inl none ↦ none.0 head is.0 is.1
   | inr breaks ↦
-    (let same = one-head bytes head breaks.0 is.0 breaks.1 is.1 breaks.2 in
-    let are = subst (λ (xs : List ℕ). AreRecords head.count xs turns) same.1 is.2 in
-    whole breaks.0.count 1 breaks.1 turns at (subst (λ (h : Head). AreRecords h.count breaks.1 turns) same.0 are) breaks.3)
+      (let same = one-head bytes head breaks.0 is.0 breaks.1 is.1 breaks.2 in
+      let are = subst (λ (xs : List ℕ). AreRecords head.count xs turns) same.1 is.2 in
+      whole breaks.0.count 1 breaks.1 turns at (subst (λ (h : Head). AreRecords h.count breaks.1 turns) same.0 are) breaks.3)
 ]
 
 -- it is malformed from one turn on
@@ -40,8 +37,8 @@ one-malformed bytes a b p q = elim p [
   | inr one ↦ elim q [
     | inl none ↦ absurd (none.0 one.0 one.1 one.2)
     | inr other ↦
-      (let same = one-head bytes one.0 other.0 one.1 other.1 one.2 other.2 in
-      one-break other.0.count 1 other.1 a b (subst (λ (h : Head). BreaksAt h.count 1 other.1 a) same.0 (subst (λ (xs : List ℕ). BreaksAt one.0.count 1 xs a) same.1 one.3)) other.3)
+        (let same = one-head bytes one.0 other.0 one.1 other.1 one.2 other.2 in
+        one-break other.0.count 1 other.1 a b (subst (λ (h : Head). BreaksAt h.count 1 other.1 a) same.0 (subst (λ (xs : List ℕ). BreaksAt one.0.count 1 xs a) same.1 one.3)) other.3)
   ]
 ]
 
@@ -85,15 +82,17 @@ module _ (boot : Boot) (script : List Line) (bytes : List ℕ) where
       let past : reverse p.1 ++ [] ≡ reverse p.1 = append-nil (reverse p.1) in
       let turns : reverse (reverse p.1) ≡ p.1 = reverse-reverse p.1 in
       let number : length (reverse p.1) ≡ p.0.count = length-reverse p.1 ∙ p.2.2.count_is in
-      let head : head_of w (reverse p.1) ≡ p.0 = λ i. record { clocks = p.0.clocks; turns = p.0.turns; count = number i } in
-      (record { clocks = p.0.clocks; turns = p.0.turns }, reverse p.1,
-       record {
-         head = subst IsHeadWithin (sym head) p.2.1.within;
-         turns = subst (λ (ts : List Turn). All IsWithin ts) (sym turns) p.2.2.within;
-         bytes_are = p.2.1.bytes_are ∙ ap (λ (xs : List ℕ). head_bytes p.0 ++ xs) p.2.2.bytes_are ∙ sym (λ i. head_bytes (head i) ++ records (turns i))
-       },
-       subst (λ (h : List Turn). Ended asks w h) past ends.0,
-       ends.1 ∙ ap length past)
+      let head : head_of w (reverse p.1) ≡ p.0 = λ i. record { clocks = p.0.clocks; turns = p.0.turns; count = number i } in (
+        record { clocks = p.0.clocks; turns = p.0.turns },
+        reverse p.1,
+        record {
+          head = subst IsHeadWithin (sym head) p.2.1.within;
+          turns = subst (λ (ts : List Turn). All IsWithin ts) (sym turns) p.2.2.within;
+          bytes_are = p.2.1.bytes_are ∙ ap (λ (xs : List ℕ). head_bytes p.0 ++ xs) p.2.2.bytes_are ∙ sym (λ i. head_bytes (head i) ++ records (turns i));
+        },
+        subst (λ (h : List Turn). Ended asks w h) past ends.0,
+        ends.1 ∙ ap length past,
+      )
 
   -- the file of an ended history is good
   pub file-good : (count : ℕ) → IsEndedFile boot script bytes count → IsVerdict boot script bytes (Good count)
@@ -101,7 +100,9 @@ module _ (boot : Boot) (script : List Line) (bytes : List ℕ) where
       let w : World = world_of boot script p.0 in
       let same : reverse (reverse p.1) ++ [] ≡ p.1 = append-nil (reverse (reverse p.1)) ∙ reverse-reverse p.1 in
       let ended : Ended asks w (reverse (reverse p.1) ++ []) = subst (λ (h : List Turn). Ended asks w h) (sym same) p.3 in
-      let count_is : length (reverse (reverse p.1) ++ []) ≡ count = ap length same ∙ sym p.4 in
-      (head_of w p.1, reverse p.1,
-       (records (reverse p.1), record { within = p.2.head; bytes_are = p.2.bytes_are }, record { within = p.2.turns; count_is = length-reverse p.1; bytes_are = refl }),
-       subst (λ (n : ℕ). Judged w [] (reverse p.1) (Good n)) count_is (ends-good w (reverse p.1) [] ended))
+      let count_is : length (reverse (reverse p.1) ++ []) ≡ count = ap length same ∙ sym p.4 in (
+        head_of w p.1,
+        reverse p.1,
+        (records (reverse p.1), record { within = p.2.head; bytes_are = p.2.bytes_are }, record { within = p.2.turns; count_is = length-reverse p.1; bytes_are = refl }),
+        subst (λ (n : ℕ). Judged w [] (reverse p.1) (Good n)) count_is (ends-good w (reverse p.1) [] ended),
+      )

@@ -1,8 +1,5 @@
 -- A machine beside the records of a file: what is left of them, and what is judged of it.
-use Rattle.std.proofs.Common.{◌≡◌, ◌∙◌, ap, sym, subst, refl, ℕ, ◌+◌, ◌-◌, ◌<◌, ◌⊎◌, inl, inr, List, [], ◌∷◌, length, arith}
-use Rattle.p8_access.specs.declared.order.Key.{Key as KeyOf}
-use Rattle.p8_access.specs.declared.kinds.Access.{Access as AccessOf}
-use Rattle.p8_access.specs.declared.kinds.Answer.{Answer as AnswerOf}
+use Rattle.std.proofs.Common.{◌≡◌, ◌∙◌, ap, sym, subst, refl, ℕ, ◌+◌, ◌-◌, ◌<◌, inl, inr, List, [], ◌∷◌, length, arith}
 use Rattle.p8_access.specs.declared.order.Turn.{Turn}
 use Rattle.p8_history.specs.Worlds.{World}
 use Rattle.p8_history.specs.Histories.{Extends, IsOver}
@@ -14,7 +11,7 @@ use Rattle.p8_verify.specs.declared.verdicts.Verdict.TheVariants.{Good, Bad}
 use Rattle.p8_verify.specs.Table.{IsRecord, NoRecord}
 use Rattle.p8_verify.specs.Files.{AreRecords}
 use Rattle.p8_verify.specs.Verdicts.{IsWrong, Judged}
-use Rattle.p8_verify.proofs.Forms.{Taken, taken, none-left, some-record}
+use Rattle.p8_verify.proofs.Forms.{taken, none-left, some-record}
 
 -- turns are equal where their parts are
 pub turn-by-parts : (t u : Turn) → t.key ≡ u.key → t.access ≡ u.access → t.answer ≡ u.answer → t ≡ u
@@ -33,7 +30,7 @@ module _ (w : World) (past : List Turn) (count index : ℕ) (bytes : List ℕ) (
       record {
         left = turns;
         are = subst (λ (n : ℕ). AreRecords n bytes turns) all are;
-        judged = λ v j. subst (λ (h : List Turn). Judged w h turns v) none j
+        judged = λ v j. subst (λ (h : List Turn). Judged w h turns v) none j;
       }
 
   turned : (turn : Turn) (others : List Turn) → Extends asks w past turn → (v : Verdict) → Judged w (turn ∷ past) others v → Judged w past (turn ∷ others) v
@@ -47,7 +44,7 @@ module _ (w : World) (past : List Turn) (count index : ℕ) (bytes : List ℕ) (
       record {
         left = t.others;
         are = t.are;
-        judged = λ v j. l.judged v (subst (λ (ts : List Turn). Judged w past ts v) (sym t.turns_are) (turned turn t.others extends v j))
+        judged = λ v j. l.judged v (subst (λ (ts : List Turn). Judged w past ts v) (sym t.turns_are) (turned turn t.others extends v j));
       }
 
   -- it wasn't

@@ -87,5 +87,5 @@ abbrev pub turn_by : List ℕ → Turn
 turn_by bytes = record {
   key = record { clock = little_number 4 bytes; cog = slice_index bytes 4 };
   access = access_by (fields (slice_index bytes 5) (slice_index bytes 7) (little_number 4 (drop 8 bytes)) (little_number 4 (drop 12 bytes)) (little_number 4 (drop 16 bytes)));
-  answer = answer_by (record { kind = slice_index bytes 6; value = little_number 4 (drop 20 bytes) })
+  answer = answer_by (record { kind = slice_index bytes 6; value = little_number 4 (drop 20 bytes) });
 }

@@ -2,6 +2,7 @@
 #![tactic(auto)]
 
 mod checker;
+mod files;
 mod head;
 mod reading;
 mod records;
@@ -9,4 +10,5 @@ mod table;
 mod verdicts;
 
 pub use checker::{VerifyFault, verify};
+pub use files::history_bytes;
 pub use verdicts::{Cause, Verdict};

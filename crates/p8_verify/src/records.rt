@@ -10,7 +10,7 @@ use byteorder::{ByteOrder, LittleEndian};
 use p8_access::{Access, Answer, Reason, Turn};
 
 /// How many bytes a record has.
-const RECORD: usize = 24;
+pub const RECORD: usize = 24;
 
 /// The bytes of a long, the lowest first.
 pub fn long_bytes(number: u32) -> [u8; 4]

@@ -1,4 +1,4 @@
-use Rattle.std.proofs.Common.{◌≡◌, ap, subst, inl}
+use Rattle.std.proofs.Common.{ap, subst, inl}
 use Rattle.p8_verify.specs.declared.verdicts.Verdict.{Verdict}
 use Rattle.p8_verify.specs.declared.verdicts.Verdict.TheVariants.{Good, Bad}
 use Rattle.p8_verify.specs.Verdicts.{IsVerdict}

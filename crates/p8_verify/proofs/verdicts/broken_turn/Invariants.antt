@@ -1,4 +1,4 @@
-use Rattle.std.proofs.Common.{◌+◌, ◌-◌, ◌≤◌, ℕ, List}
+use Rattle.std.proofs.Common.{◌+◌, ◌-◌, ℕ, List}
 use Rattle.p8_access.specs.declared.order.Turn.{Turn}
 use Rattle.p8_verify.specs.Files.{AreRecords, BreaksAt}
 use Rattle.p8_verify.proofs.verdicts.broken_turn.Given as goal

@@ -1,4 +1,4 @@
-use Rattle.std.proofs.Common.{◌≡◌, ◌∙◌, ap, sym, subst, ◌∷◌, ℕ, ◌+◌, List, length, drop, rules, arith}
+use Rattle.std.proofs.Common.{◌≡◌, ◌∙◌, ap, sym, subst, ◌∷◌, ℕ, ◌+◌, List, length, drop, arith}
 use Rattle.p8_access.specs.declared.order.Turn.{Turn}
 use Rattle.p8_history.specs.Worlds.{World}
 use Rattle.p8_history.specs.Histories.{Extends}
@@ -23,13 +23,13 @@ pub loop-index-preserved : goal.loop-index-preserved
 loop-index-preserved c =
     let past : past_in c.follow.new.machine ≡ c.in-Some.turn ∷ past_in c.loop-index.machine = c.follow.ensures.past c.in-None-follow.is in
     let extends = subst (λ (w : World). Extends asks w (past_in c.loop-index.machine) c.in-Some.turn) c.loop-index.invariant.world c.in-None-follow.ensures.turn in
-    let is = subst (λ (rest : List ℕ). IsRecord c.loop-index.rest.now c.in-Some.turn rest) (sym c.after_record.ensures) c.in-Some.ensures.turn in
+    let is = subst (λ (rest : List ℕ). IsRecord c.loop-index.rest.now c.in-Some.turn rest) (sym c.after_record-rest.ensures) c.in-Some.ensures.turn in
     let done : length (past_in c.loop-index.machine) ≡ c.loop-index.index = c.loop-index.invariant.done in
     record {
       stands = c.follow.ensures.stands;
       world = c.follow.ensures.world ∙ c.loop-index.invariant.world;
       done = (let count : length (past_in c.follow.new.machine) ≡ length (c.in-Some.turn ∷ past_in c.loop-index.machine) = ap length past in omega arith);
       left = λ turns are.
-        subst (λ (h : List Turn). Left (world_in c.args.machine.now) h c.args.count (c.loop-index.index + 1) c.after_record.result.now turns) (sym past)
-        (went_on (world_in c.args.machine.now) (past_in c.loop-index.machine) c.args.count c.loop-index.index c.loop-index.rest.now turns c.in-Some.turn c.after_record.result.now c.loop-index-test.true (c.loop-index.invariant.left turns are) is extends)
+          subst (λ (h : List Turn). Left (world_in c.args.machine.now) h c.args.count (c.loop-index.index + 1) c.after_record-rest.result.now turns) (sym past)
+          (went_on (world_in c.args.machine.now) (past_in c.loop-index.machine) c.args.count c.loop-index.index c.loop-index.rest.now turns c.in-Some.turn c.after_record-rest.result.now c.loop-index-test.true (c.loop-index.invariant.left turns are) is extends);
     }

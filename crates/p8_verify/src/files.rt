@@ -1,0 +1,60 @@
+// The file of a history.
+ghost use Rattle.std.specs.Prelude.{◌≡◌, ◌<◌, ◌≤◌, ◌^◌, ◌++◌, List, OnOk, IfOk, reverse};
+ghost use Rattle.std.specs.List.{All};
+ghost use Rattle.p8_access.specs.declared.order.Turn.{Turn};
+ghost use Rattle.p8_history.specs.Worlds.{Line};
+ghost use Rattle.p8_history.specs.Histories.{Ended};
+ghost use Rattle.p8_lives.specs.Lives.{asks};
+ghost use Rattle.p8_machine.specs.Worlds.{world_of};
+ghost use Rattle.p8_verify.specs.Table.{turn_bytes};
+ghost use Rattle.p8_verify.specs.Files.{records, file_of};
+
+use crate::head::{HEAD, Head};
+use crate::records::{RECORD, turn_bytes};
+use p8_access::Turn;
+use p8_machine::History;
+use p8_words::NoMemory;
+use std::alloc::Global;
+
+/// Appends the record of a turn.
+fn push_record(out: &mut Vec<u8>, turn: &Turn) -> Result<(), NoMemory>
+    requires { turn.now.key.clock < 2 ^ 32 }
+    ensures { OnOk result (out.new.items ≡ out.old.items ++ turn_bytes turn.now) }
+{
+    out.extend_from_slice(&turn_bytes(*turn))?;
+    Ok(())
+}
+
+/// Appends the records of turns.
+fn push_records(out: &mut Vec<u8>, turns: &[Turn]) -> Result<(), NoMemory>
+    requires { All (λ (turn : Turn). turn.key.clock < 2 ^ 32) turns.now }
+    ensures { OnOk result (out.new.items ≡ out.old.items ++ records turns.now) }
+{
+    for turn in turns {
+        push_record(out, turn)?;
+    }
+    Ok(())
+}
+
+/// The bytes of a history's file: a head of 16 bytes with the limits and the number of turns, and 24 bytes for each
+/// turn.
+///
+/// The history has ended, and its limits are at most 100,000,000 clocks and 40,000 turns. The only error is want of
+/// memory.
+pub fn history_bytes(alloc: Global, history: &History) -> Result<Vec<u8>, NoMemory>
+    requires clocks { history.now.limits.clocks ≤ 100000000 }
+    requires turns { history.now.limits.turns ≤ 40000 }
+    requires ended { (script : List Line) × Ended asks (world_of history.now.boot script history.now.limits) (reverse history.now.turns.list) }
+    ensures { (script : List Line) → IfOk result (λ bytes. bytes.items ≡ file_of (world_of history.now.boot script history.now.limits) (reverse history.now.turns.list)) }
+{
+    let turns = history.turns.as_slice();
+    let head = Head {
+        clocks: history.limits.clocks as u32,
+        turns: history.limits.turns as u32,
+        count: turns.len() as u32,
+    };
+    let mut out = Vec::with_capacity(alloc, HEAD + RECORD * turns.len())?;
+    out.extend_from_slice(&head.bytes())?;
+    push_records(&mut out, turns)?;
+    Ok(out)
+}
