@@ -1,0 +1,5 @@
+//! Tests of history files and their checker.
+#![tactic(auto)]
+
+#[cfg(test)]
+mod histories;
