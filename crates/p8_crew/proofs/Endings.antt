@@ -7,7 +7,7 @@ use Rattle.p8_history.proofs.OneHistory.{one-history, begins-ended}
 use Rattle.p8_history.proofs.Rising.{rises}
 use Rattle.p8_lives.specs.Lives.{asks}
 use Rattle.p8_lives.specs.Laws.{one-asked, asked-first, asked-later}
-use Rattle.p8_machine.specs.declared.outcome.Ended.{Ended as EndedRun}
+use Rattle.p8_ledger.specs.declared.outcome.Ended.{Ended as EndedRun}
 use Rattle.p8_desk.specs.Closing.{Closed}
 use Rattle.p8_desk.specs.Passes.{DeskValue, PassValue}
 

@@ -11,14 +11,14 @@ ghost use Rattle.p8_history.specs.Histories.{Legal, Rises, Ended as HasEnded};
 ghost use Rattle.p8_hub.specs.Standing.{IsHub};
 ghost use Rattle.p8_io.specs.Counts.{Rose};
 ghost use Rattle.p8_lives.specs.Lives.{asks};
-ghost use Rattle.p8_machine.specs.Worlds.{world_of};
+ghost use Rattle.p8_ledger.specs.Worlds.{world_of};
 
 use crate::job::CogJob;
 use crate::jobs::Crew;
 use crate::starter::Starter;
 use crate::ticket::start;
 use p8_desk::{Desk, Passes, drive_all};
-use p8_machine::Ended;
+use p8_ledger::Ended;
 use p8_words::NoMemory;
 use std::alloc::Global;
 use std::sync::Wait;

@@ -9,9 +9,9 @@ use Rattle.p8_history.specs.declared.states.CogState.{CogState}
 use Rattle.p8_history.specs.declared.states.CogState.TheVariants.{Stopped}
 use Rattle.p8_history.specs.Worlds.{World}
 use Rattle.p8_history.specs.Hub.{cog_state}
-use Rattle.p8_record.specs.declared.steps.Step.{Step}
-use Rattle.p8_record.specs.declared.steps.Step.TheVariants.{Took, Said}
-use Rattle.p8_record.specs.Records.{Record, turns, mine, said, cog_of, Begins, IsLeastFront, HasFrontIn}
+use Rattle.p8_ledger.specs.declared.steps.Step.{Step}
+use Rattle.p8_ledger.specs.declared.steps.Step.TheVariants.{Took, Said}
+use Rattle.p8_ledger.specs.Records.{Record, turns, mine, said, cog_of, Begins, IsLeastFront, HasFrontIn}
 use Rattle.p8_desk.specs.declared.rider.Rider.{Rider}
 use Rattle.p8_desk.specs.declared.rule.Known.{Known}
 use Rattle.p8_desk.specs.declared.rule.View.{View}

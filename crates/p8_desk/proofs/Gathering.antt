@@ -10,9 +10,9 @@ use Rattle.p8_access.specs.declared.order.Turn.{Turn}
 use Rattle.p8_history.specs.Worlds.{World}
 use Rattle.p8_history.specs.Histories.{Ended, Legal}
 use Rattle.p8_lives.specs.Lives.{asks}
-use Rattle.p8_record.specs.declared.ledger.Ledger.{Ledger}
-use Rattle.p8_record.specs.Records.{Record, turns, mine, Begins}
-use Rattle.p8_record.specs.Ledgers.{Found}
+use Rattle.p8_ledger.specs.declared.ledger.Ledger.{Ledger}
+use Rattle.p8_ledger.specs.Records.{Record, turns, mine, Begins}
+use Rattle.p8_ledger.specs.Ledgers.{Found}
 use Rattle.p8_desk.specs.declared.rider.Rider.{Rider}
 use Rattle.p8_desk.specs.Gathering.{PartsOf, RidesIn, Gathered, Riding}
 use Rattle.p8_desk.specs.PassSets.{AllThere, HasOver}

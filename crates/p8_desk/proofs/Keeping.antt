@@ -7,11 +7,11 @@ use lib.ListN.{get_elem?}
 use prog.Atomic.{either}
 use Rattle.atomic_table.specs.Table.{Step as Move, step as move, Act, keeps, takes, gives, Allows, Valid, homes_after, carried_after}
 use Rattle.atomic_table.proofs.Lists.{at_set}
-use Rattle.p8_record.specs.declared.start.Start.{Start}
-use Rattle.p8_record.specs.declared.steps.Step.{Step}
-use Rattle.p8_record.specs.declared.ledger.Ledger.{Ledger}
-use Rattle.p8_record.specs.Records.{Record, turns, cog_of}
-use Rattle.p8_record.specs.Ledgers.{Found}
+use Rattle.p8_ledger.specs.declared.start.Start.{Start}
+use Rattle.p8_ledger.specs.declared.steps.Step.{Step}
+use Rattle.p8_ledger.specs.declared.ledger.Ledger.{Ledger}
+use Rattle.p8_ledger.specs.Records.{Record, turns, cog_of}
+use Rattle.p8_ledger.specs.Ledgers.{Found}
 use Rattle.p8_desk.specs.declared.rule.Known.{Known}
 use Rattle.p8_desk.specs.declared.rule.View.{View}
 use Rattle.p8_desk.specs.Rules.{Slot, Hand, world_in, known, change, HomeIs, IsOfCogs, Agrees, PassFits, HoldFits, Fits, Kept, with_found, with_seen, with_step, seizing, losing, releasing, noting, Seized, Released, Noted}

@@ -9,11 +9,11 @@ use Rattle.p8_history.specs.Worlds.{World}
 use Rattle.p8_history.specs.Hub.{cog_state}
 use Rattle.p8_history.specs.Histories.{begun}
 use Rattle.p8_lives.specs.Lives.{asks}
-use Rattle.p8_machine.specs.Seats.{Sits, SitsIn}
-use Rattle.p8_machine.proofs.Seating.{other-sits}
-use Rattle.p8_record.specs.declared.steps.Step.{Step}
-use Rattle.p8_record.specs.declared.steps.Step.TheVariants.{Took, Said}
-use Rattle.p8_record.specs.Records.{Record, turns, mine, said, cog_of, Begins, IsTrueOf, Owes, whatever}
+use Rattle.p8_ledger.specs.Seats.{Sits, SitsIn}
+use Rattle.p8_ledger.proofs.Seating.{other-sits}
+use Rattle.p8_ledger.specs.declared.steps.Step.{Step}
+use Rattle.p8_ledger.specs.declared.steps.Step.TheVariants.{Took, Said}
+use Rattle.p8_ledger.specs.Records.{Record, turns, mine, said, cog_of, Begins, IsTrueOf, Owes, whatever}
 use Rattle.p8_desk.specs.declared.runner.Runner.{Runner}
 use Rattle.p8_desk.specs.Runners.{Lives, Rides, HasFound, IsAsking}
 use Rattle.p8_desk.proofs.Lookups.{test-apart, apart-by-test}

@@ -28,13 +28,13 @@ use Rattle.p8_lives.specs.Kinds.{number_of}
 use Rattle.p8_lives.specs.Laws.{asked-first, asked-later}
 use Rattle.p8_lives.specs.Lives.{asks, begun_by, IsStartable}
 use Rattle.p8_lives.specs.Whole as Life
-use Rattle.p8_machine.specs.Seats.{SitsIn}
-use Rattle.p8_machine.specs.Standing.{FitsState}
-use Rattle.p8_machine.proofs.Seating.{own-sits}
-use Rattle.p8_machine.proofs.Settling.{start-sits}
-use Rattle.p8_machine.proofs.Taking.{begun-same}
-use Rattle.p8_record.specs.declared.steps.Step.TheVariants.{Took, Said}
-use Rattle.p8_record.specs.Records.{Record, turns, said}
+use Rattle.p8_ledger.specs.Seats.{SitsIn}
+use Rattle.p8_ledger.specs.Standing.{FitsState}
+use Rattle.p8_ledger.proofs.Seating.{own-sits}
+use Rattle.p8_ledger.proofs.Settling.{start-sits}
+use Rattle.p8_ledger.proofs.Settling.{begun-same}
+use Rattle.p8_ledger.specs.declared.steps.Step.TheVariants.{Took, Said}
+use Rattle.p8_ledger.specs.Records.{Record, turns, said}
 use Rattle.p8_desk.specs.declared.runner.Runner.{Runner}
 use Rattle.p8_desk.specs.Runners.{reached_in, pace_in, stride_in, most_in, place_in, announced_in, Lives, Rides, Comes, GoesOnFrom, IsNear}
 use Rattle.p8_desk.specs.Taking.{HasTaken}

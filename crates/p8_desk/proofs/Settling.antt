@@ -5,8 +5,8 @@ use Rattle.p8_access.specs.declared.lives.Next.{Next}
 use Rattle.p8_history.specs.Worlds.{World}
 use Rattle.p8_history.specs.Histories.{Legal, Extends, Ended}
 use Rattle.p8_lives.specs.Lives.{asks}
-use Rattle.p8_record.specs.declared.steps.Step.TheVariants.{Took, Said}
-use Rattle.p8_record.specs.Records.{Record, turns, mine}
+use Rattle.p8_ledger.specs.declared.steps.Step.TheVariants.{Took, Said}
+use Rattle.p8_ledger.specs.Records.{Record, turns, mine}
 use Rattle.p8_desk.specs.declared.rule.Known.{Known}
 use Rattle.p8_desk.specs.declared.rider.Rider.{Rider}
 use Rattle.p8_desk.specs.declared.turned.Turned.{Turned}

@@ -5,10 +5,10 @@ use mathlib.Core.Option.{some, some-injective, some-ne-none}
 use lib.ListN.{get_elem?}
 use Rattle.atomic_table.specs.Table.{Splits, Joins, opening}
 use Rattle.atomic_table.proofs.Lists.{at_set}
-use Rattle.p8_record.specs.declared.start.Start.{Start}
-use Rattle.p8_record.specs.declared.ledger.Ledger.{Ledger}
-use Rattle.p8_record.specs.Records.{Record}
-use Rattle.p8_record.specs.Ledgers.{Found}
+use Rattle.p8_ledger.specs.declared.start.Start.{Start}
+use Rattle.p8_ledger.specs.declared.ledger.Ledger.{Ledger}
+use Rattle.p8_ledger.specs.Records.{Record}
+use Rattle.p8_ledger.specs.Ledgers.{Found}
 use Rattle.p8_desk.specs.declared.rule.Known.{Known}
 use Rattle.p8_desk.specs.declared.rule.View.{View}
 use Rattle.p8_desk.specs.Rules.{world_in, known, PassFits, Fits, Kept, new_pass, new_passes, first_view, without, with_passes, list_of, without_pass, pass_alone, joined, spent_view}

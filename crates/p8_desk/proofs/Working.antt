@@ -6,7 +6,7 @@ use Rattle.p8_access.specs.declared.lives.Next.TheVariants.{More}
 use Rattle.p8_access.specs.Lives.{Begun, PasmBegun, SpinBegun, IsAnnounced, announced_by}
 use Rattle.p8_history.specs.declared.states.CogState.{CogState}
 use Rattle.p8_history.specs.Hub.{cog_state}
-use Rattle.p8_machine.specs.Standing.{FitsState}
+use Rattle.p8_ledger.specs.Standing.{FitsState}
 use Rattle.p8_history.specs.Worlds.{World}
 use Rattle.p8_history.specs.Histories.{since_begin, Ended}
 use Rattle.p8_lives.specs.declared.kind.Kind.{Kind}
@@ -14,14 +14,14 @@ use Rattle.p8_lives.specs.declared.kind.Kind.TheVariants.{Pasm as OfPasm, Spin a
 use Rattle.p8_lives.specs.Kinds.{number_of, fact_of}
 use Rattle.p8_lives.specs.Lives.{asks}
 use Rattle.p8_lives.specs.Whole as Life
-use Rattle.p8_record.specs.declared.ledger.Ledger.{Ledger}
-use Rattle.p8_record.specs.declared.ledger.Taken.{Taken}
-use Rattle.p8_record.specs.declared.ledger.Taken.TheVariants.{Done, Over}
-use Rattle.p8_record.specs.declared.steps.Step.{Step}
-use Rattle.p8_record.specs.declared.steps.Step.TheVariants.{Took, Said}
-use Rattle.p8_record.specs.Records.{Record, turns, mine, said, cog_of, Owes, NoFront, IsTruthful}
-use Rattle.p8_record.specs.Ledgers.{Found, Decides}
-use Rattle.p8_record.proofs.Telling.{none-over}
+use Rattle.p8_ledger.specs.declared.ledger.Ledger.{Ledger}
+use Rattle.p8_ledger.specs.declared.ledger.Taken.{Taken}
+use Rattle.p8_ledger.specs.declared.ledger.Taken.TheVariants.{Done, Over}
+use Rattle.p8_ledger.specs.declared.steps.Step.{Step}
+use Rattle.p8_ledger.specs.declared.steps.Step.TheVariants.{Took, Said}
+use Rattle.p8_ledger.specs.Records.{Record, turns, mine, said, cog_of, Owes, NoFront, IsTruthful}
+use Rattle.p8_ledger.specs.Ledgers.{Found, Decides}
+use Rattle.p8_ledger.proofs.Telling.{none-over}
 use Rattle.p8_desk.specs.declared.rule.Known.{Known}
 use Rattle.p8_desk.specs.declared.rule.View.{View}
 use Rattle.p8_desk.specs.declared.runner.Runner.{Runner}

@@ -4,9 +4,9 @@ use Rattle.p8_history.specs.Worlds.{World}
 use Rattle.p8_history.specs.Histories.{Ended}
 use Rattle.p8_hub.specs.Standing.{IsHub}
 use Rattle.p8_lives.specs.Lives.{asks}
-use Rattle.p8_machine.specs.declared.outcome.Ended.{Ended as EndedRun}
-use Rattle.p8_machine.specs.Worlds.{world_of}
-use Rattle.p8_record.specs.Records.{Record, turns, mine, Begins}
+use Rattle.p8_ledger.specs.declared.outcome.Ended.{Ended as EndedRun}
+use Rattle.p8_ledger.specs.Worlds.{world_of}
+use Rattle.p8_ledger.specs.Records.{Record, turns, mine, Begins}
 use Rattle.p8_desk.specs.Passes.{PassValue}
 
 -- there is one record: each pass has seen a beginning of it and made just its own steps of its cog; its turns are the

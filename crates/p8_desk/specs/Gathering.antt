@@ -5,7 +5,7 @@ use Rattle.atomic_table.specs.Seated.{TableId}
 use Rattle.p8_history.specs.declared.states.CogState.TheVariants.{Stopped}
 use Rattle.p8_history.specs.Worlds.{World}
 use Rattle.p8_history.specs.Hub.{cog_state}
-use Rattle.p8_record.specs.Records.{turns}
+use Rattle.p8_ledger.specs.Records.{turns}
 use Rattle.p8_desk.specs.declared.rider.Rider.{Rider}
 use Rattle.p8_desk.specs.declared.rule.Known.{Known}
 use Rattle.p8_desk.specs.declared.turned.Turned.{Turned}

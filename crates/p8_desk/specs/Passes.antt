@@ -2,7 +2,7 @@
 use Rattle.std.specs.Prelude.{ℕ, ◌≡◌, Bool, List}
 use Rattle.atomic_table.specs.Seated.{TableId}
 use Rattle.p8_history.specs.Worlds.{World}
-use Rattle.p8_record.specs.Records.{Record}
+use Rattle.p8_ledger.specs.Records.{Record}
 
 -- a desk is seen as its world, and as the table that it has
 pub record DeskValue : Type 0 where

@@ -11,12 +11,12 @@ use lib.ListN.{get_elem?}
 use Rattle.atomic_table.specs.Table.{State, Me, Step as Move}
 use Rattle.p8_access.specs.declared.kinds.Origin.TheVariants.{Pasm}
 use Rattle.p8_history.specs.Worlds.{World}
-use Rattle.p8_machine.specs.Worlds.{world_of}
-use Rattle.p8_record.specs.declared.start.Start.{Start}
-use Rattle.p8_record.specs.declared.steps.Step.{Step}
-use Rattle.p8_record.specs.declared.ledger.Ledger.{Ledger}
-use Rattle.p8_record.specs.Records.{Record, turns, mine, Begins, cog_of}
-use Rattle.p8_record.specs.Ledgers.{Found}
+use Rattle.p8_ledger.specs.Worlds.{world_of}
+use Rattle.p8_ledger.specs.declared.start.Start.{Start}
+use Rattle.p8_ledger.specs.declared.steps.Step.{Step}
+use Rattle.p8_ledger.specs.declared.ledger.Ledger.{Ledger}
+use Rattle.p8_ledger.specs.Records.{Record, turns, mine, Begins, cog_of}
+use Rattle.p8_ledger.specs.Ledgers.{Found}
 use Rattle.p8_desk.specs.declared.rule.Known.{Known}
 use Rattle.p8_desk.specs.declared.rule.View.{View}
 

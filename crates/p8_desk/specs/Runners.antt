@@ -16,9 +16,9 @@ use Rattle.p8_lives.specs.declared.cog_life.CogLife.{CogLife}
 use Rattle.p8_lives.specs.Kinds.{number_of, access_of}
 use Rattle.p8_lives.specs.Lives.{asks}
 use Rattle.p8_lives.specs.Whole as Life
-use Rattle.p8_machine.specs.Seats.{SitsIn}
-use Rattle.p8_machine.specs.Standing.{FitsState}
-use Rattle.p8_record.specs.Records.{Record, turns, said}
+use Rattle.p8_ledger.specs.Seats.{SitsIn}
+use Rattle.p8_ledger.specs.Standing.{FitsState}
+use Rattle.p8_ledger.specs.Records.{Record, turns, said}
 use Rattle.p8_desk.specs.declared.runner.Runner.{Runner}
 use Rattle.p8_desk.specs.Tries.{GoesOn}
 

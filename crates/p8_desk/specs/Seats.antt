@@ -5,7 +5,7 @@ use Rattle.atomic_table.specs.Seated.{TableId}
 use Rattle.p8_history.specs.Worlds.{World}
 use Rattle.p8_history.specs.Histories.{Ended}
 use Rattle.p8_lives.specs.Lives.{asks}
-use Rattle.p8_record.specs.Records.{turns, mine}
+use Rattle.p8_ledger.specs.Records.{turns, mine}
 use Rattle.p8_desk.specs.declared.rule.Known.{Known}
 use Rattle.p8_desk.specs.declared.rider.Rider.{Rider}
 use Rattle.p8_desk.specs.declared.turned.Turned.{Turned}

@@ -3,11 +3,11 @@
 use Rattle.std.specs.Prelude.{ℕ, ◌+◌, ◌^◌, ◌≡◌, ◌<◌, List, ◌∷◌, Option, Some, None, length}
 use Rattle.p8_access.specs.declared.lives.Next.{Next}
 use Rattle.p8_history.specs.Worlds.{World}
-use Rattle.p8_record.specs.declared.ledger.Ledger.{Ledger}
-use Rattle.p8_record.specs.declared.ledger.Taken.{Taken}
-use Rattle.p8_record.specs.declared.steps.Step.TheVariants.{Took, Said}
-use Rattle.p8_record.specs.Records.{Record, turns, mine, IsTruthful}
-use Rattle.p8_record.specs.Ledgers.{Found, Decides, taken_by}
+use Rattle.p8_ledger.specs.declared.ledger.Ledger.{Ledger}
+use Rattle.p8_ledger.specs.declared.ledger.Taken.{Taken}
+use Rattle.p8_ledger.specs.declared.steps.Step.TheVariants.{Took, Said}
+use Rattle.p8_ledger.specs.Records.{Record, turns, mine, IsTruthful}
+use Rattle.p8_ledger.specs.Ledgers.{Found, Decides, taken_by}
 use Rattle.p8_desk.specs.declared.rule.Known.{Known}
 use Rattle.p8_desk.specs.declared.rule.View.{View}
 use Rattle.p8_desk.specs.declared.runner.Runner.{Runner}

@@ -1,6 +1,6 @@
 // The end of a desk.
 ghost use Rattle.std.specs.Prelude.{◌≡◌, [], ◌∷◌, Some, None};
-ghost use Rattle.p8_record.specs.declared.ledger.Ledger.{Ledger};
+ghost use Rattle.p8_ledger.specs.declared.ledger.Ledger.{Ledger};
 ghost use Rattle.p8_desk.specs.Closing.{Closed};
 ghost use Rattle.p8_desk.specs.PassSets.{AllThere, HasOver};
 
@@ -9,8 +9,8 @@ use crate::gather::gather;
 use crate::passes::Passes;
 use crate::rule::{Board, Place};
 use crate::steps::seize;
-use p8_machine::Ended;
-use p8_record::Ledger;
+use p8_ledger::Ended;
+use p8_ledger::Ledger;
 
 /// Takes the ledger out of the slot that the seat holds.
 fn take_out(board: &Board, seat: &mut Place) -> Ledger

@@ -9,7 +9,7 @@ use crate::pass::CogPass;
 use crate::rule::Tabletop;
 use crate::turned::Turned;
 use p8_access::Turn;
-use p8_record::Start;
+use p8_ledger::Start;
 use std::marker::Model;
 use std::sync::Wait;
 use std::thread::yield_now;

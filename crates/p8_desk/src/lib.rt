@@ -17,7 +17,7 @@ mod turned;
 
 pub use desk::Desk;
 pub use drive::drive_all;
-pub use p8_record::Start;
+pub use p8_ledger::Start;
 pub use pass::CogPass;
 pub use passes::Passes;
 pub use turned::Turned;

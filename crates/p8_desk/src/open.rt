@@ -1,9 +1,9 @@
 // A desk before its first turn.
 ghost use Rattle.std.specs.Prelude.{◌≡◌, ◌≤◌, ◌<◌, ◌*◌, [], ◌∷◌, Some, IfOk};
 ghost use Rattle.p8_access.specs.Proper.{IsProperOrigin};
-ghost use Rattle.p8_machine.specs.Worlds.{world_of};
-ghost use Rattle.p8_record.specs.declared.start.Start.{Start};
-ghost use Rattle.p8_record.specs.Ledgers.{Found};
+ghost use Rattle.p8_ledger.specs.Worlds.{world_of};
+ghost use Rattle.p8_ledger.specs.declared.start.Start.{Start};
+ghost use Rattle.p8_ledger.specs.Ledgers.{Found};
 ghost use Rattle.p8_desk.specs.Opening.{fresh, new_places};
 ghost use Rattle.p8_desk.specs.Rules.{first_view, world_in, with_passes, new_pass};
 ghost use Rattle.p8_desk.specs.Runners.{Rides};
@@ -17,8 +17,8 @@ use crate::runner::Runner;
 use crate::steps::part;
 use atomic_table::Table;
 use p8_access::Ram;
-use p8_machine::{Room, stack_in};
-use p8_record::{Ledger, Start};
+use p8_ledger::{Room, stack_in};
+use p8_ledger::{Ledger, Start};
 use p8_region::Region;
 use p8_words::NoMemory;
 use std::alloc::Global;

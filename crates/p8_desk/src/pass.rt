@@ -1,6 +1,6 @@
 // The pass of one cog.
 ghost use Rattle.std.specs.Prelude.{◌≡◌, length};
-ghost use Rattle.p8_record.specs.Records.{turns};
+ghost use Rattle.p8_ledger.specs.Records.{turns};
 
 use crate::rider::Rider;
 use crate::rule::Place;

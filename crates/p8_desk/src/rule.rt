@@ -1,6 +1,6 @@
 // What the seats at the table know, and the rule that every step keeps.
 use atomic_table::{Join, Play, Seat, Shared, Split, Table, TableRule};
-use p8_record::{Ledger, Start, Step};
+use p8_ledger::{Ledger, Start, Step};
 use std::alloc::Global;
 use std::collections::LinkedList;
 use std::marker::PhantomData;
@@ -45,7 +45,7 @@ pub type Tabletop = Table<Option<Ledger>, View, Start, DeskRule, Global>;
 
 /// The step of a record that a proof speaks of.
 pub trait Told {
-    ghost use Rattle.p8_record.specs.declared.steps.Step.{Step};
+    ghost use Rattle.p8_ledger.specs.declared.steps.Step.{Step};
 
     ghost step: { Step };
 }

@@ -8,8 +8,8 @@ ghost use Rattle.p8_access.specs.Windows.{IsWindow};
 ghost use Rattle.p8_history.specs.declared.states.CogState.TheVariants.{Running};
 ghost use Rattle.p8_history.specs.Worlds.{World};
 ghost use Rattle.p8_lives.specs.Lives.{begun_by, IsStartable};
-ghost use Rattle.p8_record.specs.declared.steps.Step.TheVariants.{Took, Said};
-ghost use Rattle.p8_record.specs.Records.{Record};
+ghost use Rattle.p8_ledger.specs.declared.steps.Step.TheVariants.{Took, Said};
+ghost use Rattle.p8_ledger.specs.Records.{Record};
 ghost use Rattle.p8_desk.specs.Runners.{Rides, Comes, HasFound};
 ghost use Rattle.p8_desk.specs.Taking.{HasTaken};
 

@@ -2,10 +2,10 @@
 ghost use Rattle.std.specs.Prelude.{◌≡◌, ◌+◌, ◌<◌, ◌^◌, true, [], ◌∷◌, Some, None, length};
 ghost use Rattle.atomic_table.specs.Table.{step as move};
 ghost use mathlib.Core.Option.{none};
-ghost use Rattle.p8_record.specs.declared.steps.Step.TheVariants.{Took, Said};
-ghost use Rattle.p8_record.specs.declared.ledger.Ledger.{Ledger};
-ghost use Rattle.p8_record.specs.Records.{turns};
-ghost use Rattle.p8_record.specs.Ledgers.{Found};
+ghost use Rattle.p8_ledger.specs.declared.steps.Step.TheVariants.{Took, Said};
+ghost use Rattle.p8_ledger.specs.declared.ledger.Ledger.{Ledger};
+ghost use Rattle.p8_ledger.specs.Records.{turns};
+ghost use Rattle.p8_ledger.specs.Ledgers.{Found};
 ghost use Rattle.p8_desk.specs.declared.rule.Known.{Known};
 ghost use Rattle.p8_desk.specs.Rules.{world_in, known, Seized, Released, Noted, noting, without_pass, pass_alone, joined};
 
@@ -15,7 +15,7 @@ use std::marker::Brand;
 
 impl Told for Brand {
     ghost use Rattle.p8_access.specs.declared.lives.Next.TheVariants.{Quiet};
-    ghost use Rattle.p8_record.specs.declared.steps.Step.TheVariants.{Said};
+    ghost use Rattle.p8_ledger.specs.declared.steps.Step.TheVariants.{Said};
 
     ghost step = { Said 0 Quiet };
 }

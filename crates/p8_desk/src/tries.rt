@@ -1,9 +1,9 @@
 // One try of one cog, by a seat that has its pass.
 ghost use Rattle.std.specs.Prelude.{◌≡◌, ◌+◌, ◌<◌, ◌^◌, ℕ, true, [], ◌∷◌, Some, None, length};
 ghost use Rattle.p8_history.specs.Worlds.{World};
-ghost use Rattle.p8_record.specs.declared.ledger.Ledger.{Ledger};
-ghost use Rattle.p8_record.specs.Records.{Record, turns};
-ghost use Rattle.p8_record.specs.Ledgers.{Found, CanBeTaken};
+ghost use Rattle.p8_ledger.specs.declared.ledger.Ledger.{Ledger};
+ghost use Rattle.p8_ledger.specs.Records.{Record, turns};
+ghost use Rattle.p8_ledger.specs.Ledgers.{Found, CanBeTaken};
 ghost use Rattle.p8_desk.specs.declared.rule.Known.{Known};
 ghost use Rattle.p8_desk.specs.declared.turned.Turned.TheVariants.{Held};
 ghost use Rattle.p8_desk.specs.Rules.{world_in, known as known_in};
@@ -16,7 +16,7 @@ use crate::steps::{release, say, seize, take_turn};
 use crate::turned::Turned;
 use p8_access::Next;
 use p8_pins::PinScript;
-use p8_record::{Ledger, Taken};
+use p8_ledger::{Ledger, Taken};
 
 /// What came of a try: what the cog has said, if it owed anything, what it gets, and how many turns there are then.
 #[derive(Clone, Copy)]

@@ -6,7 +6,7 @@ ghost use Rattle.p8_desk.specs.PassSets.{AllThere};
 use crate::calls::{call, rounds};
 use crate::threads::turn_in_threads;
 use p8_desk::{Desk, Passes, Start, drive_all};
-use p8_machine::Ended;
+use p8_ledger::Ended;
 use p8_words::NoMemory;
 use std::alloc::Global;
 use std::sync::Wait;

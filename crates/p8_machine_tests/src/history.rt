@@ -3,7 +3,7 @@ ghost use Rattle.p8_access.specs.Proper.{IsProper};
 
 use p8_access::{Access, Boot, Key, Turn, Width};
 use p8_hub::Hub;
-use p8_machine::{Ended, History, Limits};
+use p8_ledger::{Ended, History, Limits};
 use p8_region::{Region, Strip, words_of};
 use p8_report::trace;
 use p8_words::NoMemory;

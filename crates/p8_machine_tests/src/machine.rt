@@ -4,7 +4,8 @@ ghost use Rattle.p8_access.specs.declared.kinds.Origin.TheVariants.{Pasm};
 
 use p8_access::{Access, Answer, Boot, Key, Turn, Width};
 use p8_hub::Hub;
-use p8_machine::{Limits, Machine, run_alone};
+use p8_ledger::Limits;
+use p8_machine::{Machine, run_alone};
 use p8_pins::PinScript;
 use p8_region::{Region, words_of};
 use p8_words::NoMemory;

@@ -3,9 +3,9 @@ ghost use Rattle.std.specs.Prelude.{◌≡◌, IfOk};
 ghost use Rattle.p8_access.specs.declared.kinds.Origin.TheVariants.{Pasm};
 
 use p8_access::{Access, Answer, Boot, Key, Next, Turn, Width};
-use p8_machine::Limits;
+use p8_ledger::Limits;
 use p8_pins::PinScript;
-use p8_record::{Ledger, Start, Taken};
+use p8_ledger::{Ledger, Start, Taken};
 use p8_region::{Region, words_of};
 use p8_words::NoMemory;
 use std::alloc::Global;

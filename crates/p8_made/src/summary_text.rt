@@ -10,7 +10,7 @@ use crate::hub_words::sum_of_words;
 use itoa::Buffer;
 use p8_access::{Key, Turn};
 use p8_disassembly::{long_digits, push_text};
-use p8_machine::Ended;
+use p8_ledger::Ended;
 use p8_words::NoMemory;
 use std::alloc::Global;
 

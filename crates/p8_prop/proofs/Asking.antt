@@ -21,8 +21,8 @@ use Rattle.p8_build.specs.Builds.{AreCompiled, objects_of}
 use Rattle.p8_io.specs.Shelves.{Files}
 use Rattle.p8_lives.specs.Lives.{asks}
 use Rattle.p8_lives.specs.Laws.{one-asked, asked-first, asked-later}
-use Rattle.p8_machine.specs.declared.outcome.Limits.{Limits}
-use Rattle.p8_machine.specs.Worlds as machine
+use Rattle.p8_ledger.specs.declared.outcome.Limits.{Limits}
+use Rattle.p8_ledger.specs.Worlds as machine
 use Rattle.p8_meaning.specs.Programs.{Program, Addresses}
 use Rattle.p8_objects.proofs.Wholes.{whole_project}
 use Rattle.p8_told_lives.specs.Told.{IsWorldOf, SpinIsTold}

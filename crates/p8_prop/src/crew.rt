@@ -4,12 +4,12 @@ ghost use Rattle.p8_access.specs.Proper.{IsProperOrigin};
 ghost use Rattle.p8_history.specs.Histories.{Ended as HasEnded};
 ghost use Rattle.p8_hub.specs.Standing.{IsHub};
 ghost use Rattle.p8_lives.specs.Lives.{asks};
-ghost use Rattle.p8_machine.specs.Worlds.{world_of};
+ghost use Rattle.p8_ledger.specs.Worlds.{world_of};
 ghost use Rattle.p8_prop.specs.Commands.{most_clocks, most_turns};
 
 use p8_crew::{Starter, run_crew};
 use p8_desk::{Desk, Start};
-use p8_machine::Ended;
+use p8_ledger::Ended;
 use p8_words::NoMemory;
 use std::alloc::Global;
 use std::sync::Wait;

@@ -1,7 +1,7 @@
 // The traces of runs.
 ghost use Rattle.std.specs.Prelude.{◌≡◌, ◌≤◌, IfOk, IfErr};
 ghost use Rattle.p8_access.specs.Proper.{IsProperOrigin};
-ghost use Rattle.p8_machine.specs.Worlds.{world_of};
+ghost use Rattle.p8_ledger.specs.Worlds.{world_of};
 ghost use Rattle.p8_prop.specs.Commands.{most_clocks, most_turns};
 ghost use Rattle.p8_prop.specs.Verdicts.{IsTrace};
 ghost use Rattle.p8_prop.specs.Outcomes.{IsText, HasNoText};
@@ -15,7 +15,8 @@ use p8_crew::Starter;
 use p8_desk::Start;
 use p8_inputs::{Inputs, Stop, read_inputs};
 use p8_io::Shelf;
-use p8_machine::{Limits, run_alone};
+use p8_ledger::Limits;
+use p8_machine::run_alone;
 use p8_report::trace;
 use p8_words::NoMemory;
 use std::alloc::Global;

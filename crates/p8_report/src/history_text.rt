@@ -10,7 +10,7 @@ use crate::lines::lines;
 use crate::tail::push_tail;
 use p8_access::{Origin, Turn};
 use p8_hub::Hub;
-use p8_machine::Ended;
+use p8_ledger::Ended;
 use p8_words::NoMemory;
 use std::alloc::Global;
 

@@ -1,8 +1,8 @@
 use Rattle.std.proofs.Common.{◌∷◌, arith, ap, sym, length}
 use mathlib.Core.Option.{none}
 use Rattle.atomic_table.specs.Table.{step as move}
-use Rattle.p8_record.specs.declared.steps.Step.{Step}
-use Rattle.p8_record.specs.Records.{cog_of, turns}
+use Rattle.p8_ledger.specs.declared.steps.Step.{Step}
+use Rattle.p8_ledger.specs.Records.{cog_of, turns}
 use Rattle.p8_desk.proofs.Keeping.{notes}
 use Rattle.p8_desk.proofs.steps.note_saying.Goals as goal
 

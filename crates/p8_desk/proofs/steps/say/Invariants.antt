@@ -1,4 +1,4 @@
-use Rattle.p8_record.specs.declared.steps.Step.TheVariants.{Said}
+use Rattle.p8_ledger.specs.declared.steps.Step.TheVariants.{Said}
 use Rattle.p8_desk.proofs.steps.say.Given as goal
 
 abbrev pub ghosts-note_saying : goal.ghosts-note_saying

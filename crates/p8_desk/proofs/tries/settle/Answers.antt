@@ -1,6 +1,6 @@
 use Rattle.std.proofs.Common.{◌∷◌, subst}
-use Rattle.p8_record.specs.declared.ledger.Taken.{Taken}
-use Rattle.p8_record.specs.declared.steps.Step.TheVariants.{Took}
+use Rattle.p8_ledger.specs.declared.ledger.Taken.{Taken}
+use Rattle.p8_ledger.specs.declared.steps.Step.TheVariants.{Took}
 use Rattle.p8_desk.specs.Work.{Granted}
 use Rattle.p8_desk.proofs.Working.{comes-as, turn-fits, settled-done, settled-over}
 use Rattle.p8_desk.proofs.tries.settle.Goals as goal

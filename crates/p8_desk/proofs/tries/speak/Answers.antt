@@ -1,8 +1,8 @@
 use Rattle.std.proofs.Common.{◌≡◌, ◌∷◌, Bool, true, false, Some, sym, subst}
 use Rattle.p8_access.specs.declared.lives.Next.{Next}
-use Rattle.p8_record.specs.declared.steps.Step.TheVariants.{Said}
-use Rattle.p8_record.specs.Records.{turns, IsTrueOf}
-use Rattle.p8_record.specs.Ledgers.{Found}
+use Rattle.p8_ledger.specs.declared.steps.Step.TheVariants.{Said}
+use Rattle.p8_ledger.specs.Records.{turns, IsTrueOf}
+use Rattle.p8_ledger.specs.Ledgers.{Found}
 use Rattle.p8_desk.specs.Work.{Spoken}
 use Rattle.p8_desk.proofs.Riding.{rides-true}
 use Rattle.p8_desk.proofs.Working.{spoken-says, spoken-none}

@@ -1,7 +1,7 @@
 use Rattle.std.proofs.Common.{◌≡◌, ◌∙◌, [], ◌∷◌, ℕ, Some, List, sym, ap, subst}
 use Rattle.atomic_table.specs.Table.{rest}
-use Rattle.p8_record.specs.declared.ledger.Ledger.{Ledger}
-use Rattle.p8_record.specs.Ledgers.{Found}
+use Rattle.p8_ledger.specs.declared.ledger.Ledger.{Ledger}
+use Rattle.p8_ledger.specs.Ledgers.{Found}
 use Rattle.p8_desk.specs.Rules.{Slot}
 use Rattle.p8_desk.proofs.Lookups.{some-same}
 use Rattle.p8_desk.proofs.Trying.{first_slot}

@@ -1,7 +1,7 @@
 use Rattle.std.proofs.Common.{refl, subst, Bool}
 use Rattle.p8_history.specs.Hub.{cog_state}
-use Rattle.p8_machine.specs.Standing.{FitsState}
-use Rattle.p8_record.specs.Records.{turns}
+use Rattle.p8_ledger.specs.Standing.{FitsState}
+use Rattle.p8_ledger.specs.Records.{turns}
 use Rattle.p8_desk.specs.Runners.{Comes}
 use Rattle.p8_desk.proofs.Running.{announced-life, can-begin, rides-after}
 use Rattle.p8_desk.proofs.runner.Runner.take.Goals as goal

@@ -1,0 +1,212 @@
+-- When a cog's next turn may come, and when it does.
+use Rattle.std.proofs.Common.{◌≡◌, ◌∙◌, ap, sym, subst, refl, ℕ, zero, suc, ◌+◌, ◌*◌, ◌<◌, ◌≤◌, Bool, true, false, nat_le, if◌then◌else◌, List, [], ◌∷◌, Option, Some, None, arith, inl, inr}
+use Rattle.p8_access.specs.declared.kinds.Origin.{Origin}
+use Rattle.p8_access.specs.declared.kinds.Origin.TheVariants.{Pasm, Spin}
+use Rattle.p8_access.specs.declared.kinds.Reason.TheVariants.{Rom}
+use Rattle.p8_access.specs.declared.kinds.Test.{Test}
+use Rattle.p8_access.specs.declared.kinds.Access.{Access}
+use Rattle.p8_access.specs.declared.kinds.Access.TheVariants.{Begin, Load, Read, Write, CogId, CogInit, CogStop, LockNew, LockRet, LockSet, LockClr, ClkSet, PinsIn, OutSet, DirSet, Wait, Clock, Halt}
+use Rattle.p8_access.specs.declared.order.Key.{Key}
+use Rattle.p8_access.specs.declared.order.Turn.{Turn}
+use Rattle.p8_access.specs.declared.kinds.Answer.{Answer}
+use Rattle.p8_access.specs.Proper.{IsProper}
+use Rattle.p8_access.specs.Lives.{Begun, IsMade, IsOnTime, IsAnnounced}
+use Rattle.p8_history.specs.declared.states.CogState.{CogState}
+use Rattle.p8_history.specs.declared.states.CogState.TheVariants.{Stopped, Starting, Running}
+use Rattle.p8_history.specs.Worlds.{World}
+use Rattle.p8_history.specs.Hub.{cog_state}
+use Rattle.p8_history.specs.Histories.{IsAfter, IsDue, IsNext, IsNextIn, first_access}
+use Rattle.p8_ledger.specs.Waiting.{test_in, newest_key, IsBehind, IsTimely, IsNextAt}
+use Rattle.p8_ledger.specs.Coming.{MayBe, MayComeIn, MayCome, IsFrom, WaitsFrom}
+
+-- what isn't less
+not-less : (x y : ℕ) → (x < y → ⊥) → y ≤ x
+not-less x zero p = omega arith
+not-less zero (suc y) p = absurd (p (omega arith))
+not-less (suc x) (suc y) p = let le : y ≤ x = not-less x y (λ l. p (omega arith)) in omega arith
+
+module _ (w : World) (past : List Turn) (n : ℕ) where
+  -- what is due may come
+  due-may : (access : Access) (earliest clock : ℕ) → IsDue w past n access earliest clock → MayBe w past n (test_in access) earliest clock
+  due-may (Wait test) earliest clock due = record { not_before = due.not_before; after = due.after; holds = due.holds }
+  due-may Begin earliest clock due = due
+  due-may Load earliest clock due = due
+  due-may (Read width address) earliest clock due = due
+  due-may (Write width address value) earliest clock due = due
+  due-may CogId earliest clock due = due
+  due-may (CogInit target origin) earliest clock due = due
+  due-may (CogStop cog) earliest clock due = due
+  due-may LockNew earliest clock due = due
+  due-may (LockRet lock) earliest clock due = due
+  due-may (LockSet lock) earliest clock due = due
+  due-may (LockClr lock) earliest clock due = due
+  due-may (ClkSet mode) earliest clock due = due
+  due-may PinsIn earliest clock due = due
+  due-may (OutSet value) earliest clock due = due
+  due-may (DirSet value) earliest clock due = due
+  due-may Clock earliest clock due = due
+  due-may (Halt reason) earliest clock due = due
+
+  -- what may come at no earlier clock is due
+  may-due : (access : Access) (earliest clock : ℕ) → MayBe w past n (test_in access) earliest clock → ((u : ℕ) → u < clock → MayBe w past n (test_in access) earliest u → ⊥) → IsDue w past n access earliest clock
+  may-due (Wait test) earliest clock may first = record {
+    not_before = may.not_before;
+    after = may.after;
+    holds = may.holds;
+    least = λ u le after holds. not-less u clock (λ l. first u l (record { not_before = le; after = after; holds = holds }));
+  }
+  may-due Begin earliest clock may first = may
+  may-due Load earliest clock may first = may
+  may-due (Read width address) earliest clock may first = may
+  may-due (Write width address value) earliest clock may first = may
+  may-due CogId earliest clock may first = may
+  may-due (CogInit target origin) earliest clock may first = may
+  may-due (CogStop cog) earliest clock may first = may
+  may-due LockNew earliest clock may first = may
+  may-due (LockRet lock) earliest clock may first = may
+  may-due (LockSet lock) earliest clock may first = may
+  may-due (LockClr lock) earliest clock may first = may
+  may-due (ClkSet mode) earliest clock may first = may
+  may-due PinsIn earliest clock may first = may
+  may-due (OutSet value) earliest clock may first = may
+  may-due (DirSet value) earliest clock may first = may
+  may-due Clock earliest clock may first = may
+  may-due (Halt reason) earliest clock may first = may
+
+  -- nothing comes before its earliest clock
+  pub may-late : (test : Option Test) (earliest clock : ℕ) → MayBe w past n test earliest clock → earliest ≤ clock
+  may-late None earliest clock may = omega arith
+  may-late (Some test) earliest clock may = may.not_before
+
+  -- an access comes on time
+  pub may-timely : (test : Option Test) (earliest clock : ℕ) → MayBe w past n test earliest clock → IsTimely test earliest clock
+  may-timely None earliest clock may = sym may
+  may-timely (Some test) earliest clock may = may.not_before
+
+  -- what is due is on time
+  pub due-timely : (access : Access) (earliest clock : ℕ) → IsDue w past n access earliest clock → IsTimely (test_in access) earliest clock
+  due-timely access earliest clock due = may-timely (test_in access) earliest clock (due-may access earliest clock due)
+
+module _ (asked : Begun → List Turn → ℕ → Access → Type 0) (w : World) (past : List Turn) (n : ℕ) where
+  next-may-in : (state : CogState) (clock : ℕ) (access : Access) → IsNextIn asked w past n state clock access → MayComeIn asked w past n state clock access
+  next-may-in Stopped clock access next = next
+  next-may-in (Starting since origin) clock access next = next
+  next-may-in (Running origin) clock access next = record {
+    life = next.life;
+    began = next.began;
+    earliest = next.earliest;
+    asks = next.asks;
+    may = due-may w past n access next.earliest clock next.due;
+  }
+
+  may-next-in : (state : CogState) (clock : ℕ) (access : Access) → MayComeIn asked w past n state clock access → ((u : ℕ) → u < clock → MayComeIn asked w past n state u access → ⊥) → IsNextIn asked w past n state clock access
+  may-next-in Stopped clock access may first = may
+  may-next-in (Starting since origin) clock access may first = may
+  may-next-in (Running origin) clock access may first = record {
+    life = may.life;
+    began = may.began;
+    earliest = may.earliest;
+    asks = may.asks;
+    due = may-due w past n access may.earliest clock may.may (λ u less here. first u less (record { life = may.life; began = may.began; earliest = may.earliest; asks = may.asks; may = here }));
+  }
+
+  -- a cog's next turn may come, and is the first that may
+  pub next-may : (clock : ℕ) (access : Access) → IsNext asked w past n clock access → MayCome asked w past n clock access
+  next-may clock access next = record { may = next-may-in (cog_state w past n) clock access next.next; below = next.below }
+
+  pub may-next : (clock : ℕ) (access : Access) → MayCome asked w past n clock access → ((u : ℕ) → u < clock → MayCome asked w past n u access → ⊥) → IsNext asked w past n clock access
+  may-next clock access comes first = record {
+    next = may-next-in (cog_state w past n) clock access comes.may (λ u less may. first u less (record { may = may; below = (let below : clock < w.clocks = comes.below in omega arith) }));
+    below = comes.below;
+  }
+
+-- the turn of an access is on time
+pub timely : (access : Access) (earliest clock : ℕ) → IsTimely (test_in access) earliest clock → IsOnTime access earliest clock
+timely (Wait test) earliest clock on = on
+timely Begin earliest clock on = on
+timely Load earliest clock on = on
+timely (Read width address) earliest clock on = on
+timely (Write width address value) earliest clock on = on
+timely CogId earliest clock on = on
+timely (CogInit target origin) earliest clock on = on
+timely (CogStop cog) earliest clock on = on
+timely LockNew earliest clock on = on
+timely (LockRet lock) earliest clock on = on
+timely (LockSet lock) earliest clock on = on
+timely (LockClr lock) earliest clock on = on
+timely (ClkSet mode) earliest clock on = on
+timely PinsIn earliest clock on = on
+timely (OutSet value) earliest clock on = on
+timely (DirSet value) earliest clock on = on
+timely Clock earliest clock on = on
+timely (Halt reason) earliest clock on = on
+
+-- what a life makes is well formed
+pub made-proper : (access : Access) → IsMade access → IsProper access
+made-proper Begin made = absurd made
+made-proper Load made = absurd made
+made-proper (Read width address) made = made.0
+made-proper (Write width address value) made = made
+made-proper CogId made = made
+made-proper (CogInit target origin) made = made
+made-proper (CogStop cog) made = made
+made-proper LockNew made = made
+made-proper (LockRet lock) made = made
+made-proper (LockSet lock) made = made
+made-proper (LockClr lock) made = made
+made-proper (ClkSet mode) made = made
+made-proper PinsIn made = made
+made-proper (OutSet value) made = made
+made-proper (DirSet value) made = made
+made-proper (Wait test) made = made
+made-proper Clock made = made
+made-proper (Halt reason) made = made
+
+-- what is next at a clock is announced
+pub next-announced : (next : Option (ℕ × Access)) (clock cog : ℕ) (access : Access) (answer : Answer) → IsNextAt next clock (Some access) → IsAnnounced next (record { key = record { clock = clock; cog = cog }; access = access; answer = answer })
+next-announced None clock cog access answer at = absurd (let e : Some access ≡ None = at in cc)
+next-announced (Some asked) clock cog access answer at = (at.0, timely asked.1 asked.0 clock at.1)
+
+load-not_wait : (fits : Bool) → test_in (if fits then Load else Halt (Rom 32768)) ≡ None
+load-not_wait true = refl
+load-not_wait false = refl
+
+-- the first turn of a start is no wait
+first-not_wait : (origin : Origin) → test_in (first_access origin) ≡ None
+first-not_wait (Pasm code par) = load-not_wait (nat_le (code + 4 * 496) 32768)
+first-not_wait (Spin entry pbase vbase frame size) = refl
+
+module _ (asked : Begun → List Turn → ℕ → Access → Type 0) (w : World) (past : List Turn) (from : ℕ) (late : (n clock : ℕ) → IsAfter past (record { clock = clock; cog = n }) → from ≤ clock) where
+  from-may : (n : ℕ) (test : Option Test) (earliest clock : ℕ) → MayBe w past n test earliest clock → IsFrom test from clock
+  from-may n None earliest clock may = tt
+  from-may n (Some test) earliest clock may = late n clock may.after
+
+  from-in : (n : ℕ) (state : CogState) (clock : ℕ) (access : Access) → MayComeIn asked w past n state clock access → IsFrom (test_in access) from clock
+  from-in n Stopped clock access may = absurd may
+  from-in n (Starting since origin) clock access may =
+      subst (λ (test : Option Test). IsFrom test from clock) (sym (ap test_in may.1 ∙ first-not_wait origin)) tt
+  from-in n (Running origin) clock access may = from-may n (test_in access) may.earliest clock may.may
+
+  -- waits don't end before the last turn
+  pub waits-from : WaitsFrom asked w past from
+  waits-from n clock access comes = from-in n (cog_state w past n) clock access comes.may
+
+abbrev clock_in : Option Key → ℕ
+clock_in None = 0
+clock_in (Some key) = key.clock
+
+-- what comes after a key isn't earlier
+pub behind-from : (past : List Turn) (key : Key) → Some key ≡ newest_key past → (n clock : ℕ) → IsAfter past (record { clock = clock; cog = n }) → key.clock ≤ clock
+behind-from [] key newest n clock after = absurd (let e : Some key ≡ None = newest in cc)
+behind-from (turn ∷ past) key newest n clock after =
+    let same : key.clock ≡ turn.key.clock = ap clock_in newest in
+    elim after [ inl less ↦ omega arith | inr same_clock ↦ (let e : turn.key.clock ≡ clock = same_clock.0 in omega arith) ]
+
+-- to come after the newest turn is to come after the past
+pub behind-after : (past : List Turn) (key : Key) → IsBehind (newest_key past) key → IsAfter past key
+behind-after [] key behind = tt
+behind-after (turn ∷ past) key behind = behind
+
+pub after-behind : (past : List Turn) (key : Key) → IsAfter past key → IsBehind (newest_key past) key
+after-behind [] key after = tt
+after-behind (turn ∷ past) key after = after

@@ -1,0 +1,13 @@
+pub mod Coming
+pub mod Waking
+pub mod Firsts
+pub mod Rows
+pub mod Seating
+pub mod Settling
+pub mod Choosing
+pub mod Fronting
+pub mod Stepping
+pub mod Announcing
+pub mod Telling
+pub mod Searching
+pub mod Granting

@@ -1,0 +1,49 @@
+-- Lists of eight by their places.
+use Rattle.std.proofs.Common.{◌≡◌, ◌∙◌, ap, sym, refl, ℕ, zero, suc, ◌<◌, get_or, List, [], ◌∷◌, Some, None, slice_get, length, arith}
+use Rattle.std.proofs.Math.ListN.{set}
+use Rattle.std.proofs.lemmas.Option.{slice_get_read}
+
+-- there is an item at each place
+pub some-at : {A : Type 0} → (xs : List A) (n : ℕ) → n < length xs → (x : A) × (slice_get xs n ≡ Some x)
+some-at [] n below = absurd (omega arith)
+some-at (x ∷ xs) zero below = (x, refl)
+some-at (x ∷ xs) (suc n) below = some-at xs n (omega arith)
+
+-- one item changed
+module _ {A : Type 0} where
+  pub set-there : (xs : List A) (k : ℕ) (x y : A) → slice_get (set xs k x) k ≡ Some y → y ≡ x
+  set-there [] k x y at = absurd (let e : None ≡ Some y = at in cc)
+  set-there (z ∷ xs) zero x y at = cc
+  set-there (z ∷ xs) (suc k) x y at = set-there xs k x y at
+
+  pub set-else : (xs : List A) (k n : ℕ) (x y : A) → (n ≡ k → ⊥) → slice_get (set xs k x) n ≡ Some y → slice_get xs n ≡ Some y
+  set-else [] k n x y differ at = at
+  set-else (z ∷ xs) zero zero x y differ at = absurd (differ refl)
+  set-else (z ∷ xs) zero (suc n) x y differ at = at
+  set-else (z ∷ xs) (suc k) zero x y differ at = at
+  set-else (z ∷ xs) (suc k) (suc n) x y differ at = set-else xs k n x y (λ e. differ (ap suc e)) at
+
+  pub same-there : (xs : List A) (k : ℕ) (x y : A) → k < length xs → x ≡ get_or xs k x → slice_get xs k ≡ Some y → y ≡ x
+  same-there xs k x y below is at =
+      let there : slice_get xs k ≡ Some x = slice_get_read xs (length xs) k x refl below is in
+      let e : Some y ≡ Some x = sym at ∙ there in
+      cc
+
+-- an item of a list that was set
+pub set-same : {A : Type 0} → (xs : List A) (k : ℕ) (x : A) → k < length xs → slice_get (set xs k x) k ≡ Some x
+set-same [] k x within = absurd (omega arith)
+set-same (y ∷ xs) zero x within = refl
+set-same (y ∷ xs) (suc k) x within = set-same xs k x (omega arith)
+
+pub set-other : {A : Type 0} → (xs : List A) (k n : ℕ) (x : A) → (n ≡ k → ⊥) → slice_get (set xs k x) n ≡ slice_get xs n
+set-other [] k n x differ = refl
+set-other (y ∷ xs) zero zero x differ = absurd (differ refl)
+set-other (y ∷ xs) zero (suc n) x differ = refl
+set-other (y ∷ xs) (suc k) zero x differ = refl
+set-other (y ∷ xs) (suc k) (suc n) x differ = set-other xs k n x (λ e. differ (ap suc e))
+
+-- what is read at a place
+pub got-item : {A : Type 0} → (xs : List A) (n : ℕ) (x d : A) → slice_get xs n ≡ Some x → x ≡ get_or xs n d
+got-item [] n x d at = absurd (let e : None ≡ Some x = at in cc)
+got-item (y ∷ xs) zero x d at = cc
+got-item (y ∷ xs) (suc n) x d at = got-item xs n x d at

@@ -1,0 +1,130 @@
+-- What one turn leaves of what a seat has to do with the history.
+use Rattle.std.proofs.Common.{◌≡◌, ◌∙◌, sym, subst, refl, ℕ, ◌<◌, ◌≤◌, ◌==◌, ◌&&◌, Bool, true, false, List, [], ◌∷◌, ◌++◌, Option, Some, None, arith}
+use Rattle.p8_access.specs.declared.kinds.Origin.{Origin}
+use Rattle.p8_access.specs.declared.kinds.Access.{Access}
+use Rattle.p8_access.specs.declared.kinds.Access.TheVariants.{Begin, Load, Read, Write, CogId, CogInit, CogStop, LockNew, LockRet, LockSet, LockClr, ClkSet, PinsIn, OutSet, DirSet, Wait, Clock, Halt}
+use Rattle.p8_access.specs.declared.kinds.Answer.{Answer}
+use Rattle.p8_access.specs.declared.lives.Next.{Next}
+use Rattle.p8_access.specs.declared.order.Turn.{Turn}
+use Rattle.p8_access.specs.Lives.{Begun, Tells, IsMade}
+use Rattle.p8_history.specs.declared.states.CogState.{CogState}
+use Rattle.p8_history.specs.declared.states.CogState.TheVariants.{Stopped, Starting, Running}
+use Rattle.p8_history.specs.Worlds.{World}
+use Rattle.p8_history.specs.Hub.{Change, Starts, Runs, Stops, change_by, change_of, changed, cog_state}
+use Rattle.p8_history.specs.Histories.{begins_life, since_begin}
+use Rattle.p8_history.proofs.Nexts.{some-injective}
+use Rattle.p8_ledger.specs.Pending.{said_by, Pends}
+use Rattle.p8_ledger.specs.Seats.{Sits, SitsIn}
+use Rattle.p8_ledger.specs.Waiting.{test_in}
+use Rattle.p8_ledger.specs.Coming.{MayBe, MayRun, MayComeIn, MayCome}
+use Rattle.p8_ledger.proofs.Coming.{may-late}
+use Rattle.p8_history.proofs.Changes.{none-begins, runs-begins, begun-same, since_begin-own, since_begin-other, other-test, own-test, other-begins}
+
+absurd-begins : {A : Type 0} → (b : Bool) → b ≡ false → b ≡ true → A
+absurd-begins true p q = absurd cc
+absurd-begins false p q = absurd cc
+
+module _ (asked : Begun → List Turn → ℕ → Access → Type 0) (stands : Begun → List Turn → Type 0) (said : Next) (w : World) (past : List Turn) (turn : Turn) (n : ℕ) where
+  sits-other : begins_life n turn ≡ false → (turn.key.cog == n) ≡ false → Sits asked stands said w past n → Sits asked stands said w (turn ∷ past) n
+  sits-other begins other sits =
+      let since = since_begin-other w past turn n begins other in
+      record {
+        life = sits.life;
+        began = begun-same w past turn n begins ∙ sits.began;
+        stood = subst (λ (ts : List Turn). stands sits.life ts) (sym since) sits.stood;
+        told = subst (λ (ts : List Turn). Tells (asked sits.life ts) w.clocks said) (sym since) sits.told;
+      }
+
+  other-by : (state : CogState) (change : Option Change) → change_of n turn ≡ change → (turn.key.cog ≡ n → ⊥) → SitsIn asked stands said w past n state → SitsIn asked stands said w (turn ∷ past) n (changed state change)
+  other-by Stopped None e differ sits = tt
+  other-by (Starting since origin) None e differ sits = tt
+  other-by (Running origin) None e differ sits = sits-other (other-begins turn n differ) (other-test turn.key.cog n differ) sits
+  other-by state (Some (Starts since origin)) e differ sits = tt
+  other-by state (Some Stops) e differ sits = tt
+  other-by state (Some Runs) e differ sits =
+      absurd-begins (begins_life n turn) (other-begins turn n differ) (runs-begins n turn.key.clock turn.key.cog turn.access turn.answer e)
+
+  -- a turn of another cog
+  pub other-sits : (turn.key.cog ≡ n → ⊥) → SitsIn asked stands said w past n (cog_state w past n) → SitsIn asked stands said w (turn ∷ past) n (cog_state w (turn ∷ past) n)
+  other-sits differ sits = other-by (cog_state w past n) (change_of n turn) refl differ sits
+
+module _ (asked : Begun → List Turn → ℕ → Access → Type 0) (stands : Begun → List Turn → Type 0) (next : Option (ℕ × Access)) (w : World) (past : List Turn) (n : ℕ) where
+  -- a cog's next turn may be what its seat has as the next access, at a clock at which that may be
+  pub may-sits : (origin : Origin) → cog_state w past n ≡ Running origin → (earliest clock : ℕ) (access : Access) → next ≡ Some (earliest, access) → SitsIn asked stands (said_by next) w past n (cog_state w past n) → MayBe w past n (test_in access) earliest clock → (earliest < w.clocks → clock < w.clocks) → MayCome asked w past n clock access
+  may-sits origin is earliest clock access some sits may below =
+      let own : Sits asked stands (said_by next) w past n = subst (λ (s : CogState). SitsIn asked stands (said_by next) w past n s) is sits in
+      let pends = subst (λ (o : Option (ℕ × Access)). Pends (asked own.life (since_begin past n)) w.clocks o) some own.told in
+      let run : MayRun asked w past n clock access = record { life = own.life; began = own.began; earliest = earliest; asks = pends.0; may = may } in
+      record { may = subst (λ (s : CogState). MayComeIn asked w past n s clock access) (sym is) run; below = below pends.1 }
+
+  -- and no other
+  pub one-sits : ((b : Begun) (ts : List Turn) (c d : ℕ) (a e : Access) → asked b ts c a → asked b ts d e → (c ≡ d) × (a ≡ e)) → (origin : Origin) → cog_state w past n ≡ Running origin → (earliest : ℕ) (access : Access) → next ≡ Some (earliest, access) → SitsIn asked stands (said_by next) w past n (cog_state w past n) → (clock : ℕ) (other : Access) → MayCome asked w past n clock other → (other ≡ access) × MayBe w past n (test_in access) earliest clock
+  one-sits one_asked origin is earliest access some sits clock other comes =
+      let own : Sits asked stands (said_by next) w past n = subst (λ (s : CogState). SitsIn asked stands (said_by next) w past n s) is sits in
+      let pends = subst (λ (o : Option (ℕ × Access)). Pends (asked own.life (since_begin past n)) w.clocks o) some own.told in
+      let run : MayRun asked w past n clock other = subst (λ (s : CogState). MayComeIn asked w past n s clock other) is comes.may in
+      let life : run.life ≡ own.life = some-injective _ _ (sym run.began ∙ own.began) in
+      let asks = subst (λ (b : Begun). asked b (since_begin past n) run.earliest other) life run.asks in
+      let same = one_asked own.life (since_begin past n) run.earliest earliest other access asks pends.0 in
+      (same.1, subst (λ (a : Access). MayBe w past n (test_in a) earliest clock) same.1 (subst (λ (e : ℕ). MayBe w past n (test_in other) e clock) same.0 run.may))
+
+  -- where it has none, none comes
+  pub quiet-sits : (origin : Origin) → cog_state w past n ≡ Running origin → next ≡ None → SitsIn asked stands (said_by next) w past n (cog_state w past n) → (clock : ℕ) (access : Access) → MayCome asked w past n clock access → ⊥
+  quiet-sits origin is none sits clock access comes =
+      let own : Sits asked stands (said_by next) w past n = subst (λ (s : CogState). SitsIn asked stands (said_by next) w past n s) is sits in
+      let pends = subst (λ (o : Option (ℕ × Access)). Pends (asked own.life (since_begin past n)) w.clocks o) none own.told in
+      let run : MayRun asked w past n clock access = subst (λ (s : CogState). MayComeIn asked w past n s clock access) is comes.may in
+      let life : run.life ≡ own.life = some-injective _ _ (sym run.began ∙ own.began) in
+      let late : w.clocks ≤ run.earliest = pends run.earliest access (subst (λ (b : Begun). asked b (since_begin past n) run.earliest access) life run.asks) in
+      let on : run.earliest ≤ clock = may-late w past n (test_in access) run.earliest clock run.may in
+      let below : clock < w.clocks = comes.below in
+      omega arith
+
+and-no : (b : Bool) → (b && false) ≡ false
+and-no true = refl
+and-no false = refl
+
+-- an access that a life makes begins none
+made-begins : (n clock cog : ℕ) (access : Access) (answer : Answer) → IsMade access → change_by n clock cog access answer ≡ Some Runs → ⊥
+made-begins n clock cog Begin answer made e = made
+made-begins n clock cog Load answer made e = made
+made-begins n clock cog (Read width address) answer made e = absurd-begins _ (and-no (cog == n)) (runs-begins n clock cog (Read width address) answer e)
+made-begins n clock cog (Write width address value) answer made e = absurd-begins _ (and-no (cog == n)) (runs-begins n clock cog (Write width address value) answer e)
+made-begins n clock cog CogId answer made e = absurd-begins _ (and-no (cog == n)) (runs-begins n clock cog CogId answer e)
+made-begins n clock cog (CogInit target origin) answer made e = absurd-begins _ (and-no (cog == n)) (runs-begins n clock cog (CogInit target origin) answer e)
+made-begins n clock cog (CogStop target) answer made e = absurd-begins _ (and-no (cog == n)) (runs-begins n clock cog (CogStop target) answer e)
+made-begins n clock cog LockNew answer made e = absurd-begins _ (and-no (cog == n)) (runs-begins n clock cog LockNew answer e)
+made-begins n clock cog (LockRet lock) answer made e = absurd-begins _ (and-no (cog == n)) (runs-begins n clock cog (LockRet lock) answer e)
+made-begins n clock cog (LockSet lock) answer made e = absurd-begins _ (and-no (cog == n)) (runs-begins n clock cog (LockSet lock) answer e)
+made-begins n clock cog (LockClr lock) answer made e = absurd-begins _ (and-no (cog == n)) (runs-begins n clock cog (LockClr lock) answer e)
+made-begins n clock cog (ClkSet mode) answer made e = absurd-begins _ (and-no (cog == n)) (runs-begins n clock cog (ClkSet mode) answer e)
+made-begins n clock cog PinsIn answer made e = absurd-begins _ (and-no (cog == n)) (runs-begins n clock cog PinsIn answer e)
+made-begins n clock cog (OutSet value) answer made e = absurd-begins _ (and-no (cog == n)) (runs-begins n clock cog (OutSet value) answer e)
+made-begins n clock cog (DirSet value) answer made e = absurd-begins _ (and-no (cog == n)) (runs-begins n clock cog (DirSet value) answer e)
+made-begins n clock cog (Wait test) answer made e = absurd-begins _ (and-no (cog == n)) (runs-begins n clock cog (Wait test) answer e)
+made-begins n clock cog Clock answer made e = absurd-begins _ (and-no (cog == n)) (runs-begins n clock cog Clock answer e)
+made-begins n clock cog (Halt reason) answer made e = absurd-begins _ (and-no (cog == n)) (runs-begins n clock cog (Halt reason) answer e)
+
+module _ (asked : Begun → List Turn → ℕ → Access → Type 0) (stands stands' : Begun → List Turn → Type 0) (said said' : Next) (w : World) (past : List Turn) (turn : Turn) (n : ℕ) (own : turn.key.cog ≡ n) where
+  sits-own : begins_life n turn ≡ false → ((b : Begun) (ts : List Turn) → stands b ts → stands' b (ts ++ turn ∷ [])) → ((b : Begun) (ts : List Turn) → stands b ts → Tells (asked b (ts ++ turn ∷ [])) w.clocks said') → Sits asked stands said w past n → Sits asked stands' said' w (turn ∷ past) n
+  sits-own begins keeps tells sits =
+      let since = since_begin-own w past turn n begins (own-test turn.key.cog n own) in
+      record {
+        life = sits.life;
+        began = begun-same w past turn n begins ∙ sits.began;
+        stood = subst (λ (ts : List Turn). stands' sits.life ts) (sym since) (keeps sits.life _ sits.stood);
+        told = subst (λ (ts : List Turn). Tells (asked sits.life ts) w.clocks said') (sym since) (tells sits.life _ sits.stood);
+      }
+
+  own-by : (state : CogState) (change : Option Change) → change_of n turn ≡ change → IsMade turn.access → ((b : Begun) (ts : List Turn) → stands b ts → stands' b (ts ++ turn ∷ [])) → ((b : Begun) (ts : List Turn) → stands b ts → Tells (asked b (ts ++ turn ∷ [])) w.clocks said') → SitsIn asked stands said w past n state → SitsIn asked stands' said' w (turn ∷ past) n (changed state change)
+  own-by Stopped None e made keeps tells sits = tt
+  own-by (Starting since origin) None e made keeps tells sits = tt
+  own-by (Running origin) None e made keeps tells sits =
+      sits-own (none-begins n turn.key.clock turn.key.cog turn.access turn.answer e) keeps tells sits
+  own-by state (Some (Starts since origin)) e made keeps tells sits = tt
+  own-by state (Some Stops) e made keeps tells sits = tt
+  own-by state (Some Runs) e made keeps tells sits = absurd (made-begins n turn.key.clock turn.key.cog turn.access turn.answer made e)
+
+  -- a turn of its own that its life takes
+  pub own-sits : IsMade turn.access → ((b : Begun) (ts : List Turn) → stands b ts → stands' b (ts ++ turn ∷ [])) → ((b : Begun) (ts : List Turn) → stands b ts → Tells (asked b (ts ++ turn ∷ [])) w.clocks said') → SitsIn asked stands said w past n (cog_state w past n) → SitsIn asked stands' said' w (turn ∷ past) n (cog_state w (turn ∷ past) n)
+  own-sits made keeps tells sits = own-by (cog_state w past n) (change_of n turn) refl made keeps tells sits

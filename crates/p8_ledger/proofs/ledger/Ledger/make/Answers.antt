@@ -1,0 +1,58 @@
+use Rattle.std.proofs.Common.{◌≡◌, ◌∙◌, ap, sym, subst, refl, ℕ, ◌<◌, List, ◌∷◌, length, reverse}
+use Rattle.p8_access.specs.declared.lives.Next.TheVariants.{More}
+use Rattle.p8_access.specs.declared.order.Turn.{Turn}
+use Rattle.p8_access.specs.Lives.{announced_by}
+use Rattle.p8_history.specs.Worlds.{World}
+use Rattle.p8_history.specs.Hub.{cog_state}
+use Rattle.p8_region.specs.Bounded.{Bounded}
+use Rattle.p8_ledger.specs.Waiting.{newest_key}
+use Rattle.p8_ledger.specs.declared.steps.Step.TheVariants.{Took}
+use Rattle.p8_ledger.specs.Records.{turns, said}
+use Rattle.p8_ledger.proofs.Coming.{next-announced}
+use Rattle.p8_ledger.proofs.Stepping.{reverse-push, cogs-after}
+use Rattle.p8_ledger.proofs.Telling.{take-truth, said-beside}
+use Rattle.p8_ledger.proofs.Granting.{sayings-after, made-after, running-is, front-as}
+use Rattle.p8_ledger.proofs.ledger.Ledger.make.Goals as goal
+
+pub invariant_of-self : goal.invariant_of-self
+invariant_of-self c = record {
+  clocks = c.args.self.now.clocks;
+  room = ap (λ (t : Bounded Turn). t.room) c.in-Ok.ensures.ok ∙ c.args.self.now.room;
+  newest = sym (ap (λ (t : Bounded Turn). newest_key (reverse t.list)) c.in-Ok.ensures.ok ∙ ap newest_key (reverse-push c.args.self.now.turns.list (record { key = c.args.key; access = c.args.due.access; answer = c.answer-answer.result })));
+  small = c.requires.clock;
+  made = made-after c.args.self.now.sayings c.args.key.cog (More _) c.args.self.now.made tt;
+}
+
+pub returns-clause-made : goal.returns-clause-made
+returns-clause-made c = record {
+  cog = c.requires.cog;
+  clock = c.requires.clock;
+  fits = c.answer-answer.ensures.fits;
+  announced = λ saying running at. next-announced (announced_by saying) c.args.key.clock c.args.key.cog c.args.due.access c.answer-answer.result (c.requires.suits.next saying running at);
+  room = subst (λ (m : ℕ). length c.args.self.now.turns.list < m) c.args.self.now.room c.requires.room;
+  log = ap (λ (t : Bounded Turn). t.list) c.in-Ok.ensures.ok;
+  sayings = refl;
+  boot = refl;
+  limits = refl;
+}
+
+pub returns-clause-found : goal.returns-clause-found
+returns-clause-found c = λ w r found extends fits.
+    let turn : Turn = record { key = c.args.key; access = c.args.due.access; answer = c.answer-answer.result } in
+    let hub = c.answer-answer.ensures.stands w (turns r) found.hub in
+    let cogs = cogs-after w (turns r) turn found.origins found.others c.requires.cog c.requires.suits.proper c.answer-answer.ensures.fits in
+    let sayings = sayings-after c.args.self.now.sayings (Took turn) r c.requires.cog found.sayings in
+    let limit : c.args.self.now.limits.clocks ≡ w.clocks = ap (λ (w : World). w.clocks) found.world in
+    record {
+      world = found.world;
+      log = ap (λ (t : Bounded Turn). reverse t.list) c.in-Ok.ensures.ok ∙ reverse-push c.args.self.now.turns.list turn ∙ ap (λ (l : List Turn). turn ∷ l) found.log;
+      hub = hub;
+      sayings = sayings;
+      truth = take-truth w r turn found.truth extends (λ origin state. c.requires.suits.made (running-is c.args.due.running (cog_state w (turns r) c.args.key.cog) origin fits state));
+      legal = (found.legal, extends);
+      origins = cogs.0;
+      others = cogs.1;
+      fronts = λ n near.
+          front-as c.settle.new.self n c.args.self.now.limits.clocks w.clocks (cog_state w (turn ∷ turns r) n) (said n (Took turn ∷ r)) (said n (Took turn ∷ r)) (sym limit) refl
+          (c.settle.ensures.fronts w (turns r) n (said n (Took turn ∷ r)) hub (sayings n near) (λ differ. front-as c.args.self.now.fronts n w.clocks c.args.self.now.limits.clocks (cog_state w (turns r) n) (said n r) (said n (Took turn ∷ r)) limit (said-beside (Took turn) r n (λ e. differ (sym e))) (found.fronts n near)));
+    }

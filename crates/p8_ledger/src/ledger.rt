@@ -1,0 +1,515 @@
+// The value that keeps where a record stands, and makes its turns.
+ghost use Rattle.std.specs.Prelude.{◌≡◌, ◌<◌, ◌≤◌, ◌+◌, ◌^◌, ◌⊎◌, ◌∷◌, [], ℕ, List, Some, None, true, Option, length, reverse, slice_get, slice_index, IfOk, IfSome, MatchOption, IsTrue, ◌↔◌};
+ghost use Rattle.p8_access.specs.declared.kinds.Access.TheVariants.{PinsIn};
+ghost use Rattle.p8_access.specs.declared.kinds.Test.{Test};
+ghost use Rattle.p8_access.specs.declared.lives.Next.TheVariants.{More};
+ghost use Rattle.p8_access.specs.Lives.{IsMade, IsMadeNext, announced_by};
+ghost use Rattle.p8_access.specs.Proper.{IsProper, IsProperOrigin, Fits};
+ghost use Rattle.p8_history.specs.Worlds.{World, level_at};
+ghost use Rattle.p8_history.specs.Hub.{cog_state};
+ghost use Rattle.p8_history.specs.Histories.{answer_to, Extends};
+ghost use Rattle.p8_hub.specs.Standing.{IsHub};
+ghost use Rattle.p8_lives.specs.Lives.{asks};
+ghost use Rattle.p8_ledger.specs.Coming.{WaitsFrom, IsClockIn, IsFirstKey};
+ghost use Rattle.p8_ledger.specs.Fronts.{IsFront, next_in};
+ghost use Rattle.p8_ledger.specs.Waiting.{newest_key, IsSpanFrom, IsNextAt};
+ghost use Rattle.p8_ledger.specs.Standing.{FitsState};
+ghost use Rattle.p8_ledger.specs.Worlds.{world_of};
+ghost use Rattle.p8_region.specs.Bounded.{bounded};
+ghost use Rattle.p8_ledger.specs.declared.steps.Step.TheVariants.{Took, Said};
+ghost use Rattle.p8_ledger.specs.Records.{Record, turns, said, IsTrueOf, Owes, HasFront, IsLeastFront, NoFront};
+ghost use Rattle.p8_ledger.specs.Announced.{announced};
+ghost use Rattle.p8_ledger.specs.Dues.{IsDueAt, Suits, SuitsIf, AllMade, is_prop-AllMade};
+ghost use Rattle.std.proofs.Props.{props};
+
+use crate::due::{Due, first_access};
+use crate::fronts::{Front, Fronts, NEVER, first_front, front_of};
+use crate::outcome::{Ended, History, Limits};
+use crate::start::Start;
+use crate::waits::{is_timely, next_line, wake_clock};
+use p8_access::{Access, Boot, Key, Next, Ram, Turn};
+use p8_history::CogState;
+use p8_hub::Hub;
+use p8_pins::{PinScript, Span};
+use p8_region::Strip;
+use p8_words::NoMemory;
+use std::alloc::Global;
+
+/// What a cog gets that asks for its turn.
+#[derive(Clone, Copy, Debug, PartialEq, Eq)]
+pub enum Taken {
+    /// Its turn, which came next and is made. Where the cog was running its life has to take it; else the
+    /// cog was starting, and with a Load or a Begin a new life begins.
+    Done { turn: Turn, running: bool },
+    /// The least front is its own promise, of the clock `bound`: it has to run on and say more.
+    Ahead { bound: u64 },
+    /// The least front is that of another cog, at the clock `bound`.
+    After { cog: u8, bound: u64 },
+    /// No turn comes any more.
+    Over,
+}
+
+/// What comes first of all that the cogs have said.
+#[derive(Clone, Copy, Debug, PartialEq, Eq)]
+pub enum First {
+    /// The turn that came next, and is made. Where its cog was running its life has to take it; else the cog was
+    /// starting, and with a Load or a Begin a new life begins.
+    Done { turn: Turn, running: bool },
+    /// The least front is a promise of this cog, of the clock `bound`: it has to run on and say more.
+    Ahead { cog: u8, bound: u64 },
+    /// No turn comes any more.
+    Over,
+}
+
+/// Where a record stands: its turns, the hub after them and what each cog has said last.
+#[derive(Drop)]
+pub struct Ledger {
+    boot: Boot,
+    limits: Limits,
+    hub: Hub,
+    turns: Strip<Turn>,
+    /// What each cog has said since its last turn.
+    sayings: [Next; 8],
+    /// The front of each cog, by its state and by what it has said.
+    fronts: Fronts,
+    /// The key of the last turn.
+    last: Option<Key>,
+    /// The span of the script in which that turn was found. It only saves searching: none of what is
+    /// proved rests on it.
+    span: Span,
+    ghost clocks: { limits.clocks ≤ 100000000 },
+    ghost room: { turns.room ≡ limits.turns },
+    ghost newest: { last ≡ newest_key (reverse turns.list) },
+    ghost small: { IfSome last (λ key. key.clock < 2 ^ 61) } by { Prim.hlevel props },
+    ghost made: { AllMade sayings } by { is_prop-AllMade sayings },
+}
+
+/// A turn that was made, and whether its cog was running before it.
+#[derive(Clone, Copy)]
+struct Made {
+    turn: Turn,
+    running: bool,
+}
+
+impl Ledger {
+    ghost use Rattle.p8_ledger.specs.Ledgers.{Found, Decides, taken_by, CanBeTaken, DecidesFirst, after_first};
+    ghost use Rattle.p8_ledger.specs.Advances.{HasMade, Advances, HasSaid};
+    ghost use Rattle.p8_ledger.specs.Granted.{IsGranted, granted_by};
+
+    /// A ledger before the first turn. `log` is to hold the turns: it is empty, with room for as many as the
+    /// limit. The hub's memory is taken here, and no other call takes any.
+    ///
+    /// # Errors
+    ///
+    /// `NoMemory` where there is no memory for the hub.
+    pub fn open(alloc: Global, start: &Start, log: Strip<Turn>) -> Result<Ledger, NoMemory>
+        requires clocks { start.now.limits.clocks ≤ 100000000 }
+        requires first { IsProperOrigin start.now.boot.first }
+        requires log { log ≡ bounded [] start.now.limits.turns }
+        ensures { IfOk result (λ ledger. Found (world_of start.now.boot start.now.script start.now.limits) ledger []) }
+    {
+        let hub = Hub::open(alloc, &start.boot)?;
+        let span = start.script.span_at(0);
+        let sayings = [Next::More { bound: 0 }; 8];
+        let fronts = Fronts::open(&hub, &sayings, start.limits.clocks);
+        Ok(Ledger {
+            boot: Boot {
+                ram: start.boot.ram.share(),
+                first: start.boot.first,
+            },
+            limits: start.limits,
+            hub,
+            turns: log,
+            sayings,
+            fronts,
+            last: None,
+            span,
+        })
+    }
+
+    /// How many turns were made.
+    pub fn count(&self) -> u64
+        ensures { (w : World) (r : Record) → Found w self.now r → result ≡ length (turns r) }
+    {
+        self.turns.len() as u64
+    }
+
+    /// What a cog is doing.
+    pub fn state(&self, cog: u8) -> CogState
+        requires { cog < 8 }
+        ensures { (w : World) (r : Record) → Found w self.now r → result ≡ cog_state w (turns r) cog }
+    {
+        self.hub.state(cog)
+    }
+
+    /// The memory of the boot, in which the code of Spin stands.
+    pub fn memory(&self) -> &Ram
+        ensures { (w : World) (r : Record) → Found w self.now r → result.now ≡ w.memory }
+    {
+        &self.boot.ram
+    }
+
+    /// The clock up to which turns come.
+    #[inline]
+    pub fn limit(&self) -> u64
+        ensures limit { result ≡ self.now.limits.clocks }
+        ensures small { result ≤ 100000000 }
+    {
+        self.limits.clocks
+    }
+
+    /// Whether a cog, below 8, owes a saying: there is room for a turn, the cog runs, and the last that it said
+    /// is a promise.
+    pub fn owes(&self, cog: u8) -> bool
+        requires { cog < 8 }
+        ensures { (w : World) (r : Record) → Found w self.now r → IsTrue result ↔ Owes w r cog }
+    {
+        if self.turns.len() as u64 >= self.limits.turns {
+            return false;
+        }
+        match self.hub.state(cog) {
+            CogState::Running { .. } => is_promise(self.sayings[cog as usize]),
+            _ => false,
+        }
+    }
+
+    /// Notes what a cog, below 8, says of its next access. It has to be true, and an access that a life makes.
+    pub fn say(&mut self, cog: u8, next: Next)
+        requires cog { cog < 8 }
+        requires made { IsMadeNext next }
+        ensures found { (w : World) (r : Record) → Found w self.old r → IsTrueOf w (turns r) cog next → Found w self.new (Said cog next ∷ r) }
+        ensures said { HasSaid self.old self.new cog next }
+    {
+        self.sayings[cog as usize] = next;
+        self.fronts
+            .renew(&self.hub, &self.sayings, cog, self.limits.clocks);
+    }
+}
+
+impl Ledger {
+    ghost use Rattle.p8_ledger.specs.Ledgers.{Found, Decides, taken_by, CanBeTaken, DecidesFirst, after_first};
+    ghost use Rattle.p8_ledger.specs.Advances.{HasMade, Advances, HasSaid};
+    ghost use Rattle.p8_ledger.specs.Granted.{IsGranted, granted_by};
+
+    /// The front of a cog, or where it waits the clock from which its wait may end.
+    #[inline]
+    fn front(&self, cog: u8) -> Front
+        requires { cog < 8 }
+        ensures { (w : World) (r : Record) → Found w self.now r → IsFront cog w.clocks (cog_state w (turns r) cog) (next_in w.clocks (said cog r)) result.clock result.test }
+    {
+        front_of(
+            cog,
+            self.hub.state(cog),
+            self.sayings[cog as usize],
+            self.limits.clocks,
+        )
+    }
+
+    /// The clock of a cog for the search of what comes in a span of the script, which begins at `from` or
+    /// before.
+    #[inline]
+    fn clock_in(&self, cog: u8, from: u64, span: &Span) -> u64
+        requires { cog < 8 }
+        ensures { (w : World) (r : Record) → Found w self.now r → IsSpanFrom w.script from span.now → WaitsFrom (announced r) w (turns r) from → IsClockIn (announced r) w (turns r) span.now.end cog result }
+    {
+        let front = self.front(cog);
+        match front.test {
+            None => front.clock,
+            Some(test) => {
+                match wake_clock(&self.hub, self.last, cog, &test, front.clock, from, span) {
+                    None => NEVER,
+                    Some(clock) => clock,
+                }
+            }
+        }
+    }
+
+    /// The key of the turn that comes first in a span of the script, which begins at `from` or before.
+    fn first_in(&self, from: u64, span: &Span) -> Key
+        ensures near { result.cog < 8 }
+        ensures first { (w : World) (r : Record) → Found w self.now r → IsSpanFrom w.script from span.now → WaitsFrom (announced r) w (turns r) from → IsFirstKey (announced r) w (turns r) span.now.end result }
+    {
+        let mut clocks = [NEVER; 8];
+        for cog in 0..8 {
+            clocks[cog as usize] = self.clock_in(cog, from, span);
+        }
+        first_front(&clocks)
+    }
+
+    /// The key of the turn that comes first where the cog with the least front waits.
+    ///
+    /// Up to the next line of the script the levels stay the same. Where no turn comes before that line,
+    /// all is looked at again from it on: so each line is passed once, whatever waits for it.
+    ///
+    /// `span` is where the search began and where it ended.
+    #[inline(never)]
+    fn first_by_spans(&self, script: &PinScript, span: &mut Span) -> Key
+        ensures near { result.cog < 8 }
+        ensures first { (w : World) (r : Record) → script.now ≡ w.script → Found w self.now r → IsFirstKey (announced r) w (turns r) None result }
+    {
+        let mut from = self.now();
+        'spans: loop {
+            *span = script.span_near(span, from);
+            let key = self.first_in(from, span);
+            match next_line(key.clock, span.end, self.limits.clocks) {
+                None => return key,
+                Some(clock) => from = clock,
+            }
+        }
+    }
+
+    /// The least front of all, where it is below the limit; else no cog has one.
+    #[inline]
+    fn first_key(&self, script: &PinScript, span: &mut Span) -> Key
+        ensures near { result.cog < 8 }
+        ensures first { (w : World) (r : Record) → script.now ≡ w.script → Found w self.now r → IsFirstKey (announced r) w (turns r) None result }
+    {
+        let key = first_front(&self.fronts.clocks);
+        match self.front(key.cog).test {
+            None => key,
+            Some(_) => self.first_by_spans(script, span),
+        }
+    }
+
+    /// The clock of the last turn, or 0 before the first.
+    fn now(&self) -> u64
+        ensures from { (w : World) (r : Record) → Found w self.now r → WaitsFrom (announced r) w (turns r) result }
+        ensures small { result < 2 ^ 61 }
+    {
+        match self.last {
+            None => 0,
+            Some(key) => key.clock,
+        }
+    }
+}
+
+impl Ledger {
+    ghost use Rattle.p8_ledger.specs.Ledgers.{Found, Decides, taken_by, CanBeTaken, DecidesFirst, after_first};
+    ghost use Rattle.p8_ledger.specs.Advances.{HasMade, Advances, HasSaid};
+    ghost use Rattle.p8_ledger.specs.Granted.{IsGranted, granted_by};
+
+    /// The least front, where a turn may come: where there is room for one, and that front is below the limit.
+    ///
+    /// `span` is where the search began and where it ended.
+    #[inline]
+    fn least(&self, script: &PinScript, span: &mut Span) -> Option<Key>
+        ensures least { (w : World) (r : Record) → script.now ≡ w.script → Found w self.now r → MatchOption result ((length (turns r) ≡ w.turns) ⊎ NoFront w r) (λ key. (length (turns r) < w.turns) × IsLeastFront w r key) }
+        ensures suits { IfSome result (λ key. (key.cog < 8) × (key.clock < 2 ^ 61) × (length self.now.turns.list < self.now.turns.room)) }
+    {
+        if self.turns.len() as u64 >= self.limits.turns {
+            return None;
+        }
+        let key = self.first_key(script, span);
+        if key.clock >= self.limits.clocks {
+            return None;
+        }
+        Some(key)
+    }
+
+    /// What stands at the front of a cog, which is at this clock: an access, or None for a promise.
+    #[inline]
+    fn due_at(&self, cog: u8, clock: u64) -> Option<Due>
+        requires { cog < 8 }
+        ensures due { (w : World) (r : Record) → Found w self.now r → HasFront w r cog clock → IsDueAt w r cog clock result }
+        ensures suits { SuitsIf self.now.sayings cog clock result }
+    {
+        match self.hub.state(cog) {
+            CogState::Stopped => None,
+            CogState::Starting { origin, .. } => Some(Due {
+                access: first_access(origin),
+                running: false,
+            }),
+            CogState::Running { .. } => match said_at(self.sayings[cog as usize], clock) {
+                None => None,
+                Some(access) => Some(Due {
+                    access,
+                    running: true,
+                }),
+            },
+        }
+    }
+
+    /// Makes a turn. It was found in this span of the script.
+    #[inline]
+    fn make(&mut self, script: &PinScript, key: Key, due: Due, span: Span) -> Turn
+        requires cog { key.cog < 8 }
+        requires clock { key.clock < 2 ^ 61 }
+        requires suits { Suits self.old.sayings key.cog key.clock due }
+        requires room { length self.old.turns.list < self.old.turns.room }
+        ensures key { result.key ≡ key }
+        ensures access { result.access ≡ due.access }
+        ensures answer { (w : World) (r : Record) → script.now ≡ w.script → Found w self.old r → result.answer ≡ answer_to w (turns r) key due.access }
+        ensures made { HasMade self.old self.new result due.running }
+        ensures found { (w : World) (r : Record) → Found w self.old r → Extends asks w (turns r) result → FitsState due.running (cog_state w (turns r) key.cog) → Found w self.new (Took result ∷ r) }
+    {
+        let levels = levels(script, &due.access, key.clock, &span);
+        let answer = self.hub.answer(key, &due.access, levels);
+        let turn = Turn {
+            key,
+            access: due.access,
+            answer,
+        };
+        self.sayings[key.cog as usize] = Next::More {
+            bound: key.clock + 1,
+        };
+        self.fronts
+            .settle(&self.hub, &self.sayings, &turn, self.limits.clocks);
+        match self.turns.push(turn) {
+            Ok(()) => {
+                self.last = Some(key);
+                self.span = span;
+                turn
+            }
+            Err(_) => unreachable!(),
+        }
+    }
+
+    /// Makes the turn at the least front, or None where that is a promise.
+    #[inline]
+    fn grant(&mut self, script: &PinScript, key: Key, span: Span) -> Option<Made>
+        requires cog { key.cog < 8 }
+        requires clock { key.clock < 2 ^ 61 }
+        requires room { length self.old.turns.list < self.old.turns.room }
+        ensures granted { (w : World) (r : Record) → script.now ≡ w.script → Found w self.old r → IsLeastFront w r key → IsGranted w r key result }
+        ensures found { (w : World) (r : Record) → script.now ≡ w.script → Found w self.old r → IsLeastFront w r key → Found w self.new (granted_by result r) }
+        ensures made { MatchOption result (self.new ≡ self.old) (λ made. HasMade self.old self.new made.turn made.running) }
+    {
+        match self.due_at(key.cog, key.clock) {
+            None => None,
+            Some(due) => {
+                let turn = self.make(script, key, due, span);
+                Some(Made {
+                    turn,
+                    running: due.running,
+                })
+            }
+        }
+    }
+
+    /// What a cog, below 8, gets that asks for its turn. The least front decides: the turn is made where it is
+    /// the key of this cog's next turn. `script` is that of the run. It waits for nobody and takes no memory.
+    pub fn take(&mut self, script: &PinScript, cog: u8) -> Taken
+        requires { cog < 8 }
+        ensures decides { (w : World) (r : Record) → script.now ≡ w.script → Found w self.old r → Decides w r cog result }
+        ensures found { (w : World) (r : Record) → script.now ≡ w.script → Found w self.old r → Found w self.new (taken_by result r) }
+        ensures takes { CanBeTaken result }
+    {
+        let mut span = self.span;
+        match self.least(script, &mut span) {
+            None => Taken::Over,
+            Some(key) => {
+                if key.cog != cog {
+                    return Taken::After {
+                        cog: key.cog,
+                        bound: key.clock,
+                    };
+                }
+                match self.grant(script, key, span) {
+                    None => Taken::Ahead { bound: key.clock },
+                    Some(made) => Taken::Done {
+                        turn: made.turn,
+                        running: made.running,
+                    },
+                }
+            }
+        }
+    }
+
+    /// Makes the turn of the cog with the least front, whichever it is. `script` is that of the run. It waits for
+    /// nobody and takes no memory.
+    #[inline]
+    pub fn take_first(&mut self, script: &PinScript) -> First
+        ensures decides { (w : World) (r : Record) → script.now ≡ w.script → Found w self.old r → DecidesFirst w r result }
+        ensures found { (w : World) (r : Record) → script.now ≡ w.script → Found w self.old r → Found w self.new (after_first result r) }
+        ensures advances { Advances self.old self.new result }
+    {
+        let mut span = self.span;
+        match self.least(script, &mut span) {
+            None => First::Over,
+            Some(key) => match self.grant(script, key, span) {
+                None => First::Ahead {
+                    cog: key.cog,
+                    bound: key.clock,
+                },
+                Some(made) => First::Done {
+                    turn: made.turn,
+                    running: made.running,
+                },
+            },
+        }
+    }
+
+    /// The history up to here with its hub, and how many took its turns: 1, or 8.
+    pub fn end(self, crew: u8) -> Ended
+        ensures hub { (w : World) (r : Record) → Found w self r → IsHub w (turns r) result.hub }
+        ensures world { (w : World) (r : Record) → Found w self r → world_of result.history.boot w.script result.history.limits ≡ w }
+        ensures past { (w : World) (r : Record) → Found w self r → reverse result.history.turns.list ≡ turns r }
+        ensures crew { result.crew ≡ crew }
+        ensures boot { result.history.boot ≡ self.boot }
+        ensures limits { result.history.limits ≡ self.limits }
+        ensures turns { result.history.turns ≡ self.turns }
+    {
+        let Ledger {
+            boot,
+            limits,
+            hub,
+            turns,
+            sayings: _,
+            fronts: _,
+            last: _,
+            span: _,
+        } = self;
+        Ended {
+            history: History {
+                boot,
+                limits,
+                turns,
+            },
+            hub,
+            crew,
+        }
+    }
+}
+
+/// The levels of the input pins at a clock, where an access reads the pins.
+#[inline]
+fn levels(script: &PinScript, access: &Access, clock: u64, span: &Span) -> u32
+    ensures { access.now ≡ PinsIn → result ≡ level_at script.now clock }
+{
+    match *access {
+        Access::PinsIn => script.span_near(span, clock).levels,
+        _ => 0,
+    }
+}
+
+/// Whether a saying is a promise.
+fn is_promise(said: Next) -> bool
+    ensures { IsTrue result ↔ ((bound : ℕ) × (said ≡ More bound)) }
+{
+    match said {
+        Next::More { .. } => true,
+        _ => false,
+    }
+}
+
+/// The access that is said to come next, where it may have its turn at this clock.
+#[inline]
+fn said_at(said: Next, clock: u64) -> Option<Access>
+    requires { IsMadeNext said }
+    ensures next { IsNextAt (announced_by said) clock result }
+    ensures made { IfSome result IsMade }
+{
+    match said {
+        Next::At {
+            clock: earliest,
+            access,
+        } => {
+            if is_timely(access, earliest, clock) {
+                Some(access)
+            } else {
+                None
+            }
+        }
+        Next::Quiet | Next::More { .. } => None,
+    }
+}

@@ -1,4 +1,0 @@
-pub mod Announcing
-pub mod Telling
-pub mod Searching
-pub mod Granting

@@ -1,5 +1,0 @@
-use Rattle.p8_record.proofs.Telling.{least-extends}
-use Rattle.p8_record.proofs.laws.least_front_extends.Goals as goal
-
-pub returns : goal.returns
-returns c = λ w r turn truth room least next answer. least-extends w r turn truth room least next answer
