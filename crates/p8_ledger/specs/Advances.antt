@@ -3,7 +3,7 @@ use Rattle.std.specs.Prelude.{ℕ, ◌+◌, ◌≡◌, ◌<◌, ◌^◌, true, B
 use Rattle.p8_access.specs.declared.lives.Next.{Next}
 use Rattle.p8_access.specs.declared.lives.Next.TheVariants.{More}
 use Rattle.p8_access.specs.declared.order.Turn.{Turn}
-use Rattle.p8_access.specs.Lives.{announced_by, IsAnnounced}
+use Rattle.p8_access.specs.Lives.{announced_by, IsAnnounced, IsMade}
 use Rattle.p8_access.specs.Proper.{Fits}
 use Rattle.p8_ledger.specs.declared.ledger.Ledger.{Ledger}
 use Rattle.p8_ledger.specs.declared.ledger.First.{First}
@@ -15,6 +15,7 @@ pub record HasMade (old new : Ledger) (turn : Turn) (running : Bool) : Type 0 wh
   pub cog : turn.key.cog < 8
   pub clock : turn.key.clock < 2 ^ 61
   pub fits : Fits turn.access turn.answer
+  pub made : running ≡ true → IsMade turn.access
   pub announced : (said : Next) → running ≡ true → slice_get old.sayings turn.key.cog ≡ Some said → IsAnnounced (announced_by said) turn
   pub room : length old.turns.list < old.limits.turns
   pub log : new.turns.list ≡ old.turns.list ++ turn ∷ []
@@ -24,7 +25,7 @@ pub record HasMade (old new : Ledger) (turn : Turn) (running : Bool) : Type 0 wh
 
 abbrev pub Advances : Ledger → Ledger → First → Type 0
 Advances old new (Done turn running) = HasMade old new turn running
-Advances old new (Ahead n bound) = new ≡ old
+Advances old new (Ahead n bound) = (n < 8) × (new ≡ old)
 Advances old new Over = new ≡ old
 
 -- a cog has said this

@@ -81,6 +81,7 @@ pub struct Ledger {
     ghost room: { turns.room ≡ limits.turns },
     ghost newest: { last ≡ newest_key (reverse turns.list) },
     ghost small: { IfSome last (λ key. key.clock < 2 ^ 61) } by { Prim.hlevel props },
+    ghost eight: { length sayings ≡ 8 },
     ghost made: { AllMade sayings } by { is_prop-AllMade sayings },
 }
 

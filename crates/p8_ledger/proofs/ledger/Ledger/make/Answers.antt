@@ -1,4 +1,5 @@
 use Rattle.std.proofs.Common.{◌≡◌, ◌∙◌, ap, sym, subst, refl, ℕ, ◌<◌, List, ◌∷◌, length, reverse}
+use Rattle.std.proofs.lemmas.List.{length-set}
 use Rattle.p8_access.specs.declared.lives.Next.TheVariants.{More}
 use Rattle.p8_access.specs.declared.order.Turn.{Turn}
 use Rattle.p8_access.specs.Lives.{announced_by}
@@ -20,6 +21,7 @@ invariant_of-self c = record {
   room = ap (λ (t : Bounded Turn). t.room) c.in-Ok.ensures.ok ∙ c.args.self.now.room;
   newest = sym (ap (λ (t : Bounded Turn). newest_key (reverse t.list)) c.in-Ok.ensures.ok ∙ ap newest_key (reverse-push c.args.self.now.turns.list (record { key = c.args.key; access = c.args.due.access; answer = c.answer-answer.result })));
   small = c.requires.clock;
+  eight = length-set c.args.self.now.sayings c.args.key.cog (More _) ∙ c.args.self.now.eight;
   made = made-after c.args.self.now.sayings c.args.key.cog (More _) c.args.self.now.made tt;
 }
 
@@ -28,6 +30,7 @@ returns-clause-made c = record {
   cog = c.requires.cog;
   clock = c.requires.clock;
   fits = c.answer-answer.ensures.fits;
+  made = c.requires.suits.made;
   announced = λ saying running at. next-announced (announced_by saying) c.args.key.clock c.args.key.cog c.args.due.access c.answer-answer.result (c.requires.suits.next saying running at);
   room = subst (λ (m : ℕ). length c.args.self.now.turns.list < m) c.args.self.now.room c.requires.room;
   log = ap (λ (t : Bounded Turn). t.list) c.in-Ok.ensures.ok;
