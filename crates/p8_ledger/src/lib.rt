@@ -17,6 +17,7 @@ mod start;
 mod steps;
 mod waits;
 
+pub use due::LAST_CODE;
 pub use laws::{
     least_front_comes_first, least_front_extends, no_front_ends, saying_keeps_truth, steps_beside,
     turn_beside, turn_keeps_truth, turn_of_a_start, turn_of_its_own,

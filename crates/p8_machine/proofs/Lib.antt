@@ -1,10 +1,3 @@
-pub mod Coming
-pub mod Waking
-pub mod Seating
-pub mod Firsts
-pub mod Choosing
-pub mod Settling
-pub mod Taking
-pub mod Stepping
-pub mod Fronting
+pub mod Settled
 pub mod Rows
+pub mod Announced

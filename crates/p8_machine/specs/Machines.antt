@@ -2,20 +2,19 @@
 use Rattle.std.specs.Prelude.{List, reverse}
 use Rattle.p8_access.specs.declared.order.Turn.{Turn}
 use Rattle.p8_history.specs.Worlds.{World}
-use Rattle.p8_lives.specs.Lives.{asks}
+use Rattle.p8_ledger.specs.Records.{Record}
+use Rattle.p8_ledger.specs.Worlds.{world_of}
 use Rattle.p8_machine.specs.declared.run.Machine.{Machine}
-use Rattle.p8_machine.specs.Worlds.{world_of}
 use Rattle.p8_machine.specs.Standing.{Stands}
 
 -- the world of a machine
 abbrev pub world_in : Machine → World
-world_in machine = world_of machine.boot machine.script machine.limits
+world_in machine = world_of machine.ledger.boot machine.script machine.ledger.limits
 
 -- the turns that it has made, the newest first
 abbrev pub past_in : Machine → List Turn
-past_in machine = reverse machine.turns.list
+past_in machine = reverse machine.ledger.turns.list
 
 -- its parts stand for these turns in this world
 abbrev pub IsStanding : Machine → Type 0
-IsStanding machine =
-    Stands asks (world_in machine) (past_in machine) machine.hub machine.seats.seats.items machine.fronts
+IsStanding machine = (r : Record) × Stands (world_in machine) r machine.ledger machine.seats.lives.items

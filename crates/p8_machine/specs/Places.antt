@@ -1,31 +1,45 @@
 -- internal
--- The seats of the cogs and their lives.
-use Rattle.std.specs.Prelude.{ℕ, ◌≡◌, List, [], ◌∷◌, ◌++◌, Some, slice_get}
+-- The lives of the eight cogs, by their places.
+use Rattle.std.specs.Prelude.{ℕ, ◌≡◌, List, [], ◌∷◌, ◌++◌, Option, Some, slice_get}
 use Rattle.p8_access.specs.declared.kinds.Access.{Access}
 use Rattle.p8_access.specs.declared.order.Turn.{Turn}
-use Rattle.p8_access.specs.Lives.{Begun}
-use Rattle.p8_lives.specs.Whole as Life
-use Rattle.p8_machine.specs.declared.seat.Seat.{Seat}
-use Rattle.p8_machine.specs.Pending.{Pends}
+use Rattle.p8_access.specs.declared.lives.Next.{Next}
+use Rattle.p8_access.specs.declared.lives.Next.TheVariants.{At, Quiet, More}
+use Rattle.p8_access.specs.Lives.{Begun, Tells, announced_by}
+use Rattle.p8_lives.specs.declared.cog_life.CogLife.{CogLife}
+use Rattle.p8_lives.specs.Kinds.{access_of}
+use Rattle.p8_lives.specs.Whole.{stands_for}
 
--- the life in a seat began with this and has had these turns
-abbrev pub lives : Seat → Begun → List Turn → Type 0
-lives seat began turns = Life.stands_for seat.life began turns
+-- the access that a life has announced
+abbrev pub announced_in : CogLife → Option (ℕ × Access)
+announced_in life = access_of life.kind life.pasm.announced life.spin.announced
 
--- the cog that a seat is of
-abbrev pub cog_of : Seat → ℕ
-cog_of seat = Life.cog_of seat.life
+-- what is said is the life's next access, or that none comes, and no promise
+abbrev pub IsSpoken : Next → Type 0
+IsSpoken (At clock access) = Unit {0}
+IsSpoken Quiet = Unit {0}
+IsSpoken (More bound) = ⊥
 
--- all seats but one are as they were
-abbrev pub SameBut : ℕ → List Seat → List Seat → Type 0
-SameBut cog old new = (n : ℕ) (seat : Seat) → (n ≡ cog → ⊥) → slice_get new n ≡ Some seat → slice_get old n ≡ Some seat
+-- all lives but one are as they were
+abbrev pub SameBut : ℕ → List CogLife → List CogLife → Type 0
+SameBut cog old new = (n : ℕ) (life : CogLife) → (n ≡ cog → ⊥) → slice_get new n ≡ Some life → slice_get old n ≡ Some life
+
+-- an access that is said is the one that the life has announced
+abbrev pub HasAnnounced : CogLife → Next → Type 0
+HasAnnounced life said = (asked : ℕ × Access) → announced_by said ≡ Some asked → announced_in life ≡ Some asked
+
+abbrev pub AreAnnounced : (sayings : List Next) → (lives : List CogLife) → Type 0
+AreAnnounced sayings lives = (n : ℕ) (life : CogLife) (said : Next) → slice_get lives n ≡ Some life → slice_get sayings n ≡ Some said → HasAnnounced life said
 
 module _ (asked : Begun → List Turn → ℕ → Access → Type 0) where
-  -- a life has begun in a seat
-  abbrev pub Begins : Seat → Begun → ℕ → Type 0
-  Begins seat began until = lives seat began [] × Pends (asked began []) until seat.next
+  -- a life has begun, and told this of its first access
+  pub record Begins (life : CogLife) (began : Begun) (until : ℕ) (next : Next) : Type 0 where
+    pub stands : stands_for life began []
+    pub tells : Tells (asked began []) until next
+    pub spoken : IsSpoken next
 
-  -- the life in a seat has taken a turn
-  pub record Takes (before after : Seat) (turn : Turn) (until : ℕ) : Type 0 where
-    pub keeps : (b : Begun) (ts : List Turn) → lives before b ts → lives after b (ts ++ turn ∷ [])
-    pub pends : (b : Begun) (ts : List Turn) → lives before b ts → Pends (asked b (ts ++ turn ∷ [])) until after.next
+  -- a life has taken a turn, and told this of its next access
+  pub record Takes (before after : CogLife) (turn : Turn) (until : ℕ) (next : Next) : Type 0 where
+    pub keeps : (b : Begun) (ts : List Turn) → stands_for before b ts → stands_for after b (ts ++ turn ∷ [])
+    pub tells : (b : Begun) (ts : List Turn) → stands_for before b ts → Tells (asked b (ts ++ turn ∷ [])) until next
+    pub spoken : IsSpoken next

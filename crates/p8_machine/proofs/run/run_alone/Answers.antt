@@ -3,7 +3,7 @@ use Rattle.p8_history.proofs.OneHistory.{one-history, begins-ended}
 use Rattle.p8_history.proofs.Rising.{rises}
 use Rattle.p8_lives.specs.Lives.{asks}
 use Rattle.p8_lives.specs.Laws.{one-asked, asked-first, asked-later}
-use Rattle.p8_machine.specs.Worlds.{world_of}
+use Rattle.p8_ledger.specs.Worlds.{world_of}
 use Rattle.p8_machine.proofs.run.run_alone.Goals as goal
 
 pub returns-clause-ended : goal.returns-clause-ended

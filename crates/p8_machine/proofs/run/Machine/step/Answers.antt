@@ -1,54 +1,73 @@
-use Rattle.std.proofs.Common.{◌≡◌, ◌∙◌, ap, refl, ◌<◌, ◌≤◌, List, ◌∷◌, length, reverse, arith, inl}
-use Rattle.std.proofs.lemmas.List.{length-reverse}
+use Rattle.std.proofs.Common.{◌≡◌, ◌∙◌, ap, sym, subst, refl, List, reverse, inl, inr}
 use Rattle.p8_access.specs.declared.order.Turn.{Turn}
 use Rattle.p8_history.specs.Worlds.{World}
-use Rattle.p8_history.specs.Histories.{Extends}
+use Rattle.p8_history.specs.Histories.{IsOver}
 use Rattle.p8_lives.specs.Lives.{asks}
-use Rattle.p8_machine.specs.Worlds.{world_of}
+use Rattle.p8_ledger.specs.declared.ledger.Ledger.{Ledger}
+use Rattle.p8_ledger.specs.declared.ledger.First.{First}
+use Rattle.p8_ledger.specs.Advances.{Advances}
+use Rattle.p8_ledger.specs.Ledgers.{DecidesFirst}
+use Rattle.p8_ledger.specs.Records.{turns}
+use Rattle.p8_ledger.specs.Worlds.{world_of}
+use Rattle.p8_ledger.proofs.Telling.{none-over}
 use Rattle.p8_machine.specs.Machines.{world_in, past_in, IsStanding}
-use Rattle.p8_machine.specs.Standing.{Stands}
-use Rattle.p8_machine.proofs.Stepping.{legal-length, none-over, not-over, least-extends, reverse-push}
+use Rattle.p8_machine.specs.Standing.{Stands, Comes}
+use Rattle.p8_machine.proofs.Announced.{kept-announced, is-announced, no-promise}
 use Rattle.p8_machine.proofs.run.Machine.step.Goals as goal
 
-pub returns-then-len-self-clause-over : goal.returns-then-len-self-clause-over
-returns-then-len-self-clause-over c = λ stands. (
-  λ none.
-      let most : length (past_in c.args.self.now) ≤ (world_in c.args.self.now).turns = legal-length asks _ _ stands.legal in
-      let same : length (past_in c.args.self.now) ≡ length c.args.self.now.turns.list = length-reverse _ in
-      inl (omega arith),
-  λ over. refl,
-)
+pub invariant_of-self : goal.invariant_of-self
+invariant_of-self c = record {
+  announced = kept-announced c.args.self.now.ledger c.take_first.new.self c.take_first.result c.args.self.now.seats.lives.items c.take_first.ensures.advances c.args.self.now.announced;
+}
 
-pub returns-in-None-clause-over : goal.returns-in-None-clause-over
-returns-in-None-clause-over c = λ stands. (
-  λ none. none-over asks (world_in c.args.self.now) (past_in c.args.self.now) (c.in-None.ensures.least stands),
-  λ over. refl,
-)
+pub settle-requires-clause-announced : goal.settle-requires-clause-announced
+settle-requires-clause-announced c =
+    is-announced c.args.self.now.ledger c.take_first.new.self c.in-Done.turn c.in-Done.running c.args.self.now.seats.lives.items c.in-Done.ensures.advances c.args.self.now.announced
 
--- the turn that was taken extends the history
-extends : (c : goal.After-take) → IsStanding c.args.self.now → Extends asks (world_in c.args.self.now) (past_in c.args.self.now) c.take.result
-extends c = λ stands.
+pub returns-in-Done-clause-stands : goal.returns-in-Done-clause-stands
+returns-in-Done-clause-stands c = λ stands.
     let w : World = world_in c.args.self.now in
-    let past : List Turn = past_in c.args.self.now in
-    let same : length past ≡ length c.args.self.now.turns.list = length-reverse _ in
-    let room : length past < w.turns = omega arith in
-    least-extends asks w past c.in-Some.due c.take.result room (c.in-Some.ensures.least stands) c.take.ensures.key c.take.ensures.access (c.take.ensures.answer w past refl stands.hub_is)
+    let decides = c.in-Done.ensures.decides w stands.0 refl stands.1.found in
+    let made = c.in-Done.ensures.advances in
+    let comes : Comes w stands.0 c.take_first.new.self c.args.self.now.seats.lives.items c.in-Done.turn c.in-Done.running = record {
+      found = c.in-Done.ensures.found w stands.0 refl stands.1.found;
+      seated = stands.1.seated;
+      extends = decides.0;
+      fits = decides.2;
+      origins = stands.1.found.origins;
+    } in
+    let world : world_of c.take_first.new.self.boot c.args.self.now.script c.take_first.new.self.limits ≡ w = λ i. world_of (made.boot i) c.args.self.now.script (made.limits i) in
+    c.settle.ensures.stands stands.0 (subst (λ (v : World). Comes v stands.0 c.take_first.new.self c.args.self.now.seats.lives.items c.in-Done.turn c.in-Done.running) (sym world) comes)
 
-pub returns-in-Some-clause-extends : goal.returns-in-Some-clause-extends
-returns-in-Some-clause-extends c = extends c
+-- where no turn is made the ledger stays as it was, and the history is over
+same : (c : goal.In-Ahead) → c.take_first.new.self ≡ c.args.self.now.ledger
+same c = elim c.in-Ahead.is [
+  | inl ahead ↦ (subst (λ (first : First). Advances c.args.self.now.ledger c.take_first.new.self first) ahead.2 c.take_first.ensures.advances).1
+  | inr over ↦ subst (λ (first : First). Advances c.args.self.now.ledger c.take_first.new.self first) over c.take_first.ensures.advances
+]
 
-pub returns-in-Some-clause-over : goal.returns-in-Some-clause-over
-returns-in-Some-clause-over c = λ stands. (
-  λ none. absurd cc,
-  λ over. absurd (not-over asks (world_in c.args.self.now) (past_in c.args.self.now) c.take.result (extends c stands) over),
-)
-
-pub returns-in-Some-clause-stands : goal.returns-in-Some-clause-stands
-returns-in-Some-clause-stands c = λ stands.
+over : (c : goal.In-Ahead) → IsStanding c.args.self.now → IsOver asks (world_in c.args.self.now) (past_in c.args.self.now)
+over c stands =
     let w : World = world_in c.args.self.now in
-    let past : List Turn = past_in c.args.self.now in
-    let world : world_in c.take.new.self ≡ w = λ i. world_of (c.take.ensures.boot i) (c.take.ensures.script i) (c.take.ensures.limits i) in
-    let list : past_in c.take.new.self ≡ c.take.result ∷ past = ap reverse c.take.ensures.list ∙ reverse-push c.args.self.now.turns.list c.take.result in
-    let least = c.in-Some.ensures.least stands in
-    let after : Stands asks w (c.take.result ∷ past) c.take.new.self.hub c.take.new.self.seats.seats.items c.take.new.self.fronts = c.take.ensures.stands w past refl refl stands least.0 (extends c stands) in
-    rw (world, list) after
+    let decides : DecidesFirst w stands.0 c.take_first.result = c.take_first.ensures.decides w stands.0 refl stands.1.found in
+    elim c.in-Ahead.is [
+      | inl ahead ↦
+          (let promised = subst (λ (first : First). DecidesFirst w stands.0 first) ahead.2 decides in
+          let near = (subst (λ (first : First). Advances c.args.self.now.ledger c.take_first.new.self first) ahead.2 c.take_first.ensures.advances).0 in
+          absurd (no-promise w stands.0 c.args.self.now.ledger c.args.self.now.seats.lives.items stands.1 c.args.self.now.seats.eight ahead.0 ahead.1 promised.2.0 near promised.2.1 promised.3))
+      | inr none ↦
+          (let ends = subst (λ (first : First). DecidesFirst w stands.0 first) none decides in
+          let is_over : IsOver asks w (turns stands.0) = elim ends [ inl full ↦ inl full | inr silent ↦ none-over w stands.0 stands.1.found.truth silent ] in
+          subst (λ (past : List Turn). IsOver asks w past) (sym stands.1.found.log) is_over)
+    ]
+
+pub returns-in-Ahead : goal.returns-in-Ahead
+returns-in-Ahead c = record {
+  extends = λ stands. tt;
+  over = λ stands. (λ none. over c stands, λ is. refl);
+  room = tt;
+  past = ap (λ (ledger : Ledger). reverse ledger.turns.list) (same c);
+  world = ap (λ (ledger : Ledger). world_of ledger.boot c.args.self.now.script ledger.limits) (same c);
+  stands = λ stands.
+      (stands.0, subst (λ (ledger : Ledger). Stands (world_of ledger.boot c.args.self.now.script ledger.limits) stands.0 ledger c.args.self.now.seats.lives.items) (sym (same c)) stands.1);
+}
