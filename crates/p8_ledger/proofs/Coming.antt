@@ -29,23 +29,7 @@ module _ (w : World) (past : List Turn) (n : ℕ) where
   -- what is due may come
   due-may : (access : Access) (earliest clock : ℕ) → IsDue w past n access earliest clock → MayBe w past n (test_in access) earliest clock
   due-may (Wait test) earliest clock due = record { not_before = due.not_before; after = due.after; holds = due.holds }
-  due-may Begin earliest clock due = due
-  due-may Load earliest clock due = due
-  due-may (Read width address) earliest clock due = due
-  due-may (Write width address value) earliest clock due = due
-  due-may CogId earliest clock due = due
-  due-may (CogInit target origin) earliest clock due = due
-  due-may (CogStop cog) earliest clock due = due
-  due-may LockNew earliest clock due = due
-  due-may (LockRet lock) earliest clock due = due
-  due-may (LockSet lock) earliest clock due = due
-  due-may (LockClr lock) earliest clock due = due
-  due-may (ClkSet mode) earliest clock due = due
-  due-may PinsIn earliest clock due = due
-  due-may (OutSet value) earliest clock due = due
-  due-may (DirSet value) earliest clock due = due
-  due-may Clock earliest clock due = due
-  due-may (Halt reason) earliest clock due = due
+  due-may _ earliest clock due = due
 
   -- what may come at no earlier clock is due
   may-due : (access : Access) (earliest clock : ℕ) → MayBe w past n (test_in access) earliest clock → ((u : ℕ) → u < clock → MayBe w past n (test_in access) earliest u → ⊥) → IsDue w past n access earliest clock
@@ -55,23 +39,7 @@ module _ (w : World) (past : List Turn) (n : ℕ) where
     holds = may.holds;
     least = λ u le after holds. not-less u clock (λ l. first u l (record { not_before = le; after = after; holds = holds }));
   }
-  may-due Begin earliest clock may first = may
-  may-due Load earliest clock may first = may
-  may-due (Read width address) earliest clock may first = may
-  may-due (Write width address value) earliest clock may first = may
-  may-due CogId earliest clock may first = may
-  may-due (CogInit target origin) earliest clock may first = may
-  may-due (CogStop cog) earliest clock may first = may
-  may-due LockNew earliest clock may first = may
-  may-due (LockRet lock) earliest clock may first = may
-  may-due (LockSet lock) earliest clock may first = may
-  may-due (LockClr lock) earliest clock may first = may
-  may-due (ClkSet mode) earliest clock may first = may
-  may-due PinsIn earliest clock may first = may
-  may-due (OutSet value) earliest clock may first = may
-  may-due (DirSet value) earliest clock may first = may
-  may-due Clock earliest clock may first = may
-  may-due (Halt reason) earliest clock may first = may
+  may-due _ earliest clock may first = may
 
   -- nothing comes before its earliest clock
   pub may-late : (test : Option Test) (earliest clock : ℕ) → MayBe w past n test earliest clock → earliest ≤ clock
@@ -123,44 +91,14 @@ module _ (asked : Begun → List Turn → ℕ → Access → Type 0) (w : World)
 -- the turn of an access is on time
 pub timely : (access : Access) (earliest clock : ℕ) → IsTimely (test_in access) earliest clock → IsOnTime access earliest clock
 timely (Wait test) earliest clock on = on
-timely Begin earliest clock on = on
-timely Load earliest clock on = on
-timely (Read width address) earliest clock on = on
-timely (Write width address value) earliest clock on = on
-timely CogId earliest clock on = on
-timely (CogInit target origin) earliest clock on = on
-timely (CogStop cog) earliest clock on = on
-timely LockNew earliest clock on = on
-timely (LockRet lock) earliest clock on = on
-timely (LockSet lock) earliest clock on = on
-timely (LockClr lock) earliest clock on = on
-timely (ClkSet mode) earliest clock on = on
-timely PinsIn earliest clock on = on
-timely (OutSet value) earliest clock on = on
-timely (DirSet value) earliest clock on = on
-timely Clock earliest clock on = on
-timely (Halt reason) earliest clock on = on
+timely _ earliest clock on = on
 
 -- what a life makes is well formed
 pub made-proper : (access : Access) → IsMade access → IsProper access
 made-proper Begin made = absurd made
 made-proper Load made = absurd made
 made-proper (Read width address) made = made.0
-made-proper (Write width address value) made = made
-made-proper CogId made = made
-made-proper (CogInit target origin) made = made
-made-proper (CogStop cog) made = made
-made-proper LockNew made = made
-made-proper (LockRet lock) made = made
-made-proper (LockSet lock) made = made
-made-proper (LockClr lock) made = made
-made-proper (ClkSet mode) made = made
-made-proper PinsIn made = made
-made-proper (OutSet value) made = made
-made-proper (DirSet value) made = made
-made-proper (Wait test) made = made
-made-proper Clock made = made
-made-proper (Halt reason) made = made
+made-proper _ made = made
 
 -- what is next at a clock is announced
 pub next-announced : (next : Option (ℕ × Access)) (clock cog : ℕ) (access : Access) (answer : Answer) → IsNextAt next clock (Some access) → IsAnnounced next (record { key = record { clock = clock; cog = cog }; access = access; answer = answer })

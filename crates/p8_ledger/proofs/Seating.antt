@@ -88,22 +88,7 @@ and-no false = refl
 made-begins : (n clock cog : ℕ) (access : Access) (answer : Answer) → IsMade access → change_by n clock cog access answer ≡ Some Runs → ⊥
 made-begins n clock cog Begin answer made e = made
 made-begins n clock cog Load answer made e = made
-made-begins n clock cog (Read width address) answer made e = absurd-begins _ (and-no (cog == n)) (runs-begins n clock cog (Read width address) answer e)
-made-begins n clock cog (Write width address value) answer made e = absurd-begins _ (and-no (cog == n)) (runs-begins n clock cog (Write width address value) answer e)
-made-begins n clock cog CogId answer made e = absurd-begins _ (and-no (cog == n)) (runs-begins n clock cog CogId answer e)
-made-begins n clock cog (CogInit target origin) answer made e = absurd-begins _ (and-no (cog == n)) (runs-begins n clock cog (CogInit target origin) answer e)
-made-begins n clock cog (CogStop target) answer made e = absurd-begins _ (and-no (cog == n)) (runs-begins n clock cog (CogStop target) answer e)
-made-begins n clock cog LockNew answer made e = absurd-begins _ (and-no (cog == n)) (runs-begins n clock cog LockNew answer e)
-made-begins n clock cog (LockRet lock) answer made e = absurd-begins _ (and-no (cog == n)) (runs-begins n clock cog (LockRet lock) answer e)
-made-begins n clock cog (LockSet lock) answer made e = absurd-begins _ (and-no (cog == n)) (runs-begins n clock cog (LockSet lock) answer e)
-made-begins n clock cog (LockClr lock) answer made e = absurd-begins _ (and-no (cog == n)) (runs-begins n clock cog (LockClr lock) answer e)
-made-begins n clock cog (ClkSet mode) answer made e = absurd-begins _ (and-no (cog == n)) (runs-begins n clock cog (ClkSet mode) answer e)
-made-begins n clock cog PinsIn answer made e = absurd-begins _ (and-no (cog == n)) (runs-begins n clock cog PinsIn answer e)
-made-begins n clock cog (OutSet value) answer made e = absurd-begins _ (and-no (cog == n)) (runs-begins n clock cog (OutSet value) answer e)
-made-begins n clock cog (DirSet value) answer made e = absurd-begins _ (and-no (cog == n)) (runs-begins n clock cog (DirSet value) answer e)
-made-begins n clock cog (Wait test) answer made e = absurd-begins _ (and-no (cog == n)) (runs-begins n clock cog (Wait test) answer e)
-made-begins n clock cog Clock answer made e = absurd-begins _ (and-no (cog == n)) (runs-begins n clock cog Clock answer e)
-made-begins n clock cog (Halt reason) answer made e = absurd-begins _ (and-no (cog == n)) (runs-begins n clock cog (Halt reason) answer e)
+made-begins n clock cog access answer made e = absurd-begins _ (and-no (cog == n)) (runs-begins n clock cog access answer e)
 
 module _ (asked : Begun → List Turn → ℕ → Access → Type 0) (stands stands' : Begun → List Turn → Type 0) (said said' : Next) (w : World) (past : List Turn) (turn : Turn) (n : ℕ) (own : turn.key.cog ≡ n) where
   sits-own : begins_life n turn ≡ false → ((b : Begun) (ts : List Turn) → stands b ts → stands' b (ts ++ turn ∷ [])) → ((b : Begun) (ts : List Turn) → stands b ts → Tells (asked b (ts ++ turn ∷ [])) w.clocks said') → Sits asked stands said w past n → Sits asked stands' said' w (turn ∷ past) n

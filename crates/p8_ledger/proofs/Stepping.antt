@@ -45,19 +45,7 @@ stays n clock cog Load answer far own proper fits =
     ap (λ (b : Bool). changed Stopped (if b then Some Runs else None)) (other-test cog n (λ e. omega arith))
 stays n clock cog (CogStop target) answer far own proper fits = stays-if (target == n)
 stays n clock cog (Halt reason) answer far own proper fits = stays-if (cog == n)
-stays n clock cog (Read width address) answer far own proper fits = refl
-stays n clock cog (Write width address value) answer far own proper fits = refl
-stays n clock cog CogId answer far own proper fits = refl
-stays n clock cog LockNew answer far own proper fits = refl
-stays n clock cog (LockRet lock) answer far own proper fits = refl
-stays n clock cog (LockSet lock) answer far own proper fits = refl
-stays n clock cog (LockClr lock) answer far own proper fits = refl
-stays n clock cog (ClkSet mode) answer far own proper fits = refl
-stays n clock cog PinsIn answer far own proper fits = refl
-stays n clock cog (OutSet value) answer far own proper fits = refl
-stays n clock cog (DirSet value) answer far own proper fits = refl
-stays n clock cog (Wait test) answer far own proper fits = refl
-stays n clock cog Clock answer far own proper fits = refl
+stays n clock cog _ answer far own proper fits = refl
 
 -- what a turn extends isn't over
 pub not-over : (asked : Begun → List Turn → ℕ → Access → Type 0) (w : World) (past : List Turn) (turn : Turn) → Extends asked w past turn → IsOver asked w past → ⊥
@@ -90,19 +78,7 @@ origins-stay state n clock cog Begin answer old proper = runs-if (cog == n) stat
 origins-stay state n clock cog Load answer old proper = runs-if (cog == n) state old
 origins-stay state n clock cog (CogStop target) answer old proper = stops-if (target == n) state old
 origins-stay state n clock cog (Halt reason) answer old proper = stops-if (cog == n) state old
-origins-stay state n clock cog (Read width address) answer old proper = old
-origins-stay state n clock cog (Write width address value) answer old proper = old
-origins-stay state n clock cog CogId answer old proper = old
-origins-stay state n clock cog LockNew answer old proper = old
-origins-stay state n clock cog (LockRet lock) answer old proper = old
-origins-stay state n clock cog (LockSet lock) answer old proper = old
-origins-stay state n clock cog (LockClr lock) answer old proper = old
-origins-stay state n clock cog (ClkSet mode) answer old proper = old
-origins-stay state n clock cog PinsIn answer old proper = old
-origins-stay state n clock cog (OutSet value) answer old proper = old
-origins-stay state n clock cog (DirSet value) answer old proper = old
-origins-stay state n clock cog (Wait test) answer old proper = old
-origins-stay state n clock cog Clock answer old proper = old
+origins-stay state n clock cog _ answer old proper = old
 
 -- a turn leaves the origins well formed and the other numbers without a cog
 pub cogs-after : (w : World) (past : List Turn) (turn : Turn) → ((n : ℕ) → IsProperOrigin (origin_of (cog_state w past n))) → ((n : ℕ) → 8 ≤ n → cog_state w past n ≡ Stopped) → turn.key.cog < 8 → IsProper turn.access → Fits turn.access turn.answer → ((n : ℕ) → IsProperOrigin (origin_of (cog_state w (turn ∷ past) n))) × ((n : ℕ) → 8 ≤ n → cog_state w (turn ∷ past) n ≡ Stopped)
