@@ -1,8 +1,7 @@
 -- When a cog's next turn may come, and when it does.
 use Rattle.std.proofs.Common.{◌≡◌, ◌∙◌, ap, sym, subst, refl, ℕ, zero, suc, ◌+◌, ◌*◌, ◌<◌, ◌≤◌, Bool, true, false, nat_le, if◌then◌else◌, List, [], ◌∷◌, Option, Some, None, arith, inl, inr}
-use Rattle.p8_access.specs.declared.kinds.Origin.{Origin}
-use Rattle.p8_access.specs.declared.kinds.Origin.TheVariants.{Pasm, Spin}
-use Rattle.p8_access.specs.declared.kinds.Reason.TheVariants.{Rom}
+use Rattle.p8_access.specs.declared.lives.Next.{Next}
+use Rattle.p8_access.specs.declared.lives.Next.TheVariants.{At, Quiet, More}
 use Rattle.p8_access.specs.declared.kinds.Test.{Test}
 use Rattle.p8_access.specs.declared.kinds.Access.{Access}
 use Rattle.p8_access.specs.declared.kinds.Access.TheVariants.{Begin, Load, Read, Write, CogId, CogInit, CogStop, LockNew, LockRet, LockSet, LockClr, ClkSet, PinsIn, OutSet, DirSet, Wait, Clock, Halt}
@@ -10,14 +9,15 @@ use Rattle.p8_access.specs.declared.order.Key.{Key}
 use Rattle.p8_access.specs.declared.order.Turn.{Turn}
 use Rattle.p8_access.specs.declared.kinds.Answer.{Answer}
 use Rattle.p8_access.specs.Proper.{IsProper}
-use Rattle.p8_access.specs.Lives.{Begun, IsMade, IsOnTime, IsAnnounced}
+use Rattle.p8_access.specs.Lives.{IsMade, IsOnTime, IsAnnounced}
 use Rattle.p8_history.specs.declared.states.CogState.{CogState}
 use Rattle.p8_history.specs.declared.states.CogState.TheVariants.{Stopped, Starting, Running}
 use Rattle.p8_history.specs.Worlds.{World}
 use Rattle.p8_history.specs.Hub.{cog_state}
-use Rattle.p8_history.specs.Histories.{IsAfter, IsDue, IsNext, IsNextIn, first_access}
+use Rattle.p8_history.specs.Histories.{IsAfter, IsDue}
 use Rattle.p8_ledger.specs.Waiting.{test_in, newest_key, IsBehind, IsTimely, IsNextAt}
-use Rattle.p8_ledger.specs.Coming.{MayBe, MayComeIn, MayCome, IsFrom, WaitsFrom}
+use Rattle.p8_ledger.specs.Records.{Record, turns, said}
+use Rattle.p8_ledger.specs.Coming.{MayBe, MayComeIn, IsFrom, waits_for, WaitsFrom}
 
 -- what isn't less
 not-less : (x y : ℕ) → (x < y → ⊥) → y ≤ x
@@ -27,12 +27,12 @@ not-less (suc x) (suc y) p = let le : y ≤ x = not-less x y (λ l. p (omega ari
 
 module _ (w : World) (past : List Turn) (n : ℕ) where
   -- what is due may come
-  due-may : (access : Access) (earliest clock : ℕ) → IsDue w past n access earliest clock → MayBe w past n (test_in access) earliest clock
+  pub due-may : (access : Access) (earliest clock : ℕ) → IsDue w past n access earliest clock → MayBe w past n (test_in access) earliest clock
   due-may (Wait test) earliest clock due = record { not_before = due.not_before; after = due.after; holds = due.holds }
   due-may _ earliest clock due = due
 
   -- what may come at no earlier clock is due
-  may-due : (access : Access) (earliest clock : ℕ) → MayBe w past n (test_in access) earliest clock → ((u : ℕ) → u < clock → MayBe w past n (test_in access) earliest u → ⊥) → IsDue w past n access earliest clock
+  pub may-due : (access : Access) (earliest clock : ℕ) → MayBe w past n (test_in access) earliest clock → ((u : ℕ) → u < clock → MayBe w past n (test_in access) earliest u → ⊥) → IsDue w past n access earliest clock
   may-due (Wait test) earliest clock may first = record {
     not_before = may.not_before;
     after = may.after;
@@ -55,39 +55,6 @@ module _ (w : World) (past : List Turn) (n : ℕ) where
   pub due-timely : (access : Access) (earliest clock : ℕ) → IsDue w past n access earliest clock → IsTimely (test_in access) earliest clock
   due-timely access earliest clock due = may-timely (test_in access) earliest clock (due-may access earliest clock due)
 
-module _ (asked : Begun → List Turn → ℕ → Access → Type 0) (w : World) (past : List Turn) (n : ℕ) where
-  next-may-in : (state : CogState) (clock : ℕ) (access : Access) → IsNextIn asked w past n state clock access → MayComeIn asked w past n state clock access
-  next-may-in Stopped clock access next = next
-  next-may-in (Starting since origin) clock access next = next
-  next-may-in (Running origin) clock access next = record {
-    life = next.life;
-    began = next.began;
-    earliest = next.earliest;
-    asks = next.asks;
-    may = due-may w past n access next.earliest clock next.due;
-  }
-
-  may-next-in : (state : CogState) (clock : ℕ) (access : Access) → MayComeIn asked w past n state clock access → ((u : ℕ) → u < clock → MayComeIn asked w past n state u access → ⊥) → IsNextIn asked w past n state clock access
-  may-next-in Stopped clock access may first = may
-  may-next-in (Starting since origin) clock access may first = may
-  may-next-in (Running origin) clock access may first = record {
-    life = may.life;
-    began = may.began;
-    earliest = may.earliest;
-    asks = may.asks;
-    due = may-due w past n access may.earliest clock may.may (λ u less here. first u less (record { life = may.life; began = may.began; earliest = may.earliest; asks = may.asks; may = here }));
-  }
-
-  -- a cog's next turn may come, and is the first that may
-  pub next-may : (clock : ℕ) (access : Access) → IsNext asked w past n clock access → MayCome asked w past n clock access
-  next-may clock access next = record { may = next-may-in (cog_state w past n) clock access next.next; below = next.below }
-
-  pub may-next : (clock : ℕ) (access : Access) → MayCome asked w past n clock access → ((u : ℕ) → u < clock → MayCome asked w past n u access → ⊥) → IsNext asked w past n clock access
-  may-next clock access comes first = record {
-    next = may-next-in (cog_state w past n) clock access comes.may (λ u less may. first u less (record { may = may; below = (let below : clock < w.clocks = comes.below in omega arith) }));
-    below = comes.below;
-  }
-
 -- the turn of an access is on time
 pub timely : (access : Access) (earliest clock : ℕ) → IsTimely (test_in access) earliest clock → IsOnTime access earliest clock
 timely (Wait test) earliest clock on = on
@@ -105,29 +72,21 @@ pub next-announced : (next : Option (ℕ × Access)) (clock cog : ℕ) (access :
 next-announced None clock cog access answer at = absurd (let e : Some access ≡ None = at in cc)
 next-announced (Some asked) clock cog access answer at = (at.0, timely asked.1 asked.0 clock at.1)
 
-load-not_wait : (fits : Bool) → test_in (if fits then Load else Halt (Rom 32768)) ≡ None
-load-not_wait true = refl
-load-not_wait false = refl
-
--- the first turn of a start is no wait
-first-not_wait : (origin : Origin) → test_in (first_access origin) ≡ None
-first-not_wait (Pasm code par) = load-not_wait (nat_le (code + 4 * 496) 32768)
-first-not_wait (Spin entry pbase vbase frame size) = refl
-
-module _ (asked : Begun → List Turn → ℕ → Access → Type 0) (w : World) (past : List Turn) (from : ℕ) (late : (n clock : ℕ) → IsAfter past (record { clock = clock; cog = n }) → from ≤ clock) where
-  from-may : (n : ℕ) (test : Option Test) (earliest clock : ℕ) → MayBe w past n test earliest clock → IsFrom test from clock
+module _ (w : World) (r : Record) (from : ℕ) (late : (n clock : ℕ) → IsAfter (turns r) (record { clock = clock; cog = n }) → from ≤ clock) where
+  from-may : (n : ℕ) (test : Option Test) (earliest clock : ℕ) → MayBe w (turns r) n test earliest clock → IsFrom test from clock
   from-may n None earliest clock may = tt
   from-may n (Some test) earliest clock may = late n clock may.after
 
-  from-in : (n : ℕ) (state : CogState) (clock : ℕ) (access : Access) → MayComeIn asked w past n state clock access → IsFrom (test_in access) from clock
-  from-in n Stopped clock access may = absurd may
-  from-in n (Starting since origin) clock access may =
-      subst (λ (test : Option Test). IsFrom test from clock) (sym (ap test_in may.1 ∙ first-not_wait origin)) tt
-  from-in n (Running origin) clock access may = from-may n (test_in access) may.earliest clock may.may
+  from-in : (n : ℕ) (s : CogState) (next : Next) (clock : ℕ) → MayComeIn w (turns r) n s next clock → IsFrom (waits_for s next) from clock
+  from-in n Stopped next clock may = tt
+  from-in n (Starting since origin) next clock may = tt
+  from-in n (Running origin) (At earliest access) clock may = from-may n (test_in access) earliest clock may
+  from-in n (Running origin) Quiet clock may = tt
+  from-in n (Running origin) (More bound) clock may = tt
 
   -- waits don't end before the last turn
-  pub waits-from : WaitsFrom asked w past from
-  waits-from n clock access comes = from-in n (cog_state w past n) clock access comes.may
+  pub waits-from : WaitsFrom w r from
+  waits-from n clock comes = from-in n (cog_state w (turns r) n) (said n r) clock comes.may
 
 abbrev clock_in : Option Key → ℕ
 clock_in None = 0

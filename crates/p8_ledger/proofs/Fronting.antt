@@ -9,12 +9,12 @@ use Rattle.p8_history.specs.Worlds.{World}
 use Rattle.p8_history.specs.Hub.{Change, change_of, changed, cog_state}
 use Rattle.p8_history.proofs.Changes.{decided, same-cog, differ-cog, other-test}
 use Rattle.p8_ledger.specs.declared.fronts.Fronts.{Fronts}
-use Rattle.p8_ledger.specs.Fronts.{IsFront, next_in, IsFrontIn}
+use Rattle.p8_ledger.specs.Fronts.{IsFront, IsFrontIn}
 
 -- a front that is as it was is right for a state that is as it was
 same-front : (old new : Fronts) (n limit : ℕ) (state : CogState) (said : Next) → slice_index new.clocks n ≡ slice_index old.clocks n → IsFrontIn old n limit state said → IsFrontIn new n limit state said
 same-front old new n limit state said same front =
-    (front.0, subst (λ (c : ℕ). IsFront n limit state (next_in limit said) c front.0) (sym same) front.1)
+    (front.0, subst (λ (c : ℕ). IsFront n limit state said c front.0) (sym same) front.1)
 
 some-number : (a b : ℕ) → Some a ≡ Some b → a ≡ b
 some-number a b e = cc

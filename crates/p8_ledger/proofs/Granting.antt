@@ -30,7 +30,7 @@ use Rattle.p8_ledger.specs.declared.steps.Step.{Step}
 use Rattle.p8_ledger.specs.Records.{Record, cog_of, says, turns, said, whatever, IsTrueOf, IsTruthful, HasFront, HasFrontIn, HasFrontBy, IsLeastFront, Owes}
 use Rattle.p8_ledger.specs.Dues.{IsDueAt, AllMade}
 use Rattle.p8_ledger.specs.Ledgers.{Found}
-use Rattle.p8_ledger.proofs.Announcing.{told-next}
+use Rattle.p8_ledger.proofs.Least.{told-next}
 use Rattle.p8_ledger.proofs.Telling.{said-own, said-beside, least-extends}
 
 module _ (w : World) (r : Record) (n clock : ℕ) (origin : Origin) (state : cog_state w (turns r) n ≡ Running origin) (truth : IsTrueOf w (turns r) n (said n r)) where

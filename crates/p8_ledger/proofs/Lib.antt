@@ -5,9 +5,8 @@ pub mod Rows
 pub mod Seating
 pub mod Settling
 pub mod Choosing
+pub mod Least
 pub mod Fronting
 pub mod Stepping
-pub mod Announcing
 pub mod Telling
-pub mod Searching
 pub mod Granting

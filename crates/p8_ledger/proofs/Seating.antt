@@ -12,12 +12,7 @@ use Rattle.p8_history.specs.declared.states.CogState.TheVariants.{Stopped, Start
 use Rattle.p8_history.specs.Worlds.{World}
 use Rattle.p8_history.specs.Hub.{Change, Starts, Runs, Stops, change_by, change_of, changed, cog_state}
 use Rattle.p8_history.specs.Histories.{begins_life, since_begin}
-use Rattle.p8_history.proofs.Nexts.{some-injective}
-use Rattle.p8_ledger.specs.Pending.{said_by, Pends}
 use Rattle.p8_ledger.specs.Seats.{Sits, SitsIn}
-use Rattle.p8_ledger.specs.Waiting.{test_in}
-use Rattle.p8_ledger.specs.Coming.{MayBe, MayRun, MayComeIn, MayCome}
-use Rattle.p8_ledger.proofs.Coming.{may-late}
 use Rattle.p8_history.proofs.Changes.{none-begins, runs-begins, begun-same, since_begin-own, since_begin-other, other-test, own-test, other-begins}
 
 absurd-begins : {A : Type 0} → (b : Bool) → b ≡ false → b ≡ true → A
@@ -47,38 +42,6 @@ module _ (asked : Begun → List Turn → ℕ → Access → Type 0) (stands : B
   -- a turn of another cog
   pub other-sits : (turn.key.cog ≡ n → ⊥) → SitsIn asked stands said w past n (cog_state w past n) → SitsIn asked stands said w (turn ∷ past) n (cog_state w (turn ∷ past) n)
   other-sits differ sits = other-by (cog_state w past n) (change_of n turn) refl differ sits
-
-module _ (asked : Begun → List Turn → ℕ → Access → Type 0) (stands : Begun → List Turn → Type 0) (next : Option (ℕ × Access)) (w : World) (past : List Turn) (n : ℕ) where
-  -- a cog's next turn may be what its seat has as the next access, at a clock at which that may be
-  pub may-sits : (origin : Origin) → cog_state w past n ≡ Running origin → (earliest clock : ℕ) (access : Access) → next ≡ Some (earliest, access) → SitsIn asked stands (said_by next) w past n (cog_state w past n) → MayBe w past n (test_in access) earliest clock → (earliest < w.clocks → clock < w.clocks) → MayCome asked w past n clock access
-  may-sits origin is earliest clock access some sits may below =
-      let own : Sits asked stands (said_by next) w past n = subst (λ (s : CogState). SitsIn asked stands (said_by next) w past n s) is sits in
-      let pends = subst (λ (o : Option (ℕ × Access)). Pends (asked own.life (since_begin past n)) w.clocks o) some own.told in
-      let run : MayRun asked w past n clock access = record { life = own.life; began = own.began; earliest = earliest; asks = pends.0; may = may } in
-      record { may = subst (λ (s : CogState). MayComeIn asked w past n s clock access) (sym is) run; below = below pends.1 }
-
-  -- and no other
-  pub one-sits : ((b : Begun) (ts : List Turn) (c d : ℕ) (a e : Access) → asked b ts c a → asked b ts d e → (c ≡ d) × (a ≡ e)) → (origin : Origin) → cog_state w past n ≡ Running origin → (earliest : ℕ) (access : Access) → next ≡ Some (earliest, access) → SitsIn asked stands (said_by next) w past n (cog_state w past n) → (clock : ℕ) (other : Access) → MayCome asked w past n clock other → (other ≡ access) × MayBe w past n (test_in access) earliest clock
-  one-sits one_asked origin is earliest access some sits clock other comes =
-      let own : Sits asked stands (said_by next) w past n = subst (λ (s : CogState). SitsIn asked stands (said_by next) w past n s) is sits in
-      let pends = subst (λ (o : Option (ℕ × Access)). Pends (asked own.life (since_begin past n)) w.clocks o) some own.told in
-      let run : MayRun asked w past n clock other = subst (λ (s : CogState). MayComeIn asked w past n s clock other) is comes.may in
-      let life : run.life ≡ own.life = some-injective _ _ (sym run.began ∙ own.began) in
-      let asks = subst (λ (b : Begun). asked b (since_begin past n) run.earliest other) life run.asks in
-      let same = one_asked own.life (since_begin past n) run.earliest earliest other access asks pends.0 in
-      (same.1, subst (λ (a : Access). MayBe w past n (test_in a) earliest clock) same.1 (subst (λ (e : ℕ). MayBe w past n (test_in other) e clock) same.0 run.may))
-
-  -- where it has none, none comes
-  pub quiet-sits : (origin : Origin) → cog_state w past n ≡ Running origin → next ≡ None → SitsIn asked stands (said_by next) w past n (cog_state w past n) → (clock : ℕ) (access : Access) → MayCome asked w past n clock access → ⊥
-  quiet-sits origin is none sits clock access comes =
-      let own : Sits asked stands (said_by next) w past n = subst (λ (s : CogState). SitsIn asked stands (said_by next) w past n s) is sits in
-      let pends = subst (λ (o : Option (ℕ × Access)). Pends (asked own.life (since_begin past n)) w.clocks o) none own.told in
-      let run : MayRun asked w past n clock access = subst (λ (s : CogState). MayComeIn asked w past n s clock access) is comes.may in
-      let life : run.life ≡ own.life = some-injective _ _ (sym run.began ∙ own.began) in
-      let late : w.clocks ≤ run.earliest = pends run.earliest access (subst (λ (b : Begun). asked b (since_begin past n) run.earliest access) life run.asks) in
-      let on : run.earliest ≤ clock = may-late w past n (test_in access) run.earliest clock run.may in
-      let below : clock < w.clocks = comes.below in
-      omega arith
 
 and-no : (b : Bool) → (b && false) ≡ false
 and-no true = refl

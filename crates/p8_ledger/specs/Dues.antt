@@ -3,19 +3,20 @@
 use Rattle.std.specs.Prelude.{ℕ, ◌≡◌, true, List, Option, Some, None, slice_get}
 use Rattle.std.proofs.Props.{props}
 use Rattle.p8_access.specs.declared.kinds.Access.{Access}
+use Rattle.p8_access.specs.declared.kinds.Access.TheVariants.{CogInit}
 use Rattle.p8_access.specs.declared.kinds.Origin.{Origin}
+use Rattle.p8_access.specs.declared.kinds.Origin.TheVariants.{Pasm, Spin}
 use Rattle.p8_access.specs.declared.kinds.Answer.{Answer}
 use Rattle.p8_access.specs.declared.kinds.Answer.TheVariants.{Done, Value, Number, Was}
 use Rattle.p8_access.specs.declared.lives.Next.{Next}
 use Rattle.p8_access.specs.declared.lives.Next.TheVariants.{At, Quiet, More}
 use Rattle.p8_access.specs.Lives.{IsMade, IsMadeNext, announced_by}
-use Rattle.p8_access.specs.Proper.{IsProper}
+use Rattle.p8_access.specs.Proper.{IsProper, IsNumber, IsProperOrigin}
 use Rattle.p8_history.specs.declared.states.CogState.TheVariants.{Running}
 use Rattle.p8_history.specs.Worlds.{World}
 use Rattle.p8_history.specs.Hub.{cog_state}
 use Rattle.p8_history.specs.Histories.{IsNext}
 use Rattle.p8_lives.specs.Lives.{asks}
-use Rattle.p8_ledger.specs.Pending.{is_prop-IsMade}
 use Rattle.p8_ledger.specs.Standing.{FitsState}
 use Rattle.p8_ledger.specs.Waiting.{IsNextAt}
 use Rattle.p8_ledger.specs.declared.due.Due.{Due}
@@ -47,6 +48,19 @@ SuitsIf sayings n clock (Some due) = Suits sayings n clock due
 -- what is said has accesses that a life makes
 abbrev pub AllMade : List Next → Type 0
 AllMade sayings = (n : ℕ) (next : Next) → slice_get sayings n ≡ Some next → IsMadeNext next
+
+-- such a fact has one proof
+is_prop-IsNumber : (n : Option ℕ) → IsProp (IsNumber n)
+is_prop-IsNumber None = hlevel props
+is_prop-IsNumber (Some n) = hlevel props
+
+is_prop-IsProperOrigin : (origin : Origin) → IsProp (IsProperOrigin origin)
+is_prop-IsProperOrigin (Pasm code par) = hlevel props
+is_prop-IsProperOrigin (Spin entry pbase vbase frame size) = hlevel props
+
+is_prop-IsMade : (access : Access) → IsProp (IsMade access)
+is_prop-IsMade (CogInit target origin) = hlevel (props, is_prop-IsNumber target, is_prop-IsProperOrigin origin)
+is_prop-IsMade _ = hlevel props
 
 is_prop-IsMadeNext : (next : Next) → IsProp (IsMadeNext next)
 is_prop-IsMadeNext (At clock access) = is_prop-IsMade access

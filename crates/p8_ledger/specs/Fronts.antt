@@ -1,8 +1,6 @@
 -- The front of a cog: the clock before which no turn of it comes.
-use Rattle.std.specs.Prelude.{ℕ, ◌+◌, ◌≡◌, ◌<◌, ◌≤◌, nat_lt, if◌then◌else◌, List, Option, Some, None, slice_index}
+use Rattle.std.specs.Prelude.{ℕ, ◌+◌, ◌≡◌, ◌<◌, ◌≤◌, List, Option, Some, None, slice_index}
 use Rattle.p8_access.specs.declared.kinds.Test.{Test}
-use Rattle.p8_access.specs.declared.kinds.Access.{Access}
-use Rattle.p8_access.specs.declared.kinds.Access.TheVariants.{CogId}
 use Rattle.p8_access.specs.declared.lives.Next.{Next}
 use Rattle.p8_access.specs.declared.lives.Next.TheVariants.{At, Quiet, More}
 use Rattle.p8_access.specs.declared.order.Key.{Key}
@@ -27,26 +25,21 @@ IsStartClock cog since until (Some clock) = (clock ≡ window_of cog (since + 1)
 abbrev pub IsSilent : (limit front : ℕ) → Option Test → Type 0
 IsSilent limit front test = (limit ≤ front) × (test ≡ None)
 
--- the front of a running cog by what its life has said last, and what it waits for: where it waits, it may
--- come at its front or later
-abbrev pub IsNextFront : (limit : ℕ) → Option (ℕ × Access) → (front : ℕ) → Option Test → Type 0
-IsNextFront limit None front test = IsSilent limit front test
-IsNextFront limit (Some next) front test = (front ≡ next.0) × (test ≡ test_in next.1)
+-- the front of a running cog by what it has said last, and what it waits for: where it waits, it may come at its
+-- front or later
+abbrev pub IsSaidFront : (limit : ℕ) → Next → (front : ℕ) → Option Test → Type 0
+IsSaidFront limit (At earliest access) front test = (front ≡ earliest) × (test ≡ test_in access)
+IsSaidFront limit Quiet front test = IsSilent limit front test
+IsSaidFront limit (More bound) front test = (front ≡ bound) × (test ≡ None)
 
 -- the front of a cog by its state
-abbrev pub IsFront : (n limit : ℕ) → CogState → Option (ℕ × Access) → (front : ℕ) → Option Test → Type 0
-IsFront n limit Stopped next front test = IsSilent limit front test
-IsFront n limit (Starting since origin) next front test =
+abbrev pub IsFront : (n limit : ℕ) → CogState → Next → (front : ℕ) → Option Test → Type 0
+IsFront n limit Stopped said front test = IsSilent limit front test
+IsFront n limit (Starting since origin) said front test =
     (front < limit → front ≡ window_of n (since + 1)) × (window_of n (since + 1) < limit → front ≡ window_of n (since + 1)) × (test ≡ None)
-IsFront n limit (Running origin) next front test = IsNextFront limit next front test
-
--- the access that is said to come next below a limit, if one is: a promise stands for an access at its bound
-abbrev pub next_in : ℕ → Next → Option (ℕ × Access)
-next_in limit (At clock access) = Some (clock, access)
-next_in limit Quiet = None
-next_in limit (More bound) = if nat_lt bound limit then Some (bound, CogId) else None
+IsFront n limit (Running origin) said front test = IsSaidFront limit said front test
 
 -- the front of a cog is that of its state and of what it has said last
 abbrev pub IsFrontIn : Fronts → (n limit : ℕ) → CogState → Next → Type 0
 IsFrontIn fronts n limit state said =
-    (test : Option Test) × IsFront n limit state (next_in limit said) (slice_index fronts.clocks n) test
+    (test : Option Test) × IsFront n limit state said (slice_index fronts.clocks n) test

@@ -9,7 +9,5 @@ pub mod Advances
 pub mod Waiting
 pub mod Coming
 pub mod Fronts
-pub mod Pending
-pub mod Announced
 pub mod Dues
 pub mod Granted

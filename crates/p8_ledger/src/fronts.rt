@@ -1,6 +1,5 @@
 // The fronts of the eight cogs: before its front no turn of a cog comes, by its state and by what it has said.
-ghost use Rattle.std.specs.Prelude.{◌≡◌, ◌<◌, ◌∷◌, [], ◌^◌, ℕ, List, Option, Some, replicate, slice_get, slice_index};
-ghost use Rattle.p8_access.specs.declared.kinds.Access.{Access};
+ghost use Rattle.std.specs.Prelude.{◌≡◌, ◌<◌, ◌∷◌, [], ◌^◌, ℕ, List, Some, replicate, slice_get, slice_index};
 ghost use Rattle.p8_access.specs.declared.kinds.Origin.{Origin};
 ghost use Rattle.p8_access.specs.declared.lives.Next.{Next};
 ghost use Rattle.p8_access.specs.declared.order.Turn.{Turn};
@@ -9,7 +8,7 @@ ghost use Rattle.p8_history.specs.declared.states.CogState.TheVariants.{Starting
 ghost use Rattle.p8_history.specs.Worlds.{World};
 ghost use Rattle.p8_history.specs.Hub.{cog_state};
 ghost use Rattle.p8_hub.specs.Standing.{IsHub};
-ghost use Rattle.p8_ledger.specs.Fronts.{IsFirstOf, IsFront, IsNextFront, next_in, IsFrontIn};
+ghost use Rattle.p8_ledger.specs.Fronts.{IsFirstOf, IsFront, IsSaidFront, IsFrontIn};
 
 use crate::changes::changed_cog;
 use crate::due::start_clock;
@@ -56,7 +55,7 @@ const SILENT: Front = Front {
 fn starting_front(cog: u8, since: u64, until: u64) -> Front
     requires cog { cog < 8 }
     requires until { until < 2 ^ 61 }
-    ensures { (origin : Origin) (next : Option (ℕ × Access)) → IsFront cog until (Starting since origin) next result.clock result.test }
+    ensures { (origin : Origin) (said : Next) → IsFront cog until (Starting since origin) said result.clock result.test }
 {
     match start_clock(cog, since, until) {
         None => SILENT,
@@ -68,7 +67,7 @@ fn starting_front(cog: u8, since: u64, until: u64) -> Front
 #[inline]
 fn said_front(said: Next, until: u64) -> Front
     requires { until < 2 ^ 61 }
-    ensures { IsNextFront until (next_in until said) result.clock result.test }
+    ensures { IsSaidFront until said result.clock result.test }
 {
     match said {
         Next::At { clock, access } => Front {
@@ -88,7 +87,7 @@ fn said_front(said: Next, until: u64) -> Front
 pub fn front_of(cog: u8, state: CogState, said: Next, until: u64) -> Front
     requires cog { cog < 8 }
     requires until { until < 2 ^ 61 }
-    ensures { IsFront cog until state (next_in until said) result.clock result.test }
+    ensures { IsFront cog until state said result.clock result.test }
 {
     match state {
         CogState::Stopped => SILENT,

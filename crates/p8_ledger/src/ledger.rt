@@ -11,14 +11,13 @@ ghost use Rattle.p8_history.specs.Histories.{answer_to, Extends};
 ghost use Rattle.p8_hub.specs.Standing.{IsHub};
 ghost use Rattle.p8_lives.specs.Lives.{asks};
 ghost use Rattle.p8_ledger.specs.Coming.{WaitsFrom, IsClockIn, IsFirstKey};
-ghost use Rattle.p8_ledger.specs.Fronts.{IsFront, next_in};
+ghost use Rattle.p8_ledger.specs.Fronts.{IsFront};
 ghost use Rattle.p8_ledger.specs.Waiting.{newest_key, IsSpanFrom, IsNextAt};
 ghost use Rattle.p8_ledger.specs.Standing.{FitsState};
 ghost use Rattle.p8_ledger.specs.Worlds.{world_of};
 ghost use Rattle.p8_region.specs.Bounded.{bounded};
 ghost use Rattle.p8_ledger.specs.declared.steps.Step.TheVariants.{Took, Said};
 ghost use Rattle.p8_ledger.specs.Records.{Record, turns, said, IsTrueOf, Owes, HasFront, IsLeastFront, NoFront};
-ghost use Rattle.p8_ledger.specs.Announced.{announced};
 ghost use Rattle.p8_ledger.specs.Dues.{IsDueAt, Suits, SuitsIf, AllMade, is_prop-AllMade};
 ghost use Rattle.std.proofs.Props.{props};
 
@@ -196,7 +195,7 @@ impl Ledger {
     #[inline]
     fn front(&self, cog: u8) -> Front
         requires { cog < 8 }
-        ensures { (w : World) (r : Record) → Found w self.now r → IsFront cog w.clocks (cog_state w (turns r) cog) (next_in w.clocks (said cog r)) result.clock result.test }
+        ensures { (w : World) (r : Record) → Found w self.now r → IsFront cog w.clocks (cog_state w (turns r) cog) (said cog r) result.clock result.test }
     {
         front_of(
             cog,
@@ -211,7 +210,7 @@ impl Ledger {
     #[inline]
     fn clock_in(&self, cog: u8, from: u64, span: &Span) -> u64
         requires { cog < 8 }
-        ensures { (w : World) (r : Record) → Found w self.now r → IsSpanFrom w.script from span.now → WaitsFrom (announced r) w (turns r) from → IsClockIn (announced r) w (turns r) span.now.end cog result }
+        ensures { (w : World) (r : Record) → Found w self.now r → IsSpanFrom w.script from span.now → WaitsFrom w r from → IsClockIn w r span.now.end cog result }
     {
         let front = self.front(cog);
         match front.test {
@@ -228,7 +227,7 @@ impl Ledger {
     /// The key of the turn that comes first in a span of the script, which begins at `from` or before.
     fn first_in(&self, from: u64, span: &Span) -> Key
         ensures near { result.cog < 8 }
-        ensures first { (w : World) (r : Record) → Found w self.now r → IsSpanFrom w.script from span.now → WaitsFrom (announced r) w (turns r) from → IsFirstKey (announced r) w (turns r) span.now.end result }
+        ensures first { (w : World) (r : Record) → Found w self.now r → IsSpanFrom w.script from span.now → WaitsFrom w r from → IsFirstKey w r span.now.end result }
     {
         let mut clocks = [NEVER; 8];
         for cog in 0..8 {
@@ -246,7 +245,7 @@ impl Ledger {
     #[inline(never)]
     fn first_by_spans(&self, script: &PinScript, span: &mut Span) -> Key
         ensures near { result.cog < 8 }
-        ensures first { (w : World) (r : Record) → script.now ≡ w.script → Found w self.now r → IsFirstKey (announced r) w (turns r) None result }
+        ensures first { (w : World) (r : Record) → script.now ≡ w.script → Found w self.now r → IsFirstKey w r None result }
     {
         let mut from = self.now();
         'spans: loop {
@@ -263,7 +262,7 @@ impl Ledger {
     #[inline]
     fn first_key(&self, script: &PinScript, span: &mut Span) -> Key
         ensures near { result.cog < 8 }
-        ensures first { (w : World) (r : Record) → script.now ≡ w.script → Found w self.now r → IsFirstKey (announced r) w (turns r) None result }
+        ensures first { (w : World) (r : Record) → script.now ≡ w.script → Found w self.now r → IsFirstKey w r None result }
     {
         let key = first_front(&self.fronts.clocks);
         match self.front(key.cog).test {
@@ -274,7 +273,7 @@ impl Ledger {
 
     /// The clock of the last turn, or 0 before the first.
     fn now(&self) -> u64
-        ensures from { (w : World) (r : Record) → Found w self.now r → WaitsFrom (announced r) w (turns r) result }
+        ensures from { (w : World) (r : Record) → Found w self.now r → WaitsFrom w r result }
         ensures small { result < 2 ^ 61 }
     {
         match self.last {

@@ -1,14 +1,13 @@
 use Rattle.std.proofs.Common.{◌≡◌, ◌-◌, ◌<◌, ◌^◌}
 use Rattle.p8_history.specs.Worlds.{World}
 use Rattle.p8_ledger.specs.Coming.{WaitsFrom}
-use Rattle.p8_ledger.specs.Records.{Record, turns}
-use Rattle.p8_ledger.specs.Announced.{announced}
+use Rattle.p8_ledger.specs.Records.{Record}
 use Rattle.p8_ledger.specs.Ledgers.{Found}
 use Rattle.p8_ledger.proofs.ledger.Ledger.first_by_spans.Given as goal
 
 abbrev pub invariant-spans : goal.invariant-spans
 invariant-spans l = record {
-  waits : (w : World) (r : Record) → l.script ≡ w.script → Found w l.self r → WaitsFrom (announced r) w (turns r) l.from;
+  waits : (w : World) (r : Record) → l.script ≡ w.script → Found w l.self r → WaitsFrom w r l.from;
   small : l.from < 2 ^ 61;
 }
 

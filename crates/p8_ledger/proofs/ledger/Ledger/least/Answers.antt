@@ -1,6 +1,6 @@
 use Rattle.std.proofs.Common.{◌≡◌, ap, ℕ, ◌<◌, length, arith, inr}
 use Rattle.p8_history.specs.Worlds.{World}
-use Rattle.p8_ledger.proofs.Announcing.{first-front, no-front}
+use Rattle.p8_ledger.proofs.Least.{first-front, no-front}
 use Rattle.p8_ledger.proofs.Granting.{room-found}
 use Rattle.p8_ledger.proofs.ledger.Ledger.least.Goals as goal
 
