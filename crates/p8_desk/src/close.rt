@@ -9,8 +9,7 @@ use crate::gather::gather;
 use crate::passes::Passes;
 use crate::rule::{Board, Place};
 use crate::steps::seize;
-use p8_ledger::Ended;
-use p8_ledger::Ledger;
+use p8_ledger::{Ended, Ledger};
 
 /// Takes the ledger out of the slot that the seat holds.
 fn take_out(board: &Board, seat: &mut Place) -> Ledger

@@ -15,8 +15,8 @@ use crate::runner::Runner;
 use crate::steps::{release, say, seize, take_turn};
 use crate::turned::Turned;
 use p8_access::Next;
-use p8_pins::PinScript;
 use p8_ledger::{Ledger, Taken};
+use p8_pins::PinScript;
 
 /// What came of a try: what the cog has said, if it owed anything, what it gets, and how many turns there are then.
 #[derive(Clone, Copy)]

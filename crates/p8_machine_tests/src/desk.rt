@@ -4,9 +4,8 @@ ghost use Rattle.p8_access.specs.declared.kinds.Origin.TheVariants.{Pasm};
 
 use p8_access::{Access, Answer, Boot, Key, Turn};
 use p8_desk::{Desk, Turned};
-use p8_ledger::Limits;
+use p8_ledger::{Limits, Start};
 use p8_pins::PinScript;
-use p8_ledger::Start;
 use p8_words::NoMemory;
 use std::alloc::Global;
 use std::test::Fail;

@@ -3,9 +3,8 @@ ghost use Rattle.std.specs.Prelude.{◌≡◌, IfOk};
 ghost use Rattle.p8_access.specs.declared.kinds.Origin.TheVariants.{Pasm};
 
 use p8_access::{Access, Answer, Boot, Key, Next, Turn, Width};
-use p8_ledger::Limits;
+use p8_ledger::{First, Ledger, Limits, Start, Taken};
 use p8_pins::PinScript;
-use p8_ledger::{Ledger, Start, Taken};
 use p8_region::{Region, words_of};
 use p8_words::NoMemory;
 use std::alloc::Global;
@@ -18,15 +17,12 @@ fn worked_boot(alloc: Global) -> Result<Boot, NoMemory>
     Ok(Boot::raw(alloc, &[0x04, 0x06, 0x3C, 0x08])?)
 }
 
-fn done(clock: u64, access: Access, answer: Answer, running: bool) -> Taken {
+fn turn(clock: u64, access: Access, answer: Answer) -> Turn {
     let key = Key { clock, cog: 0 };
-    Taken::Done {
-        turn: Turn {
-            key,
-            access,
-            answer,
-        },
-        running,
+    Turn {
+        key,
+        access,
+        answer,
     }
 }
 
@@ -37,7 +33,8 @@ fn crossed<T: Send>(value: T) -> T
     value
 }
 
-/// Cog 0 loads at its first window, then promises, says its first read, and says that nothing more comes.
+/// Cog 0 loads at its first window, then promises, says its first read, and says that nothing more comes. It asks for
+/// its turns, or they are made as they come.
 #[test]
 fn takes_what_the_least_front_allows(rt: HostRuntime) -> Result<(), Fail> {
     let limits = Limits {
@@ -53,21 +50,34 @@ fn takes_what_the_least_front_allows(rt: HostRuntime) -> Result<(), Fail> {
     let script = &start.script;
     let mut ledger = crossed(Ledger::open(rt.alloc(), &start, log)?);
     assert_eq!(rt; ledger.take(script, 1), Taken::After { cog: 0, bound: 16 });
+    let load = turn(16, Access::Load, Answer::Done);
     assert_eq!(rt;
         ledger.take(script, 0),
-        done(16, Access::Load, Answer::Done, false)
+        Taken::Done {
+            turn: load,
+            running: false
+        }
     );
     assert_eq!(rt; (ledger.owes(0), ledger.owes(1)), (true, false));
     assert_eq!(rt; ledger.take(script, 0), Taken::Ahead { bound: 17 });
+    assert_eq!(rt;
+        ledger.take_first(script),
+        First::Ahead { cog: 0, bound: 17 }
+    );
     let width = Width::Long;
     let access = Access::Read { width, address: 0 };
     ledger.say(0, Next::At { clock: 32, access });
+    let read = turn(32, access, Answer::Value(0x083C_0604));
     assert_eq!(rt;
-        ledger.take(script, 0),
-        done(32, access, Answer::Value(0x083C_0604), true)
+        ledger.take_first(script),
+        First::Done {
+            turn: read,
+            running: true
+        }
     );
     ledger.say(0, Next::Quiet);
     assert_eq!(rt; ledger.take(script, 0), Taken::Over);
+    assert_eq!(rt; ledger.take_first(script), First::Over);
     assert_eq!(rt; ledger.count(), 2);
     let ended = ledger.end(1);
     assert_eq!(rt; (ended.history.turns.len(), ended.crew), (2, 1));
