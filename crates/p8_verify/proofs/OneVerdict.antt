@@ -7,7 +7,7 @@ use Rattle.p8_access.specs.declared.order.Turn.{Turn}
 use Rattle.p8_history.specs.Worlds.{World, Line}
 use Rattle.p8_history.specs.Histories.{Ended}
 use Rattle.p8_lives.specs.Lives.{asks}
-use Rattle.p8_machine.specs.Worlds.{world_of}
+use Rattle.p8_ledger.specs.Worlds.{world_of}
 use Rattle.p8_verify.specs.declared.head.Head.{Head}
 use Rattle.p8_verify.specs.declared.verdicts.Verdict.{Verdict}
 use Rattle.p8_verify.specs.declared.verdicts.Verdict.TheVariants.{Good, Bad}

@@ -5,8 +5,8 @@ use Rattle.p8_access.specs.declared.order.Turn.{Turn}
 use Rattle.p8_history.specs.Worlds.{World, Line}
 use Rattle.p8_history.specs.Histories.{Extends, IsOver, Ended}
 use Rattle.p8_lives.specs.Lives.{asks}
-use Rattle.p8_machine.specs.declared.outcome.Limits.{Limits}
-use Rattle.p8_machine.specs.Worlds.{world_of}
+use Rattle.p8_ledger.specs.declared.outcome.Limits.{Limits}
+use Rattle.p8_ledger.specs.Worlds.{world_of}
 use Rattle.p8_verify.specs.declared.head.Head.{Head}
 use Rattle.p8_verify.specs.declared.verdicts.Cause.{Cause}
 use Rattle.p8_verify.specs.declared.verdicts.Cause.TheVariants.{Form, Extra, Key, Access, Answer, More}

@@ -5,14 +5,14 @@ ghost use Rattle.p8_access.specs.declared.order.Turn.{Turn};
 ghost use Rattle.p8_history.specs.Worlds.{Line};
 ghost use Rattle.p8_history.specs.Histories.{Ended};
 ghost use Rattle.p8_lives.specs.Lives.{asks};
-ghost use Rattle.p8_machine.specs.Worlds.{world_of};
+ghost use Rattle.p8_ledger.specs.Worlds.{world_of};
 ghost use Rattle.p8_verify.specs.Table.{turn_bytes};
 ghost use Rattle.p8_verify.specs.Files.{records, file_of};
 
 use crate::head::{HEAD, Head};
 use crate::records::{RECORD, turn_bytes};
 use p8_access::Turn;
-use p8_machine::History;
+use p8_ledger::History;
 use p8_words::NoMemory;
 use std::alloc::Global;
 

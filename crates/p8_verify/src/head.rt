@@ -4,7 +4,7 @@ ghost use Rattle.p8_verify.specs.Files.{head_bytes, IsHeadWithin, IsHead, NoHead
 
 use crate::records::long_bytes;
 use byteorder::{ByteOrder, LittleEndian};
-use p8_machine::Limits;
+use p8_ledger::Limits;
 
 /// How many bytes a head has.
 pub const HEAD: usize = 16;

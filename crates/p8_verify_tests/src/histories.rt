@@ -3,7 +3,8 @@ ghost use Rattle.std.specs.Prelude.{◌≡◌, ◌≤◌, IfOk};
 ghost use Rattle.p8_access.specs.declared.kinds.Origin.TheVariants.{Pasm};
 
 use p8_access::Boot;
-use p8_machine::{Limits, run_alone};
+use p8_ledger::Limits;
+use p8_machine::run_alone;
 use p8_pins::PinScript;
 use p8_verify::{Cause, VerifyFault, history_bytes, verify};
 use p8_words::NoMemory;

@@ -2,7 +2,7 @@ use Rattle.std.proofs.Common.{◌≡◌, ap, sym, subst, ◌≤◌, List, length
 use Rattle.p8_access.specs.declared.order.Turn.{Turn}
 use Rattle.p8_history.specs.Histories.{Legal}
 use Rattle.p8_lives.specs.Lives.{asks}
-use Rattle.p8_machine.specs.Worlds.{world_of}
+use Rattle.p8_ledger.specs.Worlds.{world_of}
 use Rattle.p8_verify.proofs.Clocks.{all-early, no-more}
 use Rattle.p8_verify.proofs.files.history_bytes.Goals as goal
 
