@@ -120,7 +120,7 @@ module _ (passes : List Known) (all : (n : ℕ) → n < 8 → (p : Known) × (kn
   latest-same r s x y = begins-same r s (within r s x y) (within s r y x)
 
 -- where the least front is, there is one of the eight cogs
-near-by : (w : World) (s : Record) (n clock : ℕ) → ((m : ℕ) → 8 ≤ m → cog_state w (turns s) m ≡ Stopped) → IsLeastFront w s (record { clock = clock; cog = n }) → n < 8
+pub near-by : (w : World) (s : Record) (n clock : ℕ) → ((m : ℕ) → 8 ≤ m → cog_state w (turns s) m ≡ Stopped) → IsLeastFront w s (record { clock = clock; cog = n }) → n < 8
 near-by w s n clock others least =
     let none : 8 ≤ n → ⊥ = λ ge. subst (λ (c : CogState). HasFrontIn w (turns s) n c (said n s) clock) (others n ge) least.there in
     omega arith

@@ -99,15 +99,15 @@ module _ (start : Start) (id : ℕ) (v : View) (n : ℕ) (live : v.live ≡ true
     hold = λ k e. absurd (none-some k (sym free ∙ e));
   }
 
-  seizes-at : (second : ℕ) → second ≡ suc n → (lock : ℕ) (r : Record) (owner : ℕ → ℕ) → lock ≤ 8 → IsOfCogs r → (hs : List (Home Slot)) (vs : List View)
+  seizes-at : (second : ℕ) → second ≡ suc n → (lock : ℕ) (r : Record) (owner : ℕ → ℕ) → lock ≤ 8 → IsOfCogs r → (hs : List (Home Slot)) (vs : List View) (bells : List ℕ)
       → HomeIs start r lock hs → Each start r owner lock vs → get_elem? vs id ≡ some v
-      → Goes start id [] (λ x. either (x == 0) second x) (Seized (move 1 0 0 second none) (v, [])) 0 (lock ∷ length (turns r) ∷ []) hs vs
-  seizes-at second is zero r owner most newest hs vs home each at =
+      → Goes start id [] (λ x. either (x == 0) second x) (Seized (move 1 0 0 second none) (v, [])) 0 (lock ∷ length (turns r) ∷ bells) hs vs
+  seizes-at second is zero r owner most newest hs vs bells home each at =
       let own = each id v at live in
       let pass = own.passes n p has in
       let cog : n < 8 = pass.cog in
       let ledger = home.0 in
-      let won : Goes start id [] (λ x. either (x == 0) second x) (Seized (move 1 0 0 second none) (v, [])) 0 (0 ∷ length (turns r) ∷ []) (some (Some ledger) ∷ []) vs = (
+      let won : Goes start id [] (λ x. either (x == 0) second x) (Seized (move 1 0 0 second none) (v, [])) 0 (0 ∷ length (turns r) ∷ bells) (some (Some ledger) ∷ []) vs = (
         seizing v n r,
         takes 0 (Some ledger),
         refl,
@@ -117,14 +117,15 @@ module _ (start : Start) (id : ℕ) (v : View) (n : ℕ) (live : v.live ≡ true
           lock = suc n;
           most = omega arith;
           newest = newest;
-          words = ap (λ (k : ℕ). k ∷ length (turns r) ∷ []) is;
+          bells = bells;
+          words = ap (λ (k : ℕ). k ∷ length (turns r) ∷ bells) is;
           home = refl;
           each = each-set start r owner (suc n) vs id (seizing v n r) (λ by x apart e l. wins-others r owner pass.here by x apart (each by x e l)) (wins-own r owner own);
         },
         (r, ledger, n, is, refl, subst (λ (x : Start). Found (world_in x) ledger r) (sym own.same_start) home.2, newest, λ m q e. (own.passes m q e).agrees),
       ) in
-      subst (λ (h : List (Home Slot)). Goes start id [] (λ x. either (x == 0) second x) (Seized (move 1 0 0 second none) (v, [])) 0 (0 ∷ length (turns r) ∷ []) h vs) (sym home.1) won
-  seizes-at second is (suc m) r owner most newest hs vs home each at =
+      subst (λ (h : List (Home Slot)). Goes start id [] (λ x. either (x == 0) second x) (Seized (move 1 0 0 second none) (v, [])) 0 (0 ∷ length (turns r) ∷ bells) h vs) (sym home.1) won
+  seizes-at second is (suc m) r owner most newest hs vs bells home each at =
       let own = each id v at live in
       let pass = own.passes n p has in
       let apart : m ≢ n = λ (s : m ≡ n). none-some n (sym free ∙ pass.locked (ap suc s)) in (
@@ -137,7 +138,8 @@ module _ (start : Start) (id : ℕ) (v : View) (n : ℕ) (live : v.live ≡ true
           lock = suc m;
           most = most;
           newest = newest;
-          words = ap (λ (b : Bool). either b second (suc m) ∷ length (turns r) ∷ []) (test-apart (suc m) 0 (λ e. omega arith));
+          bells = bells;
+          words = ap (λ (b : Bool). either b second (suc m) ∷ length (turns r) ∷ bells) (test-apart (suc m) 0 (λ e. omega arith));
           home = home;
           each = each-set start r owner (suc m) vs id (losing v n m) (λ by x _ e l. each by x e l) (loses-own r owner (suc m) m own);
         },
@@ -147,7 +149,7 @@ module _ (start : Start) (id : ℕ) (v : View) (n : ℕ) (live : v.live ≡ true
   pub seizes : (second : ℕ) → second ≡ suc n → Allows (Kept start) 1 id (v, []) 0 (λ x. either (x == 0) second x) (Seized (move 1 0 0 second none) (v, []))
   seizes second is s h long at below =
       subst (λ (ws : List ℕ). Goes start id [] (λ x. either (x == 0) second x) (Seized (move 1 0 0 second none) (v, [])) 0 ws s.homes s.views) (sym h.words)
-      (seizes-at second is h.lock h.r h.owner h.most h.newest s.homes s.views h.home h.each at)
+      (seizes-at second is h.lock h.r h.owner h.most h.newest s.homes s.views h.bells h.home h.each at)
 
 pub seizes-as : (start : Start) (slots id : ℕ) (me : Hand) (n second : ℕ) → slots ≡ 1 → me.0.live ≡ true → me.0.holds ≡ None → me.1 ≡ [] → (p : Known) × (known me.0.passes n ≡ Some p) → second ≡ suc n
     → Allows (Kept start) slots id me 0 (λ x. either (x == 0) second x) (Seized (move slots 0 0 second none) me)
@@ -185,10 +187,10 @@ module _ (start : Start) (id : ℕ) (v : View) (n : ℕ) (live : v.live ≡ true
     hold = λ m e. absurd (none-some m e);
   }
 
-  frees-at : (ledger : Ledger) → Found (world_in v.start) ledger p.seen → (lock : ℕ) (r : Record) (owner : ℕ → ℕ) → IsOfCogs r → (hs : List (Home Slot)) (vs : List View)
+  frees-at : (ledger : Ledger) → Found (world_in v.start) ledger p.seen → (lock : ℕ) (r : Record) (owner : ℕ → ℕ) → IsOfCogs r → (hs : List (Home Slot)) (vs : List View) (bells : List ℕ)
       → HomeIs start r lock hs → Each start r owner lock vs → get_elem? vs id ≡ some v
-      → Goes start id ((0, Some ledger) ∷ []) (λ _. 0) (λ _. Released (move 1 0 0 0 none) (v, (0, Some ledger) ∷ []) 0) 0 (lock ∷ length (turns r) ∷ []) hs vs
-  frees-at ledger stands lock r owner newest hs vs home each at =
+      → Goes start id ((0, Some ledger) ∷ []) (λ _. 0) (λ _. Released (move 1 0 0 0 none) (v, (0, Some ledger) ∷ []) 0) 0 (lock ∷ length (turns r) ∷ bells) hs vs
+  frees-at ledger stands lock r owner newest hs vs bells home each at =
       let own = each id v at live in
       let k = knows r owner lock own in
       let out : hs ≡ none ∷ [] = subst (λ (l : ℕ). HomeIs start r l hs) k.1 home in
@@ -202,6 +204,7 @@ module _ (start : Start) (id : ℕ) (v : View) (n : ℕ) (live : v.live ≡ true
           lock = 0;
           most = omega arith;
           newest = newest;
+          bells = bells;
           words = refl;
           home = (ledger, ap (λ (h : List (Home Slot)). slice_set h 0 (some (Some ledger))) out, value);
           each = each-set start r owner 0 vs id (releasing v) (λ by x apart e l. frees-others r owner lock by x apart k.1 k.2 (each by x e l)) (frees-own r owner lock own);
@@ -212,7 +215,7 @@ module _ (start : Start) (id : ℕ) (v : View) (n : ℕ) (live : v.live ≡ true
   pub frees : (ledger : Ledger) → Found (world_in v.start) ledger p.seen → Allows (Kept start) 1 id (v, (0, Some ledger) ∷ []) 0 (λ _. 0) (λ _. Released (move 1 0 0 0 none) (v, (0, Some ledger) ∷ []) 0)
   frees ledger stands s h long at below =
       subst (λ (ws : List ℕ). Goes start id ((0, Some ledger) ∷ []) (λ _. 0) (λ _. Released (move 1 0 0 0 none) (v, (0, Some ledger) ∷ []) 0) 0 ws s.homes s.views) (sym h.words)
-      (frees-at ledger stands h.lock h.r h.owner h.newest s.homes s.views h.home h.each at)
+      (frees-at ledger stands h.lock h.r h.owner h.newest s.homes s.views h.bells h.home h.each at)
 
   -- it adds a step of its cog to the record
   module _ (step : Step) (own : cog_of step ≡ n) where
@@ -244,10 +247,10 @@ module _ (start : Start) (id : ℕ) (v : View) (n : ℕ) (live : v.live ≡ true
           (record { here = k.2; locked = k.1; pass = with_step step p; known = known-changed n (with_step step) v.passes p has; seen = ap (λ (l : Record). step ∷ l) k.0 }));
     }
 
-    notes-at : (c : List (ℕ × Slot)) (f : ℕ → ℕ) → f (length (turns p.seen)) ≡ length (turns (step ∷ p.seen)) → (m : Move Slot) (found : ℕ) → (lock : ℕ) (r : Record) (owner : ℕ → ℕ) → lock ≤ 8 → IsOfCogs r → (hs : List (Home Slot)) (vs : List View)
+    notes-at : (c : List (ℕ × Slot)) (f : ℕ → ℕ) → f (length (turns p.seen)) ≡ length (turns (step ∷ p.seen)) → (m : Move Slot) (found : ℕ) → (lock : ℕ) (r : Record) (owner : ℕ → ℕ) → lock ≤ 8 → IsOfCogs r → (hs : List (Home Slot)) (vs : List View) (bells : List ℕ)
         → HomeIs start r lock hs → Each start r owner lock vs → get_elem? vs id ≡ some v
-        → Goes start id c f (Noted step m (v, c)) 1 (lock ∷ length (turns r) ∷ []) hs vs
-    notes-at c f count m found lock r owner most newest hs vs home each at =
+        → Goes start id c f (Noted step m (v, c)) 1 (lock ∷ length (turns r) ∷ bells) hs vs
+    notes-at c f count m found lock r owner most newest hs vs bells home each at =
         let mine_ = each id v at live in
         let k = knows r owner lock mine_ in
         let cog : n < 8 = (mine_.passes n p has).cog in
@@ -262,7 +265,8 @@ module _ (start : Start) (id : ℕ) (v : View) (n : ℕ) (live : v.live ≡ true
             lock = lock;
             most = most;
             newest = of_cog;
-            words = ap (λ (l : ℕ). lock ∷ l ∷ []) (subst (λ (l : Record). f (length (turns l)) ≡ length (turns (step ∷ l))) k.0 count);
+            bells = bells;
+            words = ap (λ (l : ℕ). lock ∷ l ∷ bells) (subst (λ (l : Record). f (length (turns l)) ≡ length (turns (step ∷ l))) k.0 count);
             home = subst (λ (l : ℕ). HomeIs start (step ∷ r) l hs) (sym k.1) out;
             each = each-set start (step ∷ r) owner lock vs id (noting v n step) (λ by x apart e l. notes-others r owner lock by x apart k.1 k.2 (each by x e l)) (notes-own r owner lock mine_);
           },
@@ -272,10 +276,33 @@ module _ (start : Start) (id : ℕ) (v : View) (n : ℕ) (live : v.live ≡ true
     pub notes : (slots : ℕ) (c : List (ℕ × Slot)) (f : ℕ → ℕ) → f (length (turns p.seen)) ≡ length (turns (step ∷ p.seen)) → (m : Move Slot) → Allows (Kept start) slots id (v, c) 1 f (Noted step m (v, c))
     notes slots c f count m s h long at below =
         subst (λ (ws : List ℕ). Goes start id c f (Noted step m (v, c)) 1 ws s.homes s.views) (sym h.words)
-        (notes-at c f count m 0 h.lock h.r h.owner h.most h.newest s.homes s.views h.home h.each at)
+        (notes-at c f count m 0 h.lock h.r h.owner h.most h.newest s.homes s.views h.bells h.home h.each at)
 
 pub frees-as : (start : Start) (slots id : ℕ) (me : Hand) → slots ≡ 1 → (n : ℕ) × (p : Known) × (ledger : Ledger) × (me.0.live ≡ true) × (me.0.holds ≡ Some n) × (known me.0.passes n ≡ Some p) × (me.1 ≡ (0, Some ledger) ∷ []) × Found (world_in me.0.start) ledger p.seen
     → Allows (Kept start) slots id me 0 (λ _. 0) (λ _. Released (move slots 0 0 0 none) me 0)
 frees-as start slots id me one h =
     subst (λ (y : ℕ × List (ℕ × Slot)). Allows (Kept start) y.0 id (me.0, y.1) 0 (λ _. 0) (λ _. Released (move y.0 0 0 0 none) (me.0, y.1) 0)) (λ i. (sym one i, sym h.6 i))
     (frees start id me.0 h.0 h.3 h.4 h.1 h.5 h.2 h.7)
+
+-- a bell changes, and nothing else
+pub rings : (start : Start) (slots id word k : ℕ) (me : Hand) → word ≡ suc (suc k) → (f : ℕ → ℕ) → Allows (Kept start) slots id me word f (λ n after. after ≡ me)
+rings start slots id word k me is f s h long at below = (
+  me.0,
+  keeps,
+  tt,
+  record {
+    r = h.r;
+    owner = h.owner;
+    lock = h.lock;
+    most = h.most;
+    newest = h.newest;
+    bells = slice_set h.bells k (f (slice_index s.words word));
+    words = λ i. slice_set (h.words i) (is i) (f (slice_index s.words word));
+    home = h.home;
+    each = λ by v e live. ⊎_elim
+        (λ (x : (by ≡ id) × (me.0 ≡ v)). h.each by v (ap (λ (n : ℕ). get_elem? s.views n) x.0 ∙ at ∙ ap some x.1) live)
+        (λ (x : (by ≢ id) × (get_elem? s.views by ≡ some v)). h.each by v x.1 live)
+        (at_set s.views id by me.0 v e);
+  },
+  refl,
+)

@@ -11,3 +11,4 @@ pub mod Placing
 pub mod Remaining
 pub mod Scattering
 pub mod Driving
+pub mod Ringing

@@ -78,6 +78,7 @@ splits n start id v live free s h at = by-known (known v.passes n) refl
       lock = h.lock;
       most = h.most;
       newest = h.newest;
+      bells = h.bells;
       words = h.words;
       home = h.home;
       each = λ by x e alive. ⊎_elim
@@ -113,6 +114,7 @@ joins start id v other u live free alive idle s h at apart there = record {
   lock = h.lock;
   most = h.most;
   newest = h.newest;
+  bells = h.bells;
   words = h.words;
   home = h.home;
   each = λ by x e al. ⊎_elim
@@ -168,13 +170,14 @@ zero-suc : (n : ℕ) → 0 ≡ suc n → ⊥
 zero-suc n e = omega arith
 
 -- the table keeps the rule when it is made
-pub opens : (start : Start) (ledger : Ledger) → Found (world_in start) ledger [] → Kept start (opening (0 ∷ 0 ∷ []) (Some ledger ∷ []) (first_view start))
-opens start ledger stands = record {
+pub opens : (start : Start) (ledger : Ledger) (bells : List ℕ) → Found (world_in start) ledger [] → Kept start (opening (0 ∷ 0 ∷ bells) (Some ledger ∷ []) (first_view start))
+opens start ledger bells stands = record {
   r = [];
   owner = λ _. 0;
   lock = 0;
   most = omega arith;
   newest = tt;
+  bells = bells;
   words = refl;
   home = (ledger, refl, stands);
   each = one-view;

@@ -1,8 +1,8 @@
 -- internal
 -- The rule of the table, and what each step tells the seat that takes it.
 --
--- The table has the lock word (0 where it is free, n + 1 where the pass of cog n holds it), the count of turns,
--- and one slot with the desk's value. There is one record, which no word keeps: the rule says of every seat
+-- The table has the lock word (0 where it is free, n + 1 where the pass of cog n holds it), the count of turns, the bells
+-- by which threads wake one another, of which the rule says nothing, and one slot with the desk's value. There is one record, which no word keeps: the rule says of every seat
 -- how far its passes have seen it.
 use Rattle.std.specs.Prelude.{ℕ, zero, suc, ◌==◌, ◌≡◌, ◌<◌, ◌≤◌, if◌then◌else◌, true, false, List, [], ◌∷◌, ◌++◌, Option, Some, None, length}
 use mathlib.Core.Option.{some, none}
@@ -97,7 +97,8 @@ pub record Kept (start : Start) (s : TableState) : Type 0 where
   pub lock : ℕ
   pub most : lock ≤ 8
   pub newest : IsOfCogs r
-  pub words : s.words ≡ lock ∷ length (turns r) ∷ []
+  pub bells : List ℕ
+  pub words : s.words ≡ lock ∷ length (turns r) ∷ bells
   pub home : HomeIs start r lock s.homes
   pub each : (by : ℕ) (v : View) → get_elem? s.views by ≡ some v → v.live ≡ true → Fits start r owner lock by v
 
@@ -153,6 +154,10 @@ noting v n step = record { live = v.live; start = v.start; passes = change n (wi
 
 abbrev pub Noted : Step → Move Slot → Hand → ℕ → Hand → Type 0
 Noted step s v found after = after ≡ (noting v.0 (cog_of step) step, v.1)
+
+-- a bell has changed: nothing that a seat knows does
+abbrev pub Rung : Move Slot → Hand → ℕ → Hand → Type 0
+Rung s v found after = after ≡ v
 
 -- a seat gives the pass of a cog to a new seat
 abbrev pub with_passes : View → List Known → View

@@ -1,18 +1,18 @@
 // The desk.
-ghost use Rattle.std.specs.Prelude.{◌≡◌, ◌||◌, true, IfSome, IfNone};
-ghost use Rattle.p8_desk.specs.declared.turned.Turned.TheVariants.{Done, Over};
+ghost use Rattle.std.specs.Prelude.{◌≡◌, ◌<◌, ◌||◌, ℕ, true, IfSome, IfNone};
+ghost use Rattle.p8_desk.specs.declared.turned.Turned.TheVariants.{Done, After, Over};
 ghost use Rattle.p8_desk.specs.Passes.{Owns, PassSteps};
 ghost use Rattle.p8_desk.specs.Seats.{is_over};
 ghost use Rattle.p8_desk.specs.Tries.{Tried};
 
+use crate::bells::{TURN_SLEEP, ring, ring_all, wait_at_bell, wait_for_lock};
 use crate::pass::CogPass;
-use crate::rule::Tabletop;
+use crate::rule::{Place, Tabletop};
 use crate::turned::Turned;
 use p8_access::Turn;
 use p8_ledger::Start;
 use std::marker::Model;
 use std::sync::Wait;
-use std::thread::yield_now;
 
 /// A desk at which the passes of eight cogs make the turns of one history. They may be in as many threads.
 #[derive(Drop)]
@@ -31,7 +31,7 @@ impl Model for Desk {
 
     ghost view = { λ d. record { world = world_in d.start; table = d.table.shared.table_id } };
 
-    ghost invariant = { λ d. (d.table.shared.key ≡ d.start) × (d.table.shared.table_id.words ≡ 2) × (d.table.shared.table_id.slots ≡ 1) × (d.start.limits.clocks ≤ 100000000) × (d.start.limits.turns ≤ 1000000) };
+    ghost invariant = { λ d. (d.table.shared.key ≡ d.start) × (d.table.shared.table_id.words ≡ 72) × (d.table.shared.table_id.slots ≡ 1) × (d.start.limits.clocks ≤ 100000000) × (d.start.limits.turns ≤ 1000000) };
 }
 
 impl Desk {
@@ -47,12 +47,53 @@ impl Desk {
         ensures over { pass.new.over ≡ (pass.old.over || is_over result) }
         ensures tried { Tried self.now.world pass.old.cog pass.old.steps pass.new.steps result }
     {
-        pass.rider.ride(self, &mut pass.seat)
+        let answer = pass.rider.ride(self, &mut pass.seat);
+        self.tell(&mut pass.seat, answer);
+        answer
+    }
+
+    /// Rings the bell of the cog that an answer names, or where no turn comes any more all bells.
+    fn tell(&self, seat: &mut Place, answer: Turned)
+        requires own { seat.old.table_id ≡ self.now.table }
+        requires near { (other : ℕ) (bound : ℕ) → answer ≡ After other bound → other < 8 }
+        ensures own { (seat.new.table_id ≡ seat.old.table_id) × (seat.new.id ≡ seat.old.id) }
+        ensures same { seat.new.me ≡ seat.old.me }
+    {
+        let board = &self.table.shared;
+        match answer {
+            Turned::After { cog, .. } => ring(board, seat, cog),
+            Turned::Over => ring_all(board, seat),
+            Turned::Done(_) => {}
+            Turned::Held { .. } => {}
+            Turned::Ahead { .. } => {}
+        }
+    }
+
+    /// Waits after an answer for as long as another try would be in vain, as far as is known: until the lock word may be
+    /// free, or where the pass's life has nothing to do until the cog's bell is rung. It wakes by itself after a millisecond.
+    fn wait<R: Wait>(&self, rt: &R, pass: &mut CogPass, answer: Turned)
+        requires { Owns self.now pass.old }
+        ensures { pass.new ≡ pass.old }
+    {
+        let board = &self.table.shared;
+        let cog = pass.rider.cog;
+        match answer {
+            Turned::Held { by } => wait_for_lock(rt, board, &mut pass.seat, cog, by),
+            Turned::After { .. } => {
+                if !pass.rider.runner.can_run_on() {
+                    wait_at_bell(rt, board, &mut pass.seat, cog, TURN_SLEEP);
+                }
+            }
+            Turned::Ahead { .. } => {}
+            Turned::Done(_) => {}
+            Turned::Over => {}
+        }
     }
 }
 
 impl Desk {
-    /// Tries until the cog has made a turn, or until no turn comes any more. It may wait for other passes.
+    /// Tries until the cog has made a turn, or until no turn comes any more. It may wait for other passes: where another
+    /// cog comes next and the cog's life has nothing to do meanwhile, the thread sleeps.
     pub fn turn<R: Wait>(&self, rt: &R, pass: &mut CogPass) -> Option<Turn>
         requires { Owns self.now pass.old }
         ensures owns { Owns self.now pass.new }
@@ -65,10 +106,7 @@ impl Desk {
             match self.try_turn(pass) {
                 Turned::Done(turn) => return Some(turn),
                 Turned::Over => return None,
-                // Others are to come first, and they may lack a processor.
-                Turned::Held { .. } => yield_now(),
-                Turned::After { .. } => yield_now(),
-                Turned::Ahead { .. } => {}
+                answer => self.wait(rt, pass, answer),
             }
         }
         unreachable!()

@@ -1,6 +1,7 @@
 //! The desk at which eight cogs make the turns of one history, each in whatever thread it runs.
 #![tactic(auto)]
 
+mod bells;
 mod close;
 mod desk;
 mod drive;

@@ -8,6 +8,7 @@ ghost use Rattle.p8_desk.specs.Opening.{fresh, new_places};
 ghost use Rattle.p8_desk.specs.Rules.{first_view, world_in, with_passes, new_pass};
 ghost use Rattle.p8_desk.specs.Runners.{Rides};
 
+use crate::bells::WORDS;
 use crate::desk::Desk;
 use crate::pass::CogPass;
 use crate::passes::Passes;
@@ -26,7 +27,7 @@ use std::alloc::Global;
 fn lay(alloc: Global, start: &Start, ledger: Ledger) -> Result<(Tabletop, Place), NoMemory>
     requires { Found (world_in start.now) ledger [] }
     ensures key { IfOk result (λ t. t.0.shared.key ≡ start.now) }
-    ensures shape { IfOk result (λ t. (t.0.shared.table_id.words ≡ 2) × (t.0.shared.table_id.slots ≡ 1)) }
+    ensures shape { IfOk result (λ t. (t.0.shared.table_id.words ≡ 72) × (t.0.shared.table_id.slots ≡ 1)) }
     ensures seat { IfOk result (λ t. (t.1.table_id ≡ t.0.shared.table_id) × (t.1.me ≡ (first_view start.now, []))) }
 {
     let mut slots = Vec::new(alloc);
@@ -34,7 +35,7 @@ fn lay(alloc: Global, start: &Start, ledger: Ledger) -> Result<(Tabletop, Place)
         Ok(()) => {}
         Err(_) => return Err(NoMemory),
     }
-    match Table::new(alloc, &[0, 0], slots, start) {
+    match Table::new(alloc, &[0; WORDS], slots, start) {
         Ok(laid) => Ok(laid),
         Err(_) => Err(NoMemory),
     }

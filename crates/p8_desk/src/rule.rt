@@ -79,6 +79,15 @@ impl<B: Told> Play<Option<Ledger>, View> for Notes<B> {
     ghost then = { Noted B.step };
 }
 
+/// A bell has changed, which tells nothing.
+pub struct Rings;
+
+impl Play<Option<Ledger>, View> for Rings {
+    ghost use Rattle.p8_desk.specs.Rules.{Rung};
+
+    ghost then = { Rung };
+}
+
 /// The cog whose pass a proof speaks of.
 pub trait Named {
     ghost use Rattle.std.specs.Prelude.{ℕ};

@@ -30,7 +30,7 @@ impl Named for Brand {
 /// in that word.
 pub fn seize(board: &Board, seat: &mut Place, cog: u8) -> u64
     requires own { seat.old.table_id ≡ board.now.table_id }
-    requires shape { (board.now.table_id.words ≡ 2) × (board.now.table_id.slots ≡ 1) }
+    requires shape { (board.now.table_id.words ≡ 72) × (board.now.table_id.slots ≡ 1) }
     requires free { (seat.old.me.0.live ≡ true) × (seat.old.me.0.holds ≡ None) × (seat.old.me.1 ≡ []) }
     requires pass { (p : Known) × (known seat.old.me.0.passes cog ≡ Some p) }
     ensures own { (seat.new.table_id ≡ seat.old.table_id) × (seat.new.id ≡ seat.old.id) }
@@ -42,7 +42,7 @@ pub fn seize(board: &Board, seat: &mut Place, cog: u8) -> u64
 /// Gives back what the slot had, and frees the lock word.
 pub fn release(board: &Board, seat: &mut Place)
     requires own { seat.old.table_id ≡ board.now.table_id }
-    requires shape { (board.now.table_id.words ≡ 2) × (board.now.table_id.slots ≡ 1) }
+    requires shape { (board.now.table_id.words ≡ 72) × (board.now.table_id.slots ≡ 1) }
     requires holds { (n : _) × (p : Known) × (ledger : Ledger) × (seat.old.me.0.live ≡ true) × (seat.old.me.0.holds ≡ Some n) × (known seat.old.me.0.passes n ≡ Some p) × (seat.old.me.1 ≡ (0, Some ledger) ∷ []) × Found (world_in seat.old.me.0.start) ledger p.seen }
     ensures own { (seat.new.table_id ≡ seat.old.table_id) × (seat.new.id ≡ seat.old.id) }
     ensures released { Released (move 1 0 0 0 none) seat.old.me 0 seat.new.me }
@@ -52,7 +52,7 @@ pub fn release(board: &Board, seat: &mut Place)
 
 fn note_saying<B: Told>(board: &Board, seat: &mut Place, cog: u8, next: Next)
     requires own { seat.old.table_id ≡ board.now.table_id }
-    requires shape { (board.now.table_id.words ≡ 2) × (board.now.table_id.slots ≡ 1) }
+    requires shape { (board.now.table_id.words ≡ 72) × (board.now.table_id.slots ≡ 1) }
     requires holds { (p : Known) × (seat.old.me.0.live ≡ true) × (seat.old.me.0.holds ≡ Some cog) × (known seat.old.me.0.passes cog ≡ Some p) }
     requires told { B.step ≡ Said cog next }
     ensures own { (seat.new.table_id ≡ seat.old.table_id) × (seat.new.id ≡ seat.old.id) }
@@ -65,7 +65,7 @@ fn note_saying<B: Told>(board: &Board, seat: &mut Place, cog: u8, next: Next)
 /// The holder adds what its cog says to the record.
 pub fn say(board: &Board, seat: &mut Place, cog: u8, next: Next)
     requires own { seat.old.table_id ≡ board.now.table_id }
-    requires shape { (board.now.table_id.words ≡ 2) × (board.now.table_id.slots ≡ 1) }
+    requires shape { (board.now.table_id.words ≡ 72) × (board.now.table_id.slots ≡ 1) }
     requires holds { (p : Known) × (seat.old.me.0.live ≡ true) × (seat.old.me.0.holds ≡ Some cog) × (known seat.old.me.0.passes cog ≡ Some p) }
     ensures own { (seat.new.table_id ≡ seat.old.table_id) × (seat.new.id ≡ seat.old.id) }
     ensures noted { seat.new.me ≡ (noting seat.old.me.0 cog (Said cog next), seat.old.me.1) }
@@ -75,7 +75,7 @@ pub fn say(board: &Board, seat: &mut Place, cog: u8, next: Next)
 
 fn note_turn<B: Told>(board: &Board, seat: &mut Place, turn: &Turn)
     requires own { seat.old.table_id ≡ board.now.table_id }
-    requires shape { (board.now.table_id.words ≡ 2) × (board.now.table_id.slots ≡ 1) }
+    requires shape { (board.now.table_id.words ≡ 72) × (board.now.table_id.slots ≡ 1) }
     requires holds { (p : Known) × (seat.old.me.0.live ≡ true) × (seat.old.me.0.holds ≡ Some turn.now.key.cog) × (known seat.old.me.0.passes turn.now.key.cog ≡ Some p) × (length (turns p.seen) + 1 < 2 ^ 64) }
     requires told { B.step ≡ Took turn.now }
     ensures own { (seat.new.table_id ≡ seat.old.table_id) × (seat.new.id ≡ seat.old.id) }
@@ -88,7 +88,7 @@ fn note_turn<B: Told>(board: &Board, seat: &mut Place, turn: &Turn)
 /// The holder adds a turn of its cog to the record, and to the count of turns.
 pub fn take_turn(board: &Board, seat: &mut Place, turn: &Turn)
     requires own { seat.old.table_id ≡ board.now.table_id }
-    requires shape { (board.now.table_id.words ≡ 2) × (board.now.table_id.slots ≡ 1) }
+    requires shape { (board.now.table_id.words ≡ 72) × (board.now.table_id.slots ≡ 1) }
     requires holds { (p : Known) × (seat.old.me.0.live ≡ true) × (seat.old.me.0.holds ≡ Some turn.now.key.cog) × (known seat.old.me.0.passes turn.now.key.cog ≡ Some p) × (length (turns p.seen) + 1 < 2 ^ 64) }
     ensures own { (seat.new.table_id ≡ seat.old.table_id) × (seat.new.id ≡ seat.old.id) }
     ensures noted { seat.new.me ≡ (noting seat.old.me.0 turn.now.key.cog (Took turn.now), seat.old.me.1) }

@@ -100,7 +100,7 @@ fn work_in_slot(
 
 /// Adds what the cog has said to the record.
 fn note_said(board: &Board, seat: &mut Place, cog: u8, said: Option<Next>)
-    requires own { (seat.old.table_id ≡ board.now.table_id) × (board.now.table_id.words ≡ 2) × (board.now.table_id.slots ≡ 1) }
+    requires own { (seat.old.table_id ≡ board.now.table_id) × (board.now.table_id.words ≡ 72) × (board.now.table_id.slots ≡ 1) }
     requires holds { (p : Known) × (seat.old.me.0.live ≡ true) × (seat.old.me.0.holds ≡ Some cog) × (known_in seat.old.me.0.passes cog ≡ Some p) }
     ensures own { (seat.new.table_id ≡ seat.old.table_id) × (seat.new.id ≡ seat.old.id) }
     ensures noted { seat.new.me ≡ (noting_said seat.old.me.0 cog said, seat.old.me.1) }
@@ -112,7 +112,7 @@ fn note_said(board: &Board, seat: &mut Place, cog: u8, said: Option<Next>)
 
 /// Adds the cog's turn to the record, where it has made one.
 fn note_answer(board: &Board, seat: &mut Place, cog: u8, answer: Turned)
-    requires own { (seat.old.table_id ≡ board.now.table_id) × (board.now.table_id.words ≡ 2) × (board.now.table_id.slots ≡ 1) }
+    requires own { (seat.old.table_id ≡ board.now.table_id) × (board.now.table_id.words ≡ 72) × (board.now.table_id.slots ≡ 1) }
     requires holds { (p : Known) × (seat.old.me.0.live ≡ true) × (seat.old.me.0.holds ≡ Some cog) × (known_in seat.old.me.0.passes cog ≡ Some p) × HasRoom cog p.seen answer }
     ensures own { (seat.new.table_id ≡ seat.old.table_id) × (seat.new.id ≡ seat.old.id) }
     ensures noted { seat.new.me ≡ (granting seat.old.me.0 cog answer, seat.old.me.1) }
@@ -137,7 +137,7 @@ pub fn attempt(
     known: &mut u64,
     cog: u8,
 ) -> Turned
-    requires own { (seat.old.table_id ≡ board.now.table_id) × (board.now.table_id.words ≡ 2) × (board.now.table_id.slots ≡ 1) × (cog < 8) }
+    requires own { (seat.old.table_id ≡ board.now.table_id) × (board.now.table_id.words ≡ 72) × (board.now.table_id.slots ≡ 1) × (cog < 8) }
     requires script { script.now ≡ (world_in seat.old.me.0.start).script }
     requires free { (seat.old.me.0.live ≡ true) × (seat.old.me.0.holds ≡ None) × (seat.old.me.1 ≡ []) }
     requires pass { (p : Known) × (known_in seat.old.me.0.passes cog ≡ Some p) × IsReady (world_in seat.old.me.0.start) cog p runner.old }

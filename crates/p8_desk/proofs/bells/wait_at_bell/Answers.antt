@@ -1,0 +1,11 @@
+use Rattle.std.proofs.Common.{◌≡◌, ◌∙◌, ◌<◌, ◌+◌, ◌*◌, arith, ℕ, rules}
+use Rattle.p8_desk.proofs.Keeping.{rings}
+use Rattle.p8_desk.proofs.Ringing.{bell-after}
+use Rattle.p8_desk.proofs.bells.wait_at_bell.Goals as goal
+
+pub store-requires : goal.store-requires
+store-requires g c =
+    let near = c.requires.own.2 in
+    let words = c.requires.own.1 in
+    let bell = c.bell_of-bell.ensures in
+    (search rules, omega arith, rings _ _ _ _ _ _ (bell-after c.bell_of-bell.result (omega arith)) (λ _. 0))
