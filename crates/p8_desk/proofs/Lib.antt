@@ -12,3 +12,4 @@ pub mod Remaining
 pub mod Scattering
 pub mod Driving
 pub mod Ringing
+pub mod Waiting

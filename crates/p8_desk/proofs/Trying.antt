@@ -149,6 +149,7 @@ module _ (n : ℕ) (me after : Hand) (p : Known) (runner : Runner) (live : me.0.
       answers = k.settled.answers;
       seen = steps.seen;
       mine = own;
+      won = steps.won;
       found = steps.found;
     }
 

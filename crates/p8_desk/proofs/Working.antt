@@ -1,10 +1,11 @@
 -- What is done with the ledger under the lock, and what is noted of it.
-use Rattle.std.proofs.Common.{◌≡◌, ◌⊎◌, inl, inr, ⊎_elim, ◌∙◌, ap, sym, subst, refl, ℕ, ◌+◌, ◌*◌, ◌^◌, ◌<◌, List, ◌∷◌, length, Bool, true, Option, Some, None, arith}
+use Rattle.std.proofs.Common.{◌≡◌, ◌⊎◌, inl, inr, ⊎_elim, ◌∙◌, ap, sym, subst, refl, ℕ, ◌+◌, ◌*◌, ◌^◌, ◌<◌, List, ◌∷◌, length, Bool, true, false, Option, Some, None, arith}
 use Rattle.p8_access.specs.declared.order.Turn.{Turn}
 use Rattle.p8_access.specs.declared.lives.Next.{Next}
-use Rattle.p8_access.specs.declared.lives.Next.TheVariants.{More}
+use Rattle.p8_access.specs.declared.lives.Next.TheVariants.{At, Quiet, More}
 use Rattle.p8_access.specs.Lives.{Begun, PasmBegun, SpinBegun, IsAnnounced, announced_by}
 use Rattle.p8_history.specs.declared.states.CogState.{CogState}
+use Rattle.p8_history.specs.declared.states.CogState.TheVariants.{Stopped, Starting, Running}
 use Rattle.p8_history.specs.Hub.{cog_state}
 use Rattle.p8_ledger.specs.Standing.{FitsState}
 use Rattle.p8_history.specs.Worlds.{World}
@@ -29,7 +30,7 @@ use Rattle.p8_desk.specs.declared.turned.Turned.{Turned}
 use Rattle.p8_desk.specs.declared.turned.Turned.TheVariants.{Done as Turns, Held as Meets, After as Waits, Ahead as Runs, Over as Ends}
 use Rattle.p8_desk.specs.Rules.{known, with_step, noting}
 use Rattle.p8_desk.specs.Runners.{Lives, Rides, Comes, HasFound, GoesOnFrom, pace_in, most_in}
-use Rattle.p8_desk.specs.Tries.{pace_of, most_of, GoesOn, Says, Answers, seen_by}
+use Rattle.p8_desk.specs.Tries.{pace_of, most_of, GoesOn, Says, IsSaid, Answers, seen_by}
 use Rattle.p8_desk.specs.Work.{Moved, Spoken, Granted, Settled, HasRoom, said_by, granting, noting_said}
 use Rattle.p8_desk.proofs.Lookups.{known-changed, known-beside, test-same}
 use Rattle.p8_desk.proofs.Riding.{saying-goes, owes-unsaid}
@@ -99,10 +100,29 @@ comes-as w n r now runner turn running state memory g rides memory_is state_is =
 pub turn-fits : (n : ℕ) (w : World) (s : Record) (turn : Turn) (running : Bool) (now : Ledger) → n < 8 → Granted w n s (Done turn running) now → turn.key.cog < 8
 turn-fits n w s turn running now near g = let d : Decides w s n (Done turn running) = g.1 in let cog : turn.key.cog ≡ n = d.1 in omega arith
 
+-- a turn that was made is of a start or of what was said
+said-turn : (running : Bool) (state : CogState) (next : Next) (turn : Turn) → FitsState running state → (running ≡ true → IsAnnounced (announced_by next) turn) → IsSaid state next turn
+said-turn running Stopped next turn fits announced = none running fits
+  where
+    none : (b : Bool) → FitsState b Stopped → ⊥
+    none true f = f
+    none false f = f
+said-turn running (Starting since origin) next turn fits announced = tt
+said-turn running (Running origin) next turn fits announced = of-next next (announced (runs running fits))
+  where
+    runs : (b : Bool) → FitsState b (Running origin) → b ≡ true
+    runs true f = refl
+    runs false f = absurd f
+
+    of-next : (x : Next) → IsAnnounced (announced_by x) turn → (earliest : ℕ) × (x ≡ At earliest turn.access)
+    of-next (At clock access) a = (clock, ap (At clock) (sym a.0))
+    of-next Quiet a = absurd a
+    of-next (More bound) a = absurd a
+
 pub settled-done : (w : World) (n : ℕ) (s : Record) (now : Ledger) (new : Runner) (turn : Turn) (running : Bool) → Granted w n s (Done turn running) now → Rides w turn.key.cog (Took turn ∷ s) new → Settled w n s now new (Turns turn)
 settled-done w n s now new turn running g rides =
     let d : Decides w s n (Done turn running) = g.1 in record {
-      answers = (d.0, d.1, d.2);
+      answers = (d.0, d.1, d.2, said-turn running (cog_state w (turns s) n) (said n s) turn d.3 d.4);
       stands = g.0;
       rides = subst (λ (m : ℕ). Rides w m (Took turn ∷ s) new) d.1 rides;
     }
@@ -158,17 +178,18 @@ noting-both n q t v u x a b = record { moved = moved-twice n q t v u x a.moved b
 pub record Stepped (n : ℕ) (s : Record) (p q : Known) : Type 0 where
   pub seen : q.seen ≡ s
   pub own : p.own ≡ mine n p.seen → q.own ≡ mine n q.seen
+  pub won : q.won ≡ p.won
   pub found : q.found ≡ p.found
 
 pub stepped-said : (n : ℕ) (said : Option Next) (p : Known) → Stepped n (said_by n said p.seen) p (said_known n said p)
-stepped-said n None p = record { seen = refl; own = λ e. e; found = refl }
-stepped-said n (Some next) p = record { seen = refl; own = own-step n (Said n next) p refl; found = refl }
+stepped-said n None p = record { seen = refl; own = λ e. e; won = refl; found = refl }
+stepped-said n (Some next) p = record { seen = refl; own = own-step n (Said n next) p refl; won = refl; found = refl }
 
 pub stepped-answer : (w : World) (n : ℕ) (answer : Turned) (p : Known) → Answers w p.seen n answer → Stepped n (seen_by answer p.seen) p (answered_known answer p)
-stepped-answer w n (Turns turn) p a = record { seen = refl; own = own-step n (Took turn) p a.1; found = refl }
-stepped-answer w n Ends p a = record { seen = refl; own = λ e. e; found = refl }
-stepped-answer w n (Waits other bound) p a = record { seen = refl; own = λ e. e; found = refl }
-stepped-answer w n (Runs bound) p a = record { seen = refl; own = λ e. e; found = refl }
+stepped-answer w n (Turns turn) p a = record { seen = refl; own = own-step n (Took turn) p a.1; won = refl; found = refl }
+stepped-answer w n Ends p a = record { seen = refl; own = λ e. e; won = refl; found = refl }
+stepped-answer w n (Waits other bound) p a = record { seen = refl; own = λ e. e; won = refl; found = refl }
+stepped-answer w n (Runs bound) p a = record { seen = refl; own = λ e. e; won = refl; found = refl }
 stepped-answer w n (Meets by) p a = absurd a
 
 pub stepped-both : (w : World) (n : ℕ) (said : Option Next) (answer : Turned) (p : Known) → Answers w (said_by n said p.seen) n answer → Stepped n (seen_by answer (said_by n said p.seen)) p (answered_known answer (said_known n said p))
@@ -177,5 +198,6 @@ stepped-both w n said answer p a =
     let two = stepped-answer w n answer (said_known n said p) (subst (λ (s : Record). Answers w s n answer) (sym one.seen) a) in record {
       seen = two.seen ∙ ap (seen_by answer) one.seen;
       own = λ e. two.own (one.own e);
+      won = two.won ∙ one.won;
       found = two.found ∙ one.found;
     }

@@ -6,7 +6,7 @@ use Rattle.p8_desk.specs.Passes.{PassValue}
 
 -- a pass that has made no step and seen none
 abbrev pub fresh : World → TableId → ℕ → PassValue
-fresh w table cog = record { world = w; table = table; cog = cog; steps = record { own = []; seen = []; found = [] }; over = false }
+fresh w table cog = record { world = w; table = table; cog = cog; steps = record { own = []; seen = []; won = 0; found = [] }; over = false }
 
 -- the passes of so many cogs, each at its place
 abbrev pub new_places : World → TableId → ℕ → List (Option PassValue)

@@ -9,11 +9,12 @@ pub record DeskValue : Type 0 where
   pub world : World
   pub table : TableId
 
--- the steps of a pass: its own, the record that it has seen, and the cogs that its lost exchanges found, all with
--- the newest first
+-- the steps of a pass: its own and the record that it has seen; how many of its tries took the desk, and the cogs that the
+-- others found there. Lists have the newest first
 pub record PassSteps : Type 0 where
   pub own : Record
   pub seen : Record
+  pub won : ℕ
   pub found : List ℕ
 
 -- a pass is seen as its cog and its steps; `over` says that a try with it has answered Over

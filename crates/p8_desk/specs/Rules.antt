@@ -41,7 +41,7 @@ known (p ∷ ps) n = if p.cog == n then Some p else known ps n
 
 -- a change to what is known of a cog's pass
 abbrev pub of_same_cog : Known → Known → Known
-of_same_cog p q = record { cog = p.cog; own = q.own; seen = q.seen; found = q.found }
+of_same_cog p q = record { cog = p.cog; own = q.own; seen = q.seen; won = q.won; found = q.found }
 
 abbrev pub change : ℕ → (Known → Known) → List Known → List Known
 change n f [] = []
@@ -104,7 +104,7 @@ pub record Kept (start : Start) (s : TableState) : Type 0 where
 
 -- the first view has the passes of all cogs
 abbrev pub new_pass : ℕ → Known
-new_pass n = record { cog = n; own = []; seen = []; found = [] }
+new_pass n = record { cog = n; own = []; seen = []; won = 0; found = [] }
 
 -- so many new passes, from a cog on
 abbrev pub new_passes : ℕ → ℕ → List Known
@@ -114,10 +114,10 @@ new_passes (suc k) n = new_pass n ∷ new_passes k (suc n)
 abbrev pub first_view : Start → View
 first_view start = record { live = true; start = start; passes = new_passes 8 0; holds = None }
 
--- an exchange that wins: the seat sees the whole record, and has the slot; one that loses finds the cog whose
+-- an exchange that wins: the seat sees the whole record, has the slot, and knows of one win more; one that loses finds the cog whose
 -- pass holds
 abbrev pub with_seen : Record → Known → Known
-with_seen r p = record p { seen = r }
+with_seen r p = record p { seen = r; won = suc p.won }
 
 abbrev pub with_found : ℕ → Known → Known
 with_found m p = record p { found = m ∷ p.found }

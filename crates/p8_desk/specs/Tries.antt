@@ -1,11 +1,13 @@
 -- What one try of a pass does. A record is found; where its cog owes a saying the pass adds one; the least front on
 -- what it is then decides.
-use Rattle.std.specs.Prelude.{ℕ, ◌+◌, ◌*◌, ◌≡◌, ◌<◌, ◌≤◌, ◌⊎◌, ◌∷◌, Some, length}
+use Rattle.std.specs.Prelude.{ℕ, suc, ◌+◌, ◌*◌, ◌≡◌, ◌<◌, ◌≤◌, ◌⊎◌, ◌∷◌, Some, length}
 use Rattle.p8_access.specs.declared.kinds.Origin.{Origin}
+use Rattle.p8_access.specs.declared.order.Turn.{Turn}
 use Rattle.p8_access.specs.declared.lives.Next.{Next}
 use Rattle.p8_access.specs.declared.lives.Next.TheVariants.{At, Quiet, More}
 use Rattle.p8_access.specs.Lives.{Begun, PasmBegun, SpinBegun}
-use Rattle.p8_history.specs.declared.states.CogState.TheVariants.{Running}
+use Rattle.p8_history.specs.declared.states.CogState.{CogState}
+use Rattle.p8_history.specs.declared.states.CogState.TheVariants.{Stopped, Starting, Running}
 use Rattle.p8_history.specs.Worlds.{World}
 use Rattle.p8_history.specs.Hub.{cog_state}
 use Rattle.p8_history.specs.Histories.{begun, Extends, Ended, Legal}
@@ -46,10 +48,17 @@ pub record Says (w : World) (r : Record) (n : ℕ) (next : Next) : Type 0 where
 abbrev pub Speaks : World → ℕ → Next → Record → Record → Type 0
 Speaks w n next r s = ((s ≡ Said n next ∷ r) × Says w r n next) ⊎ ((s ≡ r) × (Owes w r n → ⊥))
 
+-- a turn of a cog that was starting, or of the access that a running cog has said last
+abbrev pub IsSaid : CogState → Next → Turn → Type 0
+IsSaid Stopped next turn = ⊥
+IsSaid (Starting since origin) next turn = Unit {0}
+IsSaid (Running origin) next turn = (earliest : ℕ) × (next ≡ At earliest turn.access)
+
 -- what the try answers, and what it means
 abbrev pub Answers : World → Record → ℕ → Turned → Type 0
 Answers w s n (Done turn) =
     Extends asks w (turns s) turn × (turn.key.cog ≡ n) × IsLeastFront w s turn.key
+    × IsSaid (cog_state w (turns s) n) (said n s) turn
 Answers w s n (Ahead bound) =
     (length (turns s) < w.turns) × IsLeastFront w s (record { clock = bound; cog = n })
     × ((origin : Origin) × (cog_state w (turns s) n ≡ Running origin)) × (said n s ≡ More bound)
@@ -80,15 +89,22 @@ pub record Got (w : World) (n : ℕ) (before after : PassSteps) (answer : Turned
   pub speaks : Speaks w n next r s
   pub truthful : IsTruthful w s
   pub answers : Answers w s n answer
-  -- the pass has seen all of that, and the turn that was made
+  -- the try took the desk; the pass has seen all of that, and the turn that was made
+  pub won : after.won ≡ suc before.won
   pub seen : after.seen ≡ seen_by answer s
   pub mine : after.own ≡ mine n after.seen
   pub found : after.found ≡ before.found
 
--- Held tells whose pass had the desk: nothing else changes; every other answer comes with a record
+-- Held tells whose pass had the desk: nothing else changes; every other answer took it, and comes with a record
 abbrev pub Tried : World → ℕ → PassSteps → PassSteps → Turned → Type 0
 Tried w n before after (Held by) = (after ≡ record before { found = by ∷ before.found }) × (by ≡ n → ⊥) × (by < 8)
 Tried w n before after (Done turn) = Got w n before after (Done turn)
 Tried w n before after (After other bound) = Got w n before after (After other bound)
 Tried w n before after (Ahead bound) = Got w n before after (Ahead bound)
 Tried w n before after Over = Got w n before after Over
+
+-- a pass after tries that made no turn: its own steps and the record that it has seen have gone on, with no turn of its own
+pub record Waited (before after : PassSteps) : Type 0 where
+  pub own : Begins before.own after.own
+  pub seen : Begins before.seen after.seen
+  pub turns_kept : turns after.own ≡ turns before.own

@@ -20,7 +20,7 @@ use Rattle.p8_desk.specs.Runners.{Rides, HasFound}
 use Rattle.p8_desk.specs.Tries.{Speaks, Answers, seen_by, Got, Tried}
 
 abbrev pub steps_of : Known → PassSteps
-steps_of p = record { own = p.own; seen = p.seen; found = p.found }
+steps_of p = record { own = p.own; seen = p.seen; won = p.won; found = p.found }
 
 -- one pass of a view has changed
 pub record Moved (n : ℕ) (q : Known) (v after : View) : Type 0 where

@@ -3,7 +3,7 @@ ghost use Rattle.std.specs.Prelude.{◌≡◌, ◌<◌, ◌||◌, ℕ, true, IfS
 ghost use Rattle.p8_desk.specs.declared.turned.Turned.TheVariants.{Done, After, Over};
 ghost use Rattle.p8_desk.specs.Passes.{Owns, PassSteps};
 ghost use Rattle.p8_desk.specs.Seats.{is_over};
-ghost use Rattle.p8_desk.specs.Tries.{Tried};
+ghost use Rattle.p8_desk.specs.Tries.{Tried, Waited};
 
 use crate::bells::{TURN_SLEEP, ring, ring_all, wait_at_bell, wait_for_lock};
 use crate::pass::CogPass;
@@ -69,25 +69,30 @@ impl Desk {
         }
     }
 
-    /// Waits after an answer for as long as another try would be in vain, as far as is known: until the lock word may be
-    /// free, or where the pass's life has nothing to do until the cog's bell is rung. It wakes by itself after a millisecond.
-    fn wait<R: Wait>(&self, rt: &R, pass: &mut CogPass, answer: Turned)
+    /// Waits for a while in which the pass of the cog `by` may give the desk up.
+    fn wait_for_desk<R: Wait>(&self, rt: &R, pass: &mut CogPass, by: u8)
         requires { Owns self.now pass.old }
         ensures { pass.new ≡ pass.old }
     {
-        let board = &self.table.shared;
-        let cog = pass.rider.cog;
-        match answer {
-            Turned::Held { by } => wait_for_lock(rt, board, &mut pass.seat, cog, by),
-            Turned::After { .. } => {
-                if !pass.rider.runner.can_run_on() {
-                    wait_at_bell(rt, board, &mut pass.seat, cog, TURN_SLEEP);
-                }
-            }
-            Turned::Ahead { .. } => {}
-            Turned::Done(_) => {}
-            Turned::Over => {}
+        wait_for_lock(rt, &self.table.shared, &mut pass.seat, pass.rider.cog, by);
+    }
+
+    /// Waits while another cog comes next, where the life of the pass's cog has nothing to do meanwhile: until the cog's
+    /// bell is rung, or a millisecond is over.
+    fn wait_for_turn<R: Wait>(&self, rt: &R, pass: &mut CogPass)
+        requires { Owns self.now pass.old }
+        ensures { pass.new ≡ pass.old }
+    {
+        if pass.rider.runner.can_run_on() {
+            return;
         }
+        wait_at_bell(
+            rt,
+            &self.table.shared,
+            &mut pass.seat,
+            pass.rider.cog,
+            TURN_SLEEP,
+        );
     }
 }
 
@@ -98,15 +103,17 @@ impl Desk {
         requires { Owns self.now pass.old }
         ensures owns { Owns self.now pass.new }
         ensures cog { pass.new.cog ≡ pass.old.cog }
-        ensures done { IfSome result (λ turn. (before : PassSteps) × Tried self.now.world pass.old.cog before pass.new.steps (Done turn)) }
-        ensures none { IfNone result ((before : PassSteps) × Tried self.now.world pass.old.cog before pass.new.steps Over) }
+        ensures done { IfSome result (λ turn. (before : PassSteps) × Waited pass.old.steps before × Tried self.now.world pass.old.cog before pass.new.steps (Done turn)) }
+        ensures none { IfNone result ((before : PassSteps) × Waited pass.old.steps before × Tried self.now.world pass.old.cog before pass.new.steps Over) }
         ensures over { IfNone result (pass.new.over ≡ true) }
     {
         for _ in rt.forever() {
             match self.try_turn(pass) {
                 Turned::Done(turn) => return Some(turn),
                 Turned::Over => return None,
-                answer => self.wait(rt, pass, answer),
+                Turned::Held { by } => self.wait_for_desk(rt, pass, by),
+                Turned::After { .. } => self.wait_for_turn(rt, pass),
+                Turned::Ahead { .. } => {}
             }
         }
         unreachable!()

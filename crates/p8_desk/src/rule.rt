@@ -5,12 +5,13 @@ use std::alloc::Global;
 use std::collections::LinkedList;
 use std::marker::PhantomData;
 
-/// What is known of one cog's pass: its own steps, the record that it has seen, and the cogs whose passes
-/// its lost exchanges found. Lists have the newest first. No value of it is made.
+/// What is known of one cog's pass: its own steps, the record that it has seen, how many of its exchanges won the lock
+/// word, and the cogs whose passes its lost exchanges found. Lists have the newest first. No value of it is made.
 pub struct Known {
     pub cog: u8,
     pub own: LinkedList<Step>,
     pub seen: LinkedList<Step>,
+    pub won: u64,
     pub found: LinkedList<u8>,
 }
 
