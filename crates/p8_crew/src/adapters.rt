@@ -1,5 +1,6 @@
 // Starters.
-ghost use Rattle.std.specs.Prelude.{◌≡◌, ◌-◌, ◌^◌};
+ghost use Rattle.std.specs.Prelude.{◌≡◌, ◌≢◌, ◌⊎◌, ◌-◌, ◌^◌, Some, OnSome, IfSome, IfNone};
+ghost use Rattle.p8_crew.specs.Starts.{starts_before, after_start};
 ghost use Rattle.std.specs.Arc.{arc_value};
 ghost use Rattle.p8_crew.specs.Jobs.{ComesBack};
 ghost use Rattle.p8_desk.specs.Passes.{Owns};
@@ -38,6 +39,8 @@ impl Starter for ThreadStarter {
 
     ghost refused = { λ starter. starter.refused };
 
+    ghost may_refuse = { λ starter. ⊥ };
+
     fn worker(&mut self, _cog: u8) -> Option<PlainWorker> {
         Some(PlainWorker)
     }
@@ -50,14 +53,17 @@ impl Starter for ThreadStarter {
 /// A starter that refuses one start of another starter's, and passes on all others.
 #[derive(Drop)]
 pub struct FailStarter<F> {
-    inner: F,
-    /// How many starts there are before the one to be refused; none where that was refused already.
-    before: Option<u64>,
+    pub inner: F,
+    /// How many starts there are before the one to be refused; none where that was refused already, or never comes.
+    pub before: Option<u64>,
 }
 
 impl<F: Starter> FailStarter<F> {
     /// Refuses the start with the number `call`, counted from 1. It takes no memory.
-    pub fn new(inner: F, call: u64) -> FailStarter<F> {
+    pub fn new(inner: F, call: u64) -> FailStarter<F>
+        ensures inner { result.inner ≡ inner }
+        ensures before { result.before ≡ starts_before call }
+    {
         FailStarter {
             inner,
             before: call.checked_sub(1),
@@ -68,19 +74,32 @@ impl<F: Starter> FailStarter<F> {
 impl<F: Starter> Starter for FailStarter<F> {
     type Worker = F::Worker;
 
+    ghost use Rattle.std.specs.Prelude.{◌≡◌, ◌⊎◌, Some};
+
     ghost refused = { λ starter. F.refused starter.inner };
 
-    fn worker(&mut self, cog: u8) -> Option<F::Worker> {
-        if self.before == Some(0) {
-            self.before = None;
-            self.inner.refuse();
-            return None;
+    ghost may_refuse = { λ starter. (starter.before ≡ Some 0) ⊎ F.may_refuse starter.inner };
+
+    /// None where the start is the one to be refused, and else what the other starter gives.
+    fn worker(&mut self, cog: u8) -> Option<F::Worker>
+        ensures given { OnSome result (F.refused self.new.inner ≡ F.refused self.old.inner) }
+        ensures none { IfNone result (Rose (F.refused self.old.inner) (F.refused self.new.inner)) }
+        ensures may { IfNone result ((self.old.before ≡ Some 0) ⊎ F.may_refuse self.old.inner) }
+        ensures refuses { IfSome result (λ worker. self.old.before ≢ Some 0) }
+        ensures before { self.new.before ≡ after_start self.old.before }
+    {
+        match self.before {
+            Some(0) => {
+                self.before = None;
+                self.inner.refuse();
+                None
+            }
+            Some(before) => {
+                self.before = Some(before - 1);
+                self.inner.worker(cog)
+            }
+            None => self.inner.worker(cog),
         }
-        self.before = match self.before {
-            Some(before) => before.checked_sub(1),
-            None => None,
-        };
-        self.inner.worker(cog)
     }
 
     fn refuse(&mut self) {

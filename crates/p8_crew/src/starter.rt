@@ -28,10 +28,14 @@ pub trait Starter {
 
     ghost refused: { Self → ℕ };
 
+    // Whether the next start may be refused for want of a worker.
+    ghost may_refuse: { Self → Type 0 };
+
     /// The worker for the job of a cog; none where its start is refused, and then the count rose.
     fn worker(&mut self, cog: u8) -> Option<Self::Worker>
         ensures given { OnSome result (refused self.new ≡ refused self.old) }
-        ensures none { IfNone result (Rose (refused self.old) (refused self.new)) };
+        ensures none { IfNone result (Rose (refused self.old) (refused self.new)) }
+        ensures may { IfNone result (may_refuse self.old) };
 
     /// Counts a start for which no thread could be made.
     fn refuse(&mut self)

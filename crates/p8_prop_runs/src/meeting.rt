@@ -154,6 +154,9 @@ impl Starter for MeetingStarter {
 
     ghost refused = { λ starter. starter.refused };
 
+    // The count of those that share the flags may have come to its end.
+    ghost may_refuse = { λ starter. Unit {0} };
+
     fn worker(&mut self, _cog: u8) -> Option<Meeter> {
         match Arc::try_clone(&self.flags) {
             Ok(flags) => Some(Meeter { flags }),

@@ -67,6 +67,9 @@ impl Starter for WatchingStarter {
 
     ghost refused = { λ starter. starter.refused };
 
+    // The count of those that share what is seen may have come to its end.
+    ghost may_refuse = { λ starter. Unit {0} };
+
     fn worker(&mut self, _cog: u8) -> Option<Watcher> {
         match Arc::try_clone(&self.seen) {
             Ok(seen) => Some(Watcher { seen }),
