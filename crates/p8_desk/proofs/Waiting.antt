@@ -3,8 +3,8 @@ use Rattle.std.proofs.Common.{◌≡◌, ◌⊎◌, inl, inr, ◌∙◌, ap, sym
 use Rattle.p8_access.specs.declared.order.Turn.{Turn}
 use Rattle.p8_access.specs.declared.lives.Next.{Next}
 use Rattle.p8_history.specs.Worlds.{World}
-use Rattle.p8_record.specs.declared.steps.Step.TheVariants.{Said}
-use Rattle.p8_record.specs.Records.{Record, turns, mine, Begins}
+use Rattle.p8_ledger.specs.declared.steps.Step.TheVariants.{Said}
+use Rattle.p8_ledger.specs.Records.{Record, turns, mine, Begins}
 use Rattle.p8_desk.specs.declared.turned.Turned.{Turned}
 use Rattle.p8_desk.specs.declared.turned.Turned.TheVariants.{Held, After, Ahead}
 use Rattle.p8_desk.specs.Passes.{PassSteps}
