@@ -1,20 +1,26 @@
 -- Bytecodes that ask nothing, read from their first two bytes.
-use Rattle.std.proofs.Common.{◌≡◌, refl, sym, ap, ◌∙◌, arith, ℕ, ◌+◌, ◌-◌, ◌^◌, ◌≤◌, ◌<◌, Bool, true, false, ◌&&◌, if◌then◌else◌, nat_lt, nat_le, List, [], ◌∷◌, drop, length, slice_index, Option, Some, None, option_map, Result, MatchOption, subst}
+use Rattle.std.proofs.Common.{◌≡◌, not, refl, sym, ap, ◌∙◌, arith, ℕ, ◌+◌, ◌-◌, ◌^◌, ◌≤◌, ◌<◌, Bool, true, false, ◌&&◌, if◌then◌else◌, nat_lt, nat_le, List, [], ◌∷◌, drop, length, slice_index, Option, Some, None, option_map, Result, MatchOption, subst, ◌%◌, ◌==◌}
 use Rattle.std.proofs.lemmas.List.{drop_more}
 use Rattle.p8_access.specs.declared.kinds.Reason.{Reason}
 use Rattle.std.proofs.lemmas.Bool.Decides.{nat_tests}
 use Rattle.p8_courses.specs.Courses.{Course, Finish}
 use Rattle.p8_bytecode.specs.declared.op.Op.{Op}
 use Rattle.p8_bytecode.specs.declared.operands.Operands.{Operands}
-use Rattle.p8_bytecode.specs.declared.operands.Operands.TheVariants.{Nothing, Offset}
-use Rattle.p8_bytecode.specs.Table.{rows, in_rows, is_within, operands_of}
-use Rattle.p8_bytecode.specs.Reading.{bare, sign_extended, offset_in, jump_in, coded}
+use Rattle.p8_bytecode.specs.declared.operands.Operands.TheVariants.{Nothing, Offset, ShortVariable}
+use Rattle.p8_bytecode.specs.Table.{rows, in_rows, is_within, operands_of, is_effect, is_step}
+use Rattle.p8_bytecode.specs.Reading.{bare, sign_extended, offset_in, jump_in, coded, changes_variable}
 use Rattle.p8_bcog.specs.declared.state.State.{State}
 use Rattle.p8_bcog.specs.Operands.{tested, pushed}
+use Rattle.p8_access.specs.declared.kinds.Width.TheVariants.{Long}
+use Rattle.p8_operators.specs.Operators.{is_unary}
+use Rattle.p8_bcog.specs.declared.place.Place.{Place}
+use Rattle.p8_bcog.specs.declared.place.Place.TheVariants.{Memory}
+use Rattle.p8_bcog.specs.Changes.{pushes, pops, changes_alone, is_binary_effect, changes}
+use Rattle.p8_bcog.specs.Variables.{acts, short_address, short_variable}
 use Rattle.p8_bcog.specs.Control.{jump, loop_begins, loop_ends, jump_if_zero, jump_unless_zero}
 use Rattle.p8_bcog.specs.Bytecodes.{row, call_row, test_row, return_row, constant_row, operator_row, packed, does_found, clocks_of, is_slow, bytecode, clocks}
 use Rattle.p8_bcog.specs.Code.{code_of, fetched}
-use Rattle.p8_bcog.specs.Quick.{finishes, passed, found_at, IsQuick, is_fast_operator}
+use Rattle.p8_bcog.specs.Quick.{finishes, passed, found_at, IsQuick, is_fast_operator, names_long, counts}
 
 -- ---- tests
 
@@ -163,11 +169,112 @@ quick-operator k operand rest s at course fast most goes comes = found-quick (k 
     (fast-not-slow k fast)
     (λ memory cog. operator-row k memory cog (passed 1 s) (fast-least k fast) ∙ ap (operator_row (bare k)) (sym goes) ∙ sym comes)
 
+-- ---- long variables that their bytecodes name
+
+variable-alone : (k : ℕ) → 0x40 ≤ k → k < 0x80 → operands_of k ≡ Some ShortVariable
+unfolding rows from-row
+variable-alone k least most = skips 0x40 k rows least ∙ if-yes (is_within 0x40 0x7F k) _ _ (inside 0x40 0x7F k least (omega (arith, most)))
+
+variable-row : (op : Op) (memory : List ℕ) (cog : ℕ) (s : State) → 0x40 ≤ op.code → op.code < 0x80 → row memory cog op s ≡ short_variable op s
+unfolding row
+variable-row op memory cog s least most =
+    if-no (nat_lt op.code 0x08) _ _ (not-less op.code 0x08 (omega (arith, least)))
+    ∙ if-no (nat_lt op.code 0x10) _ _ (not-less op.code 0x10 (omega (arith, least)))
+    ∙ if-no (nat_lt op.code 0x16) _ _ (not-less op.code 0x16 (omega (arith, least)))
+    ∙ if-no (nat_lt op.code 0x20) _ _ (not-less op.code 0x20 (omega (arith, least)))
+    ∙ if-no (nat_lt op.code 0x30) _ _ (not-less op.code 0x30 (omega (arith, least)))
+    ∙ if-no (nat_lt op.code 0x40) _ _ (not-less op.code 0x40 least)
+    ∙ if-yes (nat_lt op.code 0x80) _ _ (less op.code 0x80 most)
+
+long-range : (k : ℕ) → names_long k ≡ true → (0x40 ≤ k) × (k < 0x80)
+long-range k is = (least k is, most k is)
+  where
+    least : (k : ℕ) → names_long k ≡ true → 0x40 ≤ k
+    least k is = grind (arith, nat_tests)
+
+    most : (k : ℕ) → names_long k ≡ true → k < 0x80
+    most k is = grind (arith, nat_tests)
+
+variable-quick : (k operand effect size : ℕ) (rest : List ℕ) (s : State) (course : Course State) → names_long k ≡ true → coded (Some ShortVariable) k (operand ∷ rest) ≡ Some (record (bare k) { effect = effect }, size) → (nat_le 0x54 (effect % 128) && nat_le (effect % 128) 0x58) ≡ false → short_variable (record (bare k) { effect = effect }) (passed (1 + size) s) ≡ course → IsQuick (k ∷ operand ∷ rest) s course
+variable-quick k operand effect size rest s course is read fast comes =
+    let r = long-range k is in
+    found-quick (k ∷ operand ∷ rest) s (record (bare k) { effect = effect }) (s.at + (1 + size)) course
+    (ap (λ (o : Option Operands). further s.at (coded o k (operand ∷ rest))) (variable-alone k r.0 r.1) ∙ ap (further s.at) read)
+    (if-yes (nat_lt k 0xE0) _ _ (less k 0xE0 (omega (arith, r.1))) ∙ fast)
+    (λ memory cog. variable-row (record (bare k) { effect = effect }) memory cog (passed (1 + size) s) r.0 r.1 ∙ comes)
+
+abbrev pub long_of : (code : ℕ) → State → Place
+long_of code s = Memory Long (short_address code s)
+
+pub quick-push : (k operand : ℕ) (rest : List ℕ) (s at : State) (course : Course State) → names_long k ≡ true → k % 4 ≡ 0 → at ≡ passed 1 s → course ≡ pushes 0 (long_of k s) at → IsQuick (k ∷ operand ∷ rest) s course
+unfolding short_variable acts
+quick-push k operand rest s at course is action goes comes =
+    variable-quick k operand 0 0 rest s course is
+    (if-no (changes_variable k) _ _ (ap (λ (a : ℕ). a == 2) action))
+    refl
+    (if-yes (k % 4 == 0) _ _ (ap (λ (a : ℕ). a == 0) action) ∙ ap (pushes 0 (long_of k s)) (sym goes) ∙ sym comes)
+
+pub quick-pop : (k operand : ℕ) (rest : List ℕ) (s at : State) (course : Course State) → names_long k ≡ true → k % 4 ≡ 1 → at ≡ passed 1 s → course ≡ pops 0 (long_of k s) at → IsQuick (k ∷ operand ∷ rest) s course
+unfolding short_variable acts
+quick-pop k operand rest s at course is action goes comes =
+    variable-quick k operand 0 0 rest s course is
+    (if-no (changes_variable k) _ _ (ap (λ (a : ℕ). a == 2) action))
+    refl
+    (if-no (k % 4 == 0) _ _ (ap (λ (a : ℕ). a == 0) action) ∙ if-yes (k % 4 == 1) _ _ (ap (λ (a : ℕ). a == 1) action) ∙ ap (pops 0 (long_of k s)) (sym goes) ∙ sym comes)
+
+counting : (e : ℕ) → counts e ≡ true → (0x20 ≤ e % 128) × (e % 128 < 0x40)
+counting e is = (least e is, most e is)
+  where
+    least : (e : ℕ) → counts e ≡ true → 0x20 ≤ e % 128
+    least e is = grind (arith, nat_tests)
+
+    most : (e : ℕ) → counts e ≡ true → e % 128 < 0x40
+    most e is = grind (arith, nat_tests)
+
+differs : (n m : ℕ) → (n ≡ m → ⊥) → (n == m) ≡ false
+differs n m not-same = grind (arith, nat_tests)
+
+no-step : (e : ℕ) → 0x20 ≤ e % 128 → is_step e ≡ false
+no-step e least = grind (arith, nat_tests)
+
+is-change : (e : ℕ) → 0x20 ≤ e % 128 → e % 128 < 0x40 → is_effect e ≡ true
+is-change e least most = grind (arith, nat_tests)
+
+changes-alone : (op : Op) (place : Place) (s : State) → 0x20 ≤ op.effect % 128 → op.effect % 128 < 0x40 → changes 0 op place s ≡ changes_alone 0 op.effect place s
+unfolding changes
+changes-alone op place s least most =
+    if-no (op.effect % 128 == 0x00) _ _ (differs (op.effect % 128) 0x00 (λ is. omega (arith, is, least)))
+    ∙ if-no (op.effect == 0x02) _ _ (differs op.effect 0x02 (λ is. omega (arith, is, least)))
+    ∙ if-no (op.effect == 0x06) _ _ (differs op.effect 0x06 (λ is. omega (arith, is, least)))
+    ∙ if-no (op.effect % 128 == 0x18) _ _ (differs (op.effect % 128) 0x18 (λ is. omega (arith, is, least)))
+    ∙ if-no (op.effect % 128 == 0x1C) _ _ (differs (op.effect % 128) 0x1C (λ is. omega (arith, is, least)))
+    ∙ if-no (is_binary_effect (op.effect % 128)) _ _ (below-binary (op.effect % 128) most)
+  where
+    below-binary : (e : ℕ) → e < 0x40 → is_binary_effect e ≡ false
+    below-binary e most = ap (λ (b : Bool). b && not (is_unary (e + 0xA0))) (no-more e most)
+      where
+        no-more : (e : ℕ) → e < 0x40 → nat_le 0x40 e ≡ false
+        no-more e most = grind (arith, nat_tests)
+
+pub quick-count : (k operand : ℕ) (rest : List ℕ) (s at : State) (course : Course State) → names_long k ≡ true → k % 4 ≡ 2 → counts operand ≡ true → at ≡ passed 2 s → course ≡ changes_alone 0 operand (long_of k s) at → IsQuick (k ∷ operand ∷ rest) s course
+unfolding short_variable acts
+quick-count k operand rest s at course is action counted goes comes =
+    let r = counting operand counted in
+    variable-quick k operand operand 1 rest s course is
+    (if-yes (changes_variable k) _ _ (ap (λ (a : ℕ). a == 2) action) ∙ if-no (is_step operand) _ _ (no-step operand r.0) ∙ if-yes (is_effect operand) _ _ (is-change operand r.0 r.1))
+    (fast operand r.1)
+    (if-no (k % 4 == 0) _ _ (ap (λ (a : ℕ). a == 0) action) ∙ if-no (k % 4 == 1) _ _ (ap (λ (a : ℕ). a == 1) action) ∙ if-yes (k % 4 == 2) _ _ (ap (λ (a : ℕ). a == 2) action)
+    ∙ changes-alone (record (bare k) { effect = operand }) (long_of k s) (passed 2 s) r.0 r.1
+    ∙ ap (changes_alone 0 operand (long_of k s)) (sym goes) ∙ sym comes)
+  where
+    fast : (e : ℕ) → e % 128 < 0x40 → (nat_le 0x54 (e % 128) && nat_le (e % 128) 0x58) ≡ false
+    fast e most = grind (arith, nat_tests)
+
 -- ---- the first two bytes in the code
 
-pub reads-two : {A : Type 0} (code : List ℕ) (s new : State) (at byte operand : ℕ) (r : Option (Result A Reason)) → at ≡ s.at → 16 ≤ at → at + 1 < length code → byte ≡ slice_index code at → operand ≡ slice_index code (at + 1) → MatchOption r (new ≡ s) (λ finished. (rest : List ℕ) → IsQuick (byte ∷ operand ∷ rest) s (finishes finished new)) → MatchOption r (new ≡ s) (λ finished. (memory : List ℕ) (cog : ℕ) → code ≡ code_of memory → (finishes finished new ≡ bytecode memory cog s) × (clocks memory s ≡ 32))
-reads-two code s new at byte operand None is least within first second same = same
-reads-two code s new at byte operand (Some finished) is least within first second quick = λ memory cog of.
+pub reads-two : {R : Type 0} (course : R → Course State) (code : List ℕ) (s new : State) (at byte operand : ℕ) (r : Option R) → at ≡ s.at → 16 ≤ at → at + 1 < length code → byte ≡ slice_index code at → operand ≡ slice_index code (at + 1) → MatchOption r (new ≡ s) (λ x. (rest : List ℕ) → IsQuick (byte ∷ operand ∷ rest) s (course x)) → MatchOption r (new ≡ s) (λ x. (memory : List ℕ) (cog : ℕ) → code ≡ code_of memory → (course x ≡ bytecode memory cog s) × (clocks memory s ≡ 32))
+reads-two course code s new at byte operand None is least within first second same = same
+reads-two course code s new at byte operand (Some x) is least within first second quick = λ memory cog of.
     let found : fetched memory s.at ≡ found_at (byte ∷ operand ∷ drop (at + 1 + 1) code) s.at =
     if-no (nat_lt s.at 16) None (found_at (drop s.at (code_of memory)) s.at) (not-less s.at 16 (omega (arith, least, is)))
     ∙ ap (λ (c : List ℕ). found_at (drop s.at c) s.at) (sym of)

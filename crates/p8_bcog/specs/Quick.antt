@@ -1,5 +1,5 @@
 -- internal: bytecodes that ask nothing, and how a bytecode is read from its first bytes. No public contract cites it.
-use Rattle.std.specs.Prelude.{ℕ, ◌+◌, ◌≡◌, Bool, not, ◌&&◌, nat_le, List, Option, Result, Ok, Err, option_map}
+use Rattle.std.specs.Prelude.{ℕ, ◌+◌, ◌%◌, ◌≡◌, Bool, not, ◌&&◌, nat_le, nat_lt, List, Option, Result, Ok, Err, option_map}
 use Rattle.p8_access.specs.declared.kinds.Reason.{Reason}
 use Rattle.p8_courses.specs.Courses.{Course, Finish, Stop}
 use Rattle.p8_bytecode.specs.declared.op.Op.{Op}
@@ -28,3 +28,11 @@ IsQuick bytes s course =
 -- the operators that take 32 clocks
 abbrev pub is_fast_operator : (code : ℕ) → Bool
 is_fast_operator code = nat_le 0xE0 code && not (nat_le 0xF4 code && nat_le code 0xF8)
+
+-- the bytecodes that name a long variable
+abbrev pub names_long : (code : ℕ) → Bool
+names_long code = nat_le 0x40 code && nat_lt code 0x80
+
+-- the effects that add 1 or subtract 1
+abbrev pub counts : (effect : ℕ) → Bool
+counts effect = nat_le 0x20 (effect % 128) && nat_lt (effect % 128) 0x40

@@ -352,6 +352,28 @@ impl State {
                 settle(stage, finished);
                 32
             }
+            None => self.asking_bytecode(memory, code, cog, stage),
+        }
+    }
+
+    /// Does a bytecode as `bytecode` does, the most frequent that ask first.
+    #[inline]
+    fn asking_bytecode(&mut self, memory: &[u8], code: &[u8], cog: u8, stage: &mut Stage) -> u64
+        requires code { code.now ≡ code_of memory.now }
+        requires room { length code.now ≤ 32768 }
+        requires cog { cog < 8 }
+        ensures clocks { result ≡ clocks memory.now self.old }
+        ensures least { 32 ≤ result }
+        ensures most { result ≤ 544 }
+        ensures does { at_stage stage.new self.new ≡ bytecode memory.now cog self.old }
+        ensures sound { IsSound stage.new self.new }
+        ensures under { is_under stage.new ≡ true }
+    {
+        match self.quick_variable(code) {
+            Some(stepped) => {
+                *stage = stage_of(stepped);
+                32
+            }
             None => self.any_bytecode(memory, code, cog, stage),
         }
     }

@@ -140,7 +140,12 @@ impl State {
 
     /// Changes a place by an effect without a right side.
     #[tactic(auto, unfolding(crate::specs::Changes::changes_alone))]
-    fn change_place_alone(&mut self, named: usize, effect: u8, place: Place) -> Result<Step, Reason>
+    pub fn change_place_alone(
+        &mut self,
+        named: usize,
+        effect: u8,
+        place: Place,
+    ) -> Result<Step, Reason>
         requires named { named ≤ 2 }
         requires place { IsPlace place }
         requires effect { effect % 128 < 0x60 }

@@ -1,13 +1,17 @@
 // Bytecodes that ask nothing, done straight on their bytes.
-ghost use Rattle.std.specs.Prelude.{ℕ, ◌≡◌, ◌<◌, ◌≤◌, ◌+◌, ◌^◌, ◌∷◌, List, length, slice_index, MatchOption};
+ghost use Rattle.std.specs.Prelude.{ℕ, ◌≡◌, ◌<◌, ◌≤◌, ◌+◌, ◌^◌, ◌∷◌, List, length, slice_index, IfSome, MatchOption};
 ghost use Rattle.p8_bytecode.specs.Reading.{sign_extended};
 ghost use Rattle.p8_bcog.specs.Code.{code_of};
 ghost use Rattle.p8_bcog.specs.Bytecodes.{bytecode, clocks};
-ghost use Rattle.p8_bcog.specs.Quick.{finishes, passed, IsQuick, is_fast_operator};
+ghost use Rattle.p8_bcog.specs.Quick.{finishes, passed, IsQuick, is_fast_operator, names_long, counts};
+ghost use Rattle.p8_bcog.specs.Laters.{comes};
+ghost use Rattle.p8_bcog.specs.Ready.{IsGood};
 
 use crate::bytecodes::packed;
+use crate::place::Place;
 use crate::state::State;
-use p8_access::Reason;
+use crate::step::Step;
+use p8_access::{Reason, Width};
 
 /// The offset of a jump of one byte, a word in two's complement.
 #[inline]
@@ -28,6 +32,22 @@ fn is_fast_operator(code: u8) -> bool
     ensures { result ≡ is_fast_operator code }
 {
     code >= 0xE0 && !(code >= 0xF4 && code <= 0xF8)
+}
+
+/// Whether a bytecode names a long variable.
+#[inline]
+fn names_long(code: u8) -> bool
+    ensures { result ≡ names_long code }
+{
+    code >= 0x40 && code < 0x80
+}
+
+/// Whether an effect adds 1 or subtracts 1.
+#[inline]
+fn counts(effect: u8) -> bool
+    ensures { result ≡ counts effect }
+{
+    effect % 128 >= 0x20 && effect % 128 < 0x40
 }
 
 /// A byte of the code.
@@ -105,6 +125,38 @@ impl State {
         }
     }
 
+    /// Does the bytecode that these two bytes begin, if it pushes or pops a long variable that it names, or adds 1 to it or
+    /// subtracts 1.
+    #[inline]
+    fn quick_variable_on(&mut self, byte: u8, operand: u8) -> Option<Result<Step, Reason>>
+        requires { self.old.at + 2 < 2 ^ 16 }
+        ensures does { MatchOption result (self.new ≡ self.old) (λ stepped. (rest : List ℕ) → IsQuick (byte ∷ operand ∷ rest) self.old (comes stepped self.new)) }
+        ensures good { IfSome result (λ stepped. IsGood stepped self.new) }
+    {
+        if !names_long(byte) {
+            return None;
+        }
+        let place = Place::Memory {
+            width: Width::Long,
+            address: self.short_address(byte),
+        };
+        match byte % 4 {
+            0 => {
+                self.pass(1);
+                Some(self.push_place(0, place))
+            }
+            1 => {
+                self.pass(1);
+                Some(self.pop_place(0, place))
+            }
+            2 if counts(operand) => {
+                self.pass(2);
+                Some(self.change_place_alone(0, operand, place))
+            }
+            _ => None,
+        }
+    }
+
     /// Does the bytecode that stands where the cog is, if it is one of the most frequent that ask nothing and take 32 clocks.
     #[inline]
     pub fn quick(&mut self, code: &[u8]) -> Option<Result<(), Reason>>
@@ -119,5 +171,23 @@ impl State {
             return None;
         }
         self.quick_on(byte_of(code, at), byte_of(code, at + 1))
+    }
+
+    /// Does the bytecode that stands where the cog is, if it pushes or pops a long variable that it names, or adds 1 to it or
+    /// subtracts 1.
+    #[inline]
+    pub fn quick_variable(&mut self, code: &[u8]) -> Option<Result<Step, Reason>>
+        requires room { length code.now ≤ 32768 }
+        ensures does { MatchOption result (self.new ≡ self.old) (λ stepped. (memory : List ℕ) (cog : ℕ) → code.now ≡ code_of memory → (comes stepped self.new ≡ bytecode memory cog self.old) × (clocks memory self.old ≡ 32)) }
+        ensures good { IfSome result (λ stepped. IsGood stepped self.new) }
+    {
+        let at = usize::from(self.at);
+        if at < 16 {
+            return None;
+        }
+        if at + 1 >= code.len() {
+            return None;
+        }
+        self.quick_variable_on(byte_of(code, at), byte_of(code, at + 1))
     }
 }

@@ -83,7 +83,7 @@ impl State {
     }
 
     /// The address of a long variable by its bytecode.
-    fn short_address(&self, code: u8) -> u16
+    pub fn short_address(&self, code: u8) -> u16
         ensures { result ≡ short_address code self.now }
     {
         let base = if code / 32 % 2 == 0 {
