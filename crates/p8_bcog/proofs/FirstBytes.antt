@@ -1,7 +1,6 @@
 -- Bytecodes that ask nothing, read from their first two bytes.
-use Rattle.std.proofs.Common.{◌≡◌, not, refl, sym, ap, ◌∙◌, arith, ℕ, ◌+◌, ◌-◌, ◌^◌, ◌≤◌, ◌<◌, Bool, true, false, ◌&&◌, if◌then◌else◌, nat_lt, nat_le, List, [], ◌∷◌, drop, length, slice_index, Option, Some, None, option_map, Result, MatchOption, subst, ◌%◌, ◌==◌}
+use Rattle.std.proofs.Common.{◌≡◌, not, refl, sym, ap, ◌∙◌, arith, ℕ, ◌+◌, ◌-◌, ◌^◌, ◌≤◌, ◌<◌, Bool, true, false, ◌&&◌, if◌then◌else◌, nat_lt, nat_le, List, [], ◌∷◌, drop, length, slice_index, Option, Some, None, option_map, MatchOption, subst, ◌%◌, ◌==◌}
 use Rattle.std.proofs.lemmas.List.{drop_more}
-use Rattle.p8_access.specs.declared.kinds.Reason.{Reason}
 use Rattle.std.proofs.lemmas.Bool.Decides.{nat_tests}
 use Rattle.p8_courses.specs.Courses.{Course, Finish}
 use Rattle.p8_bytecode.specs.declared.op.Op.{Op}
@@ -20,7 +19,7 @@ use Rattle.p8_bcog.specs.Variables.{acts, short_address, short_variable}
 use Rattle.p8_bcog.specs.Control.{jump, loop_begins, loop_ends, jump_if_zero, jump_unless_zero}
 use Rattle.p8_bcog.specs.Bytecodes.{row, call_row, test_row, return_row, constant_row, operator_row, packed, does_found, clocks_of, is_slow, bytecode, clocks}
 use Rattle.p8_bcog.specs.Code.{code_of, fetched}
-use Rattle.p8_bcog.specs.Quick.{finishes, passed, found_at, IsQuick, is_fast_operator, names_long, counts}
+use Rattle.p8_bcog.specs.Quick.{passed, found_at, IsQuick, is_fast_operator, names_long, counts}
 
 -- ---- tests
 
