@@ -1,4 +1,4 @@
--- Bytecodes that ask nothing, read from their first two bytes.
+-- The most frequent bytecodes, read from their first two bytes.
 use Rattle.std.proofs.Common.{◌≡◌, not, refl, sym, ap, ◌∙◌, arith, ℕ, ◌+◌, ◌-◌, ◌^◌, ◌≤◌, ◌<◌, Bool, true, false, ◌&&◌, if◌then◌else◌, nat_lt, nat_le, List, [], ◌∷◌, drop, length, slice_index, Option, Some, None, option_map, MatchOption, subst, ◌%◌, ◌==◌}
 use Rattle.std.proofs.lemmas.List.{drop_more}
 use Rattle.std.proofs.lemmas.Bool.Decides.{nat_tests}

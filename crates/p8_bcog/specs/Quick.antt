@@ -1,4 +1,4 @@
--- internal: bytecodes that ask nothing, and how a bytecode is read from its first bytes. No public contract cites it.
+-- internal: the most frequent bytecodes, read from their first bytes. No public contract cites it.
 use Rattle.std.specs.Prelude.{ℕ, ◌+◌, ◌%◌, ◌≡◌, Bool, not, ◌&&◌, nat_le, nat_lt, List, Option, Result, Ok, Err, option_map}
 use Rattle.p8_access.specs.declared.kinds.Reason.{Reason}
 use Rattle.p8_courses.specs.Courses.{Course, Finish, Stop}

@@ -1,4 +1,4 @@
-// Bytecodes that ask nothing, done straight on their bytes.
+// The most frequent bytecodes, done straight on their bytes.
 ghost use Rattle.std.specs.Prelude.{ℕ, ◌≡◌, ◌<◌, ◌≤◌, ◌+◌, ◌^◌, ◌∷◌, List, length, slice_index, IfSome, MatchOption};
 ghost use Rattle.p8_bytecode.specs.Reading.{sign_extended};
 ghost use Rattle.p8_bcog.specs.Code.{code_of};
