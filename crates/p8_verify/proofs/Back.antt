@@ -201,3 +201,10 @@ split-record bytes turn within e = record {
 pub one-record : (bytes : List ℕ) (t u : Turn) (x y : List ℕ) → IsRecord bytes t x → IsRecord bytes u y → (t ≡ u) × (x ≡ y)
 one-record bytes t u x y p q =
     (sym (made-again bytes t x p) ∙ made-again bytes u y q, ap (drop 24) (sym p.bytes_are ∙ q.bytes_are))
+
+-- what a record is followed by stands 24 bytes on
+pub rest-is : (bytes : List ℕ) (turn : Turn) (rest : List ℕ) → IsRecord bytes turn rest → IsRecord bytes (turn_by bytes) (drop 24 bytes)
+rest-is bytes turn rest is =
+    let same : turn_by bytes ≡ turn = made-again bytes turn rest is in
+    let behind : drop 24 bytes ≡ rest = ap (drop 24) is.bytes_are in
+    subst (λ (t : Turn). IsRecord bytes t (drop 24 bytes)) (sym same) (subst (λ (xs : List ℕ). IsRecord bytes turn xs) (sym behind) is)

@@ -125,10 +125,10 @@ taken count index bytes rest turns turn h are is =
     let by = taken-by (count - (index + 1)) (count - index) bytes turns turn rest (less-one count index h) are is in
     record { others = by.0; turns_are = by.1; are = by.2 }
 
--- records that are whole have a first turn, unless none is to come
-pub some-record : (count index : ℕ) (bytes : List ℕ) (turns : List Turn) → index < count → AreRecords (count - index) bytes turns → NoRecord bytes → ⊥
-some-record count index bytes [] h are none = let e = are.count_is in omega arith
-some-record count index bytes (t ∷ ts) h are none = none t (records ts) (first-record (count - index) bytes t ts are)
+-- records that are whole begin with one, where one is to come
+pub some-record : (count index : ℕ) (bytes : List ℕ) (turns : List Turn) → index < count → AreRecords (count - index) bytes turns → (turn : Turn) × (rest : List ℕ) × IsRecord bytes turn rest
+some-record count index bytes [] h are = absurd (let e = are.count_is in omega arith)
+some-record count index bytes (t ∷ ts) h are = (t, records ts, first-record (count - index) bytes t ts are)
 
 pub none-left : (count index : ℕ) (bytes : List ℕ) (turns : List Turn) → index ≡ count → AreRecords (count - index) bytes turns → turns ≡ []
 none-left count index bytes [] e are = refl

@@ -8,7 +8,7 @@ use Rattle.p8_verify.specs.declared.verdicts.Cause.{Cause}
 use Rattle.p8_verify.specs.declared.verdicts.Cause.TheVariants.{More}
 use Rattle.p8_verify.specs.declared.verdicts.Verdict.{Verdict}
 use Rattle.p8_verify.specs.declared.verdicts.Verdict.TheVariants.{Good, Bad}
-use Rattle.p8_verify.specs.Table.{IsRecord, NoRecord}
+use Rattle.p8_verify.specs.Table.{IsRecord}
 use Rattle.p8_verify.specs.Files.{AreRecords}
 use Rattle.p8_verify.specs.Verdicts.{IsWrong, Judged}
 use Rattle.p8_verify.proofs.Forms.{taken, none-left, some-record}
@@ -54,9 +54,9 @@ module _ (w : World) (past : List Turn) (count index : ℕ) (bytes : List ℕ) (
       let here : Judged w past (turn ∷ t.others) (Bad (index + 1) cause) = inl (ap (λ (n : ℕ). n + 1) (sym done), wrong) in
       l.judged (Bad (index + 1) cause) (subst (λ (ts : List Turn). Judged w past ts (Bad (index + 1) cause)) (sym t.turns_are) here)
 
-  -- there is a turn, where one is to come
-  pub has_turn : index < count → Left w past count index bytes turns → NoRecord bytes → ⊥
-  has_turn h l none = some-record count index bytes l.left h l.are none
+  -- there is a record, where one is to come
+  pub has_record : index < count → Left w past count index bytes turns → (turn : Turn) × (rest : List ℕ) × IsRecord bytes turn rest
+  has_record h l = some-record count index bytes l.left h l.are
 
   -- all turns are done, and none comes next
   pub ended : index ≡ count → Left w past count index bytes turns → length past ≡ index → IsOver asks w past → Judged w [] turns (Good count)

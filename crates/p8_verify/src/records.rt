@@ -1,6 +1,7 @@
 // Records of turns: their bytes, and the turn of a record.
-ghost use Rattle.std.specs.Prelude.{◌≡◌, ◌<◌, ◌^◌, IsTrue, ◌↔◌, MatchOption, IfSome, drop, length, ◌≤◌};
+ghost use Rattle.std.specs.Prelude.{◌≡◌, ◌<◌, ◌^◌, ℕ, List, IsTrue, ◌↔◌, MatchOption, IfSome, drop, length, ◌≤◌};
 ghost use Rattle.byteorder.specs.Endian.{little_bytes};
+ghost use Rattle.p8_access.specs.declared.order.Turn.{Turn};
 ghost use Rattle.p8_access.specs.Proper.{IsNumber};
 ghost use Rattle.p8_verify.specs.Table.{turn_bytes, IsAccessWithin, IsReasonWithin, IsAnswerWithin, IsWithin, IsRecord, NoRecord};
 
@@ -134,6 +135,15 @@ pub fn read_turn(bytes: &[u8]) -> Option<Turn>
     } else {
         None
     }
+}
+
+/// The turn of the record with which these bytes begin. That they begin with one is known, and isn't looked at again.
+pub fn turn_of_record(bytes: &[u8]) -> Turn
+    requires { (turn : Turn) × (rest : List ℕ) × IsRecord bytes.now turn rest }
+    ensures turn { IsRecord bytes.now result (drop 24 bytes.now) }
+    ensures length { 24 ≤ length bytes.now }
+{
+    turn_by(bytes)
 }
 
 /// What follows the record with which these bytes begin.

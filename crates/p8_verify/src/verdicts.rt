@@ -10,7 +10,7 @@ ghost use Rattle.p8_verify.specs.Files.{AreRecords, BreaksAt};
 ghost use Rattle.p8_verify.specs.Verdicts.{Differs, IsWrong, Judged, IsVerdict};
 
 use crate::head::{HEAD, Head};
-use crate::records::{after_record, read_turn};
+use crate::records::{after_record, read_turn, turn_of_record};
 use p8_access::{Boot, Turn};
 use p8_machine::Machine;
 use p8_pins::PinScript;
@@ -114,12 +114,10 @@ fn walk(machine: &mut Machine, count: u32, records: &[u8]) -> Verdict
 {
     let mut rest = records;
     for index in 0..count {
-        match read_turn(rest) {
-            None => unreachable!(),
-            Some(turn) => match follow(machine, &turn) {
-                Some(cause) => return Verdict::bad_after(index, cause),
-                None => rest = after_record(rest),
-            },
+        let turn = turn_of_record(rest);
+        match follow(machine, &turn) {
+            Some(cause) => return Verdict::bad_after(index, cause),
+            None => rest = after_record(rest),
         }
     }
     match machine.step() {
