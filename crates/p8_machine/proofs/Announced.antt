@@ -1,9 +1,10 @@
 -- What is said is what the lives have announced.
 use Rattle.std.proofs.Common.{◌≡◌, ◌∙◌, ap, sym, subst, refl, ℕ, ◌+◌, ◌<◌, Bool, true, List, Option, Some, None, slice_get, slice_set, length, inl, inr, arith}
+use Rattle.std.proofs.lemmas.Option.{slice_get_within}
 use Rattle.p8_access.specs.declared.kinds.Access.{Access}
 use Rattle.p8_access.specs.declared.kinds.Origin.{Origin}
 use Rattle.p8_access.specs.declared.lives.Next.{Next}
-use Rattle.p8_access.specs.declared.lives.Next.TheVariants.{More}
+use Rattle.p8_access.specs.declared.lives.Next.TheVariants.{At, Quiet, More}
 use Rattle.p8_access.specs.declared.order.Turn.{Turn}
 use Rattle.p8_access.specs.Lives.{announced_by, IsAnnounced}
 use Rattle.p8_history.specs.declared.states.CogState.{CogState}
@@ -74,3 +75,14 @@ no-promise w r ledger lives stands eight n bound origin near state is =
     let life = some-at lives n (omega arith) in
     let sits : Sits asks (has_spoken life.0 (said n r)) (said n r) w (turns r) n = subst (λ (s : CogState). SitsIn asks (has_spoken life.0 (said n r)) (said n r) w (turns r) n s) state (stands.seated n life.0 life.1) in
     subst IsSpoken is sits.stood.1
+
+-- where nothing has been said nothing is announced
+none-asked : (said : Next) → Some said ≡ Some (More 0) → (asked : ℕ × Access) → announced_by said ≡ Some asked → ⊥
+none-asked (At clock access) same asked told = absurd (cc)
+none-asked Quiet same asked told = absurd (cc)
+none-asked (More bound) same asked told = absurd (cc)
+
+pub nothing-announced : (sayings : List Next) → length sayings ≡ 8 → ((n : ℕ) → n < 8 → slice_get sayings n ≡ Some (More 0)) → (n : ℕ) (said : Next) → slice_get sayings n ≡ Some said → (asked : ℕ × Access) → announced_by said ≡ Some asked → ⊥
+nothing-announced sayings eight silent n said is asked told =
+    let within : n < 8 = subst (λ (k : ℕ). n < k) eight (slice_get_within sayings n said is) in
+    none-asked said (sym is ∙ silent n within) asked told
