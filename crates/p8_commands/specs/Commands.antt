@@ -1,0 +1,103 @@
+-- The words of the command line (this project's profile), by what the library `clap` states of the words that a
+-- command takes. Each word is a list of bytes.
+use Rattle.std.specs.Prelude.{ℕ, Bool, false, List, [], ◌∷◌, Option, Some, None, option_map, option_and_then, codes}
+use Rattle.std.specs.Str.{bytes_eq}
+use Rattle.clap.specs.Kinds.{Kinds}
+use Rattle.clap.specs.Faults.{fault_of}
+use Rattle.clap.specs.Simple.{matches_of}
+use Rattle.clap.specs.Walk.{Text, first_of}
+use Rattle.p8_commands.specs.declared.table.Subcommand.{Subcommand}
+use Rattle.p8_commands.specs.declared.table.Subcommand.TheVariants as named
+use Rattle.p8_commands.specs.Numbers.{number_of, range_of, most_clocks, most_turns, usual_turns, most_seed}
+use Rattle.p8_commands.specs.Table.{entry_of, app_for, subcommand_named}
+
+-- a run: its file, the clock before which it ends, the file of a pin script, if any, how many turns it makes at most, and the
+-- range to dump in the end
+pub record Running : Type 0 where
+  pub file : List ℕ
+  pub clocks : ℕ
+  pub script : Option (List ℕ)
+  pub turns : ℕ
+  pub dump : Option (ℕ × ℕ)
+
+-- a command: to write the image of a source or its listing, to run hub memory, or an image or a source, to run the made
+-- program of a seed, or to tell a command or all of them. A run is made by one thread alone, or by a crew of eight.
+pub data Command : Type 0 where
+  BuildSource : (file : List ℕ) → Command
+  ListSource : (file : List ℕ) → Command
+  RunMemory : (run : Running) → Command
+  RunProgram : (alone : Bool) (run : Running) → Command
+  Make : (alone : Bool) (seed : ℕ) → Command
+  Help : (topic : Option Subcommand) → Command
+
+-- the command, where one thread alone carries it out, and else none
+abbrev pub alone_of : Option Command → Option Command
+alone_of (Some (RunProgram false run)) = None
+alone_of (Some (Make false seed)) = None
+alone_of command = command
+
+-- ---- the meaning of each entry, by the value of each argument that has one
+
+-- how many turns a run makes at most, by the value of `--turns`
+abbrev pub turns_by : Option Text → Option ℕ
+turns_by None = Some usual_turns
+turns_by (Some value) = number_of most_turns value
+
+-- the range to dump, by the value of `--dump`; none where that isn't given
+abbrev pub dump_by : Option Text → Option (Option (ℕ × ℕ))
+dump_by None = Some None
+dump_by (Some value) = option_map Some (range_of value)
+
+abbrev pub run_by : Option Text → Option ℕ → (script : Option Text) → Option ℕ → Option (Option (ℕ × ℕ)) → Option Running
+run_by (Some file) (Some clocks) script (Some turns) (Some dump) =
+    Some (record { file = file; clocks = clocks; script = script; turns = turns; dump = dump })
+run_by _ _ script _ _ = None
+
+-- the arguments that every run has
+abbrev pub run_of : (Text → Option Text) → Option Running
+run_of value =
+    run_by (value (codes "FILE")) (option_and_then (number_of most_clocks) (value (codes "CLOCKS")))
+    (value (codes "pins")) (turns_by (value (codes "turns"))) (dump_by (value (codes "dump")))
+
+-- a flag with this value is given
+abbrev pub is_given : Option Text → Bool
+is_given None = false
+is_given (Some value) = bytes_eq value (codes "true")
+
+-- `--alone` is given
+abbrev pub is_alone : (Text → Option Text) → Bool
+is_alone value = is_given (value (codes "alone"))
+
+abbrev pub seed_of : (Text → Option Text) → Option ℕ
+seed_of value = option_and_then (number_of most_seed) (value (codes "SEED"))
+
+-- what help is asked for: of all commands, where none is named
+abbrev pub topic_of : Option Text → Option (Option Subcommand)
+topic_of None = Some None
+topic_of (Some word) = option_map Some (subcommand_named word)
+
+abbrev pub meaning_of : Subcommand → (Text → Option Text) → Option Command
+meaning_of named.Build value = option_map BuildSource (value (codes "FILE"))
+meaning_of named.List value = option_map ListSource (value (codes "FILE"))
+meaning_of named.Raw value = option_map RunMemory (run_of value)
+meaning_of named.Run value = option_map (RunProgram (is_alone value)) (run_of value)
+meaning_of named.Make value = option_map (Make (is_alone value)) (seed_of value)
+meaning_of named.Help value = option_map Help (topic_of (value (codes "COMMAND")))
+
+-- ---- the law of all words
+
+-- what is said where `clap` finds no fault
+abbrev pub faultless : {A : Type 0} → Kinds → Option A → Option A
+faultless [] said = said
+faultless (fault ∷ faults) said = None
+
+-- the command that words say by an entry of the table. The first of them, its own word, stands where `clap` has a program's name
+unfoldable pub said_to : Subcommand → List Text → Option Command
+said_to command words =
+    faultless (fault_of (app_for (entry_of command)) words)
+    (meaning_of command (λ name. first_of name (matches_of (app_for (entry_of command)) words)))
+
+-- the command that the words say: the first word chooses the entry
+unfoldable pub command_of : List Text → Option Command
+command_of [] = None
+command_of (word ∷ words) = option_and_then (λ command. said_to command (word ∷ words)) (subcommand_named word)

@@ -1,0 +1,47 @@
+-- internal
+-- The table and the command of the words, as the code has them.
+use Rattle.std.specs.Prelude.{◌≤◌, Option, Some, None, map}
+use Rattle.p8_commands.specs.declared.table.Argument.{Argument as ArgumentHeld}
+use Rattle.p8_commands.specs.declared.table.Row.{Row}
+use Rattle.p8_commands.specs.declared.command.Command.{Command as CommandRead}
+use Rattle.p8_commands.specs.declared.command.Command.TheVariants as read
+use Rattle.p8_commands.specs.declared.command.Run.{Run as RunRead}
+use Rattle.p8_commands.specs.Commands.{Command, Running, BuildSource, ListSource, RunMemory, RunProgram, Make, Help}
+use Rattle.p8_commands.specs.Table.{Argument, Entry}
+use Rattle.p8_commands.specs.Naming.{name_of}
+use Rattle.p8_commands.specs.Numbers.{most_clocks, most_turns}
+use Rattle.p8_commands.specs.Ranges.{IsInRam}
+
+abbrev pub argument_of : ArgumentHeld → Argument
+argument_of a = record { kind = a.kind; name = a.name.now; value = a.value.now; about = a.about.now }
+
+abbrev pub entry_in : Row → Entry
+entry_in row = record { word = row.word.now; arguments = map argument_of row.arguments.now; about = row.about.now; example = row.example.now }
+
+abbrev pub running : RunRead → Running
+running run = record { file = run.file.now; clocks = run.clocks; script = name_of run.script; turns = run.turns; dump = run.dump }
+
+abbrev pub command_read : CommandRead → Command
+command_read (read.Build file) = BuildSource file.now
+command_read (read.List file) = ListSource file.now
+command_read (read.Raw run) = RunMemory (running run)
+command_read (read.Run run alone) = RunProgram alone (running run)
+command_read (read.Make seed alone) = Make alone seed
+command_read (read.Help topic) = Help topic
+
+abbrev pub command_if_any : Option CommandRead → Option Command
+command_if_any None = None
+command_if_any (Some command) = Some (command_read command)
+
+abbrev pub run_if_any : Option RunRead → Option Running
+run_if_any None = None
+run_if_any (Some run) = Some (running run)
+
+-- the numbers keep their limits
+abbrev pub IsWithin : RunRead → Type 0
+IsWithin run = (run.clocks ≤ most_clocks) × (run.turns ≤ most_turns) × IsInRam run.dump
+
+abbrev pub HasLimits : CommandRead → Type 0
+HasLimits (read.Raw run) = IsWithin run
+HasLimits (read.Run run alone) = IsWithin run
+HasLimits _ = Unit {0}

@@ -1,0 +1,121 @@
+-- The table of the commands: the word of each, its arguments, and what its page tells (this project's profile). The words
+-- are read by it, and the pages are made of it.
+use Rattle.std.specs.Prelude.{List, [], ◌∷◌, ◌++◌, codes, map, true, Option, Some, find, fold}
+use Rattle.std.specs.Str.{bytes_eq}
+use Rattle.clap.specs.declared.builder.action.ArgAction.TheVariants.{SetTrue}
+use Rattle.clap.specs.Simple.{App, new_app, new_rule, with_rule}
+use Rattle.clap.specs.Walk.{Rule, Text}
+use Rattle.p8_commands.specs.declared.table.ArgumentKind.{ArgumentKind}
+use Rattle.p8_commands.specs.declared.table.ArgumentKind.TheVariants.{Operand, OptionalOperand, Valued, Flag}
+use Rattle.p8_commands.specs.declared.table.Subcommand.{Subcommand}
+use Rattle.p8_commands.specs.declared.table.Subcommand.TheVariants as named
+
+-- an argument: how it stands, its name, what its value is called where it has both, and what it says
+pub record Argument : Type 0 where
+  pub kind : ArgumentKind
+  pub name : Text
+  pub value : Text
+  pub about : Text
+
+-- an entry of the table: the word that names the command, its arguments, what it does, and an example of its words
+pub record Entry : Type 0 where
+  pub word : Text
+  pub arguments : List Argument
+  pub about : Text
+  pub example : Text
+
+-- ---- the arguments
+
+abbrev pub operand : Text → Text → Argument
+operand name about = record { kind = Operand; name = name; value = []; about = about }
+
+abbrev pub valued : Text → Text → Text → Argument
+valued name value about = record { kind = Valued; name = name; value = value; about = about }
+
+abbrev pub source_file : Argument
+source_file = operand (codes "FILE") (codes "the top file of a project, a source in Spin")
+
+abbrev pub clocks : Argument
+clocks = operand (codes "CLOCKS") (codes "no turn is made at this clock or later: 1 to 10 digits, at most 100000000")
+
+abbrev pub pins : Argument
+pins = valued (codes "pins") (codes "F") (codes "a pin script, which gives the levels of the input pins; else all are low")
+
+abbrev pub turns : Argument
+turns = valued (codes "turns") (codes "K") (codes "how many turns are made at most: 1 to 10 digits, at most 1000000; else 100000")
+
+abbrev pub dump : Argument
+dump = valued (codes "dump") (codes "A:N") (codes "adds N bytes of hub RAM from the address A on: 4 hexadecimal digits, and 1 to 5 digits, at least 1, with A + N at most 32768")
+
+abbrev pub alone : Argument
+alone = record { kind = Flag; name = codes "alone"; value = []; about = codes "one thread makes all turns, in place of eight" }
+
+-- the arguments that follow the file in each run
+abbrev pub run_options : List Argument
+run_options = clocks ∷ pins ∷ turns ∷ dump ∷ []
+
+-- ---- the table
+
+abbrev pub entry_of : Subcommand → Entry
+entry_of named.Build = record {
+  word = codes "build";
+  arguments = source_file ∷ [];
+  about = codes "Writes the image of a source, as a .binary file holds it.";
+  example = codes "prop build blink.spin";
+}
+entry_of named.List = record {
+  word = codes "list";
+  arguments = source_file ∷ [];
+  about = codes "Writes the listing of a source: its objects, their methods, and the code of each.";
+  example = codes "prop list blink.spin";
+}
+entry_of named.Raw = record {
+  word = codes "raw";
+  arguments = operand (codes "FILE") (codes "the bytes of hub memory from address 0000 on, at most 32768; cog 0 starts on them as PASM") ∷ run_options;
+  about = codes "Runs hub memory up to a clock, and writes the trace.";
+  example = codes "prop raw hub.bin 20000 --turns 100";
+}
+entry_of named.Run = record {
+  word = codes "run";
+  arguments = operand (codes "FILE") (codes "an image where the name ends in .binary, and else a source in Spin") ∷ run_options ++ alone ∷ [];
+  about = codes "Runs an image or a source up to a clock, and writes the trace.";
+  example = codes "prop run blink.spin 20000 --dump 0000:16";
+}
+entry_of named.Make = record {
+  word = codes "make";
+  arguments = operand (codes "SEED") (codes "the number of a made program: 1 to 10 digits, at most 4294967295") ∷ alone ∷ [];
+  about = codes "Runs a made program for eight cogs, and writes a summary.";
+  example = codes "prop make 1";
+}
+entry_of named.Help = record {
+  word = codes "help";
+  arguments = record { kind = OptionalOperand; name = codes "COMMAND"; value = []; about = codes "the word of a command; else all commands are told" } ∷ [];
+  about = codes "Writes what a command does, its arguments, their limits and an example.";
+  example = codes "prop help run";
+}
+
+-- all commands, in the order in which they are told
+abbrev pub subcommands : List Subcommand
+subcommands = named.Build ∷ named.List ∷ named.Raw ∷ named.Run ∷ named.Make ∷ named.Help ∷ []
+
+-- the command that a word names
+unfoldable pub subcommand_named : Text → Option Subcommand
+subcommand_named word = find (λ command. bytes_eq (entry_of command).word word) subcommands
+
+-- ---- the words of a command as `clap` takes them
+
+-- What isn't said of an argument is as in `new_rule`. An operand has no name on the command line, so it stands by its place. A
+-- `--name` takes one value and may be given once; a flag `--name` takes none, and its value is `true` where it is given and else
+-- `false`.
+abbrev pub rule_by : ArgumentKind → Text → Rule
+rule_by Operand name = record (new_rule name) { required = true }
+rule_by OptionalOperand name = new_rule name
+rule_by Valued name = record (new_rule name) { long = Some name }
+rule_by Flag name = record (new_rule name) { long = Some name; action = Some SetTrue }
+
+abbrev pub rule_for : Argument → Rule
+rule_for argument = rule_by argument.kind argument.name
+
+-- the simple command of `clap` that takes the words of an entry
+abbrev pub app_for : Entry → App
+app_for entry = fold with_rule (new_app entry.word) (map rule_for entry.arguments)

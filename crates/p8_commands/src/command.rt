@@ -1,0 +1,51 @@
+// What the words of the command line ask for.
+ghost use Rattle.std.specs.Prelude.{◌≡◌, if◌then◌else◌, Some, None};
+ghost use Rattle.p8_commands.specs.Commands.{alone_of};
+ghost use Rattle.p8_commands.specs.Seen.{command_read};
+
+use crate::table::Subcommand;
+
+/// A run of a file.
+#[derive(Clone, Copy)]
+pub struct Run<'a> {
+    pub file: &'a str,
+    /// No turn is made at this clock or later; at most 100,000,000.
+    pub clocks: u64,
+    /// The file of a pin script.
+    pub script: Option<&'a str>,
+    /// How many turns the run makes at most; at most 1,000,000.
+    pub turns: u64,
+    /// The range of hub RAM to dump in the end: an address, and how many bytes from there on.
+    pub dump: Option<(u16, u16)>,
+}
+
+/// A command.
+#[derive(Clone, Copy)]
+pub enum Command<'a> {
+    /// Writes the image of a source.
+    Build { file: &'a str },
+    /// Writes the listing of a source.
+    List { file: &'a str },
+    /// Writes the trace of a run of hub memory, by one thread.
+    Raw { run: Run<'a> },
+    /// Writes the trace of a run of an image or a source, by one thread or by a crew.
+    Run { run: Run<'a>, alone: bool },
+    /// Writes the summary of a run of the made program of a seed, by one thread or by a crew.
+    Make { seed: u32, alone: bool },
+    /// Tells of one command, or of all of them.
+    Help { topic: Option<Subcommand> },
+}
+
+impl Command<'_> {
+    /// Whether one thread alone carries it out.
+    pub fn is_alone(self) -> bool
+        ensures { (if result then Some (command_read self.entry) else None) ≡ alone_of (Some (command_read self.entry)) }
+    {
+        match self {
+            Command::Build { .. } | Command::List { .. } => true,
+            Command::Raw { .. } | Command::Help { .. } => true,
+            Command::Run { alone, .. } => alone,
+            Command::Make { alone, .. } => alone,
+        }
+    }
+}

@@ -1,0 +1,200 @@
+// The table of the commands, by which words are read and of which pages are made.
+ghost use Rattle.std.specs.Prelude.{◌≡◌};
+ghost use Rattle.p8_commands.specs.Seen.{entry_in, argument_of};
+ghost use Rattle.p8_commands.specs.Table.{entry_of, subcommands, subcommand_named, operand as operand_told};
+
+/// How an argument stands on the command line.
+#[derive(Clone, Copy, Debug, PartialEq, Eq)]
+pub enum ArgumentKind {
+    /// By its place, and it has to be there.
+    Operand,
+    /// By its place, and it may be left out.
+    OptionalOperand,
+    /// As `--name` with a value, once at most.
+    Valued,
+    /// As `--name` without a value, once at most.
+    Flag,
+}
+
+/// An argument of a command.
+#[derive(Clone, Copy)]
+pub struct Argument {
+    pub kind: ArgumentKind,
+    pub name: &'static str,
+    /// What the value of an argument with a name is called; empty for any other argument.
+    pub value: &'static str,
+    /// What it says, with its limits.
+    pub about: &'static str,
+}
+
+/// A row of the table.
+#[derive(Clone, Copy)]
+pub struct Row {
+    /// The first word of the command.
+    pub word: &'static str,
+    pub arguments: &'static [Argument],
+    /// What the command does.
+    pub about: &'static str,
+    /// An example of its words.
+    pub example: &'static str,
+}
+
+/// A command, by the first of its words.
+#[derive(Clone, Copy, Debug, PartialEq, Eq)]
+pub enum Subcommand {
+    /// Writes the image of a source.
+    Build,
+    /// Writes the listing of a source.
+    List,
+    /// Runs hub memory.
+    Raw,
+    /// Runs an image or a source.
+    Run,
+    /// Runs a made program.
+    Make,
+    /// Tells of the commands.
+    Help,
+}
+
+const SOURCE_FILE: Argument = Argument {
+    kind: ArgumentKind::Operand,
+    name: "FILE",
+    value: "",
+    about: "the top file of a project, a source in Spin",
+};
+
+const CLOCKS: Argument = Argument {
+    kind: ArgumentKind::Operand,
+    name: "CLOCKS",
+    value: "",
+    about: "no turn is made at this clock or later: 1 to 10 digits, at most 100000000",
+};
+
+const PINS: Argument = Argument {
+    kind: ArgumentKind::Valued,
+    name: "pins",
+    value: "F",
+    about: "a pin script, which gives the levels of the input pins; else all are low",
+};
+
+const TURNS: Argument = Argument {
+    kind: ArgumentKind::Valued,
+    name: "turns",
+    value: "K",
+    about: "how many turns are made at most: 1 to 10 digits, at most 1000000; else 100000",
+};
+
+const DUMP: Argument = Argument {
+    kind: ArgumentKind::Valued,
+    name: "dump",
+    value: "A:N",
+    about: "adds N bytes of hub RAM from the address A on: 4 hexadecimal digits, and 1 to 5 digits, at least 1, with A + N at most 32768",
+};
+
+const ALONE: Argument = Argument {
+    kind: ArgumentKind::Flag,
+    name: "alone",
+    value: "",
+    about: "one thread makes all turns, in place of eight",
+};
+
+const MEMORY_FILE: Argument = Argument {
+    kind: ArgumentKind::Operand,
+    name: "FILE",
+    value: "",
+    about: "the bytes of hub memory from address 0000 on, at most 32768; cog 0 starts on them as PASM",
+};
+
+const PROGRAM_FILE: Argument = Argument {
+    kind: ArgumentKind::Operand,
+    name: "FILE",
+    value: "",
+    about: "an image where the name ends in .binary, and else a source in Spin",
+};
+
+const SEED: Argument = Argument {
+    kind: ArgumentKind::Operand,
+    name: "SEED",
+    value: "",
+    about: "the number of a made program: 1 to 10 digits, at most 4294967295",
+};
+
+const TOPIC: Argument = Argument {
+    kind: ArgumentKind::OptionalOperand,
+    name: "COMMAND",
+    value: "",
+    about: "the word of a command; else all commands are told",
+};
+
+impl Subcommand {
+    /// All commands, in the order in which they are told.
+    pub fn all() -> &'static [Subcommand]
+        ensures { result.now ≡ subcommands }
+    {
+        &[
+            Subcommand::Build,
+            Subcommand::List,
+            Subcommand::Raw,
+            Subcommand::Run,
+            Subcommand::Make,
+            Subcommand::Help,
+        ]
+    }
+
+    /// The command's row of the table.
+    pub fn row(self) -> Row
+        ensures { entry_in result ≡ entry_of self }
+    {
+        match self {
+            Subcommand::Build => Row {
+                word: "build",
+                arguments: &[SOURCE_FILE],
+                about: "Writes the image of a source, as a .binary file holds it.",
+                example: "prop build blink.spin",
+            },
+            Subcommand::List => Row {
+                word: "list",
+                arguments: &[SOURCE_FILE],
+                about: "Writes the listing of a source: its objects, their methods, and the code of each.",
+                example: "prop list blink.spin",
+            },
+            Subcommand::Raw => Row {
+                word: "raw",
+                arguments: &[MEMORY_FILE, CLOCKS, PINS, TURNS, DUMP],
+                about: "Runs hub memory up to a clock, and writes the trace.",
+                example: "prop raw hub.bin 20000 --turns 100",
+            },
+            Subcommand::Run => Row {
+                word: "run",
+                arguments: &[PROGRAM_FILE, CLOCKS, PINS, TURNS, DUMP, ALONE],
+                about: "Runs an image or a source up to a clock, and writes the trace.",
+                example: "prop run blink.spin 20000 --dump 0000:16",
+            },
+            Subcommand::Make => Row {
+                word: "make",
+                arguments: &[SEED, ALONE],
+                about: "Runs a made program for eight cogs, and writes a summary.",
+                example: "prop make 1",
+            },
+            Subcommand::Help => Row {
+                word: "help",
+                arguments: &[TOPIC],
+                about: "Writes what a command does, its arguments, their limits and an example.",
+                example: "prop help run",
+            },
+        }
+    }
+
+    /// The command that a word names, or None where it names none.
+    #[tactic(auto, unfolding(crate::specs::Table::subcommand_named))]
+    pub fn named(word: &str) -> Option<Subcommand>
+        ensures { result ≡ subcommand_named word.now }
+    {
+        for command in Subcommand::all() {
+            if command.row().word == word {
+                return Some(*command);
+            }
+        }
+        None
+    }
+}

@@ -1,0 +1,167 @@
+// The words of the command line.
+ghost use Rattle.std.specs.Prelude.{◌≡◌, ◌≤◌, Some, None, codes, map, option_map, option_and_then, string_bytes, IfOk, IfSome};
+ghost use Rattle.std.specs.Option.{ForSome};
+ghost use Rattle.clap.specs.Matches.{first_value, found_of};
+ghost use Rattle.p8_commands.specs.Commands.{command_of, said_to, meaning_of, run_of, turns_by, dump_by, is_given as is_given_by, is_alone as is_alone_by, seed_of, topic_of};
+ghost use Rattle.p8_commands.specs.Naming.{name_of};
+ghost use Rattle.p8_commands.specs.Numbers.{most_turns};
+ghost use Rattle.p8_commands.specs.Ranges.{IsInRam};
+ghost use Rattle.p8_commands.specs.Seen.{command_if_any, run_if_any, IsWithin, HasLimits};
+
+use crate::arguments::{command_for, matches_in};
+use crate::command::{Command, Run};
+use crate::numbers::{number_in, range_in};
+use crate::table::Subcommand;
+use clap::ArgMatches;
+use p8_words::NoMemory;
+use std::alloc::Global;
+
+/// The greatest number of clocks of a run.
+const MOST_CLOCKS: u64 = 100_000_000;
+
+/// The greatest number of turns that may be asked for.
+const MOST_TURNS: u64 = 1_000_000;
+
+/// How many turns a run makes at most where no number is asked for.
+const USUAL_TURNS: u64 = 100_000;
+
+/// The greatest seed of a made program.
+const MOST_SEED: u64 = 4_294_967_295;
+
+/// How many turns the value of `--turns` says, where it has one, or None for another spelling.
+fn turns_in(value: Option<&str>) -> Option<u64>
+    ensures turns { result ≡ turns_by (name_of value.entry) }
+    ensures within { ForSome result (λ turns. turns ≤ most_turns) }
+{
+    match value {
+        None => Some(USUAL_TURNS),
+        Some(text) => number_in(text.as_bytes(), MOST_TURNS),
+    }
+}
+
+/// The range that the value of `--dump` says, where it has one, or None for another spelling.
+fn dump_in(value: Option<&str>) -> Option<Option<(u16, u16)>>
+    ensures dump { result ≡ dump_by (name_of value.entry) }
+    ensures in_ram { IfSome result IsInRam }
+{
+    match value {
+        None => Some(None),
+        Some(text) => Some(Some(range_in(text.as_bytes())?)),
+    }
+}
+
+/// A run by the values of the arguments that every run has, or None where one of them is lacking or has another spelling.
+fn run_in<'a>(matches: &ArgMatches<'a>) -> Option<Run<'a>>
+    ensures seen { run_if_any result ≡ run_of (first_value (found_of matches.now)) }
+    ensures within { IfSome result IsWithin }
+{
+    let file = matches.get_str("FILE")?;
+    let clocks = number_in(matches.get_str("CLOCKS")?.as_bytes(), MOST_CLOCKS)?;
+    let turns = turns_in(matches.get_str("turns"))?;
+    let dump = dump_in(matches.get_str("dump"))?;
+    Some(Run {
+        file,
+        clocks,
+        script: matches.get_str("pins"),
+        turns,
+        dump,
+    })
+}
+
+/// Whether a flag with this value is given.
+fn is_given(value: Option<&str>) -> bool
+    ensures { result ≡ is_given_by (name_of value.entry) }
+{
+    match value {
+        None => false,
+        Some(text) => text == "true",
+    }
+}
+
+/// Whether `--alone` is given.
+fn is_alone(matches: &ArgMatches<'_>) -> bool
+    ensures { result ≡ is_alone_by (first_value (found_of matches.now)) }
+{
+    is_given(matches.get_str("alone"))
+}
+
+/// The seed of a made program.
+fn seed_in(matches: &ArgMatches<'_>) -> Option<u32>
+    ensures { result ≡ seed_of (first_value (found_of matches.now)) }
+{
+    let seed = number_in(matches.get_str("SEED")?.as_bytes(), MOST_SEED)?;
+    Some(seed as u32)
+}
+
+/// What help is asked for by this word, or by none.
+fn topic_in(word: Option<&str>) -> Option<Option<Subcommand>>
+    ensures { result ≡ topic_of (name_of word.entry) }
+{
+    match word {
+        None => Some(None),
+        Some(word) => Some(Some(Subcommand::named(word)?)),
+    }
+}
+
+/// The command of the values of its arguments, or None where one of them has another spelling.
+fn meaning_in<'a>(command: Subcommand, matches: &ArgMatches<'a>) -> Option<Command<'a>>
+    ensures seen { command_if_any result ≡ meaning_of command (first_value (found_of matches.now)) }
+    ensures within { IfSome result HasLimits }
+{
+    match command {
+        Subcommand::Build => Some(Command::Build {
+            file: matches.get_str("FILE")?,
+        }),
+        Subcommand::List => Some(Command::List {
+            file: matches.get_str("FILE")?,
+        }),
+        Subcommand::Raw => Some(Command::Raw {
+            run: run_in(matches)?,
+        }),
+        Subcommand::Run => Some(Command::Run {
+            run: run_in(matches)?,
+            alone: is_alone(matches),
+        }),
+        Subcommand::Make => Some(Command::Make {
+            seed: seed_in(matches)?,
+            alone: is_alone(matches),
+        }),
+        Subcommand::Help => Some(Command::Help {
+            topic: topic_in(matches.get_str("COMMAND"))?,
+        }),
+    }
+}
+
+/// The command that words say by a row of the table, or None where they say another thing.
+fn said_in<'a>(
+    alloc: Global,
+    command: Subcommand,
+    words: &'a [String],
+) -> Result<Option<Command<'a>>, NoMemory>
+    ensures seen { IfOk result (λ said. command_if_any said ≡ said_to command (map string_bytes words.now)) }
+    ensures within { IfOk result (λ said. IfSome said HasLimits) }
+{
+    match matches_in(command_for(alloc, command.row())?, words)? {
+        None => Ok(None),
+        Some(matches) => Ok(meaning_in(command, &matches)),
+    }
+}
+
+/// What the words after the program's name ask for, or None where they are no command. The first word chooses the row of the table, and
+/// by that row the library `clap` reads all of them.
+///
+/// # Errors
+///
+/// Want of memory.
+pub fn command_in<'a>(alloc: Global, words: &'a [String]) -> Result<Option<Command<'a>>, NoMemory>
+    ensures seen { IfOk result (λ said. command_if_any said ≡ command_of (map string_bytes words.now)) }
+    ensures within { IfOk result (λ said. IfSome said HasLimits) }
+{
+    let [word, ..] = words else {
+        return Ok(None);
+    };
+    match Subcommand::named(word.as_str()) {
+        None => Ok(None),
+        Some(command) => said_in(alloc, command, words),
+    }
+}
