@@ -15,7 +15,7 @@ use Rattle.p8_build.specs.Told.{IsImageOf}
 use Rattle.p8_inputs.specs.Gathered.{StopsAtBuilding, IsListingOf}
 use Rattle.p8_inputs.specs.Runs.{HasProperTrees}
 use Rattle.p8_inputs.specs.Sources.{GathersTo, IsImageFrom, IsListingFrom, when_built}
-use Rattle.p8_inputs.specs.Steps.{StopsAtProgram}
+use Rattle.p8_inputs.specs.Asks.{StopsAtProgram}
 
 module _ (files : Files) (top : List ℕ) (sources : List NamedSource) (gathered : GathersTo files top (project sources)) where
   pub image-from : EachTree IsProperFile sources → (bytes : List ℕ) → IsImageOf sources bytes → HasProperTrees files Source top bytes

@@ -1,21 +1,28 @@
--- Where the shelf tells its files, the files of a run are one thing alone: there to run, or stopped for one reason.
-use Rattle.std.proofs.Common.{◌≡◌, ◌∙◌, ap, ap₂, sym, subst, ℕ, inl, inr, refl, List, Option, Some, None}
+-- Where the shelf tells its files, asks come to one thing alone: what they are given, or one reason that stops them.
+use Rattle.std.proofs.Common.{◌≡◌, ◌∙◌, ap, ap₂, sym, subst, ℕ, inl, inr, refl, List, [], ◌∷◌, Option, Some, None}
 use Rattle.p8_history.specs.Worlds.{Line}
 use Rattle.p8_tree.specs.declared.places.Place.{Place}
+use Rattle.p8_tree.specs.Projects.{NamedSource}
 use Rattle.p8_image.specs.declared.faults.LoadFault.{LoadFault}
+use Rattle.p8_image.specs.declared.parts.ObjectPart.{ObjectPart}
 use Rattle.p8_image.specs.Layout.{image_of}
 use Rattle.p8_io.specs.Counts.{Rose}
 use Rattle.p8_io.specs.Shelves.{Files, IsRead, AreStartOf}
-use Rattle.p8_tree.specs.Projects.{NamedSource}
 use Rattle.p8_objects.specs.Outcomes.{Outcome, failed, shelved, ComesTo}
 use Rattle.p8_objects.specs.Outcomes as outcomes
 use Rattle.p8_pins.specs.Scripts.{IsReadAs, IsFault}
-use Rattle.p8_pins.proofs.Scripting.{read-same, read-not_bad}
+use Rattle.p8_pins.proofs.Scripting.{read-same, read-not_bad, fault-one}
+use Rattle.p8_texts.specs.Listing.{listing_of}
+use Rattle.std.specs.Prelude.{map}
 use Rattle.p8_inputs.specs.declared.program.Format.{Format}
 use Rattle.p8_inputs.specs.declared.program.Format.TheVariants.{Memory, Image, Source}
+use Rattle.p8_inputs.specs.declared.stop.Stop.{Stop}
+use Rattle.p8_inputs.specs.declared.stop.Stop.TheVariants.{Unread, Missing, NoMemory, Refused, BadProgram, BadScript}
 use Rattle.p8_inputs.specs.Programs.{fault_of}
-use Rattle.p8_inputs.specs.Sources.{HasOneOutcome}
-use Rattle.p8_inputs.specs.Inputs.{IsProgram, IsScriptFor, IsProgramMissing, IsMissing, IsProgramUnread, IsUnread, HasRefusal, HasFault, HasBadLine}
+use Rattle.p8_inputs.specs.Sources.{HasOneOutcome, IsListingFrom}
+use Rattle.p8_inputs.specs.Inputs.{IsProgram, IsScriptFor, IsProgramUnread, HasFault}
+use Rattle.p8_inputs.specs.Asks.{Ask, program, listing, script, Given, bytes, lines, Gives, Give, StopsAtProgram, StopsAtScript, StopsAt, StopsFirst, Stops, IsOfFiles, HasOneReading}
+use Rattle.p8_inputs.proofs.Stopping.{first-or_memory}
 
 start-one : (file : Option (List ℕ)) (a b : List ℕ) → AreStartOf file a → AreStartOf file b → a ≡ b
 start-one None a b p q = absurd p
@@ -28,129 +35,200 @@ start-some (Some file) a p none = cc
 none-not_some : {A : Type 0} (o : Option A) (a : A) → o ≡ None → o ≡ Some a → ⊥
 none-not_some o a p q = cc
 
+same-some : {A : Type 0} (o : Option A) (a b : A) → o ≡ Some a → o ≡ Some b → a ≡ b
+same-some o a b p q = cc
+
 module _ (files : List ℕ → Option (List ℕ)) where
   read-one : (name a b : List ℕ) → IsRead (Some files) name a → IsRead (Some files) name b → a ≡ b
   read-one name a b p q = start-one (files name) a b p q
 
-  read-some : (name a : List ℕ) → IsRead (Some files) name a → files name ≡ None → ⊥
-  read-some name a p none = start-some (files name) a p none
+  -- a file of the same name has the same bytes
+  read-same_name : (file name a b : List ℕ) → name ≡ file → IsRead (Some files) file a → IsRead (Some files) name b → a ≡ b
+  read-same_name file name a b same p q = read-one file a b p (subst (λ (n : List ℕ). IsRead (Some files) n b) same q)
 
-  pub script-one : (named : Option (List ℕ)) (a b : List Line) → IsScriptFor (Some files) named a → IsScriptFor (Some files) named b → a ≡ b
-  script-one None a b p q = p ∙ sym q
-  script-one (Some name) a b p q =
-      let bytes : p.0 ≡ q.0 = read-one name p.0 q.0 p.1 q.1 in
-      read-same q.0 a b (subst (λ (text : List ℕ). IsReadAs text a) bytes p.2) q.2
+  read-some : (file name a : List ℕ) → IsRead (Some files) file a → name ≡ file → files name ≡ None → ⊥
+  read-some file name a p same none = start-some (files file) a p (ap files (sym same) ∙ none)
 
-  -- a file whose bytes are run themselves is there or not, and good or not
-  there-not_missing : (file bytes name : List ℕ) → IsRead (Some files) file bytes → name ≡ file → files name ≡ None → ⊥
-  there-not_missing file bytes name read same lacks = read-some file bytes read (ap files (sym same) ∙ lacks)
+  script-one : (file : List ℕ) (a b : List Line) → IsScriptFor (Some files) (Some file) a → IsScriptFor (Some files) (Some file) b → a ≡ b
+  script-one file a b p q =
+      let same : p.0 ≡ q.0 = read-one file p.0 q.0 p.1 q.1 in
+      read-same q.0 a b (subst (λ (text : List ℕ). IsReadAs text a) same p.2) q.2
 
-  good-not_faulty : (format : Format) (file bytes name other : List ℕ) (fault : LoadFault) → IsRead (Some files) file bytes → fault_of format bytes ≡ None → name ≡ file → IsRead (Some files) name other → fault_of format other ≡ Some fault → ⊥
-  good-not_faulty format file bytes name other fault read good named other-read bad =
-      let same : bytes ≡ other = read-one file bytes other read (subst (λ (n : List ℕ). IsRead (Some files) n other) named other-read) in
-      none-not_some (fault_of format bytes) fault good (ap (fault_of format) same ∙ bad)
+  -- the bytes of a file are run themselves, or they have a fault
+  there-not_faulty : (format : Format) (file xs name : List ℕ) (fault : LoadFault) → IsRead (Some files) file xs → fault_of format xs ≡ None
+      → (other : List ℕ) → name ≡ file → IsRead (Some files) name other → fault_of format other ≡ Some fault → ⊥
+  there-not_faulty format file xs name fault read good other same other-read bad =
+      none-not_some (fault_of format xs) fault good (ap (fault_of format) (read-same_name file name xs other same read other-read) ∙ bad)
 
-  missing-not_there : (file name other bytes : List ℕ) → name ≡ file → files name ≡ None → other ≡ file → IsRead (Some files) other bytes → ⊥
-  missing-not_there file name other bytes named lacks same read = read-some other bytes read (ap files (same ∙ sym named) ∙ lacks)
+  one-fault : (format : Format) (file a b : List ℕ) (f g : LoadFault) (xs ys : List ℕ) → a ≡ file → IsRead (Some files) a xs → fault_of format xs ≡ Some f
+      → b ≡ file → IsRead (Some files) b ys → fault_of format ys ≡ Some g → (a ≡ b) × (f ≡ g)
+  one-fault format file a b f g xs ys a-is a-read a-bad b-is b-read b-bad =
+      let same : xs ≡ ys = read-same_name a b xs ys (b-is ∙ sym a-is) a-read b-read in
+      (a-is ∙ sym b-is, same-some (fault_of format ys) f g (ap (fault_of format) (sym same) ∙ a-bad) b-bad)
+
+  -- ---- one reason to stop is another
+
+  refused-same : {a b : List ℕ} {m n : ℕ} {p q : Place} → (a ≡ b) × (m ≡ n) × (p ≡ q) → Refused a m p ≡ Refused b n q
+  refused-same e = λ i. Refused (e.0 i) (e.1 i) (e.2 i)
+
+  faulty-same : {a b : List ℕ} {f g : LoadFault} → (a ≡ b) × (f ≡ g) → BadProgram a f ≡ BadProgram b g
+  faulty-same e = λ i. BadProgram (e.0 i) (e.1 i)
+
+  script-stop-one : (before now : ℕ) (file : List ℕ) (a b : Stop) → IsOfFiles a → IsOfFiles b → StopsAtScript (Some files) before now file a → StopsAtScript (Some files) before now file b → a ≡ b
+  script-stop-one before now file (Missing a) (Missing b) s t p q = ap Missing (p.0 ∙ sym q.0)
+  script-stop-one before now file (Missing a) (BadScript b n) s t p q = absurd (read-some b a q.1.0 q.1.1 (p.0 ∙ sym q.0) p.1)
+  script-stop-one before now file (BadScript a m) (Missing b) s t p q = absurd (read-some a b p.1.0 p.1.1 (q.0 ∙ sym p.0) q.1)
+  script-stop-one before now file (BadScript a m) (BadScript b n) s t p q =
+      let xs : p.1.0 ≡ q.1.0 = read-same_name a b p.1.0 q.1.0 (q.0 ∙ sym p.0) p.1.1 q.1.1 in
+      let line : m ≡ n = fault-one q.1.0 m n (subst (λ (text : List ℕ). IsFault text m) xs p.1.2) q.1.2 in
+      λ i. BadScript ((p.0 ∙ sym q.0) i) (line i)
+  script-stop-one before now file (Unread a) b s t p q = absurd s
+  script-stop-one before now file NoMemory b s t p q = absurd s
+  script-stop-one before now file (Refused a m x) b s t p q = absurd p
+  script-stop-one before now file (BadProgram a f) b s t p q = absurd p
+  script-stop-one before now file a (Unread b) s t p q = absurd t
+  script-stop-one before now file a NoMemory s t p q = absurd t
+  script-stop-one before now file a (Refused b n y) s t p q = absurd q
+  script-stop-one before now file a (BadProgram b g) s t p q = absurd q
+
+  script-never_both : (before now : ℕ) (file : List ℕ) (xs : List Line) (stop : Stop) → IsOfFiles stop → IsScriptFor (Some files) (Some file) xs → StopsAtScript (Some files) before now file stop → ⊥
+  script-never_both before now file xs (Missing name) s is stops = read-some file name is.0 is.1 stops.0 stops.1
+  script-never_both before now file xs (BadScript name line) s is stops =
+      let same : is.0 ≡ stops.1.0 = read-same_name file name is.0 stops.1.0 stops.0 is.1 stops.1.1 in
+      read-not_bad stops.1.0 xs line (subst (λ (text : List ℕ). IsReadAs text xs) same is.2) stops.1.2
+  script-never_both before now file xs (Unread name) s is stops = s
+  script-never_both before now file xs NoMemory s is stops = s
+  script-never_both before now file xs (Refused name number place) s is stops = stops
+  script-never_both before now file xs (BadProgram name fault) s is stops = stops
 
   module _ (one : HasOneOutcome files) where
-    pub program-one : (format : Format) (file a b : List ℕ) → IsProgram (Some files) format file a → IsProgram (Some files) format file b → a ≡ b
+    -- ---- a program
+
+    program-one : (format : Format) (file a b : List ℕ) → IsProgram (Some files) format file a → IsProgram (Some files) format file b → a ≡ b
     program-one Source file a b p q =
         let same = one.one_image file p.0 q.0 p.1 q.1 p.2 q.2 p.3 q.3 in
         p.4 ∙ ap₂ image_of same.1 same.2 ∙ sym q.4
     program-one Memory file a b p q = read-one file a b p.0 q.0
     program-one Image file a b p q = read-one file a b p.0 q.0
 
-    module _ (before now : ℕ) where
-      program-not_missing : (format : Format) (file bytes name : List ℕ) → IsProgram (Some files) format file bytes → IsProgramMissing (Some files) before now format file name → ⊥
-      program-not_missing Source file bytes name p m = one.not_missing before now file name p.0 p.1 p.2 p.3 m
-      program-not_missing Memory file bytes name p m = there-not_missing file bytes name p.0 m.0 m.1
-      program-not_missing Image file bytes name p m = there-not_missing file bytes name p.0 m.0 m.1
+    listing-one : (file a b : List ℕ) → IsListingFrom (Some files) file a → IsListingFrom (Some files) file b → a ≡ b
+    listing-one file a b p q =
+        let same = one.one_image file p.0 q.0 p.1 q.1 p.2 q.2 p.3 q.3 in
+        p.4 ∙ ap₂ (λ (sources : List NamedSource) (objects : List ObjectPart). listing_of (map (λ source. source.name) sources) objects) same.0 same.2 ∙ sym q.4
 
-      program-missing-not_faulty : (format : Format) (file name other : List ℕ) (fault : LoadFault) → IsProgramMissing (Some files) before now format file name → HasFault (Some files) format file other fault → ⊥
-      program-missing-not_faulty Source file name other fault m f = f
-      program-missing-not_faulty Memory file name other fault m f = missing-not_there file name other f.0 m.0 m.1 f.1 f.2
-      program-missing-not_faulty Image file name other fault m f = missing-not_there file name other f.0 m.0 m.1 f.1 f.2
+    program-stop-one : (before now : ℕ) (format : Format) (file : List ℕ) (a b : Stop) → IsOfFiles a → IsOfFiles b → StopsAtProgram (Some files) before now format file a → StopsAtProgram (Some files) before now format file b → a ≡ b
+    program-stop-one before now Source file (Missing a) (Missing b) s t p q = ap Missing (one.one_missing before now file a b p q)
+    program-stop-one before now Source file (Missing a) (Refused b n y) s t p q = absurd (one.missing_or_refused before now file a b n y p q)
+    program-stop-one before now Source file (Refused a m x) (Missing b) s t p q = absurd (one.missing_or_refused before now file b a m x q p)
+    program-stop-one before now Source file (Refused a m x) (Refused b n y) s t p q = refused-same (one.one_refusal file a b m n x y p q)
+    program-stop-one before now Source file (BadProgram a f) b s t p q = absurd p
+    program-stop-one before now Source file a (BadProgram b g) s t p q = absurd q
+    program-stop-one before now Memory file (Missing a) (Missing b) s t p q = ap Missing (p.0 ∙ sym q.0)
+    program-stop-one before now Memory file (Missing a) (BadProgram b g) s t p q = absurd (read-some b a q.0 q.2 (p.0 ∙ sym q.1) p.1)
+    program-stop-one before now Memory file (BadProgram a f) (Missing b) s t p q = absurd (read-some a b p.0 p.2 (q.0 ∙ sym p.1) q.1)
+    program-stop-one before now Memory file (BadProgram a f) (BadProgram b g) s t p q = faulty-same (one-fault Memory file a b f g p.0 q.0 p.1 p.2 p.3 q.1 q.2 q.3)
+    program-stop-one before now Memory file (Refused a m x) b s t p q = absurd p
+    program-stop-one before now Memory file a (Refused b n y) s t p q = absurd q
+    program-stop-one before now Image file (Missing a) (Missing b) s t p q = ap Missing (p.0 ∙ sym q.0)
+    program-stop-one before now Image file (Missing a) (BadProgram b g) s t p q = absurd (read-some b a q.0 q.2 (p.0 ∙ sym q.1) p.1)
+    program-stop-one before now Image file (BadProgram a f) (Missing b) s t p q = absurd (read-some a b p.0 p.2 (q.0 ∙ sym p.1) q.1)
+    program-stop-one before now Image file (BadProgram a f) (BadProgram b g) s t p q = faulty-same (one-fault Image file a b f g p.0 q.0 p.1 p.2 p.3 q.1 q.2 q.3)
+    program-stop-one before now Image file (Refused a m x) b s t p q = absurd p
+    program-stop-one before now Image file a (Refused b n y) s t p q = absurd q
+    program-stop-one before now format file (Unread a) b s t p q = absurd s
+    program-stop-one before now format file NoMemory b s t p q = absurd s
+    program-stop-one before now format file (BadScript a m) b s t p q = absurd p
+    program-stop-one before now format file a (Unread b) s t p q = absurd t
+    program-stop-one before now format file a NoMemory s t p q = absurd t
+    program-stop-one before now format file a (BadScript b n) s t p q = absurd q
 
-      program-missing-not_refused : (format : Format) (file name other : List ℕ) (number : ℕ) (place : Place) → IsProgramMissing (Some files) before now format file name → HasRefusal (Some files) format file other number place → ⊥
-      program-missing-not_refused Source file name other number place m r = one.missing_or_refused before now file name other number place m r
-      program-missing-not_refused Memory file name other number place m r = r
-      program-missing-not_refused Image file name other number place m r = r
+    program-never_both : (before now : ℕ) (format : Format) (file xs : List ℕ) (stop : Stop) → IsOfFiles stop → IsProgram (Some files) format file xs → StopsAtProgram (Some files) before now format file stop → ⊥
+    program-never_both before now Source file xs (Missing name) s is stops = one.not_missing before now file name is.0 is.1 is.2 is.3 stops
+    program-never_both before now Source file xs (Refused name number place) s is stops = one.not_refused file name number place is.0 is.1 is.2 is.3 stops
+    program-never_both before now Source file xs (BadProgram name fault) s is stops = stops
+    program-never_both before now Memory file xs (Missing name) s is stops = read-some file name xs is.0 stops.0 stops.1
+    program-never_both before now Memory file xs (Refused name number place) s is stops = stops
+    program-never_both before now Memory file xs (BadProgram name fault) s is stops = there-not_faulty Memory file xs name fault is.0 is.1 stops.0 stops.1 stops.2 stops.3
+    program-never_both before now Image file xs (Missing name) s is stops = read-some file name xs is.0 stops.0 stops.1
+    program-never_both before now Image file xs (Refused name number place) s is stops = stops
+    program-never_both before now Image file xs (BadProgram name fault) s is stops = there-not_faulty Image file xs name fault is.0 is.1 stops.0 stops.1 stops.2 stops.3
+    program-never_both before now format file xs (Unread name) s is stops = s
+    program-never_both before now format file xs NoMemory s is stops = s
+    program-never_both before now format file xs (BadScript name line) s is stops = stops
 
-    program-not_faulty : (format : Format) (file bytes name : List ℕ) (fault : LoadFault) → IsProgram (Some files) format file bytes → HasFault (Some files) format file name fault → ⊥
-    program-not_faulty Source file bytes name fault p f = f
-    program-not_faulty Memory file bytes name fault p f = good-not_faulty Memory file bytes name f.0 fault p.0 p.1 f.1 f.2 f.3
-    program-not_faulty Image file bytes name fault p f = good-not_faulty Image file bytes name f.0 fault p.0 p.1 f.1 f.2 f.3
+    -- ---- an ask
 
-    program-not_refused : (format : Format) (file bytes name : List ℕ) (number : ℕ) (place : Place) → IsProgram (Some files) format file bytes → HasRefusal (Some files) format file name number place → ⊥
-    program-not_refused Source file bytes name number place p r = one.not_refused file name number place p.0 p.1 p.2 p.3 r
-    program-not_refused Memory file bytes name number place p r = r
-    program-not_refused Image file bytes name number place p r = r
+    gives-one : (ask : Ask) (a b : Given) → Gives (Some files) ask a → Gives (Some files) ask b → a ≡ b
+    gives-one (program format file) (bytes xs) (bytes ys) p q = ap bytes (program-one format file xs ys p q)
+    gives-one (listing file) (bytes xs) (bytes ys) p q = ap bytes (listing-one file xs ys p q)
+    gives-one (script file) (lines xs) (lines ys) p q = ap lines (script-one file xs ys p q)
+    gives-one (program format file) (lines xs) b p q = absurd p
+    gives-one (program format file) (bytes xs) (lines ys) p q = absurd q
+    gives-one (listing file) (lines xs) b p q = absurd p
+    gives-one (listing file) (bytes xs) (lines ys) p q = absurd q
+    gives-one (script file) (bytes xs) b p q = absurd p
+    gives-one (script file) (lines xs) (bytes ys) p q = absurd q
 
-    faulty-or-refused : (format : Format) (file name other : List ℕ) (fault : LoadFault) (number : ℕ) (place : Place) → HasFault (Some files) format file name fault → HasRefusal (Some files) format file other number place → ⊥
-    faulty-or-refused Source file name other fault number place f r = f
-    faulty-or-refused Memory file name other fault number place f r = r
-    faulty-or-refused Image file name other fault number place f r = r
+    stop-one : (before now : ℕ) (ask : Ask) (a b : Stop) → IsOfFiles a → IsOfFiles b → StopsAt (Some files) before now ask a → StopsAt (Some files) before now ask b → a ≡ b
+    stop-one before now (program format file) a b s t p q = program-stop-one before now format file a b s t p q
+    stop-one before now (listing file) a b s t p q = program-stop-one before now Source file a b s t p q
+    stop-one before now (script file) a b s t p q = script-stop-one before now file a b s t p q
 
-    module _ (format : Format) (file : List ℕ) (script : Option (List ℕ)) where
-      named-one : (a b : List ℕ) → script ≡ Some a → script ≡ Some b → a ≡ b
-      named-one a b p q = cc
+    never-both : (before now : ℕ) (ask : Ask) (given : Given) (stop : Stop) → IsOfFiles stop → Gives (Some files) ask given → StopsAt (Some files) before now ask stop → ⊥
+    never-both before now (program format file) (bytes xs) stop s is stops = program-never_both before now format file xs stop s is stops
+    never-both before now (listing file) (bytes xs) stop s is stops = program-never_both before now Source file (image_of is.1 is.2) stop s (is.0, is.1, is.2, is.3, refl) stops
+    never-both before now (script file) (lines xs) stop s is stops = script-never_both before now file xs stop s is stops
+    never-both before now (program format file) (lines xs) stop s is stops = is
+    never-both before now (listing file) (lines xs) stop s is stops = is
+    never-both before now (script file) (bytes xs) stop s is stops = is
 
-      script-not_missing : (name : List ℕ) (lines : List Line) → IsScriptFor (Some files) script lines → script ≡ Some name → files name ≡ None → ⊥
-      script-not_missing name lines is same lacks =
-          let moved : IsScriptFor (Some files) (Some name) lines = subst (λ (n : Option (List ℕ)). IsScriptFor (Some files) n lines) same is in
-          read-some name moved.0 moved.1 lacks
+    -- ---- all asks
 
-      script-not_bad : (name bytes : List ℕ) (lines : List Line) (line : ℕ) → IsScriptFor (Some files) script lines → script ≡ Some name → IsRead (Some files) name bytes → IsFault bytes line → ⊥
-      script-not_bad name bytes lines line is same read bad =
-          let moved : IsScriptFor (Some files) (Some name) lines = subst (λ (n : Option (List ℕ)). IsScriptFor (Some files) n lines) same is in
-          read-not_bad bytes lines line (subst (λ (text : List ℕ). IsReadAs text lines) (read-one name moved.0 bytes moved.1 read) moved.2) bad
+    all-one : (asks : List Ask) (a b : List Given) → Give (Some files) asks a → Give (Some files) asks b → a ≡ b
+    all-one [] [] [] p q = refl
+    all-one (ask ∷ asks) (a ∷ more) (b ∷ others) p q = ap₂ (λ (x : Given) (xs : List Given). x ∷ xs) (gives-one ask a b p.0 q.0) (all-one asks more others p.1 q.1)
+    all-one [] (a ∷ more) others p q = absurd p
+    all-one [] [] (b ∷ others) p q = absurd q
+    all-one (ask ∷ asks) [] others p q = absurd p
+    all-one (ask ∷ asks) (a ∷ more) [] p q = absurd q
 
-      -- what can be run isn't stopped
-      pub runs-not_missing : (before now : ℕ) (bytes : List ℕ) (lines : List Line) (name : List ℕ) → IsProgram (Some files) format file bytes → IsScriptFor (Some files) script lines → IsMissing (Some files) before now format file script name → ⊥
-      runs-not_missing before now bytes lines name program is missing = elim missing [
-        | inl run ↦ program-not_missing before now format file bytes name program run
-        | inr named ↦ script-not_missing name lines is named.0.2 named.1
+    first-one : (before now : ℕ) (asks : List Ask) (a b : Stop) → IsOfFiles a → IsOfFiles b → StopsFirst (Some files) before now asks a → StopsFirst (Some files) before now asks b → a ≡ b
+    first-one before now [] a b s t p q = absurd p
+    first-one before now (ask ∷ asks) a b s t p q = elim p [
+      | inl here ↦ elim q [
+        | inl at ↦ stop-one before now ask a b s t here at
+        | inr later ↦ absurd (never-both before now ask later.0.0 a s later.0.1 here)
       ]
-
-      pub runs-not_refused : (bytes name : List ℕ) (number : ℕ) (place : Place) → IsProgram (Some files) format file bytes → HasRefusal (Some files) format file name number place → ⊥
-      runs-not_refused bytes name number place program refusal = program-not_refused format file bytes name number place program refusal
-
-      pub runs-not_faulty : (bytes name : List ℕ) (fault : LoadFault) → IsProgram (Some files) format file bytes → HasFault (Some files) format file name fault → ⊥
-      runs-not_faulty bytes name fault program faulty = program-not_faulty format file bytes name fault program faulty
-
-      pub runs-not_bad : (lines : List Line) (name : List ℕ) (line : ℕ) → IsScriptFor (Some files) script lines → HasBadLine (Some files) format file script name line → ⊥
-      runs-not_bad lines name line is bad = script-not_bad name bad.0 lines line is bad.1.2 bad.2 bad.3
-
-      -- no two reasons stop it
-      pub missing-not_refused : (before now : ℕ) (name other : List ℕ) (number : ℕ) (place : Place) → IsMissing (Some files) before now format file script name → HasRefusal (Some files) format file other number place → ⊥
-      missing-not_refused before now name other number place missing refusal = elim missing [
-        | inl run ↦ program-missing-not_refused before now format file name other number place run refusal
-        | inr named ↦ program-not_refused format file named.0.0 other number place named.0.1 refusal
+      | inr more ↦ elim q [
+        | inl at ↦ absurd (never-both before now ask more.0.0 b t more.0.1 at)
+        | inr later ↦ first-one before now asks a b s t more.1 later.1
       ]
+    ]
 
-      pub missing-not_faulty : (before now : ℕ) (name other : List ℕ) (fault : LoadFault) → IsMissing (Some files) before now format file script name → HasFault (Some files) format file other fault → ⊥
-      missing-not_faulty before now name other fault missing faulty = elim missing [
-        | inl run ↦ program-missing-not_faulty before now format file name other fault run faulty
-        | inr named ↦ program-not_faulty format file named.0.0 other fault named.0.1 faulty
-      ]
+    first-never_both : (before now : ℕ) (asks : List Ask) (given : List Given) (stop : Stop) → IsOfFiles stop → Give (Some files) asks given → StopsFirst (Some files) before now asks stop → ⊥
+    first-never_both before now [] given stop s is stops = stops
+    first-never_both before now (ask ∷ asks) (x ∷ given) stop s is stops = elim stops [
+      | inl here ↦ never-both before now ask x stop s is.0 here
+      | inr later ↦ first-never_both before now asks given stop s is.1 later.1
+    ]
+    first-never_both before now (ask ∷ asks) [] stop s is stops = is
 
-      pub missing-not_bad : (before now : ℕ) (name other : List ℕ) (line : ℕ) → IsMissing (Some files) before now format file script name → HasBadLine (Some files) format file script other line → ⊥
-      missing-not_bad before now name other line missing bad = elim missing [
-        | inl run ↦ program-not_missing before now format file bad.1.0 name bad.1.1 run
-        | inr named ↦ read-some other bad.0 bad.2 (ap files (named-one other name bad.1.2 named.0.2) ∙ named.1)
-      ]
+    -- such a reason is no want of memory
+    first-of_files : (before now : ℕ) (asks : List Ask) (stop : Stop) → IsOfFiles stop → Stops (Some files) before now asks stop → StopsFirst (Some files) before now asks stop
+    first-of_files before now asks stop s stops = elim (first-or_memory (Some files) before now asks stop stops) [
+      | inl memory ↦ absurd (subst IsOfFiles memory s)
+      | inr first ↦ first
+    ]
 
-      pub faulty-not_refused : (name other : List ℕ) (fault : LoadFault) (number : ℕ) (place : Place) → HasFault (Some files) format file name fault → HasRefusal (Some files) format file other number place → ⊥
-      faulty-not_refused name other fault number place faulty refusal = faulty-or-refused format file name other fault number place faulty refusal
+    pub one-reading : HasOneReading files
+    one-reading = record {
+      one_given = all-one;
+      one_stop = λ before now asks a b s t p q. first-one before now asks a b s t (first-of_files before now asks a s p) (first-of_files before now asks b t q);
+      never_both = λ before now asks given stop s is stops. first-never_both before now asks given stop s is (first-of_files before now asks stop s stops);
+    }
 
-      pub faulty-not_bad : (name other : List ℕ) (fault : LoadFault) (line : ℕ) → HasFault (Some files) format file name fault → HasBadLine (Some files) format file script other line → ⊥
-      faulty-not_bad name other fault line faulty bad = program-not_faulty format file bad.1.0 name fault bad.1.1 faulty
+-- ---- where a file could not be read the shelf has counted a fault, whether it tells its files or not
 
-      pub refused-not_bad : (name other : List ℕ) (number : ℕ) (place : Place) (line : ℕ) → HasRefusal (Some files) format file name number place → HasBadLine (Some files) format file script other line → ⊥
-      refused-not_bad name other number place line refusal bad = program-not_refused format file bad.1.0 name number place bad.1.1 refusal
-
--- Where a file could not be read the shelf has counted a fault, whether it tells its files or not.
 gather-rose : (files : Files) (before now : ℕ) (top name : List ℕ) {sources : List NamedSource} (o : Outcome) → o ≡ failed name → ComesTo (shelved files before now) top sources o → Rose before now
 gather-rose files before now top name o is (outcomes.one_more other bytes s calls has source rest) = gather-rose files before now top name o is rest
 gather-rose files before now top name o is (outcomes.file_refused other bytes number place calls has refusal) = absurd cc
@@ -164,8 +242,14 @@ program-unread-rose files before now Source file name unread = gather-rose files
 program-unread-rose files before now Memory file name unread = unread.1
 program-unread-rose files before now Image file name unread = unread.1
 
-pub unread-rose : (files : Files) (before now : ℕ) (format : Format) (file : List ℕ) (script : Option (List ℕ)) (name : List ℕ) → IsUnread files before now format file script name → Rose before now
-unread-rose files before now format file script name unread = elim unread [
-  | inl run ↦ program-unread-rose files before now format file name run
-  | inr named ↦ named.1
+ask-unread-rose : (files : Files) (before now : ℕ) (ask : Ask) (name : List ℕ) → StopsAt files before now ask (Unread name) → Rose before now
+ask-unread-rose files before now (program format file) name unread = program-unread-rose files before now format file name unread
+ask-unread-rose files before now (listing file) name unread = program-unread-rose files before now Source file name unread
+ask-unread-rose files before now (script file) name unread = unread.1
+
+pub unread-rose : (files : Files) (before now : ℕ) (asks : List Ask) (name : List ℕ) → StopsFirst files before now asks (Unread name) → Rose before now
+unread-rose files before now [] name unread = absurd unread
+unread-rose files before now (ask ∷ asks) name unread = elim unread [
+  | inl at ↦ ask-unread-rose files before now ask name at
+  | inr later ↦ unread-rose files before now asks name later.1
 ]

@@ -2,6 +2,6 @@ mod Digits
 pub mod Deciding
 pub mod Gathering
 mod Building
-mod Stopping
+pub mod Stopping
 mod Refusals
 mod Outcomes

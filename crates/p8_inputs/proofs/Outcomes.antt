@@ -1,5 +1,5 @@
 -- A source on a shelf that tells its files has one outcome.
-use Rattle.std.proofs.Common.{◌≡◌, ℕ, List, Option, Some, subst}
+use Rattle.std.proofs.Common.{◌≡◌, ℕ, List, Option, Some, ap, subst}
 use Rattle.p8_tree.specs.declared.places.Place.{Place}
 use Rattle.p8_tree.specs.Projects.{NamedSource}
 use Rattle.p8_faults.specs.declared.faults.Fault.{Fault}
@@ -23,6 +23,12 @@ project-not_missing e = cc
 project-not_refused : {a : List NamedSource} {name : List ℕ} {number : ℕ} {place : Place} → project a ≡ refused name number place → ⊥
 project-not_refused e = cc
 
+same-missing : {a b : List ℕ} → missing a ≡ missing b → a ≡ b
+same-missing e = cc
+
+same-refused : {a b : List ℕ} {m n : ℕ} {p q : Place} → refused a m p ≡ refused b n q → (a ≡ b) × (m ≡ n) × (p ≡ q)
+same-refused e = (cc, cc, cc)
+
 missing-not_refused : {a name : List ℕ} {number : ℕ} {place : Place} → missing a ≡ refused name number place → ⊥
 missing-not_refused e = cc
 
@@ -37,7 +43,10 @@ OneBuilt = (files : List NamedSource) → seen.AreDistinct files → seen.HaveMe
 abbrev pub BuiltOrRefused : Type 0
 BuiltOrRefused = (files : List NamedSource) → seen.AreDistinct files → seen.HaveMentioned files → seen.HaveNoRing files → (c : Clock) (a : List ObjectPart) (name : List ℕ) (f : Fault) → IsBuilt files c a → IsRefusedWith files name f → ⊥
 
-module _ (one : OneGathered) (same : OneBuilt) (either : BuiltOrRefused) (files : List ℕ → Option (List ℕ)) where
+abbrev pub OneRefused : Type 0
+OneRefused = (files : List NamedSource) → seen.AreDistinct files → seen.HaveNoRing files → (a b : List ℕ) (f g : Fault) → IsRefusedWith files a f → IsRefusedWith files b g → (a ≡ b) × (f ≡ g)
+
+module _ (one : OneGathered) (same : OneBuilt) (refusal : OneRefused) (either : BuiltOrRefused) (files : List ℕ → Option (List ℕ)) where
   one-project : (top : List ℕ) (a b : List NamedSource) → GathersTo (Some files) top (project a) → GathersTo (Some files) top (project b) → a ≡ b
   one-project top a b g h = same-project (one files 0 0 top (project a) (project b) (g 0 0) (h 0 0) tt tt)
 
@@ -51,10 +60,10 @@ module _ (one : OneGathered) (same : OneBuilt) (either : BuiltOrRefused) (files 
   not-refused : (top name : List ℕ) (number : ℕ) (place : Place) (sources : List NamedSource) (clock : Clock) (objects : List ObjectPart) → IsBuiltFrom (Some files) top sources clock objects → IsRefusedFrom (Some files) top name number place → ⊥
   not-refused top name number place sources clock objects g (while_gathered h) =
       project-not_refused (one files 0 0 top (project sources) (refused name number place) (g.gathered 0 0) (h 0 0) tt tt)
-  not-refused top name number place sources clock objects g (when_built others h refusal) =
+  not-refused top name number place sources clock objects g (when_built others h told) =
       let e : others ≡ sources = one-project top others sources h g.gathered in
       let whole = whole_project (g.gathered 0 0) in
-      either sources (distinct sources whole.distinct) (mentioned sources whole.mentioned) (no_ring sources whole.no_ring) clock objects name (fault number place) g.built (subst (λ s. IsRefusedWith s name (fault number place)) e refusal)
+      either sources (distinct sources whole.distinct) (mentioned sources whole.mentioned) (no_ring sources whole.no_ring) clock objects name (fault number place) g.built (subst (λ s. IsRefusedWith s name (fault number place)) e told)
 
   missing-or-refused : (before now : ℕ) (top name other : List ℕ) (number : ℕ) (place : Place) → Gathers (shelved (Some files) before now) top (missing name) → IsRefusedFrom (Some files) top other number place → ⊥
   missing-or-refused before now top name other number place g (while_gathered h) =
@@ -62,10 +71,25 @@ module _ (one : OneGathered) (same : OneBuilt) (either : BuiltOrRefused) (files 
   missing-or-refused before now top name other number place g (when_built sources h refusal) =
       project-not_missing (one files before now top (project sources) (missing name) (h before now) g tt tt)
 
+  one-refusal : (top a b : List ℕ) (m n : ℕ) (p q : Place) → IsRefusedFrom (Some files) top a m p → IsRefusedFrom (Some files) top b n q → (a ≡ b) × (m ≡ n) × (p ≡ q)
+  one-refusal top a b m n p q (while_gathered g) (while_gathered h) =
+      same-refused (one files 0 0 top (refused a m p) (refused b n q) (g 0 0) (h 0 0) tt tt)
+  one-refusal top a b m n p q (while_gathered g) (when_built sources h told) =
+      absurd (project-not_refused (one files 0 0 top (project sources) (refused a m p) (h 0 0) (g 0 0) tt tt))
+  one-refusal top a b m n p q (when_built sources g told) (while_gathered h) =
+      absurd (project-not_refused (one files 0 0 top (project sources) (refused b n q) (g 0 0) (h 0 0) tt tt))
+  one-refusal top a b m n p q (when_built some g told) (when_built sources h other) =
+      let e : some ≡ sources = one-project top some sources g h in
+      let whole = whole_project (h 0 0) in
+      let is = refusal sources (distinct sources whole.distinct) (no_ring sources whole.no_ring) a b (fault m p) (fault n q) (subst (λ s. IsRefusedWith s a (fault m p)) e told) other in
+      (is.0, ap (λ (f : Fault). f.number) is.1, ap (λ (f : Fault). f.place) is.1)
+
   pub one-outcome : HasOneOutcome files
   one-outcome = record {
     one_image = one-image;
     not_missing = λ before now top name sources clock objects g h. project-not_missing (one files before now top (project sources) (missing name) (g.gathered before now) h tt tt);
     not_refused = not-refused;
     missing_or_refused = missing-or-refused;
+    one_missing = λ before now top a b g h. same-missing (one files before now top (missing a) (missing b) g h tt tt);
+    one_refusal = one-refusal;
   }

@@ -1,21 +1,19 @@
 -- Why there is nothing to run, by the step that finds it.
-use Rattle.std.proofs.Common.{ℕ, ◌≤◌, inl, inr, List, Option, Some, None, arith}
+use Rattle.std.proofs.Common.{◌≡◌, ◌⊎◌, ℕ, ◌≤◌, inl, inr, refl, sym, subst, List, ◌∷◌, Option, Some, None, arith}
+use Rattle.std.specs.Prelude.{Result, Ok, Err, IfErr, IsErrAnd}
 use Rattle.p8_io.specs.Counts.{Rose}
 use Rattle.p8_io.specs.Shelves.{Files, IsLacking}
 use Rattle.p8_inputs.specs.declared.program.Format.{Format}
 use Rattle.p8_inputs.specs.declared.stop.Stop.{Stop}
 use Rattle.p8_inputs.specs.declared.stop.Stop.TheVariants.{Unread, Missing, NoMemory, Refused, BadProgram, BadScript}
 use Rattle.p8_inputs.specs.Inputs.{IsProgram}
-use Rattle.p8_inputs.specs.Steps.{StopsAtProgram, StopsAtScript}
-use Rattle.p8_inputs.specs.Stops.{Stops}
+use Rattle.p8_inputs.specs.Asks.{Ask, program, script_ask, bytes, StopsAtProgram, StopsAtScript, StopsFirst, Stops}
+use Rattle.p8_inputs.specs.Steps.{StopsAtFile}
 
-pub program-stops : (files : Files) (before now : ℕ) (format : Format) (file : List ℕ) (script : Option (List ℕ)) (stop : Stop) → StopsAtProgram files before now format file stop → Stops files before now format file script stop
-program-stops files before now format file script (Unread name) stops = inl stops
-program-stops files before now format file script (Missing name) stops = inl stops
-program-stops files before now format file script NoMemory stops = tt
-program-stops files before now format file script (Refused name number place) stops = stops
-program-stops files before now format file script (BadProgram name fault) stops = stops
-program-stops files before now format file script (BadScript name line) stops = absurd stops
+-- an error that is handed on
+pub handed-on : {T E : Type 0} (r : Result T E) (e : E) (P : E → Type 0) → IsErrAnd r (λ given. given ≡ e) → P e → IfErr r P
+handed-on (Ok x) e P is p = absurd is
+handed-on (Err given) e P is p = subst P (sym is) p
 
 -- a count that rose since a later moment rose
 since : (before between now : ℕ) → before ≤ between → Rose between now → Rose before now
@@ -26,12 +24,54 @@ lacking-since : (before between now : ℕ) (files : Files) (name : List ℕ) →
 lacking-since before between now None name later lacks = since before between now later lacks
 lacking-since before between now (Some files) name later lacks = lacks
 
-pub script-stops : (files : Files) (before between now : ℕ) (format : Format) (file bytes : List ℕ) (script : Option (List ℕ)) (stop : Stop) → before ≤ between → IsProgram files format file bytes → StopsAtScript files between now script stop → Stops files before now format file script stop
-script-stops files before between now format file bytes script (Unread name) later program stops = inr (stops.0, since before between now later stops.1)
-script-stops files before between now format file bytes script (Missing name) later program stops = inr ((bytes, program, stops.0), lacking-since before between now files name later stops.1)
-script-stops files before between now format file bytes script NoMemory later program stops = tt
-script-stops files before between now format file bytes script (Refused name number place) later program stops = absurd stops
-script-stops files before between now format file bytes script (BadProgram name fault) later program stops = absurd stops
-script-stops files before between now format file bytes script (BadScript name line) later program stops =
-    let bad = stops.1 in
-    (bad.0, (bytes, program, stops.0), bad.1, bad.2)
+script-since : (files : Files) (before between now : ℕ) (file : List ℕ) (stop : Stop) → before ≤ between → StopsAtScript files between now file stop → StopsAtScript files before now file stop
+script-since files before between now file (Unread name) later stops = (stops.0, since before between now later stops.1)
+script-since files before between now file (Missing name) later stops = (stops.0, lacking-since before between now files name later stops.1)
+script-since files before between now file NoMemory later stops = tt
+script-since files before between now file (Refused name number place) later stops = absurd stops
+script-since files before between now file (BadProgram name fault) later stops = absurd stops
+script-since files before between now file (BadScript name line) later stops = stops
+
+-- the reason of the first ask that stops is one
+pub first-stops : (files : Files) (before now : ℕ) (asks : List Ask) (stop : Stop) → StopsFirst files before now asks stop → Stops files before now asks stop
+first-stops files before now asks (Unread name) stops = stops
+first-stops files before now asks (Missing name) stops = stops
+first-stops files before now asks NoMemory stops = tt
+first-stops files before now asks (Refused name number place) stops = stops
+first-stops files before now asks (BadProgram name fault) stops = stops
+first-stops files before now asks (BadScript name line) stops = stops
+
+-- the program stops
+pub program-stops : (files : Files) (before now : ℕ) (format : Format) (file : List ℕ) (asks : List Ask) (stop : Stop) → StopsAtProgram files before now format file stop → Stops files before now (program format file ∷ asks) stop
+program-stops files before now format file asks stop stops = first-stops files before now (program format file ∷ asks) stop (inl stops)
+
+pub first-or_memory : (files : Files) (before now : ℕ) (asks : List Ask) (stop : Stop) → Stops files before now asks stop → (stop ≡ NoMemory) ⊎ StopsFirst files before now asks stop
+first-or_memory files before now asks (Unread name) stops = inr stops
+first-or_memory files before now asks (Missing name) stops = inr stops
+first-or_memory files before now asks NoMemory stops = inl refl
+first-or_memory files before now asks (Refused name number place) stops = inr stops
+first-or_memory files before now asks (BadProgram name fault) stops = inr stops
+first-or_memory files before now asks (BadScript name line) stops = inr stops
+
+asked-since : (files : Files) (before between now : ℕ) (named : Option (List ℕ)) (stop : Stop) → before ≤ between → StopsFirst files between now (script_ask named) stop → StopsFirst files before now (script_ask named) stop
+asked-since files before between now None stop later stops = absurd stops
+asked-since files before between now (Some file) stop later stops = elim stops [
+  | inl at ↦ inl (script-since files before between now file stop later at)
+  | inr more ↦ inr more
+]
+
+-- the program is there, and the pin script stops
+pub script-stops : (files : Files) (before between now : ℕ) (format : Format) (file xs : List ℕ) (named : Option (List ℕ)) (stop : Stop) → before ≤ between → IsProgram files format file xs → Stops files between now (script_ask named) stop → Stops files before now (program format file ∷ script_ask named) stop
+script-stops files before between now format file xs named stop later there stops = elim (first-or_memory files between now (script_ask named) stop stops) [
+  | inl memory ↦ subst (λ (s : Stop). Stops files before now (program format file ∷ script_ask named) s) (sym memory) tt
+  | inr first ↦ first-stops files before now (program format file ∷ script_ask named) stop (inr ((bytes xs, there), asked-since files before between now named stop later first))
+]
+
+-- the bytes of a pin script stop it
+pub file-stops : (files : Files) (before now : ℕ) (file : List ℕ) (stop : Stop) → StopsAtFile files before now file stop → StopsAtScript files before now file stop
+file-stops files before now file (Unread name) stops = stops
+file-stops files before now file (Missing name) stops = stops
+file-stops files before now file NoMemory stops = tt
+file-stops files before now file (Refused name number place) stops = absurd stops
+file-stops files before now file (BadProgram name fault) stops = absurd stops
+file-stops files before now file (BadScript name line) stops = absurd stops

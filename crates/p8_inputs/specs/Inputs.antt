@@ -1,9 +1,9 @@
 -- The files of a run on a shelf: what is run, with the files of its project, and the pin script (this project's profile).
-use Rattle.std.specs.Prelude.{ℕ, ◌≡◌, ◌⊎◌, List, [], Option, Some, None}
+use Rattle.std.specs.Prelude.{ℕ, ◌≡◌, List, [], Option, Some, None}
 use Rattle.p8_history.specs.Worlds.{Line}
 use Rattle.p8_tree.specs.declared.places.Place.{Place}
 use Rattle.p8_image.specs.declared.faults.LoadFault.{LoadFault}
-use Rattle.p8_pins.specs.Scripts.{IsReadAs, IsFault}
+use Rattle.p8_pins.specs.Scripts.{IsReadAs}
 use Rattle.p8_io.specs.Counts.{Rose}
 use Rattle.p8_io.specs.Shelves.{Files, IsLacking, IsRead}
 use Rattle.p8_objects.specs.Outcomes.{missing, failed, shelved, Gathers}
@@ -22,29 +22,15 @@ abbrev pub IsScriptFor : Files → Option (List ℕ) → List Line → Type 0
 IsScriptFor files None script = script ≡ []
 IsScriptFor files (Some name) script = (bytes : List ℕ) × IsRead files name bytes × IsReadAs bytes script
 
--- a pin script of this name is looked at, which comes after what can be run
-abbrev pub HasScript : Files → Format → (file : List ℕ) → Option (List ℕ) → (name : List ℕ) → Type 0
-HasScript files format file script name = (bytes : List ℕ) × IsProgram files format file bytes × (script ≡ Some name)
-
 -- the file to run is missing, or one of its project, by what the shelf tells, with its counts before and now
 abbrev pub IsProgramMissing : Files → (before now : ℕ) → Format → (file name : List ℕ) → Type 0
 IsProgramMissing files before now Source file name = Gathers (shelved files before now) file (missing name)
 IsProgramMissing files before now format file name = (name ≡ file) × IsLacking before now files name
 
--- one of all files is missing
-abbrev pub IsMissing : Files → (before now : ℕ) → Format → (file : List ℕ) → Option (List ℕ) → (name : List ℕ) → Type 0
-IsMissing files before now format file script name =
-    IsProgramMissing files before now format file name ⊎ (HasScript files format file script name × IsLacking before now files name)
-
 -- the file to run could not be read, or one of its project: the shelf has counted a fault
 abbrev pub IsProgramUnread : Files → (before now : ℕ) → Format → (file name : List ℕ) → Type 0
 IsProgramUnread files before now Source file name = Gathers (shelved files before now) file (failed name)
 IsProgramUnread files before now format file name = (name ≡ file) × Rose before now
-
--- one of all files could not be read
-abbrev pub IsUnread : Files → (before now : ℕ) → Format → (file : List ℕ) → Option (List ℕ) → (name : List ℕ) → Type 0
-IsUnread files before now format file script name =
-    IsProgramUnread files before now format file name ⊎ ((script ≡ Some name) × Rose before now)
 
 -- the source to run is refused: a file of its project, with a number, at a place
 abbrev pub HasRefusal : Files → Format → (file name : List ℕ) → (number : ℕ) → Place → Type 0
@@ -55,8 +41,3 @@ HasRefusal files format file name number place = ⊥
 abbrev pub HasFault : Files → Format → (file name : List ℕ) → LoadFault → Type 0
 HasFault files Source file name fault = ⊥
 HasFault files format file name fault = (bytes : List ℕ) × (name ≡ file) × IsRead files name bytes × (fault_of format bytes ≡ Some fault)
-
--- the pin script is refused, at this line
-abbrev pub HasBadLine : Files → Format → (file : List ℕ) → Option (List ℕ) → (name : List ℕ) → (line : ℕ) → Type 0
-HasBadLine files format file script name line =
-    (bytes : List ℕ) × HasScript files format file script name × IsRead files name bytes × IsFault bytes line

@@ -1,5 +1,6 @@
 -- What is run: bytes, by what they are taken for (this project's profile). Those of a source are its image.
-use Rattle.std.specs.Prelude.{ℕ, ◌≡◌, nat_le, if◌then◌else◌, List, length, Option, Some, None}
+use Rattle.std.specs.Prelude.{ℕ, ◌≡◌, ◌==◌, nat_le, if◌then◌else◌, Bool, List, length, Option, Some, None, codes}
+use Rattle.std.specs.List.{ends_with}
 use Rattle.p8_words.specs.declared.failure.Fail.{Fail}
 use Rattle.p8_words.specs.declared.failure.Fail.TheVariants.{Refused, NoMemory}
 use Rattle.p8_access.specs.declared.kinds.Origin.{Origin}
@@ -12,6 +13,14 @@ use Rattle.p8_image.specs.Headers.{header_of}
 use Rattle.p8_image.specs.Loading.{first_fault, memory_of, start_of}
 use Rattle.p8_inputs.specs.declared.program.Format.{Format}
 use Rattle.p8_inputs.specs.declared.program.Format.TheVariants.{Memory, Image, Source}
+
+-- the name of an image
+abbrev pub is_image_name : List ℕ → Bool
+is_image_name name = ends_with (λ (a b : ℕ). a == b) name (codes ".binary")
+
+-- what a file to run is taken for, by its name: an image, or else a source
+abbrev pub format_named : List ℕ → Format
+format_named name = if is_image_name name then Image else Source
 
 -- the first fault of what is run, if it can't be: hub memory has to fit the hub, and an image has rules of its own
 abbrev pub fault_of : Format → List ℕ → Option LoadFault

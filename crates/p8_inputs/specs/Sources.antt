@@ -45,3 +45,7 @@ pub record HasOneOutcome (files : List ℕ → Option (List ℕ)) : Type 0 where
       → IsBuiltFrom (Some files) top sources clock objects → ¬ IsRefusedFrom (Some files) top name number place
   pub missing_or_refused : (before now : ℕ) (top name other : List ℕ) (number : ℕ) (place : Place)
       → Gathers (shelved (Some files) before now) top (missing name) → ¬ IsRefusedFrom (Some files) top other number place
+  pub one_missing : (before now : ℕ) (top a b : List ℕ)
+      → Gathers (shelved (Some files) before now) top (missing a) → Gathers (shelved (Some files) before now) top (missing b) → a ≡ b
+  pub one_refusal : (top a b : List ℕ) (m n : ℕ) (p q : Place)
+      → IsRefusedFrom (Some files) top a m p → IsRefusedFrom (Some files) top b n q → (a ≡ b) × (m ≡ n) × (p ≡ q)

@@ -1,14 +1,13 @@
 -- internal
 -- Why one file gives nothing.
-use Rattle.std.specs.Prelude.{ℕ, ◌≡◌, List, Option, Some}
+use Rattle.std.specs.Prelude.{ℕ, ◌≡◌, List}
 use Rattle.p8_access.specs.declared.memory.Boot.{Boot}
 use Rattle.p8_io.specs.Counts.{Rose}
 use Rattle.p8_io.specs.Shelves.{Files, IsLacking, IsRead}
-use Rattle.p8_pins.specs.Scripts.{IsFault}
 use Rattle.p8_inputs.specs.declared.program.Format.{Format}
 use Rattle.p8_inputs.specs.declared.stop.Stop.{Stop}
-use Rattle.p8_inputs.specs.declared.stop.Stop.TheVariants.{Unread, Missing, NoMemory, Refused, BadProgram, BadScript}
-use Rattle.p8_inputs.specs.Inputs.{IsProgram, IsProgramMissing, IsProgramUnread, HasRefusal, HasFault}
+use Rattle.p8_inputs.specs.declared.stop.Stop.TheVariants.{Unread, Missing, NoMemory}
+use Rattle.p8_inputs.specs.Inputs.{IsProgram}
 use Rattle.p8_inputs.specs.Programs.{memory_by, first_by}
 use Rattle.p8_inputs.specs.Runs.{HasProperTrees}
 
@@ -24,22 +23,3 @@ StopsAtFile files before now file (Unread name) = (name ≡ file) × Rose before
 StopsAtFile files before now file (Missing name) = (name ≡ file) × IsLacking before now files name
 StopsAtFile files before now file NoMemory = Unit {0}
 StopsAtFile files before now file _ = ⊥
-
--- why a file gives nothing to run
-abbrev pub StopsAtProgram : Files → (before now : ℕ) → Format → (file : List ℕ) → Stop → Type 0
-StopsAtProgram files before now format file (Unread name) = IsProgramUnread files before now format file name
-StopsAtProgram files before now format file (Missing name) = IsProgramMissing files before now format file name
-StopsAtProgram files before now format file NoMemory = Unit {0}
-StopsAtProgram files before now format file (Refused name number place) = HasRefusal files format file name number place
-StopsAtProgram files before now format file (BadProgram name fault) = HasFault files format file name fault
-StopsAtProgram files before now format file (BadScript name line) = ⊥
-
--- why a file gives no pin script
-abbrev pub StopsAtScript : Files → (before now : ℕ) → Option (List ℕ) → Stop → Type 0
-StopsAtScript files before now script (Unread name) = (script ≡ Some name) × Rose before now
-StopsAtScript files before now script (Missing name) = (script ≡ Some name) × IsLacking before now files name
-StopsAtScript files before now script NoMemory = Unit {0}
-StopsAtScript files before now script (Refused name number place) = ⊥
-StopsAtScript files before now script (BadProgram name fault) = ⊥
-StopsAtScript files before now script (BadScript name line) =
-    (script ≡ Some name) × ((bytes : List ℕ) × IsRead files name bytes × IsFault bytes line)

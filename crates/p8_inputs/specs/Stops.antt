@@ -1,23 +1,11 @@
--- Why there is nothing to run, and the line that tells it (this project's profile).
-use Rattle.std.specs.Prelude.{ℕ, List, [], ◌∷◌, ◌++◌, Option, codes}
+-- The line that tells why there is nothing to run (this project's profile).
+use Rattle.std.specs.Prelude.{ℕ, List, [], ◌∷◌, ◌++◌, codes}
 use Rattle.std.specs.Fmt.{decimal}
 use Rattle.p8_tree.specs.declared.places.Place.{Place}
 use Rattle.p8_image.specs.Messages.{fault_text}
-use Rattle.p8_io.specs.Shelves.{Files}
-use Rattle.p8_inputs.specs.declared.program.Format.{Format}
 use Rattle.p8_inputs.specs.declared.stop.Stop.{Stop}
 use Rattle.p8_inputs.specs.declared.stop.Stop.TheVariants.{Unread, Missing, NoMemory, Refused, BadProgram, BadScript}
-use Rattle.p8_inputs.specs.Inputs.{IsUnread, IsMissing, HasRefusal, HasFault, HasBadLine}
 use Rattle.p8_inputs.specs.Refusals.{name_numbered}
-
--- each reason has its cause, between the shelf's counts before and now; want of memory is the only one that may always come
-abbrev pub Stops : Files → (before now : ℕ) → Format → (file : List ℕ) → Option (List ℕ) → Stop → Type 0
-Stops files before now format file script (Unread name) = IsUnread files before now format file script name
-Stops files before now format file script (Missing name) = IsMissing files before now format file script name
-Stops files before now format file script NoMemory = Unit {0}
-Stops files before now format file script (Refused name number place) = HasRefusal files format file name number place
-Stops files before now format file script (BadProgram name fault) = HasFault files format file name fault
-Stops files before now format file script (BadScript name line) = HasBadLine files format file script name line
 
 -- a place in a file, and what is wrong there
 abbrev pub refusal_line : (name : List ℕ) → (number : ℕ) → Place → List ℕ

@@ -1,12 +1,12 @@
 // The files of a run.
-ghost use Rattle.std.specs.Prelude.{◌≡◌, ◌≤◌, Some, IfOk, IfErr};
+ghost use Rattle.std.specs.Prelude.{◌≡◌, ◌≤◌, ◌∷◌, Some, IfOk, IfErr};
 ghost use Rattle.p8_access.specs.Proper.{IsProperOrigin};
 ghost use Rattle.p8_io.specs.Shelves.{IsRead};
+ghost use Rattle.p8_inputs.specs.Asks.{StopsAtProgram, StopsAtScript, Stops, program as program_ask, script_ask};
 ghost use Rattle.p8_inputs.specs.Inputs.{IsScriptFor};
 ghost use Rattle.p8_inputs.specs.Naming.{name_of};
 ghost use Rattle.p8_inputs.specs.Runs.{Begins};
-ghost use Rattle.p8_inputs.specs.Steps.{IsBootOf, StopsAtFile, StopsAtProgram, StopsAtScript};
-ghost use Rattle.p8_inputs.specs.Stops.{Stops};
+ghost use Rattle.p8_inputs.specs.Steps.{IsBootOf, StopsAtFile};
 ghost use Rattle.p8_inputs.specs.declared.program.Format.TheVariants.{Memory, Image, Source};
 
 use crate::boots::{image_boot, memory_boot};
@@ -110,7 +110,7 @@ fn boot_in<S: Shelf>(alloc: Global, program: Program<'_>, shelf: &mut S) -> Resu
 /// The pin script of a file.
 fn script_in<S: Shelf>(alloc: Global, file: &str, shelf: &mut S) -> Result<PinScript, Stop>
     ensures script { IfOk result (IsScriptFor (S.files shelf.old) (Some file.now)) }
-    ensures stopped { IfErr result (StopsAtScript (S.files shelf.old) (S.faults shelf.old) (S.faults shelf.new) (Some file.now)) }
+    ensures stopped { IfErr result (StopsAtScript (S.files shelf.old) (S.faults shelf.old) (S.faults shelf.new) file.now) }
     ensures later { S.faults shelf.old ≤ S.faults shelf.new }
     ensures kept { S.files shelf.new ≡ S.files shelf.old }
 {
@@ -133,7 +133,7 @@ fn script_for<S: Shelf>(
     shelf: &mut S,
 ) -> Result<PinScript, Stop>
     ensures script { IfOk result (IsScriptFor (S.files shelf.old) (name_of script.entry)) }
-    ensures stopped { IfErr result (StopsAtScript (S.files shelf.old) (S.faults shelf.old) (S.faults shelf.new) (name_of script.entry)) }
+    ensures stopped { IfErr result (Stops (S.files shelf.old) (S.faults shelf.old) (S.faults shelf.new) (script_ask (name_of script.entry))) }
     ensures later { S.faults shelf.old ≤ S.faults shelf.new }
     ensures kept { S.files shelf.new ≡ S.files shelf.old }
 {
@@ -148,7 +148,8 @@ fn script_for<S: Shelf>(
 ///
 /// # Errors
 ///
-/// The first reason why there is nothing to run. `Missing`: the shelf has no file of that name. `Refused`: exactly where the project
+/// Those of the first file that stops, in this order; where the shelf tells its files there is one such reason alone ([`one_reading`]
+/// (crate::one_reading)), but for want of memory and faults of the shelf. `Missing`: the shelf has no file of that name. `Refused`: exactly where the project
 /// of a source is refused, with its first refusal ([`image_of_source`](crate::image_of_source)). `BadProgram`: exactly where
 /// the file to run is no image, with its first fault, or is more than 32,768 bytes of hub memory. `BadScript`: exactly
 /// where the pin script has a bad line, or more than 1,048,576 bytes. `Unread`: only where the shelf has counted a fault.
@@ -161,7 +162,7 @@ pub fn read_inputs<S: Shelf>(
 ) -> Result<Inputs, Stop>
     ensures begins { IfOk result (Begins (S.files shelf.old) program.entry.format program.entry.file.now (name_of script.entry)) }
     ensures proper { IfOk result (λ inputs. IsProperOrigin inputs.boot.first) }
-    ensures stopped { IfErr result (Stops (S.files shelf.old) (S.faults shelf.old) (S.faults shelf.new) program.entry.format program.entry.file.now (name_of script.entry)) }
+    ensures stopped { IfErr result (Stops (S.files shelf.old) (S.faults shelf.old) (S.faults shelf.new) (program_ask program.entry.format program.entry.file.now ∷ script_ask (name_of script.entry))) }
     ensures later { S.faults shelf.old ≤ S.faults shelf.new }
     ensures kept { S.files shelf.new ≡ S.files shelf.old }
 {

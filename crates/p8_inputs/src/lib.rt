@@ -11,7 +11,7 @@ mod stop;
 mod telling;
 
 pub use inputs::{Inputs, read_inputs};
-pub use laws::one_source;
+pub use laws::{one_reading, one_source};
 pub use program::{Format, Program};
 pub use sources::{image_of_source, listing_of_source};
 pub use stop::Stop;

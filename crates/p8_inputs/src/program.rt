@@ -1,4 +1,6 @@
 // What is run.
+ghost use Rattle.std.specs.Prelude.{◌≡◌};
+ghost use Rattle.p8_inputs.specs.Programs.{format_named};
 
 /// What the file to run is taken for.
 #[derive(Clone, Copy, Debug, PartialEq, Eq)]
@@ -9,6 +11,19 @@ pub enum Format {
     Image,
     /// The top file of a project of sources in Spin, whose image is run.
     Source,
+}
+
+impl Format {
+    /// What a file to run is taken for, by its name: an image where that ends in `.binary`, and else a source.
+    pub fn named(file: &str) -> Format
+        ensures { result ≡ format_named file.now }
+    {
+        if file.as_bytes().ends_with(b".binary") {
+            Format::Image
+        } else {
+            Format::Source
+        }
+    }
 }
 
 /// A file to run.

@@ -1,15 +1,14 @@
 // What a source is built to.
-ghost use Rattle.std.specs.Prelude.{◌≡◌, ◌≤◌, ℕ, List, None, Err, map, IfOk, IfErr};
+ghost use Rattle.std.specs.Prelude.{◌≡◌, ◌≤◌, ◌∷◌, [], ℕ, List, Err, map, IfOk, IfErr};
 ghost use Rattle.p8_tree.specs.Projects.{NamedSource};
 ghost use Rattle.p8_tree.specs.Views.{named_sources_of};
 ghost use Rattle.p8_io.specs.Shelves.{Files};
 ghost use Rattle.p8_objects.specs.Outcomes.{shelved, Answers};
 ghost use Rattle.p8_build.specs.Told.{IsImageOf, IsRefusal};
+ghost use Rattle.p8_inputs.specs.Asks.{StopsAtProgram, Stops, program as program_ask, listing as listing_ask};
 ghost use Rattle.p8_inputs.specs.Gathered.{IsProject, IsWhole, IsListingOf, StopsAtBuilding};
 ghost use Rattle.p8_inputs.specs.Runs.{HasProperTrees};
 ghost use Rattle.p8_inputs.specs.Sources.{IsImageFrom, IsListingFrom};
-ghost use Rattle.p8_inputs.specs.Steps.{StopsAtProgram};
-ghost use Rattle.p8_inputs.specs.Stops.{Stops};
 ghost use Rattle.p8_inputs.specs.declared.program.Format.TheVariants.{Source};
 
 use crate::stop::Stop;
@@ -146,7 +145,7 @@ fn listing_in<S: Shelf>(alloc: Global, file: &str, shelf: &mut S) -> Result<Vec<
 pub fn image_of_source<S: Shelf>(alloc: Global, file: &str, shelf: &mut S) -> Result<Image, Stop>
     ensures image { IfOk result (IsImageFrom (S.files shelf.old) file.now) }
     ensures trees { IfOk result (HasProperTrees (S.files shelf.old) Source file.now) }
-    ensures stopped { IfErr result (Stops (S.files shelf.old) (S.faults shelf.old) (S.faults shelf.new) Source file.now None) }
+    ensures stopped { IfErr result (Stops (S.files shelf.old) (S.faults shelf.old) (S.faults shelf.new) (program_ask Source file.now ∷ [])) }
     ensures later { S.faults shelf.old ≤ S.faults shelf.new }
     ensures kept { S.files shelf.new ≡ S.files shelf.old }
 {
@@ -164,7 +163,7 @@ pub fn listing_of_source<S: Shelf>(
     shelf: &mut S,
 ) -> Result<Vec<u8>, Stop>
     ensures text { IfOk result (λ text. IsListingFrom (S.files shelf.old) file.now text.items) }
-    ensures stopped { IfErr result (Stops (S.files shelf.old) (S.faults shelf.old) (S.faults shelf.new) Source file.now None) }
+    ensures stopped { IfErr result (Stops (S.files shelf.old) (S.faults shelf.old) (S.faults shelf.new) (listing_ask file.now ∷ [])) }
     ensures later { S.faults shelf.old ≤ S.faults shelf.new }
     ensures kept { S.files shelf.new ≡ S.files shelf.old }
 {

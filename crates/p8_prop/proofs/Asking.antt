@@ -1,10 +1,8 @@
--- The trace of a run is the text that its command asks for, and what the headline says of it.
-use Rattle.std.proofs.Common.{◌≡◌, ◌<◌, sym, ◌∙◌, ap, subst, refl, Bool, ℕ, List, length}
+-- What the headline says of images and of runs.
+use Rattle.std.proofs.Common.{◌≡◌, ◌<◌, sym, ◌∙◌, ap, subst, ℕ, List, length}
 use Rattle.p8_access.specs.declared.order.Turn.{Turn}
 use Rattle.p8_history.specs.Worlds.{World}
 use Rattle.p8_history.specs.Histories.{Ended}
-use Rattle.p8_history.proofs.OneHistory.{one-history}
-use Rattle.p8_history.proofs.Rising.{rises}
 use Rattle.p8_tree.specs.Projects.{NamedSource}
 use Rattle.p8_kinds.specs.declared.children.Children.{Children}
 use Rattle.p8_children.specs.Mentions as mentions
@@ -20,25 +18,18 @@ use Rattle.p8_build.specs.Files.{CompiledFile}
 use Rattle.p8_build.specs.Builds.{AreCompiled, objects_of}
 use Rattle.p8_io.specs.Shelves.{Files}
 use Rattle.p8_lives.specs.Lives.{asks}
-use Rattle.p8_lives.specs.Laws.{one-asked, asked-first, asked-later}
-use Rattle.p8_ledger.specs.declared.outcome.Limits.{Limits}
-use Rattle.p8_ledger.specs.Worlds as machine
 use Rattle.p8_meaning.specs.Programs.{Program, Addresses}
 use Rattle.p8_objects.proofs.Wholes.{whole_project}
 use Rattle.p8_told_lives.specs.Told.{IsWorldOf, SpinIsTold}
 use Rattle.p8_placed.specs.Programs.{program_of, addresses_of}
 use Rattle.p8_placed.specs.Meaning.{KeepsMeaning}
-use Rattle.p8_inputs.specs.declared.inputs.Inputs.{Inputs}
 use Rattle.p8_inputs.specs.declared.program.Format.{Format}
 use Rattle.p8_inputs.specs.declared.program.Format.TheVariants.{Memory, Image, Source}
-use Rattle.p8_inputs.specs.Programs.{world_of, memory_by, first_by}
-use Rattle.p8_inputs.specs.Runs.{Begins, HasProperTrees}
+use Rattle.p8_inputs.specs.Programs.{memory_by, first_by}
+use Rattle.p8_inputs.specs.Runs.{HasProperTrees}
 use Rattle.p8_inputs.specs.Sources.{IsBuiltFrom}
 use Rattle.p8_inputs.proofs.Gathering.{some, distinct, mentioned, no_ring}
-use Rattle.p8_prop.specs.Commands.{Options, Run}
-use Rattle.p8_prop.specs.Verdicts.{IsTrace}
 use Rattle.p8_prop.specs.Headline.{IsToldBySource, IsBuild}
-use Rattle.p8_prop.specs.Outcomes.{IsText}
 
 -- ---- what a source says of a run
 
@@ -100,28 +91,3 @@ builds-keep keep files file bytes trees =
       written = trees.5;
       keeps = subst (λ (image : List ℕ). KeepsMeaning (memory_of image) (program_of sources built.children built.compiled) (addresses_of sources built.compiled trees.2)) (sym trees.5) at;
     }
-
--- ---- the text of a run
-
-pub asked : RunsAreTold → (files : Files) (alone : Bool) (format : Format) (file : List ℕ) (clocks : ℕ) (options : Options) (limits : Limits) (inputs : Inputs) (text : List ℕ)
-    → Begins files format file options.script inputs → limits.clocks ≡ clocks → limits.turns ≡ options.turns
-    → IsTrace (machine.world_of inputs.boot inputs.script limits) options.dump text
-    → IsText files (Run alone format file clocks options) text
-asked told files alone format file clocks options limits inputs text begins same_clocks turns trace =
-    let w = world_of format begins.0 inputs.script clocks options.turns in
-    let same : machine.world_of inputs.boot inputs.script limits ≡ w =
-    λ i. record { memory = begins.3 i; first = begins.4 i; script = inputs.script; clocks = same_clocks i; turns = turns i } in
-    let t = subst (λ (v : World). IsTrace v options.dump text) same trace in (
-      (begins.0, inputs.script, begins.1, begins.5, t),
-      record {
-        bytes = begins.0;
-        script = inputs.script;
-        past = t.0;
-        program = begins.1;
-        pins = begins.5;
-        history = record { ended = t.1; rises = rises asks w one-asked asked-first asked-later t.0 t.1.legal; only = λ other ended. one-history asks w one-asked other t.0 ended t.1 };
-        source = told files format file begins.0 begins.2 w refl refl t.0 t.1;
-        printed = t.2;
-      },
-      tt,
-    )

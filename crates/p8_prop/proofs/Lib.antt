@@ -1,5 +1,4 @@
-pub mod Digits
-pub mod Reading
-pub mod Telling
-pub mod Completing
-pub mod Asking
+mod Asking
+mod Coming
+mod Completing
+mod Answering

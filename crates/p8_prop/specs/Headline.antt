@@ -1,6 +1,6 @@
 -- The headline: what a run prints is the trace of the one history of its program, and in it each life of Spin is what its source says;
 -- and what a build writes keeps the meaning of its source (this project's profile).
-use Rattle.std.specs.Prelude.{ℕ, ◌≡◌, List, Option, Some}
+use Rattle.std.specs.Prelude.{ℕ, ◌≡◌, List}
 use Rattle.p8_access.specs.declared.order.Turn.{Turn}
 use Rattle.p8_history.specs.Worlds.{Line, World}
 use Rattle.p8_history.specs.Histories.{Ended, Rises}
@@ -12,19 +12,15 @@ use Rattle.p8_image.specs.Loading.{memory_of}
 use Rattle.p8_lives.specs.Lives.{asks}
 use Rattle.p8_report.specs.Text.{text_of}
 use Rattle.p8_io.specs.Shelves.{Files}
-use Rattle.p8_io.specs.Sinks.{Appended}
 use Rattle.p8_told_lives.specs.Told.{SpinIsTold}
 use Rattle.p8_placed.specs.Programs.{program_of, addresses_of}
 use Rattle.p8_placed.specs.Meaning.{KeepsMeaning}
 use Rattle.p8_inputs.specs.declared.program.Format.{Format}
-use Rattle.p8_inputs.specs.declared.program.Format.TheVariants.{Source}
+use Rattle.p8_inputs.specs.declared.program.Format.TheVariants.{Memory, Source}
 use Rattle.p8_inputs.specs.Inputs.{IsProgram, IsScriptFor}
-use Rattle.p8_inputs.specs.Programs.{world_of}
+use Rattle.p8_inputs.specs.Programs.{format_named, world_of}
 use Rattle.p8_inputs.specs.Sources.{IsBuiltFrom}
-use Rattle.p8_prop.specs.declared.status.Status.{Status}
-use Rattle.p8_prop.specs.declared.status.Status.TheVariants.{Ok as Done}
-use Rattle.p8_prop.specs.Commands.{Command, Options, BuildSource, Run}
-use Rattle.p8_prop.specs.Verdicts.{Outside}
+use Rattle.p8_commands.specs.Commands.{Command, Running, BuildSource, ListSource, RunMemory, RunProgram, Make, Help}
 
 -- the one history of a world: it has ended, its keys rise, and no other one has ended
 pub record IsOneHistory (w : World) (past : List Turn) : Type 0 where
@@ -40,26 +36,16 @@ IsToldBySource files Source file bytes w past =
     SpinIsTold (program_of sources is.built.children is.built.compiled) (addresses_of sources is.built.compiled objects) w past
 IsToldBySource files format file bytes w past = Unit {0}
 
--- this text is the trace of a run: of a file, by what it is taken for, up to a clock
-pub record IsRun (files : Files) (format : Format) (file : List ℕ) (clocks : ℕ) (options : Options) (text : List ℕ) : Type 0 where
+-- this text is the trace of a run, whose file is taken for this
+pub record IsRun (files : Files) (format : Format) (run : Running) (text : List ℕ) : Type 0 where
   pub bytes : List ℕ
   pub script : List Line
   pub past : List Turn
-  pub program : IsProgram files format file bytes
-  pub pins : IsScriptFor files options.script script
-  pub history : IsOneHistory (world_of format bytes script clocks options.turns) past
-  pub source : IsToldBySource files format file bytes (world_of format bytes script clocks options.turns) past
-  pub printed : text ≡ text_of (world_of format bytes script clocks options.turns) past options.dump
-
--- it is, where the words ask for one, whoever makes the turns
-abbrev pub IsHeadline : Files → Option Command → (text : List ℕ) → Type 0
-IsHeadline files (Some (Run alone format file clocks options)) text = IsRun files format file clocks options text
-IsHeadline files command text = Unit {0}
-
--- with status 0 such a text was written
-abbrev pub HasHeadline : Outside → Option Command → Status → Type 0
-HasHeadline o command Done = (text : List ℕ) × IsHeadline o.files command text × Appended o.taken_before o.taken_now text
-HasHeadline o command status = Unit {0}
+  pub program : IsProgram files format run.file bytes
+  pub pins : IsScriptFor files run.script script
+  pub history : IsOneHistory (world_of format bytes script run.clocks run.turns) past
+  pub source : IsToldBySource files format run.file bytes (world_of format bytes script run.clocks run.turns) past
+  pub printed : text ≡ text_of (world_of format bytes script run.clocks run.turns) past run.dump
 
 -- this is the image of a source's project, and the memory that it begins with keeps the meaning of the source
 pub record IsBuild (files : Files) (file text : List ℕ) : Type 0 where
@@ -70,11 +56,11 @@ pub record IsBuild (files : Files) (file text : List ℕ) : Type 0 where
   pub written : text ≡ image_of clock objects
   pub keeps : KeepsMeaning (memory_of text) (program_of sources from.built.children from.built.compiled) (addresses_of sources from.built.compiled objects)
 
--- it is, where the words ask for one
-abbrev pub IsKept : Files → Option Command → (text : List ℕ) → Type 0
-IsKept files (Some (BuildSource file)) text = IsBuild files file text
-IsKept files command text = Unit {0}
-
-abbrev pub HasKept : Outside → Option Command → Status → Type 0
-HasKept o command Done = (text : List ℕ) × IsKept o.files command text × Appended o.taken_before o.taken_now text
-HasKept o command status = Unit {0}
+-- what the headline says of the text of a command
+abbrev pub IsHeadline : Files → Command → (text : List ℕ) → Type 0
+IsHeadline files (BuildSource file) text = IsBuild files file text
+IsHeadline files (ListSource file) text = Unit {0}
+IsHeadline files (RunMemory run) text = IsRun files Memory run text
+IsHeadline files (RunProgram alone run) text = IsRun files (format_named run.file) run text
+IsHeadline files (Make alone seed) text = Unit {0}
+IsHeadline files (Help topic) text = Unit {0}

@@ -1,11 +1,8 @@
 -- What public contracts cite.
 pub mod Codes
-pub mod Commands
+pub mod Texts
 pub mod Verdicts
 pub mod Headline
+pub mod Promises
 -- Machinery that only proofs need.
-pub mod Naming
-pub mod Outcomes
-pub mod Ranges
-pub mod Seen
-pub mod Taking
+pub mod Works

@@ -1,35 +1,26 @@
 // The top calls.
-ghost use Rattle.std.specs.Prelude.{◌≡◌, ◌≤◌, ◌++◌, ◌∷◌, [], codes, map, string_bytes, ℕ, Some, IfOk, IfErr, IfSome};
-ghost use Rattle.p8_io.specs.Shelves.{Files};
-ghost use Rattle.p8_io.specs.Sinks.{Wrote};
-ghost use Rattle.p8_prop.specs.Commands.{Command, alone_of, command_of};
-ghost use Rattle.p8_prop.specs.Headline.{HasHeadline, HasKept};
-ghost use Rattle.p8_prop.specs.Outcomes.{IsText, HasNoText};
-ghost use Rattle.p8_prop.specs.Seen.{seen_if_any, IsTaskWithin};
-ghost use Rattle.p8_prop.specs.Verdicts.{Answers, TellsLine, IsComplete, HasOneDue, HasOneText, outside, usage_line};
-ghost use Rattle.p8_prop.specs.declared.status.Status.TheVariants.{Usage, NoMemory as OutOfMemory};
+ghost use Rattle.std.specs.Prelude.{◌≡◌, map, string_bytes, IfOk, IfSome};
+ghost use Rattle.p8_commands.specs.Commands.{alone_of, command_of};
+ghost use Rattle.p8_commands.specs.Seen.{command_if_any, HasLimits};
+ghost use Rattle.p8_prop.specs.Promises.{Keeps};
 
-use crate::outcome::Outcome;
+use crate::answer::{answered, stopped, unsaid};
 use crate::status::Status;
-use crate::text::{text_alone, text_by_crew, written};
-use crate::words::{Task, task_in};
+use crate::text::{text_alone, text_by_crew};
+use p8_commands::{Command, command_in};
 use p8_crew::Starter;
-use p8_inputs::{Stop, one_source};
-use p8_io::{Shelf, Sink, write_pieces};
+use p8_inputs::{Stop, one_reading};
+use p8_io::{Shelf, Sink};
 use p8_words::NoMemory;
 use std::alloc::Global;
 use std::sync::Wait;
 use std::thread::Threads;
 
-/// The line of words that are no command.
-const USAGE: &[u8] =
-    b"prop: usage: prop build|list FILE, prop raw|run FILE CLOCKS [--pins F] [--turns K] [--dump A:N] [--alone]\n";
-
 /// Does what the words say, and writes its text to `out`: `build FILE` the bytes of the image of a source, `list FILE` its listing,
 /// `raw FILE CLOCKS` the trace of a run of the file's bytes as hub memory, with cog 0 started on them as PASM,
-/// `run FILE CLOCKS` that of a run of an image, with cog 0 started as Spin by its header, and `make SEED` a summary of a run of
-/// the made program of a seed. `run` takes a file with a name that ends in `.binary` as an image and any other as a source,
-/// which it builds first. A source is the top file of a project: the files that its objects mention are read from the shelf too.
+/// `run FILE CLOCKS` that of a run of an image, with cog 0 started as Spin by its header, `make SEED` a summary of a run of
+/// the made program of a seed, and `help` or `help COMMAND` what the commands are ([`help_page`](p8_commands::help_page)). `run` takes
+/// a file with a name that ends in `.binary` as an image and any other as a source, which it builds first. A source is the top file of a project: the files that its objects mention are read from the shelf too.
 ///
 /// `words` are those after the program's name, and are read by the rules of `clap`: the first is the command's,
 /// and FILE and CLOCKS stand in this order, with options before, between and after them, each once at most,
@@ -38,7 +29,7 @@ const USAGE: &[u8] =
 /// the run after K turns, one to ten decimal digits and at most 1,000,000, where it isn't given after 100,000,
 /// and `--dump A:N` adds a dump of N bytes from the address A on; A is four hexadecimal digits and N one to
 /// five decimal digits, at least 1, with A + N at most 32,768. SEED is one to ten decimal digits, at most 4,294,967,295.
-/// A call for help is no command.
+/// `--help` and `-h` are no command.
 ///
 /// The turns of `run` and `make` are made by a crew of eight threads, which `starter` gives their work; where one of them
 /// isn't started, by this thread. `--alone` asks for this thread alone, which also makes the turns of `raw`. The text is the
@@ -73,35 +64,30 @@ pub fn prop<
     faults: &mut E,
     starter: &mut F,
 ) -> Status
-    ensures answers { Answers (outside (S.files shelf.old) (S.faults shelf.old) (S.faults shelf.new) (K.faults out.old) (K.faults out.new) (K.taken out.old) (K.taken out.new)) (command_of (map string_bytes words.now)) result }
-    ensures tells { TellsLine (outside (S.files shelf.old) (S.faults shelf.old) (S.faults shelf.new) (K.faults out.old) (K.faults out.new) (K.taken out.old) (K.taken out.new)) (command_of (map string_bytes words.now)) result (E.faults faults.old) (E.faults faults.new) (E.taken faults.old) (E.taken faults.new) }
-
-    // What a run prints with status 0 is the trace of the one rotation-ordered history of the eight-cog machine started
-    // from the image of its program, whichever threads took its turns; and there the accesses of each life of Spin are, in
-    // order, those that its source makes of the answers it got.
-    ensures headline { HasHeadline (outside (S.files shelf.old) (S.faults shelf.old) (S.faults shelf.new) (K.faults out.old) (K.faults out.new) (K.taken out.old) (K.taken out.new)) (command_of (map string_bytes words.now)) result }
-
-    // The image that a build writes with status 0 keeps the meaning of its source: whichever of its methods a cog begins with, and whatever
-    // answers come, its bytecodes make the accesses that the source says, and never halt for a reason that the source doesn't have.
-    ensures keeps_meaning { HasKept (outside (S.files shelf.old) (S.faults shelf.old) (S.faults shelf.new) (K.faults out.old) (K.faults out.new) (K.taken out.old) (K.taken out.new)) (command_of (map string_bytes words.now)) result }
-
-    // Where the shelf tells its files, no two statuses are due, the one that is due is answered, and one text
-    // is asked for.
-    ensures one_due { HasOneDue (outside (S.files shelf.old) (S.faults shelf.old) (S.faults shelf.new) (K.faults out.old) (K.faults out.new) (K.taken out.old) (K.taken out.new)) (command_of (map string_bytes words.now)) }
-    ensures complete { IsComplete (outside (S.files shelf.old) (S.faults shelf.old) (S.faults shelf.new) (K.faults out.old) (K.faults out.new) (K.taken out.old) (K.taken out.new)) (command_of (map string_bytes words.now)) result }
-    ensures one_text { HasOneText (S.files shelf.old) (command_of (map string_bytes words.now)) }
-
-    // The shelf keeps its files, and no count falls.
-    ensures kept { S.files shelf.new ≡ S.files shelf.old }
-    ensures shelf_later { S.faults shelf.old ≤ S.faults shelf.new }
-    ensures out_later { K.faults out.old ≤ K.faults out.new }
-    ensures faults_later { E.faults faults.old ≤ E.faults faults.new }
+    ensures keeps {
+        Keeps (record {
+            shelf = record {
+                files = S.files shelf.old; files_now = S.files shelf.new;
+                before = S.faults shelf.old; now = S.faults shelf.new;
+            };
+            out = record {
+                before = K.faults out.old; now = K.faults out.new;
+                taken = K.taken out.old; taken_now = K.taken out.new;
+            };
+            faults = record {
+                before = E.faults faults.old; now = E.faults faults.new;
+                taken = E.taken faults.old; taken_now = E.taken faults.new;
+            };
+        }) (command_of (map string_bytes words.now)) result
+    }
 {
-    one_source();
-    match task_in(alloc, words) {
-        Ok(Some(task)) => answered(text_by_crew(rt, alloc, starter, task, shelf), out, faults),
-        Ok(None) => usage(faults),
-        Err(NoMemory) => no_memory(faults),
+    one_reading();
+    match command_in(alloc, words) {
+        Ok(Some(command)) => {
+            answered(text_by_crew(rt, alloc, starter, command, shelf), out, faults)
+        }
+        Ok(None) => unsaid(faults),
+        Err(NoMemory) => stopped(&Stop::NoMemory, faults),
     }
 }
 
@@ -114,79 +100,41 @@ pub fn prop_alone<S: Shelf, K: Sink, E: Sink>(
     out: &mut K,
     faults: &mut E,
 ) -> Status
-    ensures answers { Answers (outside (S.files shelf.old) (S.faults shelf.old) (S.faults shelf.new) (K.faults out.old) (K.faults out.new) (K.taken out.old) (K.taken out.new)) (alone_of (command_of (map string_bytes words.now))) result }
-    ensures tells { TellsLine (outside (S.files shelf.old) (S.faults shelf.old) (S.faults shelf.new) (K.faults out.old) (K.faults out.new) (K.taken out.old) (K.taken out.new)) (alone_of (command_of (map string_bytes words.now))) result (E.faults faults.old) (E.faults faults.new) (E.taken faults.old) (E.taken faults.new) }
-
-    // What a run prints with status 0 is the trace of the one rotation-ordered history of the eight-cog machine started
-    // from the image of its program; and there the accesses of each life of Spin are, in
-    // order, those that its source makes of the answers it got.
-    ensures headline { HasHeadline (outside (S.files shelf.old) (S.faults shelf.old) (S.faults shelf.new) (K.faults out.old) (K.faults out.new) (K.taken out.old) (K.taken out.new)) (alone_of (command_of (map string_bytes words.now))) result }
-
-    // The image that a build writes with status 0 keeps the meaning of its source: whichever of its methods a cog begins with, and whatever
-    // answers come, its bytecodes make the accesses that the source says, and never halt for a reason that the source doesn't have.
-    ensures keeps_meaning { HasKept (outside (S.files shelf.old) (S.faults shelf.old) (S.faults shelf.new) (K.faults out.old) (K.faults out.new) (K.taken out.old) (K.taken out.new)) (alone_of (command_of (map string_bytes words.now))) result }
-
-    // Where the shelf tells its files, no two statuses are due, the one that is due is answered, and one text
-    // is asked for.
-    ensures one_due { HasOneDue (outside (S.files shelf.old) (S.faults shelf.old) (S.faults shelf.new) (K.faults out.old) (K.faults out.new) (K.taken out.old) (K.taken out.new)) (alone_of (command_of (map string_bytes words.now))) }
-    ensures complete { IsComplete (outside (S.files shelf.old) (S.faults shelf.old) (S.faults shelf.new) (K.faults out.old) (K.faults out.new) (K.taken out.old) (K.taken out.new)) (alone_of (command_of (map string_bytes words.now))) result }
-    ensures one_text { HasOneText (S.files shelf.old) (alone_of (command_of (map string_bytes words.now))) }
-
-    // The shelf keeps its files, and no count falls.
-    ensures kept { S.files shelf.new ≡ S.files shelf.old }
-    ensures shelf_later { S.faults shelf.old ≤ S.faults shelf.new }
-    ensures out_later { K.faults out.old ≤ K.faults out.new }
-    ensures faults_later { E.faults faults.old ≤ E.faults faults.new }
+    ensures keeps {
+        Keeps (record {
+            shelf = record {
+                files = S.files shelf.old; files_now = S.files shelf.new;
+                before = S.faults shelf.old; now = S.faults shelf.new;
+            };
+            out = record {
+                before = K.faults out.old; now = K.faults out.new;
+                taken = K.taken out.old; taken_now = K.taken out.new;
+            };
+            faults = record {
+                before = E.faults faults.old; now = E.faults faults.new;
+                taken = E.taken faults.old; taken_now = E.taken faults.new;
+            };
+        }) (alone_of (command_of (map string_bytes words.now))) result
+    }
 {
-    one_source();
-    match task_alone_in(alloc, words) {
-        Ok(Some(task)) => answered(text_alone(alloc, task, shelf), out, faults),
-        Ok(None) => usage(faults),
-        Err(NoMemory) => no_memory(faults),
+    one_reading();
+    match command_alone_in(alloc, words) {
+        Ok(Some(command)) => answered(text_alone(alloc, command, shelf), out, faults),
+        Ok(None) => unsaid(faults),
+        Err(NoMemory) => stopped(&Stop::NoMemory, faults),
     }
 }
 
 /// The command of the words that one thread alone carries out, or None where they say another one or none.
-fn task_alone_in<'a>(alloc: Global, words: &'a [String]) -> Result<Option<Task<'a>>, NoMemory>
-    ensures seen { IfOk result (λ task. seen_if_any task ≡ alone_of (command_of (map string_bytes words.now))) }
-    ensures within { IfOk result (λ task. IfSome task IsTaskWithin) }
+fn command_alone_in<'a>(
+    alloc: Global,
+    words: &'a [String],
+) -> Result<Option<Command<'a>>, NoMemory>
+    ensures seen { IfOk result (λ command. command_if_any command ≡ alone_of (command_of (map string_bytes words.now))) }
+    ensures within { IfOk result (λ command. IfSome command HasLimits) }
 {
-    match task_in(alloc, words)? {
-        Some(task) if task.is_alone() => Ok(Some(task)),
+    match command_in(alloc, words)? {
+        Some(command) if command.is_alone() => Ok(Some(command)),
         _ => Ok(None),
     }
-}
-
-/// Tells that the words are no command.
-fn usage<E: Sink>(faults: &mut E) -> Status
-    ensures status { result ≡ Usage }
-    ensures wrote { Wrote (E.faults faults.old) (E.faults faults.new) (E.taken faults.old) (E.taken faults.new) usage_line }
-    ensures later { E.faults faults.old ≤ E.faults faults.new }
-{
-    let _ = write_pieces(faults, &[USAGE]);
-    Status::Usage
-}
-
-/// Tells that there was no memory for the words.
-fn no_memory<E: Sink>(faults: &mut E) -> Status
-    ensures status { result ≡ OutOfMemory }
-    ensures wrote { Wrote (E.faults faults.old) (E.faults faults.new) (E.taken faults.old) (E.taken faults.new) (codes "prop: out of memory" ++ 10 ∷ []) }
-    ensures later { E.faults faults.old ≤ E.faults faults.new }
-{
-    Outcome::Stopped(Stop::NoMemory).tell(faults);
-    Status::NoMemory
-}
-
-/// Writes the text of a command, where there is one, and tells how it ended.
-fn answered<K: Sink, E: Sink>(text: Result<Vec<u8>, Stop>, out: &mut K, faults: &mut E) -> Status
-    ensures answers { (files : Files) → (before now : ℕ) → (command : Command) → IfOk text (λ text. IsText files command text.items) → IfErr text (HasNoText files before now command) → Answers (outside files before now (K.faults out.old) (K.faults out.new) (K.taken out.old) (K.taken out.new)) (Some command) result }
-    ensures tells { (files : Files) → (before now : ℕ) → (command : Command) → IfOk text (λ text. IsText files command text.items) → IfErr text (HasNoText files before now command) → TellsLine (outside files before now (K.faults out.old) (K.faults out.new) (K.taken out.old) (K.taken out.new)) (Some command) result (E.faults faults.old) (E.faults faults.new) (E.taken faults.old) (E.taken faults.new) }
-    ensures headline { (files : Files) → (before now : ℕ) → (command : Command) → IfOk text (λ text. IsText files command text.items) → IfErr text (HasNoText files before now command) → HasHeadline (outside files before now (K.faults out.old) (K.faults out.new) (K.taken out.old) (K.taken out.new)) (Some command) result }
-    ensures keeps_meaning { (files : Files) → (before now : ℕ) → (command : Command) → IfOk text (λ text. IsText files command text.items) → IfErr text (HasNoText files before now command) → HasKept (outside files before now (K.faults out.old) (K.faults out.new) (K.taken out.old) (K.taken out.new)) (Some command) result }
-    ensures out_later { K.faults out.old ≤ K.faults out.new }
-    ensures faults_later { E.faults faults.old ≤ E.faults faults.new }
-{
-    let outcome = written(text, out);
-    outcome.tell(faults);
-    outcome.status()
 }

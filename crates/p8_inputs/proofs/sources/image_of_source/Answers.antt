@@ -1,8 +1,9 @@
-use Rattle.std.proofs.Common.{None}
+use Rattle.std.proofs.Common.{inl, [], ◌∷◌}
 use Rattle.std.proofs.lemmas.Result.{IfOk-weaker, IfErr-weaker}
-use Rattle.p8_inputs.specs.declared.program.Format.TheVariants.{Source}
 use Rattle.p8_inputs.proofs.Building.{image-of-project}
-use Rattle.p8_inputs.proofs.Stopping.{program-stops}
+use Rattle.p8_inputs.specs.declared.program.Format.TheVariants.{Source}
+use Rattle.p8_inputs.specs.Asks.{program}
+use Rattle.p8_inputs.proofs.Stopping.{first-stops}
 use Rattle.p8_inputs.proofs.sources.image_of_source.Goals as goal
 
 pub returns-clause-image : goal.returns-clause-image
@@ -11,4 +12,4 @@ returns-clause-image g c =
 
 pub returns-clause-stopped : goal.returns-clause-stopped
 returns-clause-stopped g c =
-    IfErr-weaker c.image_in.result _ _ (λ stop stops. program-stops (g.S.Shelf.files c.args.shelf.now) _ _ Source c.args.file.now None stop stops) c.image_in.ensures.stopped
+    IfErr-weaker c.image_in.result _ _ (λ stop stops. first-stops (g.S.Shelf.files c.args.shelf.now) _ _ (program Source c.args.file.now ∷ []) stop (inl stops)) c.image_in.ensures.stopped

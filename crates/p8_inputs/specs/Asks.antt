@@ -1,0 +1,107 @@
+-- What a command reads of a shelf: a list of asks, one after the other, and the first of them that stops it (this project's profile).
+use Rattle.std.specs.Prelude.{ℕ, ◌≡◌, ◌⊎◌, List, [], ◌∷◌, Option, Some, None}
+use Rattle.p8_history.specs.Worlds.{Line}
+use Rattle.p8_pins.specs.Scripts.{IsFault}
+use Rattle.p8_io.specs.Counts.{Rose}
+use Rattle.p8_io.specs.Shelves.{Files, IsLacking, IsRead}
+use Rattle.p8_inputs.specs.declared.program.Format.{Format}
+use Rattle.p8_inputs.specs.declared.program.Format.TheVariants.{Source}
+use Rattle.p8_inputs.specs.declared.stop.Stop.{Stop}
+use Rattle.p8_inputs.specs.declared.stop.Stop.TheVariants.{Unread, Missing, NoMemory, Refused, BadProgram, BadScript}
+use Rattle.p8_inputs.specs.Inputs.{IsProgram, IsScriptFor, IsProgramMissing, IsProgramUnread, HasRefusal, HasFault}
+use Rattle.p8_inputs.specs.Sources.{IsListingFrom}
+
+-- an ask: for the program of a file, by what the file is taken for; for the listing of a source; or for the pin script of a file
+pub data Ask : Type 0 where
+  program : Format → (file : List ℕ) → Ask
+  listing : (file : List ℕ) → Ask
+  script : (file : List ℕ) → Ask
+
+-- what an ask is given: the bytes of a program or of a listing, or the lines of a pin script
+pub data Given : Type 0 where
+  bytes : List ℕ → Given
+  lines : List Line → Given
+
+-- a file is asked for its pin script, where one is named
+abbrev pub script_ask : Option (List ℕ) → List Ask
+script_ask None = []
+script_ask (Some file) = script file ∷ []
+
+-- ---- what there is
+
+-- the shelf has this for an ask
+abbrev pub Gives : Files → Ask → Given → Type 0
+Gives files (program format file) (bytes xs) = IsProgram files format file xs
+Gives files (listing file) (bytes xs) = IsListingFrom files file xs
+Gives files (script file) (lines xs) = IsScriptFor files (Some file) xs
+Gives files (program format file) (lines xs) = ⊥
+Gives files (listing file) (lines xs) = ⊥
+Gives files (script file) (bytes xs) = ⊥
+
+-- it has these for the asks
+abbrev pub Give : Files → List Ask → List Given → Type 0
+Give files [] [] = Unit {0}
+Give files (ask ∷ asks) (given ∷ more) = Gives files ask given × Give files asks more
+Give files [] (given ∷ more) = ⊥
+Give files (ask ∷ asks) [] = ⊥
+
+-- ---- what stops
+
+-- Why there is no program of a file, between the shelf's counts before and now: a file that could not be read or is missing, the
+-- source's first refusal, or the first fault of what is no source. Want of memory may always come.
+abbrev pub StopsAtProgram : Files → (before now : ℕ) → Format → (file : List ℕ) → Stop → Type 0
+StopsAtProgram files before now format file (Unread name) = IsProgramUnread files before now format file name
+StopsAtProgram files before now format file (Missing name) = IsProgramMissing files before now format file name
+StopsAtProgram files before now format file NoMemory = Unit {0}
+StopsAtProgram files before now format file (Refused name number place) = HasRefusal files format file name number place
+StopsAtProgram files before now format file (BadProgram name fault) = HasFault files format file name fault
+StopsAtProgram files before now format file (BadScript name line) = ⊥
+
+-- why there is no pin script of a file: it could not be read, it is missing, or it has a first bad line
+abbrev pub StopsAtScript : Files → (before now : ℕ) → (file : List ℕ) → Stop → Type 0
+StopsAtScript files before now file (Unread name) = (name ≡ file) × Rose before now
+StopsAtScript files before now file (Missing name) = (name ≡ file) × IsLacking before now files name
+StopsAtScript files before now file NoMemory = Unit {0}
+StopsAtScript files before now file (Refused name number place) = ⊥
+StopsAtScript files before now file (BadProgram name fault) = ⊥
+StopsAtScript files before now file (BadScript name line) =
+    (name ≡ file) × ((bytes : List ℕ) × IsRead files name bytes × IsFault bytes line)
+
+-- an ask stops for this reason
+abbrev pub StopsAt : Files → (before now : ℕ) → Ask → Stop → Type 0
+StopsAt files before now (program format file) stop = StopsAtProgram files before now format file stop
+StopsAt files before now (listing file) stop = StopsAtProgram files before now Source file stop
+StopsAt files before now (script file) stop = StopsAtScript files before now file stop
+
+-- The first ask that stops does so for this reason: it is the first one, or there is something for the first one and a later one stops.
+abbrev pub StopsFirst : Files → (before now : ℕ) → List Ask → Stop → Type 0
+StopsFirst files before now [] stop = ⊥
+StopsFirst files before now (ask ∷ asks) stop =
+    StopsAt files before now ask stop ⊎ (((given : Given) × Gives files ask given) × StopsFirst files before now asks stop)
+
+-- asks stop for the reason of the first one that stops; want of memory may always come
+abbrev pub Stops : Files → (before now : ℕ) → List Ask → Stop → Type 0
+Stops files before now asks NoMemory = Unit {0}
+Stops files before now asks (Unread name) = StopsFirst files before now asks (Unread name)
+Stops files before now asks (Missing name) = StopsFirst files before now asks (Missing name)
+Stops files before now asks (Refused name number place) = StopsFirst files before now asks (Refused name number place)
+Stops files before now asks (BadProgram name fault) = StopsFirst files before now asks (BadProgram name fault)
+Stops files before now asks (BadScript name line) = StopsFirst files before now asks (BadScript name line)
+
+-- ---- the law: where a shelf tells its files, asks come to one thing
+
+-- a reason that lies in the files alone, and neither in a fault of the shelf nor in want of memory
+abbrev pub IsOfFiles : Stop → Type 0
+IsOfFiles (Unread name) = ⊥
+IsOfFiles (Missing name) = Unit {0}
+IsOfFiles NoMemory = ⊥
+IsOfFiles (Refused name number place) = Unit {0}
+IsOfFiles (BadProgram name fault) = Unit {0}
+IsOfFiles (BadScript name line) = Unit {0}
+
+pub record HasOneReading (files : List ℕ → Option (List ℕ)) : Type 0 where
+  pub one_given : (asks : List Ask) (a b : List Given) → Give (Some files) asks a → Give (Some files) asks b → a ≡ b
+  pub one_stop : (before now : ℕ) (asks : List Ask) (a b : Stop) → IsOfFiles a → IsOfFiles b
+      → Stops (Some files) before now asks a → Stops (Some files) before now asks b → a ≡ b
+  pub never_both : (before now : ℕ) (asks : List Ask) (given : List Given) (stop : Stop) → IsOfFiles stop
+      → Give (Some files) asks given → ¬ Stops (Some files) before now asks stop

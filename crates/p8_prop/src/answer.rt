@@ -1,0 +1,90 @@
+// Writes what came of a command, and tells how it ended.
+ghost use Rattle.std.specs.Prelude.{◌≡◌, ◌≤◌, ◌++◌, ◌∷◌, [], codes};
+ghost use Rattle.p8_commands.specs.Pages.{usage_line};
+ghost use Rattle.p8_inputs.specs.Stops.{line_of as stop_line};
+ghost use Rattle.p8_io.specs.Sinks.{Wrote};
+ghost use Rattle.p8_prop.specs.Verdicts.{stop_status};
+ghost use Rattle.p8_prop.specs.Works.{IsAnswer};
+ghost use Rattle.p8_prop.specs.declared.status.Status.TheVariants.{Usage, SinkFault};
+
+use crate::status::Status;
+use p8_inputs::Stop;
+use p8_io::{Sink, write_pieces};
+
+/// The line of words that are no command.
+const USAGE: &[u8] =
+    b"prop: usage: prop build|list FILE, prop raw|run FILE CLOCKS [--pins F] [--turns K] [--dump A:N] [--alone]\n";
+
+/// Tells that the words are no command.
+pub fn unsaid<E: Sink>(faults: &mut E) -> Status
+    ensures status { result ≡ Usage }
+    ensures wrote { Wrote (E.faults faults.old) (E.faults faults.new) (E.taken faults.old) (E.taken faults.new) usage_line }
+    ensures later { E.faults faults.old ≤ E.faults faults.new }
+{
+    let _ = write_pieces(faults, &[USAGE]);
+    Status::Usage
+}
+
+/// The status that tells why there is no text.
+fn status_of_stop(stop: &Stop) -> Status
+    ensures { result ≡ stop_status stop.now }
+{
+    match stop {
+        Stop::Unread { .. } => Status::ShelfFault,
+        Stop::Missing { .. } => Status::Missing,
+        Stop::NoMemory => Status::NoMemory,
+        Stop::Refused { .. } => Status::Refused,
+        Stop::BadProgram { .. } => Status::BadImage,
+        Stop::BadScript { .. } => Status::BadScript,
+    }
+}
+
+/// Tells why there is no text.
+pub fn stopped<E: Sink>(stop: &Stop, faults: &mut E) -> Status
+    ensures status { result ≡ stop_status stop.now }
+    ensures wrote { Wrote (E.faults faults.old) (E.faults faults.new) (E.taken faults.old) (E.taken faults.new) (stop_line stop.now) }
+    ensures later { E.faults faults.old ≤ E.faults faults.new }
+{
+    stop.tell(faults);
+    status_of_stop(stop)
+}
+
+/// Tells that the text could not be written.
+fn unwritten<E: Sink>(faults: &mut E) -> Status
+    ensures status { result ≡ SinkFault }
+    ensures wrote { Wrote (E.faults faults.old) (E.faults faults.new) (E.taken faults.old) (E.taken faults.new) (codes "prop: cannot write" ++ 10 ∷ []) }
+    ensures later { E.faults faults.old ≤ E.faults faults.new }
+{
+    let _ = write_pieces(faults, &[b"prop: cannot write", b"\n"]);
+    Status::SinkFault
+}
+
+/// Writes the text of a command, where there is one, and tells how that ended.
+pub fn answered<K: Sink, E: Sink>(
+    text: Result<Vec<u8>, Stop>,
+    out: &mut K,
+    faults: &mut E,
+) -> Status
+    ensures answer {
+        IsAnswer text
+            (record {
+                before = K.faults out.old; now = K.faults out.new;
+                taken = K.taken out.old; taken_now = K.taken out.new;
+            })
+            (record {
+                before = E.faults faults.old; now = E.faults faults.new;
+                taken = E.taken faults.old; taken_now = E.taken faults.new;
+            })
+            result
+    }
+    ensures out_later { K.faults out.old ≤ K.faults out.new }
+    ensures faults_later { E.faults faults.old ≤ E.faults faults.new }
+{
+    match text {
+        Ok(text) => match out.write(&text) {
+            Ok(()) => Status::Ok,
+            Err(_) => unwritten(faults),
+        },
+        Err(stop) => stopped(&stop, faults),
+    }
+}

@@ -1,0 +1,172 @@
+// What each command reads, and what it comes to then.
+ghost use Rattle.std.specs.Prelude.{◌≡◌, ◌≤◌, ◌∷◌, [], IfOk, IfErr};
+ghost use Rattle.p8_access.specs.Boots.{ram_of};
+ghost use Rattle.p8_access.specs.Proper.{IsProperOrigin};
+ghost use Rattle.p8_access.specs.declared.kinds.Origin.TheVariants.{Pasm};
+ghost use Rattle.p8_made.specs.Made.{made_bytes};
+ghost use Rattle.p8_made.specs.Summary.{made_world};
+ghost use Rattle.p8_inputs.specs.Asks.{Stops, program as program_ask, script_ask};
+ghost use Rattle.p8_inputs.specs.Sources.{IsImageFrom};
+ghost use Rattle.p8_inputs.specs.declared.program.Format.TheVariants.{Source};
+ghost use Rattle.p8_commands.specs.Commands.{BuildSource, ListSource};
+ghost use Rattle.p8_commands.specs.Naming.{name_of};
+ghost use Rattle.p8_commands.specs.Seen.{command_read, running, HasLimits, IsWithin};
+ghost use Rattle.p8_prop.specs.Headline.{IsBuild};
+ghost use Rattle.p8_prop.specs.Texts.{asks_of};
+ghost use Rattle.p8_prop.specs.Works.{IsRunWork, IsWork, world_in};
+
+use crate::laws::{builds_keep_meaning, runs_are_told};
+use p8_access::Boot;
+use p8_commands::{Command, Run, help_page};
+use p8_desk::Start;
+use p8_inputs::{Format, Program, Stop, image_of_source, listing_of_source, read_inputs};
+use p8_io::Shelf;
+use p8_ledger::Limits;
+use p8_made::made_image;
+use p8_pins::PinScript;
+use p8_words::NoMemory;
+use std::alloc::Global;
+
+/// What is told of a run in the end.
+#[derive(Clone, Copy)]
+pub enum Finish {
+    /// Its trace, with a dump of a range of hub RAM: an address, and how many bytes from there on.
+    Trace { dump: Option<(u16, u16)> },
+    /// The summary of the made program of a seed.
+    Summary { seed: u32 },
+}
+
+/// What a command comes to once its files are read.
+#[derive(Drop)]
+pub enum Work {
+    /// Nothing is run, and this is its text.
+    Text(Vec<u8>),
+    /// A run, and what is told of it.
+    Run { start: Start, finish: Finish },
+}
+
+/// The limits of a run of a made program.
+const MADE_LIMITS: Limits = Limits {
+    clocks: 100_000,
+    turns: 100_000,
+};
+
+/// The bytes of the image of a source.
+fn image_bytes<S: Shelf>(alloc: Global, file: &str, shelf: &mut S) -> Result<Vec<u8>, Stop>
+    ensures text { IfOk result (λ text. IsImageFrom (S.files shelf.old) file.now text.items) }
+    ensures keeps { IfOk result (λ text. IsBuild (S.files shelf.old) file.now text.items) }
+    ensures stopped { IfErr result (Stops (S.files shelf.old) (S.faults shelf.old) (S.faults shelf.new) (program_ask Source file.now ∷ [])) }
+    ensures later { S.faults shelf.old ≤ S.faults shelf.new }
+    ensures kept { S.files shelf.new ≡ S.files shelf.old }
+{
+    builds_keep_meaning();
+    let image = image_of_source(alloc, file, shelf)?;
+    let bytes = image.bytes().to_vec(alloc)?;
+    Ok(bytes)
+}
+
+/// The image of a source.
+fn image_work<S: Shelf>(alloc: Global, file: &str, shelf: &mut S) -> Result<Work, Stop>
+    ensures work { IfOk result (IsWork (S.files shelf.old) (BuildSource file.now)) }
+    ensures stopped { IfErr result (Stops (S.files shelf.old) (S.faults shelf.old) (S.faults shelf.new) (asks_of (BuildSource file.now))) }
+    ensures later { S.faults shelf.old ≤ S.faults shelf.new }
+    ensures kept { S.files shelf.new ≡ S.files shelf.old }
+{
+    let text = image_bytes(alloc, file, shelf)?;
+    Ok(Work::Text(text))
+}
+
+/// The listing of a source.
+fn listing_work<S: Shelf>(alloc: Global, file: &str, shelf: &mut S) -> Result<Work, Stop>
+    ensures work { IfOk result (IsWork (S.files shelf.old) (ListSource file.now)) }
+    ensures stopped { IfErr result (Stops (S.files shelf.old) (S.faults shelf.old) (S.faults shelf.new) (asks_of (ListSource file.now))) }
+    ensures later { S.faults shelf.old ≤ S.faults shelf.new }
+    ensures kept { S.files shelf.new ≡ S.files shelf.old }
+{
+    let text = listing_of_source(alloc, file, shelf)?;
+    Ok(Work::Text(text))
+}
+
+/// A run of a file, by what the file is taken for.
+fn run_work<S: Shelf>(
+    alloc: Global,
+    format: Format,
+    run: Run<'_>,
+    shelf: &mut S,
+) -> Result<Work, Stop>
+    requires { IsWithin run }
+    ensures work { IfOk result (IsRunWork (S.files shelf.old) format (running run.entry)) }
+    ensures stopped { IfErr result (Stops (S.files shelf.old) (S.faults shelf.old) (S.faults shelf.new) (program_ask format run.entry.file.now ∷ script_ask (name_of run.entry.script))) }
+    ensures later { S.faults shelf.old ≤ S.faults shelf.new }
+    ensures kept { S.files shelf.new ≡ S.files shelf.old }
+{
+    runs_are_told();
+    let file = Program {
+        file: run.file,
+        format,
+    };
+    let inputs = read_inputs(alloc, file, run.script, shelf)?;
+    let limits = Limits {
+        clocks: run.clocks,
+        turns: run.turns,
+    };
+    Ok(Work::Run {
+        start: Start {
+            boot: inputs.boot,
+            script: inputs.script,
+            limits,
+        },
+        finish: Finish::Trace { dump: run.dump },
+    })
+}
+
+/// The boot of the made program of a seed.
+fn made_boot(alloc: Global, seed: u32) -> Result<Boot, NoMemory>
+    ensures ram { IfOk result (λ boot. boot.ram ≡ ram_of (made_bytes seed)) }
+    ensures first { IfOk result (λ boot. boot.first ≡ Pasm 0 0) }
+{
+    let image = made_image(alloc, seed)?;
+    Boot::raw(alloc, &image)
+}
+
+/// What a run of the made program of a seed begins from.
+fn made_start(alloc: Global, seed: u32) -> Result<Start, NoMemory>
+    ensures world { IfOk result (λ start. world_in start ≡ made_world seed) }
+    ensures clocks { IfOk result (λ start. start.limits.clocks ≡ 100000) }
+    ensures turns { IfOk result (λ start. start.limits.turns ≡ 100000) }
+    ensures proper { IfOk result (λ start. IsProperOrigin start.boot.first) }
+{
+    let boot = made_boot(alloc, seed)?;
+    Ok(Start {
+        boot,
+        script: PinScript::empty(alloc),
+        limits: MADE_LIMITS,
+    })
+}
+
+/// What a command comes to once its files are read.
+pub fn work_of<S: Shelf>(alloc: Global, command: Command<'_>, shelf: &mut S) -> Result<Work, Stop>
+    requires { HasLimits command }
+    ensures work { IfOk result (IsWork (S.files shelf.old) (command_read command.entry)) }
+    ensures stopped { IfErr result (Stops (S.files shelf.old) (S.faults shelf.old) (S.faults shelf.new) (asks_of (command_read command.entry))) }
+    ensures later { S.faults shelf.old ≤ S.faults shelf.new }
+    ensures kept { S.files shelf.new ≡ S.files shelf.old }
+{
+    match command {
+        Command::Build { file } => image_work(alloc, file, shelf),
+        Command::List { file } => listing_work(alloc, file, shelf),
+        Command::Raw { run } => run_work(alloc, Format::Memory, run, shelf),
+        Command::Run { run, .. } => run_work(alloc, Format::named(run.file), run, shelf),
+        Command::Make { seed, .. } => {
+            let start = made_start(alloc, seed)?;
+            Ok(Work::Run {
+                start,
+                finish: Finish::Summary { seed },
+            })
+        }
+        Command::Help { topic } => {
+            let text = help_page(alloc, topic)?;
+            Ok(Work::Text(text))
+        }
+    }
+}
