@@ -230,8 +230,8 @@ module _ (files : List ℕ → Option (List ℕ)) where
 -- ---- where a file could not be read the shelf has counted a fault, whether it tells its files or not
 
 gather-rose : (files : Files) (before now : ℕ) (top name : List ℕ) {sources : List NamedSource} (o : Outcome) → o ≡ failed name → ComesTo (shelved files before now) top sources o → Rose before now
-gather-rose files before now top name o is (outcomes.one_more other bytes s calls has source rest) = gather-rose files before now top name o is rest
-gather-rose files before now top name o is (outcomes.file_refused other bytes number place calls has refusal) = absurd cc
+gather-rose files before now top name o is (outcomes.one_more other xs s calls has source rest) = gather-rose files before now top name o is rest
+gather-rose files before now top name o is (outcomes.file_refused other xs number place calls has refusal) = absurd cc
 gather-rose files before now top name o is (outcomes.absent other calls lacks) = absurd cc
 gather-rose files before now top name o is (outcomes.not_read other calls rose) = rose
 gather-rose files before now top name o is (outcomes.mention_refused other number place calls) = absurd cc

@@ -1,8 +1,11 @@
 -- What is answered keeps the promise of a call.
-use Rattle.std.proofs.Common.{◌≡◌, ◌≤◌, sym, subst, refl, ℕ, List, Option, Some, None}
+use Rattle.std.proofs.Common.{◌≡◌, ◌≤◌, ap, sym, subst, refl, ℕ, inl, List, [], Option, Some, None}
+use Rattle.std.proofs.lemmas.List.{append-nil}
 use Rattle.std.specs.Prelude.{Result, Ok, Err, IfOk, IfErr}
 use Rattle.std.specs.declared.vec.Vec.{Vec}
 use Rattle.std.specs.declared.alloc.Global.{Global}
+use Rattle.p8_io.specs.Counts.{Rose}
+use Rattle.p8_io.specs.Sinks.{Appended, AppendedPrefix}
 use Rattle.p8_inputs.specs.declared.stop.Stop.{Stop}
 use Rattle.p8_inputs.specs.declared.stop.Stop.TheVariants as stop
 use Rattle.p8_inputs.specs.Asks.{Stops, HasOneReading}
@@ -80,3 +83,42 @@ module _ (one : (files : List ℕ → Option (List ℕ)) → HasOneReading files
   pub memory-keeps : (o : Outside) (command : Option Command) (status : Status) → status ≡ status_of (stopped stop.NoMemory) → IsTold o.faults (stopped stop.NoMemory) → IsOut o.out (stopped stop.NoMemory) → IsKept o → Keeps o command status
   memory-keeps o command status answered told out kept =
       keeps o command status (stopped stop.NoMemory) (without-memory o command) (no-headline o command stop.NoMemory) answered told out kept
+
+-- ---- what is answered of a text, or of why there is none
+
+pub nothing-appended : (taken : Option (List ℕ)) → Appended taken taken []
+nothing-appended None = refl
+nothing-appended (Some xs) = ap Some (sym (append-nil xs))
+
+same-taken : (sink : SinkSeen) → sink.taken_now ≡ sink.taken → Appended sink.taken sink.taken_now []
+same-taken sink same = subst (λ (now : Option (List ℕ)). Appended sink.taken now []) (sym same) (nothing-appended sink.taken)
+
+pub wrote : (text : Vec ℕ Global) (out faults : SinkSeen) (status : Status) → status ≡ status_of (written text.items)
+    → Appended out.taken out.taken_now text.items → faults.taken_now ≡ faults.taken → IsAnswer (Ok text) out faults status
+wrote text out faults status answered appended same = record {
+  verdict = written text.items;
+  from = refl;
+  answered = answered;
+  told = inl (same-taken faults same);
+  written_out = appended;
+}
+
+pub not-wrote : (text : Vec ℕ Global) (out faults : SinkSeen) (status : Status) → status ≡ status_of (unwritten text.items)
+    → Rose out.before out.now → AppendedPrefix out.taken out.taken_now text.items → IsTold faults (unwritten text.items) → IsAnswer (Ok text) out faults status
+not-wrote text out faults status answered rose prefix told = record {
+  verdict = unwritten text.items;
+  from = (refl, rose);
+  answered = answered;
+  told = told;
+  written_out = prefix;
+}
+
+pub not-there : (reason : Stop) (out faults : SinkSeen) (status : Status) → status ≡ status_of (stopped reason)
+    → out.taken_now ≡ out.taken → IsTold faults (stopped reason) → IsAnswer (Err reason) out faults status
+not-there reason out faults status answered same told = record {
+  verdict = stopped reason;
+  from = refl;
+  answered = answered;
+  told = told;
+  written_out = same-taken out same;
+}

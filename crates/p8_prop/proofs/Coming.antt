@@ -24,7 +24,9 @@ use Rattle.p8_commands.specs.Commands.{Command, Running, BuildSource, ListSource
 use Rattle.p8_commands.specs.Naming as commands
 use Rattle.p8_prop.specs.Headline.{IsToldBySource, IsBuild}
 use Rattle.p8_prop.specs.Texts.{lines_in}
-use Rattle.p8_prop.specs.Works.{IsText, IsTextOfRun}
+use Rattle.p8_prop.specs.declared.work.Work.{Work}
+use Rattle.p8_prop.specs.declared.work.Work.TheVariants.{Text, Run}
+use Rattle.p8_prop.specs.Works.{Comes, CanBeMade, IsText, IsTextOfRun, IsTextOfWork}
 
 -- a borrowed name is the same, wherever it is read
 pub same-name : (name : Option (Bor (List ℕ))) → inputs.name_of name ≡ commands.name_of name
@@ -47,7 +49,7 @@ given-for files (Some file) script is = (lines script ∷ [], (is, tt), refl)
 
 -- the law of runs that are made of a source
 abbrev pub RunsAreTold : Type 0
-RunsAreTold = (files : Files) (format : Format) (file bytes : List ℕ) → HasProperTrees files format file bytes → (w : World) → w.memory ≡ memory_by format bytes → w.first ≡ first_by format bytes → (past : List Turn) → Ended asks w past → IsToldBySource files format file bytes w past
+RunsAreTold = (files : Files) (format : Format) (file xs : List ℕ) → HasProperTrees files format file xs → (w : World) → w.memory ≡ memory_by format xs → w.first ≡ first_by format xs → (past : List Turn) → Ended asks w past → IsToldBySource files format file xs w past
 
 module _ (told : RunsAreTold) (files : Files) (format : Format) (run : Running) (inputs : Inputs) (begins : Begins files format run.file run.script inputs) where
   -- the world of the run, and that of the code
@@ -83,3 +85,13 @@ module _ (told : RunsAreTold) (files : Files) (format : Format) (run : Running) 
 
 pub made-told : (files : Files) (alone : Bool) (seed : ℕ) (w : World) → w ≡ made_world seed → (past : List Turn) → Ended asks w past → IsText files (Make alone seed) (summary_of seed w past)
 made-told files alone seed w same = subst (λ (v : World). (past : List Turn) → Ended asks v past → IsText files (Make alone seed) (summary_of seed v past)) (sym same) (λ past ended. (([], tt, (past, ended, refl)), tt))
+
+-- ---- what a command comes to
+
+pub can-be-made : (P : List ℕ → Type 0) (work : Work) → Comes P work → CanBeMade work
+can-be-made P (Text xs) comes = tt
+can-be-made P (Run start finish) comes = comes.0
+
+pub text-comes : (P : List ℕ → Type 0) (work : Work) (text : List ℕ) → Comes P work → IsTextOfWork work text → P text
+text-comes P (Text xs) text comes is = subst P (sym is) comes
+text-comes P (Run start finish) text comes is = subst P (sym is.2) (comes.1 is.0 is.1)

@@ -74,6 +74,16 @@ IsWork files command work = Comes (IsText files command) work
 abbrev pub IsToldOf : Start → Finish → List ℕ → Type 0
 IsToldOf start finish text = (past : List Turn) × Ended asks (world_in start) past × (text ≡ told_by finish (world_in start) past)
 
+-- what a command came to can be made a text
+abbrev pub CanBeMade : Work → Type 0
+CanBeMade (Text text) = Unit {0}
+CanBeMade (Run start finish) = IsRunnable start finish
+
+-- this is the text of what a command came to
+abbrev pub IsTextOfWork : Work → List ℕ → Type 0
+IsTextOfWork (Text text) other = other ≡ text.items
+IsTextOfWork (Run start finish) other = IsToldOf start finish other
+
 -- ---- what is answered of a text, or of why there is none
 
 abbrev pub IsFrom : Result (Vec ℕ Global) Stop → SinkSeen → Verdict → Type 0

@@ -6,9 +6,9 @@ ghost use Rattle.p8_history.specs.Worlds.{World};
 ghost use Rattle.p8_hub.specs.Standing.{IsHub};
 ghost use Rattle.p8_lives.specs.Lives.{asks};
 ghost use Rattle.p8_ledger.specs.Worlds.{world_of};
-ghost use Rattle.p8_prop.specs.Works.{told_by, IsInRam, IsRunnable, IsToldOf};
+ghost use Rattle.p8_prop.specs.Works.{told_by, CanBeMade, IsInRam, IsRunnable, IsTextOfWork, IsToldOf};
 
-use crate::work::Finish;
+use crate::work::{Finish, Work};
 use p8_crew::{Starter, run_crew};
 use p8_desk::{Desk, Start};
 use p8_ledger::Ended;
@@ -37,13 +37,24 @@ fn told(alloc: Global, ended: &Ended, finish: Finish) -> Result<Vec<u8>, NoMemor
 }
 
 /// What is told of a run that one thread makes.
-pub fn told_alone(alloc: Global, start: Start, finish: Finish) -> Result<Vec<u8>, NoMemory>
+fn told_alone(alloc: Global, start: Start, finish: Finish) -> Result<Vec<u8>, NoMemory>
     requires { IsRunnable start finish }
     ensures { IfOk result (λ text. IsToldOf start finish text.items) }
 {
     let ended = run_alone(alloc, start.boot, start.script, start.limits)?;
     let text = told(alloc, &ended, finish)?;
     Ok(text)
+}
+
+/// The text of what a command comes to, where one thread makes all turns.
+pub fn text_of_alone(alloc: Global, work: Work) -> Result<Vec<u8>, NoMemory>
+    requires { CanBeMade work }
+    ensures { IfOk result (λ text. IsTextOfWork work text.items) }
+{
+    match work {
+        Work::Text(text) => Ok(text),
+        Work::Run { start, finish } => told_alone(alloc, start, finish),
+    }
 }
 
 /// The whole history of what a run begins from, made by a crew at one desk.
@@ -65,7 +76,7 @@ fn run_by_crew<R: Threads + Wait + Clone + Send + Drop + 'static, F: Starter>(
 }
 
 /// What is told of a run that a crew makes.
-pub fn told_by_crew<R: Threads + Wait + Clone + Send + Drop + 'static, F: Starter>(
+fn told_by_crew<R: Threads + Wait + Clone + Send + Drop + 'static, F: Starter>(
     rt: &R,
     alloc: Global,
     starter: &mut F,
@@ -78,4 +89,20 @@ pub fn told_by_crew<R: Threads + Wait + Clone + Send + Drop + 'static, F: Starte
     let ended = run_by_crew(rt, alloc, starter, start)?;
     let text = told(alloc, &ended, finish)?;
     Ok(text)
+}
+
+/// The text of what a command comes to, where a crew makes all turns.
+pub fn text_of_crew<R: Threads + Wait + Clone + Send + Drop + 'static, F: Starter>(
+    rt: &R,
+    alloc: Global,
+    starter: &mut F,
+    work: Work,
+) -> Result<Vec<u8>, NoMemory>
+    requires { CanBeMade work }
+    ensures { IfOk result (λ text. IsTextOfWork work text.items) }
+{
+    match work {
+        Work::Text(text) => Ok(text),
+        Work::Run { start, finish } => told_by_crew(rt, alloc, starter, start, finish),
+    }
 }

@@ -5,8 +5,8 @@ ghost use Rattle.p8_commands.specs.Seen.{command_read, HasLimits};
 ghost use Rattle.p8_prop.specs.Texts.{asks_of};
 ghost use Rattle.p8_prop.specs.Works.{IsText};
 
-use crate::driver::{told_alone, told_by_crew};
-use crate::work::{Work, work_of};
+use crate::driver::{text_of_alone, text_of_crew};
+use crate::work::work_of;
 use p8_commands::Command;
 use p8_crew::Starter;
 use p8_inputs::Stop;
@@ -27,17 +27,13 @@ pub fn text_alone<S: Shelf>(
     ensures later { S.faults shelf.old ≤ S.faults shelf.new }
     ensures kept { S.files shelf.new ≡ S.files shelf.old }
 {
-    match work_of(alloc, command, shelf)? {
-        Work::Text(text) => Ok(text),
-        Work::Run { start, finish } => {
-            let text = told_alone(alloc, start, finish)?;
-            Ok(text)
-        }
-    }
+    let work = work_of(alloc, command, shelf)?;
+    let text = text_of_alone(alloc, work)?;
+    Ok(text)
 }
 
 /// The text of a command, where a crew makes all turns.
-fn text_of_crew<R: Threads + Wait + Clone + Send + Drop + 'static, S: Shelf, F: Starter>(
+fn text_with_crew<R: Threads + Wait + Clone + Send + Drop + 'static, S: Shelf, F: Starter>(
     rt: &R,
     alloc: Global,
     starter: &mut F,
@@ -50,13 +46,9 @@ fn text_of_crew<R: Threads + Wait + Clone + Send + Drop + 'static, S: Shelf, F: 
     ensures later { S.faults shelf.old ≤ S.faults shelf.new }
     ensures kept { S.files shelf.new ≡ S.files shelf.old }
 {
-    match work_of(alloc, command, shelf)? {
-        Work::Text(text) => Ok(text),
-        Work::Run { start, finish } => {
-            let text = told_by_crew(rt, alloc, starter, start, finish)?;
-            Ok(text)
-        }
-    }
+    let work = work_of(alloc, command, shelf)?;
+    let text = text_of_crew(rt, alloc, starter, work)?;
+    Ok(text)
 }
 
 /// The text of a command. A crew makes the turns of a run, unless one thread alone is to make them.
@@ -76,6 +68,6 @@ pub fn text_by_crew<R: Threads + Wait + Clone + Send + Drop + 'static, S: Shelf,
     if command.is_alone() {
         text_alone(alloc, command, shelf)
     } else {
-        text_of_crew(rt, alloc, starter, command, shelf)
+        text_with_crew(rt, alloc, starter, command, shelf)
     }
 }

@@ -1,14 +1,15 @@
 // What each command reads, and what it comes to then.
-ghost use Rattle.std.specs.Prelude.{◌≡◌, ◌≤◌, ◌∷◌, [], IfOk, IfErr};
+ghost use Rattle.std.specs.Prelude.{◌≡◌, ◌≤◌, ◌∷◌, [], Bool, IfOk, IfErr};
 ghost use Rattle.p8_access.specs.Boots.{ram_of};
 ghost use Rattle.p8_access.specs.Proper.{IsProperOrigin};
 ghost use Rattle.p8_access.specs.declared.kinds.Origin.TheVariants.{Pasm};
 ghost use Rattle.p8_made.specs.Made.{made_bytes};
 ghost use Rattle.p8_made.specs.Summary.{made_world};
+ghost use Rattle.p8_io.specs.Shelves.{Files};
 ghost use Rattle.p8_inputs.specs.Asks.{Stops, program as program_ask, script_ask};
 ghost use Rattle.p8_inputs.specs.Sources.{IsImageFrom};
 ghost use Rattle.p8_inputs.specs.declared.program.Format.TheVariants.{Source};
-ghost use Rattle.p8_commands.specs.Commands.{BuildSource, ListSource};
+ghost use Rattle.p8_commands.specs.Commands.{BuildSource, ListSource, Make, Help};
 ghost use Rattle.p8_commands.specs.Naming.{name_of};
 ghost use Rattle.p8_commands.specs.Seen.{command_read, running, HasLimits, IsWithin};
 ghost use Rattle.p8_prop.specs.Headline.{IsBuild};
@@ -17,7 +18,7 @@ ghost use Rattle.p8_prop.specs.Works.{IsRunWork, IsWork, world_in};
 
 use crate::laws::{builds_keep_meaning, runs_are_told};
 use p8_access::Boot;
-use p8_commands::{Command, Run, help_page};
+use p8_commands::{Command, Run, Subcommand, help_page};
 use p8_desk::Start;
 use p8_inputs::{Format, Program, Stop, image_of_source, listing_of_source, read_inputs};
 use p8_io::Shelf;
@@ -132,8 +133,8 @@ fn made_boot(alloc: Global, seed: u32) -> Result<Boot, NoMemory>
 /// What a run of the made program of a seed begins from.
 fn made_start(alloc: Global, seed: u32) -> Result<Start, NoMemory>
     ensures world { IfOk result (λ start. world_in start ≡ made_world seed) }
-    ensures clocks { IfOk result (λ start. start.limits.clocks ≡ 100000) }
-    ensures turns { IfOk result (λ start. start.limits.turns ≡ 100000) }
+    ensures clocks { IfOk result (λ start. start.limits.clocks ≤ 100000000) }
+    ensures turns { IfOk result (λ start. start.limits.turns ≤ 1000000) }
     ensures proper { IfOk result (λ start. IsProperOrigin start.boot.first) }
 {
     let boot = made_boot(alloc, seed)?;
@@ -142,6 +143,25 @@ fn made_start(alloc: Global, seed: u32) -> Result<Start, NoMemory>
         script: PinScript::empty(alloc),
         limits: MADE_LIMITS,
     })
+}
+
+/// A run of the made program of a seed.
+fn made_work(alloc: Global, seed: u32) -> Result<Work, NoMemory>
+    ensures { (files : Files) → (alone : Bool) → IfOk result (IsWork files (Make alone seed)) }
+{
+    let start = made_start(alloc, seed)?;
+    Ok(Work::Run {
+        start,
+        finish: Finish::Summary { seed },
+    })
+}
+
+/// A page of help.
+fn help_work(alloc: Global, topic: Option<Subcommand>) -> Result<Work, NoMemory>
+    ensures { (files : Files) → IfOk result (IsWork files (Help topic)) }
+{
+    let text = help_page(alloc, topic)?;
+    Ok(Work::Text(text))
 }
 
 /// What a command comes to once its files are read.
@@ -158,15 +178,12 @@ pub fn work_of<S: Shelf>(alloc: Global, command: Command<'_>, shelf: &mut S) -> 
         Command::Raw { run } => run_work(alloc, Format::Memory, run, shelf),
         Command::Run { run, .. } => run_work(alloc, Format::named(run.file), run, shelf),
         Command::Make { seed, .. } => {
-            let start = made_start(alloc, seed)?;
-            Ok(Work::Run {
-                start,
-                finish: Finish::Summary { seed },
-            })
+            let work = made_work(alloc, seed)?;
+            Ok(work)
         }
         Command::Help { topic } => {
-            let text = help_page(alloc, topic)?;
-            Ok(Work::Text(text))
+            let work = help_work(alloc, topic)?;
+            Ok(work)
         }
     }
 }

@@ -1,9 +1,9 @@
-use Rattle.std.proofs.Common.{◌∙◌, ap, subst, sym, Option}
+use Rattle.std.proofs.Common.{◌∙◌, ap, subst, sym, refl, arith, Option}
 use Rattle.p8_commands.specs.Commands.{Command}
 use Rattle.p8_commands.specs.Seen.{command_read, command_if_any}
 use Rattle.p8_prop.specs.Promises.{Keeps}
 use Rattle.p8_prop.specs.Verdicts.{Outside}
-use Rattle.p8_prop.proofs.Answering.{command-keeps, unsaid-keeps, memory-keeps}
+use Rattle.p8_prop.proofs.Answering.{command-keeps, unsaid-keeps, memory-keeps, nothing-appended}
 use Rattle.p8_prop.proofs.top.prop.Goals as goal
 
 pub returns-in-Ok-Some-clause-keeps : goal.returns-in-Ok-Some-clause-keeps
@@ -15,3 +15,21 @@ returns-in-Ok-Some-clause-keeps g c =
     } in
     subst (λ (command : Option Command). Keeps o command c.answered.result) (ap command_if_any (sym c.in-Ok-Some.field-0-is) ∙ c.in-Ok-Some.ensures.seen)
     (command-keeps c.one_reading.ensures o (command_read c.in-Ok-Some.command) c.text_by_crew.result c.answered.result c.answered.ensures.answer c.text_by_crew.ensures.text c.text_by_crew.ensures.stopped (c.text_by_crew.ensures.kept, c.text_by_crew.ensures.later, c.answered.ensures.out_later, c.answered.ensures.faults_later))
+
+pub returns-in-Ok-None-clause-keeps : goal.returns-in-Ok-None-clause-keeps
+returns-in-Ok-None-clause-keeps g c =
+    let o : Outside = record {
+      shelf = record { files = g.S.Shelf.files c.args.shelf.now; files_now = g.S.Shelf.files c.args.shelf.now; before = g.S.Shelf.faults c.args.shelf.now; now = g.S.Shelf.faults c.args.shelf.now };
+      out = record { before = g.K.Sink.faults c.args.out.now; now = g.K.Sink.faults c.args.out.now; taken = g.K.Sink.taken c.args.out.now; taken_now = g.K.Sink.taken c.args.out.now };
+      faults = record { before = g.E.Sink.faults c.args.faults.now; now = g.E.Sink.faults c.unsaid.new.faults; taken = g.E.Sink.taken c.args.faults.now; taken_now = g.E.Sink.taken c.unsaid.new.faults };
+    } in
+    unsaid-keeps c.one_reading.ensures o _ c.unsaid.result (sym (ap command_if_any (sym c.in-Ok-None.field-0-is) ∙ c.in-Ok-None.ensures.seen)) c.unsaid.ensures.status c.unsaid.ensures.wrote (nothing-appended o.out.taken) (refl, omega arith, omega arith, c.unsaid.ensures.later)
+
+pub returns-in-Err-clause-keeps : goal.returns-in-Err-clause-keeps
+returns-in-Err-clause-keeps g c =
+    let o : Outside = record {
+      shelf = record { files = g.S.Shelf.files c.args.shelf.now; files_now = g.S.Shelf.files c.args.shelf.now; before = g.S.Shelf.faults c.args.shelf.now; now = g.S.Shelf.faults c.args.shelf.now };
+      out = record { before = g.K.Sink.faults c.args.out.now; now = g.K.Sink.faults c.args.out.now; taken = g.K.Sink.taken c.args.out.now; taken_now = g.K.Sink.taken c.args.out.now };
+      faults = record { before = g.E.Sink.faults c.args.faults.now; now = g.E.Sink.faults c.stopped.new.faults; taken = g.E.Sink.taken c.args.faults.now; taken_now = g.E.Sink.taken c.stopped.new.faults };
+    } in
+    memory-keeps c.one_reading.ensures o _ c.stopped.result c.stopped.ensures.status c.stopped.ensures.wrote (nothing-appended o.out.taken) (refl, omega arith, omega arith, c.stopped.ensures.later)
