@@ -8,6 +8,8 @@ use Rattle.clap.specs.Simple.{matches_of}
 use Rattle.clap.specs.Walk.{Text, first_of}
 use Rattle.p8_commands.specs.declared.table.Subcommand.{Subcommand}
 use Rattle.p8_commands.specs.declared.table.Subcommand.TheVariants as named
+use Rattle.p8_commands.specs.declared.kind.ImageKind.{ImageKind}
+use Rattle.p8_commands.specs.Kinds.{kind_named}
 use Rattle.p8_commands.specs.Numbers.{number_of, range_of, most_clocks, most_turns, usual_turns, most_seed}
 use Rattle.p8_commands.specs.Table.{entry_of, app_for, subcommand_named}
 
@@ -20,13 +22,14 @@ pub record Running : Type 0 where
   pub turns : ℕ
   pub dump : Option (ℕ × ℕ)
 
--- a command: to write the image of a source or its listing, to run hub memory, or an image or a source, to run the made
--- program of a seed, or to tell a command or all of them. A run is made by one thread alone, or by a crew of eight.
+-- a command: to write the image of a source or its listing, to run hub memory, or an image or a source, to write an image
+-- as the other kind of file, to run the made program of a seed, or to tell a command or all of them. A run is made by one thread alone, or by a crew of eight.
 pub data Command : Type 0 where
   BuildSource : (file : List ℕ) → Command
   ListSource : (file : List ℕ) → Command
   RunMemory : (run : Running) → Command
   RunProgram : (alone : Bool) (run : Running) → Command
+  Convert : ImageKind → (file : List ℕ) → Command
   Make : (alone : Bool) (seed : ℕ) → Command
   Help : (topic : Option Subcommand) → Command
 
@@ -76,11 +79,16 @@ abbrev pub topic_of : Option Text → Option (Option Subcommand)
 topic_of None = Some None
 topic_of (Some word) = option_map Some (subcommand_named word)
 
+-- an image by its name; another name is none
+abbrev pub convert_of : Text → Option Command
+convert_of file = option_map (λ kind. Convert kind file) (kind_named file)
+
 abbrev pub meaning_of : Subcommand → (Text → Option Text) → Option Command
 meaning_of named.Build value = option_map BuildSource (value (codes "FILE"))
 meaning_of named.List value = option_map ListSource (value (codes "FILE"))
 meaning_of named.Raw value = option_map RunMemory (run_of value)
 meaning_of named.Run value = option_map (RunProgram (is_alone value)) (run_of value)
+meaning_of named.Convert value = option_and_then convert_of (value (codes "FILE"))
 meaning_of named.Make value = option_map (Make (is_alone value)) (seed_of value)
 meaning_of named.Help value = option_map Help (topic_of (value (codes "COMMAND")))
 

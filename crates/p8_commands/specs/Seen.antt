@@ -6,7 +6,7 @@ use Rattle.p8_commands.specs.declared.table.Row.{Row}
 use Rattle.p8_commands.specs.declared.command.Command.{Command as CommandRead}
 use Rattle.p8_commands.specs.declared.command.Command.TheVariants as read
 use Rattle.p8_commands.specs.declared.command.Run.{Run as RunRead}
-use Rattle.p8_commands.specs.Commands.{Command, Running, BuildSource, ListSource, RunMemory, RunProgram, Make, Help}
+use Rattle.p8_commands.specs.Commands.{Command, Running, BuildSource, ListSource, RunMemory, RunProgram, Convert, Make, Help}
 use Rattle.p8_commands.specs.Table.{Argument, Entry}
 use Rattle.p8_commands.specs.Naming.{name_of}
 use Rattle.p8_commands.specs.Numbers.{most_clocks, most_turns}
@@ -26,6 +26,7 @@ command_read (read.Build file) = BuildSource file.now
 command_read (read.List file) = ListSource file.now
 command_read (read.Raw run) = RunMemory (running run)
 command_read (read.Run run alone) = RunProgram alone (running run)
+command_read (read.Convert kind file) = Convert kind file.now
 command_read (read.Make seed alone) = Make alone seed
 command_read (read.Help topic) = Help topic
 

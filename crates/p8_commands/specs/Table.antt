@@ -77,9 +77,15 @@ entry_of named.Raw = record {
 }
 entry_of named.Run = record {
   word = codes "run";
-  arguments = operand (codes "FILE") (codes "an image where the name ends in .binary, and else a source in Spin") ∷ run_options ++ alone ∷ [];
+  arguments = operand (codes "FILE") (codes "an image where the name ends in .binary or .eeprom, and else a source in Spin") ∷ run_options ++ alone ∷ [];
   about = codes "Runs an image or a source up to a clock, and writes the trace.";
   example = codes "prop run blink.spin 20000 --dump 0000:16";
+}
+entry_of named.Convert = record {
+  word = codes "convert";
+  arguments = operand (codes "FILE") (codes "an image, whose name ends in .binary or .eeprom") ∷ [];
+  about = codes "Writes an image as the other kind of file: of a .binary the .eeprom, of an .eeprom the .binary.";
+  example = codes "prop convert blink.binary";
 }
 entry_of named.Make = record {
   word = codes "make";
@@ -96,7 +102,7 @@ entry_of named.Help = record {
 
 -- all commands, in the order in which they are told
 abbrev pub subcommands : List Subcommand
-subcommands = named.Build ∷ named.List ∷ named.Raw ∷ named.Run ∷ named.Make ∷ named.Help ∷ []
+subcommands = named.Build ∷ named.List ∷ named.Raw ∷ named.Run ∷ named.Convert ∷ named.Make ∷ named.Help ∷ []
 
 -- the command that a word names
 unfoldable pub subcommand_named : Text → Option Subcommand

@@ -3,6 +3,7 @@ ghost use Rattle.std.specs.Prelude.{◌≡◌, if◌then◌else◌, Some, None};
 ghost use Rattle.p8_commands.specs.Commands.{alone_of};
 ghost use Rattle.p8_commands.specs.Seen.{command_read};
 
+use crate::kind::ImageKind;
 use crate::table::Subcommand;
 
 /// A run of a file.
@@ -30,6 +31,8 @@ pub enum Command<'a> {
     Raw { run: Run<'a> },
     /// Writes the trace of a run of an image or a source, by one thread or by a crew.
     Run { run: Run<'a>, alone: bool },
+    /// Writes an image of this kind as the other kind of file.
+    Convert { kind: ImageKind, file: &'a str },
     /// Writes the summary of a run of the made program of a seed, by one thread or by a crew.
     Make { seed: u32, alone: bool },
     /// Tells of one command, or of all of them.
@@ -43,7 +46,8 @@ impl Command<'_> {
     {
         match self {
             Command::Build { .. } | Command::List { .. } => true,
-            Command::Raw { .. } | Command::Help { .. } => true,
+            Command::Raw { .. } | Command::Convert { .. } => true,
+            Command::Help { .. } => true,
             Command::Run { alone, .. } => alone,
             Command::Make { alone, .. } => alone,
         }

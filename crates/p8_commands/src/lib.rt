@@ -3,12 +3,14 @@
 
 mod arguments;
 mod command;
+mod kind;
 mod numbers;
 mod page;
 mod table;
 mod words;
 
 pub use command::{Command, Run};
+pub use kind::ImageKind;
 pub use page::help_page;
 pub use table::Subcommand;
 pub use words::command_in;

@@ -50,6 +50,8 @@ pub enum Subcommand {
     Raw,
     /// Runs an image or a source.
     Run,
+    /// Writes an image as the other kind of file.
+    Convert,
     /// Runs a made program.
     Make,
     /// Tells of the commands.
@@ -109,7 +111,14 @@ const PROGRAM_FILE: Argument = Argument {
     kind: ArgumentKind::Operand,
     name: "FILE",
     value: "",
-    about: "an image where the name ends in .binary, and else a source in Spin",
+    about: "an image where the name ends in .binary or .eeprom, and else a source in Spin",
+};
+
+const IMAGE_FILE: Argument = Argument {
+    kind: ArgumentKind::Operand,
+    name: "FILE",
+    value: "",
+    about: "an image, whose name ends in .binary or .eeprom",
 };
 
 const SEED: Argument = Argument {
@@ -136,6 +145,7 @@ impl Subcommand {
             Subcommand::List,
             Subcommand::Raw,
             Subcommand::Run,
+            Subcommand::Convert,
             Subcommand::Make,
             Subcommand::Help,
         ]
@@ -169,6 +179,12 @@ impl Subcommand {
                 arguments: &[PROGRAM_FILE, CLOCKS, PINS, TURNS, DUMP, ALONE],
                 about: "Runs an image or a source up to a clock, and writes the trace.",
                 example: "prop run blink.spin 20000 --dump 0000:16",
+            },
+            Subcommand::Convert => Row {
+                word: "convert",
+                arguments: &[IMAGE_FILE],
+                about: "Writes an image as the other kind of file: of a .binary the .eeprom, of an .eeprom the .binary.",
+                example: "prop convert blink.binary",
             },
             Subcommand::Make => Row {
                 word: "make",

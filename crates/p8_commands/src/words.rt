@@ -2,7 +2,7 @@
 ghost use Rattle.std.specs.Prelude.{◌≡◌, ◌≤◌, Some, None, codes, map, option_map, option_and_then, string_bytes, IfOk, IfSome};
 ghost use Rattle.std.specs.Option.{ForSome};
 ghost use Rattle.clap.specs.Matches.{first_value, found_of};
-ghost use Rattle.p8_commands.specs.Commands.{command_of, said_to, meaning_of, run_of, turns_by, dump_by, is_given as is_given_by, is_alone as is_alone_by, seed_of, topic_of};
+ghost use Rattle.p8_commands.specs.Commands.{command_of, said_to, meaning_of, run_of, turns_by, dump_by, is_given as is_given_by, is_alone as is_alone_by, seed_of, topic_of, convert_of};
 ghost use Rattle.p8_commands.specs.Naming.{name_of};
 ghost use Rattle.p8_commands.specs.Numbers.{most_turns};
 ghost use Rattle.p8_commands.specs.Ranges.{IsInRam};
@@ -10,6 +10,7 @@ ghost use Rattle.p8_commands.specs.Seen.{command_if_any, run_if_any, IsWithin, H
 
 use crate::arguments::{command_for, matches_in};
 use crate::command::{Command, Run};
+use crate::kind::ImageKind;
 use crate::numbers::{number_in, range_in};
 use crate::table::Subcommand;
 use clap::ArgMatches;
@@ -103,6 +104,17 @@ fn topic_in(word: Option<&str>) -> Option<Option<Subcommand>>
     }
 }
 
+/// The command to convert a file, or None where its name is none of an image.
+fn convert_in(file: &str) -> Option<Command<'_>>
+    ensures seen { command_if_any result ≡ convert_of file.now }
+    ensures within { IfSome result HasLimits }
+{
+    Some(Command::Convert {
+        kind: ImageKind::named(file)?,
+        file,
+    })
+}
+
 /// The command of the values of its arguments, or None where one of them has another spelling.
 fn meaning_in<'a>(command: Subcommand, matches: &ArgMatches<'a>) -> Option<Command<'a>>
     ensures seen { command_if_any result ≡ meaning_of command (first_value (found_of matches.now)) }
@@ -122,6 +134,7 @@ fn meaning_in<'a>(command: Subcommand, matches: &ArgMatches<'a>) -> Option<Comma
             run: run_in(matches)?,
             alone: is_alone(matches),
         }),
+        Subcommand::Convert => convert_in(matches.get_str("FILE")?),
         Subcommand::Make => Some(Command::Make {
             seed: seed_in(matches)?,
             alone: is_alone(matches),
