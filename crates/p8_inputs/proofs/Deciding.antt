@@ -15,7 +15,7 @@ use Rattle.p8_pins.proofs.Scripting.{read-same, read-not_bad, fault-one}
 use Rattle.p8_texts.specs.Listing.{listing_of}
 use Rattle.std.specs.Prelude.{map}
 use Rattle.p8_inputs.specs.declared.program.Format.{Format}
-use Rattle.p8_inputs.specs.declared.program.Format.TheVariants.{Memory, Image, Source}
+use Rattle.p8_inputs.specs.declared.program.Format.TheVariants.{Memory, Image, Eeprom, Source}
 use Rattle.p8_inputs.specs.declared.stop.Stop.{Stop}
 use Rattle.p8_inputs.specs.declared.stop.Stop.TheVariants.{Unread, Missing, NoMemory, Refused, BadProgram, BadScript}
 use Rattle.p8_inputs.specs.Programs.{fault_of}
@@ -110,6 +110,7 @@ module _ (files : List ℕ → Option (List ℕ)) where
         p.4 ∙ ap₂ image_of same.1 same.2 ∙ sym q.4
     program-one Memory file a b p q = read-one file a b p.0 q.0
     program-one Image file a b p q = read-one file a b p.0 q.0
+    program-one Eeprom file a b p q = read-one file a b p.0 q.0
 
     listing-one : (file a b : List ℕ) → IsListingFrom (Some files) file a → IsListingFrom (Some files) file b → a ≡ b
     listing-one file a b p q =
@@ -130,11 +131,17 @@ module _ (files : List ℕ → Option (List ℕ)) where
     program-stop-one before now Memory file (Refused a m x) b s t p q = absurd p
     program-stop-one before now Memory file a (Refused b n y) s t p q = absurd q
     program-stop-one before now Image file (Missing a) (Missing b) s t p q = ap Missing (p.0 ∙ sym q.0)
+    program-stop-one before now Eeprom file (Missing a) (Missing b) s t p q = ap Missing (p.0 ∙ sym q.0)
     program-stop-one before now Image file (Missing a) (BadProgram b g) s t p q = absurd (read-some b a q.0 q.2 (p.0 ∙ sym q.1) p.1)
+    program-stop-one before now Eeprom file (Missing a) (BadProgram b g) s t p q = absurd (read-some b a q.0 q.2 (p.0 ∙ sym q.1) p.1)
     program-stop-one before now Image file (BadProgram a f) (Missing b) s t p q = absurd (read-some a b p.0 p.2 (q.0 ∙ sym p.1) q.1)
+    program-stop-one before now Eeprom file (BadProgram a f) (Missing b) s t p q = absurd (read-some a b p.0 p.2 (q.0 ∙ sym p.1) q.1)
     program-stop-one before now Image file (BadProgram a f) (BadProgram b g) s t p q = faulty-same (one-fault Image file a b f g p.0 q.0 p.1 p.2 p.3 q.1 q.2 q.3)
+    program-stop-one before now Eeprom file (BadProgram a f) (BadProgram b g) s t p q = faulty-same (one-fault Eeprom file a b f g p.0 q.0 p.1 p.2 p.3 q.1 q.2 q.3)
     program-stop-one before now Image file (Refused a m x) b s t p q = absurd p
+    program-stop-one before now Eeprom file (Refused a m x) b s t p q = absurd p
     program-stop-one before now Image file a (Refused b n y) s t p q = absurd q
+    program-stop-one before now Eeprom file a (Refused b n y) s t p q = absurd q
     program-stop-one before now format file (Unread a) b s t p q = absurd s
     program-stop-one before now format file NoMemory b s t p q = absurd s
     program-stop-one before now format file (BadScript a m) b s t p q = absurd p
@@ -150,8 +157,11 @@ module _ (files : List ℕ → Option (List ℕ)) where
     program-never_both before now Memory file xs (Refused name number place) s is stops = stops
     program-never_both before now Memory file xs (BadProgram name fault) s is stops = there-not_faulty Memory file xs name fault is.0 is.1 stops.0 stops.1 stops.2 stops.3
     program-never_both before now Image file xs (Missing name) s is stops = read-some file name xs is.0 stops.0 stops.1
+    program-never_both before now Eeprom file xs (Missing name) s is stops = read-some file name xs is.0 stops.0 stops.1
     program-never_both before now Image file xs (Refused name number place) s is stops = stops
+    program-never_both before now Eeprom file xs (Refused name number place) s is stops = stops
     program-never_both before now Image file xs (BadProgram name fault) s is stops = there-not_faulty Image file xs name fault is.0 is.1 stops.0 stops.1 stops.2 stops.3
+    program-never_both before now Eeprom file xs (BadProgram name fault) s is stops = there-not_faulty Eeprom file xs name fault is.0 is.1 stops.0 stops.1 stops.2 stops.3
     program-never_both before now format file xs (Unread name) s is stops = s
     program-never_both before now format file xs NoMemory s is stops = s
     program-never_both before now format file xs (BadScript name line) s is stops = stops
@@ -241,6 +251,7 @@ program-unread-rose : (files : Files) (before now : ℕ) (format : Format) (file
 program-unread-rose files before now Source file name unread = gather-rose files before now file name (failed name) refl unread
 program-unread-rose files before now Memory file name unread = unread.1
 program-unread-rose files before now Image file name unread = unread.1
+program-unread-rose files before now Eeprom file name unread = unread.1
 
 ask-unread-rose : (files : Files) (before now : ℕ) (ask : Ask) (name : List ℕ) → StopsAt files before now ask (Unread name) → Rose before now
 ask-unread-rose files before now (program format file) name unread = program-unread-rose files before now format file name unread

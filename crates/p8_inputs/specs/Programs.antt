@@ -1,6 +1,5 @@
 -- What is run: bytes, by what they are taken for (this project's profile). Those of a source are its image.
-use Rattle.std.specs.Prelude.{ℕ, ◌≡◌, ◌==◌, nat_le, if◌then◌else◌, Bool, List, length, Option, Some, None, codes}
-use Rattle.std.specs.List.{ends_with}
+use Rattle.std.specs.Prelude.{ℕ, ◌≡◌, nat_le, if◌then◌else◌, List, length, Option, Some, None}
 use Rattle.p8_words.specs.declared.failure.Fail.{Fail}
 use Rattle.p8_words.specs.declared.failure.Fail.TheVariants.{Refused, NoMemory}
 use Rattle.p8_access.specs.declared.kinds.Origin.{Origin}
@@ -10,35 +9,51 @@ use Rattle.p8_history.specs.Worlds.{Line, World}
 use Rattle.p8_image.specs.declared.faults.LoadFault.{LoadFault}
 use Rattle.p8_image.specs.declared.faults.LoadFault.TheVariants.{BadLength}
 use Rattle.p8_image.specs.Headers.{header_of}
-use Rattle.p8_image.specs.Loading.{first_fault, memory_of, start_of}
+use Rattle.p8_image.specs.Loading.{first_fault, eeprom_fault, memory_of, binary_of, start_of}
+use Rattle.p8_commands.specs.declared.kind.ImageKind.{ImageKind}
+use Rattle.p8_commands.specs.declared.kind.ImageKind.TheVariants as kind
+use Rattle.p8_commands.specs.Kinds.{kind_named}
 use Rattle.p8_inputs.specs.declared.program.Format.{Format}
-use Rattle.p8_inputs.specs.declared.program.Format.TheVariants.{Memory, Image, Source}
+use Rattle.p8_inputs.specs.declared.program.Format.TheVariants.{Memory, Image, Eeprom, Source}
 
--- the name of an image
-abbrev pub is_image_name : List ℕ → Bool
-is_image_name name = ends_with (λ (a b : ℕ). a == b) name (codes ".binary")
+-- what an image of a kind is taken for
+abbrev pub format_of : ImageKind → Format
+format_of kind.Binary = Image
+format_of kind.Eeprom = Eeprom
 
--- what a file to run is taken for, by its name: an image, or else a source
+abbrev pub format_by : Option ImageKind → Format
+format_by (Some kind) = format_of kind
+format_by None = Source
+
+-- what a file to run is taken for, by its name: an image of a kind, or else a source
 abbrev pub format_named : List ℕ → Format
-format_named name = if is_image_name name then Image else Source
+format_named name = format_by (kind_named name)
 
 -- the first fault of what is run, if it can't be: hub memory has to fit the hub, and an image has rules of its own
 abbrev pub fault_of : Format → List ℕ → Option LoadFault
 fault_of Memory bytes = if nat_le (length bytes) 32768 then None else Some (BadLength (length bytes))
 fault_of Image bytes = first_fault bytes
+fault_of Eeprom bytes = eeprom_fault bytes
 fault_of Source bytes = first_fault bytes
 
 -- the hub memory that a run begins with
 abbrev pub memory_by : Format → List ℕ → List ℕ
 memory_by Memory bytes = ram_of bytes
 memory_by Image bytes = memory_of bytes
+memory_by Eeprom bytes = bytes
 memory_by Source bytes = memory_of bytes
 
 -- what cog 0 is started with: hub memory as PASM at $0000 with PAR 0, an image as its header says
 abbrev pub first_by : Format → List ℕ → Origin
 first_by Memory bytes = Pasm 0 0
 first_by Image bytes = start_of (header_of bytes)
+first_by Eeprom bytes = start_of (header_of bytes)
 first_by Source bytes = start_of (header_of bytes)
+
+-- an image of a kind as the other kind of file: of a `.binary` the memory that it begins with, of an `.eeprom` what a `.binary` has of it
+abbrev pub other_file : ImageKind → List ℕ → List ℕ
+other_file kind.Binary bytes = memory_of bytes
+other_file kind.Eeprom bytes = binary_of bytes
 
 -- the world of what is run, with a pin script and limits
 abbrev pub world_of : Format → (bytes : List ℕ) → (script : List Line) → (clocks turns : ℕ) → World

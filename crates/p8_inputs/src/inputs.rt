@@ -7,9 +7,9 @@ ghost use Rattle.p8_inputs.specs.Inputs.{IsScriptFor};
 ghost use Rattle.p8_inputs.specs.Naming.{name_of};
 ghost use Rattle.p8_inputs.specs.Runs.{Begins};
 ghost use Rattle.p8_inputs.specs.Steps.{IsBootOf, StopsAtFile};
-ghost use Rattle.p8_inputs.specs.declared.program.Format.TheVariants.{Memory, Image, Source};
+ghost use Rattle.p8_inputs.specs.declared.program.Format.TheVariants.{Memory, Image, Eeprom, Source};
 
-use crate::boots::{image_boot, memory_boot};
+use crate::boots::{binary_boot, eeprom_boot, image_boot, memory_boot};
 use crate::program::{Format, Program};
 use crate::sources::image_in;
 use crate::stop::Stop;
@@ -30,7 +30,7 @@ pub struct Inputs {
 }
 
 /// The bytes of a file.
-fn bytes_in<S: Shelf>(alloc: Global, file: &str, shelf: &mut S) -> Result<Vec<u8>, Stop>
+pub(crate) fn bytes_in<S: Shelf>(alloc: Global, file: &str, shelf: &mut S) -> Result<Vec<u8>, Stop>
     ensures read { IfOk result (λ bytes. IsRead (S.files shelf.old) file.now bytes.items) }
     ensures stopped { IfErr result (StopsAtFile (S.files shelf.old) (S.faults shelf.old) (S.faults shelf.new) file.now) }
     ensures later { S.faults shelf.old ≤ S.faults shelf.new }
@@ -79,6 +79,23 @@ fn image_file_in<S: Shelf>(alloc: Global, file: &str, shelf: &mut S) -> Result<B
     }
 }
 
+/// The boot of an image in an `.eeprom` file.
+fn eeprom_file_in<S: Shelf>(alloc: Global, file: &str, shelf: &mut S) -> Result<Boot, Stop>
+    ensures boot { IfOk result (IsBootOf (S.files shelf.old) Eeprom file.now) }
+    ensures proper { IfOk result (λ boot. IsProperOrigin boot.first) }
+    ensures stopped { IfErr result (StopsAtProgram (S.files shelf.old) (S.faults shelf.old) (S.faults shelf.new) Eeprom file.now) }
+    ensures later { S.faults shelf.old ≤ S.faults shelf.new }
+    ensures kept { S.files shelf.new ≡ S.files shelf.old }
+{
+    let name = Text::copy_of(alloc, file.as_bytes())?;
+    let bytes = bytes_in(alloc, file, shelf)?;
+    match eeprom_boot(alloc, &bytes) {
+        Ok(boot) => Ok(boot),
+        Err(Fail::Refused(fault)) => Err(Stop::BadProgram { file: name, fault }),
+        Err(Fail::NoMemory) => Err(Stop::NoMemory),
+    }
+}
+
 /// The boot of a source's image.
 fn source_in<S: Shelf>(alloc: Global, file: &str, shelf: &mut S) -> Result<Boot, Stop>
     ensures boot { IfOk result (IsBootOf (S.files shelf.old) Source file.now) }
@@ -88,7 +105,7 @@ fn source_in<S: Shelf>(alloc: Global, file: &str, shelf: &mut S) -> Result<Boot,
     ensures kept { S.files shelf.new ≡ S.files shelf.old }
 {
     let image = image_in(alloc, file, shelf)?;
-    let boot = image.boot(alloc)?;
+    let boot = binary_boot(alloc, &image)?;
     Ok(boot)
 }
 
@@ -103,6 +120,7 @@ fn boot_in<S: Shelf>(alloc: Global, program: Program<'_>, shelf: &mut S) -> Resu
     match program.format {
         Format::Memory => memory_in(alloc, program.file, shelf),
         Format::Image => image_file_in(alloc, program.file, shelf),
+        Format::Eeprom => eeprom_file_in(alloc, program.file, shelf),
         Format::Source => source_in(alloc, program.file, shelf),
     }
 }

@@ -3,6 +3,7 @@
 #![tactic(auto)]
 
 mod boots;
+mod convert;
 mod inputs;
 mod laws;
 mod program;
@@ -10,6 +11,7 @@ mod sources;
 mod stop;
 mod telling;
 
+pub use convert::other_image;
 pub use inputs::{Inputs, read_inputs};
 pub use laws::{one_reading, one_source};
 pub use program::{Format, Program};

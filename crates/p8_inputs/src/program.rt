@@ -1,6 +1,8 @@
 // What is run.
 ghost use Rattle.std.specs.Prelude.{◌≡◌};
-ghost use Rattle.p8_inputs.specs.Programs.{format_named};
+ghost use Rattle.p8_inputs.specs.Programs.{format_named, format_of};
+
+use p8_commands::ImageKind;
 
 /// What the file to run is taken for.
 #[derive(Clone, Copy, Debug, PartialEq, Eq)]
@@ -9,19 +11,30 @@ pub enum Format {
     Memory,
     /// An image of a program, as a `.binary` file holds it, which says itself how cog 0 starts.
     Image,
+    /// An image of a program, as an `.eeprom` file holds it: the whole memory that a run begins with.
+    Eeprom,
     /// The top file of a project of sources in Spin, whose image is run.
     Source,
 }
 
 impl Format {
-    /// What a file to run is taken for, by its name: an image where that ends in `.binary`, and else a source.
+    /// What an image of a kind is taken for.
+    pub fn of(kind: ImageKind) -> Format
+        ensures { result ≡ format_of kind }
+    {
+        match kind {
+            ImageKind::Binary => Format::Image,
+            ImageKind::Eeprom => Format::Eeprom,
+        }
+    }
+
+    /// What a file to run is taken for, by its name: an image where that ends in `.binary` or `.eeprom`, and else a source.
     pub fn named(file: &str) -> Format
         ensures { result ≡ format_named file.now }
     {
-        if file.as_bytes().ends_with(b".binary") {
-            Format::Image
-        } else {
-            Format::Source
+        match ImageKind::named(file) {
+            Some(kind) => Format::of(kind),
+            None => Format::Source,
         }
     }
 }

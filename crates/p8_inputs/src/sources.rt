@@ -4,7 +4,8 @@ ghost use Rattle.p8_tree.specs.Projects.{NamedSource};
 ghost use Rattle.p8_tree.specs.Views.{named_sources_of};
 ghost use Rattle.p8_io.specs.Shelves.{Files};
 ghost use Rattle.p8_objects.specs.Outcomes.{shelved, Answers};
-ghost use Rattle.p8_build.specs.Told.{IsImageOf, IsRefusal};
+ghost use Rattle.p8_build.specs.Told.{IsImageBuilt, IsRefusal};
+ghost use Rattle.p8_image.specs.Loading.{image_in as image_of_file};
 ghost use Rattle.p8_inputs.specs.Asks.{StopsAtProgram, Stops, program as program_ask, listing as listing_ask};
 ghost use Rattle.p8_inputs.specs.Gathered.{IsProject, IsWhole, IsListingOf, StopsAtBuilding};
 ghost use Rattle.p8_inputs.specs.Runs.{HasProperTrees};
@@ -74,7 +75,7 @@ fn stop_of_building(fault: BuildFault) -> Stop
 /// The image of a project.
 fn image_of_project(alloc: Global, project: &Project) -> Result<Image, Stop>
     requires { IsWhole (named_sources_of project.now) }
-    ensures image { IfOk result (IsImageOf (named_sources_of project.now)) }
+    ensures image { IfOk result (IsImageBuilt (named_sources_of project.now)) }
     ensures stopped { IfErr result (StopsAtBuilding (named_sources_of project.now)) }
 {
     match build(alloc, project) {
@@ -111,7 +112,8 @@ fn listing_of_project(alloc: Global, project: &Project) -> Result<Vec<u8>, Stop>
 
 /// The image of the project of a top file.
 pub(crate) fn image_in<S: Shelf>(alloc: Global, file: &str, shelf: &mut S) -> Result<Image, Stop>
-    ensures image { IfOk result (HasProperTrees (S.files shelf.old) Source file.now) }
+    ensures image { IfOk result (λ image. HasProperTrees (S.files shelf.old) Source file.now image.file) }
+    ensures memory { IfOk result (λ image. image ≡ image_of_file image.file) }
     ensures stopped { IfErr result (StopsAtProgram (S.files shelf.old) (S.faults shelf.old) (S.faults shelf.new) Source file.now) }
     ensures later { S.faults shelf.old ≤ S.faults shelf.new }
     ensures kept { S.files shelf.new ≡ S.files shelf.old }
@@ -143,8 +145,8 @@ fn listing_in<S: Shelf>(alloc: Global, file: &str, shelf: &mut S) -> Result<Vec<
 /// gathered ([`gather`](p8_objects::gather)) or else when it is built ([`build`](p8_build::build)). `NoMemory` may come at any point.
 /// The shelf's files stay as they were, and its count never falls.
 pub fn image_of_source<S: Shelf>(alloc: Global, file: &str, shelf: &mut S) -> Result<Image, Stop>
-    ensures image { IfOk result (IsImageFrom (S.files shelf.old) file.now) }
-    ensures trees { IfOk result (HasProperTrees (S.files shelf.old) Source file.now) }
+    ensures image { IfOk result (λ image. IsImageFrom (S.files shelf.old) file.now image.file) }
+    ensures trees { IfOk result (λ image. HasProperTrees (S.files shelf.old) Source file.now image.file) }
     ensures stopped { IfErr result (Stops (S.files shelf.old) (S.faults shelf.old) (S.faults shelf.new) (program_ask Source file.now ∷ [])) }
     ensures later { S.faults shelf.old ≤ S.faults shelf.new }
     ensures kept { S.files shelf.new ≡ S.files shelf.old }

@@ -9,7 +9,10 @@ returns-clause-image g c =
     let top = c.args.file.now in
     let sources = named_sources_of c.in_ok-project.project in
     let gathered = c.in_ok-project.ensures.project.gathered in
-    IfOk-weaker c.image_of_project-image.result _ _ (λ image is. image-from files top sources gathered c.in_ok-project.ensures.project.whole.proper image is) c.image_of_project-image.ensures.image
+    IfOk-weaker c.image_of_project-image.result _ _ (λ image is. image-from files top sources gathered c.in_ok-project.ensures.project.whole.proper image.file is.0) c.image_of_project-image.ensures.image
+
+pub returns-clause-memory : goal.returns-clause-memory
+returns-clause-memory g c = IfOk-weaker c.image_of_project-image.result _ _ (λ image is. is.1) c.image_of_project-image.ensures.image
 
 pub returns-clause-stopped : goal.returns-clause-stopped
 returns-clause-stopped g c =

@@ -8,7 +8,7 @@ use Rattle.p8_inputs.proofs.sources.image_of_source.Goals as goal
 
 pub returns-clause-image : goal.returns-clause-image
 returns-clause-image g c =
-    IfOk-weaker c.image_in.result _ _ (λ image is. image-of-project (g.S.Shelf.files c.args.shelf.now) c.args.file.now image is) c.image_in.ensures.image
+    IfOk-weaker c.image_in.result _ _ (λ image is. image-of-project (g.S.Shelf.files c.args.shelf.now) c.args.file.now image.file is) c.image_in.ensures.image
 
 pub returns-clause-stopped : goal.returns-clause-stopped
 returns-clause-stopped g c =
