@@ -53,19 +53,19 @@ RunsAreTold = (files : Files) (format : Format) (file xs : List ℕ) → HasProp
 
 module _ (told : RunsAreTold) (files : Files) (format : Format) (run : Running) (inputs : Inputs) (begins : Begins files format run.file run.script inputs) where
   -- the world of the run, and that of the code
-  world : World
+  abbrev world : World
   world = world_of format begins.0 inputs.script run.clocks run.turns
 
-  start : World
-  start = machine.world_of inputs.boot inputs.script (record { clocks = run.clocks; turns = run.turns })
+  abbrev pub begun : World
+  begun = machine.world_of inputs.boot inputs.script (record { clocks = run.clocks; turns = run.turns })
 
-  same-world : start ≡ world
+  same-world : begun ≡ world
   same-world = λ i. record { memory = begins.3 i; first = begins.4 i; script = inputs.script; clocks = run.clocks; turns = run.turns }
 
   of-world : (past : List Turn) → Ended asks world past → IsTextOfRun files format run (text_of world past run.dump)
   of-world past ended =
       let given = given-for files run.script inputs.script begins.5 in (
-        (bytes begins.0 ∷ given.0, (begins.1, given.1), past, subst (λ (script : List Line). Ended asks (world_of format begins.0 script run.clocks run.turns) past) (sym given.2) ended, ap (λ (script : List Line). text_of (world_of format begins.0 script run.clocks run.turns) past run.dump) (sym given.2)),
+        (bytes begins.0 ∷ given.0, (begins.1, given.1), (past, subst (λ (script : List Line). Ended asks (world_of format begins.0 script run.clocks run.turns) past) (sym given.2) ended, ap (λ (script : List Line). text_of (world_of format begins.0 script run.clocks run.turns) past run.dump) (sym given.2))),
         record {
           bytes = begins.0;
           script = inputs.script;
@@ -78,7 +78,7 @@ module _ (told : RunsAreTold) (files : Files) (format : Format) (run : Running) 
         },
       )
 
-  pub run-told : (past : List Turn) → Ended asks start past → IsTextOfRun files format run (text_of start past run.dump)
+  pub run-told : (past : List Turn) → Ended asks begun past → IsTextOfRun files format run (text_of begun past run.dump)
   run-told = subst (λ (w : World). (past : List Turn) → Ended asks w past → IsTextOfRun files format run (text_of w past run.dump)) (sym same-world) of-world
 
 -- ---- a made program

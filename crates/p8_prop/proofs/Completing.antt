@@ -80,9 +80,9 @@ none-one o (unwritten text) s p = absurd s
 module _ (one : (files : List ℕ → Option (List ℕ)) → HasOneReading files) where
   pub one-verdict : (o : Outside) (command : Option Command) → HasOneVerdict o command
   one-verdict o None files a b told s t p q = none-one o a s p ∙ sym (none-one o b t q)
-  one-verdict o (Some command) files a b told s t =
+  one-verdict o (Some command) files a b told s t p q =
       subst (λ (f : Files). IsVerdict (with_files o f) (Some command) a → IsVerdict (with_files o f) (Some command) b → a ≡ b) (sym told)
-      (verdict-one files (one files) o command a b s t)
+      (verdict-one files (one files) o command a b s t) p q
 
   -- a file that could not be read is one that the shelf has counted
   unread-risen : (o : Outside) (command : Option Command) (name : List ℕ) → IsVerdict o command (stopped (stop.Unread name)) → Rose o.shelf.before o.shelf.now

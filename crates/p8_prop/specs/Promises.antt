@@ -19,18 +19,15 @@ pub record Keeps (o : Outside) (command : Option Command) (status : Status) : Ty
   pub answered : status ≡ status_of verdict
   pub told : IsTold o.faults verdict
   pub out : IsOut o.out verdict
-
   -- where the shelf tells its files there is one verdict, and it is the one that comes
   pub one_verdict : HasOneVerdict o command
   pub complete : IsComplete o command verdict
-
   -- What a run prints with status 0 is the trace of the one rotation-ordered history of the eight-cog machine started from the image of
   -- its program, whichever threads took its turns; and there the accesses of each life of Spin are, in order, those that its source
   -- makes of the answers it got. The image that a build writes with status 0 keeps the meaning of its source: whichever of its methods
   -- a cog begins with, and whatever answers come, its bytecodes make the accesses that the source says, and never halt for a reason
   -- that the source doesn't have.
   pub headline : HasHeadline o.shelf.files command verdict
-
   -- the shelf keeps its files, and no count falls
   pub kept : o.shelf.files_now ≡ o.shelf.files
   pub shelf_later : o.shelf.before ≤ o.shelf.now

@@ -65,18 +65,20 @@ pub fn answered<K: Sink, E: Sink>(
     out: &mut K,
     faults: &mut E,
 ) -> Status
-    ensures answer {
-        IsAnswer text
-            (record {
-                before = K.faults out.old; now = K.faults out.new;
-                taken = K.taken out.old; taken_now = K.taken out.new;
-            })
-            (record {
-                before = E.faults faults.old; now = E.faults faults.new;
-                taken = E.taken faults.old; taken_now = E.taken faults.new;
-            })
-            result
-    }
+    ensures answer { IsAnswer text
+        (record {
+          before = K.faults out.old;
+          now = K.faults out.new;
+          taken = K.taken out.old;
+          taken_now = K.taken out.new;
+        })
+        (record {
+          before = E.faults faults.old;
+          now = E.faults faults.new;
+          taken = E.taken faults.old;
+          taken_now = E.taken faults.new;
+        })
+        result }
     ensures out_later { K.faults out.old ≤ K.faults out.new }
     ensures faults_later { E.faults faults.old ≤ E.faults faults.new }
 {

@@ -64,27 +64,35 @@ pub fn prop<
     faults: &mut E,
     starter: &mut F,
 ) -> Status
-    ensures keeps {
-        Keeps (record {
-            shelf = record {
-                files = S.files shelf.old; files_now = S.files shelf.new;
-                before = S.faults shelf.old; now = S.faults shelf.new;
-            };
-            out = record {
-                before = K.faults out.old; now = K.faults out.new;
-                taken = K.taken out.old; taken_now = K.taken out.new;
-            };
-            faults = record {
-                before = E.faults faults.old; now = E.faults faults.new;
-                taken = E.taken faults.old; taken_now = E.taken faults.new;
-            };
-        }) (command_of (map string_bytes words.now)) result
-    }
+    ensures { Keeps (record {
+      shelf = record {
+        files = S.files shelf.old;
+        files_now = S.files shelf.new;
+        before = S.faults shelf.old;
+        now = S.faults shelf.new;
+      };
+      out = record {
+        before = K.faults out.old;
+        now = K.faults out.new;
+        taken = K.taken out.old;
+        taken_now = K.taken out.new;
+      };
+      faults = record {
+        before = E.faults faults.old;
+        now = E.faults faults.new;
+        taken = E.taken faults.old;
+        taken_now = E.taken faults.new;
+      };
+    }) (command_of (map string_bytes words.now)) result }
 {
     one_reading();
     match command_in(alloc, words) {
         Ok(Some(command)) => {
-            answered(text_by_crew(rt, alloc, starter, command, shelf), out, faults)
+            answered(
+                text_by_crew(rt, alloc, starter, command, shelf),
+                out,
+                faults,
+            )
         }
         Ok(None) => unsaid(faults),
         Err(NoMemory) => stopped(&Stop::NoMemory, faults),
@@ -100,22 +108,26 @@ pub fn prop_alone<S: Shelf, K: Sink, E: Sink>(
     out: &mut K,
     faults: &mut E,
 ) -> Status
-    ensures keeps {
-        Keeps (record {
-            shelf = record {
-                files = S.files shelf.old; files_now = S.files shelf.new;
-                before = S.faults shelf.old; now = S.faults shelf.new;
-            };
-            out = record {
-                before = K.faults out.old; now = K.faults out.new;
-                taken = K.taken out.old; taken_now = K.taken out.new;
-            };
-            faults = record {
-                before = E.faults faults.old; now = E.faults faults.new;
-                taken = E.taken faults.old; taken_now = E.taken faults.new;
-            };
-        }) (alone_of (command_of (map string_bytes words.now))) result
-    }
+    ensures { Keeps (record {
+      shelf = record {
+        files = S.files shelf.old;
+        files_now = S.files shelf.new;
+        before = S.faults shelf.old;
+        now = S.faults shelf.new;
+      };
+      out = record {
+        before = K.faults out.old;
+        now = K.faults out.new;
+        taken = K.taken out.old;
+        taken_now = K.taken out.new;
+      };
+      faults = record {
+        before = E.faults faults.old;
+        now = E.faults faults.new;
+        taken = E.taken faults.old;
+        taken_now = E.taken faults.new;
+      };
+    }) (alone_of (command_of (map string_bytes words.now))) result }
 {
     one_reading();
     match command_alone_in(alloc, words) {
@@ -126,10 +138,7 @@ pub fn prop_alone<S: Shelf, K: Sink, E: Sink>(
 }
 
 /// The command of the words that one thread alone carries out, or None where they say another one or none.
-fn command_alone_in<'a>(
-    alloc: Global,
-    words: &'a [String],
-) -> Result<Option<Command<'a>>, NoMemory>
+fn command_alone_in<'a>(alloc: Global, words: &'a [String]) -> Result<Option<Command<'a>>, NoMemory>
     ensures seen { IfOk result (λ command. command_if_any command ≡ alone_of (command_of (map string_bytes words.now))) }
     ensures within { IfOk result (λ command. IfSome command HasLimits) }
 {

@@ -3,8 +3,8 @@ use Rattle.p8_prop.specs.Works.{IsText}
 use Rattle.p8_prop.proofs.Coming.{can-be-made, text-comes}
 use Rattle.p8_prop.proofs.text.text_with_crew.Goals as goal
 
-pub text_of_crew-text-requires : goal.text_of_crew-text-requires
-text_of_crew-text-requires g c =
+pub text_of_crew-requires-after_bounds : goal.text_of_crew-requires-after_bounds
+text_of_crew-requires-after_bounds g c κs within =
     can-be-made (IsText (g.S.Shelf.files c.args.shelf.now) (command_read c.args.command)) c.in_ok-work.work c.in_ok-work.ensures.work
 
 pub returns-clause-text : goal.returns-clause-text

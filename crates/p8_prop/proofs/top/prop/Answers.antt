@@ -6,8 +6,8 @@ use Rattle.p8_prop.specs.Verdicts.{Outside}
 use Rattle.p8_prop.proofs.Answering.{command-keeps, unsaid-keeps, memory-keeps, nothing-appended}
 use Rattle.p8_prop.proofs.top.prop.Goals as goal
 
-pub returns-in-Ok-Some-clause-keeps : goal.returns-in-Ok-Some-clause-keeps
-returns-in-Ok-Some-clause-keeps g c =
+pub returns-in-Ok-Some : goal.returns-in-Ok-Some
+returns-in-Ok-Some g c =
     let o : Outside = record {
       shelf = record { files = g.S.Shelf.files c.args.shelf.now; files_now = g.S.Shelf.files c.text_by_crew.new.shelf; before = g.S.Shelf.faults c.args.shelf.now; now = g.S.Shelf.faults c.text_by_crew.new.shelf };
       out = record { before = g.K.Sink.faults c.args.out.now; now = g.K.Sink.faults c.answered.new.out; taken = g.K.Sink.taken c.args.out.now; taken_now = g.K.Sink.taken c.answered.new.out };
@@ -16,8 +16,8 @@ returns-in-Ok-Some-clause-keeps g c =
     subst (λ (command : Option Command). Keeps o command c.answered.result) (ap command_if_any (sym c.in-Ok-Some.field-0-is) ∙ c.in-Ok-Some.ensures.seen)
     (command-keeps c.one_reading.ensures o (command_read c.in-Ok-Some.command) c.text_by_crew.result c.answered.result c.answered.ensures.answer c.text_by_crew.ensures.text c.text_by_crew.ensures.stopped (c.text_by_crew.ensures.kept, c.text_by_crew.ensures.later, c.answered.ensures.out_later, c.answered.ensures.faults_later))
 
-pub returns-in-Ok-None-clause-keeps : goal.returns-in-Ok-None-clause-keeps
-returns-in-Ok-None-clause-keeps g c =
+pub returns-in-Ok-None : goal.returns-in-Ok-None
+returns-in-Ok-None g c =
     let o : Outside = record {
       shelf = record { files = g.S.Shelf.files c.args.shelf.now; files_now = g.S.Shelf.files c.args.shelf.now; before = g.S.Shelf.faults c.args.shelf.now; now = g.S.Shelf.faults c.args.shelf.now };
       out = record { before = g.K.Sink.faults c.args.out.now; now = g.K.Sink.faults c.args.out.now; taken = g.K.Sink.taken c.args.out.now; taken_now = g.K.Sink.taken c.args.out.now };
@@ -25,8 +25,8 @@ returns-in-Ok-None-clause-keeps g c =
     } in
     unsaid-keeps c.one_reading.ensures o _ c.unsaid.result (sym (ap command_if_any (sym c.in-Ok-None.field-0-is) ∙ c.in-Ok-None.ensures.seen)) c.unsaid.ensures.status c.unsaid.ensures.wrote (nothing-appended o.out.taken) (refl, omega arith, omega arith, c.unsaid.ensures.later)
 
-pub returns-in-Err-clause-keeps : goal.returns-in-Err-clause-keeps
-returns-in-Err-clause-keeps g c =
+pub returns-in-Err : goal.returns-in-Err
+returns-in-Err g c =
     let o : Outside = record {
       shelf = record { files = g.S.Shelf.files c.args.shelf.now; files_now = g.S.Shelf.files c.args.shelf.now; before = g.S.Shelf.faults c.args.shelf.now; now = g.S.Shelf.faults c.args.shelf.now };
       out = record { before = g.K.Sink.faults c.args.out.now; now = g.K.Sink.faults c.args.out.now; taken = g.K.Sink.taken c.args.out.now; taken_now = g.K.Sink.taken c.args.out.now };
