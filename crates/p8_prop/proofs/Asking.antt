@@ -24,7 +24,7 @@ use Rattle.p8_told_lives.specs.Told.{IsWorldOf, SpinIsTold}
 use Rattle.p8_placed.specs.Programs.{program_of, addresses_of}
 use Rattle.p8_placed.specs.Meaning.{KeepsMeaning}
 use Rattle.p8_inputs.specs.declared.program.Format.{Format}
-use Rattle.p8_inputs.specs.declared.program.Format.TheVariants.{Memory, Image, Source}
+use Rattle.p8_inputs.specs.declared.program.Format.TheVariants.{Memory, Image, Eeprom, Source}
 use Rattle.p8_inputs.specs.Programs.{memory_by, first_by}
 use Rattle.p8_inputs.specs.Runs.{HasProperTrees}
 use Rattle.p8_inputs.specs.Sources.{IsBuiltFrom}
@@ -60,6 +60,7 @@ module _ (methods : HaveMethods) (lives : AreTold) where
   pub runs-are_told : RunsAreTold
   runs-are_told files Memory file bytes trees w memory first past ended = tt
   runs-are_told files Image file bytes trees w memory first past ended = tt
+  runs-are_told files Eeprom file bytes trees w memory first past ended = tt
   runs-are_told files Source file bytes trees w memory first past ended =
       let is = trees.3 in
       let world = world-of_source files file trees.0 trees.1 trees.2 is trees.4 w (memory ∙ ap memory_of trees.5) (first ∙ ap (λ (bytes : List ℕ). start_of (header_of bytes)) trees.5) in

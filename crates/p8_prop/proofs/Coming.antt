@@ -17,10 +17,12 @@ use Rattle.p8_inputs.specs.declared.program.Format.{Format}
 use Rattle.p8_inputs.specs.Asks.{Given, bytes, lines, Give, script_ask}
 use Rattle.p8_inputs.specs.Inputs.{IsScriptFor}
 use Rattle.p8_inputs.specs.Naming as inputs
-use Rattle.p8_inputs.specs.Programs.{world_of, memory_by, first_by}
+use Rattle.p8_commands.specs.declared.kind.ImageKind.{ImageKind}
+use Rattle.p8_inputs.specs.Inputs.{IsProgram}
+use Rattle.p8_inputs.specs.Programs.{world_of, memory_by, first_by, format_of, other_file}
 use Rattle.p8_inputs.specs.Runs.{Begins, HasProperTrees}
 use Rattle.p8_inputs.specs.Sources.{IsImageFrom, IsListingFrom}
-use Rattle.p8_commands.specs.Commands.{Command, Running, BuildSource, ListSource, Make}
+use Rattle.p8_commands.specs.Commands.{Command, Running, BuildSource, ListSource, Convert, Make}
 use Rattle.p8_commands.specs.Naming as commands
 use Rattle.p8_prop.specs.Headline.{IsToldBySource, IsBuild}
 use Rattle.p8_prop.specs.Texts.{lines_in}
@@ -39,6 +41,10 @@ built files file text is keeps = ((bytes text ∷ [], (is, tt), refl), keeps)
 
 pub listed : (files : Files) (file text : List ℕ) → IsListingFrom files file text → IsText files (ListSource file) text
 listed files file text is = ((bytes text ∷ [], (is, tt), refl), tt)
+
+-- so is an image as the other kind of file
+pub converted : (files : Files) (kind : ImageKind) (file text : List ℕ) → ((xs : List ℕ) × IsProgram files (format_of kind) file xs × (text ≡ other_file kind xs)) → IsText files (Convert kind file) text
+converted files kind file text is = ((bytes is.0 ∷ [], (is.1, tt), is.2), tt)
 
 -- ---- a run
 

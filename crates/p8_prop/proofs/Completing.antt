@@ -13,7 +13,7 @@ use Rattle.p8_inputs.specs.declared.stop.Stop.{Stop}
 use Rattle.p8_inputs.specs.declared.stop.Stop.TheVariants as stop
 use Rattle.p8_inputs.specs.Asks.{Given, HasOneReading}
 use Rattle.p8_inputs.proofs.Deciding.{unread-rose}
-use Rattle.p8_commands.specs.Commands.{Command, BuildSource, ListSource, RunMemory, RunProgram, Make, Help}
+use Rattle.p8_commands.specs.Commands.{Command, BuildSource, ListSource, RunMemory, RunProgram, Convert, Make, Help}
 use Rattle.p8_prop.specs.Texts.{asks_of, IsTrace, IsSummary, IsTextOf, IsAskedFor}
 use Rattle.p8_prop.specs.Verdicts.{Outside, Verdict, unsaid, stopped, written, unwritten, StopsCommand, IsVerdict, IsCertain, status_of, HasOneVerdict, IsComplete}
 
@@ -37,6 +37,7 @@ text-one (BuildSource file) given a b p q = p ∙ sym q
 text-one (ListSource file) given a b p q = p ∙ sym q
 text-one (RunMemory run) given a b p q = trace-one _ run.dump a b p q
 text-one (RunProgram alone run) given a b p q = trace-one _ run.dump a b p q
+text-one (Convert kind file) given a b p q = p ∙ sym q
 text-one (Make alone seed) given a b p q = summary-one seed a b p q
 text-one (Help topic) given a b p q = p ∙ sym q
 

@@ -20,7 +20,7 @@ use Rattle.p8_inputs.specs.declared.program.Format.TheVariants.{Memory, Source}
 use Rattle.p8_inputs.specs.Inputs.{IsProgram, IsScriptFor}
 use Rattle.p8_inputs.specs.Programs.{format_named, world_of}
 use Rattle.p8_inputs.specs.Sources.{IsBuiltFrom}
-use Rattle.p8_commands.specs.Commands.{Command, Running, BuildSource, ListSource, RunMemory, RunProgram, Make, Help}
+use Rattle.p8_commands.specs.Commands.{Command, Running, BuildSource, ListSource, RunMemory, RunProgram, Convert, Make, Help}
 
 -- the one history of a world: it has ended, its keys rise, and no other one has ended
 pub record IsOneHistory (w : World) (past : List Turn) : Type 0 where
@@ -62,5 +62,6 @@ IsHeadline files (BuildSource file) text = IsBuild files file text
 IsHeadline files (ListSource file) text = Unit {0}
 IsHeadline files (RunMemory run) text = IsRun files Memory run text
 IsHeadline files (RunProgram alone run) text = IsRun files (format_named run.file) run text
+IsHeadline files (Convert kind file) text = Unit {0}
 IsHeadline files (Make alone seed) text = Unit {0}
 IsHeadline files (Help topic) text = Unit {0}

@@ -9,9 +9,9 @@ use Rattle.p8_report.specs.Text.{text_of}
 use Rattle.p8_made.specs.Summary.{made_world, summary_of}
 use Rattle.p8_inputs.specs.declared.program.Format.{Format}
 use Rattle.p8_inputs.specs.declared.program.Format.TheVariants.{Memory, Source}
-use Rattle.p8_inputs.specs.Programs.{format_named, world_of}
+use Rattle.p8_inputs.specs.Programs.{format_named, format_of, other_file, world_of}
 use Rattle.p8_inputs.specs.Asks.{Ask, program, listing, script_ask, Given, bytes, lines, Give}
-use Rattle.p8_commands.specs.Commands.{Command, Running, BuildSource, ListSource, RunMemory, RunProgram, Make, Help}
+use Rattle.p8_commands.specs.Commands.{Command, Running, BuildSource, ListSource, RunMemory, RunProgram, Convert, Make, Help}
 use Rattle.p8_commands.specs.Pages.{help_text}
 
 -- what a command reads, in this order: a run its program and then its pin script, where one is named
@@ -20,6 +20,7 @@ asks_of (BuildSource file) = program Source file ∷ []
 asks_of (ListSource file) = listing file ∷ []
 asks_of (RunMemory run) = program Memory run.file ∷ script_ask run.script
 asks_of (RunProgram alone run) = program (format_named run.file) run.file ∷ script_ask run.script
+asks_of (Convert kind file) = program (format_of kind) file ∷ []
 asks_of (Make alone seed) = []
 asks_of (Help topic) = []
 
@@ -52,6 +53,7 @@ IsTextOf (BuildSource file) given text = text ≡ bytes_in given
 IsTextOf (ListSource file) given text = text ≡ bytes_in given
 IsTextOf (RunMemory run) given text = IsTraceOf Memory run given text
 IsTextOf (RunProgram alone run) given text = IsTraceOf (format_named run.file) run given text
+IsTextOf (Convert kind file) given text = text ≡ other_file kind (bytes_in given)
 IsTextOf (Make alone seed) given text = IsSummary seed text
 IsTextOf (Help topic) given text = text ≡ help_text topic
 

@@ -9,7 +9,7 @@ ghost use Rattle.p8_io.specs.Shelves.{Files};
 ghost use Rattle.p8_inputs.specs.Asks.{Stops, program as program_ask, script_ask};
 ghost use Rattle.p8_inputs.specs.Sources.{IsImageFrom};
 ghost use Rattle.p8_inputs.specs.declared.program.Format.TheVariants.{Source};
-ghost use Rattle.p8_commands.specs.Commands.{BuildSource, ListSource, Make, Help};
+ghost use Rattle.p8_commands.specs.Commands.{BuildSource, ListSource, Convert, Make, Help};
 ghost use Rattle.p8_commands.specs.Naming.{name_of};
 ghost use Rattle.p8_commands.specs.Seen.{command_read, running, HasLimits, IsWithin};
 ghost use Rattle.p8_prop.specs.Headline.{IsBuild};
@@ -18,9 +18,11 @@ ghost use Rattle.p8_prop.specs.Works.{IsRunWork, IsWork, world_in};
 
 use crate::laws::{builds_keep_meaning, runs_are_told};
 use p8_access::Boot;
-use p8_commands::{Command, Run, Subcommand, help_page};
+use p8_commands::{Command, ImageKind, Run, Subcommand, help_page};
 use p8_desk::Start;
-use p8_inputs::{Format, Program, Stop, image_of_source, listing_of_source, read_inputs};
+use p8_inputs::{
+    Format, Program, Stop, image_of_source, listing_of_source, other_image, read_inputs,
+};
 use p8_io::Shelf;
 use p8_ledger::Limits;
 use p8_made::made_image;
@@ -85,6 +87,22 @@ fn listing_work<S: Shelf>(alloc: Global, file: &str, shelf: &mut S) -> Result<Wo
     ensures kept { S.files shelf.new ≡ S.files shelf.old }
 {
     let text = listing_of_source(alloc, file, shelf)?;
+    Ok(Work::Text(text))
+}
+
+/// An image of a kind as the other kind of file.
+fn other_work<S: Shelf>(
+    alloc: Global,
+    kind: ImageKind,
+    file: &str,
+    shelf: &mut S,
+) -> Result<Work, Stop>
+    ensures work { IfOk result (IsWork (S.files shelf.old) (Convert kind file.now)) }
+    ensures stopped { IfErr result (Stops (S.files shelf.old) (S.faults shelf.old) (S.faults shelf.new) (asks_of (Convert kind file.now))) }
+    ensures later { S.faults shelf.old ≤ S.faults shelf.new }
+    ensures kept { S.files shelf.new ≡ S.files shelf.old }
+{
+    let text = other_image(alloc, kind, file, shelf)?;
     Ok(Work::Text(text))
 }
 
@@ -177,6 +195,7 @@ pub fn work_of<S: Shelf>(alloc: Global, command: Command<'_>, shelf: &mut S) -> 
         Command::List { file } => listing_work(alloc, file, shelf),
         Command::Raw { run } => run_work(alloc, Format::Memory, run, shelf),
         Command::Run { run, .. } => run_work(alloc, Format::named(run.file), run, shelf),
+        Command::Convert { kind, file } => other_work(alloc, kind, file, shelf),
         Command::Make { seed, .. } => {
             let work = made_work(alloc, seed)?;
             Ok(work)
