@@ -96,7 +96,7 @@ impl<'a> Run<'a> {
                 };
                 inputs_in(rt.alloc(), program, self.pins, &mut project.shelf)
             }
-            Format::Memory | Format::Image => {
+            Format::Memory | Format::Image | Format::Eeprom => {
                 inputs_in(rt.alloc(), self.program, self.pins, &mut FileShelf::new(rt))
             }
         }
