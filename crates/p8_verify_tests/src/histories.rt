@@ -1,8 +1,9 @@
 // Histories that are saved and checked.
-ghost use Rattle.std.specs.Prelude.{◌≡◌, ◌≤◌, IfOk};
-ghost use Rattle.p8_access.specs.declared.kinds.Origin.TheVariants.{Pasm};
+ghost use Rattle.std.specs.Prelude.{◌≤◌, IfOk};
+ghost use Rattle.p8_access.specs.Proper.{IsProperOrigin};
 
-use p8_access::Boot;
+use crate::programs::{BLINK, BLINK_SAVED, KINDS, LAST_KINDS};
+use p8_access::{Boot, Origin, Ram};
 use p8_ledger::Limits;
 use p8_machine::run_alone;
 use p8_pins::PinScript;
@@ -127,25 +128,49 @@ static DAMAGES: [Damage; 12] = [
 ];
 
 fn boot(alloc: Global) -> Result<Boot, NoMemory>
-    ensures { IfOk result (λ boot. boot.first ≡ Pasm 0 0) }
+    ensures { IfOk result (λ boot. IsProperOrigin boot.first) }
 {
     Ok(Boot::raw(alloc, &PROGRAM)?)
 }
 
-/// The file of the program's history.
-fn saved(alloc: Global, clocks: u64) -> Result<Vec<u8>, NoMemory>
-    requires { clocks ≤ 100000000 }
+fn boot_of_kinds(alloc: Global) -> Result<Boot, NoMemory>
+    ensures { IfOk result (λ boot. IsProperOrigin boot.first) }
+{
+    Ok(Boot::raw(alloc, &KINDS)?)
+}
+
+fn boot_of_blink(alloc: Global) -> Result<Boot, NoMemory>
+    ensures { IfOk result (λ boot. IsProperOrigin boot.first) }
+{
+    Ok(Boot {
+        ram: Ram::new(alloc, &BLINK)?,
+        first: Origin::Spin {
+            entry: 0x1C,
+            pbase: 0x10,
+            vbase: 0x50,
+            frame: 0x78,
+            size: 0,
+        },
+    })
+}
+
+/// The file of a history.
+fn saved(alloc: Global, boot: Boot, clocks: u64) -> Result<Vec<u8>, NoMemory>
+    requires first { IsProperOrigin boot.first }
+    requires clocks { clocks ≤ 100000000 }
 {
     let limits = Limits {
         clocks,
         turns: 40_000,
     };
-    let ended = run_alone(alloc, boot(alloc)?, PinScript::empty(alloc), limits)?;
+    let ended = run_alone(alloc, boot, PinScript::empty(alloc), limits)?;
     history_bytes(alloc, &ended.history)
 }
 
-fn checked(alloc: Global, file: &[u8]) -> Result<u64, VerifyFault> {
-    verify(alloc, boot(alloc)?, PinScript::empty(alloc), file)
+fn checked(alloc: Global, boot: Boot, file: &[u8]) -> Result<u64, VerifyFault>
+    requires { IsProperOrigin boot.first }
+{
+    verify(alloc, boot, PinScript::empty(alloc), file)
 }
 
 /// What is saved is the file, and a file of no turns is its head alone.
@@ -154,8 +179,14 @@ fn saves(rt: HostRuntime) -> Result<(), Fail> {
     let none: [u8; 16] = [
         0x50, 0x38, 0x48, 0x31, 0, 0, 0, 0, 0x40, 0x9C, 0, 0, 0, 0, 0, 0,
     ];
-    assert_eq!(rt; saved(rt.alloc(), 0)?.as_slice(), none.as_slice());
-    assert_eq!(rt; saved(rt.alloc(), 177)?.as_slice(), SAVED.as_slice());
+    assert_eq!(rt;
+        saved(rt.alloc(), boot(rt.alloc())?, 0)?.as_slice(),
+        none.as_slice()
+    );
+    assert_eq!(rt;
+        saved(rt.alloc(), boot(rt.alloc())?, 177)?.as_slice(),
+        SAVED.as_slice()
+    );
     Ok(())
 }
 
@@ -172,9 +203,12 @@ fn checks_whole_files(rt: HostRuntime) -> Result<(), Fail> {
     };
     let mut longer = SAVED.as_slice().to_vec(rt.alloc())?;
     longer.extend_from_slice(&[0])?;
-    assert_eq!(rt; checked(rt.alloc(), &SAVED), Ok(11));
-    assert_eq!(rt; checked(rt.alloc(), &SAVED[..279]), Err(short));
-    assert_eq!(rt; checked(rt.alloc(), &longer), Err(long));
+    assert_eq!(rt; checked(rt.alloc(), boot(rt.alloc())?, &SAVED), Ok(11));
+    assert_eq!(rt;
+        checked(rt.alloc(), boot(rt.alloc())?, &SAVED[..279]),
+        Err(short)
+    );
+    assert_eq!(rt; checked(rt.alloc(), boot(rt.alloc())?, &longer), Err(long));
     Ok(())
 }
 
@@ -188,7 +222,28 @@ fn tells_each_damage(rt: HostRuntime) -> Result<(), Fail> {
             turn: damage.turn,
             cause: damage.cause,
         };
-        assert_eq!(rt; checked(rt.alloc(), &file), Err(fault));
+        assert_eq!(rt; checked(rt.alloc(), boot(rt.alloc())?, &file), Err(fault));
     }
+    Ok(())
+}
+
+/// The records of each kind of access and answer that PASM comes to.
+#[test]
+fn saves_all_kinds(rt: HostRuntime) -> Result<(), Fail> {
+    let file = saved(rt.alloc(), boot_of_kinds(rt.alloc())?, 20_000)?;
+    assert_eq!(rt; file.len(), 12_688);
+    assert!(rt; file.as_slice().ends_with(&LAST_KINDS));
+    let good = checked(rt.alloc(), boot_of_kinds(rt.alloc())?, &file);
+    assert_eq!(rt; good, Ok(528));
+    Ok(())
+}
+
+/// A program in Spin that starts a second cog.
+#[test]
+fn saves_spin(rt: HostRuntime) -> Result<(), Fail> {
+    let file = saved(rt.alloc(), boot_of_blink(rt.alloc())?, 97_600)?;
+    assert_eq!(rt; file.as_slice(), BLINK_SAVED.as_slice());
+    let good = checked(rt.alloc(), boot_of_blink(rt.alloc())?, &file);
+    assert_eq!(rt; good, Ok(18));
     Ok(())
 }
