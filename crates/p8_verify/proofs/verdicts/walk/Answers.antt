@@ -1,12 +1,12 @@
-use Rattle.std.proofs.Common.{◌≡◌, ◌∙◌, ap, sym, subst, ◌∷◌, ℕ, ◌+◌, List, length, drop, arith}
+use Rattle.std.proofs.Common.{◌≡◌, ◌∙◌, ap, sym, subst, ◌∷◌, ℕ, ◌+◌, List, length, drop, rules, arith, IsNone}
 use Rattle.p8_access.specs.declared.order.Turn.{Turn}
 use Rattle.p8_history.specs.Worlds.{World}
-use Rattle.p8_history.specs.Histories.{Extends}
+use Rattle.p8_history.specs.Histories.{Extends, IsOver}
 use Rattle.p8_lives.specs.Lives.{asks}
 use Rattle.p8_machine.specs.Machines.{world_in, past_in}
 use Rattle.p8_verify.specs.Table.{IsRecord}
 use Rattle.p8_verify.specs.Verdicts.{IsWrong}
-use Rattle.p8_verify.proofs.Walking.{Left, went_on, went_wrong, has_record}
+use Rattle.p8_verify.proofs.Walking.{Left, went_on, went_wrong, has_record, ended, unended}
 use Rattle.p8_verify.proofs.verdicts.walk.Goals as goal
 
 pub turn_of_record-turn-requires : goal.turn_of_record-turn-requires
@@ -33,3 +33,18 @@ loop-index-preserved c =
           subst (λ (h : List Turn). Left (world_in c.args.machine.now) h c.args.count (c.loop-index.index + 1) c.after_record-rest.result.now turns) (sym past)
           (went_on (world_in c.args.machine.now) (past_in c.loop-index.machine) c.args.count c.loop-index.index c.loop-index.rest.now turns c.turn_of_record-turn.result c.after_record-rest.result.now c.loop-index-test.true (c.loop-index.invariant.left turns are) is extends);
     }
+
+pub returns-in-None-step : goal.returns-in-None-step
+returns-in-None-step c = λ turns are.
+    let none : IsNone c.step.result = search rules in
+    let over = subst (λ (w : World). IsOver asks w (past_in c.loop-index.machine)) c.loop-index.invariant.world ((c.step.ensures.over c.loop-index.invariant.stands).0 none) in
+    rw c.from.ensures
+    (ended (world_in c.args.machine.now) (past_in c.loop-index.machine) c.args.count c.loop-index.index c.loop-index.rest.now turns (omega arith) (c.loop-index.invariant.left turns are) c.loop-index.invariant.done over)
+
+pub returns-in-Some-step : goal.returns-in-Some-step
+returns-in-Some-step c = λ turns are.
+    let some : IsNone c.step.result → ⊥ = search rules in
+    let on = λ (over : IsOver asks (world_in c.args.machine.now) (past_in c.loop-index.machine)).
+    some ((c.step.ensures.over c.loop-index.invariant.stands).1 (subst (λ (w : World). IsOver asks w (past_in c.loop-index.machine)) (sym c.loop-index.invariant.world) over)) in
+    rw c.bad_after-in-Some-step.ensures
+    (unended (world_in c.args.machine.now) (past_in c.loop-index.machine) c.args.count c.loop-index.index c.loop-index.rest.now turns (omega arith) (c.loop-index.invariant.left turns are) c.loop-index.invariant.done on)
