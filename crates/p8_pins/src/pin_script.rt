@@ -56,6 +56,15 @@ impl PinScript {
         }
     }
 
+    /// The same script once more. The only error is want of memory.
+    pub fn copy(&self, alloc: Global) -> Result<PinScript, NoMemory>
+        ensures { IfOk result (λ copy. copy ≡ self.now) }
+    {
+        Ok(PinScript {
+            changes: self.changes.to_vec(alloc)?,
+        })
+    }
+
     /// Reads a script.
     ///
     /// Its lines end with LF or CR LF; the last may lack that. A line that is empty or begins with `#`
