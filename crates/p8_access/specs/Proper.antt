@@ -4,8 +4,6 @@ use Rattle.p8_access.specs.declared.kinds.Width.{Width}
 use Rattle.p8_access.specs.declared.kinds.Width.TheVariants.{Byte, Word, Long}
 use Rattle.p8_access.specs.declared.kinds.Origin.{Origin}
 use Rattle.p8_access.specs.declared.kinds.Origin.TheVariants.{Pasm, Spin}
-use Rattle.p8_access.specs.declared.kinds.Reason.{Reason}
-use Rattle.p8_access.specs.declared.kinds.Reason.TheVariants as Why
 use Rattle.p8_access.specs.declared.kinds.Access.{Access}
 use Rattle.p8_access.specs.declared.kinds.Access.TheVariants.{Begin, Load, Read, Write, CogId, CogInit, CogStop, LockNew, LockRet, LockSet, LockClr, ClkSet, PinsIn, OutSet, DirSet, Wait, Clock, Halt}
 use Rattle.p8_access.specs.declared.kinds.Answer.{Answer}
@@ -38,19 +36,6 @@ abbrev pub IsNumber : Option ℕ → Type 0
 IsNumber None = Unit {0}
 IsNumber (Some n) = n < 8
 
--- a register is one of the 512
-abbrev pub IsProperReason : Reason → Type 0
-IsProperReason (Why.Opcode long) = Unit {0}
-IsProperReason (Why.Register register) = register < 512
-IsProperReason (Why.Rom address) = Unit {0}
-IsProperReason (Why.Byte address) = Unit {0}
-IsProperReason Why.Deep = Unit {0}
-IsProperReason Why.Stack = Unit {0}
-IsProperReason Why.Under = Unit {0}
-IsProperReason Why.Table = Unit {0}
-IsProperReason Why.Port = Unit {0}
-IsProperReason Why.Reset = Unit {0}
-
 -- an access is well formed
 abbrev pub IsProper : Access → Type 0
 IsProper Begin = Unit {0}
@@ -70,7 +55,7 @@ IsProper (OutSet value) = value < 2 ^ 32
 IsProper (DirSet value) = value < 2 ^ 32
 IsProper (Wait test) = Unit {0}
 IsProper Clock = Unit {0}
-IsProper (Halt reason) = IsProperReason reason
+IsProper (Halt reason) = Unit {0}
 
 -- an answer is a value that keeps a bound
 abbrev pub IsValueBelow : ℕ → Answer → Type 0

@@ -3,12 +3,10 @@ use Rattle.std.specs.Prelude.{ℕ, Option, Some, None}
 use Rattle.std.proofs.Props.{props}
 use Rattle.p8_access.specs.declared.kinds.Origin.{Origin}
 use Rattle.p8_access.specs.declared.kinds.Origin.TheVariants.{Pasm, Spin}
-use Rattle.p8_access.specs.declared.kinds.Reason.{Reason}
-use Rattle.p8_access.specs.declared.kinds.Reason.TheVariants as Why
 use Rattle.p8_access.specs.declared.kinds.Access.{Access}
 use Rattle.p8_access.specs.declared.kinds.Access.TheVariants.{Begin, Load, Read, Write, CogId, CogInit, CogStop, LockNew, LockRet, LockSet, LockClr, ClkSet, PinsIn, OutSet, DirSet, Wait, Clock, Halt}
 use Rattle.p8_access.specs.Lives.{IsMade}
-use Rattle.p8_access.specs.Proper.{IsNumber, IsProperOrigin, IsProperReason}
+use Rattle.p8_access.specs.Proper.{IsNumber, IsProperOrigin}
 use Rattle.p8_bcog.specs.declared.place.Place.{Place}
 use Rattle.p8_bcog.specs.declared.place.Place.TheVariants.{Memory, Pins}
 use Rattle.p8_bcog.specs.declared.step.Wanted.{Wanted}
@@ -31,18 +29,6 @@ is_prop-IsProperOrigin : (origin : Origin) → IsProp (IsProperOrigin origin)
 is_prop-IsProperOrigin (Pasm code par) = hlevel props
 is_prop-IsProperOrigin (Spin entry pbase vbase frame size) = hlevel props
 
-is_prop-IsProperReason : (reason : Reason) → IsProp (IsProperReason reason)
-is_prop-IsProperReason (Why.Opcode long) = hlevel props
-is_prop-IsProperReason (Why.Register register) = hlevel props
-is_prop-IsProperReason (Why.Rom address) = hlevel props
-is_prop-IsProperReason (Why.Byte address) = hlevel props
-is_prop-IsProperReason Why.Deep = hlevel props
-is_prop-IsProperReason Why.Stack = hlevel props
-is_prop-IsProperReason Why.Under = hlevel props
-is_prop-IsProperReason Why.Table = hlevel props
-is_prop-IsProperReason Why.Port = hlevel props
-is_prop-IsProperReason Why.Reset = hlevel props
-
 -- such a fact has one proof
 is_prop-IsMade : (access : Access) → IsProp (IsMade access)
 is_prop-IsMade Begin = hlevel props
@@ -62,7 +48,7 @@ is_prop-IsMade (OutSet value) = hlevel props
 is_prop-IsMade (DirSet value) = hlevel props
 is_prop-IsMade (Wait test) = hlevel props
 is_prop-IsMade Clock = hlevel props
-is_prop-IsMade (Halt reason) = is_prop-IsProperReason reason
+is_prop-IsMade (Halt reason) = hlevel props
 
 is_prop-IsPlace : (place : Place) → IsProp (IsPlace place)
 is_prop-IsPlace (Memory width address) = hlevel props
