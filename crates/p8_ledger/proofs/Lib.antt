@@ -10,3 +10,4 @@ pub mod Fronting
 pub mod Stepping
 pub mod Telling
 pub mod Granting
+pub mod Properly

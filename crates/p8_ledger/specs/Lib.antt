@@ -1,5 +1,6 @@
 -- What public contracts cite.
 pub mod Worlds
+pub mod Turns
 pub mod Seats
 pub mod Standing
 pub mod Records

@@ -18,6 +18,7 @@ ghost use Rattle.p8_ledger.specs.Worlds.{world_of};
 ghost use Rattle.p8_region.specs.Bounded.{bounded};
 ghost use Rattle.p8_ledger.specs.declared.steps.Step.TheVariants.{Took, Said};
 ghost use Rattle.p8_ledger.specs.Records.{Record, turns, said, IsTrueOf, Owes, HasFront, IsLeastFront, NoFront};
+ghost use Rattle.p8_ledger.specs.Turns.{AreProper, is_prop-AreProper};
 ghost use Rattle.p8_ledger.specs.Dues.{IsDueAt, Suits, SuitsIf, AllMade, is_prop-AllMade};
 ghost use Rattle.std.proofs.Props.{props};
 
@@ -82,6 +83,7 @@ pub struct Ledger {
     ghost small: { IfSome last (λ key. key.clock < 2 ^ 61) } by { Prim.hlevel props },
     ghost eight: { length sayings ≡ 8 },
     ghost made: { AllMade sayings } by { is_prop-AllMade sayings },
+    ghost proper: { AreProper turns.list } by { is_prop-AreProper turns.list },
 }
 
 /// A turn that was made, and whether its cog was running before it.

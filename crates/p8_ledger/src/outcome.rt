@@ -1,4 +1,6 @@
 // What a run is bounded by, and what it gives.
+ghost use Rattle.p8_ledger.specs.Turns.{AreProper, is_prop-AreProper};
+
 use p8_access::{Boot, Turn};
 use p8_hub::Hub;
 use p8_region::Strip;
@@ -17,6 +19,7 @@ pub struct History {
     pub boot: Boot,
     pub limits: Limits,
     pub turns: Strip<Turn>,
+    ghost proper: { AreProper turns.list } by { is_prop-AreProper turns.list },
 }
 
 /// A history that has ended, with the hub that it left, and how many took its turns: 1, or 8.

@@ -5,3 +5,5 @@ pub mod Verdicts
 pub mod Answers
 -- internal: how a record is read.
 pub mod Reading
+-- internal: which turns have a record.
+pub mod Fitting

@@ -7,11 +7,13 @@ ghost use Rattle.p8_history.specs.Histories.{Ended};
 ghost use Rattle.p8_lives.specs.Lives.{asks};
 ghost use Rattle.p8_ledger.specs.Worlds.{world_of};
 ghost use Rattle.p8_verify.specs.Table.{turn_bytes};
-ghost use Rattle.p8_verify.specs.Files.{records, file_of};
+ghost use Rattle.p8_verify.specs.Fitting.{Fits};
+ghost use Rattle.p8_verify.specs.Files.{records, IsFile};
 
 use crate::head::{HEAD, Head};
 use crate::records::{RECORD, turn_bytes};
 use p8_access::Turn;
+use p8_halts::halts_name_registers;
 use p8_ledger::History;
 use p8_words::NoMemory;
 use std::alloc::Global;
@@ -19,7 +21,8 @@ use std::alloc::Global;
 /// Appends the record of a turn.
 fn push_record(out: &mut Vec<u8>, turn: &Turn) -> Result<(), NoMemory>
     requires { turn.now.key.clock < 2 ^ 32 }
-    ensures { OnOk result (out.new.items ≡ out.old.items ++ turn_bytes turn.now) }
+    ensures bytes { OnOk result (out.new.items ≡ out.old.items ++ turn_bytes turn.now) }
+    ensures within { OnOk result (Fits turn.now) }
 {
     out.extend_from_slice(&turn_bytes(*turn))?;
     Ok(())
@@ -28,7 +31,8 @@ fn push_record(out: &mut Vec<u8>, turn: &Turn) -> Result<(), NoMemory>
 /// Appends the records of turns.
 fn push_records(out: &mut Vec<u8>, turns: &[Turn]) -> Result<(), NoMemory>
     requires { All (λ (turn : Turn). turn.key.clock < 2 ^ 32) turns.now }
-    ensures { OnOk result (out.new.items ≡ out.old.items ++ records turns.now) }
+    ensures bytes { OnOk result (out.new.items ≡ out.old.items ++ records turns.now) }
+    ensures within { OnOk result (All Fits turns.now) }
 {
     for turn in turns {
         push_record(out, turn)?;
@@ -45,8 +49,9 @@ pub fn history_bytes(alloc: Global, history: &History) -> Result<Vec<u8>, NoMemo
     requires clocks { history.now.limits.clocks ≤ 100000000 }
     requires turns { history.now.limits.turns ≤ 40000 }
     requires ended { (script : List Line) × Ended asks (world_of history.now.boot script history.now.limits) (reverse history.now.turns.list) }
-    ensures { (script : List Line) → IfOk result (λ bytes. bytes.items ≡ file_of (world_of history.now.boot script history.now.limits) (reverse history.now.turns.list)) }
+    ensures { (script : List Line) → IfOk result (λ bytes. IsFile (world_of history.now.boot script history.now.limits) (reverse history.now.turns.list) bytes.items) }
 {
+    halts_name_registers();
     let turns = history.turns.as_slice();
     let head = Head {
         clocks: history.limits.clocks as u32,

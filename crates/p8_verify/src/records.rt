@@ -4,6 +4,8 @@ ghost use Rattle.byteorder.specs.Endian.{little_bytes};
 ghost use Rattle.p8_access.specs.declared.order.Turn.{Turn};
 ghost use Rattle.p8_access.specs.Proper.{IsNumber};
 ghost use Rattle.p8_verify.specs.Table.{turn_bytes, IsAccessWithin, IsReasonWithin, IsAnswerWithin, IsWithin, IsRecord, NoRecord};
+ghost use Rattle.p8_ledger.specs.Turns.{IsProperTurn};
+ghost use Rattle.p8_halts.specs.Halts.{NamesRegister};
 
 use crate::reading::turn_by;
 use crate::table::{AccessFields, AnswerFields};
@@ -25,7 +27,8 @@ pub fn long_bytes(number: u32) -> [u8; 4]
 /// The record of a turn.
 pub fn turn_bytes(turn: Turn) -> [u8; RECORD]
     requires { turn.key.clock < 2 ^ 32 }
-    ensures { result ≡ turn_bytes turn }
+    ensures bytes { result ≡ turn_bytes turn }
+    ensures within { IsProperTurn turn → NamesRegister turn → IsWithin turn }
 {
     let access = AccessFields::of(turn.access);
     let answer = AnswerFields::of(turn.answer);

@@ -1,6 +1,9 @@
 // The record of a turn: which numbers stand for its access and its answer.
 ghost use Rattle.std.specs.Prelude.{◌≡◌};
-ghost use Rattle.p8_verify.specs.Table.{fields, width_number, target_number, pair, start_fields, test_fields, reason_fields, access_fields, answer_fields};
+ghost use Rattle.p8_access.specs.Proper.{IsProper};
+ghost use Rattle.p8_halts.specs.Halts.{IsRegister, HaltsByRegister};
+ghost use Rattle.p8_ledger.specs.Turns.{HasNumber};
+ghost use Rattle.p8_verify.specs.Table.{IsOriginWithin, IsTestWithin, IsReasonWithin, IsAccessWithin, IsAnswerWithin, fields, width_number, target_number, pair, start_fields, test_fields, reason_fields, access_fields, answer_fields};
 
 use p8_access::{Access, Answer, Origin, Reason, Test, Width};
 
@@ -55,7 +58,8 @@ impl AccessFields {
     }
 
     fn of_start(target: Option<u8>, origin: Origin) -> AccessFields
-        ensures { result ≡ start_fields (target_number target) origin }
+        ensures fields { result ≡ start_fields (target_number target) origin }
+        ensures within { IsOriginWithin origin }
     {
         let extra = target.unwrap_or(NO_TARGET);
         match origin {
@@ -77,7 +81,8 @@ impl AccessFields {
     }
 
     fn of_wait(test: Test) -> AccessFields
-        ensures { result ≡ test_fields test }
+        ensures fields { result ≡ test_fields test }
+        ensures within { IsTestWithin test }
     {
         match test {
             Test::Count { target } => AccessFields::new(15, 0, target, 0, 0),
@@ -87,7 +92,8 @@ impl AccessFields {
     }
 
     fn of_halt(reason: Reason) -> AccessFields
-        ensures { result ≡ reason_fields reason }
+        ensures fields { result ≡ reason_fields reason }
+        ensures within { IsRegister reason → IsReasonWithin reason }
     {
         match reason {
             Reason::Opcode(long) => AccessFields::new(17, 0, long, 0, 0),
@@ -105,7 +111,8 @@ impl AccessFields {
 
     /// The numbers of an access.
     pub fn of(access: Access) -> AccessFields
-        ensures { result ≡ access_fields access }
+        ensures fields { result ≡ access_fields access }
+        ensures within { IsProper access → HaltsByRegister access → IsAccessWithin access }
     {
         match access {
             Access::Begin => AccessFields::plain(0),
@@ -139,7 +146,8 @@ impl AccessFields {
 impl AnswerFields {
     /// The numbers of an answer.
     pub fn of(answer: Answer) -> AnswerFields
-        ensures { result ≡ answer_fields answer }
+        ensures fields { result ≡ answer_fields answer }
+        ensures within { HasNumber answer → IsAnswerWithin answer }
     {
         let (kind, value) = match answer {
             Answer::Done => (0, 0),

@@ -1,5 +1,7 @@
-use Rattle.p8_verify.proofs.Appending.{appended}
+use Rattle.p8_verify.proofs.Appending.{appended, one-more-fits}
 use Rattle.p8_verify.proofs.files.push_records.Goals as goal
 
 pub loop-turn-preserved : goal.loop-turn-preserved
-loop-turn-preserved c = appended c.args.turns.now c.loop-turn.turn-index _ c.loop-turn.out.items c.push_record.new.out.items _ c.loop-turn-test.true c.loop-turn.invariant c.in_ok-push_record.ensures
+loop-turn-preserved c =
+    (appended c.args.turns.now c.loop-turn.turn-index _ c.loop-turn.out.items c.push_record.new.out.items _ c.loop-turn-test.true c.loop-turn.invariant.0 c.in_ok-push_record.ensures.bytes,
+    one-more-fits c.args.turns.now c.loop-turn.turn-index _ c.loop-turn-test.true c.loop-turn.invariant.1 c.in_ok-push_record.ensures.within)

@@ -12,6 +12,8 @@ use Rattle.p8_ledger.specs.Records.{turns, said}
 use Rattle.p8_ledger.proofs.Coming.{next-announced}
 use Rattle.p8_ledger.proofs.Stepping.{reverse-push, cogs-after}
 use Rattle.p8_ledger.proofs.Telling.{take-truth, said-beside}
+use Rattle.p8_ledger.specs.Turns.{AreProper}
+use Rattle.p8_ledger.proofs.Properly.{one-more, has-number}
 use Rattle.p8_ledger.proofs.Granting.{sayings-after, made-after, running-is, front-as}
 use Rattle.p8_ledger.proofs.ledger.Ledger.make.Goals as goal
 
@@ -23,6 +25,7 @@ invariant_of-self c = record {
   small = c.requires.clock;
   eight = length-set c.args.self.now.sayings c.args.key.cog (More _) ∙ c.args.self.now.eight;
   made = made-after c.args.self.now.sayings c.args.key.cog (More _) c.args.self.now.made tt;
+  proper = subst AreProper (sym (ap (λ (t : Bounded Turn). t.list) c.in-Ok.ensures.ok)) (one-more c.args.self.now.turns.list (record { key = c.args.key; access = c.args.due.access; answer = c.answer-answer.result }) c.args.self.now.proper (c.requires.cog, c.requires.suits.proper, has-number c.args.due.access c.answer-answer.result c.requires.suits.proper c.answer-answer.ensures.fits));
 }
 
 pub returns-clause-made : goal.returns-clause-made

@@ -1,0 +1,5 @@
+mod Named
+mod Assembly
+mod Courses
+mod Bytecodes
+mod Histories
