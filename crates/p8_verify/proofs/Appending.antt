@@ -1,8 +1,8 @@
 -- Records are appended one after the other, and the turns of a history have one.
-use Rattle.std.proofs.Common.{take, [], subst, ◌≡◌, ◌∙◌, ap, sym, ℕ, ◌+◌, ◌<◌, List, ◌∷◌, ◌++◌, drop, length, get_or, append_assoc, add-one, drop-cons}
+use Rattle.std.proofs.Common.{reverse, take, [], subst, ◌≡◌, ◌∙◌, ap, sym, ℕ, ◌+◌, ◌<◌, List, ◌∷◌, ◌++◌, drop, length, get_or, append_assoc, add-one, drop-cons}
 use Rattle.std.specs.List.{All}
-use Rattle.std.proofs.lemmas.List.{take_more}
-use Rattle.std.proofs.lemmas.List.Elements.{All-nil, All-cons, All-append}
+use Rattle.std.proofs.lemmas.List.{take_more, reverse-append}
+use Rattle.std.proofs.lemmas.List.Elements.{All-nil, All-cons, All-append, All-head, All-tail}
 use Rattle.p8_access.specs.declared.order.Turn.{Turn}
 use Rattle.p8_ledger.specs.Turns.{IsProperTurn, AreProper}
 use Rattle.p8_halts.specs.Halts.{NamesRegister}
@@ -28,3 +28,9 @@ each-proper (turn ∷ turns) are = All-cons IsProperTurn turn turns are.0 (each-
 
 pub all-within : (turns : List Turn) → AreProper turns → All NamesRegister turns → All Fits turns → All IsWithin turns
 all-within turns are names fits = λ k d below. fits k d below (each-proper turns are k d below) (names k d below)
+
+pub all-reversed : {X : Type 0} (P : X → Type 0) (xs : List X) → All P xs → All P (reverse xs)
+all-reversed P [] all = all
+all-reversed P (x ∷ xs) all =
+    subst (All P) (sym (reverse-append (x ∷ []) xs))
+    (All-append P (reverse xs) (x ∷ []) (all-reversed P xs (All-tail P x xs all)) (All-cons P x [] (All-head P x xs all) (All-nil P)))

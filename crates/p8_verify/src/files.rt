@@ -8,7 +8,7 @@ ghost use Rattle.p8_lives.specs.Lives.{asks};
 ghost use Rattle.p8_ledger.specs.Worlds.{world_of};
 ghost use Rattle.p8_verify.specs.Table.{turn_bytes};
 ghost use Rattle.p8_verify.specs.Fitting.{Fits};
-ghost use Rattle.p8_verify.specs.Files.{records, IsFile};
+ghost use Rattle.p8_verify.specs.Files.{records, file_of, IsFile};
 
 use crate::head::{HEAD, Head};
 use crate::records::{RECORD, turn_bytes};
@@ -40,18 +40,14 @@ fn push_records(out: &mut Vec<u8>, turns: &[Turn]) -> Result<(), NoMemory>
     Ok(())
 }
 
-/// The bytes of a history's file: a head of 16 bytes with the limits and the number of turns, and 24 bytes for each
-/// turn.
-///
-/// The history has ended, and its limits are at most 100,000,000 clocks and 40,000 turns. The only error is want of
-/// memory.
-pub fn history_bytes(alloc: Global, history: &History) -> Result<Vec<u8>, NoMemory>
+/// The head of a history, and the record of each turn.
+fn head_and_records(alloc: Global, history: &History) -> Result<Vec<u8>, NoMemory>
     requires clocks { history.now.limits.clocks ≤ 100000000 }
     requires turns { history.now.limits.turns ≤ 40000 }
     requires ended { (script : List Line) × Ended asks (world_of history.now.boot script history.now.limits) (reverse history.now.turns.list) }
-    ensures { (script : List Line) → IfOk result (λ bytes. IsFile (world_of history.now.boot script history.now.limits) (reverse history.now.turns.list) bytes.items) }
+    ensures bytes { (script : List Line) → IfOk result (λ bytes. bytes.items ≡ file_of (world_of history.now.boot script history.now.limits) (reverse history.now.turns.list)) }
+    ensures within { OnOk result (All Fits history.now.turns.list) }
 {
-    halts_name_registers();
     let turns = history.turns.as_slice();
     let head = Head {
         clocks: history.limits.clocks as u32,
@@ -62,4 +58,20 @@ pub fn history_bytes(alloc: Global, history: &History) -> Result<Vec<u8>, NoMemo
     out.extend_from_slice(&head.bytes())?;
     push_records(&mut out, turns)?;
     Ok(out)
+}
+
+/// The bytes of a history's file: a head of 16 bytes with the limits and the number of turns, and 24 bytes for each
+/// turn.
+///
+/// The history has ended, and its limits are at most 100,000,000 clocks and 40,000 turns: so each of its turns has a
+/// record. The only error is want of memory.
+pub fn history_bytes(alloc: Global, history: &History) -> Result<Vec<u8>, NoMemory>
+    requires clocks { history.now.limits.clocks ≤ 100000000 }
+    requires turns { history.now.limits.turns ≤ 40000 }
+    requires ended { (script : List Line) × Ended asks (world_of history.now.boot script history.now.limits) (reverse history.now.turns.list) }
+    ensures { (script : List Line) → IfOk result (λ bytes. IsFile (world_of history.now.boot script history.now.limits) (reverse history.now.turns.list) bytes.items) }
+{
+    halts_name_registers();
+    let bytes = head_and_records(alloc, history)?;
+    Ok(bytes)
 }

@@ -1,7 +1,7 @@
 // The record of a turn: which numbers stand for its access and its answer.
 ghost use Rattle.std.specs.Prelude.{◌≡◌};
 ghost use Rattle.p8_access.specs.Proper.{IsProper};
-ghost use Rattle.p8_halts.specs.Halts.{IsRegister, HaltsByRegister};
+ghost use Rattle.p8_halts.specs.Halts.{IsProperReason, IsProperHalt};
 ghost use Rattle.p8_ledger.specs.Turns.{HasNumber};
 ghost use Rattle.p8_verify.specs.Table.{IsOriginWithin, IsTestWithin, IsReasonWithin, IsAccessWithin, IsAnswerWithin, fields, width_number, target_number, pair, start_fields, test_fields, reason_fields, access_fields, answer_fields};
 
@@ -93,7 +93,7 @@ impl AccessFields {
 
     fn of_halt(reason: Reason) -> AccessFields
         ensures fields { result ≡ reason_fields reason }
-        ensures within { IsRegister reason → IsReasonWithin reason }
+        ensures within { IsProperReason reason → IsReasonWithin reason }
     {
         match reason {
             Reason::Opcode(long) => AccessFields::new(17, 0, long, 0, 0),
@@ -112,7 +112,7 @@ impl AccessFields {
     /// The numbers of an access.
     pub fn of(access: Access) -> AccessFields
         ensures fields { result ≡ access_fields access }
-        ensures within { IsProper access → HaltsByRegister access → IsAccessWithin access }
+        ensures within { IsProper access → IsProperHalt access → IsAccessWithin access }
     {
         match access {
             Access::Begin => AccessFields::plain(0),

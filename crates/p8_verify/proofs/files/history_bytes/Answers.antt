@@ -1,22 +1,24 @@
-use Rattle.std.proofs.Common.{◌≡◌, ap, sym, subst, ◌≤◌, List, length, reverse, arith}
+use Rattle.std.proofs.Common.{sym, subst, ℕ, ◌≤◌, List, length, reverse, arith}
+use Rattle.std.specs.List.{All}
+use Rattle.std.proofs.lemmas.List.{length-reverse, reverse-reverse}
 use Rattle.p8_access.specs.declared.order.Turn.{Turn}
-use Rattle.p8_history.specs.Histories.{Legal}
-use Rattle.p8_lives.specs.Lives.{asks}
+use Rattle.p8_history.specs.Worlds.{World}
 use Rattle.p8_ledger.specs.Worlds.{world_of}
-use Rattle.p8_verify.proofs.Clocks.{all-early, no-more}
+use Rattle.p8_halts.specs.Halts.{NamesRegister}
+use Rattle.p8_verify.specs.Table.{IsWithin}
+use Rattle.p8_verify.proofs.Appending.{all-within, all-reversed}
+use Rattle.p8_verify.proofs.Clocks.{no-more}
 use Rattle.p8_verify.proofs.files.history_bytes.Goals as goal
 
-pub overflow_cast-head-3 : goal.overflow_cast-head-3
-overflow_cast-head-3 c =
-    let most : length c.args.history.now.turns.list ≤ c.args.history.now.limits.turns = no-more (world_of c.args.history.now.boot c.requires.ended.0 c.args.history.now.limits) c.args.history.now.turns.list c.requires.ended.1.legal in
-    let same : length c.as_slice-turns.result.now ≡ length c.args.history.now.turns.list = ap length c.as_slice-turns.ensures in
-    let limit = c.requires.turns in
-    grind arith
-
-pub push_records-requires : goal.push_records-requires
-push_records-requires c = λ k d within.
-    let legal : Legal asks (world_of c.args.history.now.boot c.requires.ended.0 c.args.history.now.limits) (reverse c.as_slice-turns.result.now) =
-    subst (λ (ts : List Turn). Legal asks (world_of c.args.history.now.boot c.requires.ended.0 c.args.history.now.limits) (reverse ts)) (sym c.as_slice-turns.ensures) c.requires.ended.1.legal in
-    let early = all-early (world_of c.args.history.now.boot c.requires.ended.0 c.args.history.now.limits) c.as_slice-turns.result.now legal k d within in
-    let limit = c.requires.clocks in
-    omega arith
+pub returns : goal.returns
+returns c = λ script.
+    let turns : List Turn = c.args.history.now.turns.list in
+    let w : World = world_of c.args.history.now.boot c.requires.ended.0 c.args.history.now.limits in
+    let names : All NamesRegister turns = subst (All NamesRegister) (reverse-reverse turns) (all-reversed NamesRegister (reverse turns) (c.halts_name_registers.ensures w (reverse turns) c.requires.ended.1.legal)) in
+    let most : length turns ≤ c.args.history.now.limits.turns = no-more w turns c.requires.ended.1.legal in
+    let limit : c.args.history.now.limits.turns ≤ 40000 = c.requires.turns in
+    record {
+      head = record { clocks = c.requires.clocks; turns = c.requires.turns; count = subst (λ (n : ℕ). n ≤ 40000) (sym (length-reverse turns)) (omega arith) };
+      turns = subst (All IsWithin) (sym (reverse-reverse turns)) (all-within turns c.args.history.now.proper names c.in_ok-bytes.ensures.within);
+      bytes_are = c.in_ok-bytes.ensures.bytes script;
+    }
