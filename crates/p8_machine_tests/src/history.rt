@@ -7,10 +7,17 @@ use p8_report::trace;
 use std::test::Fail;
 
 /// A program that writes 42 to $0100, asks for its number and stops.
-const PROGRAM: [u32; 5] = [0x083C_0604, 0x0CFC_0A01, 0x0C7C_0A03, 0x0000_002A, 0x0000_0100];
+const PROGRAM: [u32; 5] = [
+    0x083C_0604,
+    0x0CFC_0A01,
+    0x0C7C_0A03,
+    0x0000_002A,
+    0x0000_0100,
+];
 
 /// Its load and the first read of that.
-const TEXT: &[u8] = b"16 0 load 0000\n32 0 rdlong 0000 083C0604\nended turns 2\nlocks ........\npins 00000000 00000000\n\
+const TEXT: &[u8] =
+    b"16 0 load 0000\n32 0 rdlong 0000 083C0604\nended turns 2\nlocks ........\npins 00000000 00000000\n\
     cog 0 running pasm\ncog 1 stopped\ncog 2 stopped\ncog 3 stopped\ncog 4 stopped\ncog 5 stopped\n\
     cog 6 stopped\ncog 7 stopped\n\
     0000: 04 06 3C 08 01 0A FC 0C 03 0A 7C 0C 2A 00 00 00\n0010: 00\n";
