@@ -1,0 +1,5 @@
+-- What public contracts cite.
+pub mod Variables
+pub mod Values
+pub mod Scale
+pub mod Wave

@@ -1,0 +1,76 @@
+-- The value of each variable of a wave at each clock, and when it changes. A past is a list of turns, the
+-- newest first.
+use Rattle.std.specs.Prelude.{ℕ, ◌-◌, ◌/◌, ◌%◌, ◌^◌, ◌==◌, ◌||◌, nat_eq, nat_le, min, not, if◌then◌else◌, Bool, true, false, List, [], ◌∷◌, Option, Some, None, length, filter}
+use Rattle.std.specs.List.{range_with_len, list_any}
+use Rattle.p8_access.specs.declared.kinds.Access.{Access}
+use Rattle.p8_access.specs.declared.kinds.Access.TheVariants.{CogStop, Halt}
+use Rattle.p8_access.specs.declared.order.Turn.{Turn}
+use Rattle.p8_history.specs.declared.states.CogState.{CogState}
+use Rattle.p8_history.specs.declared.states.CogState.TheVariants.{Stopped, Starting, Running}
+use Rattle.p8_history.specs.Worlds.{World}
+use Rattle.p8_history.specs.Hub.{newest, cog_state, is_set, is_taken}
+use Rattle.p8_history.specs.Pins.{outa_of, dira_of, pins_at}
+use Rattle.p8_wave.specs.declared.variables.Variable.{Variable}
+use Rattle.p8_wave.specs.declared.variables.Variable.TheVariants.{Pin, Outa, Dira, State, Lock, Taken}
+use Rattle.p8_wave.specs.Variables.{variables}
+
+-- whether a cog's own halt was the last thing that stopped it
+abbrev pub halts_by : ℕ → (cog : ℕ) → Access → Option Bool
+halts_by n cog (CogStop target) = if target == n then Some false else None
+halts_by n cog (Halt reason) = if cog == n then Some true else None
+halts_by n cog _ = None
+
+abbrev pub is_halted : List Turn → ℕ → Bool
+is_halted past n = newest (λ (turn : Turn). halts_by n turn.key.cog turn.access) false past
+
+-- a cog's state as a number: stopped, starting, running, halted
+abbrev pub state_number : CogState → (halted : Bool) → ℕ
+state_number Stopped halted = if halted then 3 else 0
+state_number (Starting since origin) halted = 1
+state_number (Running origin) halted = 2
+
+abbrev pub bit_of : Bool → ℕ
+bit_of set = if set then 1 else 0
+
+-- the value of a variable after some turns, where the script stands at a clock
+abbrev pub value_of : World → List Turn → ℕ → Variable → ℕ
+value_of w past clock (Pin n) = pins_at w past clock / 2 ^ n % 2
+value_of w past clock (Outa n) = outa_of past n
+value_of w past clock (Dira n) = dira_of past n
+value_of w past clock (State n) = state_number (cog_state w past n) (is_halted past n)
+value_of w past clock (Lock n) = bit_of (is_set past n)
+value_of w past clock (Taken n) = bit_of (is_taken past n)
+
+-- the turns up to a clock
+abbrev pub turns_by : ℕ → List Turn → List Turn
+turns_by clock past = filter (λ (turn : Turn). nat_le turn.key.clock clock) past
+
+-- the clock of the last turn
+abbrev pub last_clock : List Turn → ℕ
+last_clock [] = 0
+last_clock (turn ∷ past) = turn.key.clock
+
+-- the clock at which a wave ends: the last turn's where the turns ran out, else that of the limit
+abbrev pub end_of : World → List Turn → ℕ
+end_of w past = if nat_eq (length past) w.turns then last_clock past else w.clocks
+
+-- the value of a variable at a clock up to the end: after the turns up to that clock, with the script's
+-- levels at it; a line of the script at the end or later isn't seen
+unfoldable pub value_at : World → List Turn → ℕ → Variable → ℕ
+value_at w past clock v = value_of w (turns_by clock past) (min clock (end_of w past - 1)) v
+
+-- a variable has another value than at the clock before
+abbrev pub changes_at : World → List Turn → ℕ → Variable → Bool
+changes_at w past clock v = not (nat_eq (value_at w past (clock - 1) v) (value_at w past clock v))
+
+-- a variable changes at a clock after 0, up to the end
+abbrev pub changes : World → List Turn → Variable → Bool
+changes w past v = list_any (λ (clock : ℕ). changes_at w past clock v) (range_with_len 1 (end_of w past))
+
+-- the variables that are shown: those that change, or all
+abbrev pub shown : World → List Turn → (all : Bool) → List Variable
+shown w past all = filter (λ (v : Variable). all || changes w past v) variables
+
+-- the clocks after 0 and before the end at which some variable changes
+abbrev pub change_clocks : World → List Turn → List ℕ
+change_clocks w past = filter (λ (clock : ℕ). list_any (changes_at w past clock) variables) (range_with_len 1 (end_of w past - 1))

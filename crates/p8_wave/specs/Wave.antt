@@ -1,0 +1,65 @@
+-- The text of a wave (IEEE 1364-2005, section 18, "Value change dump files"). Where the standard leaves a
+-- choice it is this project's profile. A past is a list of turns, the newest first.
+use Rattle.std.specs.Prelude.{ℕ, ◌+◌, ◌-◌, ◌/◌, ◌%◌, ◌^◌, nat_eq, if◌then◌else◌, Bool, List, [], ◌∷◌, ◌++◌, codes, map, flat_map, filter}
+use Rattle.std.specs.Fmt.{decimal}
+use Rattle.std.specs.List.{range_with_len}
+use Rattle.p8_access.specs.declared.order.Turn.{Turn}
+use Rattle.p8_history.specs.Worlds.{World}
+use Rattle.p8_wave.specs.declared.variables.Scope.{Scope}
+use Rattle.p8_wave.specs.declared.variables.Variable.{Variable}
+use Rattle.p8_wave.specs.Variables.{scopes, variables, width_of, mark_of, name_of, scope_name, is_in}
+use Rattle.p8_wave.specs.Values.{end_of, value_at, changes_at, shown, change_clocks}
+use Rattle.p8_wave.specs.Scale.{frequency, period_of, scale_text, time_of}
+
+-- a number in this many binary digits
+unfoldable pub binary : ℕ → ℕ → List ℕ
+binary width n = map (λ (k : ℕ). 48 + n / 2 ^ (width - 1 - k) % 2) (range_with_len 0 width)
+
+-- the declaration of a variable
+abbrev pub variable_text : Variable → List ℕ
+variable_text v = codes "$var wire " ++ decimal (width_of v) ++ codes " " ++ mark_of v ∷ codes " " ++ name_of v ++ codes " $end\n"
+
+-- a variable has this value from now on
+abbrev pub value_text : Variable → ℕ → List ℕ
+value_text v n =
+    if nat_eq (width_of v) 1 then binary 1 n ++ mark_of v ∷ codes "\n"
+    else codes "b" ++ binary (width_of v) n ++ codes " " ++ mark_of v ∷ codes "\n"
+
+-- a scope with these variables; one without any doesn't stand
+abbrev pub scope_with : Scope → List Variable → List ℕ
+scope_with scope [] = []
+scope_with scope (v ∷ vs) =
+    codes "$scope module " ++ scope_name scope ++ codes " $end\n" ++ flat_map variable_text (v ∷ vs) ++ codes "$upscope $end\n"
+
+-- a scope with those of some variables that stand in it
+abbrev pub scope_text : List Variable → Scope → List ℕ
+scope_text vs scope = scope_with scope (filter (is_in scope) vs)
+
+-- the values of some variables at a clock
+abbrev pub values_text : World → List Turn → ℕ → List Variable → List ℕ
+values_text w past clock vs = flat_map (λ (v : Variable). value_text v (value_at w past clock v)) vs
+
+abbrev pub time_text : World → ℕ → List ℕ
+time_text w clock = codes "#" ++ decimal (time_of w clock) ++ codes "\n"
+
+-- a clock, and the variables that change at it
+abbrev pub section_text : World → List Turn → ℕ → List ℕ
+section_text w past clock = time_text w clock ++ values_text w past clock (filter (changes_at w past clock) variables)
+
+-- the time scale and the variables that are shown
+abbrev pub head_text : World → List Variable → List ℕ
+head_text w vs =
+    codes "$version Propeller P8X32A $end\n" ++ scale_text (frequency w) (period_of (frequency w))
+    ++ flat_map (scope_text vs) scopes ++ codes "$enddefinitions $end\n"
+
+-- their values at clock 0
+abbrev pub first_text : World → List Turn → List Variable → List ℕ
+first_text w past vs = codes "#0\n$dumpvars\n" ++ values_text w past 0 vs ++ codes "$end\n"
+
+-- a section for each clock at which something changes, and one for the end
+abbrev pub changes_text : World → List Turn → List ℕ
+changes_text w past = flat_map (section_text w past) (change_clocks w past) ++ section_text w past (end_of w past)
+
+-- the whole text
+abbrev pub wave_of : World → List Turn → (all : Bool) → List ℕ
+wave_of w past all = head_text w (shown w past all) ++ first_text w past (shown w past all) ++ changes_text w past

@@ -1,0 +1,12 @@
+//! Waves: a history that has ended, as a Value Change Dump, the text of IEEE 1364-2005 (section 18) that
+//! viewers of waveforms open.
+//!
+//! What a wave is stands in specs/: the value of each variable at each clock, the clocks at which something
+//! changes, and the text.
+#![tactic(auto)]
+
+mod variables;
+mod waves;
+
+pub use variables::{Scope, Variable};
+pub use waves::wave;
