@@ -3,3 +3,5 @@ pub mod Variables
 pub mod Values
 pub mod Scale
 pub mod Wave
+-- Internal.
+pub mod Following

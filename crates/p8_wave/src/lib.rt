@@ -5,6 +5,7 @@
 //! changes, and the text.
 #![tactic(auto)]
 
+mod signals;
 mod variables;
 mod waves;
 
