@@ -1,1 +1,10 @@
 mod Pins
+mod Lists
+mod Tens
+mod Ranges
+mod Taking
+mod Picturing
+mod Sectioning
+mod Walking
+mod Pieces
+mod Whole

@@ -10,7 +10,10 @@ use Rattle.p8_history.specs.Pins.{outa_of, dira_of}
 use Rattle.p8_wave.specs.declared.signals.Phase.{Phase}
 use Rattle.p8_wave.specs.declared.signals.Phase.TheVariants as phase
 use Rattle.p8_wave.specs.declared.signals.Signals.{Signals}
-use Rattle.p8_wave.specs.Values.{is_halted}
+use Rattle.p8_wave.specs.declared.pictures.Picture.{Picture}
+use Rattle.p8_wave.specs.declared.variables.Variable.{Variable}
+use Rattle.p8_wave.specs.declared.variables.Variable.TheVariants.{Pin, Outa, Dira, State, Lock, Taken}
+use Rattle.p8_wave.specs.Values.{is_halted, bit_of}
 
 -- the number of a phase
 abbrev pub phase_number : Phase → ℕ
@@ -31,3 +34,16 @@ pub record AreSignals (w : World) (past : List Turn) (s : Signals) : Type 0 wher
   pub dira : s.dira ≡ map (λ (n : ℕ). dira_of past n) cogs
   pub set : s.set ≡ map (λ (n : ℕ). is_set past n) locks
   pub taken : s.taken ≡ map (λ (n : ℕ). is_taken past n) locks
+
+-- the value of a variable in a picture
+abbrev pub pictured : Picture → Variable → ℕ
+pictured p (Pin n) = p.pins / 2 ^ (n % 32) % 2
+pictured p (Outa n) = slice_index p.signals.outa (n % 8)
+pictured p (Dira n) = slice_index p.signals.dira (n % 8)
+pictured p (State n) = phase_number (slice_index_or p.signals.phases (n % 8) phase.Stopped)
+pictured p (Lock n) = bit_of (slice_index_or p.signals.set (n % 8) false)
+pictured p (Taken n) = bit_of (slice_index_or p.signals.taken (n % 8) false)
+
+-- a variable has another value in another picture
+abbrev pub differs : Picture → Picture → Variable → Bool
+differs p q v = not (nat_eq (pictured p v) (pictured q v))

@@ -5,3 +5,5 @@ pub mod Scale
 pub mod Wave
 -- Internal.
 pub mod Following
+pub mod Walks
+pub mod Sections

@@ -30,8 +30,11 @@ abbrev pub power_of : ℕ → ℕ
 power_of period = tens 15 period
 
 -- how many units a clock lasts; where its period is no whole number, a clock is taken as one unit
+abbrev pub ticks_of : (period : ℕ) → ℕ
+ticks_of period = period / 10 ^ power_of period
+
 abbrev pub ticks_in : Option ℕ → ℕ
-ticks_in (Some period) = period / 10 ^ power_of period
+ticks_in (Some period) = ticks_of period
 ticks_in None = 1
 
 -- 1, 10 or 100
@@ -51,9 +54,17 @@ second_text thousands =
 abbrev pub unit_text : ℕ → List ℕ
 unit_text power = count_text power ++ second_text (power / 3)
 
+-- a clock is a whole number of units
+abbrev pub exact_text : (period : ℕ) → List ℕ
+exact_text period = codes "$timescale " ++ unit_text (power_of period) ++ codes " $end\n"
+
+-- a clock is taken as a nanosecond
+abbrev pub tick_text : (f : ℕ) → List ℕ
+tick_text f = codes "$timescale 1 ns $end\n$comment A tick is one clock at " ++ decimal f ++ codes " Hz. $end\n"
+
 abbrev pub scale_text : (f : ℕ) → Option ℕ → List ℕ
-scale_text f (Some period) = codes "$timescale " ++ unit_text (power_of period) ++ codes " $end\n"
-scale_text f None = codes "$timescale 1 ns $end\n$comment A tick is one clock at " ++ decimal f ++ codes " Hz. $end\n"
+scale_text f (Some period) = exact_text period
+scale_text f None = tick_text f
 
 -- the time of a clock, in units
 abbrev pub time_of : World → ℕ → ℕ

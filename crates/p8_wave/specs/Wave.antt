@@ -15,29 +15,29 @@ use Rattle.p8_wave.specs.Scale.{frequency, period_of, scale_text, time_of}
 unfoldable pub binary : ℕ → ℕ → List ℕ
 binary width n = map (λ (k : ℕ). 48 + n / 2 ^ (width - 1 - k) % 2) (range_with_len 0 width)
 
--- the declaration of a variable
-abbrev pub variable_text : Variable → List ℕ
-variable_text v = codes "$var wire " ++ decimal (width_of v) ++ codes " " ++ mark_of v ∷ codes " " ++ name_of v ++ codes " $end\n"
+-- the declaration of a variable, and of the character that stands for it
+abbrev pub variable_text : (mark : ℕ) → Variable → List ℕ
+variable_text mark v = codes "$var wire " ++ decimal (width_of v) ++ codes " " ++ mark ∷ codes " " ++ name_of v ++ codes " $end\n"
 
--- a variable has this value from now on
-abbrev pub value_text : Variable → ℕ → List ℕ
-value_text v n =
-    if nat_eq (width_of v) 1 then binary 1 n ++ mark_of v ∷ codes "\n"
-    else codes "b" ++ binary (width_of v) n ++ codes " " ++ mark_of v ∷ codes "\n"
+-- a variable of this width has this value from now on
+abbrev pub value_text : (width mark : ℕ) → ℕ → List ℕ
+value_text width mark n =
+    if nat_eq width 1 then binary 1 n ++ mark ∷ codes "\n"
+    else codes "b" ++ binary width n ++ codes " " ++ mark ∷ codes "\n"
 
--- a scope with these variables; one without any doesn't stand
-abbrev pub scope_with : Scope → List Variable → List ℕ
+-- a scope with these declarations; one without any doesn't stand
+abbrev pub scope_with : Scope → List ℕ → List ℕ
 scope_with scope [] = []
-scope_with scope (v ∷ vs) =
-    codes "$scope module " ++ scope_name scope ++ codes " $end\n" ++ flat_map variable_text (v ∷ vs) ++ codes "$upscope $end\n"
+scope_with scope (c ∷ cs) =
+    codes "$scope module " ++ scope_name scope ++ codes " $end\n" ++ c ∷ cs ++ codes "$upscope $end\n"
 
 -- a scope with those of some variables that stand in it
 abbrev pub scope_text : List Variable → Scope → List ℕ
-scope_text vs scope = scope_with scope (filter (is_in scope) vs)
+scope_text vs scope = scope_with scope (flat_map (λ (v : Variable). variable_text (mark_of v) v) (filter (is_in scope) vs))
 
 -- the values of some variables at a clock
 abbrev pub values_text : World → List Turn → ℕ → List Variable → List ℕ
-values_text w past clock vs = flat_map (λ (v : Variable). value_text v (value_at w past clock v)) vs
+values_text w past clock vs = flat_map (λ (v : Variable). value_text (width_of v) (mark_of v) (value_at w past clock v)) vs
 
 abbrev pub time_text : World → ℕ → List ℕ
 time_text w clock = codes "#" ++ decimal (time_of w clock) ++ codes "\n"

@@ -5,8 +5,16 @@
 //! changes, and the text.
 #![tactic(auto)]
 
+mod courses;
+mod entries;
+mod heads;
+mod pictures;
+mod scale;
+mod sections;
 mod signals;
+mod texts;
 mod variables;
+mod walks;
 mod waves;
 
 pub use variables::{Scope, Variable};

@@ -1,14 +1,61 @@
 // The whole text of a wave.
-ghost use Rattle.std.specs.Prelude.{◌≡◌, reverse, IfOk};
+ghost use Rattle.std.specs.Prelude.{◌≡◌, List, map, reverse, IfOk};
+ghost use Rattle.p8_access.specs.declared.order.Turn.{Turn};
 ghost use Rattle.p8_history.specs.Worlds.{World};
 ghost use Rattle.p8_history.specs.Histories.{Rises};
 ghost use Rattle.p8_ledger.specs.Worlds.{world_of};
+ghost use Rattle.p8_wave.specs.Values.{last_clock as last_clock_of, end_of as end_in};
+ghost use Rattle.p8_wave.specs.Scale.{frequency, period_of};
 ghost use Rattle.p8_wave.specs.Wave.{wave_of};
+ghost use Rattle.p8_wave.specs.Sections.{IsWalked};
 
-use p8_ledger::History;
+use crate::entries::shown;
+use crate::heads::{push_first, push_head};
+use crate::scale::Scale;
+use crate::walks::{Walk, walk_along};
+use p8_access::Turn;
+use p8_disassembly::push_text;
+use p8_ledger::{History, Limits};
 use p8_pins::PinScript;
 use p8_words::NoMemory;
 use std::alloc::Global;
+
+/// The clock of the last turn, or 0 where there is none.
+fn last_clock(turns: &[Turn]) -> u64
+    ensures { result ≡ last_clock_of (reverse turns.now) }
+{
+    match turns {
+        [.., turn] => turn.key.clock,
+        [] => 0,
+    }
+}
+
+/// The clock at which a wave ends.
+fn end_of(turns: &[Turn], limits: &Limits) -> u64
+    ensures { (w : World) → w.clocks ≡ limits.now.clocks → w.turns ≡ limits.now.turns → result ≡ end_in w (reverse turns.now) }
+{
+    if turns.len() as u64 == limits.turns {
+        last_clock(turns)
+    } else {
+        limits.clocks
+    }
+}
+
+/// The whole text, where a walk has been made.
+fn text(alloc: Global, scale: &Scale, walk: &Walk, all: bool) -> Result<Vec<u8>, NoMemory>
+    ensures { (w : World) (past : List Turn)
+        → scale.now.frequency ≡ frequency w
+        → scale.now.period ≡ period_of scale.now.frequency
+        → IsWalked w past walk.now
+        → IfOk result (λ text. text.items ≡ wave_of w past all) }
+{
+    let shown = shown(alloc, &walk.sections.entries, all)?;
+    let mut out = Vec::new(alloc);
+    push_head(alloc, &mut out, scale, &shown)?;
+    push_first(&mut out, &shown, &walk.first)?;
+    push_text(&mut out, &walk.sections.text)?;
+    Ok(out)
+}
 
 /// A history that has ended, as a Value Change Dump (IEEE 1364-2005, section 18): the 32 pins, what each cog
 /// does and drives, and the locks, at each clock at which one of them changes.
@@ -22,5 +69,9 @@ pub fn wave(alloc: Global, history: &History, script: &PinScript, all: bool) -> 
         → Rises (reverse history.now.turns.list)
         → IfOk result (λ text. text.items ≡ wave_of w (reverse history.now.turns.list) all) }
 {
-    Err(NoMemory)
+    let turns = history.turns.as_slice();
+    let end = end_of(turns, &history.limits);
+    let scale = Scale::of_boot(&history.boot);
+    let walk = walk_along(alloc, turns, script, end, scale.ticks())?;
+    text(alloc, &scale, &walk, all)
 }

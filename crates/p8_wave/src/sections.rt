@@ -1,0 +1,88 @@
+// The sections of a wave: a time, and what changes at it.
+ghost use Rattle.std.specs.Prelude.{◌≡◌, ◌++◌, ◌*◌, codes, map, if◌then◌else◌, [], IfOk, OnOk};
+ghost use Rattle.std.specs.Fmt.{decimal};
+ghost use Rattle.p8_wave.specs.Variables.{variables};
+ghost use Rattle.p8_wave.specs.Sections.{still, marked, some_differ, section_of};
+
+use crate::entries::{Entry, entries, mark_changes};
+use crate::pictures::Picture;
+use crate::texts::push_changes;
+use itoa::Buffer;
+use p8_disassembly::push_text;
+use p8_words::NoMemory;
+use std::alloc::Global;
+
+/// The sections so far, what has changed in them, and how many units of time a clock lasts.
+#[derive(Drop)]
+pub struct Sections {
+    pub text: Vec<u8>,
+    pub entries: Vec<Entry>,
+    pub ticks: u64,
+}
+
+/// A clock as a time.
+fn push_time(out: &mut Vec<u8>, clock: u64, ticks: u64) -> Result<(), NoMemory>
+    ensures { OnOk result (out.new.items ≡ out.old.items ++ (codes "#" ++ decimal (clock * ticks) ++ codes "\n")) }
+{
+    push_text(out, b"#")?;
+    push_text(out, Buffer::new().format(u128::from(clock) * u128::from(ticks)).as_bytes())?;
+    push_text(out, b"\n")
+}
+
+impl Sections {
+    /// No section, where a clock lasts so many units of time.
+    pub fn open(alloc: Global, ticks: u64) -> Result<Sections, NoMemory>
+        ensures text { IfOk result (λ sections. sections.text.items ≡ []) }
+        ensures entries { IfOk result (λ sections. sections.entries.items ≡ map still variables) }
+        ensures ticks { IfOk result (λ sections. sections.ticks ≡ ticks) }
+    {
+        Ok(Sections {
+            text: Vec::new(alloc),
+            entries: entries(alloc)?,
+            ticks,
+        })
+    }
+
+    /// Marks what differs in two pictures, and tells whether anything does.
+    fn mark(&mut self, old: &Picture, new: &Picture) -> bool
+        ensures any { result ≡ some_differ old.now new.now self.old.entries.items }
+        ensures entries { self.new.entries.items ≡ map (marked old.now new.now) self.old.entries.items }
+        ensures text { self.new.text.items ≡ self.old.text.items }
+        ensures ticks { self.new.ticks ≡ self.old.ticks }
+    {
+        mark_changes(&mut self.entries, old, new)
+    }
+
+    /// A clock, and what differs in two pictures.
+    fn push(&mut self, clock: u64, old: &Picture, new: &Picture) -> Result<(), NoMemory>
+        ensures text { OnOk result (self.new.text.items ≡ self.old.text.items ++ section_of (clock * self.old.ticks) old.now new.now self.old.entries.items) }
+        ensures entries { self.new.entries.items ≡ self.old.entries.items }
+        ensures ticks { self.new.ticks ≡ self.old.ticks }
+    {
+        push_time(&mut self.text, clock, self.ticks)?;
+        push_changes(&mut self.text, &self.entries, old, new)
+    }
+
+    /// What changes at a clock, where anything does.
+    pub fn change(&mut self, clock: u64, old: &Picture, new: &Picture) -> Result<(), NoMemory>
+        ensures text { OnOk result (self.new.text.items ≡ self.old.text.items ++ (if some_differ old.now new.now self.old.entries.items then section_of (clock * self.old.ticks) old.now new.now self.new.entries.items else [])) }
+        ensures entries { self.new.entries.items ≡ map (marked old.now new.now) self.old.entries.items }
+        ensures ticks { self.new.ticks ≡ self.old.ticks }
+    {
+        if self.mark(old, new) {
+            self.push(clock, old, new)
+        } else {
+            Ok(())
+        }
+    }
+
+    /// The end, with what changes at it.
+    pub fn end(&mut self, clock: u64, old: &Picture, new: &Picture) -> Result<(), NoMemory>
+        ensures text { OnOk result (self.new.text.items ≡ self.old.text.items ++ section_of (clock * self.old.ticks) old.now new.now self.new.entries.items) }
+        ensures entries { self.new.entries.items ≡ map (marked old.now new.now) self.old.entries.items }
+        ensures ticks { self.new.ticks ≡ self.old.ticks }
+    {
+        self.mark(old, new);
+        self.push(clock, old, new)
+    }
+}

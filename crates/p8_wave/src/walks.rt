@@ -1,0 +1,73 @@
+// A walk along a history, which writes the sections of a wave.
+ghost use Rattle.std.specs.Prelude.{◌≡◌, ◌++◌, [], List, map, reverse, IfOk, OnOk};
+ghost use Rattle.p8_access.specs.declared.order.Turn.{Turn};
+ghost use Rattle.p8_history.specs.Worlds.{World};
+ghost use Rattle.p8_wave.specs.Variables.{variables};
+ghost use Rattle.p8_wave.specs.Values.{changes};
+ghost use Rattle.p8_wave.specs.Wave.{changes_text};
+ghost use Rattle.p8_wave.specs.Walks.{IsAt, IsSet};
+ghost use Rattle.p8_wave.specs.Sections.{still, entry_of, IsWalked};
+
+use crate::courses::{Course, next_clock, take_turns};
+use crate::entries::entries;
+use crate::pictures::Picture;
+use crate::sections::Sections;
+use p8_access::Turn;
+use p8_pins::PinScript;
+use p8_words::NoMemory;
+use std::alloc::Global;
+
+/// What a walk along a history has written, and the values at clock 0.
+#[derive(Drop)]
+pub struct Walk {
+    pub sections: Sections,
+    pub first: Picture,
+}
+
+/// Goes from one turn or line of the script to the next, up to the end, and writes what changes at each.
+fn write_sections(
+    sections: &mut Sections,
+    course: &mut Course,
+    turns: &[Turn],
+    script: &PinScript,
+    end: u64,
+) -> Result<(), NoMemory>
+    ensures text { (w : World) (past : List Turn)
+        → IsSet w past script.now sections.old.ticks end
+        → IsAt w past 0 turns.now course.old
+        → sections.old.entries.items ≡ map still variables
+        → OnOk result (sections.new.text.items ≡ sections.old.text.items ++ changes_text w past) }
+    ensures entries { (w : World) (past : List Turn)
+        → IsSet w past script.now sections.old.ticks end
+        → IsAt w past 0 turns.now course.old
+        → sections.old.entries.items ≡ map still variables
+        → OnOk result (sections.new.entries.items ≡ map (entry_of (changes w past)) variables) }
+{
+    let mut left = turns;
+    let mut old = course.picture();
+    let mut next = next_clock(left, course.span.end, end);
+    while next < end {
+        left = course.go(left, script, next);
+        let new = course.picture();
+        sections.change(next, &old, &new)?;
+        old = new;
+        next = next_clock(left, course.span.end, end);
+    }
+    take_turns(&mut course.signals, left, end);
+    sections.end(end, &old, &course.picture())
+}
+
+/// Walks along a history, the oldest turn first.
+pub fn walk_along(alloc: Global, turns: &[Turn], script: &PinScript, end: u64, ticks: u64) -> Result<Walk, NoMemory>
+    ensures { (w : World) (past : List Turn)
+        → IsSet w past script.now ticks end
+        → past ≡ reverse turns.now
+        → IfOk result (IsWalked w past) }
+{
+    let mut course = Course::open(script);
+    let left = take_turns(&mut course.signals, turns, 0);
+    let first = course.picture();
+    let mut sections = Sections::open(alloc, ticks)?;
+    write_sections(&mut sections, &mut course, left, script, end)?;
+    Ok(Walk { sections, first })
+}
