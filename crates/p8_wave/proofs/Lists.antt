@@ -5,7 +5,6 @@ use Rattle.std.proofs.lemmas.List.Folds.{list_any_more}
 use Rattle.std.proofs.lemmas.List.{map-id, append-nil}
 use Rattle.std.proofs.lemmas.List.Concat.{flat_map-append}
 use Rattle.std.proofs.lemmas.List.FromFn.{map-range_with_len_more}
-use Rattle.p8_wave.specs.declared.entries.Entry.{Entry}
 use Rattle.p8_wave.specs.declared.variables.Variable.TheVariants.{Pin}
 use Rattle.p8_wave.specs.Variables.{variables, cog_variables, lock_variables}
 use Rattle.p8_wave.specs.Sections.{still}

@@ -1,5 +1,5 @@
 -- The text of a section, by pictures and by values.
-use Rattle.std.proofs.Common.{◌≡◌, ◌∙◌, refl, sym, ap, subst, ℕ, zero, suc, ◌+◌, ◌-◌, ◌*◌, ◌<◌, ◌≤◌, List, [], ◌∷◌, ◌++◌, map, Bool, true, false, not, nat_eq, ◌||◌, if◌then◌else◌, filter, codes, arith, rules}
+use Rattle.std.proofs.Common.{◌≡◌, ◌∙◌, refl, ap, ℕ, ◌-◌, List, [], ◌∷◌, ◌++◌, map, Bool, true, false, not, nat_eq, ◌||◌, if◌then◌else◌, filter, codes, rules}
 use Rattle.std.specs.Fmt.{decimal}
 use Rattle.std.specs.List.{list_any, flat_map}
 use Rattle.p8_access.specs.declared.order.Turn.{Turn}
@@ -10,8 +10,8 @@ use Rattle.p8_wave.specs.declared.variables.Scope.{Scope}
 use Rattle.p8_wave.specs.declared.variables.Variable.{Variable}
 use Rattle.p8_wave.specs.Variables.{variables, IsVariable, width_of, mark_of, is_in}
 use Rattle.p8_wave.specs.Values.{value_at, changes_at}
-use Rattle.p8_wave.specs.Scale.{frequency, period_of, ticks_in, time_of}
-use Rattle.p8_wave.specs.Wave.{value_text, variable_text, values_text, section_text, time_text, scope_text, scope_with}
+use Rattle.p8_wave.specs.Scale.{time_of}
+use Rattle.p8_wave.specs.Wave.{value_text, variable_text, values_text, section_text, scope_text, scope_with}
 use Rattle.p8_wave.specs.Following.{pictured, differs}
 use Rattle.p8_wave.specs.Walks.{Shows}
 use Rattle.p8_wave.specs.Sections.{entry_of, marked, some_differ, entry_text, change_text, section_of, declared_in, scope_of}
@@ -72,9 +72,9 @@ module _ (p : Variable → Bool) where
   declared scope [] = refl
   declared scope (v ∷ vs) = declared_step (is_in scope v) scope v _ _ (declared scope vs)
     where
-    declared_step : (b : Bool) (scope : Scope) (v : Variable) (xs : List ℕ) (vs : List Variable) → xs ≡ flat_map (λ (v : Variable). variable_text (mark_of v) v) vs → (if b then variable_text (mark_of v) v else []) ++ xs ≡ flat_map (λ (v : Variable). variable_text (mark_of v) v) (if b then v ∷ vs else vs)
-    declared_step true scope v xs vs e = ap (λ ys. variable_text (mark_of v) v ++ ys) e
-    declared_step false scope v xs vs e = e
+      declared_step : (b : Bool) (scope : Scope) (v : Variable) (xs : List ℕ) (vs : List Variable) → xs ≡ flat_map (λ (v : Variable). variable_text (mark_of v) v) vs → (if b then variable_text (mark_of v) v else []) ++ xs ≡ flat_map (λ (v : Variable). variable_text (mark_of v) v) (if b then v ∷ vs else vs)
+      declared_step true scope v xs vs e = ap (λ ys. variable_text (mark_of v) v ++ ys) e
+      declared_step false scope v xs vs e = e
 
   pub scope_all : (scope : Scope) (vs : List Variable) → scope_of (map (entry_of p) vs) scope ≡ scope_text vs scope
   scope_all scope vs = ap (scope_with scope) (declared scope vs)
@@ -84,9 +84,9 @@ module _ (p : Variable → Bool) where
   shown_entries all [] = refl
   shown_entries all (v ∷ vs) = shown_step (all || p v) v _ _ (shown_entries all vs)
     where
-    shown_step : (b : Bool) (v : Variable) (es : List Entry) (vs : List Variable) → es ≡ map (entry_of p) vs → (if b then entry_of p v ∷ es else es) ≡ map (entry_of p) (if b then v ∷ vs else vs)
-    shown_step true v es vs e = ap (λ xs. entry_of p v ∷ xs) e
-    shown_step false v es vs e = e
+      shown_step : (b : Bool) (v : Variable) (es : List Entry) (vs : List Variable) → es ≡ map (entry_of p) vs → (if b then entry_of p v ∷ es else es) ≡ map (entry_of p) (if b then v ∷ vs else vs)
+      shown_step true v es vs e = ap (λ xs. entry_of p v ∷ xs) e
+      shown_step false v es vs e = e
 
 -- the values of those that are shown, in a picture
 module _ (w : World) (past : List Turn) (clock : ℕ) (picture : Picture) (shows : Shows w past clock picture) (p : Variable → Bool) where
@@ -94,9 +94,9 @@ module _ (w : World) (past : List Turn) (clock : ℕ) (picture : Picture) (shows
   values_shown q [] all = refl
   values_shown q (v ∷ vs) (is, all) = shown_step (q v) v (filter q vs) is (values_shown q vs all)
     where
-    shown_step : (b : Bool) (v : Variable) (vs : List Variable) → IsVariable v → flat_map (entry_text picture) (map (entry_of p) vs) ≡ values_text w past clock vs → flat_map (entry_text picture) (map (entry_of p) (if b then v ∷ vs else vs)) ≡ values_text w past clock (if b then v ∷ vs else vs)
-    shown_step true v vs is e = rw (shows.values v is) (ap (λ xs. value_text (width_of v) (mark_of v) (value_at w past clock v) ++ xs) e)
-    shown_step false v vs is e = e
+      shown_step : (b : Bool) (v : Variable) (vs : List Variable) → IsVariable v → flat_map (entry_text picture) (map (entry_of p) vs) ≡ values_text w past clock vs → flat_map (entry_text picture) (map (entry_of p) (if b then v ∷ vs else vs)) ≡ values_text w past clock (if b then v ∷ vs else vs)
+      shown_step true v vs is e = rw (shows.values v is) (ap (λ xs. value_text (width_of v) (mark_of v) (value_at w past clock v) ++ xs) e)
+      shown_step false v vs is e = e
 
   pub first_values : (q : Variable → Bool) → flat_map (entry_text picture) (map (entry_of p) (filter q variables)) ≡ values_text w past clock (filter q variables)
   first_values q = values_shown q variables all_variables

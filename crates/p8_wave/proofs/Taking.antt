@@ -1,11 +1,11 @@
 -- The turns up to a clock, where the keys of a past rise.
-use Rattle.std.proofs.Common.{◌≡◌, ◌∙◌, refl, sym, ap, subst, ℕ, zero, suc, ◌+◌, ◌<◌, ◌≤◌, List, [], ◌∷◌, ◌++◌, Bool, true, false, nat_le, if◌then◌else◌, filter, reverse, length, drop, get_or, append_assoc, arith, inl, inr, ◌⊎◌}
-use Rattle.std.proofs.lemmas.List.{append-nil, reverse-append}
+use Rattle.std.proofs.Common.{◌≡◌, ◌∙◌, refl, sym, ap, subst, ℕ, ◌<◌, ◌≤◌, List, [], ◌∷◌, ◌++◌, true, false, nat_le, reverse, length, drop, get_or, append_assoc, arith, inl, inr}
+use Rattle.std.proofs.lemmas.List.{reverse-append}
 use Rattle.std.proofs.lemmas.List.Elements.{filter-append}
 use Rattle.std.proofs.lemmas.Bool.Decides.{nat_tests}
 use Rattle.std.proofs.lemmas.Bool.{cases_lt}
 use Rattle.p8_access.specs.declared.order.Turn.{Turn}
-use Rattle.p8_history.specs.Histories.{Rises, IsAfter}
+use Rattle.p8_history.specs.Histories.{Rises}
 use Rattle.p8_history.specs.Worlds.{World}
 use Rattle.p8_wave.specs.declared.signals.Signals.{Signals}
 use Rattle.p8_wave.specs.Values.{turns_by}
@@ -65,23 +65,23 @@ pub taken : (c : ℕ) (left done : List Turn) → Rises (reverse left ++ done) �
 taken c [] done rises all = keep_all c done all
 taken c (turn ∷ left) done rises all = elim (cases_lt c turn.key.clock) [
   | inr h ↦
-    let test : nat_le turn.key.clock c ≡ true = grind (arith, nat_tests) in
-    ap (turns_by c) (moved turn left done) ∙ rw test (taken c left (turn ∷ done) (subst Rises (moved turn left done) rises) (h, all))
+      let test : nat_le turn.key.clock c ≡ true = grind (arith, nat_tests) in
+      ap (turns_by c) (moved turn left done) ∙ rw test (taken c left (turn ∷ done) (subst Rises (moved turn left done) rises) (h, all))
   | inl h ↦
-    let test : nat_le turn.key.clock c ≡ false = grind (arith, nat_tests) in
-    let after = rest_after (reverse left) turn done c (subst Rises (moved turn left done) rises) h in
-    filter-append (λ (t : Turn). nat_le t.key.clock c) (reverse (turn ∷ left)) done
-    ∙ ap (λ xs. xs ++ turns_by c done) (keep_none c (reverse (turn ∷ left)) (subst (AllAfter c) (sym (reverse-append (turn ∷ []) left)) (after_push c (reverse left) turn after h)))
-    ∙ keep_all c done all
-    ∙ rw test refl
+      let test : nat_le turn.key.clock c ≡ false = grind (arith, nat_tests) in
+      let after = rest_after (reverse left) turn done c (subst Rises (moved turn left done) rises) h in
+      filter-append (λ (t : Turn). nat_le t.key.clock c) (reverse (turn ∷ left)) done
+      ∙ ap (λ xs. xs ++ turns_by c done) (keep_none c (reverse (turn ∷ left)) (subst (AllAfter c) (sym (reverse-append (turn ∷ []) left)) (after_push c (reverse left) turn after h)))
+      ∙ keep_all c done all
+      ∙ rw test refl
 ]
 
 pub split_taken : (c : ℕ) (left done : List Turn) → reverse (left_by c left) ++ taken_by c left done ≡ reverse left ++ done
 split_taken c [] done = refl
 split_taken c (turn ∷ left) done = elim (cases_lt c turn.key.clock) [
   | inr h ↦
-    let test : nat_le turn.key.clock c ≡ true = grind (arith, nat_tests) in
-    rw test (split_taken c left (turn ∷ done) ∙ sym (moved turn left done))
+      let test : nat_le turn.key.clock c ≡ true = grind (arith, nat_tests) in
+      rw test (split_taken c left (turn ∷ done) ∙ sym (moved turn left done))
   | inl h ↦ let test : nat_le turn.key.clock c ≡ false = grind (arith, nat_tests) in rw test refl
 ]
 

@@ -1,5 +1,5 @@
 -- The sections that a walk writes.
-use Rattle.std.proofs.Common.{◌≡◌, ◌∙◌, refl, sym, ap, subst, ℕ, zero, suc, ◌+◌, ◌-◌, ◌*◌, ◌<◌, ◌≤◌, List, [], ◌∷◌, ◌++◌, map, Bool, true, false, not, nat_eq, ◌||◌, if◌then◌else◌, filter, append_assoc, arith, inl, inr}
+use Rattle.std.proofs.Common.{◌≡◌, ◌∙◌, refl, sym, ap, ℕ, ◌+◌, ◌-◌, ◌<◌, ◌≤◌, List, [], ◌∷◌, ◌++◌, map, Bool, true, false, ◌||◌, if◌then◌else◌, filter, append_assoc, arith, inl, inr}
 use Rattle.std.specs.List.{list_any, flat_map, range_with_len}
 use Rattle.std.proofs.lemmas.List.{append-nil}
 use Rattle.std.proofs.lemmas.List.Concat.{flat_map-append}
@@ -15,7 +15,7 @@ use Rattle.p8_wave.specs.declared.entries.Entry.{Entry}
 use Rattle.p8_wave.specs.declared.pictures.Picture.{Picture}
 use Rattle.p8_wave.specs.declared.variables.Variable.{Variable}
 use Rattle.p8_wave.specs.Variables.{variables, IsVariable}
-use Rattle.p8_wave.specs.Values.{value_at, turns_by, changes_at, changes, change_clocks, end_of}
+use Rattle.p8_wave.specs.Values.{value_at, turns_by, changes_at, changes, end_of}
 use Rattle.p8_wave.specs.Scale.{time_of}
 use Rattle.p8_wave.specs.Wave.{section_text, changes_text}
 use Rattle.p8_wave.specs.Following.{AreSignals}
@@ -45,8 +45,8 @@ module _ (w : World) (past : List Turn) where
 
   -- a walk has come to a clock, and no turn and no line of the script comes before the next
   module _ (clock next : ℕ) (left : List Turn) (course : Course) (p : Picture) (rises : Rises past) (at : IsAt w past clock left course) (within : next ≤ end_of w past)
-    (quiet : (u : ℕ) → u < next → IsLater u left × IsBefore u course.span.end) (low : clock ≤ next - 1) (signals : p.signals ≡ course.signals)
-    (pins : (turns : List Turn) → AreSignals w turns course.signals → p.pins ≡ pins_with (dira turns) (outputs turns) course.span.levels) where
+      (quiet : (u : ℕ) → u < next → IsLater u left × IsBefore u course.span.end) (low : clock ≤ next - 1) (signals : p.signals ≡ course.signals)
+      (pins : (turns : List Turn) → AreSignals w turns course.signals → p.pins ≡ pins_with (dira turns) (outputs turns) course.span.levels) where
     at_one : (u : ℕ) → clock ≤ u → u < next → IsAt w past u left course
     at_one u up below = at_later w past clock u left course rises up (quiet u below).0 (quiet u below).1 at
 
@@ -86,9 +86,9 @@ module _ (w : World) (past : List Turn) where
 
     -- one event more
     module _ (left₀ : List Turn) (course₀ : Course) (old : Picture) (entries₀ entries : List Entry) (before text₀ text : List ℕ) (time : ℕ)
-      (done : IsDone w past clock left₀ course₀ old entries₀ before text₀) (inside : clock < end_of w past) (later : clock < next) (is_time : time ≡ time_of w clock)
-      (new_entries : entries ≡ map (marked old p) entries₀)
-      (new_text : text ≡ text₀ ++ (if some_differ old p entries₀ then section_of time old p entries else [])) where
+        (done : IsDone w past clock left₀ course₀ old entries₀ before text₀) (inside : clock < end_of w past) (later : clock < next) (is_time : time ≡ time_of w clock)
+        (new_entries : entries ≡ map (marked old p) entries₀)
+        (new_text : text ≡ text₀ ++ (if some_differ old p entries₀ then section_of time old p entries else [])) where
       shows_now : Shows w past clock p
       shows_now = shows_at w past clock left course p at (omega arith) signals (pins (turns_by clock past) at.signals)
 
@@ -137,10 +137,10 @@ module _ (w : World) (past : List Turn) where
 
   -- the end
   module _ (left : List Turn) (course : Course) (old new : Picture) (entries₀ entries : List Entry) (before text₀ text : List ℕ) (time : ℕ)
-    (done : IsDone w past (end_of w past) left course old entries₀ before text₀) (is_time : time ≡ time_of w (end_of w past))
-    (shows_new : Shows w past (end_of w past) new)
-    (new_entries : entries ≡ map (marked old new) entries₀)
-    (new_text : text ≡ text₀ ++ section_of time old new entries) where
+      (done : IsDone w past (end_of w past) left course old entries₀ before text₀) (is_time : time ≡ time_of w (end_of w past))
+      (shows_new : Shows w past (end_of w past) new)
+      (new_entries : entries ≡ map (marked old new) entries₀)
+      (new_text : text ≡ text₀ ++ section_of time old new entries) where
     marked_end : entries ≡ map (entry_of (λ (v : Variable). changes_at w past (end_of w past) v || changed_by w past (end_of w past - 1) v)) variables
     marked_end =
         new_entries ∙ ap (map (marked old new)) done.told

@@ -1,5 +1,5 @@
 -- The whole text of a wave.
-use Rattle.std.proofs.Common.{◌≡◌, ◌∙◌, refl, sym, ap, ℕ, List, [], ◌∷◌, ◌++◌, Bool, ◌||◌, Option, filter, map, codes}
+use Rattle.std.proofs.Common.{◌≡◌, ◌∙◌, ap, ℕ, List, [], ◌++◌, Bool, ◌||◌, Option, filter, map, codes}
 use Rattle.std.specs.List.{flat_map}
 use Rattle.p8_access.specs.declared.order.Turn.{Turn}
 use Rattle.p8_history.specs.Worlds.{World}
@@ -15,7 +15,7 @@ use Rattle.p8_wave.specs.Sections.{entry_of, head_of, first_of, IsWalked}
 use Rattle.p8_wave.proofs.Sectioning.{scope_all, shown_entries, first_values}
 
 module _ (w : World) (past : List Turn) (all : Bool) (f : ℕ) (period : Option ℕ) (walk : Walk) (told : f ≡ frequency w) (is_period : period ≡ period_of f) (walked : IsWalked w past walk) (es e₁ e₂ e₃ : List Entry)
-  (is_shown : es ≡ filter (λ (e : Entry). all || e.changes) e₁) (is₁ : e₁ ≡ walk.sections.entries.items) (is₂ : e₂ ≡ es) (is₃ : e₃ ≡ es) where
+    (is_shown : es ≡ filter (λ (e : Entry). all || e.changes) e₁) (is₁ : e₁ ≡ walk.sections.entries.items) (is₂ : e₂ ≡ es) (is₃ : e₃ ≡ es) where
   shown_es : es ≡ map (entry_of (changes w past)) (shown w past all)
   shown_es = is_shown ∙ ap (filter (λ (e : Entry). all || e.changes)) (is₁ ∙ walked.entries) ∙ shown_entries (changes w past) all variables
 

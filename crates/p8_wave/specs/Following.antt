@@ -1,6 +1,6 @@
 -- internal
 -- How what the code keeps follows a history.
-use Rattle.std.specs.Prelude.{ℕ, ◌/◌, ◌%◌, ◌^◌, ◌≡◌, ◌<◌, nat_eq, not, if◌then◌else◌, Bool, true, false, List, [], ◌∷◌, map, slice_index, slice_index_or}
+use Rattle.std.specs.Prelude.{ℕ, ◌/◌, ◌%◌, ◌^◌, ◌≡◌, nat_eq, not, if◌then◌else◌, Bool, false, List, map, slice_index, slice_index_or}
 use Rattle.p8_access.specs.declared.order.Turn.{Turn}
 use Rattle.p8_history.specs.declared.states.CogState.{CogState}
 use Rattle.p8_history.specs.declared.states.CogState.TheVariants.{Stopped, Starting, Running}

@@ -1,6 +1,6 @@
 -- internal
 -- The text of a wave over the entries that the code keeps.
-use Rattle.std.specs.Prelude.{ℕ, ◌-◌, ◌*◌, ◌≡◌, ◌<◌, ◌≤◌, ◌||◌, if◌then◌else◌, Bool, false, Option, List, [], ◌∷◌, ◌++◌, codes, map, flat_map, filter}
+use Rattle.std.specs.Prelude.{ℕ, ◌-◌, ◌≡◌, ◌<◌, ◌≤◌, ◌||◌, if◌then◌else◌, Bool, false, Option, List, [], ◌++◌, codes, map, flat_map, filter}
 use Rattle.std.specs.Fmt.{decimal}
 use Rattle.std.specs.List.{range_with_len, list_any}
 use Rattle.p8_access.specs.declared.order.Turn.{Turn}

@@ -28,7 +28,12 @@ fn push_scope_with(out: &mut Vec<u8>, scope: Scope, declarations: &[u8]) -> Resu
 }
 
 /// A scope with those entries that stand in it.
-fn push_scope(alloc: Global, out: &mut Vec<u8>, scope: Scope, entries: &[Entry]) -> Result<(), NoMemory>
+fn push_scope(
+    alloc: Global,
+    out: &mut Vec<u8>,
+    scope: Scope,
+    entries: &[Entry],
+) -> Result<(), NoMemory>
     ensures { OnOk result (out.new.items ≡ out.old.items ++ scope_of entries.now scope) }
 {
     let mut declarations = Vec::new(alloc);
@@ -37,7 +42,12 @@ fn push_scope(alloc: Global, out: &mut Vec<u8>, scope: Scope, entries: &[Entry])
 }
 
 /// These scopes.
-fn push_each(alloc: Global, out: &mut Vec<u8>, each: &[Scope], entries: &[Entry]) -> Result<(), NoMemory>
+fn push_each(
+    alloc: Global,
+    out: &mut Vec<u8>,
+    each: &[Scope],
+    entries: &[Entry],
+) -> Result<(), NoMemory>
     ensures { OnOk result (out.new.items ≡ out.old.items ++ flat_map (scope_of entries.now) each.now) }
 {
     for scope in each {
@@ -66,7 +76,12 @@ fn push_scopes(alloc: Global, out: &mut Vec<u8>, entries: &[Entry]) -> Result<()
 }
 
 /// The time scale, and the declarations of the entries that are shown.
-pub fn push_head(alloc: Global, out: &mut Vec<u8>, scale: &Scale, entries: &[Entry]) -> Result<(), NoMemory>
+pub fn push_head(
+    alloc: Global,
+    out: &mut Vec<u8>,
+    scale: &Scale,
+    entries: &[Entry],
+) -> Result<(), NoMemory>
     ensures { OnOk result (out.new.items ≡ out.old.items ++ head_of scale.now.frequency scale.now.period entries.now) }
 {
     push_text(out, b"$version Propeller P8X32A $end\n")?;

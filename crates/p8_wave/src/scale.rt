@@ -44,13 +44,7 @@ fn frequency_of(boot: &Boot) -> u32
     let told = first_long(boot.ram.bytes());
     match boot.first {
         Origin::Pasm { .. } => USUAL,
-        Origin::Spin { .. } => {
-            if told == 0 {
-                USUAL
-            } else {
-                told
-            }
-        }
+        Origin::Spin { .. } => { if told == 0 { USUAL } else { told } }
     }
 }
 

@@ -25,7 +25,12 @@ fn push_time(out: &mut Vec<u8>, clock: u64, ticks: u64) -> Result<(), NoMemory>
     ensures { OnOk result (out.new.items ≡ out.old.items ++ (codes "#" ++ decimal (clock * ticks) ++ codes "\n")) }
 {
     push_text(out, b"#")?;
-    push_text(out, Buffer::new().format(u128::from(clock) * u128::from(ticks)).as_bytes())?;
+    push_text(
+        out,
+        Buffer::new()
+            .format(u128::from(clock) * u128::from(ticks))
+            .as_bytes(),
+    )?;
     push_text(out, b"\n")
 }
 

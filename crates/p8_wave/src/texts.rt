@@ -175,11 +175,21 @@ fn push_value(out: &mut Vec<u8>, width: u8, mark: u8, value: u32) -> Result<(), 
 fn push_entry(out: &mut Vec<u8>, entry: &Entry, picture: &Picture) -> Result<(), NoMemory>
     ensures { OnOk result (out.new.items ≡ out.old.items ++ entry_text picture.now entry.now) }
 {
-    push_value(out, entry.variable.width(), entry.mark, picture.value(entry.variable))
+    push_value(
+        out,
+        entry.variable.width(),
+        entry.mark,
+        picture.value(entry.variable),
+    )
 }
 
 /// The value of an entry in the second picture, where it differs from that in the first.
-fn push_change(out: &mut Vec<u8>, entry: &Entry, old: &Picture, new: &Picture) -> Result<(), NoMemory>
+fn push_change(
+    out: &mut Vec<u8>,
+    entry: &Entry,
+    old: &Picture,
+    new: &Picture,
+) -> Result<(), NoMemory>
     ensures { OnOk result (out.new.items ≡ out.old.items ++ change_text old.now new.now entry.now) }
 {
     if old.differs(new, entry.variable) {
@@ -200,7 +210,12 @@ pub fn push_values(out: &mut Vec<u8>, entries: &[Entry], picture: &Picture) -> R
 }
 
 /// The values of the entries that differ in two pictures.
-pub fn push_changes(out: &mut Vec<u8>, entries: &[Entry], old: &Picture, new: &Picture) -> Result<(), NoMemory>
+pub fn push_changes(
+    out: &mut Vec<u8>,
+    entries: &[Entry],
+    old: &Picture,
+    new: &Picture,
+) -> Result<(), NoMemory>
     ensures { OnOk result (out.new.items ≡ out.old.items ++ flat_map (change_text old.now new.now) entries.now) }
 {
     for entry in entries {

@@ -58,7 +58,13 @@ fn write_sections(
 }
 
 /// Walks along a history, the oldest turn first.
-pub fn walk_along(alloc: Global, turns: &[Turn], script: &PinScript, end: u64, ticks: u64) -> Result<Walk, NoMemory>
+pub fn walk_along(
+    alloc: Global,
+    turns: &[Turn],
+    script: &PinScript,
+    end: u64,
+    ticks: u64,
+) -> Result<Walk, NoMemory>
     ensures { (w : World) (past : List Turn)
         → IsSet w past script.now ticks end
         → past ≡ reverse turns.now

@@ -63,7 +63,12 @@ fn text(alloc: Global, scale: &Scale, walk: &Walk, all: bool) -> Result<Vec<u8>,
 /// `script` is the pin script of the run. A variable stands in the text where it changes in the run, or
 /// always where `all` is true. The keys of the turns rise, as in each history of a run. The only error is
 /// want of memory.
-pub fn wave(alloc: Global, history: &History, script: &PinScript, all: bool) -> Result<Vec<u8>, NoMemory>
+pub fn wave(
+    alloc: Global,
+    history: &History,
+    script: &PinScript,
+    all: bool,
+) -> Result<Vec<u8>, NoMemory>
     ensures { (w : World)
         → w ≡ world_of history.now.boot script.now history.now.limits
         → Rises (reverse history.now.turns.list)

@@ -4,7 +4,7 @@ use Rattle.p8_wave.proofs.Taking.{left_step, taking_step}
 use Rattle.p8_wave.proofs.courses.take_turns.Goals as goal
 
 pub loop-left-init : goal.loop-left-init
-loop-left-init c = record { left = refl; signals = λ w past signals. record { done = past; signals = signals; rest = refl }; }
+loop-left-init c = record { left = refl; signals = λ w past signals. record { done = past; signals = signals; rest = refl } }
 
 pub loop-left-preserved : goal.loop-left-preserved
 loop-left-preserved c =

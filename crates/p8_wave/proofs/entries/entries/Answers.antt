@@ -1,4 +1,4 @@
-use Rattle.std.proofs.Common.{◌≡◌, ◌∙◌, ap, ℕ, List, map, ◌++◌}
+use Rattle.std.proofs.Common.{◌∙◌, ap, ℕ, List, map, ◌++◌}
 use Rattle.std.specs.List.{range_with_len, flat_map}
 use Rattle.p8_wave.specs.declared.entries.Entry.{Entry}
 use Rattle.p8_wave.specs.Variables.{cog_variables, lock_variables}

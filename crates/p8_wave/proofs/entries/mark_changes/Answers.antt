@@ -1,4 +1,4 @@
-use Rattle.std.proofs.Common.{◌∙◌, ap, Bool, ◌||◌, List, set}
+use Rattle.std.proofs.Common.{◌∙◌, ap, Bool, ◌||◌, set}
 use Rattle.p8_wave.specs.declared.entries.Entry.{Entry}
 use Rattle.p8_wave.specs.Following.{differs}
 use Rattle.p8_wave.specs.Sections.{marked}

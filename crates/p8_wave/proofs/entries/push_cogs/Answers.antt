@@ -1,4 +1,4 @@
-use Rattle.std.proofs.Common.{◌≡◌, ◌∙◌, ap, refl, rules, ℕ, List, map}
+use Rattle.std.proofs.Common.{rules, ℕ, map}
 use Rattle.p8_wave.specs.Variables.{cog_variables}
 use Rattle.p8_wave.specs.Sections.{still}
 use Rattle.p8_wave.proofs.Lists.{flat_map_step}

@@ -1,4 +1,4 @@
-use Rattle.std.proofs.Common.{◌≡◌, ◌∙◌, ap, refl, rules, ℕ, List, map}
+use Rattle.std.proofs.Common.{rules, ℕ}
 use Rattle.p8_wave.specs.declared.variables.Variable.TheVariants.{Pin}
 use Rattle.p8_wave.specs.Sections.{still}
 use Rattle.p8_wave.proofs.Lists.{map_step}

@@ -14,7 +14,7 @@ returns c = λ w past set is_past.
     let course : Course = record { signals = c.take_turns-left.new.signals; span = span } in
     let levels = subst (λ (script : List Line). (u : ℕ) → IsBefore u span.end → level_at script u ≡ span.levels) (sym set.lines) c.open-course.ensures.levels in
     let at = opened w past c.args.turns.now c.take_turns-left.result.now c.take_turns-left.new.signals c.open-course.result.signals span set.rises is_past c.take_turns-left.ensures.left (c.open-course.ensures.signals w) (c.take_turns-left.ensures.signals w) (before_end 0 _ c.open-course.ensures.later) levels in
-    let set' : IsSet w past c.args.script.now c.in_ok-sections.sections.ticks c.args.end = record { lines = set.lines; rises = set.rises; ends = set.ends; lasts = c.in_ok-sections.ensures.ticks ∙ set.lasts; } in
+    let set' : IsSet w past c.args.script.now c.in_ok-sections.sections.ticks c.args.end = record { lines = set.lines; rises = set.rises; ends = set.ends; lasts = c.in_ok-sections.ensures.ticks ∙ set.lasts } in
     record {
       text = c.in_ok-write_sections.ensures.text w past set' at c.in_ok-sections.ensures.entries ∙ ap (λ (xs : List ℕ). xs ++ changes_text w past) c.in_ok-sections.ensures.text;
       entries = c.in_ok-write_sections.ensures.entries w past set' at c.in_ok-sections.ensures.entries;

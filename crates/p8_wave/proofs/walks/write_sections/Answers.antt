@@ -1,4 +1,4 @@
-use Rattle.std.proofs.Common.{◌≡◌, ◌∙◌, ap, sym, subst, refl, ℕ, ◌*◌, ◌-◌, arith}
+use Rattle.std.proofs.Common.{◌≡◌, ◌∙◌, ap, subst, refl, ℕ, ◌*◌, ◌-◌, arith}
 use Rattle.std.proofs.lemmas.Result.{on_ok_weaker}
 use Rattle.p8_wave.specs.Scale.{frequency, period_of, ticks_in}
 use Rattle.p8_wave.specs.Walks.{IsAt, Shows}
@@ -12,8 +12,8 @@ loop-next-init c = record {
   within = c.next_clock-next.ensures.within;
   ticks = refl;
   done = λ w past set at unchanged.
-    begun w past 0 c.next_clock-next.result c.args.turns.now c.args.course.now c.picture-old.result set.rises at (omega (arith, c.next_clock-next.ensures.within, set.ends)) c.next_clock-next.ensures.quiet (omega arith) c.picture-old.ensures.signals (λ turns. c.picture-old.ensures.pins w turns)
-    refl (λ some. c.next_clock-next.ensures.later 0 (omega (arith, some, set.ends)) at.later at.line) c.args.sections.now.text.items c.args.sections.now.entries.items unchanged;
+      begun w past 0 c.next_clock-next.result c.args.turns.now c.args.course.now c.picture-old.result set.rises at (omega (arith, c.next_clock-next.ensures.within, set.ends)) c.next_clock-next.ensures.quiet (omega arith) c.picture-old.ensures.signals (λ turns. c.picture-old.ensures.pins w turns)
+      refl (λ some. c.next_clock-next.ensures.later 0 (omega (arith, some, set.ends)) at.later at.line) c.args.sections.now.text.items c.args.sections.now.entries.items unchanged;
 }
 
 pub loop-next-smaller : goal.loop-next-smaller
@@ -30,12 +30,12 @@ loop-next-preserved c =
       within = next.ensures.within;
       ticks = c.change.ensures.ticks ∙ c.loop-next.invariant.ticks;
       done = λ w past set at unchanged.
-        let before = c.loop-next.invariant.done w past set at unchanged in
-        let here = c.go-left.ensures.at w past (clock - 1) set.lines set.rises (omega arith) before.at in
-        let units = c.loop-next.invariant.ticks ∙ set.lasts in
-        stepped w past clock next.result c.go-left.result.now c.go-left.new.self c.picture-new.result set.rises here (omega (arith, next.ensures.within, set.ends)) next.ensures.quiet (omega (arith, later)) c.picture-new.ensures.signals (λ turns. c.picture-new.ensures.pins w turns)
-        c.loop-next.left.now c.loop-next.course c.loop-next.old c.loop-next.sections.entries.items c.change.new.self.entries.items c.args.sections.now.text.items c.loop-next.sections.text.items c.change.new.self.text.items (clock * c.loop-next.sections.ticks)
-        before (omega (arith, c.loop-next-test.true, set.ends)) later (ap (λ (n : ℕ). clock * n) units) c.change.ensures.entries c.in_ok-change.ensures.text;
+          let before = c.loop-next.invariant.done w past set at unchanged in
+          let here = c.go-left.ensures.at w past (clock - 1) set.lines set.rises (omega arith) before.at in
+          let units = c.loop-next.invariant.ticks ∙ set.lasts in
+          stepped w past clock next.result c.go-left.result.now c.go-left.new.self c.picture-new.result set.rises here (omega (arith, next.ensures.within, set.ends)) next.ensures.quiet (omega (arith, later)) c.picture-new.ensures.signals (λ turns. c.picture-new.ensures.pins w turns)
+          c.loop-next.left.now c.loop-next.course c.loop-next.old c.loop-next.sections.entries.items c.change.new.self.entries.items c.args.sections.now.text.items c.loop-next.sections.text.items c.change.new.self.text.items (clock * c.loop-next.sections.ticks)
+          before (omega (arith, c.loop-next-test.true, set.ends)) later (ap (λ (n : ℕ). clock * n) units) c.change.ensures.entries c.in_ok-change.ensures.text;
     }
 
 pub returns-clause-text : goal.returns-clause-text

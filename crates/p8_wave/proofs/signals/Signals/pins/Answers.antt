@@ -1,5 +1,3 @@
-use Rattle.std.proofs.Common.{◌∙◌, ap, refl}
-use Rattle.p8_history.specs.Pins.{pins_with}
 use Rattle.p8_wave.proofs.Pins.{told_pins}
 use Rattle.p8_wave.proofs.signals.Signals.pins.Goals as goal
 
