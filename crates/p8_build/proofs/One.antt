@@ -94,6 +94,7 @@ same_names source children k l xs ys m p h within e = λ i. record {
   constants = same_setting source children k l h i;
   label = λ name. or_zero (first_offset (e i) name);
   text = λ place. 0;
+  wide = all_wide;
   statement = p;
 }
 

@@ -10,7 +10,7 @@ use Rattle.p8_kinds.specs.declared.name_kinds.NameKind.TheVariants as kinds
 use Rattle.p8_bytecode.specs.Spelling.{spelled}
 use Rattle.p8_bytecode.specs.Table.{rows}
 use Rattle.p8_fold.specs.Meanings.{outside_operands}
-use Rattle.p8_gen.specs.Names.{Names}
+use Rattle.p8_gen.specs.Names.{Names, all_wide}
 use Rattle.p8_gen.specs.Pieces.{Piece, empty, ◌⨾◌, byte}
 use Rattle.p8_gen.specs.Statements.{body}
 
@@ -27,7 +27,7 @@ kinds_here name =
     else None
 
 names : Names
-names = record { kind = kinds_here; public = λ i m. None; constants = record { name = λ n. None; constant = λ o c. None; here = outside_operands None }; label = λ n. 0; text = λ q. 0; statement = p }
+names = record { kind = kinds_here; public = λ i m. None; constants = record { name = λ n. None; constant = λ o c. None; here = outside_operands None }; label = λ n. 0; text = λ q. 0; wide = all_wide; statement = p }
 
 bytes_of : Piece → List ℕ
 bytes_of piece = flat_map spelled (piece empty).ops

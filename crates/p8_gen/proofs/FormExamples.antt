@@ -13,7 +13,7 @@ use Rattle.p8_fold.specs.declared.meanings.Meaning.TheVariants as meaning
 use Rattle.p8_fold.specs.Meanings.{outside_operands}
 use Rattle.p8_bytecode.specs.Spelling.{spelled}
 use Rattle.p8_bytecode.specs.Table.{rows}
-use Rattle.p8_gen.specs.Names.{Names}
+use Rattle.p8_gen.specs.Names.{Names, all_wide}
 use Rattle.p8_gen.specs.Pieces.{empty}
 use Rattle.p8_gen.specs.Expressions.{alone}
 
@@ -40,6 +40,7 @@ names = record {
   constants = record { name = λ n. lookup (bytes_eq n) constants; constant = λ o n. None; here = outside_operands None };
   label = λ n. 8;
   text = λ q. 0;
+  wide = all_wide;
   statement = p;
 }
 

@@ -11,7 +11,7 @@ use Rattle.p8_bytecode.specs.Table.{rows, operands_of, is_effect, is_step, is_re
 use Rattle.p8_bytecode.specs.Reading.{bare, changes_register}
 use Rattle.p8_bytecode.specs.Spelling.{FitsOperands, IsOffset, IsPlace, IsStep, IsChange}
 use Rattle.p8_tree.specs.Proper as proper
-use Rattle.p8_gen.specs.Pieces.{Written, Piece, nothing, one, ◌⨾◌, up_to_end, byte, with_number, text, jump, jumping, end_of_jumping, offset, is_near}
+use Rattle.p8_gen.specs.Pieces.{Written, Piece, nothing, one, ◌⨾◌, up_to_end, up_to_jumps, byte, with_number, text, jump, end_of_jump, jumping, end_of_jumping, offset, is_near}
 use Rattle.p8_gen.specs.Variables.{number, Base, Pushed, OfObject, OfVariables, OfFrame, Home, home_at, Operation, Push, Pop, Using, Reference, action_of, effect_of, size_bits, base_bits, memory_op, short_bits, is_short, short_or_long, plain_op, register, operation_bits}
 use Rattle.p8_gen.specs.Operations.{IsWhole, AreWhole}
 use Rattle.p8_gen.proofs.ByteTables.{both_true, one_of, is_good, row_from, short_row_from, equal, registers, push_registers, pop_registers, change_registers}
@@ -27,6 +27,9 @@ both {a} {b} x y = record { keeps = λ w h. y.keeps (a w) (x.keeps w h) }
 
 pub ups : {p : ℕ → Piece} → ((to : ℕ) → Sound (p to)) → Sound (up_to_end p)
 ups {p} each = record { keeps = λ w h. (each (p 0 w).end).keeps w h }
+
+pub up-jumps : {p : ℕ → ℕ → Piece} → ((to before : ℕ) → Sound (p to before)) → Sound (up_to_jumps p)
+up-jumps {p} each = record { keeps = λ w h. (each (p 0 0 w).end (p 0 0 w).jumps).keeps w h }
 
 pub either : {a b : Piece} (t : Bool) → Sound a → Sound b → Sound (if t then a else b)
 either true x y = x
@@ -92,11 +95,8 @@ texts s pos =
 
 -- ---- jumps
 
-near_offset : (from to : ℕ) → is_near from to ≡ true → IsOffset true (offset from to)
-near_offset from to near =
-    let a : from ≤ to + 16384 = grind (arith, nat_tests) in
-    let b : to < from + 16384 = grind (arith, nat_tests) in
-    go (nat_lt (offset from to % 2 ^ 15) (2 ^ 14)) refl a b
+wide_offset : (from to : ℕ) → from ≤ to + 16384 → to < from + 16384 → IsOffset true (offset from to)
+wide_offset from to a b = go (nat_lt (offset from to % 2 ^ 15) (2 ^ 14)) refl a b
   where
     go : (t : Bool) → nat_lt (offset from to % 2 ^ 15) (2 ^ 14) ≡ t → from ≤ to + 16384 → to < from + 16384 → IsOffset true (offset from to)
     go true is a b =
@@ -107,6 +107,29 @@ near_offset from to near =
         let large : 2 ^ 14 ≤ offset from to % 2 ^ 15 = grind (arith, nat_tests) in
         let same : offset from to ≡ offset from to % 2 ^ 15 + (2 ^ 32 - 2 ^ 15) = omega (arith, large, a, b) in
         same ∙ sym (ap (λ t. if t then offset from to % 2 ^ 15 else offset from to % 2 ^ 15 + (2 ^ 32 - 2 ^ 15)) is)
+
+narrow_offset : (from to : ℕ) → from ≤ to + 64 → to < from + 64 → IsOffset false (offset from to)
+narrow_offset from to a b = go (nat_lt (offset from to % 2 ^ 7) (2 ^ 6)) refl a b
+  where
+    go : (t : Bool) → nat_lt (offset from to % 2 ^ 7) (2 ^ 6) ≡ t → from ≤ to + 64 → to < from + 64 → IsOffset false (offset from to)
+    go true is a b =
+        let small : offset from to % 2 ^ 7 < 2 ^ 6 = below (offset from to % 2 ^ 7) (2 ^ 6) is in
+        let same : offset from to ≡ offset from to % 2 ^ 7 = omega (arith, small, a, b) in
+        same ∙ sym (ap (λ t. if t then offset from to % 2 ^ 7 else offset from to % 2 ^ 7 + (2 ^ 32 - 2 ^ 7)) is)
+    go false is a b =
+        let large : 2 ^ 6 ≤ offset from to % 2 ^ 7 = grind (arith, nat_tests) in
+        let same : offset from to ≡ offset from to % 2 ^ 7 + (2 ^ 32 - 2 ^ 7) = omega (arith, large, a, b) in
+        same ∙ sym (ap (λ t. if t then offset from to % 2 ^ 7 else offset from to % 2 ^ 7 + (2 ^ 32 - 2 ^ 7)) is)
+
+pub near_offset : (wide : Bool) (from to : ℕ) → is_near wide from to ≡ true → IsOffset wide (offset from to)
+near_offset true from to near =
+    let a : from ≤ to + 16384 = grind (arith, nat_tests) in
+    let b : to < from + 16384 = grind (arith, nat_tests) in
+    wide_offset from to a b
+near_offset false from to near =
+    let a : from ≤ to + 64 = grind (arith, nat_tests) in
+    let b : to < from + 64 = grind (arith, nat_tests) in
+    narrow_offset from to a b
 
 left_nil : (xs ys : List Place) → xs ++ ys ≡ [] → xs ≡ []
 left_nil [] ys h = refl
@@ -120,12 +143,13 @@ told_near : (s : Place) (t : Bool) → (if t then [] else s ∷ []) ≡ [] → t
 told_near s true h = refl
 told_near s false h = absurd cc
 
-pub jumps : (s : Place) (c to : ℕ) → operands_of c ≡ Some Offset → Sound (jump s c to)
-jumps s c to row = record {
+pub jumps : (wide : ℕ → Bool) (s : Place) (c to : ℕ) → operands_of c ≡ Some Offset → Sound (jump wide s c to)
+jumps wide s c to row = record {
   keeps = λ w h. record {
     each = λ near.
+        let end = end_of_jump wide w in
         All-push IsWhole w.ops _ (h.each (left_nil w.too_far _ near))
-        (fits (record (bare c) { first = offset (w.end + 3) to; long_form = true }) row (λ range. (refl, near_offset (w.end + 3) to (told_near s _ (right_nil w.too_far _ near)))));
+        (fits (record (bare c) { first = offset end to; long_form = wide w.jumps }) row (λ range. (refl, near_offset (wide w.jumps) end to (told_near s _ (right_nil w.too_far _ near)))));
   };
 }
 
@@ -259,58 +283,58 @@ plain home o placed fit = plain_in home.base home refl o placed fit
 
 -- ---- a step of REPEAT, which jumps
 
-abbrev stepping : Op → (to : ℕ) → Op
-stepping op to = record op { second = to; long_form = true }
+abbrev stepping : (wide : Bool) → Op → (to : ℕ) → Op
+stepping wide op to = record op { second = to; long_form = wide }
 
 abbrev pub IsStepEffect : ℕ → Type 0
 IsStepEffect effect = IsTrue (is_effect effect && is_step effect)
 
-step_change : (c first effect to : ℕ) → IsStepEffect effect → IsOffset true to → IsChange true (stepping (record (bare c) { first = first; effect = effect }) to)
-step_change c first effect to step near =
+step_change : (wide : Bool) (c first effect to : ℕ) → IsStepEffect effect → IsOffset wide to → IsChange true (stepping wide (record (bare c) { first = first; effect = effect }) to)
+step_change wide c first effect to step near =
     let p = both_true (is_effect effect) (is_step effect) step in
-    (p.0, subst (λ b. IsStep b (stepping (record (bare c) { first = first; effect = effect }) to)) (sym p.1) near)
+    (p.0, subst (λ b. IsStep b (stepping wide (record (bare c) { first = first; effect = effect }) to)) (sym p.1) near)
 
-memory_steps : (size : ℕ) (base : Base) (offset effect to : ℕ) → IsPlaced base offset → IsStepEffect effect → IsOffset true to → IsWhole (stepping (memory_op false (home_at base offset size) (Using effect)) to)
+memory_steps : (wide : Bool) (size : ℕ) (base : Base) (offset effect to : ℕ) → IsPlaced base offset → IsStepEffect effect → IsOffset wide to → IsWhole (stepping wide (memory_op false (home_at base offset size) (Using effect)) to)
 unfolding code
-memory_steps size base offset effect to placed step near =
+memory_steps wide size base offset effect to placed step near =
     let is = code_is size false base (Using effect) in
-    let op = stepping (memory_op false (home_at base offset size) (Using effect)) to in
+    let op = stepping wide (memory_op false (home_at base offset size) (Using effect)) to in
     fits op (row_from (code size false base (Using effect)) is.0 is.1) (λ range. (
       refl,
       subst (λ b. IsPlace b (offset % 2 ^ 15)) (sym (ap (λ k. nat_lt 0 k) is.2)) (place_of base offset placed),
-      subst (λ b. IsChange b op) (sym (ap (λ k. k == 2) is.3)) (step_change (code size false base (Using effect)) (offset % 2 ^ 15) effect to step near),
+      subst (λ b. IsChange b op) (sym (ap (λ k. k == 2) is.3)) (step_change wide (code size false base (Using effect)) (offset % 2 ^ 15) effect to step near),
     ))
 
-short_steps : (bits offset effect to : ℕ) → IsTrue (bits == 0 || bits == 0x20) → offset < 32 → offset % 4 ≡ 0 → IsStepEffect effect → IsOffset true to → IsWhole (stepping (record (bare (0x40 + bits + offset + 2)) { effect = effect }) to)
-short_steps bits offset effect to which below_32 even step near =
+short_steps : (wide : Bool) (bits offset effect to : ℕ) → IsTrue (bits == 0 || bits == 0x20) → offset < 32 → offset % 4 ≡ 0 → IsStepEffect effect → IsOffset wide to → IsWhole (stepping wide (record (bare (0x40 + bits + offset + 2)) { effect = effect }) to)
+short_steps wide bits offset effect to which below_32 even step near =
     let c = short_code bits offset 2 which below_32 even (omega arith) in
-    let op = stepping (record (bare (0x40 + bits + offset + 2)) { effect = effect }) to in
+    let op = stepping wide (record (bare (0x40 + bits + offset + 2)) { effect = effect }) to in
     fits op (short_row_from (0x40 + bits + offset + 2) c.0 c.1) (λ range. (
       refl,
       refl,
-      subst (λ b. IsChange b op) (sym (ap (λ k. k == 2) c.2)) (step_change (0x40 + bits + offset + 2) 0 effect to step near),
+      subst (λ b. IsChange b op) (sym (ap (λ k. k == 2) c.2)) (step_change wide (0x40 + bits + offset + 2) 0 effect to step near),
     ))
 
-either_step : (a b : Op) (t : Bool) (to : ℕ) → (t ≡ true → IsWhole (stepping a to)) → IsWhole (stepping b to) → IsWhole (stepping (if t then a else b) to)
-either_step a b true to x y = x refl
-either_step a b false to x y = y
+either_step : (wide : Bool) (a b : Op) (t : Bool) (to : ℕ) → (t ≡ true → IsWhole (stepping wide a to)) → IsWhole (stepping wide b to) → IsWhole (stepping wide (if t then a else b) to)
+either_step wide a b true to x y = x refl
+either_step wide a b false to x y = y
 
-plain_steps : (base : Base) (home : Home) → home.base ≡ base → (effect to : ℕ) → IsPlaced home.base home.offset → IsStepEffect effect → IsOffset true to → IsWhole (stepping (short_or_long (short_bits base) home (Using effect)) to)
-plain_steps Pushed home is effect to placed step near = memory_steps home.size home.base home.offset effect to placed step near
-plain_steps OfObject home is effect to placed step near = memory_steps home.size home.base home.offset effect to placed step near
-plain_steps OfVariables home is effect to placed step near =
-    either_step (record (bare (0x40 + 0 + home.offset + 2)) { effect = effect }) (memory_op false home (Using effect)) (is_short home) to (λ s. let p = is_short_home home s in short_steps 0 home.offset effect to refl p.0 p.1 step near) (memory_steps home.size home.base home.offset effect to placed step near)
-plain_steps OfFrame home is effect to placed step near =
-    either_step (record (bare (0x40 + 0x20 + home.offset + 2)) { effect = effect }) (memory_op false home (Using effect)) (is_short home) to (λ s. let p = is_short_home home s in short_steps 0x20 home.offset effect to refl p.0 p.1 step near) (memory_steps home.size home.base home.offset effect to placed step near)
+plain_steps : (wide : Bool) (base : Base) (home : Home) → home.base ≡ base → (effect to : ℕ) → IsPlaced home.base home.offset → IsStepEffect effect → IsOffset wide to → IsWhole (stepping wide (short_or_long (short_bits base) home (Using effect)) to)
+plain_steps wide Pushed home is effect to placed step near = memory_steps wide home.size home.base home.offset effect to placed step near
+plain_steps wide OfObject home is effect to placed step near = memory_steps wide home.size home.base home.offset effect to placed step near
+plain_steps wide OfVariables home is effect to placed step near =
+    either_step wide (record (bare (0x40 + 0 + home.offset + 2)) { effect = effect }) (memory_op false home (Using effect)) (is_short home) to (λ s. let p = is_short_home home s in short_steps wide 0 home.offset effect to refl p.0 p.1 step near) (memory_steps wide home.size home.base home.offset effect to placed step near)
+plain_steps wide OfFrame home is effect to placed step near =
+    either_step wide (record (bare (0x40 + 0x20 + home.offset + 2)) { effect = effect }) (memory_op false home (Using effect)) (is_short home) to (λ s. let p = is_short_home home s in short_steps wide 0x20 home.offset effect to refl p.0 p.1 step near) (memory_steps wide home.size home.base home.offset effect to placed step near)
 
 -- the change of a variable without an index that jumps as well
-pub plain_jumping : (s : Place) (home : Home) (effect to : ℕ) → IsPlaced home.base home.offset → IsStepEffect effect → Sound (jumping s to (plain_op home (Using effect)))
-plain_jumping s home effect to placed step = record {
+pub plain_jumping : (f : ℕ → Bool) (s : Place) (home : Home) (effect to : ℕ) → IsPlaced home.base home.offset → IsStepEffect effect → Sound (jumping f s to (plain_op home (Using effect)))
+plain_jumping f s home effect to placed step = record {
   keeps = λ w h. record {
     each = λ near.
         All-push IsWhole w.ops _ (h.each (left_nil w.too_far _ near))
-        (plain_steps home.base home refl effect (offset (end_of_jumping (plain_op home (Using effect)) w) to) placed step
-        (near_offset (end_of_jumping (plain_op home (Using effect)) w) to (told_near s _ (right_nil w.too_far _ near))));
+        (plain_steps (f w.jumps) home.base home refl effect (offset (end_of_jumping f (plain_op home (Using effect)) w) to) placed step
+        (near_offset (f w.jumps) (end_of_jumping f (plain_op home (Using effect)) w) to (told_near s _ (right_nil w.too_far _ near))));
   };
 }
 

@@ -185,15 +185,15 @@ assigned_fit true None h = refl
 assigned_fit false None h = tt
 assigned_fit used (Some k) h = good_operator used k h
 
-look_jump : (s : Place) (down : Bool) (to : ℕ) → Sound (jump s (if down then 0x11 else 0x10) to)
+look_jump : (wide : ℕ → Bool) (s : Place) (down : Bool) (to : ℕ) → Sound (jump wide s (if down then 0x11 else 0x10) to)
 unfolding rows
-look_jump s true to = jumps s 0x11 to refl
-look_jump s false to = jumps s 0x10 to refl
+look_jump wide s true to = jumps wide s 0x11 to refl
+look_jump wide s false to = jumps wide s 0x10 to refl
 
-look_range_jump : (s : Place) (down : Bool) (to : ℕ) → Sound (jump s (if down then 0x13 else 0x12) to)
+look_range_jump : (wide : ℕ → Bool) (s : Place) (down : Bool) (to : ℕ) → Sound (jump wide s (if down then 0x13 else 0x12) to)
 unfolding rows
-look_range_jump s true to = jumps s 0x13 to refl
-look_range_jump s false to = jumps s 0x12 to refl
+look_range_jump wide s true to = jumps wide s 0x13 to refl
+look_range_jump wide s false to = jumps wide s 0x12 to refl
 
 end_of_look : Sound (byte 0x0F)
 unfolding rows
@@ -350,9 +350,9 @@ module _ (n : Names) (few : HaveBytes n) (env : Environment) (same : (name : Lis
     looks_sound : (down : Bool) (to : ℕ) (xs : Items) → AreProperItems false xs → ((f : Fault) → ¬ BrokenInItems (in_method env) xs f) → Sound (looks n down to xs)
     looks_sound down to no_items proper clean = nothings
     looks_sound down to (xs ▸ single e) proper clean =
-        both (both (looks_sound down to xs proper.0 (λ f x. clean f (inl x))) (value_sound e proper.1 (λ f x. clean f (inr x)))) (look_jump n.statement down to)
+        both (both (looks_sound down to xs proper.0 (λ f x. clean f (inl x))) (value_sound e proper.1 (λ f x. clean f (inr x)))) (look_jump n.wide n.statement down to)
     looks_sound down to (xs ▸ range a b) proper clean =
-        both (both (both (looks_sound down to xs proper.0 (λ f x. clean f (inl x))) (value_sound a proper.1.0 (λ f x. clean f (inr (inl x))))) (value_sound b proper.1.1 (λ f x. clean f (inr (inr x))))) (look_range_jump n.statement down to)
+        both (both (both (looks_sound down to xs proper.0 (λ f x. clean f (inl x))) (value_sound a proper.1.0 (λ f x. clean f (inr (inl x))))) (value_sound b proper.1.1 (λ f x. clean f (inr (inr x))))) (look_range_jump n.wide n.statement down to)
 
   change_fit : (size effect : ℕ) → IsTrue (is_change effect || is_operator_alone effect) → Fit (Using (effect_for size effect))
   change_fit size effect h = go (is_change effect) refl

@@ -18,6 +18,7 @@ use Rattle.p8_gen.specs.declared.writer.Writer.{Writer}
 use Rattle.p8_gen.specs.Pieces.{Written}
 use Rattle.p8_gen.specs.Files.{kind_here, named_offset, first_offset, names_in}
 use Rattle.p8_gen.specs.Labels.{offset_in}
+use Rattle.p8_gen.specs.Names.{all_wide}
 use Rattle.p8_gen.specs.Scopes.{names_from}
 use Rattle.p8_gen.specs.Uses.{use_of}
 use Rattle.p8_gen.specs.Writing.{Stands}
@@ -49,6 +50,7 @@ names_same found method t statement children labels p s l = λ i. record {
   constants = s i;
   label = λ name. ap or_zero (l name) i;
   text = λ place. 0;
+  wide = all_wide;
   statement = statement;
 }
 

@@ -42,11 +42,15 @@ module _ (n : Names) where
         item_behind (items_of (take i xs)) (item_of (get_or xs i d)) w
         ∙ sym (ap (λ es. looks n down end (items_of es) w) (take_more xs i d lt) ∙ ap (λ es. looks n down end es w) (items_of-push (take i xs) (get_or xs i d)))
 
-  -- where a LOOK function ends doesn't depend on what its items are told
+  -- where a LOOK function ends, and how many jumps it has, doesn't depend on what its items are told
   pub looked_end : (down : Bool) (xs : Items) (x y : ℕ) (w : Written) → (looked n down xs x w).end ≡ (looked n down xs y w).end
   looked_end down xs x y w =
       let alike = both (looks-alike n n.text n.statement down x y xs) (bytes 0x0F) in
-      omega (arith, alike.ends w w)
+      let same = alike.ends w w refl in
+      omega (arith, same)
+
+  pub looked_jumps : (down : Bool) (xs : Items) (x y : ℕ) (w : Written) → (looked n down xs x w).jumps ≡ (looked n down xs y w).jumps
+  looked_jumps down xs x y w = (both (looks-alike n n.text n.statement down x y xs) (bytes 0x0F)).counts w w refl
 
   -- a variable in memory, with or without an index
   pub memory_is : (size : ℕ) (b : Box expr.Expr Global) (i : Option (Box expr.Expr Global)) (q : Place) (o : Operation) (w : Written) → in_home n (pushed_home size) (boxed_index i) o (value n (tree_of b.value) w) ≡ operate n (variable_of (target_case.Memory size b i q)) o w

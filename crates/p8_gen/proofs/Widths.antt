@@ -1,5 +1,5 @@
--- How long a piece is doesn't depend on where it stands, where its jumps go, or where texts stand.
-use Rattle.std.proofs.Common.{◌≡◌, ℕ, subst, ◌+◌, ◌-◌, ◌^◌, ◌==◌, ◌&&◌, ◌||◌, nat_le, nat_lt, Bool, true, false, not, if◌then◌else◌, List, Option, Some, None, refl, arith, length}
+-- How long a piece is, and how many jumps it has, doesn't depend on where it stands, where its jumps go, or where texts stand.
+use Rattle.std.proofs.Common.{◌≡◌, ℕ, subst, ap, ◌+◌, ◌-◌, ◌^◌, ◌==◌, ◌&&◌, ◌||◌, nat_le, nat_lt, Bool, true, false, not, if◌then◌else◌, List, Option, Some, None, refl, arith, length}
 use Rattle.p8_tree.specs.declared.places.Place.{Place}
 use Rattle.p8_tree.specs.Expressions.{Tree, node, Form, Number, Str, Here, Var, Call, Unary, Binary, Assign, Change, Address, ObjectAddress, ObjConst, Built, Look, Variable, Named, Part, Memory, Register, Index, no_index, index, whole, bits, single, range, Trees, no_trees, ◌▷◌, Items, no_items, ◌▸◌}
 use Rattle.p8_tree.specs.Statements.{Forever, Count, Before, After, From, Statement, statement, Action, Do, If, Case, Repeat, Next, Quit, Return, Abort, arm, Otherwise, nothing_else, otherwise, Statements, no_statements, ◌▹◌, Arms, no_arms, ◌⊳◌}
@@ -11,20 +11,21 @@ use Rattle.p8_kinds.specs.declared.name_kinds.NameKind.TheVariants as kinds
 use Rattle.p8_operators.specs.Operators.{or_zero}
 use Rattle.p8_fold.specs.Values as constants
 use Rattle.p8_gen.specs.Names.{Names, moved}
-use Rattle.p8_gen.specs.Pieces.{Written, Piece, nothing, one, ◌⨾◌, from_start, up_to_end, byte, text, jump, jumping}
+use Rattle.p8_gen.specs.Pieces.{Written, Piece, nothing, one, ◌⨾◌, from_start, up_to_end, up_to_jumps, byte, text, jump, jumping, jump_size}
 use Rattle.p8_gen.specs.Variables.{number, Home, Operation, plain_op, home_of, Pop, assigned}
 use Rattle.p8_gen.specs.Expressions.{pasm, started, built_without, own_method, method_in, callee, name_alone, counts_from, looks_down, dropped, built_value, built, starts, starts_method, value, value_of_form, operate, in_home, values, index_value, call_of_built, arguments, looks, alone}
 use Rattle.p8_gen.specs.Statements.{Loop, SameLoop, inside, goes_on, leaves, with_value, test_of, tests, step_of, step_effect, plain_name, zero_jump, code, code_of, body, chain, other_body, all_tests, case_bodies}
 
--- two pieces are as long as each other, wherever each begins
+-- two pieces are as long as each other and have as many jumps, wherever each begins with the same number of jumps before it
 pub record Alike (a b : Piece) : Type 0 where
-  pub ends : (v w : Written) → (a v).end + w.end ≡ (b w).end + v.end
+  pub ends : (v w : Written) → v.jumps ≡ w.jumps → (a v).end + w.end ≡ (b w).end + v.end
+  pub counts : (v w : Written) → v.jumps ≡ w.jumps → (a v).jumps ≡ (b w).jumps
 
 pub nothings : Alike nothing nothing
-nothings = record { ends = λ v w. omega arith }
+nothings = record { ends = λ v w is. omega arith; counts = λ v w is. is }
 
 pub ones : (o p : Op) → length (spelled o) ≡ length (spelled p) → Alike (one o) (one p)
-ones o p same = record { ends = λ v w. omega (arith, same) }
+ones o p same = record { ends = λ v w is. omega (arith, same); counts = λ v w is. is }
 
 pub same-one : (o : Op) → Alike (one o) (one o)
 same-one o = ones o o refl
@@ -32,24 +33,42 @@ same-one o = ones o o refl
 pub bytes : (c : ℕ) → Alike (byte c) (byte c)
 bytes c = same-one _
 
-pub jumps : (s t : Place) (c x y : ℕ) → Alike (jump s c x) (jump t c y)
-jumps s t c x y = record { ends = λ v w. omega arith }
-
 -- a sum in another order
-rounds : (i j n : ℕ) → i + n + j ≡ j + n + i
-rounds i j n = omega arith
+rounds : (i j m n : ℕ) → m ≡ n → i + m + j ≡ j + n + i
+rounds i j m n is = omega (arith, is)
 
-pub steps : (s t : Place) (x y : ℕ) (o : Op) → Alike (jumping s x o) (jumping t y o)
-steps s t x y o = record { ends = λ v w. rounds v.end w.end _ }
+pub jumps : (wide : ℕ → Bool) (s t : Place) (c x y : ℕ) → Alike (jump wide s c x) (jump wide t c y)
+jumps wide s t c x y = record {
+  ends = λ v w is. rounds v.end w.end (jump_size (wide v.jumps)) (jump_size (wide w.jumps)) (ap (λ k. jump_size (wide k)) is);
+  counts = λ v w is. ap (λ k. k + 1) is;
+}
+
+pub steps : (wide : ℕ → Bool) (s t : Place) (x y : ℕ) (o : Op) → Alike (jumping wide s x o) (jumping wide t y o)
+steps wide s t x y o = record {
+  ends = λ v w is. rounds v.end w.end _ _ (ap (λ k. length (spelled (record o { long_form = wide k }))) is);
+  counts = λ v w is. ap (λ k. k + 1) is;
+}
 
 pub both : {a b c d : Piece} → Alike a c → Alike b d → Alike (a ⨾ b) (c ⨾ d)
-both {a} {b} {c} {d} x y = record { ends = λ v w. omega (arith, x.ends v w, y.ends (a v) (c w)) }
+both {a} {b} {c} {d} x y = record {
+  ends = λ v w is. let first = x.ends v w is in let second = y.ends (a v) (c w) (x.counts v w is) in omega (arith, first, second);
+  counts = λ v w is. y.counts (a v) (c w) (x.counts v w is);
+}
 
 pub ups : {p q : ℕ → Piece} → ((x y : ℕ) → Alike (p x) (q y)) → Alike (up_to_end p) (up_to_end q)
-ups {p} {q} same = record { ends = λ v w. (same (p 0 v).end (q 0 w).end).ends v w }
+ups {p} {q} same = record {
+  ends = λ v w is. (same (p 0 v).end (q 0 w).end).ends v w is;
+  counts = λ v w is. (same (p 0 v).end (q 0 w).end).counts v w is;
+}
+
+pub up-jumps : {p q : ℕ → ℕ → Piece} → ((x y i j : ℕ) → Alike (p x i) (q y j)) → Alike (up_to_jumps p) (up_to_jumps q)
+up-jumps {p} {q} same = record {
+  ends = λ v w is. (same (p 0 0 v).end (q 0 0 w).end (p 0 0 v).jumps (q 0 0 w).jumps).ends v w is;
+  counts = λ v w is. (same (p 0 0 v).end (q 0 0 w).end (p 0 0 v).jumps (q 0 0 w).jumps).counts v w is;
+}
 
 pub froms : {p q : ℕ → Piece} → ((x y : ℕ) → Alike (p x) (q y)) → Alike (from_start p) (from_start q)
-froms same = record { ends = λ v w. (same v.end w.end).ends v w }
+froms same = record { ends = λ v w is. (same v.end w.end).ends v w is; counts = λ v w is. (same v.end w.end).counts v w is }
 
 pub either : {a b c d : Piece} (t : Bool) → Alike a c → Alike b d → Alike (if t then a else b) (if t then c else d)
 either true x y = x
@@ -60,7 +79,7 @@ either false x y = y
 -- the offset of a text has two bytes
 text-alike : (s : Place) (p q : ℕ) → Alike (text s p) (text s q)
 unfolding rows
-text-alike s p q = record { ends = λ v w. omega arith }
+text-alike s p q = record { ends = λ v w is. omega arith; counts = λ v w is. is }
 
 number-alike : (v : ℕ) → Alike (number v) (number v)
 number-alike v =
@@ -182,8 +201,8 @@ module _ (n : Names) (t : Place → ℕ) (s : Place) where
 
     pub looks-alike : (down : Bool) (x y : ℕ) (xs : Items) → Alike (looks n down x xs) (looks (moved n t s) down y xs)
     looks-alike down x y no_items = nothings
-    looks-alike down x y (xs ▸ single e) = both (both (looks-alike down x y xs) (value-alike e)) (jumps _ _ _ x y)
-    looks-alike down x y (xs ▸ range a b) = both (both (both (looks-alike down x y xs) (value-alike a)) (value-alike b)) (jumps _ _ _ x y)
+    looks-alike down x y (xs ▸ single e) = both (both (looks-alike down x y xs) (value-alike e)) (jumps n.wide n.statement s _ x y)
+    looks-alike down x y (xs ▸ range a b) = both (both (both (looks-alike down x y xs) (value-alike a)) (value-alike b)) (jumps n.wide n.statement s _ x y)
 
   pub alone-alike : (e : Tree) → Alike (alone n e) (alone (moved n t s) e)
   alone-alike (node place (Var (Named name i q))) = both (bytes _) (own-alike (n.kind name))
@@ -211,8 +230,8 @@ module _ (n : Names) (t : Place → ℕ) (s : Place) where
 
   pub tests-alike : (x y : ℕ) (xs : Items) → Alike (tests n x xs) (tests (moved n t s) y xs)
   tests-alike x y no_items = nothings
-  tests-alike x y (xs ▸ single e) = both (both (tests-alike x y xs) (value-alike e)) (jumps _ _ _ x y)
-  tests-alike x y (xs ▸ range a b) = both (both (both (tests-alike x y xs) (value-alike a)) (value-alike b)) (jumps _ _ _ x y)
+  tests-alike x y (xs ▸ single e) = both (both (tests-alike x y xs) (value-alike e)) (jumps n.wide n.statement s _ x y)
+  tests-alike x y (xs ▸ range a b) = both (both (both (tests-alike x y xs) (value-alike a)) (value-alike b)) (jumps n.wide n.statement s _ x y)
 
   pub step-alike : (e : Option Tree) → Alike (step_of n e) (step_of (moved n t s) e)
   step-alike None = nothings
@@ -222,7 +241,7 @@ goes-on-alike : (n : Names) (t : Place → ℕ) (s : Place) (l k : Option Loop) 
 goes-on-alike n t s None None like = nothings
 goes-on-alike n t s None (Some k) like = absurd like
 goes-on-alike n t s (Some l) None like = absurd like
-goes-on-alike n t s (Some l) (Some k) like = jumps _ _ _ _ _
+goes-on-alike n t s (Some l) (Some k) like = jumps n.wide n.statement s 0x04 l.next k.next
 
 either-of : {a b c d : Piece} (t u : Bool) → t ≡ u → Alike a c → Alike b d → Alike (if t then a else b) (if u then c else d)
 either-of {a} {b} {c} {d} t u like x y = subst (λ (v : Bool). Alike (if t then a else b) (if v then c else d)) like (either t x y)
@@ -231,7 +250,7 @@ leaves-alike : (n : Names) (t : Place → ℕ) (s : Place) (l k : Option Loop) �
 leaves-alike n t s None None like = nothings
 leaves-alike n t s None (Some k) like = absurd like
 leaves-alike n t s (Some l) None like = absurd like
-leaves-alike n t s (Some l) (Some k) like = both (either-of l.counted k.counted like (bytes _) nothings) (jumps _ _ _ _ _)
+leaves-alike n t s (Some l) (Some k) like = both (either-of l.counted k.counted like (bytes _) nothings) (jumps n.wide n.statement s 0x04 l.quit k.quit)
 
 mutual
   pub code-alike : (n : Names) (t : Place → ℕ) (s : Place) (l k : Option Loop) → SameLoop l k → (x : Statement) → Alike (code n l x) (code (moved n t s) k x)
@@ -240,33 +259,33 @@ mutual
   pub action-alike : (n : Names) (t : Place → ℕ) (s : Place) (l k : Option Loop) → SameLoop l k → (x : Action) → Alike (code_of n l x) (code_of (moved n t s) k x)
   action-alike n t s l k like (Do e) = alone-alike n t s e
   action-alike n t s l k like (If arms nothing_else) =
-      ups (λ x y. chain-alike n t s l k like _ _ _ _ (jumps n.statement s 0x04 x y) nothings arms)
+      ups (λ x y. chain-alike n t s l k like _ _ _ _ (jumps n.wide n.statement s 0x04 x y) nothings arms)
   action-alike n t s l k like (If arms (otherwise ss)) =
-      ups (λ x y. both (chain-alike n t s l k like _ _ _ _ (jumps n.statement s 0x04 x y) (jumps n.statement s 0x04 x y) arms) (body-alike n t s l k like ss))
+      ups (λ x y. both (chain-alike n t s l k like _ _ _ _ (jumps n.wide n.statement s 0x04 x y) (jumps n.wide n.statement s 0x04 x y) arms) (body-alike n t s l k like ss))
   action-alike n t s l k like (Case e arms other) =
       ups (λ x y. both
-      (ups (λ i j.
-      both (both (both (both (value-alike n t s e) (all-tests-alike n t s l k like i j arms)) (bytes 0x0C)) (other-alike n t s l k like other))
-      (jumps n.statement s 0x04 x y)))
+      (up-jumps (λ i j a b.
+      both (both (both (both (value-alike n t s e) (all-tests-alike n t s l k like i j a b arms)) (bytes 0x0C)) (other-alike n t s l k like other))
+      (jumps n.wide n.statement s 0x04 x y)))
       (bodies-alike n t s l k like x y arms))
   action-alike n t s l k like (Repeat Forever ss) =
-      ups (λ x y. froms (λ i j. both (body-alike n t s (inside i x false) (inside j y false) refl ss) (jumps n.statement s 0x04 i j)))
+      ups (λ x y. froms (λ i j. both (body-alike n t s (inside i x false) (inside j y false) refl ss) (jumps n.wide n.statement s 0x04 i j)))
   action-alike n t s l k like (Repeat (Count e) ss) =
-      ups (λ x y. both (both (value-alike n t s e) (jumps n.statement s 0x08 x y))
-      (froms (λ i j. both (ups (λ v w. body-alike n t s (inside v x true) (inside w y true) refl ss)) (jumps n.statement s 0x09 i j))))
+      ups (λ x y. both (both (value-alike n t s e) (jumps n.wide n.statement s 0x08 x y))
+      (froms (λ i j. both (ups (λ v w. body-alike n t s (inside v x true) (inside w y true) refl ss)) (jumps n.wide n.statement s 0x09 i j))))
   action-alike n t s l k like (Repeat (Before until e) ss) =
       ups (λ x y. froms (λ i j.
-      both (both (both (value-alike n t s e) (jumps n.statement s (zero_jump until) x y))
-      (body-alike n t s (inside i x false) (inside j y false) refl ss)) (jumps n.statement s 0x04 i j)))
+      both (both (both (value-alike n t s e) (jumps n.wide n.statement s (zero_jump until) x y))
+      (body-alike n t s (inside i x false) (inside j y false) refl ss)) (jumps n.wide n.statement s 0x04 i j)))
   action-alike n t s l k like (Repeat (After until e) ss) =
       ups (λ x y. froms (λ i j.
       both (both (ups (λ v w. body-alike n t s (inside v x false) (inside w y false) refl ss)) (value-alike n t s e))
-      (jumps n.statement s (zero_jump (not until)) i j)))
+      (jumps n.wide n.statement s (zero_jump (not until)) i j)))
   action-alike n t s l k like (Repeat (From name a b step q) ss) =
       ups (λ x y. both (both (value-alike n t s a) (same-one (plain_op (home_of n name) Pop)))
       (froms (λ i j.
       both (both (both (both (ups (λ v w. body-alike n t s (inside v x false) (inside w y false) refl ss)) (step-alike n t s step)) (value-alike n t s a))
-      (value-alike n t s b)) (steps n.statement s i j (plain_name n name (step_effect step))))))
+      (value-alike n t s b)) (steps n.wide n.statement s i j (plain_name n name (step_effect step))))))
   action-alike n t s l k like Next = goes-on-alike n t s l k like
   action-alike n t s l k like Quit = leaves-alike n t s l k like
   action-alike n t s l k like (Return e) = with-value-alike n t s e 0x32 0x33
@@ -280,18 +299,18 @@ mutual
   chain-alike n t s l k like f g a b further last no_arms = nothings
   chain-alike n t s l k like f g a b further last (arms ⊳ arm items negated ss) =
       both (chain-alike n t s l k like f g f g further further arms)
-      (ups (λ x y. both (both (both (test-alike n t s items) (jumps n.statement s (zero_jump negated) x y)) (body-alike n t s l k like ss)) last))
+      (ups (λ x y. both (both (both (test-alike n t s items) (jumps n.wide n.statement s (zero_jump negated) x y)) (body-alike n t s l k like ss)) last))
 
   pub other-alike : (n : Names) (t : Place → ℕ) (s : Place) (l k : Option Loop) → SameLoop l k → (x : Otherwise) → Alike (other_body n l x) (other_body (moved n t s) k x)
   other-alike n t s l k like nothing_else = nothings
   other-alike n t s l k like (otherwise ss) = body-alike n t s l k like ss
 
-  pub all-tests-alike : (n : Names) (t : Place → ℕ) (s : Place) (l k : Option Loop) → SameLoop l k → (i j : ℕ) → (x : Arms) → Alike (all_tests n l i x) (all_tests (moved n t s) k j x)
-  all-tests-alike n t s l k like i j no_arms = nothings
-  all-tests-alike n t s l k like i j (arms ⊳ arm items negated ss) =
-      both (all-tests-alike n t s l k like i j arms) (tests-alike n t s _ _ items)
+  pub all-tests-alike : (n : Names) (t : Place → ℕ) (s : Place) (l k : Option Loop) → SameLoop l k → (i j a b : ℕ) → (x : Arms) → Alike (all_tests n l i a x) (all_tests (moved n t s) k j b x)
+  all-tests-alike n t s l k like i j a b no_arms = nothings
+  all-tests-alike n t s l k like i j a b (arms ⊳ arm items negated ss) =
+      both (all-tests-alike n t s l k like i j a b arms) (tests-alike n t s _ _ items)
 
   pub bodies-alike : (n : Names) (t : Place → ℕ) (s : Place) (l k : Option Loop) → SameLoop l k → (i j : ℕ) → (x : Arms) → Alike (case_bodies n l i x) (case_bodies (moved n t s) k j x)
   bodies-alike n t s l k like i j no_arms = nothings
   bodies-alike n t s l k like i j (arms ⊳ arm items negated ss) =
-      both (both (both (bodies-alike n t s l k like i j arms) (bytes _)) (body-alike n t s l k like ss)) (jumps _ _ _ i j)
+      both (both (both (bodies-alike n t s l k like i j arms) (bytes _)) (body-alike n t s l k like ss)) (jumps n.wide n.statement s _ i j)

@@ -218,9 +218,9 @@ abbrev mutual
   pub looks : Names → (down : Bool) → (end : ℕ) → Items → Piece
   looks names down end no_items = nothing
   looks names down end (xs ▸ single e) =
-      looks names down end xs ⨾ value names e ⨾ jump names.statement (if down then 0x11 else 0x10) end
+      looks names down end xs ⨾ value names e ⨾ jump names.wide names.statement (if down then 0x11 else 0x10) end
   looks names down end (xs ▸ range a b) =
-      looks names down end xs ⨾ value names a ⨾ value names b ⨾ jump names.statement (if down then 0x13 else 0x12) end
+      looks names down end xs ⨾ value names a ⨾ value names b ⨾ jump names.wide names.statement (if down then 0x13 else 0x12) end
 
 -- ---- expressions that stand alone as statements
 

@@ -13,7 +13,7 @@ use Rattle.p8_kinds.specs.declared.name_kinds.NameKind.TheVariants as kinds
 use Rattle.p8_kinds.specs.Kinds.{kind_of}
 use Rattle.p8_kinds.specs.Publics.{public_of}
 use Rattle.p8_kinds.specs.FileSettings.{file_setting}
-use Rattle.p8_gen.specs.Names.{Names}
+use Rattle.p8_gen.specs.Names.{Names, all_wide}
 
 -- ---- labels
 
@@ -39,5 +39,6 @@ names_in found children labels method statement = record {
   constants = file_setting found children;
   label = λ name. or_zero (first_offset labels name);
   text = λ place. 0;
+  wide = all_wide;
   statement = statement;
 }

@@ -9,9 +9,9 @@ use Rattle.p8_gen.specs.declared.coder.Coder.{Coder}
 use Rattle.p8_gen.specs.declared.coder.Tables.{Tables}
 use Rattle.p8_gen.specs.Files.{kind_here}
 use Rattle.p8_gen.specs.Labels.{offset_in}
-use Rattle.p8_gen.specs.Names.{Names}
+use Rattle.p8_gen.specs.Names.{Names, all_wide, wide_in, widened}
 
--- the names of the method with this number, in a statement; texts stand nowhere yet
+-- the names of the method with this number, in a statement, where all jumps are wide; texts stand nowhere yet
 abbrev pub names_from : Kinds → (method : ℕ) → Tables → (statement : Place) → Names
 names_from found method tables statement = record {
   kind = kind_here found method;
@@ -19,8 +19,10 @@ names_from found method tables statement = record {
   constants = setting_of tables.consts;
   label = λ name. or_zero (offset_in tables.labels name);
   text = λ place. 0;
+  wide = all_wide;
   statement = statement;
 }
 
+-- where the coder says which jumps are wide
 abbrev pub names_of : Coder → Names
-names_of c = names_from c.kinds.now c.number c.tables.now c.statement
+names_of c = widened (names_from c.kinds.now c.number c.tables.now c.statement) (wide_in c.widths.now)

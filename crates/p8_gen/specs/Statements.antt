@@ -6,7 +6,7 @@ use Rattle.p8_tree.specs.Expressions.{Tree, Items, no_items, ◌▸◌, single, 
 use Rattle.p8_tree.specs.Statements.{Forever, Count, Before, After, From, Statement, statement, Action, Do, If, Case, Repeat, Next, Quit, Return, Abort, arm, Otherwise, nothing_else, otherwise, Statements, no_statements, ◌▹◌, Arms, no_arms, ◌⊳◌}
 use Rattle.p8_bytecode.specs.declared.op.Op.{Op}
 use Rattle.p8_gen.specs.Names.{Names}
-use Rattle.p8_gen.specs.Pieces.{Piece, empty, nothing, one, ◌⨾◌, from_start, up_to_end, byte, jump, jumping}
+use Rattle.p8_gen.specs.Pieces.{Piece, from_place, nothing, one, ◌⨾◌, from_start, up_to_end, up_to_jumps, byte, jump, jumping}
 use Rattle.p8_gen.specs.Variables.{home_of, plain_op, Pop, Using}
 use Rattle.p8_gen.specs.Expressions.{value, alone}
 
@@ -29,12 +29,12 @@ inside next quit counted = Some (record { next = next; quit = quit; counted = co
 -- NEXT and QUIT stand in loops alone
 abbrev pub goes_on : Names → Option Loop → Piece
 goes_on names None = nothing
-goes_on names (Some loop) = jump names.statement 0x04 loop.next
+goes_on names (Some loop) = jump names.wide names.statement 0x04 loop.next
 
 -- a count is dropped
 abbrev pub leaves : Names → Option Loop → Piece
 leaves names None = nothing
-leaves names (Some loop) = (if loop.counted then byte 0x14 else nothing) ⨾ jump names.statement 0x04 loop.quit
+leaves names (Some loop) = (if loop.counted then byte 0x14 else nothing) ⨾ jump names.wide names.statement 0x04 loop.quit
 
 abbrev pub with_value : Names → Option Tree → (alone_code value_code : ℕ) → Piece
 with_value names None alone_code value_code = byte alone_code
@@ -52,8 +52,8 @@ zero_jump negated = if negated then 0x0B else 0x0A
 -- the tests of an arm of CASE, each with a jump to the arm
 abbrev pub tests : Names → (to : ℕ) → Items → Piece
 tests names to no_items = nothing
-tests names to (xs ▸ single e) = tests names to xs ⨾ value names e ⨾ jump names.statement 0x0D to
-tests names to (xs ▸ range a b) = tests names to xs ⨾ value names a ⨾ value names b ⨾ jump names.statement 0x0E to
+tests names to (xs ▸ single e) = tests names to xs ⨾ value names e ⨾ jump names.wide names.statement 0x0D to
+tests names to (xs ▸ range a b) = tests names to xs ⨾ value names a ⨾ value names b ⨾ jump names.wide names.statement 0x0E to
 
 -- the step of REPEAT FROM, 1 where none is given
 abbrev pub step_of : Names → Option Tree → Piece
@@ -73,35 +73,35 @@ abbrev mutual
 
   pub code_of : Names → Option Loop → Action → Piece
   code_of names loop (Do e) = alone names e
-  code_of names loop (If arms nothing_else) = up_to_end (λ end. chain names loop (jump names.statement 0x04 end) nothing arms)
+  code_of names loop (If arms nothing_else) = up_to_end (λ end. chain names loop (jump names.wide names.statement 0x04 end) nothing arms)
   code_of names loop (If arms (otherwise ss)) =
-      up_to_end (λ end. chain names loop (jump names.statement 0x04 end) (jump names.statement 0x04 end) arms ⨾ body names loop ss)
+      up_to_end (λ end. chain names loop (jump names.wide names.statement 0x04 end) (jump names.wide names.statement 0x04 end) arms ⨾ body names loop ss)
   code_of names loop (Case e arms other) =
       up_to_end (λ end.
-      up_to_end (λ first.
-      value names e ⨾ all_tests names loop first arms ⨾ byte 0x0C ⨾ other_body names loop other ⨾ jump names.statement 0x04 end)
+      up_to_jumps (λ first before.
+      value names e ⨾ all_tests names loop first before arms ⨾ byte 0x0C ⨾ other_body names loop other ⨾ jump names.wide names.statement 0x04 end)
       ⨾ case_bodies names loop end arms)
   code_of names loop (Repeat Forever ss) =
-      up_to_end (λ end. from_start (λ start. body names (inside start end false) ss ⨾ jump names.statement 0x04 start))
+      up_to_end (λ end. from_start (λ start. body names (inside start end false) ss ⨾ jump names.wide names.statement 0x04 start))
   code_of names loop (Repeat (Count e) ss) =
       up_to_end (λ end.
-      value names e ⨾ jump names.statement 0x08 end
-      ⨾ from_start (λ start. up_to_end (λ next. body names (inside next end true) ss) ⨾ jump names.statement 0x09 start))
+      value names e ⨾ jump names.wide names.statement 0x08 end
+      ⨾ from_start (λ start. up_to_end (λ next. body names (inside next end true) ss) ⨾ jump names.wide names.statement 0x09 start))
   code_of names loop (Repeat (Before until e) ss) =
       up_to_end (λ end. from_start (λ start.
-      value names e ⨾ jump names.statement (zero_jump until) end
-      ⨾ body names (inside start end false) ss ⨾ jump names.statement 0x04 start))
+      value names e ⨾ jump names.wide names.statement (zero_jump until) end
+      ⨾ body names (inside start end false) ss ⨾ jump names.wide names.statement 0x04 start))
   code_of names loop (Repeat (After until e) ss) =
       up_to_end (λ end. from_start (λ start.
       up_to_end (λ next. body names (inside next end false) ss)
-      ⨾ value names e ⨾ jump names.statement (zero_jump (not until)) start))
+      ⨾ value names e ⨾ jump names.wide names.statement (zero_jump (not until)) start))
   code_of names loop (Repeat (From name a b step q) ss) =
       up_to_end (λ end.
       value names a ⨾ one (plain_op (home_of names name) Pop)
       ⨾ from_start (λ start.
       up_to_end (λ next. body names (inside next end false) ss)
       ⨾ step_of names step ⨾ value names a ⨾ value names b
-      ⨾ jumping names.statement start (plain_name names name (step_effect step))))
+      ⨾ jumping names.wide names.statement start (plain_name names name (step_effect step))))
   code_of names loop Next = goes_on names loop
   code_of names loop Quit = leaves names loop
   code_of names loop (Return e) = with_value names e 0x32 0x33
@@ -119,7 +119,7 @@ abbrev mutual
   chain names loop further last no_arms = nothing
   chain names loop further last (arms ⊳ arm items negated ss) =
       chain names loop further further arms
-      ⨾ up_to_end (λ next. test_of names items ⨾ jump names.statement (zero_jump negated) next ⨾ body names loop ss ⨾ last)
+      ⨾ up_to_end (λ next. test_of names items ⨾ jump names.wide names.statement (zero_jump negated) next ⨾ body names loop ss ⨾ last)
 
   pub other_body : Names → Option Loop → Otherwise → Piece
   other_body names loop nothing_else = nothing
@@ -127,14 +127,14 @@ abbrev mutual
 
   -- ---- CASE
 
-  -- the tests of all arms, whose bodies stand one after the other from `first` on
-  pub all_tests : Names → Option Loop → (first : ℕ) → Arms → Piece
-  all_tests names loop first no_arms = nothing
-  all_tests names loop first (arms ⊳ arm items negated ss) =
-      all_tests names loop first arms ⨾ tests names (case_bodies names loop 0 arms (record empty { end = first })).end items
+  -- the tests of all arms, whose bodies stand one after the other from `first` on, with so many jumps of the method before them
+  pub all_tests : Names → Option Loop → (first before : ℕ) → Arms → Piece
+  all_tests names loop first before no_arms = nothing
+  all_tests names loop first before (arms ⊳ arm items negated ss) =
+      all_tests names loop first before arms ⨾ tests names (case_bodies names loop 0 arms (from_place first before)).end items
 
   -- each body first drops the value that was compared
   pub case_bodies : Names → Option Loop → (end : ℕ) → Arms → Piece
   case_bodies names loop end no_arms = nothing
   case_bodies names loop end (arms ⊳ arm items negated ss) =
-      case_bodies names loop end arms ⨾ byte 0x0C ⨾ body names loop ss ⨾ jump names.statement 0x04 end
+      case_bodies names loop end arms ⨾ byte 0x0C ⨾ body names loop ss ⨾ jump names.wide names.statement 0x04 end

@@ -52,6 +52,7 @@ pub fn expr_code(
         kinds: &named.kinds,
         number: u32::from(method),
         tables: &tables,
+        widths: &[],
         statement: expr.place,
     };
     let mut out = Writer::new(alloc);

@@ -53,6 +53,8 @@ pub struct Coder<'a> {
     /// The number of the method, whose own names come before those of the whole file.
     pub number: u32,
     pub tables: &'a Tables,
+    /// Which jumps of the method are wide, by their numbers; one past the end is.
+    pub widths: &'a [bool],
     /// The place of the statement, by which a jump is told that goes too far.
     pub statement: Place,
 }

@@ -262,7 +262,7 @@ impl Coder<'_> {
     {
         let mut counter = out.counter();
         self.looked(down, 0, items, &mut counter)?;
-        if out.counts(counter.end) {
+        if out.counts(counter.end, counter.jumps) {
             Ok(())
         } else {
             self.looked(down, counter.end, items, out)
@@ -293,10 +293,20 @@ impl Coder<'_> {
     {
         self.value(&item.low, out)?;
         match &item.high {
-            None => out.jump(self.statement, if down { 0x11 } else { 0x10 }, end),
+            None => out.jump(
+                self.widths,
+                self.statement,
+                if down { 0x11 } else { 0x10 },
+                end,
+            ),
             Some(high) => {
                 self.value(high, out)?;
-                out.jump(self.statement, if down { 0x13 } else { 0x12 }, end)
+                out.jump(
+                    self.widths,
+                    self.statement,
+                    if down { 0x13 } else { 0x12 },
+                    end,
+                )
             }
         }
     }

@@ -14,10 +14,10 @@ ghost use Rattle.p8_gen.specs.Operations.{HaveBytes, AreWhole};
 ghost use Rattle.p8_gen.specs.Statements.{Loop, SameLoop, body};
 
 /// Law: how long the code of an expression or of statements is doesn't depend on where it stands, where its jumps go, or
-/// where texts stand.
+/// where texts stand, as long as its jumps have the same numbers.
 pub fn places_change_no_length()
-    ensures expressions { (n : Names) → (texts : Place → ℕ) → (s : Place) → (e : Tree) → (v w : Written) → (value n e v).end + w.end ≡ (value (moved n texts s) e w).end + v.end }
-    ensures statements { (n : Names) → (texts : Place → ℕ) → (s : Place) → (l k : Option Loop) → SameLoop l k → (ss : Statements) → (v w : Written) → (body n l ss v).end + w.end ≡ (body (moved n texts s) k ss w).end + v.end }
+    ensures expressions { (n : Names) → (texts : Place → ℕ) → (s : Place) → (e : Tree) → (v w : Written) → v.jumps ≡ w.jumps → (value n e v).end + w.end ≡ (value (moved n texts s) e w).end + v.end }
+    ensures statements { (n : Names) → (texts : Place → ℕ) → (s : Place) → (l k : Option Loop) → SameLoop l k → (ss : Statements) → (v w : Written) → v.jumps ≡ w.jumps → (body n l ss v).end + w.end ≡ (body (moved n texts s) k ss w).end + v.end }
 {}
 
 /// Law: all bytecodes of a proper expression are ones that there are, as long as no jump goes too far. Its names fit their uses,

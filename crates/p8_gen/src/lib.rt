@@ -17,4 +17,4 @@ pub use expressions::{BuiltForm, form_of_built};
 pub use labels::Labels;
 pub use laws::{bytecodes_are_whole, places_change_no_length};
 pub use variables::{Base, Home, Operation};
-pub use writer::{Kept, Writer};
+pub use writer::{Kept, Way, Writer};

@@ -1,8 +1,10 @@
 // Writing code.
-ghost use Rattle.std.specs.Prelude.{◌≡◌, ℕ, OnOk, Some, None, false, true, [], ◌∷◌, ◌++◌, length, IfOk};
+ghost use Rattle.std.specs.Prelude.{◌≡◌, ◌≤◌, ◌+◌, ℕ, OnOk, Some, None, false, true, [], ◌∷◌, ◌++◌, length, IfOk};
 ghost use Rattle.std.specs.Bool.{OnTrue, OnFalse};
 ghost use Rattle.p8_bytecode.specs.Spelling.{spelled};
-ghost use Rattle.p8_gen.specs.Pieces.{Written, empty, one, byte, with_number, text, jump, jumping, offset, told, is_near};
+ghost use Rattle.p8_gen.specs.Names.{wide_in};
+ghost use Rattle.p8_gen.specs.Pieces.{Written, empty, from_place, one, byte, with_number, text, jump_by, jump, jumping, jump_size, offset, told, reach, is_near};
+ghost use Rattle.p8_gen.specs.Uses.{way_of};
 ghost use Rattle.p8_gen.specs.Writing.{Stands};
 
 use crate::code::StringUse;
@@ -11,19 +13,34 @@ use p8_bytecode::Op;
 use p8_tree::Place;
 use std::alloc::{AllocError, Global};
 
+/// The way of a jump, in bytes from the first byte of its method. Its offset is counted from one place to the other.
+#[derive(Clone, Copy, Debug, PartialEq, Eq)]
+pub struct Way {
+    /// The place after the jump.
+    pub from: u32,
+    /// The place that it jumps to.
+    pub to: u32,
+}
+
 /// What is written of a method's code.
 #[derive(Drop)]
 pub struct Kept {
     pub ops: Vec<Op>,
     pub strings: Vec<StringUse>,
-    /// The statements of which a jump goes too far.
+    /// The statements of which a jump goes too far for its width.
     pub too_far: Vec<Place>,
+    /// The ways of its jumps.
+    pub ways: Vec<Way>,
 }
 
-/// A writer of code: it counts the bytes, and keeps the code unless it only counts.
+/// A writer of code: it counts the bytes and the jumps, and keeps the code unless it only counts.
 #[derive(Drop)]
 pub struct Writer {
+    /// How many bytes are written.
     pub end: u32,
+    /// How many jumps are, which is the number of the next one.
+    pub jumps: u32,
+    /// What is written, where it is kept.
     pub kept: Option<Kept>,
 }
 
@@ -48,12 +65,38 @@ fn offset(from: u32, to: u32) -> u32
     to.wrapping_sub(from)
 }
 
-/// Whether an offset has 15 bits.
-fn is_near(from: u32, to: u32) -> bool
-    ensures { result ≡ is_near from to }
+/// How far an offset goes: it has 15 bits in the wide form, and 7 in the other.
+fn reach(wide: bool) -> u64
+    ensures value { result ≡ reach wide }
+    ensures bound { result ≤ 16384 }
+{
+    if wide { 16_384 } else { 64 }
+}
+
+/// Whether an offset has room in a jump of this width.
+fn is_near(wide: bool, from: u32, to: u32) -> bool
+    ensures { result ≡ is_near wide from to }
 {
     let (from, to) = (u64::from(from), u64::from(to));
-    from <= to + 16_384 && to < from + 16_384
+    let reach = reach(wide);
+    from <= to + reach && to < from + reach
+}
+
+/// Whether the jump of a number is wide. One past the end of the choice is.
+fn is_wide(widths: &[bool], number: u32) -> bool
+    ensures { result ≡ wide_in widths.now number }
+{
+    match widths.get(number as usize) {
+        Some(wide) => *wide,
+        None => true,
+    }
+}
+
+/// How many bytes a jump has.
+fn jump_size(wide: bool) -> u32
+    ensures { result ≡ jump_size wide }
+{
+    if wide { 3 } else { 2 }
 }
 
 impl Writer {
@@ -63,11 +106,24 @@ impl Writer {
     {
         Writer {
             end: 0,
+            jumps: 0,
             kept: Some(Kept {
                 ops: Vec::new(alloc),
                 strings: Vec::new(alloc),
                 too_far: Vec::new(alloc),
+                ways: Vec::new(alloc),
             }),
+        }
+    }
+
+    /// A writer that only counts, from a place with so many jumps before it.
+    pub fn counter_from(end: u32, jumps: u32) -> Writer
+        ensures { Stands result (from_place end jumps) }
+    {
+        Writer {
+            end,
+            jumps,
+            kept: None,
         }
     }
 
@@ -84,17 +140,19 @@ impl Writer {
     {
         Writer {
             end: self.end,
+            jumps: self.jumps,
             kept: None,
         }
     }
 
-    /// Ends at a place, where this writer only counts; says whether it does.
-    pub fn counts(&mut self, end: u32) -> bool
-        ensures counts { OnTrue result ((w : Written) → end ≡ w.end → Stands self.new w) }
+    /// Ends at a place with so many jumps before it, where this writer only counts; says whether it does.
+    pub fn counts(&mut self, end: u32, jumps: u32) -> bool
+        ensures counts { OnTrue result ((w : Written) → end ≡ w.end → jumps ≡ w.jumps → Stands self.new w) }
         ensures writes { OnFalse result (self.new ≡ self.old) }
     {
         if self.kept.is_none() {
             self.end = end;
+            self.jumps = jumps;
             true
         } else {
             false
@@ -115,13 +173,12 @@ impl Writer {
         }
     }
 
-    // Keeps a statement whose jump goes too far.
-    fn tell(&mut self, statement: Place, from: u32, to: u32) -> Result<(), AllocError>
-        ensures told { (w : Written) → Stands self.old w → OnOk result (Stands self.new (record w { too_far = w.too_far ++ told statement from to })) }
-        ensures end { self.new.end ≡ self.old.end }
+    // Keeps a statement whose jump goes too far for its width.
+    fn tell(&mut self, wide: bool, statement: Place, from: u32, to: u32) -> Result<(), AllocError>
+        ensures { (w : Written) → Stands self.old w → OnOk result (Stands self.new (record w { too_far = w.too_far ++ told wide statement from to })) }
     {
         match &mut self.kept {
-            Some(kept) if !is_near(from, to) => {
+            Some(kept) if !is_near(wide, from, to) => {
                 kept.too_far.push(statement)?;
                 Ok(())
             }
@@ -177,42 +234,76 @@ impl Writer {
         self.with_number(0x87, 0)
     }
 
-    /// Appends a statement's jump to a place.
-    pub fn jump(&mut self, statement: Place, code: u8, to: u32) -> Result<(), AllocError>
-        ensures { (w : Written) → Stands self.old w → OnOk result (Stands self.new (jump statement code to w)) }
+    // Keeps the way of one more jump.
+    fn go(&mut self, from: u32, to: u32) -> Result<(), AllocError>
+        ensures { (w : Written) → Stands self.old w → OnOk result (Stands self.new (record w { jumps = w.jumps + 1; ways = w.ways ++ (from, to) ∷ [] })) }
     {
-        let op = Op {
-            first: 0,
-            long_form: true,
-            ..bare(code)
-        };
-        let from = self.end.checked_add(3).ok_or(AllocError)?;
-        self.tell(statement, from, to)?;
-        self.put(
-            Op {
-                first: offset(from, to),
-                ..op
-            },
-            from,
-        )
+        self.jumps = self.jumps.checked_add(1).ok_or(AllocError)?;
+        match &mut self.kept {
+            None => Ok(()),
+            Some(kept) => {
+                kept.ways.push(Way { from, to })?;
+                Ok(())
+            }
+        }
     }
 
-    /// Appends a statement's change of a variable that jumps as well.
-    pub fn jumping(&mut self, statement: Place, to: u32, op: Op) -> Result<(), AllocError>
-        ensures { (w : Written) → Stands self.old w → OnOk result (Stands self.new (jumping statement to op w)) }
+    // Appends a bytecode that jumps to a place and ends at another one.
+    fn jump_by(
+        &mut self,
+        wide: bool,
+        statement: Place,
+        op: Op,
+        end: u32,
+        to: u32,
+    ) -> Result<(), AllocError>
+        ensures { (w : Written) → Stands self.old w → OnOk result (Stands self.new (jump_by wide statement op end to w)) }
     {
+        self.tell(wide, statement, end, to)?;
+        self.go(end, to)?;
+        self.put(op, end)
+    }
+
+    /// Appends a statement's jump to a place, as wide as it is chosen.
+    pub fn jump(
+        &mut self,
+        widths: &[bool],
+        statement: Place,
+        code: u8,
+        to: u32,
+    ) -> Result<(), AllocError>
+        ensures { (w : Written) → Stands self.old w → OnOk result (Stands self.new (jump (wide_in widths.now) statement code to w)) }
+    {
+        let wide = is_wide(widths, self.jumps);
+        let end = self.end.checked_add(jump_size(wide)).ok_or(AllocError)?;
         let op = Op {
-            long_form: true,
+            first: offset(end, to),
+            long_form: wide,
+            ..bare(code)
+        };
+        self.jump_by(wide, statement, op, end, to)
+    }
+
+    /// Appends a statement's change of a variable that jumps as well, as wide as it is chosen.
+    pub fn jumping(
+        &mut self,
+        widths: &[bool],
+        statement: Place,
+        to: u32,
+        op: Op,
+    ) -> Result<(), AllocError>
+        ensures { (w : Written) → Stands self.old w → OnOk result (Stands self.new (jumping (wide_in widths.now) statement to op w)) }
+    {
+        let wide = is_wide(widths, self.jumps);
+        let op = Op {
+            long_form: wide,
             ..op
         };
-        let from = self.end.checked_add(size_of(&op)).ok_or(AllocError)?;
-        self.tell(statement, from, to)?;
-        self.put(
-            Op {
-                second: offset(from, to),
-                ..op
-            },
-            from,
-        )
+        let end = self.end.checked_add(size_of(&op)).ok_or(AllocError)?;
+        let op = Op {
+            second: offset(end, to),
+            ..op
+        };
+        self.jump_by(wide, statement, op, end, to)
     }
 }

@@ -2,7 +2,11 @@
 use Rattle.std.proofs.Common.{◌≡◌, ◌⊎◌, inl, inr, ℕ, zero, suc, ◌+◌, ◌<◌, ◌≤◌, Bool, true, false, ◌&&◌, ◌||◌, nat_le, nat_lt, List, [], ◌∷◌, ◌++◌, length, replicate, slice_get, Option, Some, None, refl, ap, ◌∙◌, subst, arith, length-append}
 use Rattle.std.specs.List.{flat_map}
 use Rattle.std.proofs.lemmas.Bool.Decides.{nat_tests}
-use Rattle.std.proofs.lemmas.Option.{same_Some, none-some}
+use Rattle.std.proofs.lemmas.Option.{same_Some, none-some, slice_get_within}
+use Rattle.p8_placed.specs.Recoding.{HaveCodes, IsRecodedFile}
+use Rattle.p8_stmt.specs.Methods.{rebodied}
+use Rattle.p8_names.specs.Resolution.{IsNamed}
+use Rattle.p8_tree.specs.Statements.{Statements}
 use Rattle.p8_tree.specs.declared.places.Place.{Place}
 use Rattle.p8_tree.specs.Expressions.{Tree}
 use Rattle.p8_tree.specs.Sources.{Child, MethodTree, Source}
@@ -18,7 +22,7 @@ use Rattle.p8_names.specs.Kinds.{numbered, objects, instances}
 use Rattle.p8_names.specs.Faults.{of_name, instances as of_instances}
 use Rattle.p8_stmt.specs.declared.code.MethodCode.{MethodCode}
 use Rattle.p8_build.specs.Parts.{method_part, method_parts, number_of, instances_of}
-use Rattle.p8_build.specs.Files.{CompiledFile, setting_of, are_too_many, IsCode, IsCompiled, too_many}
+use Rattle.p8_build.specs.Files.{CompiledFile, setting_of, are_too_many, IsCode, too_many}
 use Rattle.p8_placed.proofs.Alike.{Alike, value-alike}
 use Rattle.p8_placed.proofs.NamedSettings.{named-alike}
 
@@ -101,7 +105,7 @@ none-too-many n ms true is few never =
     let m = element ms c.0 c.1 in
     absurd (never c.0 m.0 m.1 c.2 c.3)
 
-few-methods : (source : Source) (seen : Children) (x : CompiledFile) → IsCode source seen x → instances (setting_of seen x) (objects (items source)) ≤ 255
+pub few-methods : (source : Source) (seen : Children) (x : CompiledFile) → IsCode source seen x → instances (setting_of seen x) (objects (items source)) ≤ 255
     → are_too_many (instances (setting_of seen x) (objects (items source))) (length (numbered (items source))) ≡ false
 few-methods source seen x code few =
     let n = instances (setting_of seen x) (objects (items source)) in
@@ -109,13 +113,25 @@ few-methods source seen x code few =
     none-too-many n ms (are_too_many n (length ms)) refl few
     (λ k m is above below. code.clean (fault 27 m.place) (too_many k m is (record { too_many = above; first = below }) refl))
 
-pub few : (source : Source) (seen : Children) (top : Bool) (x : CompiledFile) → IsCompiled source seen top x → Few (length (numbered (items source))) (instances (setting_of seen x) (objects (items source)))
-few source seen top x compiled =
-    let s = compiled.names.setting in
+pub instances-few : (source : Source) (seen : Children) (top : Bool) (x : CompiledFile) → IsNamed source seen top x.kinds → instances (setting_of seen x) (objects (items source)) ≤ 255
+instances-few source seen top x named =
+    let s = named.setting in
     let t = setting_of seen x in
-    let all = few-instances s 0 (items source) (λ f b. compiled.names.clean f (of_name s compiled.names.right (of_instances b))) (omega arith) in
-    let same = instances-alike s t (named-alike source seen top x.kinds compiled.names) (objects (items source)) in
-    few-by (instances t (objects (items source))) (length (numbered (items source))) (few-methods source seen x compiled.code (omega (arith, all, same)))
+    let all = few-instances s 0 (items source) (λ f b. named.clean f (of_name s named.right (of_instances b))) (omega arith) in
+    let same = instances-alike s t (named-alike source seen top x.kinds named) (objects (items source)) in
+    omega (arith, all, same)
+
+pub few : {changed : Source} (source : Source) (seen : Children) (top : Bool) (x : CompiledFile) → IsRecodedFile source changed seen top x → Few (length (numbered (items source))) (instances (setting_of seen x) (objects (items source)))
+few source seen top x compiled = few-by (instances (setting_of seen x) (objects (items source))) (length (numbered (items source))) compiled.code.few
+
+-- a method with the body that its code is made of
+pub changed-method : (source changed : Source) (seen : Children) (x : CompiledFile) → HaveCodes source changed seen x → (k : ℕ) (m : MethodTree) → slice_get (numbered (items source)) k ≡ Some m
+    → (body : Statements) × (slice_get (numbered (items changed)) k ≡ Some (rebodied m body))
+changed-method source changed seen x is k m at =
+    let inside = slice_get_within (numbered (items source)) k m at in
+    let c = element x.codes k (omega (arith, inside, is.count)) in
+    let n = element (numbered (items changed)) k (omega (arith, inside, is.methods)) in
+    (n.0.body, n.1 ∙ ap Some (is.each k m n.0 c.0 at n.1 c.1).0)
 
 -- ---- the parts of an object
 

@@ -2,6 +2,7 @@
 use Rattle.std.proofs.Common.{◌≡◌, inr, ℕ, suc, ◌+◌, Bool, true, false, if◌then◌else◌, List, slice_get, Option, Some, None, refl, sym, ap, ◌∙◌, arith}
 use Rattle.std.specs.Prelude.{option_map, is_some}
 use Rattle.std.specs.Str.{bytes_eq}
+use Rattle.p8_names.specs.Resolution.{IsNamed}
 use Rattle.p8_tree.specs.Names.{result_word}
 use Rattle.p8_tree.specs.Sources.{MethodTree}
 use Rattle.p8_tree.specs.Projects.{NamedSource}
@@ -23,7 +24,7 @@ use Rattle.p8_kinds.specs.Misuses.{MisuseInStatements}
 use Rattle.p8_names.specs.Settings.{is_one_of}
 use Rattle.p8_names.specs.Kinds.{numbered, own_kind, kind_in_method, method_setting}
 use Rattle.p8_names.specs.Faults.{in_method, IsMethodFault, of_name, of_method}
-use Rattle.p8_build.specs.Files.{CompiledFile, setting_of, IsCompiled}
+use Rattle.p8_build.specs.Files.{CompiledFile, setting_of}
 use Rattle.p8_build.proofs.Methods.{in_methods}
 use Rattle.p8_templates.specs.Agreeing.{environment}
 use Rattle.p8_placed.specs.Agreements.{names_of}
@@ -45,9 +46,9 @@ hidden f other true h a b gone same = refl
 hidden f other false true a b gone same = other ∙ sym (gone refl)
 hidden f other false false a b gone same = same
 
-module _ (files : List NamedSource) (file : NamedSource) (seen : Children) (top : Bool) (x : CompiledFile) (compiled : IsCompiled file.tree seen top x) (proper : IsProperFile file.tree) (k : ℕ) (m : MethodTree) (at : slice_get (numbered (items file.tree)) k ≡ Some m) where
+module _ (files : List NamedSource) (file : NamedSource) (seen : Children) (top : Bool) (x : CompiledFile) (names_are : IsNamed file.tree seen top x.kinds) (proper : IsProperFile file.tree) (k : ℕ) (m : MethodTree) (at : slice_get (numbered (items file.tree)) k ≡ Some m) where
   abbrev s : Setting
-  s = compiled.names.setting
+  s = names_are.setting
 
   abbrev u : Setting
   u = method_setting s m
@@ -62,10 +63,10 @@ module _ (files : List NamedSource) (file : NamedSource) (seen : Children) (top 
   e = in_method s (items file.tree) seen m
 
   none-there : (n : List ℕ) → is_one_of (spelled (own_names m)) n ≡ true → t.name n ≡ None
-  none-there n is = ap (option_map meaning_of_kind) (kind-is file.tree seen top x.kinds compiled.names n ∙ own-apart file.tree seen top x.kinds compiled.names k m at n is)
+  none-there n is = ap (option_map meaning_of_kind) (kind-is file.tree seen top x.kinds names_are n ∙ own-apart file.tree seen top x.kinds names_are k m at n is)
 
   named : Alike s t
-  named = named-alike file.tree seen top x.kinds compiled.names
+  named = named-alike file.tree seen top x.kinds names_are
 
   given-same : (f : Meaning → Option ℕ) → f meaning_case.Other ≡ None → (n : List ℕ) → given f (meaning_of s n) ≡ given f (meaning_of t n) → given f (meaning_of u n) ≡ given f (meaning_of t n)
   given-same f other n same = hidden f other (bytes_eq n result_word) (is_one_of (spelled (own_names m)) n) (s.name n) (t.name n) (λ is. ap (given f) (none-there n is)) same
@@ -95,8 +96,8 @@ module _ (files : List NamedSource) (file : NamedSource) (seen : Children) (top 
   kinds-same n =
       let inner : kind_of x.kinds (k + 1) n ≡ kind_in_method s (items file.tree) m n =
       (let plus : k + 1 ≡ suc k = omega arith in ap (λ j. kind_of x.kinds j n) plus)
-      ∙ ap (λ a. or_else a (own x.kinds 0 n)) (own-so files file.tree seen top x compiled proper k m at n)
-      ∙ ap (or_else (own_kind s (Some m) n)) (kind-is file.tree seen top x.kinds compiled.names n) in
+      ∙ ap (λ a. or_else a (own x.kinds 0 n)) (own-so files file.tree seen top x names_are proper k m at n)
+      ∙ ap (or_else (own_kind s (Some m) n)) (kind-is file.tree seen top x.kinds names_are n) in
       sym (twice (bytes_eq n result_word) (Some (kind.Local 0)) (kind_in_method s (items file.tree) m n) (kind_of x.kinds (k + 1) n) (sym inner))
 
   unless-result : (r : Bool) (w a : Option NameKind) (q : NameKind) (P : Type 0) → (if r then w else if r then w else a) ≡ Some q → ((r ≡ true) → w ≡ Some q → P) → (r ≡ false → a ≡ Some q → P) → P
@@ -109,8 +110,8 @@ module _ (files : List NamedSource) (file : NamedSource) (seen : Children) (top 
       (λ r never. absurd (cc))
       (λ r found.
       let plus : suc k ≡ k + 1 = omega arith in
-      let whole = object-of-file file.tree seen top x.kinds compiled.names (suc k) o item position count (number-so files file.tree seen top x compiled proper k m at o ∙ ap (λ j. kind_of x.kinds j o) plus ∙ found) in
-      ap is_some (sym (behind-same file.tree seen top x.kinds compiled.names o n (ap (λ b. if b then Some meaning_case.Other else t.name o) r ∙ ap (option_map meaning_of_kind) whole))))
+      let whole = object-of-file file.tree seen top x.kinds names_are (suc k) o item position count (number-so files file.tree seen top x names_are proper k m at o ∙ ap (λ j. kind_of x.kinds j o) plus ∙ found) in
+      ap is_some (sym (behind-same file.tree seen top x.kinds names_are o n (ap (λ b. if b then Some meaning_case.Other else t.name o) r ∙ ap (option_map meaning_of_kind) whole))))
 
   say-same : SaySame d e
   say-same = record { kinds = kinds-same; publics = λ item n. refl; values = hiding-alike; constants = object-same }
@@ -119,4 +120,4 @@ module _ (files : List NamedSource) (file : NamedSource) (seen : Children) (top 
   pub no-misuse : (f : Fault) → MisuseInStatements d m.body f → ⊥
   no-misuse f b =
       let h = in-statements d e say-same m.body f b in
-      compiled.names.clean h.0 (of_name s compiled.names.right (of_method (in_methods (IsMethodFault s (items file.tree) seen) (numbered (items file.tree)) k m h.0 at (inr h.1))))
+      names_are.clean h.0 (of_name s names_are.right (of_method (in_methods (IsMethodFault s (items file.tree) seen) (numbered (items file.tree)) k m h.0 at (inr h.1))))

@@ -12,11 +12,11 @@ use Rattle.p8_definitions.specs.Items.{Item, constant, variable, object, line, i
 use Rattle.p8_kinds.specs.declared.children.Children.{Children}
 use Rattle.p8_names.specs.Kinds as names
 use Rattle.p8_names.specs.Kinds.{public_in, private_in, publics, privates}
-use Rattle.p8_meaning.specs.Programs.{File, public_method, private_method, methods_of}
+use Rattle.p8_meaning.specs.Programs.{File, Program, public_method, private_method, methods_of}
 use Rattle.p8_meaning.specs.Calls.{method_of}
 use Rattle.p8_build.specs.Files.{CompiledFile, object_of}
 use Rattle.p8_build.specs.Builds.{objects_from}
-use Rattle.p8_placed.specs.Programs.{file_of, program_from, program_of}
+use Rattle.p8_placed.specs.Programs.{file_of, program_from, program_of, with_sources, own_sources}
 
 -- ---- files
 
@@ -50,13 +50,36 @@ object-at all (f ∷ files) (c ∷ cs) (y ∷ xs) zero file seen x h =
 object-at all (f ∷ files) (c ∷ cs) (y ∷ xs) (suc i) file seen x h =
     object-at all files cs xs i file seen x (record { stands = h.stands; beside = h.beside; compiled = h.compiled })
 
--- what stands at a place of a program is what a file is compiled to
-pub record IsFileOf (files : List NamedSource) (children : List Children) (xs : List CompiledFile) (i : ℕ) (f : File) : Type 0 where
+-- the same files with other sources
+pub changed-at : (changed : ℕ → Source) (p : Program) (i : ℕ) (f : File) → slice_get p i ≡ Some f → slice_get (with_sources changed p) i ≡ Some (record f { source = changed i })
+changed-at changed [] i f is = absurd (none-some f is)
+changed-at changed (g ∷ p) zero f is = ap (λ (h : File). Some (record h { source = changed zero })) (same_Some g f is)
+changed-at changed (g ∷ p) (suc i) f is = changed-at (λ j. changed (suc j)) p i f is
+
+unchanged-at : (changed : ℕ → Source) (p : Program) (i : ℕ) (f : File) → slice_get (with_sources changed p) i ≡ Some f → (g : File) × (slice_get p i ≡ Some g) × (f ≡ record g { source = changed i })
+unchanged-at changed [] i f is = absurd (none-some f is)
+unchanged-at changed (g ∷ p) zero f is = (g, refl, sym (same_Some (record g { source = changed zero }) f is))
+unchanged-at changed (g ∷ p) (suc i) f is = unchanged-at (λ j. changed (suc j)) p i f is
+
+-- a program with its own sources
+pub own-program : (all files : List NamedSource) (cs : List Children) (xs : List CompiledFile) → with_sources (own_sources files) (program_from all files cs xs) ≡ program_from all files cs xs
+own-program all [] cs xs = refl
+own-program all (f ∷ files) [] xs = refl
+own-program all (f ∷ files) (c ∷ cs) [] = refl
+own-program all (f ∷ files) (c ∷ cs) (x ∷ xs) = ap (λ p. file_of all f.tree c x ∷ p) (own-program all files cs xs)
+
+pub own-source : (files : List NamedSource) (i : ℕ) (file : NamedSource) → slice_get files i ≡ Some file → own_sources files i ≡ file.tree
+own-source [] i file is = absurd (none-some file is)
+own-source (f ∷ files) zero file is = ap (λ (g : NamedSource). g.tree) (same_Some f file is)
+own-source (f ∷ files) (suc i) file is = own-source files i file is
+
+-- what stands at a place of a program is what a file is compiled to, with its changed source
+pub record IsFileOf (changed : ℕ → Source) (files : List NamedSource) (children : List Children) (xs : List CompiledFile) (i : ℕ) (f : File) : Type 0 where
   pub file : NamedSource
   pub seen : Children
   pub x : CompiledFile
   pub there : IsThere files children xs i file seen x
-  pub is : f ≡ file_of files file.tree seen x
+  pub is : f ≡ record (file_of files file.tree seen x) { source = changed i }
 
 found-from : (all files : List NamedSource) (cs : List Children) (xs : List CompiledFile) (i : ℕ) (f : File) → slice_get (program_from all files cs xs) i ≡ Some f
     → (file : NamedSource) × (seen : Children) × (x : CompiledFile) × IsThere files cs xs i file seen x × (f ≡ file_of all file.tree seen x)
@@ -68,10 +91,11 @@ found-from all (g ∷ files) (c ∷ cs) (y ∷ xs) (suc i) f is =
     let h = found-from all files cs xs i f is in
     (h.0, h.1, h.2, record { stands = h.3.stands; beside = h.3.beside; compiled = h.3.compiled }, h.4)
 
-pub file-of : (files : List NamedSource) (children : List Children) (xs : List CompiledFile) (i : ℕ) (f : File) → slice_get (program_of files children xs) i ≡ Some f → IsFileOf files children xs i f
-file-of files children xs i f is =
-    let h = found-from files files children xs i f is in
-    record { file = h.0; seen = h.1; x = h.2; there = h.3; is = h.4 }
+pub file-of : (changed : ℕ → Source) (files : List NamedSource) (children : List Children) (xs : List CompiledFile) (i : ℕ) (f : File) → slice_get (with_sources changed (program_of files children xs)) i ≡ Some f → IsFileOf changed files children xs i f
+file-of changed files children xs i f is =
+    let g = unchanged-at changed (program_of files children xs) i f is in
+    let h = found-from files files children xs i g.0 g.1 in
+    record { file = h.0; seen = h.1; x = h.2; there = h.3; is = g.2 ∙ ap (λ (z : File). record z { source = changed i }) h.4 }
 
 -- ---- methods
 

@@ -4,10 +4,12 @@ use Rattle.std.specs.Prelude.{option_map}
 use Rattle.std.specs.Str.{bytes_eq}
 use Rattle.std.proofs.lemmas.Bool.{cases_lt}
 use Rattle.std.proofs.lemmas.Option.{slice_get_within}
+use Rattle.p8_tree.specs.Statements.{Statements}
+use Rattle.p8_gen.specs.Names.{widened}
+use Rattle.p8_placed.specs.Recoding.{IsRecoded, HaveCodes}
 use Rattle.p8_tree.specs.Expressions.{Tree}
 use Rattle.p8_tree.specs.Sources.{Declared, MethodTree, Source}
 use Rattle.p8_tree.specs.Projects.{NamedSource}
-use Rattle.p8_faults.specs.declared.faults.Fault.{Fault}
 use Rattle.p8_faults.specs.Faults.{fault}
 use Rattle.p8_bytecode.specs.Reading.{bare}
 use Rattle.p8_bytecode.specs.Spelling.{spelled}
@@ -29,8 +31,8 @@ use Rattle.p8_templates.proofs.Lengths.{method-measured}
 use Rattle.p8_meaning.specs.Programs as meaning
 use Rattle.p8_meaning.specs.Programs.{File, longs_of, locals_size, object_constant}
 use Rattle.p8_stmt.specs.declared.code.MethodCode.{MethodCode}
-use Rattle.p8_stmt.specs.Methods.{count_in, longs_in, IsCodeOf, IsMethodFault, frame_too_large}
-use Rattle.p8_build.specs.Files.{CompiledFile, setting_of, method_names, IsCode, of_method}
+use Rattle.p8_stmt.specs.Methods.{count_in, longs_in, rebodied, frame_too_large}
+use Rattle.p8_build.specs.Files.{CompiledFile, setting_of, method_names}
 use Rattle.p8_placed.specs.Programs.{kind_by, file_of}
 use Rattle.p8_placed.proofs.Definitions.{with-constant}
 use Rattle.p8_placed.proofs.OwnKinds.{number-is}
@@ -85,35 +87,39 @@ unfolding rows
 one-byte = refl
 
 -- a method, its code, and that its frame is small
-pub record IsCoded (files : List NamedSource) (source : Source) (seen : Children) (x : CompiledFile) (k : ℕ) (m : MethodTree) : Type 0 where
+pub record IsCoded (files : List NamedSource) (source changed : Source) (seen : Children) (x : CompiledFile) (k : ℕ) (m : MethodTree) : Type 0 where
   pub code : MethodCode
   pub stands : slice_get x.codes k ≡ Some code
-  pub right : IsCodeOf (method_names seen x k m) m code
-  pub clean : (f : Fault) → IsMethodFault (method_names seen x k m) m f → ⊥
+  -- the body that its code is made of
+  pub body : Statements
+  pub tree_is : slice_get (numbered (items changed)) k ≡ Some (rebodied m body)
+  pub recoded : IsRecoded (method_names seen x k m) m body code
   pub locals : code.locals ≡ locals_size (meaning.setting_of (file_of files source seen x) 0) m.locals
   pub multiple : code.locals % 4 ≡ 0
   pub small : 4 * length m.params + code.locals ≤ 8192
   pub some : 0 < length code.bytes
 
-pub coded : (files : List NamedSource) (source : Source) (seen : Children) (x : CompiledFile) (k : ℕ) (m : MethodTree) → IsCode source seen x → slice_get (numbered (items source)) k ≡ Some m → IsCoded files source seen x k m
-coded files source seen x k m is at =
+pub coded : (files : List NamedSource) (source changed : Source) (seen : Children) (x : CompiledFile) (k : ℕ) (m : MethodTree) → HaveCodes source changed seen x → slice_get (numbered (items source)) k ≡ Some m → IsCoded files source changed seen x k m
+coded files source changed seen x k m is at =
     let inside = slice_get_within (numbered (items source)) k m at in
     let c = element x.codes k (omega (arith, inside, is.count)) in
-    let right = is.each k m c.0 at c.1 in
-    let clean : (f : Fault) → IsMethodFault (method_names seen x k m) m f → ⊥ = λ f b. is.clean f (of_method k m at b) in
+    let n = element (numbered (items changed)) k (omega (arith, inside, is.methods)) in
+    let e = is.each k m n.0 c.0 at n.1 c.1 in
+    let right = e.1.code in
     let bound : 1 + length m.params + longs_in (setting_of seen x) m.locals ≤ 2048 = elim (cases_lt 2048 (1 + length m.params + longs_in (setting_of seen x) m.locals)) [
-      | inl large ↦ absurd (clean (fault 26 m.place) (frame_too_large large refl))
+      | inl large ↦ absurd (e.1.fits (fault 26 m.place) (frame_too_large large refl))
       | inr small ↦ small
     ] in
     let size = size-is (setting_of seen x) m.locals in
-    let ends = method-measured (method_names seen x k m) m.body in
+    let ends = method-measured (widened (method_names seen x k m) e.1.wide) n.0.body in
     let last : length (spelled (bare 0x32)) ≡ 1 = one-byte in
     let long = ap length right.bytes in
     record {
       code = c.0;
       stands = c.1;
-      right = right;
-      clean = clean;
+      body = n.0.body;
+      tree_is = n.1 ∙ ap Some e.0;
+      recoded = e.1;
       locals = right.locals ∙ sym size ∙ ap (λ s. locals_size s m.locals) (setting-outside files source seen x);
       multiple = omega (arith, right.locals);
       small = omega (arith, right.locals, bound);

@@ -5,7 +5,7 @@ use Rattle.std.specs.List.{flat_map}
 use Rattle.std.specs.Str.{bytes_eq}
 use Rattle.std.proofs.lemmas.Slice.Eq.{bytes_eq-Decides}
 use Rattle.std.proofs.lemmas.Option.{same_Some, none-some, slice_get_within, slice_get-map, get_or_from_slice_get}
-use Rattle.p8_tree.specs.Sources.{Child}
+use Rattle.p8_tree.specs.Sources.{Child, Source}
 use Rattle.p8_tree.specs.Projects.{NamedSource}
 use Rattle.p8_fold.specs.Meanings.{Setting}
 use Rattle.p8_definitions.specs.Items.{items}
@@ -19,9 +19,10 @@ use Rattle.p8_names.specs.Kinds.{numbered, objects, instances, kind_among}
 use Rattle.p8_image.specs.declared.parts.ObjectPart.{ObjectPart}
 use Rattle.p8_meaning.specs.Programs.{Program, Addresses}
 use Rattle.p8_build.specs.Parts.{number_of, instances_of, strings_of}
-use Rattle.p8_build.specs.Files.{CompiledFile, setting_of, IsCompiled, object_of}
-use Rattle.p8_build.specs.Builds.{AreCompiled, objects_of}
-use Rattle.p8_placed.specs.Programs.{file_of, program_of, addresses_of}
+use Rattle.p8_build.specs.Files.{CompiledFile, setting_of, object_of}
+use Rattle.p8_build.specs.Builds.{objects_of}
+use Rattle.p8_placed.specs.Programs.{file_of, program_of, with_sources, addresses_of}
+use Rattle.p8_placed.specs.Recoding.{AreRecoded, IsRecodedFile}
 use Rattle.p8_placed.proofs.NamedSettings.{named-alike, kind-is, among-object}
 use Rattle.p8_placed.proofs.Files.{IsThere}
 use Rattle.p8_placed.proofs.Counting.{count-alike, instances-alike, few, parts-length, instances-length, instance-at}
@@ -56,7 +57,9 @@ instances-split s (x ∷ first) rest y = let more = instances-split s first rest
 
 -- what is known of a project
 pub record IsProject (files : List NamedSource) (children : List Children) (xs : List CompiledFile) : Type 0 where
-  pub compiled : AreCompiled files children xs
+  -- the sources whose methods' codes its files have
+  pub changed : ℕ → Source
+  pub compiled : AreRecoded files changed children xs
   pub mentioned : HaveMentioned files
   pub seen : length children ≡ length files
   pub children_are : AreChildren files children
@@ -75,12 +78,12 @@ module _ (files : List NamedSource) (children : List Children) (xs : List Compil
   all = objects_of files children xs
 
   abbrev program : Program
-  program = program_of files children xs
+  program = with_sources project.changed (program_of files children xs)
 
   abbrev addresses : Addresses
   addresses = addresses_of files xs all
 
-  pub compiled-at : (i : ℕ) (file : NamedSource) (seen : Children) (x : CompiledFile) → IsThere files children xs i file seen x → IsCompiled file.tree seen (i == 0) x
+  pub compiled-at : (i : ℕ) (file : NamedSource) (seen : Children) (x : CompiledFile) → IsThere files children xs i file seen x → IsRecodedFile file.tree (project.changed i) seen (i == 0) x
   compiled-at i file seen x h = project.compiled.each i file seen x (record { stands = h.stands; beside = h.beside }) h.compiled
 
   -- how many methods and instances its object has

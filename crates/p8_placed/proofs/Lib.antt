@@ -33,3 +33,4 @@ mod RoomsGlobals
 mod Agreeing
 mod Whole
 mod Labelled
+mod Own

@@ -12,7 +12,7 @@ use Rattle.p8_kinds.specs.declared.name_kinds.NameKind.TheVariants as kinds
 use Rattle.p8_operators.specs.Operators.{or_zero}
 use Rattle.p8_fold.specs.Values as constants
 use Rattle.p8_gen.specs.Names.{Names, moved}
-use Rattle.p8_gen.specs.Pieces.{Written, Piece, empty, nothing, one, ◌⨾◌, from_start, up_to_end, byte, text, told, jump, jumping}
+use Rattle.p8_gen.specs.Pieces.{Written, Piece, empty, from_place, nothing, one, ◌⨾◌, from_start, up_to_end, up_to_jumps, byte, text, told, jump, end_of_jump, jumping, end_of_jumping}
 use Rattle.p8_gen.specs.Variables.{number, Home, Operation, plain_op, home_of, Pop, assigned}
 use Rattle.p8_gen.specs.Expressions.{pasm, started, built_without, own_method, method_in, callee, name_alone, counts_from, looks_down, dropped, built_value, built, starts, starts_method, value, value_of_form, operate, in_home, values, index_value, call_of_built, arguments, looks, alone}
 use Rattle.p8_gen.specs.Statements.{Loop, inside, goes_on, leaves, with_value, test_of, tests, step_of, step_effect, plain_name, zero_jump, code, code_of, body, chain, other_body, all_tests, case_bodies}
@@ -33,6 +33,7 @@ pub data Twin (t : Place → ℕ) : List Op → List (ℕ × Place) → List Op 
 -- code with 0 for the offset of each text, and the same code with the offsets
 pub record Twins (t : Place → ℕ) (v w : Written) : Type 0 where
   pub ends : v.end ≡ w.end
+  pub jumps : v.jumps ≡ w.jumps
   pub ops : Twin t v.ops v.texts w.ops
   pub far : v.too_far ≡ w.too_far
 
@@ -45,36 +46,51 @@ module _ {t : Place → ℕ} where
   nothings = record { by = λ v w h. h }
 
   same-one : (o : Op) → Joined t (one o) (one o)
-  same-one o = record { by = λ v w h. record { ends = omega (arith, h.ends); ops = same o h.ops; far = h.far } }
+  same-one o = record { by = λ v w h. record { ends = omega (arith, h.ends); jumps = h.jumps; ops = same o h.ops; far = h.far } }
 
   bytes : (c : ℕ) → Joined t (byte c) (byte c)
   bytes c = same-one _
 
-  jumped : (s : Place) (c x i j : ℕ) (v w : Written) → i ≡ j → i ≡ v.end → j ≡ w.end → Twins t v w → Twins t (jump s c x (record v { end = i })) (jump s c x (record w { end = j }))
-  jumped s c x i j v w is iv jw h =
-      subst (λ k. Twins t (jump s c x (record v { end = i })) (jump s c x (record w { end = k }))) is
-      (record { ends = refl; ops = same _ h.ops; far = ap (λ fs. fs ++ told s (i + 3) x) h.far })
+  jumped : (wide : ℕ → Bool) (s : Place) (c x i a : ℕ) (v w : Written) → v.end ≡ i → v.jumps ≡ a → Twin t v.ops v.texts w.ops → v.too_far ≡ w.too_far →
+      Twins t (jump wide s c x v) (jump wide s c x (record w { end = i; jumps = a }))
+  jumped wide s c x i a v w end at ops far =
+      let before : Written = jump wide s c x v in
+      subst (λ k. Twins t before (jump wide s c x (record w { end = k; jumps = a }))) end
+      (subst (λ k. Twins t before (jump wide s c x (record w { end = v.end; jumps = k }))) at
+      (record { ends = refl; jumps = refl; ops = same _ ops; far = ap (λ fs. fs ++ told (wide v.jumps) s (end_of_jump wide v) x) far }))
 
-  jumps : (s : Place) (c x : ℕ) → Joined t (jump s c x) (jump s c x)
-  jumps s c x = record { by = λ v w h. jumped s c x v.end w.end v w h.ends refl refl h }
+  jumps : (wide : ℕ → Bool) (s : Place) (c x : ℕ) → Joined t (jump wide s c x) (jump wide s c x)
+  jumps wide s c x = record { by = λ v w h. jumped wide s c x w.end w.jumps v w h.ends h.jumps h.ops h.far }
 
-  stepped : (s : Place) (x i j : ℕ) (o : Op) (v w : Written) → i ≡ j → Twins t v w → Twins t (jumping s x o (record v { end = i })) (jumping s x o (record w { end = j }))
-  stepped s x i j o v w is h =
-      subst (λ k. Twins t (jumping s x o (record v { end = i })) (jumping s x o (record w { end = k }))) is
-      (record { ends = refl; ops = same _ h.ops; far = ap (λ fs. fs ++ told s (i + length (spelled (record o { long_form = true }))) x) h.far })
+  stepped : (wide : ℕ → Bool) (s : Place) (x i a : ℕ) (o : Op) (v w : Written) → v.end ≡ i → v.jumps ≡ a → Twin t v.ops v.texts w.ops → v.too_far ≡ w.too_far →
+      Twins t (jumping wide s x o v) (jumping wide s x o (record w { end = i; jumps = a }))
+  stepped wide s x i a o v w end at ops far =
+      let before : Written = jumping wide s x o v in
+      subst (λ k. Twins t before (jumping wide s x o (record w { end = k; jumps = a }))) end
+      (subst (λ k. Twins t before (jumping wide s x o (record w { end = v.end; jumps = k }))) at
+      (record { ends = refl; jumps = refl; ops = same _ ops; far = ap (λ fs. fs ++ told (wide v.jumps) s (end_of_jumping wide o v) x) far }))
 
-  steps : (s : Place) (x : ℕ) (o : Op) → Joined t (jumping s x o) (jumping s x o)
-  steps s x o = record { by = λ v w h. stepped s x v.end w.end o v w h.ends h }
+  steps : (wide : ℕ → Bool) (s : Place) (x : ℕ) (o : Op) → Joined t (jumping wide s x o) (jumping wide s x o)
+  steps wide s x o = record { by = λ v w h. stepped wide s x w.end w.jumps o v w h.ends h.jumps h.ops h.far }
 
   texts : (p : Place) → Joined t (text p (0 % 2 ^ 15)) (text p (t p % 2 ^ 15))
   unfolding rows
-  texts p = record { by = λ v w h. record { ends = omega (arith, h.ends); ops = named p h.ops; far = h.far } }
+  texts p = record { by = λ v w h. record { ends = omega (arith, h.ends); jumps = h.jumps; ops = named p h.ops; far = h.far } }
 
   both : {a b c d : Piece} → Joined t a c → Joined t b d → Joined t (a ⨾ b) (c ⨾ d)
   both {a} {b} {c} {d} x y = record { by = λ v w h. y.by (a v) (c w) (x.by v w h) }
 
   ups : {p q : ℕ → Piece} → ((x : ℕ) → Joined t (p x) (q x)) → Joined t (up_to_end p) (up_to_end q)
   ups {p} {q} alike = record { by = λ v w h. subst (λ k. Twins t (p (p 0 v).end v) (q k w)) ((alike 0).by v w h).ends ((alike (p 0 v).end).by v w h) }
+
+  up-jumps : {p q : ℕ → ℕ → Piece} → ((x i : ℕ) → Joined t (p x i) (q x i)) → Joined t (up_to_jumps p) (up_to_jumps q)
+  up-jumps {p} {q} alike = record {
+    by = λ v w h.
+        let c = (alike 0 0).by v w h in
+        let end : ℕ = (p 0 0 v).end in
+        let before : ℕ = (p 0 0 v).jumps in
+        subst (λ k. Twins t (p end before v) (q k (q 0 0 w).jumps w)) c.ends (subst (λ k. Twins t (p end before v) (q end k w)) c.jumps ((alike end before).by v w h));
+  }
 
   froms : {p q : ℕ → Piece} → ((x : ℕ) → Joined t (p x) (q x)) → Joined t (from_start p) (from_start q)
   froms {p} {q} alike = record { by = λ v w h. subst (λ k. Twins t (p v.end v) (q k w)) h.ends ((alike v.end).by v w h) }
@@ -205,8 +221,8 @@ module _ {t : Place → ℕ} where
 
       pub looks-joined : (down : Bool) (x : ℕ) (xs : Items) → Joined t (looks (moved n zeros s) down x xs) (looks (moved n t s) down x xs)
       looks-joined down x no_items = nothings
-      looks-joined down x (xs ▸ single e) = both (both (looks-joined down x xs) (value-joined e)) (jumps _ _ x)
-      looks-joined down x (xs ▸ range a b) = both (both (both (looks-joined down x xs) (value-joined a)) (value-joined b)) (jumps _ _ x)
+      looks-joined down x (xs ▸ single e) = both (both (looks-joined down x xs) (value-joined e)) (jumps n.wide s _ x)
+      looks-joined down x (xs ▸ range a b) = both (both (both (looks-joined down x xs) (value-joined a)) (value-joined b)) (jumps n.wide s _ x)
 
     pub alone-joined : (e : Tree) → Joined t (alone (moved n zeros s) e) (alone (moved n t s) e)
     alone-joined (node place (Var (Named name i q))) = both (bytes _) (own-joined (n.kind name))
@@ -234,8 +250,8 @@ module _ {t : Place → ℕ} where
 
     pub tests-joined : (x : ℕ) (xs : Items) → Joined t (tests (moved n zeros s) x xs) (tests (moved n t s) x xs)
     tests-joined x no_items = nothings
-    tests-joined x (xs ▸ single e) = both (both (tests-joined x xs) (value-joined e)) (jumps _ _ x)
-    tests-joined x (xs ▸ range a b) = both (both (both (tests-joined x xs) (value-joined a)) (value-joined b)) (jumps _ _ x)
+    tests-joined x (xs ▸ single e) = both (both (tests-joined x xs) (value-joined e)) (jumps n.wide s _ x)
+    tests-joined x (xs ▸ range a b) = both (both (both (tests-joined x xs) (value-joined a)) (value-joined b)) (jumps n.wide s _ x)
 
     pub step-joined : (e : Option Tree) → Joined t (step_of (moved n zeros s) e) (step_of (moved n t s) e)
     step-joined None = nothings
@@ -243,11 +259,11 @@ module _ {t : Place → ℕ} where
 
   goes-on-joined : (n : Names) (s : Place) (l : Option Loop) → Joined t (goes_on (moved n zeros s) l) (goes_on (moved n t s) l)
   goes-on-joined n s None = nothings
-  goes-on-joined n s (Some l) = jumps _ _ _
+  goes-on-joined n s (Some l) = jumps n.wide s 0x04 l.next
 
   leaves-joined : (n : Names) (s : Place) (l : Option Loop) → Joined t (leaves (moved n zeros s) l) (leaves (moved n t s) l)
   leaves-joined n s None = nothings
-  leaves-joined n s (Some l) = both (either l.counted (bytes _) nothings) (jumps _ _ _)
+  leaves-joined n s (Some l) = both (either l.counted (bytes _) nothings) (jumps n.wide s 0x04 l.quit)
 
   mutual
     pub code-joined : (n : Names) (s : Place) (l : Option Loop) → (x : Statement) → Joined t (code (moved n zeros s) l x) (code (moved n t s) l x)
@@ -256,33 +272,33 @@ module _ {t : Place → ℕ} where
     pub action-joined : (n : Names) (s : Place) (l : Option Loop) → (x : Action) → Joined t (code_of (moved n zeros s) l x) (code_of (moved n t s) l x)
     action-joined n s l (Do e) = alone-joined n s e
     action-joined n s l (If arms nothing_else) =
-        ups (λ x. chain-joined n s l _ _ _ _ (jumps s 0x04 x) nothings arms)
+        ups (λ x. chain-joined n s l _ _ _ _ (jumps n.wide s 0x04 x) nothings arms)
     action-joined n s l (If arms (otherwise ss)) =
-        ups (λ x. both (chain-joined n s l _ _ _ _ (jumps s 0x04 x) (jumps s 0x04 x) arms) (body-joined n s l ss))
+        ups (λ x. both (chain-joined n s l _ _ _ _ (jumps n.wide s 0x04 x) (jumps n.wide s 0x04 x) arms) (body-joined n s l ss))
     action-joined n s l (Case e arms other) =
         ups (λ x. both
-        (ups (λ i.
-        both (both (both (both (value-joined n s e) (all-tests-joined n s l i arms)) (bytes 0x0C)) (other-joined n s l other))
-        (jumps s 0x04 x)))
+        (up-jumps (λ i before.
+        both (both (both (both (value-joined n s e) (all-tests-joined n s l i before arms)) (bytes 0x0C)) (other-joined n s l other))
+        (jumps n.wide s 0x04 x)))
         (bodies-joined n s l x arms))
     action-joined n s l (Repeat Forever ss) =
-        ups (λ x. froms (λ i. both (body-joined n s (inside i x false) ss) (jumps s 0x04 i)))
+        ups (λ x. froms (λ i. both (body-joined n s (inside i x false) ss) (jumps n.wide s 0x04 i)))
     action-joined n s l (Repeat (Count e) ss) =
-        ups (λ x. both (both (value-joined n s e) (jumps s 0x08 x))
-        (froms (λ i. both (ups (λ v. body-joined n s (inside v x true) ss)) (jumps s 0x09 i))))
+        ups (λ x. both (both (value-joined n s e) (jumps n.wide s 0x08 x))
+        (froms (λ i. both (ups (λ v. body-joined n s (inside v x true) ss)) (jumps n.wide s 0x09 i))))
     action-joined n s l (Repeat (Before until e) ss) =
         ups (λ x. froms (λ i.
-        both (both (both (value-joined n s e) (jumps s (zero_jump until) x))
-        (body-joined n s (inside i x false) ss)) (jumps s 0x04 i)))
+        both (both (both (value-joined n s e) (jumps n.wide s (zero_jump until) x))
+        (body-joined n s (inside i x false) ss)) (jumps n.wide s 0x04 i)))
     action-joined n s l (Repeat (After until e) ss) =
         ups (λ x. froms (λ i.
         both (both (ups (λ v. body-joined n s (inside v x false) ss)) (value-joined n s e))
-        (jumps s (zero_jump (not until)) i)))
+        (jumps n.wide s (zero_jump (not until)) i)))
     action-joined n s l (Repeat (From name a b step q) ss) =
         ups (λ x. both (both (value-joined n s a) (same-one (plain_op (home_of n name) Pop)))
         (froms (λ i.
         both (both (both (both (ups (λ v. body-joined n s (inside v x false) ss)) (step-joined n s step)) (value-joined n s a))
-        (value-joined n s b)) (steps s i (plain_name n name (step_effect step))))))
+        (value-joined n s b)) (steps n.wide s i (plain_name n name (step_effect step))))))
     action-joined n s l Next = goes-on-joined n s l
     action-joined n s l Quit = leaves-joined n s l
     action-joined n s l (Return e) = with-value-joined n s e 0x32 0x33
@@ -296,25 +312,25 @@ module _ {t : Place → ℕ} where
     chain-joined n s l f g a b further last no_arms = nothings
     chain-joined n s l f g a b further last (arms ⊳ arm items negated ss) =
         both (chain-joined n s l f g f g further further arms)
-        (ups (λ x. both (both (both (test-joined n s items) (jumps s (zero_jump negated) x)) (body-joined n s l ss)) last))
+        (ups (λ x. both (both (both (test-joined n s items) (jumps n.wide s (zero_jump negated) x)) (body-joined n s l ss)) last))
 
     pub other-joined : (n : Names) (s : Place) (l : Option Loop) → (x : Otherwise) → Joined t (other_body (moved n zeros s) l x) (other_body (moved n t s) l x)
     other-joined n s l nothing_else = nothings
     other-joined n s l (otherwise ss) = body-joined n s l ss
 
-    pub all-tests-joined : (n : Names) (s : Place) (l : Option Loop) → (i : ℕ) → (x : Arms) → Joined t (all_tests (moved n zeros s) l i x) (all_tests (moved n t s) l i x)
-    all-tests-joined n s l i no_arms = nothings
-    all-tests-joined n s l i (arms ⊳ arm items negated ss) =
-        both (all-tests-joined n s l i arms)
-        (subst (λ k. Joined t (tests (moved n zeros s) (case_bodies (moved n zeros s) l 0 arms (record empty { end = i })).end items) (tests (moved n t s) k items))
-        ((bodies-joined n s l 0 arms).by (record empty { end = i }) (record empty { end = i }) (record { ends = refl; ops = none; far = refl })).ends
-        (tests-joined n s (case_bodies (moved n zeros s) l 0 arms (record empty { end = i })).end items))
+    pub all-tests-joined : (n : Names) (s : Place) (l : Option Loop) → (i before : ℕ) → (x : Arms) → Joined t (all_tests (moved n zeros s) l i before x) (all_tests (moved n t s) l i before x)
+    all-tests-joined n s l i before no_arms = nothings
+    all-tests-joined n s l i before (arms ⊳ arm items negated ss) =
+        both (all-tests-joined n s l i before arms)
+        (subst (λ k. Joined t (tests (moved n zeros s) (case_bodies (moved n zeros s) l 0 arms (from_place i before)).end items) (tests (moved n t s) k items))
+        ((bodies-joined n s l 0 arms).by (from_place i before) (from_place i before) (record { ends = refl; jumps = refl; ops = none; far = refl })).ends
+        (tests-joined n s (case_bodies (moved n zeros s) l 0 arms (from_place i before)).end items))
 
     pub bodies-joined : (n : Names) (s : Place) (l : Option Loop) → (i : ℕ) → (x : Arms) → Joined t (case_bodies (moved n zeros s) l i x) (case_bodies (moved n t s) l i x)
     bodies-joined n s l i no_arms = nothings
     bodies-joined n s l i (arms ⊳ arm items negated ss) =
-        both (both (both (bodies-joined n s l i arms) (bytes _)) (body-joined n s l ss)) (jumps _ _ i)
+        both (both (both (bodies-joined n s l i arms) (bytes _)) (body-joined n s l ss)) (jumps n.wide s _ i)
 
 -- the code of a method's body
 pub twins : (t : Place → ℕ) (n : Names) (s : Place) (ss : Statements) → Twins t (body (moved n zeros s) None ss empty) (body (moved n t s) None ss empty)
-twins t n s ss = (body-joined n s None ss).by empty empty (record { ends = refl; ops = none; far = refl })
+twins t n s ss = (body-joined n s None ss).by empty empty (record { ends = refl; jumps = refl; ops = none; far = refl })

@@ -3,6 +3,7 @@ use Rattle.std.proofs.Common.{◌≡◌, ℕ, suc, Bool, true, false, if◌then�
 use Rattle.std.specs.Prelude.{option_map}
 use Rattle.std.specs.Str.{bytes_eq}
 use Rattle.std.proofs.lemmas.Option.{slice_get_within}
+use Rattle.p8_names.specs.Resolution.{IsNamed}
 use Rattle.p8_tree.specs.Names.{result_word}
 use Rattle.p8_tree.specs.Sources.{MethodTree, Source}
 use Rattle.p8_tree.specs.Projects.{NamedSource}
@@ -20,7 +21,7 @@ use Rattle.p8_kinds.specs.FileSettings.{meaning_of_kind, constant_behind}
 use Rattle.p8_names.specs.Kinds.{numbered, own_kind}
 use Rattle.p8_meaning.specs.Programs as meaning
 use Rattle.p8_meaning.specs.Programs.{object_constant}
-use Rattle.p8_build.specs.Files.{CompiledFile, setting_of, IsCompiled}
+use Rattle.p8_build.specs.Files.{CompiledFile, setting_of}
 use Rattle.p8_build.proofs.Methods.{proper_method}
 use Rattle.p8_placed.specs.Programs.{kind_by, file_of}
 use Rattle.p8_placed.proofs.Alike.{Alike}
@@ -46,7 +47,7 @@ module _ (w : Option Meaning) where
   given-same f other false (Some (kind.Method number params)) b apart = absurd apart.1
   given-same f other false (Some (kind.Object item position count)) b apart = absurd apart.1
 
-module _ (files : List NamedSource) (source : Source) (seen : Children) (top : Bool) (x : CompiledFile) (compiled : IsCompiled source seen top x) (proper : IsProperFile source) (k : ℕ) (m : MethodTree) (at : slice_get (numbered (items source)) k ≡ Some m) where
+module _ (files : List NamedSource) (source : Source) (seen : Children) (top : Bool) (x : CompiledFile) (names_are : IsNamed source seen top x.kinds) (proper : IsProperFile source) (k : ℕ) (m : MethodTree) (at : slice_get (numbered (items source)) k ≡ Some m) where
   abbrev s : Setting
   s = setting_of seen x
 
@@ -56,19 +57,19 @@ module _ (files : List NamedSource) (source : Source) (seen : Children) (top : B
   pub number-so : (n : List ℕ) → kind_by x.kinds source (suc k) n ≡ or_else (own x.kinds (suc k) n) (own x.kinds 0 n)
   number-so n = let within = slice_get_within (numbered (items source)) k m at in ap (λ j. kind_of x.kinds j n) (number-is source (suc k) (omega (arith, within)))
 
-  pub own-so : (n : List ℕ) → own x.kinds (suc k) n ≡ own_kind compiled.names.setting (Some m) n
+  pub own-so : (n : List ℕ) → own x.kinds (suc k) n ≡ own_kind names_are.setting (Some m) n
   own-so n =
       let within = slice_get_within (numbered (items source)) k m at in
-      compiled.names.each (suc k) n (omega (arith, within, count-is (items source))) ∙ ap (λ o. own_kind compiled.names.setting o n) at
+      names_are.each (suc k) n (omega (arith, within, count-is (items source))) ∙ ap (λ o. own_kind names_are.setting o n) at
 
-  apart-by : (n : List ℕ) (a : Option NameKind) → own_kind compiled.names.setting (Some m) n ≡ a → IsApart a (own x.kinds 0 n)
+  apart-by : (n : List ℕ) (a : Option NameKind) → own_kind names_are.setting (Some m) n ≡ a → IsApart a (own x.kinds 0 n)
   apart-by n None is = tt
   apart-by n (Some l) is =
-      let one = own-name compiled.names.setting m n l (proper_method source k m proper at) is in
-      (kind-is source seen top x.kinds compiled.names n ∙ own-apart source seen top x.kinds compiled.names k m at n one, subst IsOwn is (own-of compiled.names.setting (Some m) n))
+      let one = own-name names_are.setting m n l (proper_method source k m proper at) is in
+      (kind-is source seen top x.kinds names_are n ∙ own-apart source seen top x.kinds names_are k m at n one, subst IsOwn is (own-of names_are.setting (Some m) n))
 
   pub apart : (n : List ℕ) → IsApart (own x.kinds (suc k) n) (own x.kinds 0 n)
-  apart n = subst (λ a. IsApart a (own x.kinds 0 n)) (sym (own-so n)) (apart-by n (own_kind compiled.names.setting (Some m) n) refl)
+  apart n = subst (λ a. IsApart a (own x.kinds 0 n)) (sym (own-so n)) (apart-by n (own_kind names_are.setting (Some m) n) refl)
 
   same-given : (f : Meaning → Option ℕ) → f meaning_case.Other ≡ None → (n : List ℕ) → given f (meaning_of s n) ≡ given f (meaning_of t n)
   same-given f other n =
@@ -90,7 +91,7 @@ module _ (files : List NamedSource) (source : Source) (seen : Children) (top : B
   behind-object-same : (o n : List ℕ) → meaning_of t o ≡ Some meaning_case.Object → s.constant o n ≡ t.constant o n
   behind-object-same o n is =
       let q = object-kind (bytes_eq o result_word) (kind_by x.kinds source (suc k) o) is in
-      let whole : own x.kinds 0 o ≡ Some (kind.Object q.0 q.1 q.2) = object-of-file source seen top x.kinds compiled.names (suc k) o q.0 q.1 q.2 q.3 in
+      let whole : own x.kinds 0 o ≡ Some (kind.Object q.0 q.1 q.2) = object-of-file source seen top x.kinds names_are (suc k) o q.0 q.1 q.2 q.3 in
       ap (λ z. constant_behind seen z n) (whole ∙ sym q.3) ∙ behind-object files source seen x (kind_by x.kinds source (suc k) o) n
 
   constant-same : (o n : List ℕ) (z : Option Meaning) → meaning_of t o ≡ z → constant_of s z o n ≡ constant_of t z o n

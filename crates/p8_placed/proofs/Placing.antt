@@ -17,7 +17,7 @@ use Rattle.p8_meaning.specs.Lives.{IsInstance, top_instance, inner_instance}
 use Rattle.p8_keeps.specs.Keeps.{ObjectPlaced}
 use Rattle.p8_build.specs.Files.{CompiledFile, object_of}
 use Rattle.p8_build.specs.Builds.{objects_of}
-use Rattle.p8_placed.specs.Programs.{file_of, program_of, addresses_of, instance_number, inner_base}
+use Rattle.p8_placed.specs.Programs.{file_of, program_of, with_sources, addresses_of, instance_number, inner_base}
 use Rattle.p8_placed.proofs.Tables.{stands-fits, TableSays, table-says}
 use Rattle.p8_placed.proofs.Files.{file-of, object-at}
 use Rattle.p8_placed.proofs.Counting.{element}
@@ -52,7 +52,7 @@ module _ (files : List NamedSource) (children : List Children) (xs : List Compil
   all = objects_of files children xs
 
   abbrev program : Program
-  program = program_of files children xs
+  program = with_sources project.changed (program_of files children xs)
 
   abbrev addresses : Addresses
   addresses = addresses_of files xs all
@@ -116,7 +116,7 @@ module _ (files : List NamedSource) (children : List Children) (xs : List Compil
   inner-in : (outer : Instance) (file : File) (method : ℕ) (name : List ℕ) (item position count index child : ℕ) → slice_get program outer.file ≡ Some file → file.kind method name ≡ Some (kind.Object item position count)
       → index < count → slice_get file.child_files item ≡ Some child → (object : ObjectPart) × (slice_get all outer.file ≡ Some object) × IsInner files object (position + index) child
   inner-in outer file method name item position count index child is kind_is less leads =
-      let f = file-of files children xs outer.file file is in
+      let f = file-of project.changed files children xs outer.file file is in
       let object = object_of files f.file.tree f.seen f.x in
       let kind_so : (file_of files f.file.tree f.seen f.x).kind method name ≡ Some (kind.Object item position count) = ap (λ (g : File). g.kind method name) (sym f.is) ∙ kind_is in
       let leads_so : slice_get (file_of files f.file.tree f.seen f.x).child_files item ≡ Some child = ap (λ (g : File). slice_get g.child_files item) (sym f.is) ∙ leads in (

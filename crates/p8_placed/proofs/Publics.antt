@@ -5,6 +5,8 @@ use Rattle.std.specs.Str.{bytes_eq}
 use Rattle.std.proofs.lemmas.Bool.{cases_lt}
 use Rattle.std.proofs.lemmas.Slice.Eq.{bytes_eq-Decides}
 use Rattle.std.proofs.lemmas.Option.{same_Some, none-some, slice_get_within, slice_get-map}
+use Rattle.p8_names.specs.Resolution as resolution
+use Rattle.p8_stmt.specs.Methods.{rebodied}
 use Rattle.p8_tree.specs.Sources as trees
 use Rattle.p8_tree.specs.Sources.{MethodTree, Source}
 use Rattle.p8_tree.specs.Projects.{NamedSource}
@@ -26,10 +28,10 @@ use Rattle.p8_meaning.specs.Programs.{Program, File, method_named, methods_in}
 use Rattle.p8_meaning.specs.Calls.{method_of}
 use Rattle.p8_keeps.specs.Standing.{Compiled, IsObjectMethod}
 use Rattle.p8_build.specs.Parts.{number_of}
-use Rattle.p8_build.specs.Files.{CompiledFile, IsCompiled}
-use Rattle.p8_placed.specs.Programs.{file_of, program_of}
-use Rattle.p8_placed.proofs.Files.{IsThere, program-at, method-there}
-use Rattle.p8_placed.proofs.Counting.{element, few}
+use Rattle.p8_build.specs.Files.{CompiledFile}
+use Rattle.p8_placed.specs.Programs.{file_of, program_of, with_sources}
+use Rattle.p8_placed.proofs.Files.{IsThere, program-at, changed-at, method-there}
+use Rattle.p8_placed.proofs.Counting.{element, few, changed-method}
 use Rattle.p8_placed.proofs.Instances.{IsProject, compiled-at}
 use Rattle.p8_placed.proofs.Seen.{seen-at}
 use Rattle.p8_placed.proofs.Distinct.{of-numbered}
@@ -125,15 +127,15 @@ at-front (y ∷ xs) ys zero x is = is
 at-front (y ∷ xs) ys (suc k) x is = at-front xs ys k x is
 
 -- a method has few parameters
-pub few-params : (source : Source) (children : Children) (top : Bool) (x : CompiledFile) (compiled : IsCompiled source children top x) (k : ℕ) (m : MethodTree) → slice_get (numbered (items source)) k ≡ Some m → length m.params ≤ 15
-few-params source children top x compiled k m at = elim (cases_lt 15 (length m.params)) [
-  | inl large ↦ absurd (compiled.names.clean (fault 17 m.place) (of_name compiled.names.setting compiled.names.right (too_many_params (of-numbered HasTooManyParams (items source) k m (fault 17 m.place) at (large, refl)))))
+pub few-params : (source : Source) (children : Children) (top : Bool) (x : CompiledFile) (names_are : resolution.IsNamed source children top x.kinds) (k : ℕ) (m : MethodTree) → slice_get (numbered (items source)) k ≡ Some m → length m.params ≤ 15
+few-params source children top x names_are k m at = elim (cases_lt 15 (length m.params)) [
+  | inl large ↦ absurd (names_are.clean (fault 17 m.place) (of_name names_are.setting names_are.right (too_many_params (of-numbered HasTooManyParams (items source) k m (fault 17 m.place) at (large, refl)))))
   | inr small ↦ small
 ]
 
 module _ (files : List NamedSource) (children : List Children) (xs : List CompiledFile) (project : IsProject files children xs) where
   -- a PUB of an object's file is a method of that file
-  pub public-method : (t : Compiled) (i : ℕ) (file : NamedSource) (seen : Children) (x : CompiledFile) → IsThere files children xs i file seen x → t.file ≡ file_of files file.tree seen x → t.program ≡ program_of files children xs
+  pub public-method : (t : Compiled) (i : ℕ) (file : NamedSource) (seen : Children) (x : CompiledFile) → IsThere files children xs i file seen x → t.file ≡ record (file_of files file.tree seen x) { source = project.changed i } → t.program ≡ with_sources project.changed (program_of files children xs)
       → (item : ℕ) (c : Option Child) (name : List ℕ) (number params : ℕ) → slice_get seen.items item ≡ c → method_in c name ≡ Some (kind.Method number params) → (number < 2 ^ 8) × IsObjectMethod t item name params number
   public-method t i file seen x there file_is program_is item None name number params at is = absurd (none-some (kind.Method number params) is)
   public-method t i file seen x there file_is program_is item (Some c) name number params at is =
@@ -154,16 +156,18 @@ module _ (files : List NamedSource) (children : List Children) (xs : List Compil
       let f = few s.file.tree s.children (s.number == 0) z.0 whole in
       let low = slice_get_within (numbered (items s.file.tree)) p.place m place in
       let number_is : number ≡ suc p.place = omega (arith, p.number_is, low, f.methods) in
-      let params_are : params ≡ length m.params = omega (arith, p.params_are, shows.2, few-params s.file.tree s.children (s.number == 0) z.0 whole p.place m place) in
-      let g : File = file_of files s.file.tree s.children z.0 in
+      let params_are : params ≡ length m.params = omega (arith, p.params_are, shows.2, few-params s.file.tree s.children (s.number == 0) z.0 whole.names p.place m place) in
+      let b = changed-method s.file.tree (project.changed s.number) s.children z.0 whole.code p.place m place in
+      let g : File = record (file_of files s.file.tree s.children z.0) { source = project.changed s.number } in
       let plus : 1 + p.place ≡ number = omega (arith, number_is) in (
         omega (arith, number_is, low, f.methods),
         record {
           child = j;
           is_child = ap (λ (q : File). slice_get q.child_files item) file_is ∙ slice_get-map (λ (q : trees.Child). number_of files q.file) (objects (items file.tree)) item ∙ ap (option_map (λ (q : trees.Child). number_of files q.file)) h.1;
           file = g;
-          is_file = ap (λ (q : Program). slice_get q j) program_is ∙ ap (slice_get (program_of files children xs)) (sym same) ∙ program-at files files children xs s.number s.file s.children z.0 other;
+          is_file = ap (λ (q : Program). slice_get q j) program_is ∙ ap (slice_get (with_sources project.changed (program_of files children xs))) (sym same)
+              ∙ changed-at project.changed (program_of files children xs) s.number (file_of files s.file.tree s.children z.0) (program-at files files children xs s.number s.file s.children z.0 other);
           is_named = ap (λ (q : File). method_named name (methods_in (slice_get q.children item)) 1) file_is ∙ ap (λ q. method_named name (methods_in q) 1) at ∙ p.named ∙ ap Some plus;
-          fits = (m, ap (method_of g) number_is ∙ method-there g p.place m place, params_are);
+          fits = (rebodied m b.0, ap (method_of g) number_is ∙ method-there g p.place (rebodied m b.0) b.1, params_are);
         },
       )

@@ -29,7 +29,7 @@ use Rattle.p8_meaning.specs.Lives.{IsInstance}
 use Rattle.p8_build.specs.Parts.{variable_in}
 use Rattle.p8_build.specs.Files.{CompiledFile, setting_of, object_of}
 use Rattle.p8_build.specs.Builds.{objects_of}
-use Rattle.p8_placed.specs.Programs.{program_of, addresses_of}
+use Rattle.p8_placed.specs.Programs.{program_of, with_sources, addresses_of}
 use Rattle.p8_placed.specs.Agreements.{names_of, HasRoom, NamesHaveRoom}
 use Rattle.p8_placed.proofs.Alike.{Alike}
 use Rattle.p8_placed.proofs.NamedSettings.{named-alike, kind-is}
@@ -149,8 +149,8 @@ room-in-hub : (os : List ObjectPart) (part : ObjectPart) (i : ℕ) → slice_get
 room-in-hub [] part i is fits = absurd (none-some part is)
 room-in-hub (o ∷ os) part i is fits = omega (arith, fits)
 
-pub globals-have-room : (files : List NamedSource) (children : List Children) (xs : List CompiledFile) → IsProject files children xs → HaveNoRing files → FitsHub (header_by (objects_of files children xs))
-    → (instance : Instance) → IsInstance (program_of files children xs) (addresses_of files xs (objects_of files children xs)) instance
+pub globals-have-room : (files : List NamedSource) (children : List Children) (xs : List CompiledFile) (project : IsProject files children xs) → HaveNoRing files → FitsHub (header_by (objects_of files children xs))
+    → (instance : Instance) → IsInstance (with_sources project.changed (program_of files children xs)) (addresses_of files xs (objects_of files children xs)) instance
     → (file : NamedSource) (seen : Children) (x : CompiledFile) → slice_get files instance.file ≡ Some file → slice_get children instance.file ≡ Some seen → slice_get xs instance.file ≡ Some x
     → (k : ℕ) (m : MethodTree) → slice_get (numbered (items file.tree)) k ≡ Some m
     → (name : List ℕ) (size offset : ℕ) → (names_of files file seen x k m).kind name ≡ Some (kind.Global size offset) → offset < 2 ^ 15
@@ -183,10 +183,10 @@ by-kind n name (kind.Method number params) globals labels = tt
 by-kind n name (kind.Object item position count) globals labels = tt
 
 -- where labels have room, so have all names
-pub names-have-room : (files : List NamedSource) (children : List Children) (xs : List CompiledFile) → IsProject files children xs → HaveNoRing files → FitsHub (header_by (objects_of files children xs))
+pub names-have-room : (files : List NamedSource) (children : List Children) (xs : List CompiledFile) (project : IsProject files children xs) → HaveNoRing files → FitsHub (header_by (objects_of files children xs))
     → ((i : ℕ) (file : NamedSource) (seen : Children) (x : CompiledFile) → IsThere files children xs i file seen x → (k : ℕ) (m : MethodTree) → slice_get (numbered (items file.tree)) k ≡ Some m
     → (name : List ℕ) (size : ℕ) → (names_of files file seen x k m).kind name ≡ Some (kind.Label size) → (names_of files file seen x k m).label name < 2 ^ 15)
-    → NamesHaveRoom files children xs
+    → NamesHaveRoom project.changed files children xs
 names-have-room files children xs project no_ring fits labels instance used file seen x stands beside compiled k m at name found is =
     by-kind (names_of files file seen x k m) name found
     (λ size offset same. globals-have-room files children xs project no_ring fits instance used file seen x stands beside compiled k m at name size offset (is ∙ ap Some same))

@@ -18,7 +18,7 @@ use Rattle.p8_meaning.specs.Lives.{IsInstance, top_instance, inner_instance}
 use Rattle.p8_build.specs.Parts.{number_of}
 use Rattle.p8_build.specs.Files.{CompiledFile, object_of}
 use Rattle.p8_build.specs.Builds.{objects_from, objects_of}
-use Rattle.p8_placed.specs.Programs.{file_of, program_of, addresses_of}
+use Rattle.p8_placed.specs.Programs.{file_of, program_of, with_sources, addresses_of}
 use Rattle.p8_placed.proofs.Files.{file-of, object-at}
 use Rattle.p8_placed.proofs.Publics.{number-named}
 use Rattle.p8_placed.proofs.Instances.{IsProject, inner-of}
@@ -86,7 +86,7 @@ module _ (files : List NamedSource) (children : List Children) (xs : List Compil
   all = objects_of files children xs
 
   abbrev program : Program
-  program = program_of files children xs
+  program = with_sources project.changed (program_of files children xs)
 
   abbrev addresses : Addresses
   addresses = addresses_of files xs all
@@ -173,7 +173,7 @@ module _ (files : List NamedSource) (children : List Children) (xs : List Compil
   way : (o : Instance) → IsInstance program addresses o → Way o.file
   way _ top_instance = begin
   way _ (inner_instance {outer} {file} {name} {method} {item} {position} {count} {child} index outer_is file_is kind_is less leads) =
-      let f = file-of files children xs outer.file file file_is in
+      let f = file-of project.changed files children xs outer.file file file_is in
       let g : File = file_of files f.file.tree f.seen f.x in
       let object = object_of files f.file.tree f.seen f.x in
       let leads_so : slice_get g.child_files item ≡ Some child = ap (λ (h : File). slice_get h.child_files item) (sym f.is) ∙ leads in

@@ -2,6 +2,7 @@
 use Rattle.std.proofs.Common.{◌≡◌, ℕ, zero, suc, List, [], ◌∷◌, slice_get, Option, Some, None, Bool, refl, sym, subst}
 use Rattle.std.specs.Prelude.{option_map}
 use Rattle.std.proofs.lemmas.Option.{same_Some, none-some}
+use Rattle.p8_names.specs.Resolution.{IsNamed}
 use Rattle.p8_tree.specs.Sources as trees
 use Rattle.p8_tree.specs.Projects.{NamedSource}
 use Rattle.p8_definitions.specs.Items.{items}
@@ -13,7 +14,7 @@ use Rattle.p8_kinds.specs.Kinds.{own}
 use Rattle.p8_kinds.specs.FileSettings.{meaning_of_kind, constant_in, constant_behind, constant_among}
 use Rattle.p8_children.specs.Children.{IsSeen, AreSeen, AreChildren}
 use Rattle.p8_children.specs.Mentions.{mentions}
-use Rattle.p8_build.specs.Files.{CompiledFile, setting_of, IsCompiled}
+use Rattle.p8_build.specs.Files.{CompiledFile, setting_of}
 use Rattle.p8_placed.proofs.Constants.{IsWord, HasWords}
 use Rattle.p8_placed.proofs.NamedSettings.{kind-is}
 use Rattle.p8_placed.proofs.Words.{IsConstWord, const-word, seen-words}
@@ -37,7 +38,7 @@ kind-word (Some (kind.Method number params)) word = tt
 kind-word (Some (kind.Object item position count)) word = tt
 
 module _ (files : List NamedSource) (all : List Children) (children : AreChildren files all) (i : ℕ) (file : NamedSource) (seen : Children) (top : Bool) (x : CompiledFile) (stands : slice_get files i ≡ Some file) (beside : slice_get all i ≡ Some seen)
-    (compiled : IsCompiled file.tree seen top x) where
+    (names_are : IsNamed file.tree seen top x.kinds) where
   of-child : (item : ℕ) (c : Option Child) (n : List ℕ) → slice_get seen.items item ≡ c → IsWord (constant_in c n)
   of-child item None n is = tt
   of-child item (Some c) n is =
@@ -55,7 +56,7 @@ module _ (files : List NamedSource) (all : List Children) (children : AreChildre
 
   pub file-const : (n : List ℕ) → IsConstWord (own x.kinds 0 n)
   file-const n =
-      let named = compiled.names in
+      let named = names_are in
       subst IsConstWord (sym (kind-is file.tree seen top x.kinds named n)) (const-word file.tree seen.items named.setting named.right (items file.tree) n)
 
   pub has-words : HasWords (setting_of seen x)

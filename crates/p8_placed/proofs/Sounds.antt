@@ -3,6 +3,8 @@ use Rattle.std.proofs.Common.{◌≡◌, ℕ, suc, ◌+◌, ◌^◌, ◌<◌, �
 use Rattle.std.specs.Str.{bytes_eq}
 use Rattle.std.proofs.lemmas.Grind.{flat_map-append}
 use Rattle.std.proofs.lemmas.Option.{same_Some, none-some, slice_get_within}
+use Rattle.p8_stmt.specs.Methods.{rebodied}
+use Rattle.p8_placed.specs.Recoding.{IsRecodedFile}
 use Rattle.p8_tree.specs.Names.{result_word}
 use Rattle.p8_tree.specs.Sources.{MethodTree}
 use Rattle.p8_tree.specs.Projects.{NamedSource}
@@ -24,12 +26,12 @@ use Rattle.p8_meaning.specs.Calls.{method_of}
 use Rattle.p8_keeps.specs.Standing.{Compiled, Fits}
 use Rattle.p8_keeps.specs.Keeps.{compiled}
 use Rattle.p8_templates.specs.Agreeing.{IsSound}
-use Rattle.p8_build.specs.Files.{CompiledFile, setting_of, IsCompiled}
+use Rattle.p8_build.specs.Files.{CompiledFile, setting_of}
 use Rattle.p8_build.specs.Builds.{objects_of}
-use Rattle.p8_placed.specs.Programs.{file_of, program_of, addresses_of}
+use Rattle.p8_placed.specs.Programs.{file_of, program_of, with_sources, addresses_of}
 use Rattle.p8_placed.specs.Agreements.{names_of, HasRoom}
 use Rattle.p8_placed.proofs.Files.{IsThere, method-there}
-use Rattle.p8_placed.proofs.Counting.{few}
+use Rattle.p8_placed.proofs.Counting.{few, changed-method}
 use Rattle.p8_placed.proofs.NamedSettings.{kind-is}
 use Rattle.p8_placed.proofs.Objects.{IsItem, item-of}
 use Rattle.p8_placed.proofs.OwnKinds.{IsOwn, own-of}
@@ -148,15 +150,15 @@ module _ (s : Setting) (all : List Item) (o : List ℕ) (number params : ℕ) wh
 module _ (files : List NamedSource) (children : List Children) (xs : List CompiledFile) (project : IsProject files children xs) (memory : List ℕ) (cog : ℕ) (i : Instance) (file : NamedSource) (seen : Children) (x : CompiledFile) (there : IsThere files children xs i.file file seen x)
     (proper : IsProperFile file.tree) (k : ℕ) (m : MethodTree) (at : slice_get (numbered (items file.tree)) k ≡ Some m) where
   abbrev t : Compiled
-  t = compiled memory cog (program_of files children xs) (addresses_of files xs (objects_of files children xs)) (record { instance = i; method = suc k }) (file_of files file.tree seen x)
+  t = compiled memory cog (with_sources project.changed (program_of files children xs)) (addresses_of files xs (objects_of files children xs)) (record { instance = i; method = suc k }) (record (file_of files file.tree seen x) { source = project.changed i.file })
 
-  whole : IsCompiled file.tree seen (i.file == 0) x
+  whole : IsRecodedFile file.tree (project.changed i.file) seen (i.file == 0) x
   whole = compiled-at files children xs project i.file file seen x there
 
   of-file-kind : (name : List ℕ) (q : NameKind) → is_local q ≡ false → kind_here x.kinds (k + 1) name ≡ Some q → own x.kinds 0 name ≡ Some q
   of-file-kind name q never is =
       let plus : suc k ≡ k + 1 = omega arith in
-      let own_is : IsOwn (own x.kinds (k + 1) name) = subst (λ j. IsOwn (own x.kinds j name)) plus (subst IsOwn (sym (own-so files file.tree seen (i.file == 0) x whole proper k m at name)) (own-of whole.names.setting (Some m) name)) in
+      let own_is : IsOwn (own x.kinds (k + 1) name) = subst (λ j. IsOwn (own x.kinds j name)) plus (subst IsOwn (sym (own-so files file.tree seen (i.file == 0) x whole.names proper k m at name)) (own-of whole.names.setting (Some m) name)) in
       whole-kind (bytes_eq name result_word) (own x.kinds (k + 1) name) (own x.kinds 0 name) q own_is never is
 
   among : (name : List ℕ) (q : NameKind) → is_local q ≡ false → ((v : ℕ) → kind.Const v ≡ q → ⊥) → kind_here x.kinds (k + 1) name ≡ Some q → kind_among whole.names.setting (items file.tree) [] (items file.tree) name ≡ Some q
@@ -164,15 +166,16 @@ module _ (files : List NamedSource) (children : List Children) (xs : List Compil
       among-whole (predefined_value name) (kind_among whole.names.setting (items file.tree) [] (items file.tree) name) q other
       (sym (kind-is file.tree seen (i.file == 0) x.kinds whole.names name) ∙ of-file-kind name q never is)
 
-  fits-method : (number params : ℕ) → IsMethodAt (items file.tree) number params → (number < 2 ^ 8) × (params < 2 ^ 8) × Fits (file_of files file.tree seen x) number params
+  fits-method : (number params : ℕ) → IsMethodAt (items file.tree) number params → (number < 2 ^ 8) × (params < 2 ^ 8) × Fits (record (file_of files file.tree seen x) { source = project.changed i.file }) number params
   fits-method number params h =
       let f = few file.tree seen (i.file == 0) x whole in
       let low = slice_get_within (numbered (items file.tree)) h.k h.m h.is in
       let number_is : number ≡ suc h.k = omega (arith, h.number_is, low, f.methods) in
-      let small = few-params file.tree seen (i.file == 0) x whole h.k h.m h.is in
+      let small = few-params file.tree seen (i.file == 0) x whole.names h.k h.m h.is in
+      let b = changed-method file.tree (project.changed i.file) seen x whole.code h.k h.m h.is in
       let params_are : params ≡ length h.m.params = omega (arith, h.params_are, small) in
-      let g : File = file_of files file.tree seen x in
-      (omega (arith, number_is, low, f.methods), omega (arith, params_are, small), (h.m, ap (method_of g) number_is ∙ method-there g h.k h.m h.is, params_are))
+      let g : File = record (file_of files file.tree seen x) { source = project.changed i.file } in
+      (omega (arith, number_is, low, f.methods), omega (arith, params_are, small), (rebodied h.m b.0, ap (method_of g) number_is ∙ method-there g h.k (rebodied h.m b.0) b.1, params_are))
 
   -- a local stands in the frame
   or-within : (n : ℕ) (a b : Option NameKind) → Within n a → Within n b → Within n (or_else a b)
@@ -185,14 +188,14 @@ module _ (files : List NamedSource) (children : List Children) (xs : List Compil
 
   frame-within : (name : List ℕ) → Within 8200 (own_kind whole.names.setting (Some m) name)
   frame-within name =
-      let c = coded files file.tree seen x k m whole.code at in
-      let same = longs-same (setting_of seen x) (method_setting whole.names.setting m) (hiding-alike files file seen (i.file == 0) x whole proper k m at) m.locals in
-      within-frame 8200 (method_setting whole.names.setting m) m name (omega (arith, same, c.small, c.right.locals))
+      let c = coded files file.tree (project.changed i.file) seen x k m whole.code at in
+      let same = longs-same (setting_of seen x) (method_setting whole.names.setting m) (hiding-alike files file seen (i.file == 0) x whole.names proper k m at) m.locals in
+      within-frame 8200 (method_setting whole.names.setting m) m name (omega (arith, same, c.small, c.recoded.code.locals))
 
   local-within : (offset : ℕ) (name : List ℕ) → kind_here x.kinds (k + 1) name ≡ Some (kind.Local offset) → offset < 2 ^ 15
   local-within offset name is =
       let plus : suc k ≡ k + 1 = omega arith in
-      let own_is : Within 8200 (own x.kinds (k + 1) name) = subst (λ j. Within 8200 (own x.kinds j name)) plus (subst (Within 8200) (sym (own-so files file.tree seen (i.file == 0) x whole proper k m at name)) (frame-within name)) in
+      let own_is : Within 8200 (own x.kinds (k + 1) name) = subst (λ j. Within 8200 (own x.kinds j name)) plus (subst (Within 8200) (sym (own-so files file.tree seen (i.file == 0) x whole.names proper k m at name)) (frame-within name)) in
       let file_is : Within 8200 (own x.kinds 0 name) = subst (Within 8200) (sym (kind-is file.tree seen (i.file == 0) x.kinds whole.names name))
       (known-within 8200 (predefined_value name) (kind_among whole.names.setting (items file.tree) [] (items file.tree) name) (among-within 8200 whole.names.setting (items file.tree) [] (items file.tree) name)) in
       let all : Within 8200 (kind_here x.kinds (k + 1) name) = within-where 8200 (bytes_eq name result_word) (Some (kind.Local 0)) (or_else (own x.kinds (k + 1) name) (own x.kinds 0 name)) (omega arith) (or-within 8200 (own x.kinds (k + 1) name) (own x.kinds 0 name) own_is file_is) in
@@ -207,7 +210,7 @@ module _ (files : List NamedSource) (children : List Children) (xs : List Compil
       omega (arith, some, h.count_is)
 
   pub sound-of : (name : List ℕ) (q : NameKind) → (names_of files file seen x k m).kind name ≡ Some q → HasRoom (names_of files file seen x k m) name q → IsSound (names_of files file seen x k m) t name q
-  sound-of name (kind.Const v) is room = subst IsConstWord (of-file-kind name (kind.Const v) refl is) (file-const files children project.children_are i.file file seen (i.file == 0) x there.stands there.beside whole name)
+  sound-of name (kind.Const v) is room = subst IsConstWord (of-file-kind name (kind.Const v) refl is) (file-const files children project.children_are i.file file seen (i.file == 0) x there.stands there.beside whole.names name)
   sound-of name (kind.Global size offset) is room =
       (sizes whole.names.setting file.tree name (kind.Global size offset) proper (among name (kind.Global size offset) refl (λ v e. absurd (cc)) is), room)
   sound-of name (kind.Local offset) is room = local-within offset name is

@@ -26,7 +26,7 @@ use Rattle.p8_image.specs.Layout.{bases_of, variables_base, first_frame, codes_o
 use Rattle.p8_image.specs.Loading.{IsImage, memory_of, start_of}
 use Rattle.p8_image.specs.Projects.{BeginsWithMain}
 use Rattle.p8_image.specs.Places.{AllPartsStand, base_of, entry_of}
-use Rattle.p8_gen.specs.Names.{Names}
+use Rattle.p8_gen.specs.Names.{Names, widened}
 use Rattle.p8_gen.specs.Expressions as gen
 use Rattle.p8_gen.specs.Depths.{held_in}
 use Rattle.p8_meaning.specs.Programs.{Program, Addresses, File, Instance, Target, frame_size}
@@ -38,24 +38,22 @@ use Rattle.p8_keeps.specs.Keeps.{Placed, MethodPlaced, compiled}
 use Rattle.p8_templates.specs.Agreeing.{Agrees}
 use Rattle.p8_templates.proofs.Methods.{method-stands}
 use Rattle.p8_told_lives.specs.Told.{FramesFit, IsWorldOf}
-use Rattle.p8_stmt.specs.Methods.{holds_too_much}
+use Rattle.p8_stmt.specs.Methods.{holds_too_much, rebodied}
 use Rattle.p8_build.specs.Parts.{AreProper, strings_of, method_part}
 use Rattle.p8_build.specs.Files.{CompiledFile, method_names, object_of}
 use Rattle.p8_build.specs.Builds.{objects_of}
-use Rattle.p8_build.proofs.Methods.{proper_method}
-use Rattle.p8_placed.specs.Programs.{file_of, program_of, addresses_of}
+use Rattle.p8_placed.specs.Programs.{file_of, program_of, with_sources, addresses_of}
 use Rattle.p8_placed.specs.Agreements.{names_of, HaveRoom, NamesHaveRoom}
 use Rattle.p8_placed.proofs.Holding.{within}
 use Rattle.p8_placed.proofs.Tables.{stands-fits}
 use Rattle.p8_placed.proofs.Definitions.{same-bytes}
-use Rattle.p8_placed.proofs.Files.{IsThere, file-of, program-at, object-at, method-place, method-there}
+use Rattle.p8_placed.proofs.Files.{IsThere, file-of, program-at, changed-at, object-at, method-place, method-there}
 use Rattle.p8_placed.proofs.Counting.{element, part-at}
 use Rattle.p8_image.proofs.Memories.{Lies}
 use Rattle.p8_placed.proofs.Images.{frame-whole}
 use Rattle.p8_placed.proofs.Codes.{has-code}
 use Rattle.p8_placed.proofs.Instances.{IsProject, compiled-at, counts-of}
 use Rattle.p8_placed.proofs.Placing.{of-file, between, base-high, IsAt, says, is-at, object-placed}
-use Rattle.p8_placed.proofs.Environments.{no-misuse}
 use Rattle.p8_placed.proofs.Agreeing.{agrees}
 use Rattle.p8_placed.proofs.Frames.{IsCoded, coded}
 use Rattle.p8_placed.proofs.Starting.{first-method, begins-with}
@@ -78,6 +76,19 @@ method-by n t name true is a =
 method-by n t name false is a =
     same-test (t.file.kind t.method name) ∙ sym (ap gen.is_method (a.kinds name ∙ ap (λ b. if b then Some (kind.Local 0) else t.file.kind t.method name) is))
 
+-- names agree whatever jumps are wide
+with-widths : (n : Names) (t : Compiled) (wide : ℕ → Bool) → Agrees n t → Agrees (widened n wide) t
+with-widths n t wide a = record {
+  kinds = a.kinds;
+  no_result = a.no_result;
+  sound = a.sound;
+  publics = a.publics;
+  constants = a.constants;
+  words = a.words;
+  texts = a.texts;
+  near_texts = a.near_texts;
+}
+
 -- ---- the header
 
 header-is : (os : List ObjectPart) (top : ObjectPart) → slice_get os 0 ≡ Some top
@@ -98,7 +109,7 @@ begins-main files children xs project some =
     let there : IsThere files children xs 0 f.0 c.0 x.0 = record { stands = f.1; beside = c.1; compiled = x.1 } in
     let whole = compiled-at files children xs project 0 f.0 c.0 x.0 there in
     let m = first-method f.0.tree c.0 x.0.kinds whole.names in
-    let code = coded files f.0.tree c.0 x.0 0 m.0 whole.code m.1 in
+    let code = coded files f.0.tree (project.changed 0) c.0 x.0 0 m.0 whole.code m.1 in
     let object = object_of files f.0.tree c.0 x.0 in
     let part = part-at (strings_of f.0.tree) (numbered (items f.0.tree)) x.0.codes 0 m.0 code.code m.1 code.stands in
     begins-with (objects_of files children xs) object (method_part (strings_of f.0.tree) m.0 code.code) (object-at files files children xs 0 f.0 c.0 x.0 there) part
@@ -110,7 +121,11 @@ module _ (files : List NamedSource) (children : List Children) (xs : List Compil
   all = objects_of files children xs
 
   abbrev program : Program
-  program = program_of files children xs
+  program = with_sources project.changed (program_of files children xs)
+
+  -- a file with its changed source
+  abbrev changed_file : (i : ℕ) → NamedSource → Children → CompiledFile → File
+  changed_file i file seen x = record (file_of files file.tree seen x) { source = project.changed i }
 
   abbrev addresses : Addresses
   addresses = addresses_of files xs all
@@ -123,7 +138,7 @@ module _ (files : List NamedSource) (children : List Children) (xs : List Compil
 
   -- a method of a file, in its object
   record IsMethodOf (i : ℕ) (file : NamedSource) (seen : Children) (x : CompiledFile) (k : ℕ) (m : MethodTree) : Type 0 where
-    coded : IsCoded files file.tree seen x k m
+    coded : IsCoded files file.tree (project.changed i) seen x k m
     object_is : slice_get all i ≡ Some (object_of files file.tree seen x)
     part_is : slice_get (object_of files file.tree seen x).methods k ≡ Some (method_part (strings_of file.tree) m coded.code)
     entry : base_of all i + code_offset (object_of files file.tree seen x) k < 32768
@@ -132,7 +147,7 @@ module _ (files : List NamedSource) (children : List Children) (xs : List Compil
   method-in : (i : ℕ) (file : NamedSource) (seen : Children) (x : CompiledFile) → IsThere files children xs i file seen x → (k : ℕ) (m : MethodTree) → slice_get (numbered (items file.tree)) k ≡ Some m → IsMethodOf i file seen x k m
   method-in i file seen x there k m at =
       let c = compiled-at files children xs project i file seen x there in
-      let code = coded files file.tree seen x k m c.code at in
+      let code = coded files file.tree (project.changed i) seen x k m c.code at in
       let object = object_of files file.tree seen x in
       let is = object-at files files children xs i file seen x there in
       let part = part-at (strings_of file.tree) (numbered (items file.tree)) x.codes k m code.code at code.stands in
@@ -146,54 +161,65 @@ module _ (files : List NamedSource) (children : List Children) (xs : List Compil
         code_is = of-file (λ (o : ObjectPart). code_offset o (suc k - 1)) all i object is ∙ ap (code_offset object) number;
       }
 
+  -- a method of a changed source has one of the source itself beside it
+  own-method : (i : ℕ) (file : NamedSource) (seen : Children) (x : CompiledFile) → IsThere files children xs i file seen x → (k : ℕ) (n : MethodTree) → slice_get (numbered (items (project.changed i))) k ≡ Some n
+      → (m : MethodTree) × (slice_get (numbered (items file.tree)) k ≡ Some m)
+  own-method i file seen x there k n at =
+      let inside = slice_get_within (numbered (items (project.changed i))) k n at in
+      element (numbered (items file.tree)) k (omega (arith, inside, (compiled-at files children xs project i file seen x there).code.methods))
+
   placed-so : (cog : ℕ) (i : Instance) → IsAt files children xs project clock parts hub i → (file : NamedSource) (seen : Children) (x : CompiledFile) → IsThere files children xs i.file file seen x
-      → (k : ℕ) (m : MethodTree) → slice_get (numbered (items file.tree)) k ≡ Some m → HaveRoom (names_of files file seen x k m)
-      → MethodPlaced memory cog program addresses (record { instance = i; method = suc k }) (file_of files file.tree seen x) m
-  placed-so cog i at file seen x there k m is right =
-      let h = method-in i.file file seen x there k m is in
+      → (k : ℕ) (m : MethodTree) → slice_get (numbered (items file.tree)) k ≡ Some m → HaveRoom (names_of files file seen x k m) → (h : IsMethodOf i.file file seen x k m)
+      → MethodPlaced memory cog program addresses (record { instance = i; method = suc k }) (changed_file i.file file seen x) (rebodied m h.coded.body)
+  placed-so cog i at file seen x there k m is right h =
       let object = object_of files file.tree seen x in
       let part = method_part (strings_of file.tree) m h.coded.code in
       let s = says files children xs project clock parts hub i object at h.object_is in
       let n = counts-of files children xs project i.file file seen x there in
       let inside = slice_get_within object.methods k part h.part_is in
       let words = s.methods k part h.part_is in
-      let read = proper_method file.tree k m (proper i.file file there.stands) is in
-      let t : Compiled = compiled memory cog program addresses (record { instance = i; method = suc k }) (file_of files file.tree seen x) in
-      let names = names_of files file seen x k m in
-      let agree : Agrees names t = agrees files children xs project proper clock parts hub cog i file seen x there k m is right in
+      let read = h.coded.recoded in
+      let body = h.coded.body in
+      let t : Compiled = compiled memory cog program addresses (record { instance = i; method = suc k }) (changed_file i.file file seen x) in
+      let own = widened (method_names seen x k m) read.wide in
+      let names = widened (names_of files file seen x k m) read.wide in
+      let agree : Agrees names t = with-widths (names_of files file seen x k m) t read.wide (agrees files children xs project proper clock parts hub cog i file seen x there k m is right) in
       let base = base_of all i.file in
       let entry = base + code_offset object k in
       let entry_is : entry ≡ (i.base + first_word memory i.base (suc k)) % 2 ^ 16 = omega (arith, h.entry, words.0, at.base_is) in
       let high = base-high files children xs project clock parts hub i.file object h.object_is in
-      let has = has-code (strings_of file.tree) (text_offsets object) (method_names seen x k m) m.place m h.coded.code image entry h.coded.right h.coded.clean hub (omega (arith, high))
+      let has = has-code (strings_of file.tree) (text_offsets object) own m.place (rebodied m body) h.coded.code image entry read.code read.fits hub (omega (arith, high))
       ((parts i.file object h.object_is).codes k part h.part_is) in
-      let stands : MethodAt t m.body entry = method-stands names t entry agree m.body read.body read.loops (no-misuse files file seen (i.file == 0) x (compiled-at files children xs project i.file file seen x there) (proper i.file file there.stands) k m is) has in
+      let stands : MethodAt t body entry = method-stands names t entry agree body read.proper read.loops read.clean has in
       let ends : method_end memory i.base ≡ length object.methods + 1 = s.method_count ∙ omega (arith, n.2) in
-      let held : held_in (method_names seen x k m) m.body ≤ 128 = elim (cases_lt 128 (held_in (method_names seen x k m) m.body)) [
-        | inl large ↦ absurd (h.coded.clean (fault 26 m.place) (holds_too_much large refl))
+      let held : held_in own body ≤ 128 = elim (cases_lt 128 (held_in own body)) [
+        | inl large ↦ absurd (read.fits (fault 26 m.place) (holds_too_much large refl))
         | inr small ↦ small
       ] in
       record {
         is_method = between 1 (suc k) (method_end memory i.base) (omega arith) (omega (arith, ends, inside));
         entry = omega (arith, h.code_is, words.0);
         locals = words.1 ∙ omega (arith, h.coded.small) ∙ h.coded.locals;
-        code = subst (MethodAt t m.body) entry_is stands;
-        proper = read.body;
-        shallow = within (method_names seen x k m) (names_method t) (λ name. method-by names t name (bytes_eq name result_word) refl agree) m.body read.body read.shallow held;
+        code = subst (MethodAt t body) entry_is stands;
+        proper = read.proper;
+        shallow = within own (names_method t) (λ name. method-by names t name (bytes_eq name result_word) refl agree) body read.proper read.shallow held;
       }
 
-  module _ (right : NamesHaveRoom files children xs) (top : ObjectPart) (first : slice_get all 0 ≡ Some top) where
+  module _ (right : NamesHaveRoom project.changed files children xs) (top : ObjectPart) (first : slice_get all 0 ≡ Some top) where
     placed-by : (cog : ℕ) (target : Target) → IsInstance program addresses target.instance → (file : File) → slice_get program target.instance.file ≡ Some file → (tree : MethodTree) → method_of file target.method ≡ Some tree
         → MethodPlaced memory cog program addresses target file tree
     placed-by cog target instance file file_is tree tree_is =
-        let f = file-of files children xs target.instance.file file file_is in
-        let g : File = file_of files f.file.tree f.seen f.x in
+        let f = file-of project.changed files children xs target.instance.file file file_is in
+        let g : File = changed_file target.instance.file f.file f.seen f.x in
         let place = method-place g target.method tree (ap (λ (h : File). method_of h target.method) (sym f.is) ∙ tree_is) in
+        let m = own-method target.instance.file f.file f.seen f.x f.there place.0 tree place.2 in
+        let h = method-in target.instance.file f.file f.seen f.x f.there place.0 m.0 m.1 in
         let at = is-at files children xs project clock parts hub top first target.instance instance in
-        let so = placed-so cog target.instance at f.file f.seen f.x f.there place.0 tree place.2
-        (right target.instance instance f.file f.seen f.x f.there.stands f.there.beside f.there.compiled place.0 tree place.2) in
-        subst (λ (h : File). MethodPlaced memory cog program addresses target h tree) (sym f.is)
-        (subst (λ n. MethodPlaced memory cog program addresses (record { instance = target.instance; method = n }) g tree) (sym place.1) so)
+        let so = placed-so cog target.instance at f.file f.seen f.x f.there place.0 m.0 m.1
+        (right target.instance instance f.file f.seen f.x f.there.stands f.there.beside f.there.compiled place.0 m.0 m.1) h in
+        subst (λ (z : File). MethodPlaced memory cog program addresses target z tree) (sym f.is)
+        (subst (λ n. MethodPlaced memory cog program addresses (record { instance = target.instance; method = n }) g tree) (sym place.1)
+        (subst (λ (z : MethodTree). MethodPlaced memory cog program addresses (record { instance = target.instance; method = suc place.0 }) g z) (same_Some (rebodied m.0 h.coded.body) tree (sym h.coded.tree_is ∙ place.2)) so))
 
     pub placed : (cog : ℕ) → Placed memory cog program addresses
     placed cog = record {
@@ -204,16 +230,18 @@ module _ (files : List NamedSource) (children : List Children) (xs : List Compil
 
   -- each method's frame is small
   frame-is : (i : ℕ) (file : NamedSource) (seen : Children) (x : CompiledFile) → IsThere files children xs i file seen x → (k : ℕ) (m : MethodTree) → slice_get (numbered (items file.tree)) k ≡ Some m
-      → (h : IsMethodOf i file seen x k m) → frame_size (file_of files file.tree seen x) m ≡ 4 * length m.params + h.coded.code.locals
+      → (h : IsMethodOf i file seen x k m) → frame_size (changed_file i file seen x) (rebodied m h.coded.body) ≡ 4 * length m.params + h.coded.code.locals
   frame-is i file seen x there k m at h = ap (λ n. 4 * length m.params + n) (sym h.coded.locals)
 
   pub frames-fit : FramesFit program
   frames-fit number file file_is method tree tree_is =
-      let f = file-of files children xs number file file_is in
-      let g : File = file_of files f.file.tree f.seen f.x in
+      let f = file-of project.changed files children xs number file file_is in
+      let g : File = changed_file number f.file f.seen f.x in
       let place = method-place g method tree (ap (λ (h : File). method_of h method) (sym f.is) ∙ tree_is) in
-      let h = method-in number f.file f.seen f.x f.there place.0 tree place.2 in
-      let same : frame_size file tree ≡ 4 * length tree.params + h.coded.code.locals = ap (λ (h : File). frame_size h tree) f.is ∙ frame-is number f.file f.seen f.x f.there place.0 tree place.2 h in
+      let m = own-method number f.file f.seen f.x f.there place.0 tree place.2 in
+      let h = method-in number f.file f.seen f.x f.there place.0 m.0 m.1 in
+      let same : frame_size file tree ≡ 4 * length m.0.params + h.coded.code.locals =
+      ap (λ (z : File). frame_size z tree) f.is ∙ ap (frame_size g) (same_Some tree (rebodied m.0 h.coded.body) (sym place.2 ∙ h.coded.tree_is)) ∙ frame-is number f.file f.seen f.x f.there place.0 m.0 m.1 h in
       omega (arith, same, h.coded.small)
 
   -- what cog 0 starts with
@@ -226,18 +254,18 @@ module _ (files : List NamedSource) (children : List Children) (xs : List Compil
       let shape = header-is all object h.object_is in
       let frame = frame-of object.methods part h.part_is in
       let size = frame-is 0 file seen x there 0 m at h in
-      let g : File = file_of files file.tree seen x in
+      let g : File = changed_file 0 file seen x in
       let high = base-high files children xs project clock parts hub 0 object h.object_is in
       let dbase : (header_of image).dbase ≡ first_frame all = ap (λ (z : Header). z.dbase) (header ∙ shape) in
       let offset : code_offset object 0 ≡ codes_offset object = omega arith in
       let entry : 16 + codes_offset object ≡ (16 + addresses.code 0 1) % 2 ^ 16 = omega (arith, h.code_is, h.entry, high, offset) in
-      let left : first_frame all + 4 + layout.frame_size object.methods - first_frame all - 4 ≡ frame_size g m = omega (arith, frame, size) in
+      let left : first_frame all + 4 + layout.frame_size object.methods - first_frame all - 4 ≡ frame_size g (rebodied m h.coded.body) = omega (arith, frame, size) in
       record {
         file = g;
-        tree = m;
+        tree = rebodied m h.coded.body;
         is_instance = top_instance;
-        is_file = program-at files files children xs 0 file seen x there;
-        is_method = method-there g 0 m at;
+        is_file = changed-at project.changed (program_of files children xs) 0 (file_of files file.tree seen x) (program-at files files children xs 0 file seen x there);
+        is_method = method-there g 0 (rebodied m h.coded.body) h.coded.tree_is;
         is_frame = (ap (λ n. n % 4) (sym dbase) ∙ frame-whole image whole, omega (arith, dbase, hub.high));
         is_origin =
             ap start_of (header ∙ shape)
@@ -246,13 +274,13 @@ module _ (files : List NamedSource) (children : List Children) (xs : List Compil
       }
 
 -- the world of a project's image
-pub world-of : (files : List NamedSource) (children : List Children) (xs : List CompiledFile) → IsProject files children xs → AreProper files → 0 < length files → (clock : Clock) → AllPartsStand clock (objects_of files children xs)
+pub world-of : (files : List NamedSource) (children : List Children) (xs : List CompiledFile) (project : IsProject files children xs) → AreProper files → 0 < length files → (clock : Clock) → AllPartsStand clock (objects_of files children xs)
     → IsImage (image_of clock (objects_of files children xs)) → header_of (image_of clock (objects_of files children xs)) ≡ header_by (objects_of files children xs) → Lies (image_of clock (objects_of files children xs))
-    → NamesHaveRoom files children xs → (w : World) → w.memory ≡ memory_of (image_of clock (objects_of files children xs)) → w.first ≡ start_of (header_of (image_of clock (objects_of files children xs)))
-    → IsWorldOf (program_of files children xs) (addresses_of files xs (objects_of files children xs)) w
+    → NamesHaveRoom project.changed files children xs → (w : World) → w.memory ≡ memory_of (image_of clock (objects_of files children xs)) → w.first ≡ start_of (header_of (image_of clock (objects_of files children xs)))
+    → IsWorldOf (with_sources project.changed (program_of files children xs)) (addresses_of files xs (objects_of files children xs)) w
 world-of files children xs project proper some clock parts whole header hub right w memory_is first_is =
     let all = objects_of files children xs in
-    let program = program_of files children xs in
+    let program = with_sources project.changed (program_of files children xs) in
     let addresses = addresses_of files xs all in
     let f = element files 0 some in
     let c = element children 0 (omega (arith, some, project.seen)) in

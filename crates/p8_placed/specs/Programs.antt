@@ -1,5 +1,5 @@
 -- A project as its source's meaning reads it, and the addresses that its image has.
-use Rattle.std.specs.Prelude.{ℕ, ◌+◌, ◌-◌, ◌%◌, List, [], ◌∷◌, length, map, slice_get, slice_index, Option, option_map, unwrap_or, nat_le, if◌then◌else◌}
+use Rattle.std.specs.Prelude.{ℕ, zero, suc, ◌+◌, ◌-◌, ◌%◌, List, [], ◌∷◌, length, map, slice_get, slice_index, Option, option_map, unwrap_or, nat_le, if◌then◌else◌}
 use Rattle.p8_tree.specs.Sources.{Child, Source}
 use Rattle.p8_tree.specs.Projects.{NamedSource}
 use Rattle.p8_operators.specs.Operators.{or_zero}
@@ -36,6 +36,17 @@ program_from all _ _ _ = []
 
 abbrev pub program_of : List NamedSource → List Children → List CompiledFile → Program
 program_of files children xs = program_from files files children xs
+
+-- a program in which each file has this source in place of its own, by the file's number
+abbrev pub with_sources : (ℕ → Source) → Program → Program
+with_sources sources [] = []
+with_sources sources (file ∷ files) = record file { source = sources 0 } ∷ with_sources (λ i. sources (suc i)) files
+
+-- the sources of a project's files, by their numbers
+abbrev pub own_sources : List NamedSource → ℕ → Source
+own_sources [] i = []
+own_sources (file ∷ files) zero = file.tree
+own_sources (file ∷ files) (suc i) = own_sources files i
 
 -- ---- its addresses
 

@@ -1,6 +1,7 @@
 // Laws of the images of projects. The functions hold no code of their own: their contracts are the laws.
 ghost use Rattle.std.specs.Prelude.{◌≡◌, ◌<◌, ℕ, length, List};
 ghost use Rattle.p8_tree.specs.Projects.{NamedSource};
+ghost use Rattle.p8_tree.specs.Sources.{Source};
 ghost use Rattle.p8_kinds.specs.declared.children.Children.{Children};
 ghost use Rattle.p8_children.specs.Mentions.{AreDistinct, HaveMentioned, HaveNoRing};
 ghost use Rattle.p8_children.specs.Children.{AreChildren};
@@ -14,11 +15,34 @@ ghost use Rattle.p8_build.specs.Parts.{AreProper};
 ghost use Rattle.p8_build.specs.Files.{CompiledFile};
 ghost use Rattle.p8_build.specs.Builds.{AreCompiled, objects_of};
 ghost use Rattle.p8_told_lives.specs.Told.{IsWorldOf};
-ghost use Rattle.p8_placed.specs.Programs.{program_of, addresses_of};
+ghost use Rattle.p8_placed.specs.Programs.{program_of, with_sources, addresses_of};
+ghost use Rattle.p8_placed.specs.Recoding.{AreRecoded};
 ghost use Rattle.p8_placed.specs.Meaning.{KeepsMeaning};
 
 use p8_image::{image_loads, parts_stand};
 use p8_keeps::code_keeps_meaning;
+
+/// Law: the memory that the image of an accepted project starts with has the methods of a changed source, where its codes are those of the
+/// changed bodies, each with such jumps wide that every offset fits; and what cog 0 starts with is the first method of the top file.
+///
+/// The files are those of a project with the top file first, each one read, under names of their own, and the file of each object among
+/// them, and none leads back to itself through its objects. The changed sources have the same methods but for their bodies. The texts and all
+/// addresses are those of the files' own sources.
+pub fn recoded_images_have_their_methods()
+    ensures { (files : List NamedSource) → (changed : ℕ → Source) → (children : List Children) → (xs : List CompiledFile) → (clock : ClockOf) → AreProper files → 0 < length files → AreDistinct files → HaveMentioned files → HaveNoRing files → AreChildren files children → AreRecoded files changed children xs → FitsHub (header_by (objects_of files children xs)) → (w : World) → w.memory ≡ memory_of (image_of clock (objects_of files children xs)) → w.first ≡ start_of (header_of (image_of clock (objects_of files children xs))) → IsWorldOf (with_sources changed (program_of files children xs)) (addresses_of files xs (objects_of files children xs)) w }
+{
+    image_loads();
+    parts_stand();
+}
+
+/// Law: such an image keeps the meaning of the changed source, whatever runs beside it: of each of its methods, in each frame and each cog. The
+/// files are as above.
+pub fn recoded_images_keep_meaning()
+    ensures { (files : List NamedSource) → (changed : ℕ → Source) → (children : List Children) → (xs : List CompiledFile) → (clock : ClockOf) → AreProper files → 0 < length files → AreDistinct files → HaveMentioned files → HaveNoRing files → AreChildren files children → AreRecoded files changed children xs → FitsHub (header_by (objects_of files children xs)) → KeepsMeaning (memory_of (image_of clock (objects_of files children xs))) (with_sources changed (program_of files children xs)) (addresses_of files xs (objects_of files children xs)) }
+{
+    recoded_images_have_their_methods();
+    code_keeps_meaning();
+}
 
 /// Law: the memory that the image of an accepted project starts with has the methods of its source, and what cog 0 starts with is the first
 /// method of its top file.
@@ -28,8 +52,7 @@ use p8_keeps::code_keeps_meaning;
 pub fn images_have_their_methods()
     ensures { (files : List NamedSource) → (children : List Children) → (xs : List CompiledFile) → (clock : ClockOf) → AreProper files → 0 < length files → AreDistinct files → HaveMentioned files → HaveNoRing files → AreChildren files children → AreCompiled files children xs → FitsHub (header_by (objects_of files children xs)) → (w : World) → w.memory ≡ memory_of (image_of clock (objects_of files children xs)) → w.first ≡ start_of (header_of (image_of clock (objects_of files children xs))) → IsWorldOf (program_of files children xs) (addresses_of files xs (objects_of files children xs)) w }
 {
-    image_loads();
-    parts_stand();
+    recoded_images_have_their_methods();
 }
 
 /// Law: the image of an accepted project keeps the meaning of its source, whatever runs beside it: of each of its methods, in each frame and

@@ -3,4 +3,7 @@
 
 mod laws;
 
-pub use laws::{images_have_their_methods, images_keep_meaning};
+pub use laws::{
+    images_have_their_methods, images_keep_meaning, recoded_images_have_their_methods,
+    recoded_images_keep_meaning,
+};

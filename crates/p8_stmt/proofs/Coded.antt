@@ -4,13 +4,14 @@ use Rattle.std.specs.Prelude.{Contains, All, flat_map}
 use Rattle.std.proofs.lemmas.Bool.Decides.{nat_tests}
 use Rattle.p8_tree.specs.declared.places.Place.{Place}
 use Rattle.p8_tree.specs.Sources.{MethodTree}
+use Rattle.p8_tree.specs.Statements.{Statements}
 use Rattle.p8_bytecode.specs.declared.op.Op.{Op}
 use Rattle.p8_faults.specs.declared.faults.Fault.{Fault}
 use Rattle.p8_faults.specs.Faults.{IsFirstFault}
 use Rattle.p8_faults.proofs.Firsts.{IsFirstFault-along}
 use Rattle.p8_gen.specs.Depths.{held_in}
 use Rattle.p8_gen.specs.Methods.{method_code}
-use Rattle.p8_gen.specs.Names.{Names}
+use Rattle.p8_gen.specs.Names.{Names, widened}
 use Rattle.p8_gen.specs.Operations.{IsWhole}
 use Rattle.p8_stmt.specs.Cutting.{cut, cut_longs}
 use Rattle.p8_stmt.specs.Methods.{longs_in, most_longs, most_held, AreResolved, IsMethodFault, IsCodeOf}
@@ -65,6 +66,16 @@ neither_right false u h = sym h
 neither_right true u h = absurd cc
 
 -- ---- a method without a fault
+
+-- what is resolved is so whatever jumps are wide
+pub widened_resolved : (n : Names) (wide : ℕ → Bool) (ss : Statements) → AreResolved n ss → AreResolved (widened n wide) ss
+widened_resolved n wide ss is = record {
+  proper = is.proper;
+  bytes = record { kinds = is.bytes.kinds; publics = is.bytes.publics };
+  environment = is.environment;
+  kinds = is.kinds;
+  clean = is.clean;
+}
 
 no_places : (ps : List Place) (name : Place) (large : Bool) → faults_of ps name large ≡ [] → ps ≡ []
 no_places [] name large h = refl

@@ -17,22 +17,28 @@ use Rattle.p8_tree.specs.Statements.{Course, Forever, Count, Before, After, From
 use Rattle.p8_tree.specs.Views.{tree_of, item_of, items_of, items_after, course_of, action_of, arm_of, arms_of, statement_of, statements_of}
 use Rattle.p8_tree.specs.Bridges.{other_body, arm_is, if_is, case_is, repeat_is, items_of-push, statements_of-push, arms_of-push}
 use Rattle.p8_gen.specs.Names.{Names}
-use Rattle.p8_gen.specs.Pieces.{Written, empty, Piece, nothing, ◌⨾◌, up_to_end, byte, jump}
+use Rattle.p8_gen.specs.Pieces.{Written, from_place, Piece, nothing, ◌⨾◌, up_to_end, up_to_jumps, byte, jump}
 use Rattle.p8_gen.specs.Expressions.{value}
 use Rattle.p8_gen.specs.Statements.{Loop, SameLoop, inside, zero_jump, test_of, tests, step_effect, plain_name, code, code_of, body, chain, all_tests, case_bodies}
 use Rattle.p8_gen.specs.Writing.{Stands}
 use Rattle.p8_gen.specs.declared.writer.Writer.{Writer}
-use Rattle.p8_gen.proofs.Widths.{Alike, nothings, same-one, bytes, jumps, steps, both, ups, froms, either, value-alike, test-alike, tests-alike, step-alike, body-alike, chain-alike, other-alike, all-tests-alike, bodies-alike}
+use Rattle.p8_gen.proofs.Widths.{Alike, nothings, same-one, bytes, jumps, steps, both, ups, up-jumps, froms, either, value-alike, test-alike, tests-alike, step-alike, body-alike, chain-alike, other-alike, all-tests-alike, bodies-alike}
 use Rattle.p8_stmt.specs.Walking.{leap, arm_piece, branches, choices, bodies, case_piece, case_body, tests_of_arms, head, first_test, pass_end, looped, loop_piece}
 
 -- ---- where pieces end
 
 pub same_end : {a b : Piece} → Alike a b → (w : Written) → (a w).end ≡ (b w).end
-same_end alike w = omega (arith, alike.ends w w)
+same_end alike w = let same = alike.ends w w refl in omega (arith, same)
 
--- a piece that is told its end ends where it ends when it is told anything else
+pub same_jumps : {a b : Piece} → Alike a b → (w : Written) → (a w).jumps ≡ (b w).jumps
+same_jumps alike w = alike.counts w w refl
+
+-- a piece that is told its end ends where it ends when it is told anything else, and has as many jumps
 pub up_ends : {p : ℕ → Piece} → ((x y : ℕ) → Alike (p x) (p y)) → (w : Written) (e : ℕ) → e ≡ (p 0 w).end → e ≡ (up_to_end p w).end
 up_ends {p} alike w e is = is ∙ same_end (alike 0 (p 0 w).end) w
+
+pub up_counts : {p : ℕ → Piece} → ((x y : ℕ) → Alike (p x) (p y)) → (w : Written) (j : ℕ) → j ≡ (p 0 w).jumps → j ≡ (up_to_end p w).jumps
+up_counts {p} alike w j is = is ∙ same_jumps (alike 0 (p 0 w).end) w
 
 same_loop : (l : Option Loop) → SameLoop l l
 same_loop None = tt
@@ -46,28 +52,28 @@ module _ (n : Names) where
   value_same e = value-alike n n.text n.statement e
 
   leap_same : (t : Bool) (x y : ℕ) → Alike (leap n t x) (leap n t y)
-  leap_same t x y = either t (jumps _ _ _ x y) nothings
+  leap_same t x y = either t (jumps n.wide n.statement n.statement _ x y) nothings
 
   module _ (l : Option Loop) where
     pub branches_same : (a : Action) (x y : ℕ) → Alike (branches n l a x) (branches n l a y)
-    branches_same (If arms nothing_else) x y = chain-alike n n.text n.statement l l (same_loop l) _ _ _ _ (jumps _ _ _ x y) nothings arms
+    branches_same (If arms nothing_else) x y = chain-alike n n.text n.statement l l (same_loop l) _ _ _ _ (jumps n.wide n.statement n.statement _ x y) nothings arms
     branches_same (If arms (otherwise ss)) x y =
-        both (chain-alike n n.text n.statement l l (same_loop l) _ _ _ _ (jumps _ _ _ x y) (jumps _ _ _ x y) arms) (body_same l l (same_loop l) ss)
+        both (chain-alike n n.text n.statement l l (same_loop l) _ _ _ _ (jumps n.wide n.statement n.statement _ x y) (jumps n.wide n.statement n.statement _ x y) arms) (body_same l l (same_loop l) ss)
     branches_same (Do e) x y = nothings
     branches_same _ x y = nothings
 
     pub arm_same : (t : Bool) (end : ℕ) (a : Arm) (x y : ℕ) → Alike (arm_piece n l (leap n t end) a x) (arm_piece n l (leap n t end) a y)
     arm_same t end (arm items negated ss) x y =
-        both (both (both (test-alike n n.text n.statement items) (jumps _ _ _ x y)) (body_same l l (same_loop l) ss)) (leap_same t end end)
+        both (both (both (test-alike n n.text n.statement items) (jumps n.wide n.statement n.statement _ x y)) (body_same l l (same_loop l) ss)) (leap_same t end end)
 
-    tests_same : (first last : ℕ) (arms : Arms) → Alike (all_tests n l first arms) (all_tests n l last arms)
-    tests_same first last arms = all-tests-alike n n.text n.statement l l (same_loop l) first last arms
+    tests_same : (first last i j : ℕ) (arms : Arms) → Alike (all_tests n l first i arms) (all_tests n l last j arms)
+    tests_same first last i j arms = all-tests-alike n n.text n.statement l l (same_loop l) first last i j arms
 
-    choices_same : (a : Action) (first last x y : ℕ) → Alike (choices n l a first x) (choices n l a last y)
-    choices_same (Case e arms other) first last x y =
-        both (both (both (both (value_same e) (tests_same first last arms)) (bytes 0x0C)) (other-alike n n.text n.statement l l (same_loop l) other)) (jumps _ _ _ x y)
-    choices_same (Do e) first last x y = nothings
-    choices_same _ first last x y = nothings
+    choices_same : (a : Action) (first last i j x y : ℕ) → Alike (choices n l a first i x) (choices n l a last j y)
+    choices_same (Case e arms other) first last i j x y =
+        both (both (both (both (value_same e) (tests_same first last i j arms)) (bytes 0x0C)) (other-alike n n.text n.statement l l (same_loop l) other)) (jumps n.wide n.statement n.statement _ x y)
+    choices_same (Do e) first last i j x y = nothings
+    choices_same _ first last i j x y = nothings
 
     bodies_same : (a : Action) (x y : ℕ) → Alike (bodies n l a x) (bodies n l a y)
     bodies_same (Case e arms other) x y = bodies-alike n n.text n.statement l l (same_loop l) x y arms
@@ -76,30 +82,48 @@ module _ (n : Names) where
 
     -- where a CASE's choices end, and where it ends itself, as they are counted
     module _ (a : Action) (w : Written) where
-      first_is : (x : ℕ) → (choices n l a 0 0 w).end ≡ (choices n l a 0 x w).end
-      first_is x = same_end (choices_same a 0 0 0 x) w
+      abbrev counted : Written
+      counted = choices n l a 0 0 0 w
 
-      end_is : (bodies n l a 0 (choices n l a 0 0 w)).end ≡ (bodies n l a 0 (choices n l a (choices n l a 0 0 w).end 0 w)).end
-      end_is = same_end (both (choices_same a 0 (choices n l a 0 0 w).end 0 0) (bodies_same a 0 0)) w
+      first_is : (x : ℕ) → counted.end ≡ (choices n l a 0 0 x w).end
+      first_is x = same_end (choices_same a 0 0 0 0 0 x) w
+
+      before_is : (x : ℕ) → counted.jumps ≡ (choices n l a 0 0 x w).jumps
+      before_is x = same_jumps (choices_same a 0 0 0 0 0 x) w
+
+      placed_same : Alike (choices n l a 0 0 0 ⨾ bodies n l a 0) (choices n l a counted.end counted.jumps 0 ⨾ bodies n l a 0)
+      placed_same = both (choices_same a 0 counted.end 0 counted.jumps 0 0) (bodies_same a 0 0)
+
+      end_is : (bodies n l a 0 counted).end ≡ (bodies n l a 0 (choices n l a counted.end counted.jumps 0 w)).end
+      end_is = same_end placed_same w
 
       -- what is written where a CASE's places were counted
-      pub case_written : (first end : ℕ) → first ≡ (choices n l a 0 0 w).end → end ≡ (bodies n l a 0 (choices n l a 0 0 w)).end →
-          bodies n l a end (choices n l a first end w) ≡ case_piece n l a w
-      case_written first end f_is e_is =
-          ap₂ (λ f x. bodies n l a x (choices n l a f x w)) (f_is ∙ first_is (bodies n l a 0 (choices n l a (choices n l a 0 0 w).end 0 w)).end) (e_is ∙ end_is)
+      pub case_written : (first before end : ℕ) → first ≡ counted.end → before ≡ counted.jumps → end ≡ (bodies n l a 0 counted).end →
+          bodies n l a end (choices n l a first before end w) ≡ case_piece n l a w
+      case_written first before end f_is b_is e_is =
+          let whole = (bodies n l a 0 (choices n l a counted.end counted.jumps 0 w)).end in
+          ap₂ (λ f b. bodies n l a end (choices n l a f b end w)) (f_is ∙ first_is whole) (b_is ∙ before_is whole)
+          ∙ ap (λ x. bodies n l a x (choices n l a (choices n l a 0 0 whole w).end (choices n l a 0 0 whole w).jumps x w)) (e_is ∙ end_is)
 
-      pub case_ends : (end : ℕ) → end ≡ (bodies n l a 0 (choices n l a 0 0 w)).end → end ≡ (case_piece n l a w).end
-      case_ends end is =
-          up_ends {p = λ end. up_to_end (λ first. choices n l a first end) ⨾ bodies n l a end} (λ x y. both (ups (λ f g. choices_same a f g x y)) (bodies_same a x y)) w end (is ∙ end_is)
+      case_same : (x y : ℕ) → Alike (up_to_jumps (λ first before. choices n l a first before x) ⨾ bodies n l a x) (up_to_jumps (λ first before. choices n l a first before y) ⨾ bodies n l a y)
+      case_same x y = both (up-jumps (λ f g i j. choices_same a f g i j x y)) (bodies_same a x y)
+
+      pub case_ends : (end : ℕ) → end ≡ (bodies n l a 0 counted).end → end ≡ (case_piece n l a w).end
+      case_ends end is = up_ends {p = λ end. up_to_jumps (λ first before. choices n l a first before end) ⨾ bodies n l a end} case_same w end (is ∙ end_is)
+
+      pub case_jumps : (jumps : ℕ) → jumps ≡ (bodies n l a 0 counted).jumps → jumps ≡ (case_piece n l a w).jumps
+      case_jumps jumps is =
+          up_counts {p = λ end. up_to_jumps (λ first before. choices n l a first before end) ⨾ bodies n l a end} case_same w jumps (is ∙ same_jumps placed_same w)
 
     -- the tests alone are as long as the tests with their places
-    pub tests_alone : (first : ℕ) (arms : Arms) → Alike (tests_of_arms n arms) (all_tests n l first arms)
-    tests_alone first no_arms = nothings
-    tests_alone first (arms ⊳ arm items negated ss) = both (tests_alone first arms) (tests-alike n n.text n.statement 0 (case_bodies n l 0 arms (record empty { end = first })).end items)
+    pub tests_alone : (first before : ℕ) (arms : Arms) → Alike (tests_of_arms n arms) (all_tests n l first before arms)
+    tests_alone first before no_arms = nothings
+    tests_alone first before (arms ⊳ arm items negated ss) =
+        both (tests_alone first before arms) (tests-alike n n.text n.statement 0 (case_bodies n l 0 arms (from_place first before)).end items)
 
   head_same : (c : Course) (x y : ℕ) → Alike (head n c x) (head n c y)
   head_same Forever x y = nothings
-  head_same (Count e) x y = both (value_same e) (jumps _ _ _ x y)
+  head_same (Count e) x y = both (value_same e) (jumps n.wide n.statement n.statement _ x y)
   head_same (Before until e) x y = nothings
   head_same (After until e) x y = nothings
   head_same (From name a b step q) x y = both (value_same a) (same-one _)
@@ -107,17 +131,17 @@ module _ (n : Names) where
   first_same : (c : Course) (x y : ℕ) → Alike (first_test n c x) (first_test n c y)
   first_same Forever x y = nothings
   first_same (Count e) x y = nothings
-  first_same (Before until e) x y = both (value_same e) (jumps _ _ _ x y)
+  first_same (Before until e) x y = both (value_same e) (jumps n.wide n.statement n.statement _ x y)
   first_same (After until e) x y = nothings
   first_same (From name a b step q) x y = nothings
 
   pass_same : (c : Course) (x y : ℕ) → Alike (pass_end n c x) (pass_end n c y)
-  pass_same Forever x y = jumps _ _ _ x y
-  pass_same (Count e) x y = jumps _ _ _ x y
-  pass_same (Before until e) x y = jumps _ _ _ x y
-  pass_same (After until e) x y = both (value_same e) (jumps _ _ _ x y)
+  pass_same Forever x y = jumps n.wide n.statement n.statement _ x y
+  pass_same (Count e) x y = jumps n.wide n.statement n.statement _ x y
+  pass_same (Before until e) x y = jumps n.wide n.statement n.statement _ x y
+  pass_same (After until e) x y = both (value_same e) (jumps n.wide n.statement n.statement _ x y)
   pass_same (From name a b step q) x y =
-      both (both (both (step-alike n n.text n.statement step) (value_same a)) (value_same b)) (steps n.statement n.statement x y (plain_name n name (step_effect step)))
+      both (both (both (step-alike n n.text n.statement step) (value_same a)) (value_same b)) (steps n.wide n.statement n.statement x y (plain_name n name (step_effect step)))
 
   pub next_same : (x y : ℕ) (counted : Bool) (ss : Statements) (v w : ℕ) → Alike (body n (inside v x counted) ss) (body n (inside w y counted) ss)
   next_same x y counted ss v w = body_same (inside v x counted) (inside w y counted) refl ss
@@ -144,14 +168,14 @@ module _ (n : Names) (l : Option Loop) where
   or_less true i k lt = refl
   or_less false i k lt = grind (arith, nat_tests)
 
-  jumps_first : (t : Bool) (i k end : ℕ) → i < k → leap n (t || nat_lt i k) end ≡ jump n.statement 0x04 end
+  jumps_first : (t : Bool) (i k end : ℕ) → i < k → leap n (t || nat_lt i k) end ≡ jump n.wide n.statement 0x04 end
   jumps_first t i k end lt = let is = or_less t i k lt in ap (λ t. leap n t end) is
 
   pub arms_next : (t : Bool) (end : ℕ) (xs : List code_arm.Arm) (i : ℕ) (d : code_arm.Arm) (w : Written) (last : Piece) → i < length xs →
-      up_to_end (arm_piece n l last (arm_of (get_or xs i d))) (chain n l (jump n.statement 0x04 end) (leap n (t || nat_lt i (length xs)) end) (arms_of (take i xs)) w)
-      ≡ chain n l (jump n.statement 0x04 end) last (arms_of (take (i + 1) xs)) w
+      up_to_end (arm_piece n l last (arm_of (get_or xs i d))) (chain n l (jump n.wide n.statement 0x04 end) (leap n (t || nat_lt i (length xs)) end) (arms_of (take i xs)) w)
+      ≡ chain n l (jump n.wide n.statement 0x04 end) last (arms_of (take (i + 1) xs)) w
   arms_next t end xs i d w last lt =
-      let far = jump n.statement 0x04 end in
+      let far = jump n.wide n.statement 0x04 end in
       ap (λ p. up_to_end (arm_piece n l last (arm_of (get_or xs i d))) (chain n l far p (arms_of (take i xs)) w)) (jumps_first t i (length xs) end lt)
       ∙ arm_behind far last (arms_of (take i xs)) (arm_of (get_or xs i d)) w
       ∙ sym (ap (λ xs. chain n l far last (arms_of xs) w) (take_more xs i d lt) ∙ ap (λ xs. chain n l far last xs w) (arms_of-push (take i xs) (get_or xs i d)))
@@ -173,30 +197,31 @@ arm_form x = ap arm_of (sym (roll-out-Arm x)) ∙ arm_is (out-Arm x).tests (out-
 
 module _ (n : Names) (l : Option Loop) where
   pub arm_to_is : (last : Piece) (x : code_arm.Arm) (ts : List item.Item) (code : ℕ) (ss : List stmt.Stmt) (next : ℕ) (w : Written) → ts ≡ (out-Arm x).tests → code ≡ zero_jump (out-Arm x).negated → ss ≡ (out-Arm x).body.items →
-      last (body n l (statements_of ss) (jump n.statement code next (test_of n (items_of ts) w))) ≡ arm_piece n l last (arm_of x) next w
+      last (body n l (statements_of ss) (jump n.wide n.statement code next (test_of n (items_of ts) w))) ≡ arm_piece n l last (arm_of x) next w
   arm_to_is last x ts code ss next w t c b =
-      ap (λ ts. last (body n l (statements_of ss) (jump n.statement code next (test_of n (items_of ts) w)))) t
-      ∙ ap (λ code. last (body n l (statements_of ss) (jump n.statement code next (test_of n (items_of (out-Arm x).tests) w)))) c
-      ∙ ap (λ ss. last (body n l (statements_of ss) (jump n.statement (zero_jump (out-Arm x).negated) next (test_of n (items_of (out-Arm x).tests) w)))) b
+      ap (λ ts. last (body n l (statements_of ss) (jump n.wide n.statement code next (test_of n (items_of ts) w)))) t
+      ∙ ap (λ code. last (body n l (statements_of ss) (jump n.wide n.statement code next (test_of n (items_of (out-Arm x).tests) w)))) c
+      ∙ ap (λ ss. last (body n l (statements_of ss) (jump n.wide n.statement (zero_jump (out-Arm x).negated) next (test_of n (items_of (out-Arm x).tests) w)))) b
       ∙ sym (ap (λ a. arm_piece n l last a next w) (arm_form x))
 
-  pub case_body_is : (end : ℕ) (x : code_arm.Arm) (ss : List stmt.Stmt) (w : Written) → ss ≡ (out-Arm x).body.items → jump n.statement 0x04 end (body n l (statements_of ss) (byte 0x0C w)) ≡ case_body n l end (arm_of x) w
-  case_body_is end x ss w b = ap (λ ss. jump n.statement 0x04 end (body n l (statements_of ss) (byte 0x0C w))) b ∙ sym (ap (λ a. case_body n l end a w) (arm_form x))
+  pub case_body_is : (end : ℕ) (x : code_arm.Arm) (ss : List stmt.Stmt) (w : Written) → ss ≡ (out-Arm x).body.items → jump n.wide n.statement 0x04 end (body n l (statements_of ss) (byte 0x0C w)) ≡ case_body n l end (arm_of x) w
+  case_body_is end x ss w b = ap (λ ss. jump n.wide n.statement 0x04 end (body n l (statements_of ss) (byte 0x0C w))) b ∙ sym (ap (λ a. case_body n l end a w) (arm_form x))
 
 module _ (n : Names) where
-  tests_behind : (l : Option Loop) (first : ℕ) (xs : Arms) (x : Arm) (w : Written) → tests n (case_bodies n l 0 xs (record empty { end = first })).end (tests_in x) (all_tests n l first xs w) ≡ all_tests n l first (xs ⊳ x) w
-  tests_behind l first xs (arm items negated ss) w = refl
+  tests_behind : (l : Option Loop) (first before : ℕ) (xs : Arms) (x : Arm) (w : Written) →
+      tests n (case_bodies n l 0 xs (from_place first before)).end (tests_in x) (all_tests n l first before xs w) ≡ all_tests n l first before (xs ⊳ x) w
+  tests_behind l first before xs (arm items negated ss) w = refl
 
-  pub all_tests_next : (l : Option Loop) (first to : ℕ) (xs : List code_arm.Arm) (i : ℕ) (d : code_arm.Arm) (ts : List item.Item) (w : Written) → i < length xs → ts ≡ (out-Arm (get_or xs i d)).tests →
-      to ≡ (case_bodies n l 0 (arms_of (take i xs)) (record empty { end = first })).end →
-      tests n to (items_of ts) (all_tests n l first (arms_of (take i xs)) w) ≡ all_tests n l first (arms_of (take (i + 1) xs)) w
-  all_tests_next l first to xs i d ts w lt is at =
-      let before = all_tests n l first (arms_of (take i xs)) w in
+  pub all_tests_next : (l : Option Loop) (first before to : ℕ) (xs : List code_arm.Arm) (i : ℕ) (d : code_arm.Arm) (ts : List item.Item) (w : Written) → i < length xs → ts ≡ (out-Arm (get_or xs i d)).tests →
+      to ≡ (case_bodies n l 0 (arms_of (take i xs)) (from_place first before)).end →
+      tests n to (items_of ts) (all_tests n l first before (arms_of (take i xs)) w) ≡ all_tests n l first before (arms_of (take (i + 1) xs)) w
+  all_tests_next l first before to xs i d ts w lt is at =
+      let tested = all_tests n l first before (arms_of (take i xs)) w in
       let x = get_or xs i d in
-      ap (λ to. tests n to (items_of ts) before) at
-      ∙ ap (λ items. tests n (case_bodies n l 0 (arms_of (take i xs)) (record empty { end = first })).end items before) (ap items_of is ∙ sym (ap tests_in (arm_form x)))
-      ∙ tests_behind l first (arms_of (take i xs)) (arm_of x) w
-      ∙ sym (ap (λ xs. all_tests n l first (arms_of xs) w) (take_more xs i d lt) ∙ ap (λ xs. all_tests n l first xs w) (arms_of-push (take i xs) x))
+      ap (λ to. tests n to (items_of ts) tested) at
+      ∙ ap (λ items. tests n (case_bodies n l 0 (arms_of (take i xs)) (from_place first before)).end items tested) (ap items_of is ∙ sym (ap tests_in (arm_form x)))
+      ∙ tests_behind l first before (arms_of (take i xs)) (arm_of x) w
+      ∙ sym (ap (λ xs. all_tests n l first before (arms_of xs) w) (take_more xs i d lt) ∙ ap (λ xs. all_tests n l first before xs w) (arms_of-push (take i xs) x))
 
   alone_behind : (xs : Arms) (x : Arm) (w : Written) → tests n 0 (tests_in x) (tests_of_arms n xs w) ≡ tests_of_arms n (xs ⊳ x) w
   alone_behind xs (arm items negated ss) w = refl
@@ -253,11 +278,11 @@ module _ (n : Names) (l : Option Loop) where
   if_form k v o is = subst (λ a. up_to_end (branches n l a) ≡ code_of n l a) (sym (if_action k v o is)) (if_piece (arms_of v.items) (other_body o))
 
   pub branch_none : (k : stmt_kind.StmtKind) (v : Vec code_arm.Arm Global) (o : Option (Vec stmt.Stmt Global)) (end : ℕ) → k ≡ stmt_case.If v o → o ≡ None →
-      chain n l (jump n.statement 0x04 end) nothing (arms_of v.items) ≡ branches n l (action_of k) end
+      chain n l (jump n.wide n.statement 0x04 end) nothing (arms_of v.items) ≡ branches n l (action_of k) end
   branch_none k v o end is none = ap (λ o. branches n l (If (arms_of v.items) (other_body o)) end) (sym none) ∙ sym (ap (λ a. branches n l a end) (if_action k v o is))
 
   pub branch_some : (k : stmt_kind.StmtKind) (v : Vec code_arm.Arm Global) (o : Option (Vec stmt.Stmt Global)) (u : Vec stmt.Stmt Global) (end : ℕ) → k ≡ stmt_case.If v o → o ≡ Some u →
-      (chain n l (jump n.statement 0x04 end) (jump n.statement 0x04 end) (arms_of v.items) ⨾ body n l (statements_of u.items)) ≡ branches n l (action_of k) end
+      (chain n l (jump n.wide n.statement 0x04 end) (jump n.wide n.statement 0x04 end) (arms_of v.items) ⨾ body n l (statements_of u.items)) ≡ branches n l (action_of k) end
   branch_some k v o u end is some = ap (λ o. branches n l (If (arms_of v.items) (other_body o)) end) (sym some) ∙ sym (ap (λ a. branches n l a end) (if_action k v o is))
 
   case_action : (k : stmt_kind.StmtKind) (x : expr.Expr) (v : Vec code_arm.Arm Global) (o : Option (Vec stmt.Stmt Global)) → k ≡ stmt_case.Case x v o → action_of k ≡ Case (tree_of x) (arms_of v.items) (other_body o)
@@ -266,15 +291,15 @@ module _ (n : Names) (l : Option Loop) where
   pub case_form : (k : stmt_kind.StmtKind) (x : expr.Expr) (v : Vec code_arm.Arm Global) (o : Option (Vec stmt.Stmt Global)) → k ≡ stmt_case.Case x v o → case_piece n l (action_of k) ≡ code_of n l (action_of k)
   case_form k x v o is = subst (λ a. case_piece n l a ≡ code_of n l a) (sym (case_action k x v o is)) refl
 
-  pub choice_none : (k : stmt_kind.StmtKind) (x : expr.Expr) (v : Vec code_arm.Arm Global) (o : Option (Vec stmt.Stmt Global)) (first end : ℕ) → k ≡ stmt_case.Case x v o → o ≡ None →
-      (value n (tree_of x) ⨾ all_tests n l first (arms_of v.items) ⨾ byte 0x0C ⨾ jump n.statement 0x04 end) ≡ choices n l (action_of k) first end
-  choice_none k x v o first end is none =
-      ap (λ o. choices n l (Case (tree_of x) (arms_of v.items) (other_body o)) first end) (sym none) ∙ sym (ap (λ a. choices n l a first end) (case_action k x v o is))
+  pub choice_none : (k : stmt_kind.StmtKind) (x : expr.Expr) (v : Vec code_arm.Arm Global) (o : Option (Vec stmt.Stmt Global)) (first before end : ℕ) → k ≡ stmt_case.Case x v o → o ≡ None →
+      (value n (tree_of x) ⨾ all_tests n l first before (arms_of v.items) ⨾ byte 0x0C ⨾ jump n.wide n.statement 0x04 end) ≡ choices n l (action_of k) first before end
+  choice_none k x v o first before end is none =
+      ap (λ o. choices n l (Case (tree_of x) (arms_of v.items) (other_body o)) first before end) (sym none) ∙ sym (ap (λ a. choices n l a first before end) (case_action k x v o is))
 
-  pub choice_some : (k : stmt_kind.StmtKind) (x : expr.Expr) (v : Vec code_arm.Arm Global) (o : Option (Vec stmt.Stmt Global)) (u : Vec stmt.Stmt Global) (first end : ℕ) → k ≡ stmt_case.Case x v o → o ≡ Some u →
-      (value n (tree_of x) ⨾ all_tests n l first (arms_of v.items) ⨾ byte 0x0C ⨾ body n l (statements_of u.items) ⨾ jump n.statement 0x04 end) ≡ choices n l (action_of k) first end
-  choice_some k x v o u first end is some =
-      ap (λ o. choices n l (Case (tree_of x) (arms_of v.items) (other_body o)) first end) (sym some) ∙ sym (ap (λ a. choices n l a first end) (case_action k x v o is))
+  pub choice_some : (k : stmt_kind.StmtKind) (x : expr.Expr) (v : Vec code_arm.Arm Global) (o : Option (Vec stmt.Stmt Global)) (u : Vec stmt.Stmt Global) (first before end : ℕ) → k ≡ stmt_case.Case x v o → o ≡ Some u →
+      (value n (tree_of x) ⨾ all_tests n l first before (arms_of v.items) ⨾ byte 0x0C ⨾ body n l (statements_of u.items) ⨾ jump n.wide n.statement 0x04 end) ≡ choices n l (action_of k) first before end
+  choice_some k x v o u first before end is some =
+      ap (λ o. choices n l (Case (tree_of x) (arms_of v.items) (other_body o)) first before end) (sym some) ∙ sym (ap (λ a. choices n l a first before end) (case_action k x v o is))
 
   pub bodies_form : (k : stmt_kind.StmtKind) (x : expr.Expr) (v : Vec code_arm.Arm Global) (o : Option (Vec stmt.Stmt Global)) (end : ℕ) → k ≡ stmt_case.Case x v o → case_bodies n l end (arms_of v.items) ≡ bodies n l (action_of k) end
   bodies_form k x v o end is = sym (ap (λ a. bodies n l a end) (case_action k x v o is))

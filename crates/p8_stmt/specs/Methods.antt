@@ -36,6 +36,10 @@ pub record AreResolved (names : Names) (ss : Statements) : Type 0 where
   pub kinds : (name : List ℕ) → names.kind name ≡ kind_in environment name
   pub clean : (f : Fault) → ¬ MisuseInStatements environment ss f
 
+-- a method with another body
+abbrev pub rebodied : MethodTree → Statements → MethodTree
+rebodied m body = record m { body = body }
+
 -- ---- code
 
 -- a local has as many longs as its count says, or one where it has none
@@ -69,7 +73,7 @@ most_longs = 2048
 abbrev pub most_held : ℕ
 most_held = 128
 
--- 25 at a statement with a jump that goes too far; 26 at the name of a method whose frame is too large, or that holds too much
+-- 25 at a statement with a jump that goes too far for its width; 26 at the name of a method whose frame is too large, or that holds too much
 pub data IsMethodFault (names : Names) (m : MethodTree) (f : Fault) : Type 0 where
   jump_too_far : (place : Place) → Contains (method_code names m.body).too_far place → fault 25 place ≡ f → IsMethodFault names m f
   frame_too_large : most_longs < 1 + length m.params + longs_in names.constants m.locals → fault 26 m.place ≡ f → IsMethodFault names m f

@@ -3,7 +3,7 @@ use Rattle.std.specs.Prelude.{ℕ, Bool, true, false, not, if◌then◌else◌, 
 use Rattle.p8_tree.specs.Expressions.{Tree}
 use Rattle.p8_tree.specs.Statements.{Action, If, Case, nothing_else, otherwise, Course, Forever, Count, Before, After, From, Arm, arm, Arms, no_arms, ◌⊳◌, Statements}
 use Rattle.p8_gen.specs.Names.{Names}
-use Rattle.p8_gen.specs.Pieces.{Piece, nothing, one, ◌⨾◌, from_start, up_to_end, byte, jump, jumping}
+use Rattle.p8_gen.specs.Pieces.{Piece, nothing, one, ◌⨾◌, from_start, up_to_end, up_to_jumps, byte, jump, jumping}
 use Rattle.p8_gen.specs.Variables.{home_of, plain_op, Pop}
 use Rattle.p8_gen.specs.Expressions.{value}
 use Rattle.p8_gen.specs.Scopes.{names_of}
@@ -25,31 +25,31 @@ loop_at c = places_of c.enclosing
 
 -- the jump of QUIT, after what drops a count
 abbrev pub leaving : Names → (counted : Bool) → (quit : ℕ) → Piece
-leaving names counted quit = (if counted then byte 0x14 else nothing) ⨾ jump names.statement 0x04 quit
+leaving names counted quit = (if counted then byte 0x14 else nothing) ⨾ jump names.wide names.statement 0x04 quit
 
 -- ---- IF
 
 -- a jump to the end of a chain, where there is one
 abbrev pub leap : Names → (jumps : Bool) → (end : ℕ) → Piece
-leap names jumps end = if jumps then jump names.statement 0x04 end else nothing
+leap names jumps end = if jumps then jump names.wide names.statement 0x04 end else nothing
 
 abbrev pub arm_piece : Names → Option Loop → (last : Piece) → Arm → (next : ℕ) → Piece
 arm_piece names loop last (arm items negated ss) next =
-    test_of names items ⨾ jump names.statement (zero_jump negated) next ⨾ body names loop ss ⨾ last
+    test_of names items ⨾ jump names.wide names.statement (zero_jump negated) next ⨾ body names loop ss ⨾ last
 
 -- the arms of an IF and the body of its ELSE, with which the last arm jumps to the end, too
 abbrev pub branches : Names → Option Loop → Action → (end : ℕ) → Piece
-branches names loop (If arms nothing_else) end = chain names loop (jump names.statement 0x04 end) nothing arms
-branches names loop (If arms (otherwise ss)) end = chain names loop (jump names.statement 0x04 end) (jump names.statement 0x04 end) arms ⨾ body names loop ss
+branches names loop (If arms nothing_else) end = chain names loop (jump names.wide names.statement 0x04 end) nothing arms
+branches names loop (If arms (otherwise ss)) end = chain names loop (jump names.wide names.statement 0x04 end) (jump names.wide names.statement 0x04 end) arms ⨾ body names loop ss
 branches names loop _ end = nothing
 
 -- ---- CASE
 
 -- the value of a CASE, all tests, and the body of OTHER
-abbrev pub choices : Names → Option Loop → Action → (first end : ℕ) → Piece
-choices names loop (Case e arms other) first end =
-    value names e ⨾ all_tests names loop first arms ⨾ byte 0x0C ⨾ other_body names loop other ⨾ jump names.statement 0x04 end
-choices names loop _ first end = nothing
+abbrev pub choices : Names → Option Loop → Action → (first before end : ℕ) → Piece
+choices names loop (Case e arms other) first before end =
+    value names e ⨾ all_tests names loop first before arms ⨾ byte 0x0C ⨾ other_body names loop other ⨾ jump names.wide names.statement 0x04 end
+choices names loop _ first before end = nothing
 
 -- the bodies of its arms
 abbrev pub bodies : Names → Option Loop → Action → (end : ℕ) → Piece
@@ -62,17 +62,17 @@ tests_of_arms names no_arms = nothing
 tests_of_arms names (arms ⊳ arm items negated ss) = tests_of_arms names arms ⨾ tests names 0 items
 
 abbrev pub case_piece : Names → Option Loop → Action → Piece
-case_piece names loop action = up_to_end (λ end. up_to_end (λ first. choices names loop action first end) ⨾ bodies names loop action end)
+case_piece names loop action = up_to_end (λ end. up_to_jumps (λ first before. choices names loop action first before end) ⨾ bodies names loop action end)
 
 abbrev pub case_body : Names → Option Loop → (end : ℕ) → Arm → Piece
-case_body names loop end (arm items negated ss) = byte 0x0C ⨾ body names loop ss ⨾ jump names.statement 0x04 end
+case_body names loop end (arm items negated ss) = byte 0x0C ⨾ body names loop ss ⨾ jump names.wide names.statement 0x04 end
 
 -- ---- REPEAT
 
 -- what stands before a loop's passes
 abbrev pub head : Names → Course → (end : ℕ) → Piece
 head names Forever end = nothing
-head names (Count e) end = value names e ⨾ jump names.statement 0x08 end
+head names (Count e) end = value names e ⨾ jump names.wide names.statement 0x08 end
 head names (Before until e) end = nothing
 head names (After until e) end = nothing
 head names (From name a b step q) end = value names a ⨾ one (plain_op (home_of names name) Pop)
@@ -81,21 +81,21 @@ head names (From name a b step q) end = value names a ⨾ one (plain_op (home_of
 abbrev pub first_test : Names → Course → (end : ℕ) → Piece
 first_test names Forever end = nothing
 first_test names (Count e) end = nothing
-first_test names (Before until e) end = value names e ⨾ jump names.statement (zero_jump until) end
+first_test names (Before until e) end = value names e ⨾ jump names.wide names.statement (zero_jump until) end
 first_test names (After until e) end = nothing
 first_test names (From name a b step q) end = nothing
 
 -- what ends a pass of REPEAT FROM
 abbrev pub step_piece : Names → List ℕ → (a b : Tree) → Option Tree → (start : ℕ) → Piece
 step_piece names name a b step start =
-    step_of names step ⨾ value names a ⨾ value names b ⨾ jumping names.statement start (plain_name names name (step_effect step))
+    step_of names step ⨾ value names a ⨾ value names b ⨾ jumping names.wide names.statement start (plain_name names name (step_effect step))
 
 -- what ends a pass
 abbrev pub pass_end : Names → Course → (start : ℕ) → Piece
-pass_end names Forever start = jump names.statement 0x04 start
-pass_end names (Count e) start = jump names.statement 0x09 start
-pass_end names (Before until e) start = jump names.statement 0x04 start
-pass_end names (After until e) start = value names e ⨾ jump names.statement (zero_jump (not until)) start
+pass_end names Forever start = jump names.wide names.statement 0x04 start
+pass_end names (Count e) start = jump names.wide names.statement 0x09 start
+pass_end names (Before until e) start = jump names.wide names.statement 0x04 start
+pass_end names (After until e) start = value names e ⨾ jump names.wide names.statement (zero_jump (not until)) start
 pass_end names (From name a b step q) start = step_piece names name a b step start
 
 -- NEXT goes to the begin of a pass, and not to what ends one

@@ -7,8 +7,9 @@ ghost use Rattle.p8_faults.specs.Faults.{IsFirstFault};
 ghost use Rattle.p8_gen.specs.Methods as methods;
 ghost use Rattle.p8_gen.specs.Operations.{IsWhole};
 ghost use Rattle.p8_gen.specs.Scopes.{names_from, names_of};
-ghost use Rattle.p8_gen.specs.Uses.{use_of};
-ghost use Rattle.p8_stmt.specs.Methods.{AreResolved, IsCodeOf, IsMethodFault, IfRefused, most_longs};
+ghost use Rattle.p8_gen.specs.Names.{widened, wide_in};
+ghost use Rattle.p8_gen.specs.Uses.{use_of, way_of};
+ghost use Rattle.p8_stmt.specs.Methods.{AreResolved, IsCodeOf, IsMethodFault, IfRefused, most_longs, rebodied};
 ghost use Rattle.p8_stmt.specs.Spelled.{placed};
 
 use crate::context::Context;
@@ -17,7 +18,7 @@ use crate::frames::{is_too_large, longs_in};
 use crate::spelling::{place_uses, put_ops};
 use crate::statement_depths::held_in;
 use p8_faults::Fault;
-use p8_gen::{Coder, Kept, StringUse, Tables, Writer};
+use p8_gen::{Coder, Kept, StringUse, Tables, Way, Writer};
 use p8_kinds::Kinds;
 use p8_tree::{List, Method, Stmt, Text};
 use p8_words::{Fail, NoMemory};
@@ -36,8 +37,8 @@ pub struct MethodCode {
     pub strings: List<StringUse>,
 }
 
-/// Why a method can't be compiled: 25 at a statement with a jump that goes too far, or 26 at the method's name, where its frame has
-/// more than 2,048 longs or it holds more than 128 on the operand stack.
+/// Why a method can't be compiled: 25 at a statement with a jump that goes too far for its width, or 26 at the method's name, where its
+/// frame has more than 2,048 longs or it holds more than 128 on the operand stack.
 pub type CodeFault = Fault;
 
 /// The code of the method with this number.
@@ -58,13 +59,35 @@ pub fn method_code(
     ensures clean { OnOk result ((f : Fault) → ¬ IsMethodFault (names_from kinds.now number tables.now method.now.place) (method_of method.now) f) }
     ensures refused { IfErr result (IfRefused (IsFirstFault (IsMethodFault (names_from kinds.now number tables.now method.now.place) (method_of method.now)))) }
 {
+    method_code_with(alloc, kinds, tables, method, number, method.body.as_slice(), &[])
+}
+
+/// The code of a method with another body, and with a choice of wide jumps.
+///
+/// The choice tells by a jump's number, counted from 0 in the order in which they are written, whether its offset has two bytes; else
+/// it has one, and the fault 25 is told where the offset isn't among -64 to 63. A jump past the end of the choice is wide. All else is
+/// as in [`method_code`].
+pub fn method_code_with(
+    alloc: Global,
+    kinds: &Kinds,
+    tables: &Tables,
+    method: &Method,
+    number: u32,
+    body: &[Stmt],
+    widths: &[bool],
+) -> Result<MethodCode, Fail<CodeFault>>
+    requires { AreResolved (names_from kinds.now number tables.now method.now.place) (statements_of body.now) }
+    ensures code { IfOk result (IsCodeOf (widened (names_from kinds.now number tables.now method.now.place) (wide_in widths.now)) (rebodied (method_of method.now) (statements_of body.now))) }
+    ensures clean { OnOk result ((f : Fault) → ¬ IsMethodFault (widened (names_from kinds.now number tables.now method.now.place) (wide_in widths.now)) (rebodied (method_of method.now) (statements_of body.now)) f) }
+    ensures refused { IfErr result (IfRefused (IsFirstFault (IsMethodFault (widened (names_from kinds.now number tables.now method.now.place) (wide_in widths.now)) (rebodied (method_of method.now) (statements_of body.now))))) }
+{
     let coder = Coder {
         kinds,
         number,
         tables,
+        widths,
         statement: method.place,
     };
-    let body = method.body.as_slice();
     let kept = written(alloc, &coder, body)?;
     let depth = held_in(&coder, body);
     let longs = longs_in(&coder, method.locals.as_slice());
@@ -75,11 +98,36 @@ pub fn method_code(
     }
 }
 
+/// The ways of the jumps in the code that [`method_code_with`] makes of the same, whether or not they go too far: for each jump the
+/// place after it and the place that it jumps to, in bytes from the first byte of the method.
+pub fn method_ways(
+    alloc: Global,
+    kinds: &Kinds,
+    tables: &Tables,
+    method: &Method,
+    number: u32,
+    body: &[Stmt],
+    widths: &[bool],
+) -> Result<List<Way>, NoMemory>
+    ensures { IfOk result (λ ways. map way_of ways ≡ (methods.method_code (widened (names_from kinds.now number tables.now method.now.place) (wide_in widths.now)) (statements_of body.now)).ways) }
+{
+    let coder = Coder {
+        kinds,
+        number,
+        tables,
+        widths,
+        statement: method.place,
+    };
+    let kept = written(alloc, &coder, body)?;
+    Ok(List::from_vec(kept.ways))
+}
+
 // What is written of a method's code: its body, and a RETURN.
 fn written(alloc: Global, coder: &Coder<'_>, body: &[Stmt]) -> Result<Kept, AllocError>
     ensures ops { IfOk result (λ kept. kept.ops.items ≡ (methods.method_code (names_of coder.now) (statements_of body.now)).ops) }
     ensures texts { IfOk result (λ kept. map use_of kept.strings.items ≡ (methods.method_code (names_of coder.now) (statements_of body.now)).texts) }
     ensures too_far { IfOk result (λ kept. kept.too_far.items ≡ (methods.method_code (names_of coder.now) (statements_of body.now)).too_far) }
+    ensures ways { IfOk result (λ kept. map way_of kept.ways.items ≡ (methods.method_code (names_of coder.now) (statements_of body.now)).ways) }
 {
     let context = Context {
         coder: *coder,

@@ -58,7 +58,7 @@ impl Context<'_> {
     {
         match self.enclosing {
             None => Ok(()),
-            Some(places) => out.jump(self.coder.statement, 0x04, places.next),
+            Some(places) => out.jump(self.coder.widths, self.coder.statement, 0x04, places.next),
         }
     }
 
@@ -78,9 +78,9 @@ impl Context<'_> {
     {
         if counted {
             out.byte(0x14)?;
-            out.jump(self.coder.statement, 0x04, quit)
+            out.jump(self.coder.widths, self.coder.statement, 0x04, quit)
         } else {
-            out.jump(self.coder.statement, 0x04, quit)
+            out.jump(self.coder.widths, self.coder.statement, 0x04, quit)
         }
     }
 
@@ -139,10 +139,10 @@ impl Context<'_> {
     {
         self.coder.value(&test.low, out)?;
         match &test.high {
-            None => out.jump(self.coder.statement, 0x0D, to),
+            None => out.jump(self.coder.widths, self.coder.statement, 0x0D, to),
             Some(high) => {
                 self.coder.value(high, out)?;
-                out.jump(self.coder.statement, 0x0E, to)
+                out.jump(self.coder.widths, self.coder.statement, 0x0E, to)
             }
         }
     }
@@ -162,7 +162,7 @@ impl Context<'_> {
         ensures { (w : Written) → Stands out.old w → OnOk result (Stands out.new (leap (names_at self.now) jumps end w)) }
     {
         if jumps {
-            out.jump(self.coder.statement, 0x04, end)
+            out.jump(self.coder.widths, self.coder.statement, 0x04, end)
         } else {
             Ok(())
         }
@@ -176,7 +176,7 @@ impl Context<'_> {
             Loop::Forever => Ok(()),
             Loop::Count(count) => {
                 self.coder.value(count, out)?;
-                out.jump(self.coder.statement, 0x08, end)
+                out.jump(self.coder.widths, self.coder.statement, 0x08, end)
             }
             Loop::Before(..) => Ok(()),
             Loop::After(..) => Ok(()),
@@ -196,7 +196,7 @@ impl Context<'_> {
             Loop::Count(_) => Ok(()),
             Loop::Before(until, test) => {
                 self.coder.value(test, out)?;
-                out.jump(self.coder.statement, zero_jump(*until), end)
+                out.jump(self.coder.widths, self.coder.statement, zero_jump(*until), end)
             }
             Loop::After(..) => Ok(()),
             Loop::From(..) => Ok(()),
@@ -208,12 +208,12 @@ impl Context<'_> {
         ensures { (w : Written) → Stands out.old w → OnOk result (Stands out.new (pass_end (names_at self.now) (course_of course.now) start w)) }
     {
         match course {
-            Loop::Forever => out.jump(self.coder.statement, 0x04, start),
-            Loop::Count(_) => out.jump(self.coder.statement, 0x09, start),
-            Loop::Before(..) => out.jump(self.coder.statement, 0x04, start),
+            Loop::Forever => out.jump(self.coder.widths, self.coder.statement, 0x04, start),
+            Loop::Count(_) => out.jump(self.coder.widths, self.coder.statement, 0x09, start),
+            Loop::Before(..) => out.jump(self.coder.widths, self.coder.statement, 0x04, start),
             Loop::After(until, test) => {
                 self.coder.value(test, out)?;
-                out.jump(self.coder.statement, zero_jump(!*until), start)
+                out.jump(self.coder.widths, self.coder.statement, zero_jump(!*until), start)
             }
             Loop::From(name, first, last, step, _) => self.step(
                 name, first, last, step, start, out,
@@ -239,6 +239,7 @@ impl Context<'_> {
         self.coder.value(last, out)?;
         let change = Operation::Using(step_effect(step));
         out.jumping(
+            self.coder.widths,
             self.coder.statement,
             start,
             self.coder.home(name).plain_op(change),

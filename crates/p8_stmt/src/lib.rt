@@ -11,4 +11,4 @@ mod spelling;
 mod statement_depths;
 mod statements;
 
-pub use code::{CodeFault, MethodCode, method_code};
+pub use code::{CodeFault, MethodCode, method_code, method_code_with, method_ways};

@@ -53,7 +53,7 @@ impl Context<'_> {
     {
         let mut counter = out.counter();
         self.branches(0, statement, &mut counter)?;
-        if out.counts(counter.end) {
+        if out.counts(counter.end, counter.jumps) {
             Ok(())
         } else {
             self.branches(counter.end, statement, out)
@@ -86,7 +86,7 @@ impl Context<'_> {
         arms: &[Arm],
         out: &mut Writer,
     ) -> Result<(), AllocError>
-        ensures { (w : Written) → Stands out.old w → OnOk result (Stands out.new (chain (names_at self.now) (loop_at self.now) (jump (names_at self.now).statement 0x04 end) (leap (names_at self.now) last_jumps end) (arms_of arms.now) w)) }
+        ensures { (w : Written) → Stands out.old w → OnOk result (Stands out.new (chain (names_at self.now) (loop_at self.now) (jump (names_at self.now).wide (names_at self.now).statement 0x04 end) (leap (names_at self.now) last_jumps end) (arms_of arms.now) w)) }
     {
         for (index, arm) in arms.iter().enumerate() {
             let jumps = jumps_away(last_jumps, index, arms.len());
@@ -102,7 +102,7 @@ impl Context<'_> {
     {
         let mut counter = out.counter();
         self.arm_to(jumps, end, 0, arm, &mut counter)?;
-        if out.counts(counter.end) {
+        if out.counts(counter.end, counter.jumps) {
             Ok(())
         } else {
             self.arm_to(jumps, end, counter.end, arm, out)
@@ -122,7 +122,7 @@ impl Context<'_> {
         ensures { (w : Written) → Stands out.old w → OnOk result (Stands out.new (arm_piece (names_at self.now) (loop_at self.now) (leap (names_at self.now) jumps end) (arm_of arm.now) next w)) }
     {
         self.test_of(arm.tests.as_slice(), out)?;
-        out.jump(self.coder.statement, zero_jump(arm.negated), next)?;
+        out.jump(self.coder.widths, self.coder.statement, zero_jump(arm.negated), next)?;
         self.body(&arm.body, out)?;
         self.leap(jumps, end, out)
     }
@@ -133,40 +133,41 @@ impl Context<'_> {
         ensures { (w : Written) → Stands out.old w → OnOk result (Stands out.new (case_piece (names_at self.now) (loop_at self.now) (action_of statement.now.kind) w)) }
     {
         let mut counter = out.counter();
-        self.choices(0, 0, statement, &mut counter)?;
-        let first = counter.end;
+        self.choices(0, 0, 0, statement, &mut counter)?;
+        let (first, before) = (counter.end, counter.jumps);
         self.bodies(0, statement, &mut counter)?;
         let end = counter.end;
-        if out.counts(end) {
+        if out.counts(end, counter.jumps) {
             Ok(())
         } else {
-            self.choices(first, end, statement, out)?;
+            self.choices(first, before, end, statement, out)?;
             self.bodies(end, statement, out)
         }
     }
 
-    // Appends the value of a CASE, the tests of its arms, whose bodies stand from a place on, and the body of OTHER. Of another
-    // statement nothing is known.
+    // Appends the value of a CASE, the tests of its arms, whose bodies stand from a place on with so many jumps before it, and the
+    // body of OTHER. Of another statement nothing is known.
     #[cycle(statements)]
     fn choices(
         &self,
         first: u32,
+        before: u32,
         end: u32,
         statement: &Stmt,
         out: &mut Writer,
     ) -> Result<(), AllocError>
-        ensures { (w : Written) → Stands out.old w → OnOk result (Stands out.new (choices (names_at self.now) (loop_at self.now) (action_of statement.now.kind) first end w)) }
+        ensures { (w : Written) → Stands out.old w → OnOk result (Stands out.new (choices (names_at self.now) (loop_at self.now) (action_of statement.now.kind) first before end w)) }
     {
         match &statement.kind {
             StmtKind::Case(value, arms, rest) => {
                 self.coder.value(value, out)?;
-                self.all_tests(first, arms, out)?;
+                self.all_tests(first, before, arms, out)?;
                 out.byte(0x0C)?;
                 match rest {
-                    None => out.jump(self.coder.statement, 0x04, end),
+                    None => out.jump(self.coder.widths, self.coder.statement, 0x04, end),
                     Some(body) => {
                         self.body(body, out)?;
-                        out.jump(self.coder.statement, 0x04, end)
+                        out.jump(self.coder.widths, self.coder.statement, 0x04, end)
                     }
                 }
             }
@@ -185,30 +186,39 @@ impl Context<'_> {
         }
     }
 
-    // Appends the tests of all arms of a CASE, whose bodies stand from a place on. How long the tests are doesn't depend on that,
-    // so the bodies aren't gone through where the writer only counts.
+    // Appends the tests of all arms of a CASE, whose bodies stand from a place on with so many jumps before it. How long the tests
+    // are doesn't depend on that, so the bodies aren't gone through where the writer only counts.
     #[cycle(statements)]
-    fn all_tests(&self, first: u32, arms: &[Arm], out: &mut Writer) -> Result<(), AllocError>
-        ensures { (w : Written) → Stands out.old w → OnOk result (Stands out.new (all_tests (names_at self.now) (loop_at self.now) first (arms_of arms.now) w)) }
+    fn all_tests(
+        &self,
+        first: u32,
+        before: u32,
+        arms: &[Arm],
+        out: &mut Writer,
+    ) -> Result<(), AllocError>
+        ensures { (w : Written) → Stands out.old w → OnOk result (Stands out.new (all_tests (names_at self.now) (loop_at self.now) first before (arms_of arms.now) w)) }
     {
         let mut counter = out.counter();
         self.tests_of_arms(arms, &mut counter)?;
-        if out.counts(counter.end) {
+        if out.counts(counter.end, counter.jumps) {
             Ok(())
         } else {
-            self.placed_tests(first, arms, out)
+            self.placed_tests(first, before, arms, out)
         }
     }
 
     // Appends the tests of all arms of a CASE, each with the place of its arm's body.
     #[cycle(statements)]
-    fn placed_tests(&self, first: u32, arms: &[Arm], out: &mut Writer) -> Result<(), AllocError>
-        ensures { (w : Written) → Stands out.old w → OnOk result (Stands out.new (all_tests (names_at self.now) (loop_at self.now) first (arms_of arms.now) w)) }
+    fn placed_tests(
+        &self,
+        first: u32,
+        before: u32,
+        arms: &[Arm],
+        out: &mut Writer,
+    ) -> Result<(), AllocError>
+        ensures { (w : Written) → Stands out.old w → OnOk result (Stands out.new (all_tests (names_at self.now) (loop_at self.now) first before (arms_of arms.now) w)) }
     {
-        let mut bodies = Writer {
-            end: first,
-            kept: None,
-        };
+        let mut bodies = Writer::counter_from(first, before);
         for arm in arms {
             self.tests(bodies.end, arm.tests.as_slice(), out)?;
             self.case_body(0, arm, &mut bodies)?;
@@ -234,7 +244,7 @@ impl Context<'_> {
     {
         out.byte(0x0C)?;
         self.body(&arm.body, out)?;
-        out.jump(self.coder.statement, 0x04, end)
+        out.jump(self.coder.widths, self.coder.statement, 0x04, end)
     }
 
     // Appends a REPEAT.
@@ -244,7 +254,7 @@ impl Context<'_> {
     {
         let mut counter = out.counter();
         self.repeat_to(course, 0, body, &mut counter)?;
-        if out.counts(counter.end) {
+        if out.counts(counter.end, counter.jumps) {
             Ok(())
         } else {
             self.repeat_to(course, counter.end, body, out)
@@ -301,7 +311,7 @@ impl Context<'_> {
     {
         let mut counter = out.counter();
         self.body_inside(0, quit, counted, body, &mut counter)?;
-        if out.counts(counter.end) {
+        if out.counts(counter.end, counter.jumps) {
             Ok(())
         } else {
             self.body_inside(counter.end, quit, counted, body, out)

@@ -146,34 +146,34 @@ module _ (memory : List ℕ) (cog base : ℕ) where
 
   -- ---- jumps and tests
 
-  pub goes-stand : (statement : Place) (to : ℕ) → Stands (jump statement 0x04 to) (DoesAt (bodies.jumps (base + to)))
+  pub goes-stand : (wide : ℕ → Bool) (statement : Place) (to : ℕ) → Stands (jump wide statement 0x04 to) (DoesAt (bodies.jumps (base + to)))
   unfolding rows row call_row
-  goes-stand statement to = jump-stand memory cog base statement 0x04 to bodies.jumps refl (λ off s. refl)
+  goes-stand wide statement to = jump-stand memory cog base wide statement 0x04 to bodies.jumps refl (λ form off s. refl)
 
   -- a jump where the value doesn't hold
-  pub unless-stand : (negated : Bool) (statement : Place) (to : ℕ) → Stands (jump statement (if negated then 0x0B else 0x0A) to) (DoesAt (takes_one 0 (bodies.jumps_unless negated (base + to))))
+  pub unless-stand : (negated : Bool) (wide : ℕ → Bool) (statement : Place) (to : ℕ) → Stands (jump wide statement (if negated then 0x0B else 0x0A) to) (DoesAt (takes_one 0 (bodies.jumps_unless negated (base + to))))
   unfolding rows row test_row control.jump_if_zero control.jump_unless_zero
-  unless-stand true statement to =
-      jump-stand memory cog base statement 0x0B to (λ target. takes_one 0 (bodies.jumps_unless true target)) refl
-      (λ off s. ap (λ next. tested 1 0 s (Finish next)) (sym (swapped (operand s 0 == 0) (taken 1 s) _)))
-  unless-stand false statement to =
-      jump-stand memory cog base statement 0x0A to (λ target. takes_one 0 (bodies.jumps_unless false target)) refl
-      (λ off s. ap (λ next. tested 1 0 s (Finish next)) (swapped (operand s 0 == 0) _ (taken 1 s)))
+  unless-stand true wide statement to =
+      jump-stand memory cog base wide statement 0x0B to (λ target. takes_one 0 (bodies.jumps_unless true target)) refl
+      (λ form off s. ap (λ next. tested 1 0 s (Finish next)) (sym (swapped (operand s 0 == 0) (taken 1 s) _)))
+  unless-stand false wide statement to =
+      jump-stand memory cog base wide statement 0x0A to (λ target. takes_one 0 (bodies.jumps_unless false target)) refl
+      (λ form off s. ap (λ next. tested 1 0 s (Finish next)) (swapped (operand s 0 == 0) _ (taken 1 s)))
 
   -- a jump where it does
-  pub where-stand : (negated : Bool) (statement : Place) (to : ℕ) → Stands (jump statement (if not negated then 0x0B else 0x0A) to) (DoesAt (takes_one 0 (bodies.jumps_where negated (base + to))))
+  pub where-stand : (negated : Bool) (wide : ℕ → Bool) (statement : Place) (to : ℕ) → Stands (jump wide statement (if not negated then 0x0B else 0x0A) to) (DoesAt (takes_one 0 (bodies.jumps_where negated (base + to))))
   unfolding rows row test_row control.jump_if_zero control.jump_unless_zero
-  where-stand true statement to =
-      jump-stand memory cog base statement 0x0A to (λ target. takes_one 0 (bodies.jumps_where true target)) refl (λ off s. refl)
-  where-stand false statement to =
-      jump-stand memory cog base statement 0x0B to (λ target. takes_one 0 (bodies.jumps_where false target)) refl (λ off s. refl)
+  where-stand true wide statement to =
+      jump-stand memory cog base wide statement 0x0A to (λ target. takes_one 0 (bodies.jumps_where true target)) refl (λ form off s. refl)
+  where-stand false wide statement to =
+      jump-stand memory cog base wide statement 0x0B to (λ target. takes_one 0 (bodies.jumps_where false target)) refl (λ form off s. refl)
 
-  pub loop-begins-stand : (statement : Place) (to : ℕ) → Stands (jump statement 0x08 to) (DoesAt (bodies.begins_loop (base + to)))
+  pub loop-begins-stand : (wide : ℕ → Bool) (statement : Place) (to : ℕ) → Stands (jump wide statement 0x08 to) (DoesAt (bodies.begins_loop (base + to)))
   unfolding rows row test_row control.loop_begins
-  loop-begins-stand statement to = jump-stand memory cog base statement 0x08 to bodies.begins_loop refl (λ off s. refl)
+  loop-begins-stand wide statement to = jump-stand memory cog base wide statement 0x08 to bodies.begins_loop refl (λ form off s. refl)
 
-  pub loop-ends-stand : (statement : Place) (to : ℕ) → Stands (jump statement 0x09 to) (DoesAt (takes_one 1 (bodies.ends_loop (base + to))))
+  pub loop-ends-stand : (wide : ℕ → Bool) (statement : Place) (to : ℕ) → Stands (jump wide statement 0x09 to) (DoesAt (takes_one 1 (bodies.ends_loop (base + to))))
   unfolding rows row test_row control.loop_ends
-  loop-ends-stand statement to =
-      jump-stand memory cog base statement 0x09 to (λ target. takes_one 1 (bodies.ends_loop target)) refl
-      (λ off s. refl)
+  loop-ends-stand wide statement to =
+      jump-stand memory cog base wide statement 0x09 to (λ target. takes_one 1 (bodies.ends_loop target)) refl
+      (λ form off s. refl)

@@ -7,14 +7,15 @@ use Rattle.std.proofs.lemmas.List.{length-drop, length-take, drop-drop}
 use Rattle.std.proofs.Math.Seq.{drop-append_seam}
 use Rattle.p8_tree.specs.declared.places.Place.{Place}
 use Rattle.p8_bytecode.specs.declared.op.Op.{Op}
-use Rattle.p8_bytecode.specs.Reading.{op_in, op_at, sign_extended}
+use Rattle.p8_bytecode.specs.Reading.{op_in, op_at}
 use Rattle.p8_bytecode.specs.Spelling.{spelled, IsOp, IsOffset}
 use Rattle.p8_bytecode.proofs.ReadBack.{read-back}
 use Rattle.p8_bcog.specs.Code.{code_of, code_end, fetched}
-use Rattle.p8_gen.specs.Pieces.{Written, offset, is_near, told}
+use Rattle.p8_gen.specs.Pieces.{Written, offset, reach, is_near, told}
+use Rattle.p8_gen.proofs.Sound.{near_offset}
 use Rattle.p8_gen.specs.Methods.{bytes_of}
 use Rattle.p8_templates.specs.Placing.{HasCode}
-use Rattle.p8_templates.proofs.Truths.{at-most, below, both-true, if-no, if-yes, less, not-less}
+use Rattle.p8_templates.proofs.Truths.{at-most, below, both-true}
 
 -- ---- lists
 
@@ -85,33 +86,29 @@ no-statement : (near : Bool) (s : Place) → (if near then [] else s ∷ []) ≡
 no-statement true s is = refl
 no-statement false s is = absurd (cc)
 
--- how far a jump that is told nowhere goes
-pub record Reaches (from to : ℕ) : Type 0 where
+-- how far a jump that is told nowhere goes, and that its offset is one in its form
+pub record Reaches (wide : Bool) (from to : ℕ) : Type 0 where
   pub back : from ≤ to + 16384
   pub ahead : to < from + 16384
+  pub is_offset : IsOffset wide (offset from to)
 
-pub reaches : (s : Place) (from to : ℕ) → told s from to ≡ [] → Reaches from to
-reaches s from to is =
-    let near : is_near from to ≡ true = no-statement (is_near from to) s is in
-    let two : (nat_le from (to + 16384) ≡ true) × (nat_lt to (from + 16384) ≡ true) = both-true _ _ near in
-    record { back = at-most _ _ two.0; ahead = below _ _ two.1 }
+reach-most : (wide : Bool) → reach wide ≤ 16384
+reach-most true = omega arith
+reach-most false = omega arith
 
-signed : (n low : ℕ) → low ≡ n % 2 ^ 15 → n < 2 ^ 14 → n ≡ sign_extended 15 low
-signed n low is lt = omega (arith, is, lt) ∙ sym (if-yes (nat_lt low (2 ^ 14)) low _ (less low (2 ^ 14) (omega (arith, is, lt))))
+pub reaches : (wide : Bool) (s : Place) (from to : ℕ) → told wide s from to ≡ [] → Reaches wide from to
+reaches wide s from to is =
+    let near : is_near wide from to ≡ true = no-statement (is_near wide from to) s is in
+    let two : (nat_le from (to + reach wide) ≡ true) × (nat_lt to (from + reach wide) ≡ true) = both-true _ _ near in
+    let most = reach-most wide in
+    let back : from ≤ to + reach wide = at-most _ _ two.0 in
+    let ahead : to < from + reach wide = below _ _ two.1 in
+    record { back = loose from to (reach wide) back most; ahead = loose-ahead from to (reach wide) ahead most; is_offset = near_offset wide from to near }
+  where
+    loose : (from to r : ℕ) → from ≤ to + r → r ≤ 16384 → from ≤ to + 16384
+    loose from to r a b = omega (arith, a, b)
+    loose-ahead : (from to r : ℕ) → to < from + r → r ≤ 16384 → to < from + 16384
+    loose-ahead from to r a b = omega (arith, a, b)
 
-signed-back : (n low : ℕ) → low ≡ n % 2 ^ 15 → 2 ^ 32 ≤ n + 2 ^ 14 → n < 2 ^ 32 → n ≡ sign_extended 15 low
-signed-back n low is le lt = omega (arith, is, le, lt) ∙ sym (if-no (nat_lt low (2 ^ 14)) _ (low + (2 ^ 32 - 2 ^ 15)) (not-less low (2 ^ 14) (omega (arith, is, le, lt))))
-
-is-offset-by : (ahead : Bool) (from to : ℕ) → nat_lt to from ≡ ahead → Reaches from to → from ≤ 32768 → IsOffset true (offset from to)
-is-offset-by true from to is r small =
-    let lt : to < from = below to from is in
-    signed-back (offset from to) _ refl (omega (arith, lt, r.back, small)) (omega arith)
-is-offset-by false from to is r small =
-    let le : from ≤ to = grind (arith, nat_tests, is) in
-    signed (offset from to) _ refl (omega (arith, le, r.ahead, small))
-
-pub is-offset : (from to : ℕ) → Reaches from to → from ≤ 32768 → IsOffset true (offset from to)
-is-offset from to r small = is-offset-by (nat_lt to from) from to refl r small
-
-pub leads-to : (base from to at : ℕ) → at ≡ base + from → Reaches from to → base + from ≤ 32768 → (at + offset from to) % 2 ^ 16 ≡ base + to
-leads-to base from to at is r small = omega (arith, is, r.back, r.ahead, small)
+pub leads-to : (wide : Bool) (base from to at : ℕ) → at ≡ base + from → Reaches wide from to → base + from ≤ 32768 → (at + offset from to) % 2 ^ 16 ≡ base + to
+leads-to wide base from to at is r small = omega (arith, is, r.back, r.ahead, small)

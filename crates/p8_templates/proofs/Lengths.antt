@@ -12,7 +12,7 @@ use Rattle.p8_operators.specs.Operators.{or_zero}
 use Rattle.p8_fold.specs.Values as constants
 use Rattle.p8_gen.specs.Names.{Names}
 use Rattle.p8_bytecode.specs.Reading.{bare}
-use Rattle.p8_gen.specs.Pieces.{Written, empty, Piece, nothing, one, ◌⨾◌, from_start, up_to_end, byte, text, offset, jump, jumping, end_of_jumping}
+use Rattle.p8_gen.specs.Pieces.{Written, empty, Piece, nothing, one, ◌⨾◌, from_start, up_to_end, up_to_jumps, byte, text, offset, jump, end_of_jump, jumping, end_of_jumping}
 use Rattle.p8_gen.specs.Variables.{number, Home, Operation, plain_op, home_of, Pop, assigned}
 use Rattle.p8_gen.specs.Expressions.{pasm, started, built_without, own_method, method_in, callee, name_alone, counts_from, looks_down, dropped, built_value, built, starts, starts_method, value, value_of_form, operate, in_home, values, index_value, call_of_built, arguments, looks, alone}
 use Rattle.p8_gen.specs.Statements.{Loop, inside, goes_on, leaves, with_value, test_of, tests, step_of, step_effect, plain_name, zero_jump, code, code_of, body, chain, other_body, all_tests, case_bodies}
@@ -46,17 +46,28 @@ bytes c = ones _
 texts : (s : Place) (number : ℕ) → Measured (text s number)
 texts s number = record { by = λ w. one-more w (text s number w) (record (bare 0x87) { first = number }) refl refl }
 
-jumps : (s : Place) (code to : ℕ) → operands_of code ≡ Some Offset → Measured (jump s code to)
-jumps s code to is = record { by = λ w. one-more w (jump s code to w) (jump_op code (offset (w.end + 3) to)) refl (ap (λ k. w.end + k) (jump-size code (offset (w.end + 3) to) is)) }
+jumps : (wide : ℕ → Bool) (s : Place) (code to : ℕ) → operands_of code ≡ Some Offset → Measured (jump wide s code to)
+jumps wide s code to is = record {
+  by = λ w.
+      let off : ℕ = offset (end_of_jump wide w) to in
+      one-more w (jump wide s code to w) (jump_op code (wide w.jumps) off) refl (ap (λ k. w.end + k) (jump-size code (wide w.jumps) off is));
+}
 
-steps : (s : Place) (to : ℕ) (op : Op) → Measured (jumping s to op)
-steps s to op = record { by = λ w. one-more w (jumping s to op w) (with_jump op (offset (end_of_jumping op w) to) true) refl (ap (λ k. w.end + k) (same-length op (offset (end_of_jumping op w) to))) }
+steps : (wide : ℕ → Bool) (s : Place) (to : ℕ) (op : Op) → Measured (jumping wide s to op)
+steps wide s to op = record {
+  by = λ w.
+      let off : ℕ = offset (end_of_jumping wide op w) to in
+      one-more w (jumping wide s to op w) (with_jump op off (wide w.jumps)) refl (ap (λ k. w.end + k) (same-length op (wide w.jumps) off));
+}
 
 both : {a b : Piece} → Measured a → Measured b → Measured (a ⨾ b)
 both {a} {b} x y = record { by = λ w is. y.by (a w) (x.by w is) }
 
 ups : {p : ℕ → Piece} → ((x : ℕ) → Measured (p x)) → Measured (up_to_end p)
 ups {p} all = record { by = λ w. (all (p 0 w).end).by w }
+
+up-jumps : {p : ℕ → ℕ → Piece} → ((x i : ℕ) → Measured (p x i)) → Measured (up_to_jumps p)
+up-jumps {p} all = record { by = λ w. (all (p 0 0 w).end (p 0 0 w).jumps).by w }
 
 froms : {p : ℕ → Piece} → ((x : ℕ) → Measured (p x)) → Measured (from_start p)
 froms all = record { by = λ w. (all w.end).by w }
@@ -124,24 +135,24 @@ started-measured : (n : Names) (used : Bool) (m : Tree) → Measured (started n 
 started-measured n used m = either (starts_method n m) (both (starts-measured n m) (dropped-measured used)) (pasm-measured used)
 
 module _ (n : Names) where
-  item-measured : (down : Bool) (x : ℕ) → Measured (jump n.statement (if down then 0x11 else 0x10) x)
+  item-measured : (down : Bool) (x : ℕ) → Measured (jump n.wide n.statement (if down then 0x11 else 0x10) x)
   unfolding rows
-  item-measured true x = jumps n.statement 0x11 x refl
-  item-measured false x = jumps n.statement 0x10 x refl
+  item-measured true x = jumps n.wide n.statement 0x11 x refl
+  item-measured false x = jumps n.wide n.statement 0x10 x refl
 
-  range-measured : (down : Bool) (x : ℕ) → Measured (jump n.statement (if down then 0x13 else 0x12) x)
+  range-measured : (down : Bool) (x : ℕ) → Measured (jump n.wide n.statement (if down then 0x13 else 0x12) x)
   unfolding rows
-  range-measured true x = jumps n.statement 0x13 x refl
-  range-measured false x = jumps n.statement 0x12 x refl
+  range-measured true x = jumps n.wide n.statement 0x13 x refl
+  range-measured false x = jumps n.wide n.statement 0x12 x refl
 
-  zero-measured : (negated : Bool) (x : ℕ) → Measured (jump n.statement (zero_jump negated) x)
+  zero-measured : (negated : Bool) (x : ℕ) → Measured (jump n.wide n.statement (zero_jump negated) x)
   unfolding rows
-  zero-measured true x = jumps n.statement 0x0B x refl
-  zero-measured false x = jumps n.statement 0x0A x refl
+  zero-measured true x = jumps n.wide n.statement 0x0B x refl
+  zero-measured false x = jumps n.wide n.statement 0x0A x refl
 
-  goes-measured : (x : ℕ) → Measured (jump n.statement 0x04 x)
+  goes-measured : (x : ℕ) → Measured (jump n.wide n.statement 0x04 x)
   unfolding rows
-  goes-measured x = jumps n.statement 0x04 x refl
+  goes-measured x = jumps n.wide n.statement 0x04 x refl
 
   mutual
     value-measured : (e : Tree) → Measured (value n e)
@@ -236,20 +247,20 @@ module _ (n : Names) where
   tests-measured : (to : ℕ) (xs : Items) → Measured (tests n to xs)
   unfolding rows
   tests-measured to no_items = nothings
-  tests-measured to (xs ▸ single e) = both (both (tests-measured to xs) (value-measured e)) (jumps n.statement 0x0D to refl)
-  tests-measured to (xs ▸ range a b) = both (both (both (tests-measured to xs) (value-measured a)) (value-measured b)) (jumps n.statement 0x0E to refl)
+  tests-measured to (xs ▸ single e) = both (both (tests-measured to xs) (value-measured e)) (jumps n.wide n.statement 0x0D to refl)
+  tests-measured to (xs ▸ range a b) = both (both (both (tests-measured to xs) (value-measured a)) (value-measured b)) (jumps n.wide n.statement 0x0E to refl)
 
   step-measured : (e : Option Tree) → Measured (step_of n e)
   step-measured None = nothings
   step-measured (Some e) = value-measured e
 
-  begins-measured : (x : ℕ) → Measured (jump n.statement 0x08 x)
+  begins-measured : (x : ℕ) → Measured (jump n.wide n.statement 0x08 x)
   unfolding rows
-  begins-measured x = jumps n.statement 0x08 x refl
+  begins-measured x = jumps n.wide n.statement 0x08 x refl
 
-  ends-measured : (x : ℕ) → Measured (jump n.statement 0x09 x)
+  ends-measured : (x : ℕ) → Measured (jump n.wide n.statement 0x09 x)
   unfolding rows
-  ends-measured x = jumps n.statement 0x09 x refl
+  ends-measured x = jumps n.wide n.statement 0x09 x refl
 
   goes-on-measured : (l : Option Loop) → Measured (goes_on n l)
   goes-on-measured None = nothings
@@ -269,7 +280,7 @@ mutual
   action-measured n l (If arms (otherwise ss)) = ups (λ x. both (chain-measured n l _ _ (goes-measured n x) (goes-measured n x) arms) (body-measured n l ss))
   action-measured n l (Case e arms other) =
       ups (λ x. both
-      (ups (λ i. both (both (both (both (value-measured n e) (all-tests-measured n l i arms)) (bytes 0x0C)) (other-measured n l other)) (goes-measured n x)))
+      (up-jumps (λ i before. both (both (both (both (value-measured n e) (all-tests-measured n l i before arms)) (bytes 0x0C)) (other-measured n l other)) (goes-measured n x)))
       (bodies-measured n l x arms))
   action-measured n l (Repeat Forever ss) = ups (λ x. froms (λ i. both (body-measured n (inside i x false) ss) (goes-measured n i)))
   action-measured n l (Repeat (Count e) ss) =
@@ -281,7 +292,7 @@ mutual
   action-measured n l (Repeat (From name a b step q) ss) =
       ups (λ x. both (both (value-measured n a) (ones (plain_op (home_of n name) Pop)))
       (froms (λ i. both (both (both (both (ups (λ v. body-measured n (inside v x false) ss)) (step-measured n step)) (value-measured n a)) (value-measured n b))
-      (steps n.statement i (plain_name n name (step_effect step))))))
+      (steps n.wide n.statement i (plain_name n name (step_effect step))))))
   action-measured n l Next = goes-on-measured n l
   action-measured n l Quit = leaves-measured n l
   action-measured n l (Return e) = with-value-measured n e 0x32 0x33
@@ -300,9 +311,9 @@ mutual
   other-measured n l nothing_else = nothings
   other-measured n l (otherwise ss) = body-measured n l ss
 
-  all-tests-measured : (n : Names) (l : Option Loop) (first : ℕ) (x : Arms) → Measured (all_tests n l first x)
-  all-tests-measured n l first no_arms = nothings
-  all-tests-measured n l first (arms ⊳ arm items negated ss) = both (all-tests-measured n l first arms) (tests-measured n _ items)
+  all-tests-measured : (n : Names) (l : Option Loop) (first before : ℕ) (x : Arms) → Measured (all_tests n l first before x)
+  all-tests-measured n l first before no_arms = nothings
+  all-tests-measured n l first before (arms ⊳ arm items negated ss) = both (all-tests-measured n l first before arms) (tests-measured n _ items)
 
   bodies-measured : (n : Names) (l : Option Loop) (end : ℕ) (x : Arms) → Measured (case_bodies n l end x)
   bodies-measured n l end no_arms = nothings

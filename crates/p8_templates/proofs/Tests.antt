@@ -61,37 +61,37 @@ is-between k is =
 module _ (memory : List ℕ) (cog base : ℕ) where
   -- ---- CASE
 
-  pub value-test-stand : (statement : Place) (to : ℕ) → Stands memory cog base (jump statement 0x0D to) (DoesAt memory cog base (takes_two 1 (fits_value (base + to))))
+  pub value-test-stand : (wide : ℕ → Bool) (statement : Place) (to : ℕ) → Stands memory cog base (jump wide statement 0x0D to) (DoesAt memory cog base (takes_two 1 (fits_value (base + to))))
   unfolding rows row test_row control.case_value
-  value-test-stand statement to =
-      jump-stand memory cog base statement 0x0D to (λ target. takes_two 1 (fits_value target)) refl
-      (λ off s. tested-same 2 1 s _ _ (λ le. ap Finish (stays (operand s 1 == operand s 0) ((s.at + off) % 2 ^ 16) s 1 le)))
+  value-test-stand wide statement to =
+      jump-stand memory cog base wide statement 0x0D to (λ target. takes_two 1 (fits_value target)) refl
+      (λ form off s. tested-same 2 1 s _ _ (λ le. ap Finish (stays (operand s 1 == operand s 0) ((s.at + off) % 2 ^ 16) s 1 le)))
 
-  pub range-test-stand : (statement : Place) (to : ℕ) → Stands memory cog base (jump statement 0x0E to) (DoesAt memory cog base (takes_three 1 (fits_range (base + to))))
+  pub range-test-stand : (wide : ℕ → Bool) (statement : Place) (to : ℕ) → Stands memory cog base (jump wide statement 0x0E to) (DoesAt memory cog base (takes_three 1 (fits_range (base + to))))
   unfolding rows row test_row control.case_range
-  range-test-stand statement to =
-      jump-stand memory cog base statement 0x0E to (λ target. takes_three 1 (fits_range target)) refl
-      (λ off s. tested-same 3 1 s _ _ (λ le. ap Finish (stays (is_between (operand s 2) (operand s 1) (operand s 0)) ((s.at + off) % 2 ^ 16) s 2 le)))
+  range-test-stand wide statement to =
+      jump-stand memory cog base wide statement 0x0E to (λ target. takes_three 1 (fits_range target)) refl
+      (λ form off s. tested-same 3 1 s _ _ (λ le. ap Finish (stays (is_between (operand s 2) (operand s 1) (operand s 0)) ((s.at + off) % 2 ^ 16) s 2 le)))
 
   -- ---- LOOK functions
 
-  pub item-stand : (down : Bool) (statement : Place) (to : ℕ) → Stands memory cog base (jump statement (if down then 0x11 else 0x10) to) (DoesAt memory cog base (takes_three 2 (tries_item (not down) (base + to))))
+  pub item-stand : (down : Bool) (wide : ℕ → Bool) (statement : Place) (to : ℕ) → Stands memory cog base (jump wide statement (if down then 0x11 else 0x10) to) (DoesAt memory cog base (takes_three 2 (tries_item (not down) (base + to))))
   unfolding rows row look_row control.lookup_value control.lookdown_value
-  item-stand false statement to =
-      jump-stand memory cog base statement 0x10 to (λ target. takes_three 2 (tries_item true target)) refl
-      (λ off s. tested-same 3 2 s _ _ (λ le. ap Finish (else-same (operand s 2 == operand s 1) (jumped off (replaced 3 (operand s 0) s)) _ _ (ap (pushed (sum_of (operand s 1) 1)) (sym (pushed-taken s 2 le))))))
-  item-stand true statement to =
-      jump-stand memory cog base statement 0x11 to (λ target. takes_three 2 (tries_item false target)) refl
-      (λ off s. tested-same 3 2 s _ _ (λ le. ap Finish (else-same (operand s 2 == operand s 0) (jumped off (replaced 3 (operand s 1) s)) _ _ (ap (pushed (sum_of (operand s 1) 1)) (sym (pushed-taken s 2 le))))))
+  item-stand false wide statement to =
+      jump-stand memory cog base wide statement 0x10 to (λ target. takes_three 2 (tries_item true target)) refl
+      (λ form off s. tested-same 3 2 s _ _ (λ le. ap Finish (else-same (operand s 2 == operand s 1) (jumped off (replaced 3 (operand s 0) s)) _ _ (ap (pushed (sum_of (operand s 1) 1)) (sym (pushed-taken s 2 le))))))
+  item-stand true wide statement to =
+      jump-stand memory cog base wide statement 0x11 to (λ target. takes_three 2 (tries_item false target)) refl
+      (λ form off s. tested-same 3 2 s _ _ (λ le. ap Finish (else-same (operand s 2 == operand s 0) (jumped off (replaced 3 (operand s 1) s)) _ _ (ap (pushed (sum_of (operand s 1) 1)) (sym (pushed-taken s 2 le))))))
 
-  pub both-stand : (down : Bool) (statement : Place) (to : ℕ) → Stands memory cog base (jump statement (if down then 0x13 else 0x12) to) (DoesAt memory cog base (takes_four 2 (tries_both (not down) (base + to))))
+  pub both-stand : (down : Bool) (wide : ℕ → Bool) (statement : Place) (to : ℕ) → Stands memory cog base (jump wide statement (if down then 0x13 else 0x12) to) (DoesAt memory cog base (takes_four 2 (tries_both (not down) (base + to))))
   unfolding rows row look_row control.lookup_range control.lookdown_range
-  both-stand false statement to =
-      jump-stand memory cog base statement 0x12 to (λ target. takes_four 2 (tries_both true target)) refl
-      (λ off s. tested-same 4 2 s _ _ (λ le. ap Finish (else-same (nat_le (difference (operand s 3) (operand s 2)) (distance (operand s 1) (operand s 0))) (jumped off (replaced 4 (control.toward (operand s 1) (operand s 0) (difference (operand s 3) (operand s 2))) s)) _ _ (ap (pushed (sum_of (sum_of (operand s 2) (distance (operand s 1) (operand s 0))) 1)) (sym (pushed-taken s 3 le))))))
-  both-stand true statement to =
-      jump-stand memory cog base statement 0x13 to (λ target. takes_four 2 (tries_both false target)) refl
-      (λ off s. tested-same 4 2 s _ _ (λ le. ap Finish (else-same (is_between (operand s 3) (operand s 1) (operand s 0)) (jumped off (replaced 4 (sum_of (operand s 2) (distance (operand s 3) (operand s 1))) s)) _ _ (ap (pushed (sum_of (sum_of (operand s 2) (distance (operand s 1) (operand s 0))) 1)) (sym (pushed-taken s 3 le))))))
+  both-stand false wide statement to =
+      jump-stand memory cog base wide statement 0x12 to (λ target. takes_four 2 (tries_both true target)) refl
+      (λ form off s. tested-same 4 2 s _ _ (λ le. ap Finish (else-same (nat_le (difference (operand s 3) (operand s 2)) (distance (operand s 1) (operand s 0))) (jumped off (replaced 4 (control.toward (operand s 1) (operand s 0) (difference (operand s 3) (operand s 2))) s)) _ _ (ap (pushed (sum_of (sum_of (operand s 2) (distance (operand s 1) (operand s 0))) 1)) (sym (pushed-taken s 3 le))))))
+  both-stand true wide statement to =
+      jump-stand memory cog base wide statement 0x13 to (λ target. takes_four 2 (tries_both false target)) refl
+      (λ form off s. tested-same 4 2 s _ _ (λ le. ap Finish (else-same (is_between (operand s 3) (operand s 1) (operand s 0)) (jumped off (replaced 4 (sum_of (operand s 2) (distance (operand s 3) (operand s 1))) s)) _ _ (ap (pushed (sum_of (sum_of (operand s 2) (distance (operand s 1) (operand s 0))) 1)) (sym (pushed-taken s 3 le))))))
 
   pub look-fails-stand : Stands memory cog base (byte 0x0F) (DoesAt memory cog base (takes_two 1 look_fails))
   unfolding rows row test_row control.look_fails

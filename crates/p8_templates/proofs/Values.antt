@@ -415,10 +415,10 @@ module _ (n : Names) (t : Compiled) (base : ℕ) (a : Agrees n t) where
     looks-stand : (down : Bool) (xs : Items) → AreProperItems false xs → CleanItems xs → (end : ℕ) → S (looks n down end xs) (LooksAt t (not down) xs (base + end))
     looks-stand down no_items is clean end = nothings
     looks-stand down (xs ▸ single e) is clean end =
-        so (three (looks-stand down xs is.0 (λ f b. clean f (inl b)) end) (value-stand e is.1 (λ f b. clean f (inr b))) (item-stand t.memory t.cog base down n.statement end))
+        so (three (looks-stand down xs is.0 (λ f b. clean f (inl b)) end) (value-stand e is.1 (λ f b. clean f (inr b))) (item-stand t.memory t.cog base down n.wide n.statement end))
         (λ p q r. (r.0, r.2, (r.1, r.3, r.4)))
     looks-stand down (xs ▸ range e d) is clean end =
-        so (four (looks-stand down xs is.0 (λ f b. clean f (inl b)) end) (value-stand e is.1.0 (λ f b. clean f (inr (inl b)))) (value-stand d is.1.1 (λ f b. clean f (inr (inr b)))) (both-stand t.memory t.cog base down n.statement end))
+        so (four (looks-stand down xs is.0 (λ f b. clean f (inl b)) end) (value-stand e is.1.0 (λ f b. clean f (inr (inl b)))) (value-stand d is.1.1 (λ f b. clean f (inr (inr b)))) (both-stand t.memory t.cog base down n.wide n.statement end))
         (λ p q r. (r.0, r.3, (r.1, r.2, r.4, r.5, r.6)))
 
     pub built-stand : (used : Bool) (code : ℕ) (args : Trees) → FitsUse used args code → AreProperTrees false args → (count_of_trees args == argument_count code) ≡ true → ((code == 0) ≡ false → CleanTrees args) → S (call_of_built n used code args) (BuiltAt t used code args)
