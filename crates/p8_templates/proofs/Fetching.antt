@@ -107,6 +107,7 @@ reaches wide s from to is =
   where
     loose : (from to r : ℕ) → from ≤ to + r → r ≤ 16384 → from ≤ to + 16384
     loose from to r a b = omega (arith, a, b)
+
     loose-ahead : (from to r : ℕ) → to < from + r → r ≤ 16384 → to < from + 16384
     loose-ahead from to r a b = omega (arith, a, b)
 

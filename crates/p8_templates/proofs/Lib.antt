@@ -16,3 +16,5 @@ pub mod Values
 pub mod Statements
 pub mod Lengths
 pub mod Methods
+pub mod Moving
+mod Examples

@@ -198,15 +198,15 @@ unfolding acts
 short-acts-as Push op address s = refl
 short-acts-as _ op address s = refl
 
-abbrev has_short : Option Operands → Bool
+abbrev pub has_short : Option Operands → Bool
 has_short (Some ShortVariable) = true
 has_short found = false
 
-short-there : (found : Option Operands) → has_short found ≡ true → found ≡ Some ShortVariable
+pub short-there : (found : Option Operands) → has_short found ≡ true → found ≡ Some ShortVariable
 short-there (Some ShortVariable) is = refl
 short-there _ is = absurd (cc)
 
-all-short : all_from (λ k. has_short (operands_of k)) 0x40 64 ≡ true
+pub all-short : all_from (λ k. has_short (operands_of k)) 0x40 64 ≡ true
 unfolding rows
 all-short = refl
 
@@ -228,7 +228,7 @@ pub record IsShort (code bits offset : ℕ) (o : Operation) : Type 0 where
   pub which : code / 4 % 8 * 4 ≡ offset
   pub base : code / 32 % 2 ≡ bits
 
-short-code : (bits offset : ℕ) (o : Operation) → bits < 2 → offset < 32 → offset % 4 ≡ 0 → IsShort (0x40 + bits * 0x20 + offset + action_of o) bits offset o
+pub short-code : (bits offset : ℕ) (o : Operation) → bits < 2 → offset < 32 → offset % 4 ≡ 0 → IsShort (0x40 + bits * 0x20 + offset + action_of o) bits offset o
 short-code bits offset o b lt fours =
     let small : action_of o < 4 = action-small o in
     record {

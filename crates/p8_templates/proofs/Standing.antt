@@ -100,9 +100,11 @@ module _ {memory : List ℕ} {base : ℕ} where
     by = λ w h.
         let end : ℕ = (piece 0 0 w).end in
         let before : ℕ = (piece 0 0 w).jumps in
-        let v = (x end before).by w h in
-        (v.0, subst (λ (n : ℕ). R (base + (piece end before w).end) n (base + w.end) (base + (piece end before w).end)) (sym (same-jumps-at piece w same))
-        (subst (λ (n : ℕ). R (base + n) before (base + w.end) (base + (piece end before w).end)) (sym (same-end-at piece w same)) v.1));
+        let v = (x end before).by w h in (
+          v.0,
+          subst (λ (n : ℕ). R (base + (piece end before w).end) n (base + w.end) (base + (piece end before w).end)) (sym (same-jumps-at piece w same))
+              (subst (λ (n : ℕ). R (base + n) before (base + w.end) (base + (piece end before w).end)) (sym (same-end-at piece w same)) v.1),
+        );
     exist = λ w. (x (piece 0 0 w).end (piece 0 0 w).jumps).exist w;
   }
 

@@ -1,3 +1,4 @@
 -- What the public contracts cite.
 pub mod Placing
 pub mod Agreeing
+pub mod Moving

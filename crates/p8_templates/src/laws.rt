@@ -1,16 +1,17 @@
 // Laws of the code of methods. The functions do nothing: their contracts are the laws.
-ghost use Rattle.std.specs.Prelude.{◌≡◌, ℕ, false, length, IsTrue};
+ghost use Rattle.std.specs.Prelude.{◌≡◌, ℕ, Bool, false, length, IsTrue};
 ghost use Rattle.p8_tree.specs.Statements.{Statements};
 ghost use Rattle.p8_tree.specs.Proper.{AreProperStatements};
 ghost use Rattle.p8_tree.specs.Nesting.{leave_loops};
 ghost use Rattle.p8_faults.specs.declared.faults.Fault.{Fault};
 ghost use Rattle.p8_kinds.specs.Misuses.{MisuseInStatements};
 ghost use Rattle.p8_gen.specs.Methods.{bytes_of, method_code};
-ghost use Rattle.p8_gen.specs.Names.{Names};
+ghost use Rattle.p8_gen.specs.Names.{Names, widened};
 ghost use Rattle.p8_keeps.specs.Standing.{Compiled};
 ghost use Rattle.p8_keeps.specs.Bodies.{MethodAt};
 ghost use Rattle.p8_templates.specs.Placing.{HasCode, IsNear, AreOps};
 ghost use Rattle.p8_templates.specs.Agreeing.{Agrees, environment};
+ghost use Rattle.p8_templates.specs.Moving.{AreSameWays};
 
 /// Law: where a memory has the bytes of a method's code, there stands the method, in the sense in which code keeps its meaning.
 ///
@@ -29,4 +30,10 @@ pub fn code_ends_where_its_bytes_do()
 /// 32,768 bytes and no jump of it goes too far.
 pub fn templates_have_operations()
     ensures { (n : Names) → (t : Compiled) → Agrees n t → (ss : Statements) → AreProperStatements ss → IsTrue (leave_loops false ss) → ((f : Fault) → ¬ MisuseInStatements (environment n) ss f) → IsNear (method_code n ss) → AreOps (method_code n ss).ops }
+{}
+
+/// Law: which bytes, beside those of offsets, and which jumps stand before a place of a method's code doesn't depend on the choice of wide
+/// jumps. So by any two choices its jumps go the same ways, and each place is moved by what the offsets before it have more or less.
+pub fn widths_move_places()
+    ensures { (n : Names) → (ss : Statements) → (a b : ℕ → Bool) → AreSameWays a b (method_code (widened n a) ss).ways (method_code (widened n b) ss).ways }
 {}

@@ -3,4 +3,6 @@
 
 mod laws;
 
-pub use laws::{code_ends_where_its_bytes_do, templates_have_operations, templates_stand};
+pub use laws::{
+    code_ends_where_its_bytes_do, templates_have_operations, templates_stand, widths_move_places,
+};
