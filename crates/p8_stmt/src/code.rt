@@ -59,7 +59,15 @@ pub fn method_code(
     ensures clean { OnOk result ((f : Fault) → ¬ IsMethodFault (names_from kinds.now number tables.now method.now.place) (method_of method.now) f) }
     ensures refused { IfErr result (IfRefused (IsFirstFault (IsMethodFault (names_from kinds.now number tables.now method.now.place) (method_of method.now)))) }
 {
-    method_code_with(alloc, kinds, tables, method, number, method.body.as_slice(), &[])
+    method_code_with(
+        alloc,
+        kinds,
+        tables,
+        method,
+        number,
+        method.body.as_slice(),
+        &[],
+    )
 }
 
 /// The code of a method with another body, and with a choice of wide jumps.

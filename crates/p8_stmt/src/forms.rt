@@ -2,7 +2,7 @@
 ghost use Rattle.std.specs.Prelude.{◌≡◌, ◌+◌, ◌<◌, ◌||◌, nat_lt, OnOk, if◌then◌else◌, option_map};
 ghost use Rattle.p8_tree.specs.Expressions.{no_items, ◌▸◌};
 ghost use Rattle.p8_tree.specs.Views.{tree_of, item_of, items_of, course_of, arms_of};
-ghost use Rattle.p8_gen.specs.Pieces.{Written};
+ghost use Rattle.p8_gen.specs.Pieces.{Written, jump};
 ghost use Rattle.p8_gen.specs.Statements.{goes_on, leaves, with_value, test_of, tests, zero_jump, step_of, step_effect};
 ghost use Rattle.p8_gen.specs.Writing.{Stands};
 ghost use Rattle.p8_stmt.specs.Walking.{names_at, loop_at, head, first_test, pass_end, step_piece, leaving, leap, tests_of_arms, goes_to_begin, keeps_count};
@@ -52,13 +52,20 @@ fn step_effect(step: &Option<Expr>) -> u8
 }
 
 impl Context<'_> {
+    /// Appends a jump of the statement to a place.
+    pub fn jump(&self, code: u8, to: u32, out: &mut Writer) -> Result<(), AllocError>
+        ensures { (w : Written) → Stands out.old w → OnOk result (Stands out.new (jump (names_at self.now).wide (names_at self.now).statement code to w)) }
+    {
+        out.jump(self.coder.widths, self.coder.statement, code, to)
+    }
+
     /// Appends `NEXT`. Outside a loop it appends nothing.
     pub fn next(&self, out: &mut Writer) -> Result<(), AllocError>
         ensures { (w : Written) → Stands out.old w → OnOk result (Stands out.new (goes_on (names_at self.now) (loop_at self.now) w)) }
     {
         match self.enclosing {
             None => Ok(()),
-            Some(places) => out.jump(self.coder.widths, self.coder.statement, 0x04, places.next),
+            Some(places) => self.jump(0x04, places.next, out),
         }
     }
 
@@ -78,9 +85,9 @@ impl Context<'_> {
     {
         if counted {
             out.byte(0x14)?;
-            out.jump(self.coder.widths, self.coder.statement, 0x04, quit)
+            self.jump(0x04, quit, out)
         } else {
-            out.jump(self.coder.widths, self.coder.statement, 0x04, quit)
+            self.jump(0x04, quit, out)
         }
     }
 
@@ -139,10 +146,10 @@ impl Context<'_> {
     {
         self.coder.value(&test.low, out)?;
         match &test.high {
-            None => out.jump(self.coder.widths, self.coder.statement, 0x0D, to),
+            None => self.jump(0x0D, to, out),
             Some(high) => {
                 self.coder.value(high, out)?;
-                out.jump(self.coder.widths, self.coder.statement, 0x0E, to)
+                self.jump(0x0E, to, out)
             }
         }
     }
@@ -162,7 +169,7 @@ impl Context<'_> {
         ensures { (w : Written) → Stands out.old w → OnOk result (Stands out.new (leap (names_at self.now) jumps end w)) }
     {
         if jumps {
-            out.jump(self.coder.widths, self.coder.statement, 0x04, end)
+            self.jump(0x04, end, out)
         } else {
             Ok(())
         }
@@ -176,7 +183,7 @@ impl Context<'_> {
             Loop::Forever => Ok(()),
             Loop::Count(count) => {
                 self.coder.value(count, out)?;
-                out.jump(self.coder.widths, self.coder.statement, 0x08, end)
+                self.jump(0x08, end, out)
             }
             Loop::Before(..) => Ok(()),
             Loop::After(..) => Ok(()),
@@ -196,7 +203,7 @@ impl Context<'_> {
             Loop::Count(_) => Ok(()),
             Loop::Before(until, test) => {
                 self.coder.value(test, out)?;
-                out.jump(self.coder.widths, self.coder.statement, zero_jump(*until), end)
+                self.jump(zero_jump(*until), end, out)
             }
             Loop::After(..) => Ok(()),
             Loop::From(..) => Ok(()),
@@ -208,12 +215,12 @@ impl Context<'_> {
         ensures { (w : Written) → Stands out.old w → OnOk result (Stands out.new (pass_end (names_at self.now) (course_of course.now) start w)) }
     {
         match course {
-            Loop::Forever => out.jump(self.coder.widths, self.coder.statement, 0x04, start),
-            Loop::Count(_) => out.jump(self.coder.widths, self.coder.statement, 0x09, start),
-            Loop::Before(..) => out.jump(self.coder.widths, self.coder.statement, 0x04, start),
+            Loop::Forever => self.jump(0x04, start, out),
+            Loop::Count(_) => self.jump(0x09, start, out),
+            Loop::Before(..) => self.jump(0x04, start, out),
             Loop::After(until, test) => {
                 self.coder.value(test, out)?;
-                out.jump(self.coder.widths, self.coder.statement, zero_jump(!*until), start)
+                self.jump(zero_jump(!*until), start, out)
             }
             Loop::From(name, first, last, step, _) => self.step(
                 name, first, last, step, start, out,

@@ -122,7 +122,7 @@ impl Context<'_> {
         ensures { (w : Written) → Stands out.old w → OnOk result (Stands out.new (arm_piece (names_at self.now) (loop_at self.now) (leap (names_at self.now) jumps end) (arm_of arm.now) next w)) }
     {
         self.test_of(arm.tests.as_slice(), out)?;
-        out.jump(self.coder.widths, self.coder.statement, zero_jump(arm.negated), next)?;
+        self.jump(zero_jump(arm.negated), next, out)?;
         self.body(&arm.body, out)?;
         self.leap(jumps, end, out)
     }
@@ -164,10 +164,10 @@ impl Context<'_> {
                 self.all_tests(first, before, arms, out)?;
                 out.byte(0x0C)?;
                 match rest {
-                    None => out.jump(self.coder.widths, self.coder.statement, 0x04, end),
+                    None => self.jump(0x04, end, out),
                     Some(body) => {
                         self.body(body, out)?;
-                        out.jump(self.coder.widths, self.coder.statement, 0x04, end)
+                        self.jump(0x04, end, out)
                     }
                 }
             }
@@ -244,7 +244,7 @@ impl Context<'_> {
     {
         out.byte(0x0C)?;
         self.body(&arm.body, out)?;
-        out.jump(self.coder.widths, self.coder.statement, 0x04, end)
+        self.jump(0x04, end, out)
     }
 
     // Appends a REPEAT.

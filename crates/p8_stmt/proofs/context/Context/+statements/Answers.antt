@@ -1,10 +1,11 @@
-use Rattle.std.proofs.Common.{OnOk, ap, sym, ◌∙◌, subst, take, length, nat_lt, ◌||◌, false, ◌+◌}
+use Rattle.std.proofs.Common.{OnOk, ℕ, ap, sym, ◌∙◌, subst, take, length, nat_lt, ◌||◌, false, ◌+◌}
 use Rattle.p8_tree.specs.Views.{tree_of, course_of, action_of, arm_of, arms_of, statement_of, statements_of}
 use Rattle.p8_tree.specs.declared.statements.Arm.{out-Arm}
 use Rattle.p8_gen.specs.Pieces.{Piece, from_place, up_to_end, byte, jump}
 use Rattle.p8_gen.specs.Expressions.{value}
 use Rattle.p8_gen.specs.Statements.{inside, code, body, chain, all_tests, case_bodies}
 use Rattle.p8_gen.specs.Writing.{Stands}
+use Rattle.p8_gen.proofs.Widths.{Alike}
 use Rattle.p8_stmt.specs.Walking.{names_at, loop_at, leap, arm_piece, branches, choices, bodies, case_piece, case_body, tests_of_arms, up_to_next, loop_piece}
 use Rattle.p8_stmt.proofs.Walks.{Runs, up_ends, up_counts, same_end, same_jumps, branches_same, arm_same, case_ends, case_jumps, case_written, tests_alone, loop_same, next_same, statements_next, arms_next, bodies_next, all_tests_next, arm_to_is, case_body_is, if_form, branch_none, branch_some, case_form, choice_none, choice_some, bodies_form, repeat_form}
 use Rattle.p8_stmt.proofs.context.Context.+statements.Goals as goal
@@ -39,8 +40,8 @@ up_to_next-returns-then-counts t c = λ w stands.
     let n = names_at c.args.self.now in
     let ss = statements_of c.args.body.now in
     let counted : Stands c.body_inside.new.out (body n (inside 0 c.args.quit c.args.counted) ss w) = c.in_ok-body_inside.ensures w (c.counter-counter.ensures w stands) in
-    let p = λ next. body n (inside next c.args.quit c.args.counted) ss in
-    let same = λ x y. next_same n c.args.quit c.args.quit c.args.counted ss x y in
+    let p : ℕ → Piece = λ next. body n (inside next c.args.quit c.args.counted) ss in
+    let same : (x y : ℕ) → Alike (p x) (p y) = λ x y. next_same n c.args.quit c.args.quit c.args.counted ss x y in
     c.if-counts.ensures.counts (up_to_next n c.args.quit c.args.counted ss w) (up_ends {p = p} same w _ counted.ends) (up_counts {p = p} same w _ counted.jumps)
 
 pub all_tests-returns-then-counts : goal.all_tests-returns-then-counts
@@ -133,7 +134,7 @@ pub case_body-returns : goal.case_body-returns
 case_body-returns t c = λ w stands.
     let n = names_at c.args.self.now in
     let l = loop_at c.args.self.now in
-    subst (λ v. OnOk c.jump.result (Stands c.jump.new.self v)) (case_body_is n l c.args.end c.args.arm.now c.deref.result.now w c.deref.ensures.value)
+    subst (λ v. OnOk c.jump.result (Stands c.jump.new.out v)) (case_body_is n l c.args.end c.args.arm.now c.deref.result.now w c.deref.ensures.value)
     (c.jump.ensures _ (c.in_ok-body.ensures _ (c.in_ok-byte.ensures w stands)))
 
 pub placed_tests-loop-arm-preserved : goal.placed_tests-loop-arm-preserved
@@ -183,7 +184,7 @@ pub choices-returns-in-None : goal.choices-returns-in-None
 choices-returns-in-None t c = λ w stands.
     let n = names_at c.args.self.now in
     let l = loop_at c.args.self.now in
-    subst (λ v. OnOk c.jump.result (Stands c.jump.new.self v))
+    subst (λ v. OnOk c.jump.result (Stands c.jump.new.out v))
     (ap (λ xs. jump n.wide n.statement 0x04 c.args.end (byte 0x0C (all_tests n l c.args.first c.args.before (arms_of xs) (value n (tree_of c.in-Case.value) w)))) c.deref.ensures.value
     ∙ ap (λ (p : Piece). p w) (choice_none n l c.args.statement.now.kind c.in-Case.value c.in-Case.arms c.in-Case.rest c.args.first c.args.before c.args.end c.in-Case.is c.in-None.is))
     (c.jump.ensures _ (c.in_ok-byte-in-Case.ensures _ (c.in_ok-all_tests-in-Case.ensures _ (c.in_ok-value-in-Case.ensures w stands))))
@@ -193,7 +194,7 @@ choices-returns-in_ok-body-in-Some t c = λ w stands.
     let n = names_at c.args.self.now in
     let l = loop_at c.args.self.now in
     let tested = byte 0x0C (all_tests n l c.args.first c.args.before (arms_of c.deref.result.now) (value n (tree_of c.in-Case.value) w)) in
-    subst (λ v. OnOk c.jump-in-Some.result (Stands c.jump-in-Some.new.self v))
+    subst (λ v. OnOk c.jump-in-Some.result (Stands c.jump-in-Some.new.out v))
     (ap (λ ss. jump n.wide n.statement 0x04 c.args.end (body n l (statements_of ss) tested)) c.deref-in-Some.ensures.value
     ∙ ap (λ xs. jump n.wide n.statement 0x04 c.args.end (body n l (statements_of c.in-Some.body.items) (byte 0x0C (all_tests n l c.args.first c.args.before (arms_of xs) (value n (tree_of c.in-Case.value) w))))) c.deref.ensures.value
     ∙ ap (λ (p : Piece). p w) (choice_some n l c.args.statement.now.kind c.in-Case.value c.in-Case.arms c.in-Case.rest c.in-Some.body c.args.first c.args.before c.args.end c.in-Case.is c.in-Some.is))
