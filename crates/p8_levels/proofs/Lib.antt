@@ -1,0 +1,4 @@
+mod Turning
+mod Eights
+mod Walking
+pub mod Passing

@@ -1,0 +1,49 @@
+-- internal
+-- The registers OUTA and DIRA of the eight cogs along the turns of a run. A past is a list of turns, the newest first.
+use Rattle.std.specs.Prelude.{ℕ, ◌≡◌, ◌<◌, ◌≤◌, List, [], ◌∷◌, Option, None, reverse, slice_index, fold, map, bit_and, bit_or}
+use Rattle.std.specs.List.{zip}
+use Rattle.p8_access.specs.declared.order.Turn.{Turn}
+use Rattle.p8_history.specs.Worlds.{Line}
+use Rattle.p8_history.specs.Hub.{newest}
+use Rattle.p8_history.specs.Pins.{outa_of, dira_of, outa_by, dira_by}
+use Rattle.p8_levels.specs.Levels.{by}
+use Rattle.p8_levels.specs.declared.registers.Registers.{Registers}
+
+-- the bits that some of these have
+abbrev pub ors : List ℕ → ℕ
+ors xs = fold (λ (all x : ℕ). bit_or all x) 0 xs
+
+-- what each cog with these outputs and directions drives high
+abbrev pub driven : List ℕ → List ℕ → List ℕ
+driven outa dira = map (λ (both : ℕ × ℕ). bit_and both.0 both.1) (zip outa dira)
+
+-- what a turn does to a register of a cog
+abbrev pub outa_told : ℕ → Turn → Option ℕ
+outa_told n turn = outa_by n turn.key.cog turn.access turn.answer
+
+abbrev pub dira_told : ℕ → Turn → Option ℕ
+dira_told n turn = dira_by n turn.key.cog turn.access turn.answer
+
+-- a turn changes no register of the eight cogs
+abbrev pub TouchesNone : Turn → Type 0
+TouchesNone turn = (n : ℕ) → n < 8 → (outa_told n turn ≡ None) × (dira_told n turn ≡ None)
+
+-- these registers are those of the eight cogs after a past
+pub record AreAfter (past : List Turn) (registers : Registers) : Type 0 where
+  pub outa : (n : ℕ) → n < 8 → outa_of past n ≡ slice_index registers.outa n
+  pub dira : (n : ℕ) → n < 8 → dira_of past n ≡ slice_index registers.dira n
+
+-- from a clock on the registers of a run are these, changed by those of the turns to come that aren't later
+pub record StandFor (past : List Turn) (clock : ℕ) (registers : Registers) (to_come : List Turn) : Type 0 where
+  pub outa : (t n : ℕ) → clock ≤ t → n < 8 → outa_of (by past t) n ≡ newest (outa_told n) (slice_index registers.outa n) (by (reverse to_come) t)
+  pub dira : (t n : ℕ) → clock ≤ t → n < 8 → dira_of (by past t) n ≡ newest (dira_told n) (slice_index registers.dira n) (by (reverse to_come) t)
+
+-- the clocks of turns, the oldest first, never fall, and none is before this one
+abbrev pub ComeFrom : ℕ → List Turn → Type 0
+ComeFrom clock [] = Unit {0}
+ComeFrom clock (turn ∷ turns) = (clock ≤ turn.key.clock) × ComeFrom turn.key.clock turns
+
+-- no clock of these changes is later than this one
+abbrev pub Within : ℕ → List Line → Type 0
+Within clock [] = Unit {0}
+Within clock (line ∷ lines) = (line.clock ≤ clock) × Within clock lines

@@ -1,0 +1,6 @@
+-- What public contracts cite.
+pub mod Levels
+pub mod Changes
+-- Internal.
+pub mod Driving
+pub mod Walks

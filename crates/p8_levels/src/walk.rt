@@ -1,0 +1,96 @@
+// A walk along a run, from one clock at which the pins may change to the next.
+ghost use Rattle.std.specs.Prelude.{◌≡◌, ◌<◌, ◌≤◌, ◌+◌, ℕ, List, reverse, Some, None, MatchOption};
+ghost use Rattle.p8_access.specs.declared.order.Turn.{Turn as TurnValue};
+ghost use Rattle.p8_levels.specs.Driving.{ComeFrom, StandFor};
+ghost use Rattle.p8_levels.specs.Walks.{IsAt, pins_along, IsStill, earlier_of};
+
+use crate::registers::{Registers, touches};
+use p8_access::Turn;
+use p8_pins::{PinScript, Span};
+
+/// Where a walk is: the turns to come, the registers as those before have left them, and the script's span.
+#[derive(Drop)]
+pub struct Walk<'a> {
+    pub script: &'a PinScript,
+    pub turns: &'a [Turn],
+    pub registers: Registers,
+    pub span: Span,
+}
+
+/// The turns from the first on that may change a register.
+fn from_first_touch<'a>(turns: &'a [Turn]) -> &'a [Turn]
+    ensures stands { (past : List TurnValue) (clock : ℕ) (registers : Registers) → StandFor past clock registers turns.now → StandFor past clock registers result.now }
+    ensures come { (clock : ℕ) → ComeFrom clock turns.now → ComeFrom clock result.now }
+{
+    let mut rest = turns;
+    while let [turn, after @ ..] = rest {
+        if touches(turn) {
+            break;
+        }
+        rest = after;
+    }
+    rest
+}
+
+/// Takes the turns that aren't later than a clock, and gives back those to come.
+fn take_by<'a>(registers: &mut Registers, turns: &'a [Turn], clock: u64) -> &'a [Turn]
+    ensures stands { (past : List TurnValue) (from : ℕ) → from ≤ clock → StandFor past from registers.old turns.now → StandFor past clock registers.new result.now }
+    ensures come { (from : ℕ) → ComeFrom from turns.now → ComeFrom (clock + 1) result.now }
+{
+    let mut rest = turns;
+    while let [turn, after @ ..] = rest {
+        if clock < turn.key.clock {
+            break;
+        }
+        registers.take(turn);
+        rest = after;
+    }
+    rest
+}
+
+/// The earlier of two clocks, where there is one.
+fn earlier(one: Option<u64>, turns: &[Turn]) -> Option<u64>
+    ensures { result ≡ earlier_of one turns.now }
+{
+    match (one, turns.first()) {
+        (Some(line), Some(turn)) => Some(line.min(turn.key.clock)),
+        (line, None) => line,
+        (None, Some(turn)) => Some(turn.key.clock),
+    }
+}
+
+impl<'a> Walk<'a> {
+    /// A walk at clock 0.
+    pub fn open(script: &'a PinScript, turns: &'a [Turn]) -> Walk<'a>
+        ensures script { result.script.now ≡ script.now }
+        ensures at { ComeFrom 0 turns.now → IsAt script.now (reverse turns.now) 0 result }
+    {
+        let mut registers = Registers::open();
+        let to_come = take_by(&mut registers, turns, 0);
+        Walk {
+            script,
+            turns: to_come,
+            registers,
+            span: script.span_at(0),
+        }
+    }
+
+    /// The pins at the clock of the walk.
+    pub fn pins(&self) -> u32
+        ensures { (past : List TurnValue) (clock : ℕ) → IsAt self.now.script.now past clock self.now → result ≡ pins_along self.now.script.now past clock }
+    {
+        self.registers.pins(self.span.levels)
+    }
+
+    /// Goes to the next clock at which the pins may change, if there is one.
+    pub fn next(&mut self) -> Option<u64>
+        ensures script { self.new.script.now ≡ self.old.script.now }
+        ensures at { (past : List TurnValue) (clock : ℕ) → IsAt self.old.script.now past clock self.old → MatchOption result (IsStill self.old.script.now past clock None) (λ next. (clock < next) × IsAt self.old.script.now past next self.new × IsStill self.old.script.now past clock (Some next)) }
+    {
+        let turns = from_first_touch(self.turns);
+        let clock = earlier(self.span.end, turns)?;
+        self.turns = take_by(&mut self.registers, turns, clock);
+        self.span = self.script.span_near(&self.span, clock);
+        Some(clock)
+    }
+}

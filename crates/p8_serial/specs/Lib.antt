@@ -1,0 +1,4 @@
+-- What public contracts cite.
+pub mod Serial
+pub mod Typed
+pub mod Laws

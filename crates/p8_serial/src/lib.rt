@@ -1,0 +1,14 @@
+//! Serial bytes on a pin: the bytes that stand on a pin in a run, and the pin script that sends bytes.
+//!
+//! A frame has a low start bit, eight data bits from the lowest on, no parity and one high stop bit.
+#![tactic(auto)]
+
+mod frames;
+mod laws;
+mod numbers;
+mod serial;
+mod typed;
+
+pub use laws::typed_is_read;
+pub use serial::serial_text;
+pub use typed::typed;
