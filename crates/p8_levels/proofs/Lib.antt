@@ -1,4 +1,6 @@
 mod Turning
 mod Eights
 mod Walking
+mod Telling
+mod Ends
 pub mod Passing

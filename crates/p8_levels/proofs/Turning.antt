@@ -1,13 +1,11 @@
 -- The registers of the cogs along the turns of a run.
-use Rattle.std.proofs.Common.{◌≡◌, ◌∙◌, ap, sym, refl, subst, ℕ, ◌+◌, ◌<◌, ◌≤◌, inl, inr, Bool, true, false, nat_le, if◌then◌else◌, List, [], ◌∷◌, ◌++◌, reverse, filter, Option, Some, None, arith, append_assoc, slice_index, tt}
+use Rattle.std.proofs.Common.{◌≡◌, ◌∙◌, ap, sym, refl, subst, ℕ, ◌<◌, ◌≤◌, inl, inr, nat_le, List, [], ◌∷◌, ◌++◌, reverse, length, Option, None, arith, append_assoc, slice_index}
 use Rattle.std.proofs.lemmas.List.{reverse-append, reverse-reverse, append-nil}
 use Rattle.std.proofs.lemmas.List.Elements.{filter-append}
 use Rattle.std.proofs.lemmas.Bool.{cases_lt}
 use Rattle.std.proofs.lemmas.Bool.Decides.{nat_tests}
 use Rattle.p8_access.specs.declared.order.Turn.{Turn}
-use Rattle.p8_access.specs.Windows.{Before}
 use Rattle.p8_history.specs.Hub.{newest, or_else}
-use Rattle.p8_history.specs.Pins.{outa_of, dira_of}
 use Rattle.p8_history.specs.Histories.{Rises, IsAfter}
 use Rattle.p8_levels.specs.Levels.{by, last_clock}
 use Rattle.p8_levels.specs.Driving.{outa_told, dira_told, TouchesNone, AreAfter, StandFor, ComeFrom}
@@ -55,9 +53,9 @@ module _ (past : List Turn) where
   }
 
   pub passes-taken : (clock : ℕ) (old new : Registers) (turn : Turn) (turns : List Turn) → turn.key.clock ≤ clock
-    → ((n : ℕ) → n < 8 → slice_index new.outa n ≡ or_else (outa_told n turn) (slice_index old.outa n))
-    → ((n : ℕ) → n < 8 → slice_index new.dira n ≡ or_else (dira_told n turn) (slice_index old.dira n))
-    → StandFor past clock old (turn ∷ turns) → StandFor past clock new turns
+      → ((n : ℕ) → n < 8 → slice_index new.outa n ≡ or_else (outa_told n turn) (slice_index old.outa n))
+      → ((n : ℕ) → n < 8 → slice_index new.dira n ≡ or_else (dira_told n turn) (slice_index old.dira n))
+      → StandFor past clock old (turn ∷ turns) → StandFor past clock new turns
   passes-taken clock old new turn turns taken outa dira s = record {
     outa = λ t n le h. s.outa t n le h ∙ newest-taken (outa_told n) (slice_index old.outa n) turn turns t (omega arith) ∙ ap (λ (x : ℕ). newest (outa_told n) x (by (reverse turns) t)) (sym (outa n h));
     dira = λ t n le h. s.dira t n le h ∙ newest-taken (dira_told n) (slice_index old.dira n) turn turns t (omega arith) ∙ ap (λ (x : ℕ). newest (dira_told n) x (by (reverse turns) t)) (sym (dira n h));
@@ -95,8 +93,12 @@ comes : (past later : List Turn) → Rises past → ComeFrom (last_clock past) l
 comes [] later rises come = come
 comes (turn ∷ past) later rises come =
     subst (ComeFrom 0) (sym (ap (λ (ts : List Turn). ts ++ later) (reverse-append (turn ∷ []) past) ∙ append_assoc (reverse past) (turn ∷ []) later))
-      (comes past (turn ∷ later) rises.0 (not-before past turn rises.1, come))
+    (comes past (turn ∷ later) rises.0 (not-before past turn rises.1, come))
 
 -- turns with rising keys
 pub all-come : (turns : List Turn) → Rises (reverse turns) → ComeFrom 0 turns
 all-come turns rises = subst (ComeFrom 0) (append-nil (reverse (reverse turns)) ∙ reverse-reverse turns) (comes (reverse turns) [] rises tt)
+
+pub none-come : (clock : ℕ) (turns : List Turn) → length turns ≡ 0 → ComeFrom clock turns
+none-come clock [] none = tt
+none-come clock (turn ∷ turns) none = absurd (omega (arith, none))

@@ -1,17 +1,18 @@
 -- A walk along a run.
-use Rattle.std.proofs.Common.{◌≡◌, ◌∙◌, ap, sym, refl, ℕ, ◌+◌, ◌<◌, ◌≤◌, List, [], ◌∷◌, reverse, min, Option, Some, None, arith, tt, slice_index}
-use Rattle.std.specs.Prelude.{IfSome}
+use Rattle.std.proofs.Common.{◌≡◌, ◌∙◌, ap, refl, ℕ, ◌+◌, ◌<◌, ◌≤◌, List, [], ◌∷◌, reverse, Option, Some, None, arith, subst}
+use Rattle.std.specs.Prelude.{IfSome, MatchOption}
 use Rattle.p8_access.specs.declared.order.Turn.{Turn}
 use Rattle.p8_history.specs.Worlds.{Line, level_at}
 use Rattle.p8_history.specs.Hub.{newest}
 use Rattle.p8_history.specs.Pins.{dira, outputs, pins_with}
 use Rattle.p8_pins.specs.Matches.{IsBefore}
 use Rattle.p8_levels.specs.Levels.{by}
-use Rattle.p8_levels.specs.Driving.{outa_told, dira_told, AreAfter, StandFor, ComeFrom, ors, driven}
+use Rattle.p8_levels.specs.Driving.{outa_told, dira_told, AreAfter, StandFor, ComeFrom}
 use Rattle.p8_levels.specs.Walks.{IsAt, IsStill, pins_along, earlier_of}
 use Rattle.p8_levels.specs.declared.registers.Registers.{Registers}
 use Rattle.p8_levels.specs.declared.walk.Walk.{Walk}
-use Rattle.p8_levels.proofs.Turning.{after-now, none-by, goes-on}
+use Rattle.p8_levels.proofs.Turning.{after-now, none-by}
+use Rattle.p8_levels.proofs.Eights.{same_pins}
 
 -- before the first turn
 pub stands-first : (registers : Registers) (turns : List Turn) → AreAfter [] registers → StandFor (reverse turns) 0 registers turns
@@ -32,29 +33,21 @@ before-line t None (turn ∷ turns) before = tt
 before-line t (Some line) (turn ∷ turns) before = omega (arith, before)
 
 pub next-later : (clock next : ℕ) (line : Option ℕ) (turns : List Turn) → ComeFrom (clock + 1) turns → IfSome line (λ end. clock < end) → earlier_of line turns ≡ Some next → clock < next
-next-later clock next None [] come end is = absurd (none-some is)
+next-later clock next None [] come end is = absurd (subst (λ (o : Option ℕ). MatchOption o (Unit {0}) (λ n. ⊥)) is (tt {0}))
 next-later clock next (Some line) [] come end is = subst (λ (o : Option ℕ). IfSome o (λ n. clock < n)) is end
 next-later clock next None (turn ∷ turns) come end is = subst (λ (o : Option ℕ). IfSome o (λ n. clock < n)) is (omega (arith, come.0))
 next-later clock next (Some line) (turn ∷ turns) come end is = subst (λ (o : Option ℕ). IfSome o (λ n. clock < n)) is (omega (arith, come.0, end))
 
--- what registers and levels tell at a clock
-pub told-pins : (script : List Line) (past : List Turn) (t : ℕ) (directions outs levels : ℕ) → directions ≡ dira (by past t) → outs ≡ outputs (by past t) → levels ≡ level_at script t → pins_with directions outs levels ≡ pins_along script past t
-told-pins script past t directions outs levels d o l =
-    ap (λ (x : ℕ). pins_with x outs levels) d ∙ ap (λ (x : ℕ). pins_with (dira (by past t)) x levels) o ∙ ap (λ (x : ℕ). pins_with (dira (by past t)) (outputs (by past t)) x) l
+module _ (script : List Line) (past : List Turn) (clock : ℕ) (walk : Walk) (at : IsAt script past clock walk) where
+  pub after-at : AreAfter (by past clock) walk.registers
+  after-at = after-now past clock clock walk.registers walk.turns.now at.stands (omega arith) (none-by clock (clock + 1) walk.turns.now (omega arith) at.later)
 
-module _ (script : List Line) (past : List Turn) (clock : ℕ) (walk : Walk) (eight : (length walk.registers.outa ≡ 8) × (length walk.registers.dira ≡ 8)) (at : IsAt script past clock walk) where
-  told : (t : ℕ) → clock ≤ t → by (reverse walk.turns.now) t ≡ [] → walk.span.levels ≡ level_at script t → pins_with (ors walk.registers.dira) (ors (driven walk.registers.outa walk.registers.dira)) walk.span.levels ≡ pins_along script past t
-  told t le none levels =
-      let after = after-now past clock t walk.registers walk.turns.now at.stands le none in
-      told-pins script past t _ _ _ (told_dira (by past t) walk.registers eight.0 eight.1 after) (told_outputs (by past t) walk.registers eight.0 eight.1 after) levels
+  pub told-at : (pins : ℕ) → pins ≡ pins_with (dira (by past clock)) (outputs (by past clock)) walk.span.levels → pins ≡ pins_along script past clock
+  told-at pins is = is ∙ ap (pins_with (dira (by past clock)) (outputs (by past clock))) at.levels
 
-  pub told-now : pins_with (ors walk.registers.dira) (ors (driven walk.registers.outa walk.registers.dira)) walk.span.levels ≡ pins_along script past clock
-  told-now = told clock (omega arith) (none-by clock (clock + 1) walk.turns.now (omega arith) at.later) at.levels
-
--- nothing changes up to the next clock
-pub still : (script : List Line) (past : List Turn) (clock : ℕ) (walk : Walk) (turns : List Turn) → (length walk.registers.outa ≡ 8) × (length walk.registers.dira ≡ 8) → IsAt script past clock walk → StandFor past clock walk.registers turns → ComeFrom (clock + 1) turns → IsStill script past clock (earlier_of walk.span.end turns)
-still script past clock walk turns eight at stands come t le before =
-    let skipped : Walk = record walk { turns = record walk.turns { now = turns } } in
-    let at' : IsAt script past clock skipped = record { stands = stands; later = come; levels = at.levels; end = at.end; same = at.same } in
-    sym (told script past clock skipped eight at' t le (later-turns clock t walk.span.end turns come le before) (sym (at.same t le (before-line t walk.span.end turns before))))
-    ∙ told-now script past clock skipped eight at'
+  -- nothing changes up to the next clock
+  pub still : (turns : List Turn) → StandFor past clock walk.registers turns → ComeFrom (clock + 1) turns → IsStill script past clock (earlier_of walk.span.end turns)
+  still turns stands come t le before =
+      let after : AreAfter (by past t) walk.registers = after-now past clock t walk.registers turns stands le (later-turns clock t walk.span.end turns come le before) in
+      ap (pins_with (dira (by past t)) (outputs (by past t))) (at.same t le (before-line t walk.span.end turns before) ∙ at.levels)
+      ∙ same_pins (by past t) (by past clock) walk.registers after after-at (level_at script clock)

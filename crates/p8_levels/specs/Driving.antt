@@ -1,7 +1,6 @@
 -- internal
 -- The registers OUTA and DIRA of the eight cogs along the turns of a run. A past is a list of turns, the newest first.
-use Rattle.std.specs.Prelude.{ℕ, ◌≡◌, ◌<◌, ◌≤◌, List, [], ◌∷◌, Option, None, reverse, slice_index, fold, map, bit_and, bit_or}
-use Rattle.std.specs.List.{zip}
+use Rattle.std.specs.Prelude.{ℕ, zero, suc, ◌≡◌, ◌<◌, ◌≤◌, List, [], ◌∷◌, Option, None, reverse, slice_index, bit_or}
 use Rattle.p8_access.specs.declared.order.Turn.{Turn}
 use Rattle.p8_history.specs.Worlds.{Line}
 use Rattle.p8_history.specs.Hub.{newest}
@@ -9,13 +8,10 @@ use Rattle.p8_history.specs.Pins.{outa_of, dira_of, outa_by, dira_by}
 use Rattle.p8_levels.specs.Levels.{by}
 use Rattle.p8_levels.specs.declared.registers.Registers.{Registers}
 
--- the bits that some of these have
-abbrev pub ors : List ℕ → ℕ
-ors xs = fold (λ (all x : ℕ). bit_or all x) 0 xs
-
--- what each cog with these outputs and directions drives high
-abbrev pub driven : List ℕ → List ℕ → List ℕ
-driven outa dira = map (λ (both : ℕ × ℕ). bit_and both.0 both.1) (zip outa dira)
+-- the bits that some of the first have
+abbrev pub gathered : (ℕ → ℕ) → ℕ → ℕ
+gathered f zero = 0
+gathered f (suc n) = bit_or (gathered f n) (f n)
 
 -- what a turn does to a register of a cog
 abbrev pub outa_told : ℕ → Turn → Option ℕ

@@ -6,7 +6,8 @@ use Rattle.p8_history.specs.Worlds.{Line, level_at}
 use Rattle.p8_history.specs.Pins.{pins_with, dira, outputs}
 use Rattle.p8_pins.specs.Matches.{IsBefore}
 use Rattle.p8_levels.specs.Levels.{by}
-use Rattle.p8_levels.specs.Driving.{StandFor, ComeFrom}
+use Rattle.p8_levels.specs.Driving.{StandFor, ComeFrom, Within}
+use Rattle.p8_levels.specs.Changes.{RiseFrom}
 use Rattle.p8_levels.specs.declared.walk.Walk.{Walk}
 
 -- the pins at a clock, with a script's levels on the input pins
@@ -30,3 +31,9 @@ abbrev pub earlier_of : Option ℕ → List Turn → Option ℕ
 earlier_of line [] = line
 earlier_of None (turn ∷ turns) = Some turn.key.clock
 earlier_of (Some line) (turn ∷ turns) = Some (min line turn.key.clock)
+
+-- these changes tell the pins up to a clock, and stay so from there on
+pub record HasTold (script : List Line) (past : List Turn) (clock : ℕ) (lines : List Line) : Type 0 where
+  pub rise : RiseFrom 0 lines
+  pub within : Within clock lines
+  pub pins : (t : ℕ) → level_at lines t ≡ pins_along script past (min t clock)

@@ -13,8 +13,8 @@ pub fn run_end(turns: &[Turn], clocks: u64, limit: u64) -> u64
     if turns.len() as u64 != limit {
         return clocks;
     }
-    match turns.last() {
-        Some(turn) => turn.key.clock,
+    match turns.split_last() {
+        Some((turn, _)) => turn.key.clock,
         None => 0,
     }
 }

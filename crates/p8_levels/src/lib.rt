@@ -4,8 +4,8 @@
 mod change;
 mod changes;
 mod cursor;
-mod registers;
 mod ending;
+mod registers;
 mod walk;
 
 pub use change::Change;

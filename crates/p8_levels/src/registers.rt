@@ -1,10 +1,9 @@
 // The registers by which the eight cogs drive the pins.
-ghost use Rattle.std.specs.Prelude.{◌≡◌, ◌<◌, ◌==◌, ℕ, List, [], false, if◌then◌else◌, slice_index, fold, bit_or, bit_and};
-ghost use Rattle.std.specs.List.{zip};
+ghost use Rattle.std.specs.Prelude.{◌≡◌, ◌<◌, ◌==◌, ℕ, List, [], false, if◌then◌else◌, slice_index};
 ghost use Rattle.p8_access.specs.declared.order.Turn.{Turn as TurnValue};
 ghost use Rattle.p8_history.specs.Hub.{or_else, is_number};
 ghost use Rattle.p8_history.specs.Pins.{pins_with, dira, outputs};
-ghost use Rattle.p8_levels.specs.Driving.{outa_told, dira_told, TouchesNone, AreAfter, ors, driven};
+ghost use Rattle.p8_levels.specs.Driving.{outa_told, dira_told, TouchesNone, AreAfter};
 
 use p8_access::{Access, Answer, Turn};
 
@@ -84,24 +83,12 @@ impl Registers {
     pub fn pins(&self, levels: u32) -> u32
         ensures { (past : List TurnValue) → AreAfter past self.now → result ≡ pins_with (dira past) (outputs past) levels }
     {
-        self.outputs() | (levels & (self.directions() ^ u32::MAX))
-    }
-
-    /// The pins that some cog makes outputs.
-    fn directions(&self) -> u32
-        ensures { result ≡ ors self.now.dira }
-    {
-        self.dira.iter().fold(0, |all, dira| all | *dira)
-    }
-
-    /// The outputs that some cog with that direction makes high.
-    fn outputs(&self) -> u32
-        ensures { result ≡ ors (driven self.now.outa self.now.dira) }
-    {
-        self.outa
-            .iter()
-            .zip(&self.dira)
-            .map(|(outa, dira)| *outa & *dira)
-            .fold(0, |all, high| all | high)
+        let mut directions = 0;
+        let mut outputs = 0;
+        for cog in 0..8 {
+            directions |= self.dira[cog];
+            outputs |= self.outa[cog] & self.dira[cog];
+        }
+        outputs | (levels & (directions ^ u32::MAX))
     }
 }

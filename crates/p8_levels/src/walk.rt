@@ -1,6 +1,7 @@
 // A walk along a run, from one clock at which the pins may change to the next.
 ghost use Rattle.std.specs.Prelude.{◌≡◌, ◌<◌, ◌≤◌, ◌+◌, ℕ, List, reverse, Some, None, MatchOption};
 ghost use Rattle.p8_access.specs.declared.order.Turn.{Turn as TurnValue};
+ghost use Rattle.p8_history.specs.Worlds.{Line};
 ghost use Rattle.p8_levels.specs.Driving.{ComeFrom, StandFor};
 ghost use Rattle.p8_levels.specs.Walks.{IsAt, pins_along, IsStill, earlier_of};
 
@@ -23,9 +24,9 @@ fn from_first_touch<'a>(turns: &'a [Turn]) -> &'a [Turn]
     ensures come { (clock : ℕ) → ComeFrom clock turns.now → ComeFrom clock result.now }
 {
     let mut rest = turns;
-    while let [turn, after @ ..] = rest {
+    while let Some((turn, after)) = rest.split_first() {
         if touches(turn) {
-            break;
+            return rest;
         }
         rest = after;
     }
@@ -38,9 +39,9 @@ fn take_by<'a>(registers: &mut Registers, turns: &'a [Turn], clock: u64) -> &'a 
     ensures come { (from : ℕ) → ComeFrom from turns.now → ComeFrom (clock + 1) result.now }
 {
     let mut rest = turns;
-    while let [turn, after @ ..] = rest {
+    while let Some((turn, after)) = rest.split_first() {
         if clock < turn.key.clock {
-            break;
+            return rest;
         }
         registers.take(turn);
         rest = after;
@@ -77,7 +78,7 @@ impl<'a> Walk<'a> {
 
     /// The pins at the clock of the walk.
     pub fn pins(&self) -> u32
-        ensures { (past : List TurnValue) (clock : ℕ) → IsAt self.now.script.now past clock self.now → result ≡ pins_along self.now.script.now past clock }
+        ensures { (script : List Line) (past : List TurnValue) (clock : ℕ) → IsAt script past clock self.now → result ≡ pins_along script past clock }
     {
         self.registers.pins(self.span.levels)
     }
@@ -85,12 +86,16 @@ impl<'a> Walk<'a> {
     /// Goes to the next clock at which the pins may change, if there is one.
     pub fn next(&mut self) -> Option<u64>
         ensures script { self.new.script.now ≡ self.old.script.now }
-        ensures at { (past : List TurnValue) (clock : ℕ) → IsAt self.old.script.now past clock self.old → MatchOption result (IsStill self.old.script.now past clock None) (λ next. (clock < next) × IsAt self.old.script.now past next self.new × IsStill self.old.script.now past clock (Some next)) }
+        ensures at { (script : List Line) (past : List TurnValue) (clock : ℕ) → self.old.script.now ≡ script → IsAt script past clock self.old → MatchOption result (IsStill script past clock None) (λ next. (clock < next) × IsAt script past next self.new × IsStill script past clock (Some next)) }
     {
         let turns = from_first_touch(self.turns);
-        let clock = earlier(self.span.end, turns)?;
-        self.turns = take_by(&mut self.registers, turns, clock);
-        self.span = self.script.span_near(&self.span, clock);
-        Some(clock)
+        match earlier(self.span.end, turns) {
+            None => None,
+            Some(clock) => {
+                self.turns = take_by(&mut self.registers, turns, clock);
+                self.span = self.script.span_near(&self.span, clock);
+                Some(clock)
+            }
+        }
     }
 }

@@ -4,11 +4,11 @@ use Rattle.p8_levels.specs.declared.registers.Registers.{Registers}
 use Rattle.p8_levels.specs.Driving.{ComeFrom, StandFor}
 use Rattle.p8_levels.proofs.walk.from_first_touch.Given as goal
 
-abbrev pub invariant-loop-rest : goal.invariant-loop-rest
-invariant-loop-rest l = record {
+abbrev pub invariant-loop-turn : goal.invariant-loop-turn
+invariant-loop-turn l = record {
   stands : (past : List Turn) (clock : ℕ) (registers : Registers) → StandFor past clock registers l.turns → StandFor past clock registers l.rest;
   come : (clock : ℕ) → ComeFrom clock l.turns → ComeFrom clock l.rest;
 }
 
-abbrev pub decreases-loop-rest : goal.decreases-loop-rest
-decreases-loop-rest l = length l.rest
+abbrev pub decreases-loop-turn : goal.decreases-loop-turn
+decreases-loop-turn l = length l.rest
