@@ -6,8 +6,7 @@ use Rattle.p8_access.specs.declared.order.Turn.{Turn}
 use Rattle.p8_history.specs.Worlds.{Line, World, level_at}
 use Rattle.p8_history.specs.Pins.{dira, outputs, pins_with}
 use Rattle.p8_levels.specs.Levels.{by, pins_when}
-use Rattle.p8_levels.specs.Changes.{line_of, lines_of, Tells}
-use Rattle.p8_levels.specs.Driving.{Within}
+use Rattle.p8_levels.specs.Changes.{line_of, lines_of, Tells, Within}
 use Rattle.p8_levels.specs.Walks.{IsStill, pins_along, HasTold}
 use Rattle.p8_levels.specs.declared.change.Change.{Change}
 use Rattle.p8_levels.proofs.Passing.{passes, more-before, more-from, within-more, rise-more}

@@ -1,5 +1,5 @@
 -- The pins of a run as a list of changes: each has a clock, and the 32 pins from that clock on.
-use Rattle.std.specs.Prelude.{ℕ, ◌+◌, ◌≡◌, ◌≤◌, List, [], ◌∷◌, map}
+use Rattle.std.specs.Prelude.{ℕ, ◌+◌, ◌≡◌, ◌<◌, ◌≤◌, List, [], ◌∷◌, ◌++◌, map}
 use Rattle.p8_access.specs.declared.order.Turn.{Turn}
 use Rattle.p8_history.specs.Worlds.{Line, World, level_at, levels_after}
 use Rattle.p8_levels.specs.declared.change.Change.{Change}
@@ -21,6 +21,16 @@ pub record Tells (w : World) (past : List Turn) (lines : List Line) : Type 0 whe
   pub rise : RiseFrom 0 lines
   pub pins : (t : ℕ) → level_at lines t ≡ pins_when w past t
 
+-- no clock of these changes is later than this one
+abbrev pub Within : ℕ → List Line → Type 0
+Within clock [] = Unit {0}
+Within clock (line ∷ lines) = (line.clock ≤ clock) × Within clock lines
+
+-- the first of these changes is later than a clock, where there is one
+abbrev pub IsLater : ℕ → List Line → Type 0
+IsLater clock [] = Unit {0}
+IsLater clock (line ∷ lines) = clock < line.clock
+
 -- the pins at some clock, and the changes that come later
 pub record Ahead : Type 0 where
   pub pins : ℕ
@@ -30,6 +40,14 @@ pub record Ahead : Type 0 where
 abbrev pub pins_from : Ahead → ℕ → ℕ
 pins_from ahead t = levels_after ahead.pins ahead.changes t
 
--- two of them tell the same from a clock on
-abbrev pub AgreeFrom : ℕ → Ahead → Ahead → Type 0
-AgreeFrom clock a b = (t : ℕ) → clock ≤ t → pins_from a t ≡ pins_from b t
+-- the pins that some changes leave
+abbrev pub pins_after : ℕ → List Line → ℕ
+pins_after pins [] = pins
+pins_after pins (line ∷ lines) = pins_after line.levels lines
+
+-- some changes have been passed, none of them later than a clock
+pub record HasPassed (clock : ℕ) (old new : Ahead) : Type 0 where
+  pub passed : List Line
+  pub parts : old.changes ≡ passed ++ new.changes
+  pub within : Within clock passed
+  pub pins : new.pins ≡ pins_after old.pins passed

@@ -2,7 +2,6 @@
 -- The registers OUTA and DIRA of the eight cogs along the turns of a run. A past is a list of turns, the newest first.
 use Rattle.std.specs.Prelude.{ℕ, zero, suc, ◌≡◌, ◌<◌, ◌≤◌, List, [], ◌∷◌, Option, None, reverse, slice_index, bit_or}
 use Rattle.p8_access.specs.declared.order.Turn.{Turn}
-use Rattle.p8_history.specs.Worlds.{Line}
 use Rattle.p8_history.specs.Hub.{newest}
 use Rattle.p8_history.specs.Pins.{outa_of, dira_of, outa_by, dira_by}
 use Rattle.p8_levels.specs.Levels.{by}
@@ -38,8 +37,3 @@ pub record StandFor (past : List Turn) (clock : ℕ) (registers : Registers) (to
 abbrev pub ComeFrom : ℕ → List Turn → Type 0
 ComeFrom clock [] = Unit {0}
 ComeFrom clock (turn ∷ turns) = (clock ≤ turn.key.clock) × ComeFrom turn.key.clock turns
-
--- no clock of these changes is later than this one
-abbrev pub Within : ℕ → List Line → Type 0
-Within clock [] = Unit {0}
-Within clock (line ∷ lines) = (line.clock ≤ clock) × Within clock lines

@@ -6,8 +6,8 @@ use Rattle.p8_history.specs.Worlds.{Line, level_at}
 use Rattle.p8_history.specs.Pins.{pins_with, dira, outputs}
 use Rattle.p8_pins.specs.Matches.{IsBefore}
 use Rattle.p8_levels.specs.Levels.{by}
-use Rattle.p8_levels.specs.Driving.{StandFor, ComeFrom, Within}
-use Rattle.p8_levels.specs.Changes.{RiseFrom}
+use Rattle.p8_levels.specs.Driving.{StandFor, ComeFrom}
+use Rattle.p8_levels.specs.Changes.{RiseFrom, Within}
 use Rattle.p8_levels.specs.declared.walk.Walk.{Walk}
 
 -- the pins at a clock, with a script's levels on the input pins

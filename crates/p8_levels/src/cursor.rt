@@ -1,12 +1,14 @@
 // A cursor along the changes of a run's pins.
 ghost use Rattle.std.specs.Prelude.{◌≡◌, ◌<◌, ◌≤◌, ◌∷◌, ℕ, List, [], MatchOption, IfSome, IfNone};
-ghost use Rattle.p8_levels.specs.Changes.{line_of, lines_of, pins_from};
+ghost use Rattle.p8_levels.specs.Levels.{is_high};
+ghost use Rattle.p8_levels.specs.Changes.{line_of, lines_of, pins_from, HasPassed, IsLater};
 
 use crate::change::Change;
 use std::marker::Model;
 
 /// The pins at some clock, and the changes that come later. It goes forward only.
 
+#[derive(Drop)]
 pub struct Cursor<'a> {
     pins: u32,
     changes: &'a [Change],
@@ -29,11 +31,12 @@ impl<'a> Cursor<'a> {
         Cursor { pins: 0, changes }
     }
 
-    /// The pins where the cursor is.
-    pub fn pins(&self) -> u32
-        ensures { result ≡ self.now.pins }
+    /// Whether a pin is high where the cursor is.
+    pub fn is_high(&self, pin: u8) -> bool
+        requires { pin < 32 }
+        ensures { result ≡ is_high pin self.now.pins }
     {
-        self.pins
+        (self.pins >> pin) % 2 == 1
     }
 
     /// Goes past the next change and gives it; None exactly where there is none.
@@ -42,9 +45,28 @@ impl<'a> Cursor<'a> {
         ensures pins { IfSome result (λ change. self.new.pins ≡ change.pins) }
         ensures stays { IfNone result (self.new ≡ self.old) }
     {
-        let (change, rest) = self.changes.split_first()?;
-        self.pins = change.pins;
-        self.changes = rest;
-        Some(*change)
+        match self.changes.split_first() {
+            None => None,
+            Some((change, rest)) => {
+                self.pins = change.pins;
+                self.changes = rest;
+                Some(*change)
+            }
+        }
+    }
+
+    /// Goes to a clock, past all changes that aren't later.
+    pub fn go_to(&mut self, clock: u64)
+        ensures passed { HasPassed clock self.old self.new }
+        ensures later { IsLater clock self.new.changes }
+        ensures pins { self.new.pins ≡ pins_from self.old clock }
+    {
+        while let Some((change, rest)) = self.changes.split_first() {
+            if clock < change.clock {
+                return;
+            }
+            self.pins = change.pins;
+            self.changes = rest;
+        }
     }
 }

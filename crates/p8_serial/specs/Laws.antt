@@ -16,10 +16,10 @@ pub record IsRate (bits : ℕ) : Type 0 where
 -- bytes that may be sent: not more than 5,000, on one of 32 pins, from a clock on
 pub record CanBeSent (bytes : List ℕ) (pin bits start : ℕ) : Type 0 where
   pub count : length bytes ≤ 5000
-  pub bytes : All (λ byte. byte < 256) bytes
-  pub pin : pin < 32
+  pub fit : All (λ byte. byte < 256) bytes
+  pub wired : pin < 32
   pub rate : IsRate bits
-  pub start : (1 ≤ start) × (start ≤ 100000000)
+  pub begins : (1 ≤ start) × (start ≤ 100000000)
 
 -- no cog makes a pin an output at any clock
 abbrev pub IsInput : List Turn → ℕ → Type 0

@@ -2,3 +2,5 @@
 pub mod Serial
 pub mod Typed
 pub mod Laws
+-- Internal.
+pub mod Receiving

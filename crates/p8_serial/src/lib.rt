@@ -4,11 +4,11 @@
 #![tactic(auto)]
 
 mod frames;
-mod laws;
+//mod laws;
 mod numbers;
-mod serial;
-mod typed;
+//mod serial;
+mod sending;
 
-pub use laws::typed_is_read;
-pub use serial::serial_text;
-pub use typed::typed;
+//pub use laws::typed_is_read;
+//pub use serial::serial_text;
+pub use sending::typed;

@@ -1,0 +1,4 @@
+mod Edges
+mod Receiving
+mod Counting
+mod Rows
