@@ -14,11 +14,11 @@ some-is : (a b : Bool) → Some a ≡ Some b → a ≡ b
 some-is a b e = (cc)
 
 -- the level after a row, and the clock
-pub last_of : Bool → List Bool → Bool
+unfoldable pub last_of : Bool → List Bool → Bool
 last_of before [] = before
 last_of before (bit ∷ row) = last_of bit row
 
-pub clock_after : ℕ → ℕ → List Bool → ℕ
+unfoldable pub clock_after : ℕ → ℕ → List Bool → ℕ
 clock_after bits clock [] = clock
 clock_after bits clock (bit ∷ row) = clock_after bits (clock + bits) row
 

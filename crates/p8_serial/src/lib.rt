@@ -4,11 +4,11 @@
 #![tactic(auto)]
 
 mod frames;
-//mod laws;
+mod laws;
 mod numbers;
-//mod serial;
+mod decoding;
 mod sending;
 
-//pub use laws::typed_is_read;
-//pub use serial::serial_text;
+pub use laws::typed_is_read;
+pub use decoding::serial_text;
 pub use sending::typed;
