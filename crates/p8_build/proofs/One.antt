@@ -29,7 +29,7 @@ use Rattle.p8_dat.specs.Names.{is_local}
 use Rattle.p8_dat.specs.Blocks.{placed_lines, dat_bytes}
 use Rattle.p8_dat.specs.Labels.{size_of_kind, label_of, with_label_of, labels_of}
 use Rattle.p8_gen.specs.declared.code.StringUse.{StringUse}
-use Rattle.p8_gen.specs.Names.{Names}
+use Rattle.p8_gen.specs.Names.{Names, all_wide}
 use Rattle.p8_gen.specs.Files.{kind_here, first_offset, names_in}
 use Rattle.p8_gen.specs.Uses.{use_of}
 use Rattle.p8_stmt.specs.declared.code.MethodCode.{MethodCode}
