@@ -49,17 +49,17 @@ module _ (whole : ℕ → Bool) (pin bits end : ℕ) where
         after = stop_of bits frame.start;
         at = n.goes_on;
         lines = ap (λ (t : List ℕ). t ++ lines_to_come whole bits rest) is
-          ∙ append_assoc text (line_of_frame frame) (lines_to_come whole bits rest)
-          ∙ ap (λ (line : List ℕ). text ++ (line ++ lines_to_come whole bits rest)) n.text
-          ∙ ap (λ (starts : List ℕ). text ++ lines_to_come whole bits starts) (sym n.next)
-          ∙ h.lines;
+            ∙ append_assoc text (line_of_frame frame) (lines_to_come whole bits rest)
+            ∙ ap (λ (line : List ℕ). text ++ (line ++ lines_to_come whole bits rest)) n.text
+            ∙ ap (λ (starts : List ℕ). text ++ lines_to_come whole bits starts) (sym n.next)
+            ∙ h.lines;
         good = add_assoc count (from_bool frame.good) (good_to_come whole bits rest)
-          ∙ ap (λ (x : ℕ). count + x) (counts-on frame.good frame.start rest n.good ∙ ap (good_to_come whole bits) (sym n.next))
-          ∙ h.good;
+            ∙ ap (λ (x : ℕ). count + x) (counts-on frame.good frame.start rest n.good ∙ ap (good_to_come whole bits) (sym n.next))
+            ∙ h.good;
       }
 
   pub ended : (cur : Ahead) (text one two three : List ℕ) (count : ℕ) (h : HasReceived whole pin bits end cur text count) → frames bits end h.after (falls_in pin cur) ≡ []
-    → one ≡ text ++ codes "bytes " → two ≡ one ++ decimal count → three ≡ two ++ 10 ∷ [] → three ≡ serial_by whole bits end
+      → one ≡ text ++ codes "bytes " → two ≡ one ++ decimal count → three ≡ two ++ 10 ∷ [] → three ≡ serial_by whole bits end
   unfolding serial_by
   ended cur text one two three count h none bytes number line =
       let all = frames bits end 0 (falling_edges whole end) in

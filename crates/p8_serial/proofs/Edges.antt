@@ -89,19 +89,19 @@ module _ (bits end : ℕ) where
         ∙ alike n (suc f) pins [] tt (λ t le. is t (omega arith)) (omega (arith, le)) after
     alike (suc n) f pins (line ∷ lines) rise is le after = elim (cases_lt (suc f) line.clock) [
       | inl later ↦
-      ap (frames bits end after) (passes-clock f n (keeps (whole f) (whole (suc f)) (sym (is (suc f) (omega arith)) ∙ ap (is_high pin) (waits pins (suc f) line lines later) ∙ sym (is-now f pins (line ∷ lines) rise is))))
-      ∙ alike n (suc f) pins (line ∷ lines) (omega (arith, later), rise.1) (λ t le. is t (omega arith)) (omega (arith, le)) after
+          ap (frames bits end after) (passes-clock f n (keeps (whole f) (whole (suc f)) (sym (is (suc f) (omega arith)) ∙ ap (is_high pin) (waits pins (suc f) line lines later) ∙ sym (is-now f pins (line ∷ lines) rise is))))
+          ∙ alike n (suc f) pins (line ∷ lines) (omega (arith, later), rise.1) (λ t le. is t (omega arith)) (omega (arith, le)) after
       | inr here ↦
-      let same : line.clock ≡ suc f = omega (arith, here, rise.0) in
-      let on : Is (suc f) line.levels lines = λ t h. ap (is_high pin) (sym (passes pins t line lines (omega (arith, h, same)))) ∙ is t (omega (arith, h)) in
-      let rises : RiseFrom (suc (suc f)) lines = rise-from (suc (suc f)) (line.clock + 1) lines (omega (arith, same)) rise.1 in
-      let now : whole (suc f) ≡ is_high pin line.levels = is-now (suc f) line.levels lines rises on in
-      let before : whole f ≡ is_high pin pins = is-now f pins (line ∷ lines) rise is in
-      let fall : falls_at whole (suc f) ≡ (is_high pin pins && not (is_high pin line.levels)) = ap (λ (b : Bool). b && not (whole (suc f))) before ∙ ap (λ (b : Bool). is_high pin pins && not b) now in
-      ap (frames bits end after) (first-clock f n)
-      ∙ ap (λ (b : Bool). frames bits end after (if b then suc f ∷ filter (falls_at whole) (range_with_len (suc (suc f)) n) else filter (falls_at whole) (range_with_len (suc (suc f)) n))) fall
-      ∙ alike-if (is_high pin pins && not (is_high pin line.levels)) (suc f) _ (falls pin (is_high pin line.levels) lines) (alike n (suc f) line.levels lines rises on (omega (arith, le))) after
-      ∙ ap (λ (c : ℕ). frames bits end after (if is_high pin pins && not (is_high pin line.levels) then c ∷ falls pin (is_high pin line.levels) lines else falls pin (is_high pin line.levels) lines)) (sym same)
+          let same : line.clock ≡ suc f = omega (arith, here, rise.0) in
+          let on : Is (suc f) line.levels lines = λ t h. ap (is_high pin) (sym (passes pins t line lines (omega (arith, h, same)))) ∙ is t (omega (arith, h)) in
+          let rises : RiseFrom (suc (suc f)) lines = rise-from (suc (suc f)) (line.clock + 1) lines (omega (arith, same)) rise.1 in
+          let now : whole (suc f) ≡ is_high pin line.levels = is-now (suc f) line.levels lines rises on in
+          let before : whole f ≡ is_high pin pins = is-now f pins (line ∷ lines) rise is in
+          let fall : falls_at whole (suc f) ≡ (is_high pin pins && not (is_high pin line.levels)) = ap (λ (b : Bool). b && not (whole (suc f))) before ∙ ap (λ (b : Bool). is_high pin pins && not b) now in
+          ap (frames bits end after) (first-clock f n)
+          ∙ ap (λ (b : Bool). frames bits end after (if b then suc f ∷ filter (falls_at whole) (range_with_len (suc (suc f)) n) else filter (falls_at whole) (range_with_len (suc (suc f)) n))) fall
+          ∙ alike-if (is_high pin pins && not (is_high pin line.levels)) (suc f) _ (falls pin (is_high pin line.levels) lines) (alike n (suc f) line.levels lines rises on (omega (arith, le))) after
+          ∙ ap (λ (c : ℕ). frames bits end after (if is_high pin pins && not (is_high pin line.levels) then c ∷ falls pin (is_high pin line.levels) lines else falls pin (is_high pin line.levels) lines)) (sym same)
     ]
 
 -- the frames of all falling edges of a pin below an end

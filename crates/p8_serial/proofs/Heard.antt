@@ -37,20 +37,20 @@ InTime bits after clock (bit ∷ row) = (clock ≤ after) × InTime bits after (
 
 module _ (pin bits end : ℕ) where
   skip-fall : (after clock : ℕ) (before bit : Bool) (rest : List Bool) → clock ≤ after
-    → frames bits end after (falls pin before (line_at pin clock bit ∷ lines_from pin bits (clock + bits) bit rest)) ≡ frames bits end after (falls pin bit (lines_from pin bits (clock + bits) bit rest))
+      → frames bits end after (falls pin before (line_at pin clock bit ∷ lines_from pin bits (clock + bits) bit rest)) ≡ frames bits end after (falls pin bit (lines_from pin bits (clock + bits) bit rest))
   skip-fall after clock before bit rest le =
       let high = is_high pin (line_at pin clock bit).levels in let later = lines_from pin bits (clock + bits) bit rest in
       skips-if bits end (before && not high) after clock (falls pin high later) le ∙ ap (λ (h : Bool). frames bits end after (falls pin h later)) (high-is pin bits bit)
 
   skip-bit : (after clock : ℕ) (before bit : Bool) (rest : List Bool) → clock ≤ after
-    → frames bits end after (falls pin before (lines_from pin bits clock before (bit ∷ rest))) ≡ frames bits end after (falls pin bit (lines_from pin bits (clock + bits) bit rest))
+      → frames bits end after (falls pin before (lines_from pin bits clock before (bit ∷ rest))) ≡ frames bits end after (falls pin bit (lines_from pin bits (clock + bits) bit rest))
   skip-bit after clock true true rest le = refl
   skip-bit after clock false false rest le = refl
   skip-bit after clock true false rest le = skip-fall after clock true false rest le
   skip-bit after clock false true rest le = skip-fall after clock false true rest le
 
   skip-row : (bits_ : List Bool) (after clock : ℕ) (before : Bool) (rest : List Bool) → InTime bits after clock bits_
-    → frames bits end after (falls pin before (lines_from pin bits clock before (bits_ ++ rest))) ≡ frames bits end after (falls pin (last_of before bits_) (lines_from pin bits (clock_after bits clock bits_) (last_of before bits_) rest))
+      → frames bits end after (falls pin before (lines_from pin bits clock before (bits_ ++ rest))) ≡ frames bits end after (falls pin (last_of before bits_) (lines_from pin bits (clock_after bits clock bits_) (last_of before bits_) rest))
   unfolding InTime last_of clock_after
   skip-row [] after clock before rest time = refl
   skip-row (bit ∷ bits_) after clock before rest time = skip-bit after clock before bit (bits_ ++ rest) time.0 ∙ skip-row bits_ after (clock + bits) bit rest time.1
@@ -69,7 +69,7 @@ module _ (pin bits end : ℕ) where
       (omega arith, (omega arith, (omega arith, (omega arith, (omega arith, (omega arith, (omega arith, (omega arith, (omega arith, tt)))))))))
 
   one-frame : (after clock byte : ℕ) (rest : List Bool) → after < clock → stop_of bits clock < end
-    → frames bits end after (falls pin true (lines_from pin bits clock true (frame_of byte ++ rest))) ≡ clock ∷ frames bits end (stop_of bits clock) (falls pin true (lines_from pin bits (clock + 10 * bits) true rest))
+      → frames bits end after (falls pin true (lines_from pin bits clock true (frame_of byte ++ rest))) ≡ clock ∷ frames bits end (stop_of bits clock) (falls pin true (lines_from pin bits (clock + 10 * bits) true rest))
   one-frame after clock byte rest later counts =
       let stop = stop_of bits clock in
       let behind = lines_from pin bits (clock + bits) false (rest_of byte ++ rest) in
@@ -77,9 +77,9 @@ module _ (pin bits end : ℕ) where
       ∙ ap (λ (h : Bool). frames bits end after (if true && not h then clock ∷ falls pin h behind else falls pin h behind)) (high-is pin bits false)
       ∙ begins bits end after clock (falls pin false behind) later counts
       ∙ ap (λ (s : List ℕ). clock ∷ s) (
-        skip-row (rest_of byte) stop (clock + bits) false rest (in-time clock byte)
-        ∙ ap (λ (h : Bool). frames bits end stop (falls pin h (lines_from pin bits (clock_after bits (clock + bits) (rest_of byte)) h rest))) (rest-last byte)
-        ∙ ap (λ (c : ℕ). frames bits end stop (falls pin true (lines_from pin bits c true rest))) (rest-clock clock byte)
+      skip-row (rest_of byte) stop (clock + bits) false rest (in-time clock byte)
+      ∙ ap (λ (h : Bool). frames bits end stop (falls pin h (lines_from pin bits (clock_after bits (clock + bits) (rest_of byte)) h rest))) (rest-last byte)
+      ∙ ap (λ (c : ℕ). frames bits end stop (falls pin true (lines_from pin bits c true rest))) (rest-clock clock byte)
       )
 
   pub all-frames : (bytes : List ℕ) (after clock : ℕ) → 1 ≤ bits → after < clock → clock + 10 * bits * length bytes < end → frames bits end after (falls pin true (lines_from pin bits clock true (flat_map frame_of bytes))) ≡ starts bits clock bytes
@@ -137,7 +137,7 @@ module _ (pin bits : ℕ) (some : 1 ≤ bits) (whole : ℕ → Bool) where
     bit-heard : (i : ℕ) → i < 8 → whole (clock + (i + 1) * bits + bits / 2) ≡ has_bit byte i
     bit-heard i h =
         sends-at pin bits whole (frame_of byte ++ rest) clock (suc i) (clock + (i + 1) * bits + bits / 2) true (has_bit byte i) s (frame-bit byte i rest h)
-          (omega (arith, suc-mul i bits, more i)) (omega (arith, suc-mul i bits, more i, some))
+        (omega (arith, suc-mul i bits, more i)) (omega (arith, suc-mul i bits, more i, some))
 
     number-heard : (n : ℕ) → n ≤ 8 → number_at whole bits clock n ≡ number_of byte n
     unfolding number_of
@@ -160,7 +160,7 @@ module _ (pin bits : ℕ) (some : 1 ≤ bits) (whole : ℕ → Bool) where
   lines-heard (byte ∷ bytes) clock fit s =
       ap (λ (line : List ℕ). line ++ flat_map (frame_text whole bits) (starts bits (clock + 10 * bits) bytes)) (text-heard clock byte (flat_map frame_of bytes) s (All-head (λ b. b < 256) byte bytes fit))
       ∙ ap (λ (lines : List ℕ). (decimal clock ++ codes " " ++ hex 2 byte ++ 10 ∷ []) ++ lines)
-        (lines-heard bytes (clock + 10 * bits) (All-tail (λ b. b < 256) byte bytes fit) (sends-next pin bits whole clock byte (flat_map frame_of bytes) s))
+      (lines-heard bytes (clock + 10 * bits) (All-tail (λ b. b < 256) byte bytes fit) (sends-next pin bits whole clock byte (flat_map frame_of bytes) s))
 
   count-heard : (bytes : List ℕ) (clock : ℕ) → Sends pin bits whole clock true (flat_map frame_of bytes) → length (filter (is_good whole bits) (starts bits clock bytes)) ≡ length bytes
   unfolding starts

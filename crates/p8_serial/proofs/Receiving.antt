@@ -38,8 +38,8 @@ past from old cur new line parts pins b =
       not_before = omega (arith, b.not_before, rise.0);
       rise = rise.1;
       agrees = λ t le.
-      ap (λ (p : ℕ). levels_after p new.changes t) pins ∙ sym (passes cur.pins t line new.changes le)
-      ∙ ap (λ (lines : List Line). levels_after cur.pins lines t) (sym parts) ∙ b.agrees t (omega (arith, le, rise.0));
+          ap (λ (p : ℕ). levels_after p new.changes t) pins ∙ sym (passes cur.pins t line new.changes le)
+          ∙ ap (λ (lines : List Line). levels_after cur.pins lines t) (sym parts) ∙ b.agrees t (omega (arith, le, rise.0));
     }
 
 pub behind : (from edge : ℕ) (old new : Ahead) → IsPast from edge old new → IsBehind from old new
@@ -90,8 +90,8 @@ module _ (pin bits end : ℕ) where
 
       -- it does
       pub a-frame : (low new : Ahead) (byte : ℕ) (good : Bool) → stop_of bits start < end → byte ≡ byte_at (level_in pin mid) bits start → HasPassed (start + 8 * bits + bits / 2) mid low
-        → (clock : ℕ) → clock ≡ stop_of bits start → good ≡ level_in pin low clock → HasPassed clock low new → IsLater clock new.changes
-        → IsNext whole pin bits end after old (record { start = start; byte = byte; good = good }) new
+          → (clock : ℕ) → clock ≡ stop_of bits start → good ≡ level_in pin low clock → HasPassed clock low new → IsLater clock new.changes
+          → IsNext whole pin bits end after old (record { start = start; byte = byte; good = good }) new
       a-frame low new byte good counts byte_is to-low clock at-stop good_is to_new later_ =
           let stop = stop_of bits start in
           let to-new : HasPassed stop low new = subst (λ (t : ℕ). HasPassed t low new) at-stop to_new in
@@ -102,7 +102,7 @@ module _ (pin bits end : ℕ) where
           record {
             next = ap (frames bits end after) edge ∙ begins bits end after start (falls_in pin mid) (omega (arith, p.not_before)) counts ∙ ap (λ (s : List ℕ). start ∷ s) (skips-passed stop mid new all);
             text = ap (λ (b : ℕ). decimal start ++ codes " " ++ (if good then hex 2 b else codes "framing") ++ 10 ∷ []) is-byte
-              ∙ ap (λ (g : Bool). decimal start ++ codes " " ++ (if g then hex 2 (byte_at whole bits start) else codes "framing") ++ 10 ∷ []) is-good;
+                ∙ ap (λ (g : Bool). decimal start ++ codes " " ++ (if g then hex 2 (byte_at whole bits start) else codes "framing") ++ 10 ∷ []) is-good;
             good = is-good;
             goes_on = record {
               levels = λ t le. ap (is_high pin) (passed-agrees stop t mid new all le) ∙ mid-whole t (omega (arith, le));
@@ -138,7 +138,7 @@ number-below f bits start (suc i) =
 -- one more bit
 module _ (pin bits start : ℕ) (old cur : Ahead) where
   pub next-bit : (i clock byte next : ℕ) (high : Bool) → clock ≡ start + (i + 1) * bits + bits / 2 → byte ≡ number_at (level_in pin old) bits start i → HasPassed (start + i * bits + bits / 2) old cur
-    → high ≡ level_in pin cur clock → next ≡ byte + (if high then 2 ^ i else 0) → next ≡ number_at (level_in pin old) bits start (i + 1)
+      → high ≡ level_in pin cur clock → next ≡ byte + (if high then 2 ^ i else 0) → next ≡ number_at (level_in pin old) bits start (i + 1)
   next-bit i clock byte next high at is passed level sum =
       let seen : high ≡ level_in pin old (start + (i + 1) * bits + bits / 2) =
       level ∙ ap (is_high pin) (passed-agrees (start + i * bits + bits / 2) clock old cur passed (omega (arith, at))) ∙ ap (level_in pin old) at in

@@ -47,8 +47,8 @@ module _ (pin bits : ℕ) where
 
   -- the frame of one more byte, in print
   pub one-byte : (clock next byte : ℕ) (bytes rest : List ℕ) (row : List Bool) (old new all : List ℕ) → bytes ≡ byte ∷ rest → row ≡ frame_of byte → new ≡ old ++ flat_map line_text (lines_from pin bits clock true row)
-    → old ++ flat_map line_text (lines_from pin bits clock true (flat_map frame_of bytes)) ≡ all → next ≡ clock + 10 * bits
-    → new ++ flat_map line_text (lines_from pin bits next true (flat_map frame_of rest)) ≡ all
+      → old ++ flat_map line_text (lines_from pin bits clock true (flat_map frame_of bytes)) ≡ all → next ≡ clock + 10 * bits
+      → new ++ flat_map line_text (lines_from pin bits next true (flat_map frame_of rest)) ≡ all
   one-byte clock next byte bytes rest row old new all parts is more so_far at =
       let first = lines_from pin bits clock true (frame_of byte) in
       let later = lines_from pin bits (clock + 10 * bits) true (flat_map frame_of rest) in
@@ -116,4 +116,4 @@ module _ (pin bits : ℕ) where
     pub sends-next : (clock byte : ℕ) (rest : List Bool) → Sends whole clock true (frame_of byte ++ rest) → Sends whole (clock + 10 * bits) true rest
     sends-next clock byte rest s =
         subst (λ (c : ℕ). Sends whole c true rest) (frame-clock clock byte)
-          (subst (λ (b : Bool). Sends whole (clock_after bits clock (frame_of byte)) b rest) (frame-last byte) (sends-rest (frame_of byte) clock true rest s))
+        (subst (λ (b : Bool). Sends whole (clock_after bits clock (frame_of byte)) b rest) (frame-last byte) (sends-rest (frame_of byte) clock true rest s))

@@ -144,8 +144,8 @@ module _ (line : Line) (plain : IsPlain line) where
   unfolding body NoFeed
   body-feed =
       no-feed-both (decimal line.clock ++ codes " ") (hex 8 line.levels)
-        (no-feed-both (decimal line.clock) (codes " ") (no-feed (decimal line.clock) (are-high 10 (decimal line.clock) (omega arith) numeral.1)) (refl, tt))
-        (no-feed (hex 8 line.levels) (are-high 16 (hex 8 line.levels) (omega arith) (hex-digits 8 line.levels)))
+      (no-feed-both (decimal line.clock) (codes " ") (no-feed (decimal line.clock) (are-high 10 (decimal line.clock) (omega arith) numeral.1)) (refl, tt))
+      (no-feed (hex 8 line.levels) (are-high 16 (hex 8 line.levels) (omega arith) (hex-digits 8 line.levels)))
 
   carried : Carries (body line) line
   unfolding body IsPlain
@@ -267,6 +267,6 @@ unfolding typed_text sent ArePlain
 sent-is-read bytes pin bits start can =
     let row = flat_map frame_of bytes in
     is-read (line_at pin 0 true ∷ lines_from pin bits start true row)
-      (plain-line pin 0 true can.wired (omega arith), row-plain pin bits start true row can.wired can.rate.most (omega (arith, frames-length bytes, can.count, can.begins.1)))
-      (omega arith, rise-from 1 start (lines_from pin bits start true row) can.begins.0 (row-rise pin bits start true row (omega (arith, can.rate.least))))
-      (omega (arith, row-length pin bits start true row, frames-length bytes, can.count))
+    (plain-line pin 0 true can.wired (omega arith), row-plain pin bits start true row can.wired can.rate.most (omega (arith, frames-length bytes, can.count, can.begins.1)))
+    (omega arith, rise-from 1 start (lines_from pin bits start true row) can.begins.0 (row-rise pin bits start true row (omega (arith, can.rate.least))))
+    (omega (arith, row-length pin bits start true row, frames-length bytes, can.count))

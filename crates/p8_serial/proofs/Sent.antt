@@ -48,4 +48,4 @@ pub sent-is-heard : (w : World) (past : List Turn) (bytes : List ℕ) (pin bits 
 unfolding serial_of
 sent-is-heard w past bytes pin bits start can h =
     heard bytes pin bits start can (end_of w past) h.ends (high_at w past pin)
-      (λ t. input-level w past pin t can.wired (h.input t) ∙ ap (λ (lines : List Line). is_high pin (level_at lines t)) h.script)
+    (λ t. input-level w past pin t can.wired (h.input t) ∙ ap (λ (lines : List Line). is_high pin (level_at lines t)) h.script)

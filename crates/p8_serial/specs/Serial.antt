@@ -19,7 +19,7 @@ abbrev pub frames : (bits end after : ℕ) → List ℕ → List ℕ
 frames bits end after [] = []
 frames bits end after (edge ∷ edges) =
     if nat_lt after edge then
-      (if nat_lt (stop_of bits edge) end then edge ∷ frames bits end (stop_of bits edge) edges else [])
+    (if nat_lt (stop_of bits edge) end then edge ∷ frames bits end (stop_of bits edge) edges else [])
     else frames bits end after edges
 
 -- on a pin that is high at these clocks

@@ -3,12 +3,12 @@
 //! A frame has a low start bit, eight data bits from the lowest on, no parity and one high stop bit.
 #![tactic(auto)]
 
+mod decoding;
 mod frames;
 mod laws;
 mod numbers;
-mod decoding;
 mod sending;
 
-pub use laws::typed_is_read;
 pub use decoding::serial_text;
+pub use laws::typed_is_read;
 pub use sending::typed;

@@ -19,7 +19,7 @@ returns c =
     let log : reverse c.as_slice-turns.result.now ≡ reverse c.args.history.now.turns.list = ap reverse c.as_slice-turns.ensures in
     let tells : Tells w (reverse c.args.history.now.turns.list) (lines_of c.as_slice.result.now) =
     subst (λ (changes : List Change). Tells w (reverse c.args.history.now.turns.list) (lines_of changes)) (sym c.as_slice.ensures.value)
-      (subst (λ (past : List Turn). Tells w past (lines_of c.in_ok-changes.changes.items)) log (c.in_ok-changes.ensures w refl)) in
+    (subst (λ (past : List Turn). Tells w past (lines_of c.in_ok-changes.changes.items)) log (c.in_ok-changes.ensures w refl)) in
     let end : c.run_end-end.result ≡ end_of w (reverse c.args.history.now.turns.list) = c.run_end-end.ensures w refl refl ∙ ap (end_of w) log in
     subst (λ (text : List ℕ). IfOk c.frames_text.result (λ r. r.items ≡ text))
-      (told-serial w (reverse c.args.history.now.turns.list) c.args.pin c.args.bits c.run_end-end.result (lines_of c.as_slice.result.now) tells end) c.frames_text.ensures
+    (told-serial w (reverse c.args.history.now.turns.list) c.args.pin c.args.bits c.run_end-end.result (lines_of c.as_slice.result.now) tells end) c.frames_text.ensures

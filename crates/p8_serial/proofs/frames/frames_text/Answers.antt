@@ -22,7 +22,7 @@ loop-frame-preserved c =
     let sum : c.loop-frame.count + c.from-count.result ≡ _ = ap (λ (x : ℕ). c.loop-frame.count + x) c.from-count.ensures in
     record {
       received = subst (HasReceived high pin bits end c.receive.new.cursor c.push_frame.new.out.items) (sym sum)
-        (goes-on high pin bits end c.loop-frame.cursor c.receive.new.cursor c.in-Some.frame c.loop-frame.out.items c.push_frame.new.out.items c.loop-frame.count h (c.in-Some.ensures.frame high h.after h.at) c.in_ok-push_frame.ensures);
+          (goes-on high pin bits end c.loop-frame.cursor c.receive.new.cursor c.in-Some.frame c.loop-frame.out.items c.push_frame.new.out.items c.loop-frame.count h (c.in-Some.ensures.frame high h.after h.at) c.in_ok-push_frame.ensures);
       count = omega (arith, c.loop-frame.invariant.count, c.in-Some.ensures.shorter, c.from-count.ensures, at-most-one c.in-Some.frame.good);
     }
 
@@ -31,4 +31,4 @@ returns c =
     let high : ℕ → Bool = λ t. is_high c.args.pin (level_at (lines_of c.args.changes.now) t) in
     let h = c.loop-frame.invariant.received in
     ended high c.args.pin c.args.bits c.args.end c.loop-frame.cursor c.loop-frame.out.items c.push_text.new.out.items c.push_decimal.new.out.items c.push_text-2.new.out.items c.loop-frame.count h
-      (c.in_default.ensures.frame high h.after h.at) c.in_ok-push_text.ensures c.in_ok-push_decimal.ensures c.in_ok-push_text-2.ensures
+    (c.in_default.ensures.frame high h.after h.at) c.in_ok-push_text.ensures c.in_ok-push_decimal.ensures c.in_ok-push_text-2.ensures

@@ -13,7 +13,7 @@ loop-i-preserved c =
     let clock : start + c.from.result + (i + 1) * c.from-in-loop-i.result ≡ start + (i + 1) * bits + bits / 2 =
     omega (arith, c.from.ensures, ap (λ (x : ℕ). (i + 1) * x) c.from-in-loop-i.ensures) in
     let sum : c.if-level.byte ≡ c.loop-i.byte + (if c.level.result then 2 ^ i else 0) = elim c.if-level.branch [
-      then-level w ↦ w.byte-is ∙ ap (λ (x : ℕ). c.loop-i.byte + x) (bit-whole i c.loop-i-test.true) ∙ ap (λ (b : Bool). c.loop-i.byte + (if b then 2 ^ i else 0)) (sym w.if-level.true)
+      | then-level w ↦ w.byte-is ∙ ap (λ (x : ℕ). c.loop-i.byte + x) (bit-whole i c.loop-i-test.true) ∙ ap (λ (b : Bool). c.loop-i.byte + (if b then 2 ^ i else 0)) (sym w.if-level.true)
       | else-level w ↦ w.byte-is ∙ omega arith ∙ ap (λ (b : Bool). c.loop-i.byte + (if b then 2 ^ i else 0)) (sym w.if-level.false)
     ] in
     record {

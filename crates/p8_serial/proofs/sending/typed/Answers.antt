@@ -8,7 +8,7 @@ pub loop-byte-init : goal.loop-byte-init
 unfolding typed_text sent
 loop-byte-init c = record {
   lines = ap (λ (out : List ℕ). out ++ flat_map line_text (lines_from c.args.pin c.args.bits c.args.start true (flat_map frame_of c.args.bytes.now)))
-    (c.in_ok-push_line.ensures ∙ ap (λ (out : List ℕ). out ++ line_text (line_at c.args.pin 0 true)) c.new-out.ensures.items);
+      (c.in_ok-push_line.ensures ∙ ap (λ (out : List ℕ). out ++ line_text (line_at c.args.pin 0 true)) c.new-out.ensures.items);
   clock = omega arith;
 }
 
@@ -17,6 +17,6 @@ loop-byte-preserved c =
     let i = c.loop-byte.byte-index in
     record {
       lines = one-byte c.args.pin c.args.bits c.loop-byte.clock (c.loop-byte.clock + 10 * c.from.result) _ (drop i c.args.bytes.now) (drop (i + 1) c.args.bytes.now) c.frame.result c.loop-byte.out.items c.push_row.new.out.items _
-        (drop_more c.args.bytes.now i _ c.loop-byte-test.true) c.frame.ensures c.in_ok-push_row.ensures c.loop-byte.invariant.lines (omega (arith, c.from.ensures));
+          (drop_more c.args.bytes.now i _ c.loop-byte-test.true) c.frame.ensures c.in_ok-push_row.ensures c.loop-byte.invariant.lines (omega (arith, c.from.ensures));
       clock = omega (arith, c.loop-byte.invariant.clock, c.from.ensures, c.requires.rate.most);
     }
