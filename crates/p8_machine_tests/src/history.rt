@@ -1,21 +1,12 @@
 // A worked history and its text.
-use p8_access::Boot;
+use crate::machine::worked_boot;
 use p8_ledger::Limits;
 use p8_machine::run_alone;
 use p8_pins::PinScript;
 use p8_report::trace;
 use std::test::Fail;
 
-/// A program that writes 42 to $0100, asks for its number and stops.
-const PROGRAM: [u32; 5] = [
-    0x083C_0604,
-    0x0CFC_0A01,
-    0x0C7C_0A03,
-    0x0000_002A,
-    0x0000_0100,
-];
-
-/// Its load and the first read of that.
+/// The load of a program and the first read of that.
 const TEXT: &[u8] =
     b"16 0 load 0000\n32 0 rdlong 0000 083C0604\nended turns 2\nlocks ........\npins 00000000 00000000\n\
     cog 0 running pasm\ncog 1 stopped\ncog 2 stopped\ncog 3 stopped\ncog 4 stopped\ncog 5 stopped\n\
@@ -25,17 +16,13 @@ const TEXT: &[u8] =
 /// A history that ends by its turns, with a dump of 17 bytes.
 #[test]
 fn a_worked_history(rt: HostRuntime) -> Result<(), Fail> {
-    let mut bytes = Vec::new(rt.alloc());
-    for long in PROGRAM {
-        bytes.extend_from_slice(&long.to_le_bytes())?;
-    }
     let limits = Limits {
         clocks: 10_000,
         turns: 2,
     };
     let ended = run_alone(
         rt.alloc(),
-        Boot::raw(rt.alloc(), &bytes)?,
+        worked_boot(rt.alloc())?,
         PinScript::empty(rt.alloc()),
         limits,
     )?;

@@ -13,7 +13,7 @@ use std::alloc::Global;
 use std::test::Fail;
 
 /// A boot of a write of $2A to $0100, COGID and a stop of that cog.
-fn worked_boot(alloc: Global) -> Result<Boot, NoMemory>
+pub fn worked_boot(alloc: Global) -> Result<Boot, NoMemory>
     ensures { IfOk result (λ boot. boot.first ≡ Pasm 0 0) }
 {
     let longs: [u32; 5] = [

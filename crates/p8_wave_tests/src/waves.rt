@@ -8,29 +8,11 @@ use p8_words::NoMemory;
 use std::alloc::Global;
 use std::test::Fail;
 
-/// The hub memory of these longs.
-fn memory(alloc: Global, longs: &[u32]) -> Result<Boot, NoMemory> {
-    let mut bytes = Vec::new(alloc);
-    for long in longs {
-        bytes.extend_from_slice(&long.to_le_bytes())?;
-    }
-    Boot::raw(alloc, &bytes)
-}
-
 /// Cog 0 starts cog 1, which waits for pin 0; cog 0 makes it high, and both stop.
-const WAKING: [u32; 12] = [
-    0x0C7C_0E02,
-    0xF8FC_1000,
-    0xA0FF_E801,
-    0xA0FF_EC01,
-    0x0C7C_1203,
-    0xF03C_0A05,
-    0x0C7C_0C03,
-    0x0000_0058,
-    0x0000_4100,
-    0,
-    1,
-    1,
+const WAKING: [u8; 48] = [
+    0x02, 0x0E, 0x7C, 0x0C, 0x00, 0x10, 0xFC, 0xF8, 0x01, 0xE8, 0xFF, 0xA0, 0x01, 0xEC, 0xFF, 0xA0,
+    0x03, 0x12, 0x7C, 0x0C, 0x05, 0x0A, 0x3C, 0xF0, 0x03, 0x0C, 0x7C, 0x0C, 0x58, 0x00, 0x00, 0x00,
+    0x00, 0x41, 0x00, 0x00, 0x00, 0x00, 0x00, 0x00, 0x01, 0x00, 0x00, 0x00, 0x01, 0x00, 0x00, 0x00,
 ];
 
 const WOKEN: &[u8] = b"$version Propeller P8X32A $end\n$timescale 100 ps $end\n\
@@ -55,7 +37,7 @@ fn a_cog_wakes_another(rt: HostRuntime) -> Result<(), Fail> {
         clocks: 20_000,
         turns: 100_000,
     };
-    let boot = memory(rt.alloc(), &WAKING)?;
+    let boot = Boot::raw(rt.alloc(), &WAKING)?;
     let ended = run_alone(rt.alloc(), boot, PinScript::empty(rt.alloc()), limits)?;
     let text = wave(
         rt.alloc(),
@@ -68,14 +50,9 @@ fn a_cog_wakes_another(rt: HostRuntime) -> Result<(), Fail> {
 }
 
 /// An image whose main method is empty, at 96 MHz, whose period is no whole number of femtoseconds.
-const EMPTY: [u32; 7] = [
-    96_000_000,
-    0x0010_6A00,
-    0x0024_001C,
-    0x0028_0018,
-    0x0002_000C,
-    0x0000_0008,
-    0x0000_0032,
+const EMPTY: [u8; 28] = [
+    0x00, 0xD8, 0xB8, 0x05, 0x00, 0x6A, 0x10, 0x00, 0x1C, 0x00, 0x24, 0x00, 0x18, 0x00, 0x28, 0x00,
+    0x0C, 0x00, 0x02, 0x00, 0x08, 0x00, 0x00, 0x00, 0x32, 0x00, 0x00, 0x00,
 ];
 
 const EMPTY_FIRST: Origin = Origin::Spin {
@@ -105,7 +82,7 @@ fn few_turns(alloc: Global, script: &PinScript) -> Result<Ended, NoMemory> {
         turns: 2,
     };
     let boot = Boot {
-        ram: memory(alloc, &EMPTY)?.ram,
+        ram: Boot::raw(alloc, &EMPTY)?.ram,
         first: EMPTY_FIRST,
     };
     run_alone(alloc, boot, script.copy(alloc)?, limits)
