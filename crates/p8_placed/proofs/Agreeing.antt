@@ -1,8 +1,9 @@
 -- The names of a method agree with those of its project.
-use Rattle.std.proofs.Common.{◌≡◌, ℕ, suc, ◌==◌, List, slice_get, Some, refl}
+use Rattle.std.proofs.Common.{◌≡◌, ℕ, suc, ◌==◌, List, slice_get, Some, refl, sym, ap, ◌∙◌}
 use Rattle.p8_tree.specs.Sources.{MethodTree}
 use Rattle.p8_tree.specs.Projects.{NamedSource}
 use Rattle.p8_definitions.specs.Items.{items}
+use Rattle.p8_fold.specs.Values.{value}
 use Rattle.p8_kinds.specs.declared.children.Children.{Children}
 use Rattle.p8_names.specs.Kinds.{numbered}
 use Rattle.p8_image.specs.declared.clocks.Clock.{Clock}
@@ -21,7 +22,7 @@ use Rattle.p8_placed.specs.Agreements.{names_of, HaveRoom}
 use Rattle.p8_placed.proofs.Alike.{value-alike}
 use Rattle.p8_placed.proofs.OwnSettings.{own-alike}
 use Rattle.p8_placed.proofs.Constants.{value-word}
-use Rattle.p8_placed.proofs.Files.{IsThere, object-at}
+use Rattle.p8_placed.proofs.Files.{IsThere, object-at, setting-same}
 use Rattle.p8_image.proofs.Memories.{Lies}
 use Rattle.p8_placed.proofs.Instances.{IsProject, compiled-at}
 use Rattle.p8_placed.proofs.Texts.{near-texts, text-is, kind-in-method}
@@ -44,7 +45,8 @@ agrees files children xs project proper clock parts hub cog i file seen x there 
       publics = λ item name number params is. public-method files children xs project
           (compiled (memory_of (image_of clock (objects_of files children xs))) cog (with_sources project.changed (program_of files children xs)) (addresses_of files xs (objects_of files children xs)) (record { instance = i; method = suc k }) (record (file_of files file.tree seen x) { source = project.changed i.file }))
           i.file file seen x there refl refl item (slice_get seen.items item) name number params refl is;
-      constants = λ e. value-alike (setting_of seen x) (meaning.setting_of (file_of files file.tree seen x) (suc k)) (own-alike files file.tree seen (i.file == 0) x whole.names (proper i.file file there.stands) k m at) e;
+      constants = λ e. value-alike (setting_of seen x) (meaning.setting_of (file_of files file.tree seen x) (suc k)) (own-alike files file.tree seen (i.file == 0) x whole.names (proper i.file file there.stands) k m at) e
+          ∙ ap (λ s. value s e) (sym (setting-same (file_of files file.tree seen x) (project.changed i.file) (suc k)));
       words = λ e read. value-word (setting_of seen x) (has-words files children project.children_are i.file file seen (i.file == 0) x there.stands there.beside whole.names) e read;
       texts = λ p. text-is files children xs i.file file seen x there p;
       near_texts = λ p. near-texts clock (objects_of files children xs) i.file (object_of files file.tree seen x) parts hub object_is (text_number (strings_of file.tree) p);

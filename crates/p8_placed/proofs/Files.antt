@@ -1,6 +1,6 @@
 -- The files of a project by their numbers, and the methods of a file by theirs.
 use Rattle.std.proofs.Common.{◌≡◌, ℕ, zero, suc, Bool, true, false, if◌then◌else◌, List, [], ◌∷◌, ◌++◌, map, slice_get, Some, None, refl, sym, ap, ◌∙◌}
-use Rattle.std.specs.Prelude.{filter_map}
+use Rattle.std.specs.Prelude.{filter_map, option_map, Option}
 use Rattle.std.specs.List.{cons_option}
 use Rattle.std.specs.List.{flat_map}
 use Rattle.std.proofs.lemmas.Grind.{flat_map-append}
@@ -12,7 +12,12 @@ use Rattle.p8_definitions.specs.Items.{Item, constant, variable, object, line, i
 use Rattle.p8_kinds.specs.declared.children.Children.{Children}
 use Rattle.p8_names.specs.Kinds as names
 use Rattle.p8_names.specs.Kinds.{public_in, private_in, publics, privates}
-use Rattle.p8_meaning.specs.Programs.{File, Program, public_method, private_method, methods_of}
+use Rattle.p8_meaning.specs.Programs.{File, Program, setting_of, object_constant, public_method, private_method, methods_of}
+use Rattle.p8_fold.specs.Meanings.{outside_operands}
+use Rattle.p8_fold.specs.declared.meanings.Meaning.TheVariants as meaning_case
+use Rattle.p8_kinds.specs.declared.name_kinds.NameKind.{NameKind}
+use Rattle.p8_kinds.specs.declared.name_kinds.NameKind.TheVariants as kind
+use Rattle.p8_kinds.specs.FileSettings.{meaning_of_kind}
 use Rattle.p8_meaning.specs.Calls.{method_of}
 use Rattle.p8_build.specs.Files.{CompiledFile, object_of}
 use Rattle.p8_build.specs.Builds.{objects_from}
@@ -60,6 +65,23 @@ unchanged-at : (changed : ℕ → Source) (p : Program) (i : ℕ) (f : File) →
 unchanged-at changed [] i f is = absurd (none-some f is)
 unchanged-at changed (g ∷ p) zero f is = (g, refl, sym (same_Some (record g { source = changed zero }) f is))
 unchanged-at changed (g ∷ p) (suc i) f is = unchanged-at (λ j. changed (suc j)) p i f is
+
+-- what names mean where a constant is needed is the same
+constant-same : (f : File) (s : Source) (k : Option NameKind) (name : List ℕ) → object_constant (record f { source = s }) k name ≡ object_constant f k name
+constant-same f s None name = refl
+constant-same f s (Some (kind.Const v)) name = refl
+constant-same f s (Some (kind.Global size offset)) name = refl
+constant-same f s (Some (kind.Local offset)) name = refl
+constant-same f s (Some (kind.Label size)) name = refl
+constant-same f s (Some (kind.Method number params)) name = refl
+constant-same f s (Some (kind.Object item position count)) name = refl
+
+pub setting-same : (f : File) (s : Source) (method : ℕ) → setting_of (record f { source = s }) method ≡ setting_of f method
+setting-same f s method = λ i. record {
+  name = λ name. option_map meaning_of_kind (f.kind method name);
+  constant = λ object name. option_map meaning_case.Value (constant-same f s (f.kind method object) name i);
+  here = outside_operands None;
+}
 
 -- a program with its own sources
 pub own-program : (all files : List NamedSource) (cs : List Children) (xs : List CompiledFile) → with_sources (own_sources files) (program_from all files cs xs) ≡ program_from all files cs xs

@@ -37,6 +37,7 @@ use Rattle.p8_placed.specs.Programs.{kind_by, file_of}
 use Rattle.p8_placed.proofs.Definitions.{with-constant}
 use Rattle.p8_placed.proofs.OwnKinds.{number-is}
 use Rattle.p8_placed.proofs.Counting.{element}
+use Rattle.p8_placed.proofs.Files.{setting-same}
 
 -- ---- what names mean outside all methods
 
@@ -94,7 +95,7 @@ pub record IsCoded (files : List NamedSource) (source changed : Source) (seen : 
   pub body : Statements
   pub tree_is : slice_get (numbered (items changed)) k ≡ Some (rebodied m body)
   pub recoded : IsRecoded (method_names seen x k m) m body code
-  pub locals : code.locals ≡ locals_size (meaning.setting_of (file_of files source seen x) 0) m.locals
+  pub locals : code.locals ≡ locals_size (meaning.setting_of (record (file_of files source seen x) { source = changed }) 0) m.locals
   pub multiple : code.locals % 4 ≡ 0
   pub small : 4 * length m.params + code.locals ≤ 8192
   pub some : 0 < length code.bytes
@@ -105,7 +106,7 @@ coded files source changed seen x k m is at =
     let c = element x.codes k (omega (arith, inside, is.count)) in
     let n = element (numbered (items changed)) k (omega (arith, inside, is.methods)) in
     let e = is.each k m n.0 c.0 at n.1 c.1 in
-    let right = e.1.code in
+    let right = e.1.right in
     let bound : 1 + length m.params + longs_in (setting_of seen x) m.locals ≤ 2048 = elim (cases_lt 2048 (1 + length m.params + longs_in (setting_of seen x) m.locals)) [
       | inl large ↦ absurd (e.1.fits (fault 26 m.place) (frame_too_large large refl))
       | inr small ↦ small
@@ -120,7 +121,7 @@ coded files source changed seen x k m is at =
       body = n.0.body;
       tree_is = n.1 ∙ ap Some e.0;
       recoded = e.1;
-      locals = right.locals ∙ sym size ∙ ap (λ s. locals_size s m.locals) (setting-outside files source seen x);
+      locals = right.locals ∙ sym size ∙ ap (λ s. locals_size s m.locals) (setting-outside files source seen x ∙ sym (setting-same (file_of files source seen x) changed 0));
       multiple = omega (arith, right.locals);
       small = omega (arith, right.locals, bound);
       some = omega (arith, ends, last, long);

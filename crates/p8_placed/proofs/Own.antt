@@ -30,7 +30,7 @@ module _ (files : List NamedSource) (file : NamedSource) (seen : Children) (top 
         shallow = read.shallow;
         clean = no-misuse files file seen top x is.names proper k m at;
         wide = all_wide;
-        code = is.code.each k m code at coded;
+        right = is.code.each k m code at coded;
         fits = λ f b. is.code.clean f (of_method k m at b);
       }
 

@@ -190,7 +190,7 @@ module _ (files : List NamedSource) (children : List Children) (xs : List Compil
   frame-within name =
       let c = coded files file.tree (project.changed i.file) seen x k m whole.code at in
       let same = longs-same (setting_of seen x) (method_setting whole.names.setting m) (hiding-alike files file seen (i.file == 0) x whole.names proper k m at) m.locals in
-      within-frame 8200 (method_setting whole.names.setting m) m name (omega (arith, same, c.small, c.recoded.code.locals))
+      within-frame 8200 (method_setting whole.names.setting m) m name (omega (arith, same, c.small, c.recoded.right.locals))
 
   local-within : (offset : ℕ) (name : List ℕ) → kind_here x.kinds (k + 1) name ≡ Some (kind.Local offset) → offset < 2 ^ 15
   local-within offset name is =

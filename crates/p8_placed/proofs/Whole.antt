@@ -188,7 +188,7 @@ module _ (files : List NamedSource) (children : List Children) (xs : List Compil
       let entry = base + code_offset object k in
       let entry_is : entry ≡ (i.base + first_word memory i.base (suc k)) % 2 ^ 16 = omega (arith, h.entry, words.0, at.base_is) in
       let high = base-high files children xs project clock parts hub i.file object h.object_is in
-      let has = has-code (strings_of file.tree) (text_offsets object) own m.place (rebodied m body) h.coded.code image entry read.code read.fits hub (omega (arith, high))
+      let has = has-code (strings_of file.tree) (text_offsets object) own m.place (rebodied m body) h.coded.code image entry read.right read.fits hub (omega (arith, high))
       ((parts i.file object h.object_is).codes k part h.part_is) in
       let stands : MethodAt t body entry = method-stands names t entry agree body read.proper read.loops read.clean has in
       let ends : method_end memory i.base ≡ length object.methods + 1 = s.method_count ∙ omega (arith, n.2) in

@@ -27,7 +27,7 @@ pub record IsRecoded (names : Names) (m : MethodTree) (ss : Statements) (code : 
   pub clean : (f : Fault) → ¬ MisuseInStatements (environment names) ss f
   -- the jumps that are wide; each offset fits
   pub wide : ℕ → Bool
-  pub code : IsCodeOf (widened names wide) (rebodied m ss) code
+  pub right : IsCodeOf (widened names wide) (rebodied m ss) code
   pub fits : (f : Fault) → ¬ IsMethodFault (widened names wide) (rebodied m ss) f
 
 -- the methods of a changed source are those of the source itself but for their bodies, and these are their codes
