@@ -1,0 +1,4 @@
+mod Scopes
+mod Expressions
+mod Statements
+mod Meanings
