@@ -18,7 +18,7 @@ use Rattle.p8_meaning.specs.Builtins.{new_cog, does_one, does_two, does_three}
 use Rattle.p8_meaning.specs.Calls.{Returned, uses, Callee}
 use Rattle.p8_meaning.specs.Expressions as expressions
 use Rattle.p8_short.specs.Constants.{Constants, constants_in, value_meant, value_behind, both, constant_value, number_length, code_length, within, shorter_number}
-use Rattle.p8_short.specs.Folding.{number_or, folded, folded_form, folded_variable, folded_index, folded_bits, folded_item, folded_trees, folded_arguments, folded_items, folded_inside}
+use Rattle.p8_short.specs.Folding.{number_or, folded, form_with, variable_with, index_with, bits_with, item_with, trees_with, arguments_with, items_with, folded_inside}
 use Rattle.p8_short.specs.Projects.{constants_of}
 use Rattle.p8_short.proofs.Scopes.{moved, Folds, named-same, part-same, fetches-same, assigns-same, changes-same, changes_alone-same, calls_own-same, calls_of_object-same, value_of_name-same, begins_method-same, begins_pasm-same, begins_name-same}
 
@@ -183,17 +183,17 @@ module _ (callee : Callee) (s : Scope) (abort : Returned → Rest) (program : Pr
   mutual
     pub evaluates-same : (e : Tree) (go : ℕ → Rest) → expressions.evaluates callee (moved program source s) abort (folded (constants_of s.file s.method) e) go ≡ expressions.evaluates callee s abort e go
     evaluates-same (node place form) go =
-        chosen (shorter_number (constants_of s.file s.method) (node place form)) place (folded_form (constants_of s.file s.method) form)
+        chosen (shorter_number (constants_of s.file s.method) (node place form)) place (form_with (shorter_number (constants_of s.file s.method)) form)
         (expressions.evaluates callee s abort (node place form)) (worth_shorter callee s abort (node place form)) go (form-same place form go)
 
-    pub form-same : (place : Place) (form : Form) (go : ℕ → Rest) → expressions.evaluates callee (moved program source s) abort (node place (folded_form (constants_of s.file s.method) form)) go ≡ expressions.evaluates callee s abort (node place form) go
+    pub form-same : (place : Place) (form : Form) (go : ℕ → Rest) → expressions.evaluates callee (moved program source s) abort (node place (form_with (shorter_number (constants_of s.file s.method)) form)) go ≡ expressions.evaluates callee s abort (node place form) go
     form-same place (Number n) go = refl
     form-same place (Str text) go = refl
     form-same place Here go = refl
     form-same place (Var v) go = variable-same v go
     form-same place (Call stops object i method at arguments) go =
-        call-same stops object method (expressions.evaluates_all callee (moved program source s) abort (folded_trees (constants_of s.file s.method) arguments)) (expressions.evaluates_all callee s abort arguments)
-        (expressions.indexes callee (moved program source s) abort (folded_index (constants_of s.file s.method) i)) (expressions.indexes callee s abort i) (evaluates_all-same arguments) (indexes-same i) (λ x. uses x go)
+        call-same stops object method (expressions.evaluates_all callee (moved program source s) abort (trees_with (shorter_number (constants_of s.file s.method)) arguments)) (expressions.evaluates_all callee s abort arguments)
+        (expressions.indexes callee (moved program source s) abort (index_with (shorter_number (constants_of s.file s.method)) i)) (expressions.indexes callee s abort i) (evaluates_all-same arguments) (indexes-same i) (λ x. uses x go)
     form-same place (Unary operator e) go = evaluates-same e (λ a. go (unary_value operator a))
     form-same place (Binary operator e f) go = λ i. evaluates-same e (λ a. evaluates-same f (λ b. go (binary_value operator a b)) i) i
     form-same place (Assign v operator e) go = λ i. evaluates-same e (λ right. locates-same v (λ p. assigns-same program source s operator p right go i) i) i
@@ -204,33 +204,33 @@ module _ (callee : Callee) (s : Scope) (abort : Returned → Rest) (program : Pr
     form-same place (Built code arguments) go = does-same code arguments go
     form-same place (Look code e items) go = λ i. evaluates-same e (λ wanted. looks-same (expressions.goes_up code) wanted items go (λ count. go 0) (expressions.first_count code) i) i
 
-    variable-same : (v : Variable) (go : ℕ → Rest) → expressions.evaluates_variable callee (moved program source s) abort (folded_variable (constants_of s.file s.method) v) go ≡ expressions.evaluates_variable callee s abort v go
+    variable-same : (v : Variable) (go : ℕ → Rest) → expressions.evaluates_variable callee (moved program source s) abort (variable_with (shorter_number (constants_of s.file s.method)) v) go ≡ expressions.evaluates_variable callee s abort v go
     variable-same (Named name no_index place) go = value_of_name-same program source s folds callee abort name go
     variable-same (Named name (index e) place) go = λ i. evaluates-same e (λ number. fetches-same program source s (named-same program source s name number i) go i) i
     variable-same (Part name size x place) go = λ i. indexes-same x (λ number. fetches-same program source s (part-same program source s name size number i) go i) i
     variable-same (Memory size e x place) go = λ i. evaluates-same e (λ address. indexes-same x (λ number. fetches-same program source s (element size address number) go i) i) i
     variable-same (Register register x place) go = λ i. selects-same register x (λ p. fetches-same program source s p go i) i
 
-    pub locates-same : (v : Variable) (go : Location → Rest) → expressions.locates callee (moved program source s) abort (folded_variable (constants_of s.file s.method) v) go ≡ expressions.locates callee s abort v go
+    pub locates-same : (v : Variable) (go : Location → Rest) → expressions.locates callee (moved program source s) abort (variable_with (shorter_number (constants_of s.file s.method)) v) go ≡ expressions.locates callee s abort v go
     locates-same (Named name x place) go = λ i. indexes-same x (λ number. go (named-same program source s name number i)) i
     locates-same (Part name size x place) go = λ i. indexes-same x (λ number. go (part-same program source s name size number i)) i
     locates-same (Memory size e x place) go = λ i. evaluates-same e (λ address. indexes-same x (λ number. go (element size address number)) i) i
     locates-same (Register register x place) go = selects-same register x go
 
-    pub indexes-same : (x : Index) (go : ℕ → Rest) → expressions.indexes callee (moved program source s) abort (folded_index (constants_of s.file s.method) x) go ≡ expressions.indexes callee s abort x go
+    pub indexes-same : (x : Index) (go : ℕ → Rest) → expressions.indexes callee (moved program source s) abort (index_with (shorter_number (constants_of s.file s.method)) x) go ≡ expressions.indexes callee s abort x go
     indexes-same no_index go = refl
     indexes-same (index e) go = evaluates-same e go
 
-    selects-same : (register : ℕ) (x : Bits) (go : Location → Rest) → expressions.selects callee (moved program source s) abort register (folded_bits (constants_of s.file s.method) x) go ≡ expressions.selects callee s abort register x go
+    selects-same : (register : ℕ) (x : Bits) (go : Location → Rest) → expressions.selects callee (moved program source s) abort register (bits_with (shorter_number (constants_of s.file s.method)) x) go ≡ expressions.selects callee s abort register x go
     selects-same register whole go = refl
     selects-same register (bits (single e)) go = evaluates-same e (λ pin. go (Pins register (pin % 32) (pin % 32)))
     selects-same register (bits (range e f)) go = λ i. evaluates-same e (λ high. evaluates-same f (λ low. go (Pins register (high % 32) (low % 32))) i) i
 
-    pub evaluates_all-same : (es : Trees) (go : List ℕ → Rest) → expressions.evaluates_all callee (moved program source s) abort (folded_trees (constants_of s.file s.method) es) go ≡ expressions.evaluates_all callee s abort es go
+    pub evaluates_all-same : (es : Trees) (go : List ℕ → Rest) → expressions.evaluates_all callee (moved program source s) abort (trees_with (shorter_number (constants_of s.file s.method)) es) go ≡ expressions.evaluates_all callee s abort es go
     evaluates_all-same no_trees go = refl
     evaluates_all-same (es ▷ e) go = λ i. evaluates_all-same es (λ values. evaluates-same e (λ value. go (values ++ value ∷ [])) i) i
 
-    does-same : (code : ℕ) (es : Trees) (go : ℕ → Rest) → expressions.does callee (moved program source s) abort code (folded_arguments (constants_of s.file s.method) code es) go ≡ expressions.does callee s abort code es go
+    does-same : (code : ℕ) (es : Trees) (go : ℕ → Rest) → expressions.does callee (moved program source s) abort code (arguments_with (shorter_number (constants_of s.file s.method)) code es) go ≡ expressions.does callee s abort code es go
     does-same code no_trees go = refl
     does-same code (no_trees ▷ e) go =
         constant-same (code == 0) e (folded (constants_of s.file s.method) e) go (λ a. does_one code a go) (evaluates-same e (λ a. does_one code a go))
@@ -245,7 +245,7 @@ module _ (callee : Callee) (s : Scope) (abort : Returned → Rest) (program : Pr
     begins-same : (id : ℕ) (e : Tree) (p q x y : Gives ℕ) → ((go : ℕ → Rest) → p go ≡ q go) → ((go : ℕ → Rest) → x go ≡ y go) → (go : ℕ → Rest)
         → expressions.begins callee (moved program source s) abort id (folded (constants_of s.file s.method) e) p x go ≡ expressions.begins callee s abort id e q y go
     begins-same id (node place (Call false None i method at arguments)) p q x y first second go =
-        begins_method-same program source s folds callee abort id method (expressions.evaluates_all callee (moved program source s) abort (folded_trees (constants_of s.file s.method) arguments)) (expressions.evaluates_all callee s abort arguments) x y (evaluates_all-same arguments) second go
+        begins_method-same program source s folds callee abort id method (expressions.evaluates_all callee (moved program source s) abort (trees_with (shorter_number (constants_of s.file s.method)) arguments)) (expressions.evaluates_all callee s abort arguments) x y (evaluates_all-same arguments) second go
     begins-same id (node place (Call false (Some object) i method at arguments)) p q x y first second go = begins_pasm-same program source s folds callee abort id p q x y first second go
     begins-same id (node place (Call true object i method at arguments)) p q x y first second go = begins_pasm-same program source s folds callee abort id p q x y first second go
     begins-same id (node place (Var (Named name no_index at))) p q x y first second go =
@@ -272,12 +272,12 @@ module _ (callee : Callee) (s : Scope) (abort : Returned → Rest) (program : Pr
     begins-same id (node place (Look code e items)) p q x y first second go = begins_pasm-same program source s folds callee abort id p q x y first second go
 
     looks-same : (up : Bool) (wanted : ℕ) (xs : Items) (found none : ℕ → Rest) (count : ℕ)
-        → expressions.looks callee (moved program source s) abort up wanted (folded_items (constants_of s.file s.method) xs) found none count ≡ expressions.looks callee s abort up wanted xs found none count
+        → expressions.looks callee (moved program source s) abort up wanted (items_with (shorter_number (constants_of s.file s.method)) xs) found none count ≡ expressions.looks callee s abort up wanted xs found none count
     looks-same up wanted no_items found none count = refl
     looks-same up wanted (xs ▸ x) found none count = λ i. looks-same up wanted xs found (λ n. looks_at-same up wanted x found none n i) count i
 
     looks_at-same : (up : Bool) (wanted : ℕ) (x : Item) (found none : ℕ → Rest) (count : ℕ)
-        → expressions.looks_at callee (moved program source s) abort up wanted (folded_item (constants_of s.file s.method) x) found none count ≡ expressions.looks_at callee s abort up wanted x found none count
+        → expressions.looks_at callee (moved program source s) abort up wanted (item_with (shorter_number (constants_of s.file s.method)) x) found none count ≡ expressions.looks_at callee s abort up wanted x found none count
     looks_at-same up wanted (single e) found none count = evaluates-same e (λ value. expressions.tries up wanted count value found none)
     looks_at-same up wanted (range e f) found none count = λ i. evaluates-same e (λ low. evaluates-same f (λ high. expressions.tries_range up wanted count low high found none) i) i
 
@@ -285,8 +285,8 @@ module _ (callee : Callee) (s : Scope) (abort : Returned → Rest) (program : Pr
   pub acts-same : (e : Tree) (go : Rest) → expressions.acts callee (moved program source s) abort (folded_inside (constants_of s.file s.method) e) go ≡ expressions.acts callee s abort e go
   acts-same (node place (Var (Named name no_index at))) go = calls_own-same program source s folds callee abort false (kind_of s name) [] (λ x. go)
   acts-same (node place (Call stops object i method at arguments)) go =
-      call-same stops object method (expressions.evaluates_all callee (moved program source s) abort (folded_trees (constants_of s.file s.method) arguments)) (expressions.evaluates_all callee s abort arguments)
-      (expressions.indexes callee (moved program source s) abort (folded_index (constants_of s.file s.method) i)) (expressions.indexes callee s abort i) (evaluates_all-same arguments) (indexes-same i) (λ x. go)
+      call-same stops object method (expressions.evaluates_all callee (moved program source s) abort (trees_with (shorter_number (constants_of s.file s.method)) arguments)) (expressions.evaluates_all callee s abort arguments)
+      (expressions.indexes callee (moved program source s) abort (index_with (shorter_number (constants_of s.file s.method)) i)) (expressions.indexes callee s abort i) (evaluates_all-same arguments) (indexes-same i) (λ x. go)
   acts-same (node place (Change v change)) go = λ i. locates-same v (λ p. changes_alone-same program source s change p go i) i
   acts-same (node place (Var (Named name (index e) at))) go = form-same place (Var (Named name (index e) at)) (λ x. go)
   acts-same (node place (Var (Part name size i at))) go = form-same place (Var (Part name size i at)) (λ x. go)

@@ -14,8 +14,8 @@ use Rattle.p8_meaning.specs.Loops.{passes, counted}
 use Rattle.p8_meaning.specs.Expressions as expressions
 use Rattle.p8_meaning.specs.Statements as statements
 use Rattle.p8_meaning.specs.Statements.{Body}
-use Rattle.p8_short.specs.Constants.{constant_value}
-use Rattle.p8_short.specs.Folding.{folded, folded_inside, folded_items, folded_item, folded_course, holds, one, loop, Chain, Going, Ended, arms_left, with_arm, whole_chain, chain, joined, folded_statement, folded_action, folded_body, folded_other, folded_chain, folded_arms}
+use Rattle.p8_short.specs.Constants.{constant_value, shorter_number}
+use Rattle.p8_short.specs.Folding.{folded, folded_inside, folded_items, item_with, folded_course, holds, one, number_in, kept_count, kept_before, kept, loop, Chain, Going, Ended, arms_left, Condition, Known, Unknown, NoTest, known, condition, with_arm, whole_chain, chain, joined, folded_statement, folded_action, folded_body, folded_other, folded_chain, folded_arms}
 use Rattle.p8_short.specs.Projects.{constants_of}
 use Rattle.p8_short.proofs.Scopes.{moved, Folds, named-same, fetches-same}
 use Rattle.p8_short.proofs.Expressions.{Worth, worth, evaluates-same, acts-same}
@@ -29,7 +29,7 @@ module _ (most : ℕ) (callee : Callee) (s : Scope) (return abort : Returned →
   decides-same : (negated : Bool) (e : Tree) (met unmet : Rest) → statements.decides (suc most) callee (moved program source s) return abort negated (folded (constants_of s.file s.method) e) met unmet ≡ statements.decides (suc most) callee s return abort negated e met unmet
   decides-same negated e met unmet = value-same e (λ value. if values.holds negated value then met else unmet)
 
-  fits-same : (value : ℕ) (x : Item) (met unmet : Rest) → statements.fits (suc most) callee (moved program source s) return abort value (folded_item (constants_of s.file s.method) x) met unmet ≡ statements.fits (suc most) callee s return abort value x met unmet
+  fits-same : (value : ℕ) (x : Item) (met unmet : Rest) → statements.fits (suc most) callee (moved program source s) return abort value (item_with (shorter_number (constants_of s.file s.method)) x) met unmet ≡ statements.fits (suc most) callee s return abort value x met unmet
   fits-same value (single e) met unmet = value-same e (λ x. if value == x then met else unmet)
   fits-same value (range e f) met unmet = λ i. value-same e (λ low. value-same f (λ high. if is_between value low high then met else unmet) i) i
 
@@ -65,54 +65,60 @@ module _ (most : ℕ) (callee : Callee) (s : Scope) (return abort : Returned →
       value-same from (λ first. stores (named-same program source s name 0 i) first
       (passes (suc most) (λ again. same (ends_pass-same name from to step again go i) go (ends_pass-same name from to step again go i) i))) i
 
-  -- what is left of a loop
-  none_counted : (b : Bool) (place at : Place) (n : ℕ) (body : Statements) (next quit go : Rest) → (n == 0) ≡ b
-      → statements.executes_all (suc most) callee (moved program source s) return abort (if b then no_statements else one place (Repeat (Count (node at (Number n))) body)) next quit go
-      ≡ statements.repeats (suc most) callee (moved program source s) return abort (Count (node at (Number n))) (statements.executes_all (suc most) callee (moved program source s) return abort body) go
-  none_counted true place at n body next quit go is =
-      ap (λ b. if b then go else counted (difference n 1) (λ again. statements.executes_all (suc most) callee (moved program source s) return abort body again go again) go) (sym is)
-  none_counted false place at n body next quit go is = refl
+  -- an expression that is a number gives it
+  number-worth : (e : Tree) → Worth (number_in e) (statements.value_of (suc most) callee (moved program source s) return abort e)
+  number-worth (node place (Number n)) = λ go. refl
+  number-worth (node place (Str text)) = tt
+  number-worth (node place Here) = tt
+  number-worth (node place (Var v)) = tt
+  number-worth (node place (Call stops object i method at arguments)) = tt
+  number-worth (node place (Unary operator e)) = tt
+  number-worth (node place (Binary operator e f)) = tt
+  number-worth (node place (Assign v operator e)) = tt
+  number-worth (node place (Change v change)) = tt
+  number-worth (node place (Address v)) = tt
+  number-worth (node place (ObjectAddress e)) = tt
+  number-worth (node place (ObjConst object name at)) = tt
+  number-worth (node place (Built code arguments)) = tt
+  number-worth (node place (Look code e items)) = tt
 
-  always_or_never : (b : Bool) (place : Place) (body : Statements) (next quit go : Rest)
-      → statements.executes_all (suc most) callee (moved program source s) return abort (if b then one place (Repeat Forever body) else no_statements) next quit go
+  -- what is left of a loop
+  count_left : (b : Bool) (place : Place) (e : Tree) (n : ℕ) (body : Statements) (next quit go : Rest) → (n == 0) ≡ b → Worth (Some n) (statements.value_of (suc most) callee (moved program source s) return abort e)
+      → statements.executes_all (suc most) callee (moved program source s) return abort (loop place (if b then None else Some (Count e)) body) next quit go
+      ≡ statements.repeats (suc most) callee (moved program source s) return abort (Count e) (statements.executes_all (suc most) callee (moved program source s) return abort body) go
+  count_left true place e n body next quit go is h =
+      ap (λ b. if b then go else counted (difference n 1) (λ again. statements.executes_all (suc most) callee (moved program source s) return abort body again go again) go) (sym is)
+      ∙ sym (h (λ count. if count == 0 then go else counted (difference count 1) (λ again. statements.executes_all (suc most) callee (moved program source s) return abort body again go again) go))
+  count_left false place e n body next quit go is h = refl
+
+  counted_does : (o : Option ℕ) (place : Place) (e : Tree) (body : Statements) (next quit go : Rest) → Worth o (statements.value_of (suc most) callee (moved program source s) return abort e)
+      → statements.executes_all (suc most) callee (moved program source s) return abort (loop place (kept_count o e) body) next quit go
+      ≡ statements.repeats (suc most) callee (moved program source s) return abort (Count e) (statements.executes_all (suc most) callee (moved program source s) return abort body) go
+  counted_does None place e body next quit go h = refl
+  counted_does (Some n) place e body next quit go h = count_left (n == 0) place e n body next quit go refl h
+
+  before_left : (b : Bool) (place : Place) (body : Statements) (next quit go : Rest)
+      → statements.executes_all (suc most) callee (moved program source s) return abort (loop place (if b then Some Forever else None) body) next quit go
       ≡ passes (suc most) (λ again. if b then statements.executes_all (suc most) callee (moved program source s) return abort body again go again else go)
-  always_or_never true place body next quit go = refl
-  always_or_never false place body next quit go = λ i bound own. go bound own
+  before_left true place body next quit go = refl
+  before_left false place body next quit go = λ i bound own. go bound own
+
+  before_does : (o : Option ℕ) (place : Place) (until : Bool) (e : Tree) (body : Statements) (next quit go : Rest) → Worth o (statements.value_of (suc most) callee (moved program source s) return abort e)
+      → statements.executes_all (suc most) callee (moved program source s) return abort (loop place (kept_before until o e) body) next quit go
+      ≡ statements.repeats (suc most) callee (moved program source s) return abort (Before until e) (statements.executes_all (suc most) callee (moved program source s) return abort body) go
+  before_does None place until e body next quit go h = refl
+  before_does (Some n) place until e body next quit go h =
+      before_left (holds until n) place body next quit go
+      ∙ (λ i. passes (suc most) (λ again. sym (h (λ value. if values.holds until value then statements.executes_all (suc most) callee (moved program source s) return abort body again go again else go)) i))
 
   loop_does : (place : Place) (course : Loop) (body : Statements) (next quit go : Rest)
-      → statements.executes_all (suc most) callee (moved program source s) return abort (loop place course body) next quit go
+      → statements.executes_all (suc most) callee (moved program source s) return abort (loop place (kept course) body) next quit go
       ≡ statements.repeats (suc most) callee (moved program source s) return abort course (statements.executes_all (suc most) callee (moved program source s) return abort body) go
-  loop_does place (Count (node at (Number n))) body next quit go = none_counted (n == 0) place at n body next quit go refl
-  loop_does place (Before until (node at (Number n))) body next quit go = always_or_never (holds until n) place body next quit go
+  loop_does place (Count e) body next quit go = counted_does (number_in e) place e body next quit go (number-worth e)
+  loop_does place (Before until e) body next quit go = before_does (number_in e) place until e body next quit go (number-worth e)
   loop_does place Forever body next quit go = refl
   loop_does place (After until e) body next quit go = refl
   loop_does place (From name from to step at) body next quit go = refl
-  loop_does place (Count (node at (Str text))) body next quit go = refl
-  loop_does place (Count (node at Here)) body next quit go = refl
-  loop_does place (Count (node at (Var v))) body next quit go = refl
-  loop_does place (Count (node at (Call stops object i method q arguments))) body next quit go = refl
-  loop_does place (Count (node at (Unary operator e))) body next quit go = refl
-  loop_does place (Count (node at (Binary operator e f))) body next quit go = refl
-  loop_does place (Count (node at (Assign v operator e))) body next quit go = refl
-  loop_does place (Count (node at (Change v change))) body next quit go = refl
-  loop_does place (Count (node at (Address v))) body next quit go = refl
-  loop_does place (Count (node at (ObjectAddress e))) body next quit go = refl
-  loop_does place (Count (node at (ObjConst object name q))) body next quit go = refl
-  loop_does place (Count (node at (Built code arguments))) body next quit go = refl
-  loop_does place (Count (node at (Look code e items))) body next quit go = refl
-  loop_does place (Before until (node at (Str text))) body next quit go = refl
-  loop_does place (Before until (node at Here)) body next quit go = refl
-  loop_does place (Before until (node at (Var v))) body next quit go = refl
-  loop_does place (Before until (node at (Call stops object i method q arguments))) body next quit go = refl
-  loop_does place (Before until (node at (Unary operator e))) body next quit go = refl
-  loop_does place (Before until (node at (Binary operator e f))) body next quit go = refl
-  loop_does place (Before until (node at (Assign v operator e))) body next quit go = refl
-  loop_does place (Before until (node at (Change v change))) body next quit go = refl
-  loop_does place (Before until (node at (Address v))) body next quit go = refl
-  loop_does place (Before until (node at (ObjectAddress e))) body next quit go = refl
-  loop_does place (Before until (node at (ObjConst object name q))) body next quit go = refl
-  loop_does place (Before until (node at (Built code arguments))) body next quit go = refl
-  loop_does place (Before until (node at (Look code e items))) body next quit go = refl
 
   -- ---- chains of IF
 
@@ -128,7 +134,7 @@ module _ (most : ℕ) (callee : Callee) (s : Scope) (return abort : Returned →
   decided negated v e met unmet h = h (λ value. if values.holds negated value then met else unmet)
 
   known_arm : (b : Bool) (arms : Arms) (tests : Items) (negated : Bool) (body : Statements) (next quit go other : Rest)
-      → chain_does (with_arm (Going arms) (Some b) (arm tests negated body)) next quit go other
+      → chain_does (with_arm (Going arms) (Known b) (arm tests negated body)) next quit go other
       ≡ statements.chooses (suc most) callee (moved program source s) return abort arms next quit go (if b then statements.executes_all (suc most) callee (moved program source s) return abort body next quit go else other)
   known_arm true arms tests negated body next quit go other = refl
   known_arm false arms tests negated body next quit go other = refl
@@ -136,9 +142,10 @@ module _ (most : ℕ) (callee : Callee) (s : Scope) (return abort : Returned →
   arm_does : (left : Chain) (o : Option ℕ) (negated : Bool) (e : Tree) (body whole_body : Statements) (next quit go other : Rest)
       → Worth o (statements.value_of (suc most) callee s return abort e)
       → statements.executes_all (suc most) callee (moved program source s) return abort body next quit go ≡ statements.executes_all (suc most) callee s return abort whole_body next quit go
-      → chain_does (with_arm left (option_map (holds negated) o) (arm (no_items ▸ single (folded (constants_of s.file s.method) e)) negated body)) next quit go other
+      → chain_does (with_arm left (known negated o) (arm (no_items ▸ single (folded (constants_of s.file s.method) e)) negated body)) next quit go other
       ≡ chain_does left next quit go (statements.decides (suc most) callee s return abort negated e (statements.executes_all (suc most) callee s return abort whole_body next quit go) other)
-  arm_does (Ended arms last) o negated e body whole_body next quit go other h same = refl
+  arm_does (Ended arms last) None negated e body whole_body next quit go other h same = refl
+  arm_does (Ended arms last) (Some v) negated e body whole_body next quit go other h same = refl
   arm_does (Going arms) None negated e body whole_body next quit go other h same = λ i.
       statements.chooses (suc most) callee (moved program source s) return abort arms next quit go (decides-same negated e (same i) other i)
   arm_does (Going arms) (Some v) negated e body whole_body next quit go other h same =

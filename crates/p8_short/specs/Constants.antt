@@ -2,7 +2,7 @@
 -- Sources: the Propeller Manual v1.2, "CON" and "Operators" of the Spin chapter, and the public Spin bytecode listing of the Propeller
 -- P8X32A; the result of a zero divisor and the choice of the shortest form of a number are this project's profile.
 use Rattle.std.specs.Prelude.{ℕ, ◌+◌, ◌-◌, ◌^◌, ◌==◌, ◌||◌, nat_lt, nat_le, List, Option, Some, None, option_map, if◌then◌else◌}
-use Rattle.p8_tree.specs.Expressions.{Tree, node, Form, Number, Str, Here, Var, Call, Unary, Binary, Assign, Change, Address, ObjectAddress, ObjConst, Built, Look, Named, no_index}
+use Rattle.p8_tree.specs.Expressions.{Tree, node, Form, Number, Str, Here, Var, Call, Unary, Binary, Assign, Change, Address, ObjectAddress, ObjConst, Built, Look, Variable, Named, Part, Memory, Register, no_index}
 use Rattle.p8_operators.specs.Operators.{unary_value, binary_value, or_zero}
 use Rattle.p8_fold.specs.declared.meanings.Meaning.{Meaning}
 use Rattle.p8_fold.specs.declared.meanings.Meaning.TheVariants.{Value, Object}
@@ -38,10 +38,15 @@ abbrev pub both : Option ℕ → Option ℕ → (ℕ → ℕ → ℕ) → Option
 both (Some a) (Some b) f = Some (f a b)
 both a b f = None
 
+-- a name alone
+abbrev pub value_of_name : Constants → Variable → Option ℕ
+value_of_name c (Named name no_index at) = c.named name
+value_of_name c v = None
+
 -- the value of a constant tree; other trees have none. CONSTANT isn't looked into.
 abbrev pub constant_value : Constants → Tree → Option ℕ
 constant_value c (node place (Number n)) = Some n
-constant_value c (node place (Var (Named name no_index at))) = c.named name
+constant_value c (node place (Var v)) = value_of_name c v
 constant_value c (node place (ObjConst object name at)) = c.behind object name
 constant_value c (node place (Unary operator e)) = option_map (unary_value operator) (constant_value c e)
 constant_value c (node place (Binary operator a b)) = both (constant_value c a) (constant_value c b) (binary_value operator)
@@ -65,7 +70,7 @@ unary_length operator = if operator == 0xEC then 0 else 1
 -- the code of a constant tree, as it stands
 abbrev pub code_length : Constants → Tree → ℕ
 code_length c (node place (Number n)) = number_length n
-code_length c (node place (Var (Named name no_index at))) = number_length (or_zero (c.named name))
+code_length c (node place (Var v)) = number_length (or_zero (value_of_name c v))
 code_length c (node place (ObjConst object name at)) = number_length (or_zero (c.behind object name))
 code_length c (node place (Unary operator e)) = code_length c e + unary_length operator
 code_length c (node place (Binary operator a b)) = code_length c a + code_length c b + 1

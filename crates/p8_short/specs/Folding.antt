@@ -8,67 +8,76 @@ use Rattle.p8_tree.specs.Expressions.{Tree, node, Form, Number, Str, Here, Var, 
 use Rattle.p8_tree.specs.Statements.{Course, Forever, Count, Before, After, From, Statement, statement, Action, Do, If, Case, Repeat, Next, Quit, Return, Abort, Arm, arm, Otherwise, nothing_else, otherwise, Statements, no_statements, ◌▹◌, Arms, no_arms, ◌⊳◌}
 use Rattle.p8_short.specs.Constants.{Constants, constant_value, shorter_number}
 
--- ---- expressions
+-- ---- numbers in place of expressions
 
 -- the number, or else the form
 abbrev pub number_or : Option ℕ → Form → Form
 number_or (Some n) form = Number n
 number_or None form = form
 
--- Of constant trees the outermost are looked at first: one becomes a number, or else its operands are looked at in the same way.
+-- The same tree, with a number in place of each expression of which one is given here. Of expressions that stand in one another the outermost
+-- is looked at first.
 abbrev mutual
-  pub folded : Constants → Tree → Tree
-  folded c (node place form) = node place (number_or (shorter_number c (node place form)) (folded_form c form))
+  pub tree_with : (number : Tree → Option ℕ) → Tree → Tree
+  tree_with number (node place form) = node place (number_or (number (node place form)) (form_with number form))
 
-  -- a form whose expressions are looked at
-  pub folded_form : Constants → Form → Form
-  folded_form c (Var v) = Var (folded_variable c v)
-  folded_form c (Call stops object i method at arguments) = Call stops object (folded_index c i) method at (folded_trees c arguments)
-  folded_form c (Unary operator e) = Unary operator (folded c e)
-  folded_form c (Binary operator a b) = Binary operator (folded c a) (folded c b)
-  folded_form c (Assign v operator e) = Assign (folded_variable c v) operator (folded c e)
-  folded_form c (Change v change) = Change (folded_variable c v) change
-  folded_form c (Address v) = Address (folded_variable c v)
-  folded_form c (ObjectAddress e) = ObjectAddress (folded c e)
-  folded_form c (Built code arguments) = Built code (folded_arguments c code arguments)
-  folded_form c (Look code e items) = Look code (folded c e) (folded_items c items)
-  folded_form c form = form
+  pub form_with : (number : Tree → Option ℕ) → Form → Form
+  form_with number (Var v) = Var (variable_with number v)
+  form_with number (Call stops object i method at arguments) = Call stops object (index_with number i) method at (trees_with number arguments)
+  form_with number (Unary operator e) = Unary operator (tree_with number e)
+  form_with number (Binary operator a b) = Binary operator (tree_with number a) (tree_with number b)
+  form_with number (Assign v operator e) = Assign (variable_with number v) operator (tree_with number e)
+  form_with number (Change v change) = Change (variable_with number v) change
+  form_with number (Address v) = Address (variable_with number v)
+  form_with number (ObjectAddress e) = ObjectAddress (tree_with number e)
+  form_with number (Built code arguments) = Built code (arguments_with number code arguments)
+  form_with number (Look code e items) = Look code (tree_with number e) (items_with number items)
+  form_with number form = form
 
-  pub folded_variable : Constants → Variable → Variable
-  folded_variable c (Named name i at) = Named name (folded_index c i) at
-  folded_variable c (Part name size i at) = Part name size (folded_index c i) at
-  folded_variable c (Memory size e i at) = Memory size (folded c e) (folded_index c i) at
-  folded_variable c (Register register x at) = Register register (folded_bits c x) at
+  pub variable_with : (number : Tree → Option ℕ) → Variable → Variable
+  variable_with number (Named name i at) = Named name (index_with number i) at
+  variable_with number (Part name size i at) = Part name size (index_with number i) at
+  variable_with number (Memory size e i at) = Memory size (tree_with number e) (index_with number i) at
+  variable_with number (Register register x at) = Register register (bits_with number x) at
 
-  pub folded_index : Constants → Index → Index
-  folded_index c no_index = no_index
-  folded_index c (index e) = index (folded c e)
+  pub index_with : (number : Tree → Option ℕ) → Index → Index
+  index_with number no_index = no_index
+  index_with number (index e) = index (tree_with number e)
 
-  pub folded_bits : Constants → Bits → Bits
-  folded_bits c whole = whole
-  folded_bits c (bits x) = bits (folded_item c x)
+  pub bits_with : (number : Tree → Option ℕ) → Bits → Bits
+  bits_with number whole = whole
+  bits_with number (bits x) = bits (item_with number x)
 
-  pub folded_item : Constants → Item → Item
-  folded_item c (single e) = single (folded c e)
-  folded_item c (range e f) = range (folded c e) (folded c f)
+  pub item_with : (number : Tree → Option ℕ) → Item → Item
+  item_with number (single e) = single (tree_with number e)
+  item_with number (range e f) = range (tree_with number e) (tree_with number f)
 
-  pub folded_trees : Constants → Trees → Trees
-  folded_trees c no_trees = no_trees
-  folded_trees c (es ▷ e) = folded_trees c es ▷ folded c e
+  pub trees_with : (number : Tree → Option ℕ) → Trees → Trees
+  trees_with number no_trees = no_trees
+  trees_with number (es ▷ e) = trees_with number es ▷ tree_with number e
 
   -- the argument of CONSTANT, which is 00, stays
-  pub folded_arguments : Constants → (code : ℕ) → Trees → Trees
-  folded_arguments c code no_trees = no_trees
-  folded_arguments c code (no_trees ▷ e) = no_trees ▷ (if code == 0 then e else folded c e)
-  folded_arguments c code (es ▷ d ▷ e) = folded_trees c es ▷ folded c d ▷ folded c e
+  pub arguments_with : (number : Tree → Option ℕ) → (code : ℕ) → Trees → Trees
+  arguments_with number code no_trees = no_trees
+  arguments_with number code (no_trees ▷ e) = no_trees ▷ (if code == 0 then e else tree_with number e)
+  arguments_with number code (es ▷ d ▷ e) = trees_with number es ▷ tree_with number d ▷ tree_with number e
 
-  pub folded_items : Constants → Items → Items
-  folded_items c no_items = no_items
-  folded_items c (xs ▸ x) = folded_items c xs ▸ folded_item c x
+  pub items_with : (number : Tree → Option ℕ) → Items → Items
+  items_with number no_items = no_items
+  items_with number (xs ▸ x) = items_with number xs ▸ item_with number x
+
+-- ---- expressions
+
+-- constant trees become numbers, where that isn't longer
+abbrev pub folded : Constants → Tree → Tree
+folded c e = tree_with (shorter_number c) e
+
+abbrev pub folded_items : Constants → Items → Items
+folded_items c xs = items_with (shorter_number c) xs
 
 -- an expression alone as a statement stays in its form
 abbrev pub folded_inside : Constants → Tree → Tree
-folded_inside c (node place form) = node place (folded_form c form)
+folded_inside c (node place form) = node place (form_with (shorter_number c) form)
 
 -- ---- loops
 
@@ -86,12 +95,29 @@ holds negated n = if negated then n == 0 else not (n == 0)
 abbrev pub one : Place → Action → Statements
 one place action = no_statements ▹ statement place action
 
--- A loop of no pass is dropped, and one that nothing but its body ends is a REPEAT alone, where what it tests is a number after folding.
--- A loop with its test behind the body stays.
-abbrev pub loop : Place → Course → Statements → Statements
-loop place (Count (node at (Number n))) body = if n == 0 then no_statements else one place (Repeat (Count (node at (Number n))) body)
-loop place (Before until (node at (Number n))) body = if holds until n then one place (Repeat Forever body) else no_statements
-loop place course body = one place (Repeat course body)
+-- an expression that is a number
+abbrev pub number_in : Tree → Option ℕ
+number_in (node place (Number n)) = Some n
+number_in e = None
+
+abbrev pub kept_count : Option ℕ → Tree → Option Course
+kept_count None e = Some (Count e)
+kept_count (Some n) e = if n == 0 then None else Some (Count e)
+
+abbrev pub kept_before : (until : Bool) → Option ℕ → Tree → Option Course
+kept_before until None e = Some (Before until e)
+kept_before until (Some n) e = if holds until n then Some Forever else None
+
+-- How a loop goes on, by what it tests after folding: one that makes no pass is dropped, and one that nothing but its body ends is a REPEAT
+-- alone. A loop with its test behind the body stays.
+abbrev pub kept : Course → Option Course
+kept (Count e) = kept_count (number_in e) e
+kept (Before until e) = kept_before until (number_in e) e
+kept course = Some course
+
+abbrev pub loop : Place → Option Course → Statements → Statements
+loop place None body = no_statements
+loop place (Some course) body = one place (Repeat course body)
 
 -- ---- chains of IF
 
@@ -104,13 +130,29 @@ abbrev pub arms_left : Chain → Arms
 arms_left (Going arms) = arms
 arms_left (Ended arms body) = arms
 
+-- what is known of a condition: whether it holds, nothing, or that it isn't one, since an arm of IF has one test
+pub data Condition : Type 0 where
+  Known : (holds : Bool) → Condition
+  Unknown : Condition
+  NoTest : Condition
+
+abbrev pub known : (negated : Bool) → Option ℕ → Condition
+known negated None = Unknown
+known negated (Some n) = Known (holds negated n)
+
+abbrev pub condition : Constants → (negated : Bool) → Items → Condition
+condition c negated (no_items ▸ single e) = known negated (constant_value c e)
+condition c negated tests = NoTest
+
 -- An arm whose condition never holds is dropped. The body of one whose condition always holds becomes that of ELSE, and what follows is
 -- dropped.
-abbrev pub with_arm : Chain → (condition : Option Bool) → Arm → Chain
-with_arm (Ended arms body) condition x = Ended arms body
-with_arm (Going arms) None x = Going (arms ⊳ x)
-with_arm (Going arms) (Some true) (arm tests negated body) = Ended arms body
-with_arm (Going arms) (Some false) x = Going arms
+abbrev pub with_arm : Chain → Condition → Arm → Chain
+with_arm left NoTest x = Going (arms_left left ⊳ x)
+with_arm (Ended arms body) Unknown x = Ended arms body
+with_arm (Ended arms body) (Known b) x = Ended arms body
+with_arm (Going arms) Unknown x = Going (arms ⊳ x)
+with_arm (Going arms) (Known true) (arm tests negated body) = Ended arms body
+with_arm (Going arms) (Known false) x = Going arms
 
 -- a chain without arms is the body of its ELSE, or nothing
 abbrev pub whole_chain : Place → Arms → Otherwise → Statements
@@ -138,7 +180,7 @@ abbrev mutual
   folded_action c place (Do e) = one place (Do (folded_inside c e))
   folded_action c place (If arms other) = chain place (folded_chain c arms) (folded_other c other)
   folded_action c place (Case e arms other) = one place (Case (folded c e) (folded_arms c arms) (folded_other c other))
-  folded_action c place (Repeat course body) = loop place (folded_course c course) (folded_body c body)
+  folded_action c place (Repeat course body) = loop place (kept (folded_course c course)) (folded_body c body)
   folded_action c place (Return e) = one place (Return (option_map (folded c) e))
   folded_action c place (Abort e) = one place (Abort (option_map (folded c) e))
   folded_action c place action = one place action
@@ -151,12 +193,11 @@ abbrev mutual
   folded_other c nothing_else = nothing_else
   folded_other c (otherwise body) = otherwise (folded_body c body)
 
-  -- the arms of an IF chain, each with one test
+  -- the arms of an IF chain
   pub folded_chain : Constants → Arms → Chain
   folded_chain c no_arms = Going no_arms
-  folded_chain c (arms ⊳ arm (no_items ▸ single e) negated body) =
-      with_arm (folded_chain c arms) (option_map (holds negated) (constant_value c e)) (arm (no_items ▸ single (folded c e)) negated (folded_body c body))
-  folded_chain c (arms ⊳ arm tests negated body) = Going (arms_left (folded_chain c arms) ⊳ arm (folded_items c tests) negated (folded_body c body))
+  folded_chain c (arms ⊳ arm tests negated body) =
+      with_arm (folded_chain c arms) (condition c negated tests) (arm (folded_items c tests) negated (folded_body c body))
 
   -- the arms of a CASE
   pub folded_arms : Constants → Arms → Arms
