@@ -1,5 +1,5 @@
 -- What a folded expression does is what the expression does.
-use Rattle.std.proofs.Common.{◌≡◌, refl, sym, ap, subst, ◌∙◌, ℕ, ◌+◌, ◌%◌, ◌^◌, ◌==◌, nat_le, Bool, true, false, if◌then◌else◌, List, [], ◌∷◌, ◌++◌, Option, Some, None, option_map}
+use Rattle.std.proofs.Common.{◌≡◌, refl, sym, ap, ◌∙◌, ℕ, ◌+◌, ◌%◌, ◌^◌, ◌==◌, nat_le, Bool, true, false, if◌then◌else◌, List, [], ◌∷◌, ◌++◌, Option, Some, None, option_map}
 use Rattle.std.specs.Str.{bytes_eq}
 use Rattle.p8_tree.specs.declared.places.Place.{Place}
 use Rattle.p8_tree.specs.Names.{result_word}
@@ -13,11 +13,11 @@ use Rattle.p8_kinds.specs.declared.name_kinds.NameKind.TheVariants as kind_case
 use Rattle.p8_kinds.specs.FileSettings.{meaning_of_kind}
 use Rattle.p8_meaning.specs.Programs.{Program, Scope, kind_of, scope_setting, object_constant}
 use Rattle.p8_meaning.specs.Doing.{Rest, Gives}
-use Rattle.p8_meaning.specs.Variables.{Location, Pins, element, named, part, address_at}
+use Rattle.p8_meaning.specs.Variables.{Location, Pins, element, address_at}
 use Rattle.p8_meaning.specs.Builtins.{new_cog, does_one, does_two, does_three}
 use Rattle.p8_meaning.specs.Calls.{Returned, uses, Callee}
 use Rattle.p8_meaning.specs.Expressions as expressions
-use Rattle.p8_short.specs.Constants.{Constants, constants_in, value_meant, value_behind, both, constant_value, number_length, code_length, within, shorter_number}
+use Rattle.p8_short.specs.Constants.{value_meant, value_behind, both, constant_value, number_length, code_length, within, shorter_number}
 use Rattle.p8_short.specs.Folding.{number_or, folded, form_with, variable_with, index_with, bits_with, item_with, trees_with, arguments_with, items_with, folded_inside}
 use Rattle.p8_short.specs.Projects.{constants_of}
 use Rattle.p8_short.proofs.Scopes.{moved, Folds, named-same, part-same, fetches-same, assigns-same, changes-same, changes_alone-same, calls_own-same, calls_of_object-same, value_of_name-same, begins_method-same, begins_pasm-same, begins_name-same}

@@ -2,3 +2,4 @@ mod Scopes
 mod Expressions
 mod Statements
 mod Meanings
+mod Examples

@@ -1,5 +1,5 @@
 -- What a method does with the names of its scope is the same where the file's methods are folded.
-use Rattle.std.proofs.Common.{◌≡◌, refl, sym, ap, ◌∙◌, ℕ, ◌+◌, ◌%◌, ◌^◌, ◌-◌, ◌*◌, ◌==◌, nat_le, Bool, true, false, if◌then◌else◌, List, [], ◌∷◌, length, Option, Some, None, option_map}
+use Rattle.std.proofs.Common.{◌≡◌, refl, ap, ◌∙◌, ℕ, ◌+◌, ◌%◌, ◌^◌, ◌-◌, ◌*◌, ◌==◌, Bool, false, if◌then◌else◌, List, [], length, Option, Some, None, option_map}
 use Rattle.std.specs.Str.{bytes_eq}
 use Rattle.p8_tree.specs.Names.{result_word}
 use Rattle.p8_tree.specs.Sources.{Source, MethodTree}
@@ -15,7 +15,6 @@ use Rattle.p8_meaning.specs.Doing.{Rest, Gives, given, asks, writes_longs}
 use Rattle.p8_meaning.specs.Variables.{Location, Hub, Pins, element, size_of, address_of_kind, address_of, named, part, fetches, stores, reduced, assigns, replaces, changes, changes_alone}
 use Rattle.p8_meaning.specs.Calls.{Returned, uses, Callee, calls, starts_method, method_of}
 use Rattle.p8_meaning.specs.Expressions as expressions
-use Rattle.p8_short.specs.Constants.{Constants}
 use Rattle.p8_short.specs.Projects.{folded_method, constants_of}
 
 -- the same scope in another program, where the file has another source

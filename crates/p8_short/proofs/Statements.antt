@@ -1,21 +1,20 @@
 -- What folded statements do is what the statements do.
-use Rattle.std.proofs.Common.{◌≡◌, refl, sym, ap, ◌∙◌, ℕ, suc, ◌==◌, Bool, true, false, not, if◌then◌else◌, List, [], ◌∷◌, Option, Some, None, option_map}
+use Rattle.std.proofs.Common.{◌≡◌, refl, sym, ap, ◌∙◌, ℕ, suc, ◌==◌, Bool, true, false, if◌then◌else◌, List, Option, Some, None, option_map}
 use Rattle.p8_tree.specs.declared.places.Place.{Place}
 use Rattle.p8_tree.specs.Sources.{Source}
-use Rattle.p8_tree.specs.Expressions.{Tree, node, Form, Number, Str, Here, Var, Call, Unary, Binary, Assign, Change, Address, ObjectAddress, ObjConst, Built, Look, Item, single, range, Items, no_items, ◌▸◌}
-use Rattle.p8_tree.specs.Statements.{Course as Loop, Forever, Count, Before, After, From, Statement, statement, Action, Do, If, Case, Repeat, Next, Quit, Return, Abort, Arm, arm, Otherwise, nothing_else, otherwise, Statements, no_statements, ◌▹◌, Arms, no_arms, ◌⊳◌}
+use Rattle.p8_tree.specs.Expressions.{Tree, node, Number, Str, Here, Var, Call, Unary, Binary, Assign, Change, Address, ObjectAddress, ObjConst, Built, Look, Item, single, range, Items, no_items, ◌▸◌}
+use Rattle.p8_tree.specs.Statements.{Course as Loop, Forever, Count, Before, After, From, Statement, statement, Do, If, Case, Repeat, Next, Quit, Return, Abort, arm, Otherwise, nothing_else, otherwise, Statements, no_statements, ◌▹◌, Arms, no_arms, ◌⊳◌}
 use Rattle.p8_meaning.specs.Values as values
 use Rattle.p8_meaning.specs.Values.{difference, is_between, stepped}
 use Rattle.p8_meaning.specs.Programs.{Program, Scope}
-use Rattle.p8_meaning.specs.Doing.{Rest, Gives, untold}
+use Rattle.p8_meaning.specs.Doing.{Rest}
 use Rattle.p8_meaning.specs.Variables.{Location, named, stores}
-use Rattle.p8_meaning.specs.Calls.{Returned, Value, Result, Callee}
+use Rattle.p8_meaning.specs.Calls.{Returned, Value, Callee}
 use Rattle.p8_meaning.specs.Loops.{passes, counted}
-use Rattle.p8_meaning.specs.Expressions as expressions
 use Rattle.p8_meaning.specs.Statements as statements
 use Rattle.p8_meaning.specs.Statements.{Body}
 use Rattle.p8_short.specs.Constants.{constant_value, shorter_number}
-use Rattle.p8_short.specs.Folding.{folded, folded_inside, folded_items, item_with, folded_course, holds, one, number_in, kept_count, kept_before, kept, loop, Chain, Going, Ended, arms_left, Condition, Known, Unknown, NoTest, known, condition, with_arm, whole_chain, chain, joined, folded_statement, folded_action, folded_body, folded_other, folded_chain, folded_arms}
+use Rattle.p8_short.specs.Folding.{folded, folded_items, item_with, folded_course, holds, number_in, kept_count, kept_before, kept, loop, Chain, Going, Ended, Known, known, with_arm, whole_chain, chain, joined, folded_statement, folded_body, folded_other, folded_chain, folded_arms}
 use Rattle.p8_short.specs.Projects.{constants_of}
 use Rattle.p8_short.proofs.Scopes.{moved, Folds, named-same, fetches-same}
 use Rattle.p8_short.proofs.Expressions.{Worth, worth, evaluates-same, acts-same}

@@ -1,5 +1,5 @@
 -- A project with folded methods. Nothing but the bodies of methods changes.
-use Rattle.std.specs.Prelude.{◌≡◌, ℕ, List, [], ◌∷◌, map, option_map}
+use Rattle.std.specs.Prelude.{◌≡◌, ℕ, [], ◌∷◌, map, option_map}
 use Rattle.p8_tree.specs.Sources.{MethodTree, BlockTree, Method, Source}
 use Rattle.p8_meaning.specs.Programs.{Program, File, setting_of}
 use Rattle.p8_meaning.specs.Calls.{method_of}
