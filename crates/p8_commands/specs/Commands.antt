@@ -10,7 +10,7 @@ use Rattle.p8_commands.specs.declared.table.Subcommand.{Subcommand}
 use Rattle.p8_commands.specs.declared.table.Subcommand.TheVariants as named
 use Rattle.p8_commands.specs.declared.kind.ImageKind.{ImageKind}
 use Rattle.p8_commands.specs.Kinds.{kind_named}
-use Rattle.p8_commands.specs.Numbers.{number_of, range_of, most_clocks, most_turns, usual_turns, most_seed}
+use Rattle.p8_commands.specs.Numbers.{number_of, range_of, most_clocks, most_turns, usual_turns, most_saved_turns, most_seed}
 use Rattle.p8_commands.specs.Table.{entry_of, app_for, subcommand_named}
 
 -- a run: its file, the clock before which it ends, the file of a pin script, if any, how many turns it makes at most, and the
@@ -22,13 +22,16 @@ pub record Running : Type 0 where
   pub turns : ℕ
   pub dump : Option (ℕ × ℕ)
 
--- a command: to write the image of a source or its listing, to run hub memory, or an image or a source, to write an image
--- as the other kind of file, to run the made program of a seed, or to tell a command or all of them. A run is made by one thread alone, or by a crew of eight.
+-- A command: to write the image of a source or its listing; to run hub memory, or an image or a source; to save the history of a run, or to check
+-- one; to write an image as the other kind of file; to run the made program of a seed; or to tell a command or all of them. A run is made by one
+-- thread alone, or by a crew of eight. What is saved or checked is hub memory where it is raw, and else an image or a source.
 pub data Command : Type 0 where
   BuildSource : (file : List ℕ) → Command
   ListSource : (file : List ℕ) → Command
   RunMemory : (run : Running) → Command
   RunProgram : (alone : Bool) (run : Running) → Command
+  Save : (raw : Bool) (run : Running) → Command
+  Check : (raw : Bool) (file history : List ℕ) (script : Option (List ℕ)) → Command
   Convert : ImageKind → (file : List ℕ) → Command
   Make : (alone : Bool) (seed : ℕ) → Command
   Help : (topic : Option Subcommand) → Command
@@ -41,10 +44,10 @@ alone_of command = command
 
 -- ---- the meaning of each entry, by the value of each argument that has one
 
--- how many turns a run makes at most, by the value of `--turns`
-abbrev pub turns_by : Option Text → Option ℕ
-turns_by None = Some usual_turns
-turns_by (Some value) = number_of most_turns value
+-- how many turns a run makes at most, by the value of `--turns`, where so many may be asked for and so many are usual
+abbrev pub turns_by : (most usual : ℕ) → Option Text → Option ℕ
+turns_by most usual None = Some usual
+turns_by most usual (Some value) = number_of most value
 
 -- the range to dump, by the value of `--dump`; none where that isn't given
 abbrev pub dump_by : Option Text → Option (Option (ℕ × ℕ))
@@ -56,20 +59,34 @@ run_by (Some file) (Some clocks) script (Some turns) (Some dump) =
     Some (record { file = file; clocks = clocks; script = script; turns = turns; dump = dump })
 run_by _ _ script _ _ = None
 
--- the arguments that every run has
-abbrev pub run_of : (Text → Option Text) → Option Running
-run_of value =
+-- a run by the arguments that every run has, with the value of `--dump`, if any
+abbrev pub run_of : (most usual : ℕ) → (dump : Option Text) → (Text → Option Text) → Option Running
+run_of most usual dump value =
     run_by (value (codes "FILE")) (option_and_then (number_of most_clocks) (value (codes "CLOCKS")))
-    (value (codes "pins")) (turns_by (value (codes "turns"))) (dump_by (value (codes "dump")))
+    (value (codes "pins")) (turns_by most usual (value (codes "turns"))) (dump_by dump)
+
+-- a run that is traced, and one that is saved
+abbrev pub traced_of : (Text → Option Text) → Option Running
+traced_of value = run_of most_turns usual_turns (value (codes "dump")) value
+
+abbrev pub saved_of : (Text → Option Text) → Option Running
+saved_of value = run_of most_saved_turns most_saved_turns None value
 
 -- a flag with this value is given
 abbrev pub is_given : Option Text → Bool
 is_given None = false
 is_given (Some value) = bytes_eq value (codes "true")
 
--- `--alone` is given
-abbrev pub is_alone : (Text → Option Text) → Bool
-is_alone value = is_given (value (codes "alone"))
+-- the flag of this name is given
+abbrev pub has_flag : Text → (Text → Option Text) → Bool
+has_flag name value = is_given (value name)
+
+abbrev pub check_by : (raw : Bool) → (file history script : Option Text) → Option Command
+check_by raw (Some file) (Some history) script = Some (Check raw file history script)
+check_by raw _ _ script = None
+
+abbrev pub check_of : (Text → Option Text) → Option Command
+check_of value = check_by (has_flag (codes "raw") value) (value (codes "FILE")) (value (codes "HISTORY")) (value (codes "pins"))
 
 abbrev pub seed_of : (Text → Option Text) → Option ℕ
 seed_of value = option_and_then (number_of most_seed) (value (codes "SEED"))
@@ -86,10 +103,12 @@ convert_of file = option_map (λ kind. Convert kind file) (kind_named file)
 abbrev pub meaning_of : Subcommand → (Text → Option Text) → Option Command
 meaning_of named.Build value = option_map BuildSource (value (codes "FILE"))
 meaning_of named.List value = option_map ListSource (value (codes "FILE"))
-meaning_of named.Raw value = option_map RunMemory (run_of value)
-meaning_of named.Run value = option_map (RunProgram (is_alone value)) (run_of value)
+meaning_of named.Raw value = option_map RunMemory (traced_of value)
+meaning_of named.Run value = option_map (RunProgram (has_flag (codes "alone") value)) (traced_of value)
+meaning_of named.Save value = option_map (Save (has_flag (codes "raw") value)) (saved_of value)
+meaning_of named.Check value = check_of value
 meaning_of named.Convert value = option_and_then convert_of (value (codes "FILE"))
-meaning_of named.Make value = option_map (Make (is_alone value)) (seed_of value)
+meaning_of named.Make value = option_map (Make (has_flag (codes "alone") value)) (seed_of value)
 meaning_of named.Help value = option_map Help (topic_of (value (codes "COMMAND")))
 
 -- ---- the law of all words

@@ -65,6 +65,10 @@ most_turns = 1000000
 abbrev pub usual_turns : ℕ
 usual_turns = 100000
 
+-- the greatest number of turns of a history that is kept in a file, and how many it has at most where none is asked for
+abbrev pub most_saved_turns : ℕ
+most_saved_turns = 40000
+
 -- the greatest seed of a made program
 abbrev pub most_seed : ℕ
 most_seed = 4294967295

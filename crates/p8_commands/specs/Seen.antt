@@ -6,10 +6,10 @@ use Rattle.p8_commands.specs.declared.table.Row.{Row}
 use Rattle.p8_commands.specs.declared.command.Command.{Command as CommandRead}
 use Rattle.p8_commands.specs.declared.command.Command.TheVariants as read
 use Rattle.p8_commands.specs.declared.command.Run.{Run as RunRead}
-use Rattle.p8_commands.specs.Commands.{Command, Running, BuildSource, ListSource, RunMemory, RunProgram, Convert, Make, Help}
+use Rattle.p8_commands.specs.Commands.{Command, Running, BuildSource, ListSource, RunMemory, RunProgram, Save, Check, Convert, Make, Help}
 use Rattle.p8_commands.specs.Table.{Argument, Entry}
 use Rattle.p8_commands.specs.Naming.{name_of}
-use Rattle.p8_commands.specs.Numbers.{most_clocks, most_turns}
+use Rattle.p8_commands.specs.Numbers.{most_clocks, most_turns, most_saved_turns}
 use Rattle.p8_commands.specs.Ranges.{IsInRam}
 
 abbrev pub argument_of : ArgumentHeld → Argument
@@ -26,6 +26,8 @@ command_read (read.Build file) = BuildSource file.now
 command_read (read.List file) = ListSource file.now
 command_read (read.Raw run) = RunMemory (running run)
 command_read (read.Run run alone) = RunProgram alone (running run)
+command_read (read.Save raw run) = Save raw (running run)
+command_read (read.Check raw file history script) = Check raw file.now history.now (name_of script)
 command_read (read.Convert kind file) = Convert kind file.now
 command_read (read.Make seed alone) = Make alone seed
 command_read (read.Help topic) = Help topic
@@ -45,4 +47,5 @@ IsWithin run = (run.clocks ≤ most_clocks) × (run.turns ≤ most_turns) × IsI
 abbrev pub HasLimits : CommandRead → Type 0
 HasLimits (read.Raw run) = IsWithin run
 HasLimits (read.Run run alone) = IsWithin run
+HasLimits (read.Save raw run) = IsWithin run × (run.turns ≤ most_saved_turns)
 HasLimits _ = Unit {0}

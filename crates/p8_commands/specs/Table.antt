@@ -44,11 +44,25 @@ pins = valued (codes "pins") (codes "F") (codes "a pin script, which gives the l
 abbrev pub turns : Argument
 turns = valued (codes "turns") (codes "K") (codes "how many turns are made at most: 1 to 10 digits, at most 1000000; else 100000")
 
+abbrev pub saved_turns : Argument
+saved_turns = valued (codes "turns") (codes "K") (codes "how many turns are made at most: 1 to 10 digits, at most 40000; else 40000")
+
 abbrev pub dump : Argument
-dump = valued (codes "dump") (codes "A:N") (codes "adds N bytes of hub RAM from the address A on: 4 hexadecimal digits, and 1 to 5 digits, at least 1, with A + N at most 32768")
+dump =
+    valued (codes "dump") (codes "A:N")
+    (codes "adds N bytes of hub RAM from the address A on: 4 hexadecimal digits, and 1 to 5 digits, at least 1, with A + N at most 32768")
+
+abbrev pub flag : Text → Text → Argument
+flag name about = record { kind = Flag; name = name; value = []; about = about }
 
 abbrev pub alone : Argument
-alone = record { kind = Flag; name = codes "alone"; value = []; about = codes "one thread makes all turns, in place of eight" }
+alone = flag (codes "alone") (codes "one thread makes all turns, in place of eight")
+
+abbrev pub raw : Argument
+raw = flag (codes "raw") (codes "FILE has the bytes of hub memory from address 0000 on, at most 32768; cog 0 starts on them as PASM")
+
+abbrev pub any_file : Argument
+any_file = operand (codes "FILE") (codes "an image where the name ends in .binary or .eeprom, and else a source in Spin; with --raw hub memory")
 
 -- the arguments that follow the file in each run
 abbrev pub run_options : List Argument
@@ -81,6 +95,18 @@ entry_of named.Run = record {
   about = codes "Runs an image or a source up to a clock, and writes the trace.";
   example = codes "prop run blink.spin 20000 --dump 0000:16";
 }
+entry_of named.Save = record {
+  word = codes "save";
+  arguments = any_file ∷ clocks ∷ pins ∷ saved_turns ∷ raw ∷ [];
+  about = codes "Runs a file up to a clock, and writes the history, from which check tells whether a run has it.";
+  example = codes "prop save blink.spin 20000";
+}
+entry_of named.Check = record {
+  word = codes "check";
+  arguments = any_file ∷ operand (codes "HISTORY") (codes "the history of a run of FILE, as save writes it") ∷ pins ∷ raw ∷ [];
+  about = codes "Checks that a history is that of a run of a file: writes its number of turns, or tells the first turn that isn't.";
+  example = codes "prop check blink.spin blink.history";
+}
 entry_of named.Convert = record {
   word = codes "convert";
   arguments = operand (codes "FILE") (codes "an image, whose name ends in .binary or .eeprom") ∷ [];
@@ -102,7 +128,7 @@ entry_of named.Help = record {
 
 -- all commands, in the order in which they are told
 abbrev pub subcommands : List Subcommand
-subcommands = named.Build ∷ named.List ∷ named.Raw ∷ named.Run ∷ named.Convert ∷ named.Make ∷ named.Help ∷ []
+subcommands = named.Build ∷ named.List ∷ named.Raw ∷ named.Run ∷ named.Save ∷ named.Check ∷ named.Convert ∷ named.Make ∷ named.Help ∷ []
 
 -- the command that a word names
 unfoldable pub subcommand_named : Text → Option Subcommand

@@ -24,19 +24,49 @@ pub struct Run<'a> {
 #[derive(Clone, Copy)]
 pub enum Command<'a> {
     /// Writes the image of a source.
-    Build { file: &'a str },
+    Build {
+        file: &'a str,
+    },
     /// Writes the listing of a source.
-    List { file: &'a str },
+    List {
+        file: &'a str,
+    },
     /// Writes the trace of a run of hub memory, by one thread.
-    Raw { run: Run<'a> },
+    Raw {
+        run: Run<'a>,
+    },
     /// Writes the trace of a run of an image or a source, by one thread or by a crew.
-    Run { run: Run<'a>, alone: bool },
+    Run {
+        run: Run<'a>,
+        alone: bool,
+    },
+    /// Writes the history of a run as a file. What is run is hub memory where it is raw, and else an image or a source.
+    Save {
+        raw: bool,
+        run: Run<'a>,
+    },
+    /// Checks that a history file is that of a run of a file, which is hub memory where it is raw, and else an image or a source.
+    Check {
+        raw: bool,
+        file: &'a str,
+        history: &'a str,
+        /// The file of a pin script.
+        script: Option<&'a str>,
+    },
     /// Writes an image of this kind as the other kind of file.
-    Convert { kind: ImageKind, file: &'a str },
+    Convert {
+        kind: ImageKind,
+        file: &'a str,
+    },
     /// Writes the summary of a run of the made program of a seed, by one thread or by a crew.
-    Make { seed: u32, alone: bool },
+    Make {
+        seed: u32,
+        alone: bool,
+    },
     /// Tells of one command, or of all of them.
-    Help { topic: Option<Subcommand> },
+    Help {
+        topic: Option<Subcommand>,
+    },
 }
 
 impl Command<'_> {
@@ -46,7 +76,8 @@ impl Command<'_> {
     {
         match self {
             Command::Build { .. } | Command::List { .. } => true,
-            Command::Raw { .. } | Command::Convert { .. } => true,
+            Command::Raw { .. } | Command::Save { .. } => true,
+            Command::Check { .. } | Command::Convert { .. } => true,
             Command::Help { .. } => true,
             Command::Run { alone, .. } => alone,
             Command::Make { alone, .. } => alone,

@@ -1,7 +1,8 @@
 // Numbers and ranges in the words of the command line.
 ghost use Rattle.std.specs.Prelude.{◌≡◌, ◌<◌, ◌≤◌, Some, None, ℕ, length, IfSome};
 ghost use Rattle.std.specs.Option.{ForSome};
-ghost use Rattle.p8_commands.specs.Numbers.{number_of, count_of, range_of, range_by, address_by, hexadecimal_digit as hexadecimal_digit_of, value_within, most_seed};
+ghost use Rattle.p8_commands.specs.Numbers.{number_of, count_of, range_of, range_by};
+ghost use Rattle.p8_commands.specs.Numbers.{address_by, hexadecimal_digit as hexadecimal_digit_of, value_within, most_seed};
 ghost use Rattle.p8_commands.specs.Ranges.{IsInRam};
 
 /// The number of some decimal digits, or None where it is above a limit or another byte is among them.

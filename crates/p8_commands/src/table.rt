@@ -50,6 +50,10 @@ pub enum Subcommand {
     Raw,
     /// Runs an image or a source.
     Run,
+    /// Writes the history of a run as a file.
+    Save,
+    /// Checks a history file.
+    Check,
     /// Writes an image as the other kind of file.
     Convert,
     /// Runs a made program.
@@ -86,6 +90,13 @@ const TURNS: Argument = Argument {
     about: "how many turns are made at most: 1 to 10 digits, at most 1000000; else 100000",
 };
 
+const SAVED_TURNS: Argument = Argument {
+    kind: ArgumentKind::Valued,
+    name: "turns",
+    value: "K",
+    about: "how many turns are made at most: 1 to 10 digits, at most 40000; else 40000",
+};
+
 const DUMP: Argument = Argument {
     kind: ArgumentKind::Valued,
     name: "dump",
@@ -112,6 +123,27 @@ const PROGRAM_FILE: Argument = Argument {
     name: "FILE",
     value: "",
     about: "an image where the name ends in .binary or .eeprom, and else a source in Spin",
+};
+
+const ANY_FILE: Argument = Argument {
+    kind: ArgumentKind::Operand,
+    name: "FILE",
+    value: "",
+    about: "an image where the name ends in .binary or .eeprom, and else a source in Spin; with --raw hub memory",
+};
+
+const RAW: Argument = Argument {
+    kind: ArgumentKind::Flag,
+    name: "raw",
+    value: "",
+    about: "FILE has the bytes of hub memory from address 0000 on, at most 32768; cog 0 starts on them as PASM",
+};
+
+const HISTORY_FILE: Argument = Argument {
+    kind: ArgumentKind::Operand,
+    name: "HISTORY",
+    value: "",
+    about: "the history of a run of FILE, as save writes it",
 };
 
 const IMAGE_FILE: Argument = Argument {
@@ -145,6 +177,8 @@ impl Subcommand {
             Subcommand::List,
             Subcommand::Raw,
             Subcommand::Run,
+            Subcommand::Save,
+            Subcommand::Check,
             Subcommand::Convert,
             Subcommand::Make,
             Subcommand::Help,
@@ -179,6 +213,18 @@ impl Subcommand {
                 arguments: &[PROGRAM_FILE, CLOCKS, PINS, TURNS, DUMP, ALONE],
                 about: "Runs an image or a source up to a clock, and writes the trace.",
                 example: "prop run blink.spin 20000 --dump 0000:16",
+            },
+            Subcommand::Save => Row {
+                word: "save",
+                arguments: &[ANY_FILE, CLOCKS, PINS, SAVED_TURNS, RAW],
+                about: "Runs a file up to a clock, and writes the history, from which check tells whether a run has it.",
+                example: "prop save blink.spin 20000",
+            },
+            Subcommand::Check => Row {
+                word: "check",
+                arguments: &[ANY_FILE, HISTORY_FILE, PINS, RAW],
+                about: "Checks that a history is that of a run of a file: writes its number of turns, or tells the first turn that isn't.",
+                example: "prop check blink.spin blink.history",
             },
             Subcommand::Convert => Row {
                 word: "convert",

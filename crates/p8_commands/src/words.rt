@@ -2,9 +2,10 @@
 ghost use Rattle.std.specs.Prelude.{◌≡◌, ◌≤◌, Some, None, codes, map, option_map, option_and_then, string_bytes, IfOk, IfSome};
 ghost use Rattle.std.specs.Option.{ForSome};
 ghost use Rattle.clap.specs.Matches.{first_value, found_of};
-ghost use Rattle.p8_commands.specs.Commands.{command_of, said_to, meaning_of, run_of, turns_by, dump_by, is_given as is_given_by, is_alone as is_alone_by, seed_of, topic_of, convert_of};
+ghost use Rattle.p8_commands.specs.Commands.{command_of, said_to, meaning_of, run_of, traced_of, saved_of, turns_by};
+ghost use Rattle.p8_commands.specs.Commands.{dump_by, is_given as is_given_by, has_flag as has_flag_by, check_of, seed_of, topic_of, convert_of};
 ghost use Rattle.p8_commands.specs.Naming.{name_of};
-ghost use Rattle.p8_commands.specs.Numbers.{most_turns};
+ghost use Rattle.p8_commands.specs.Numbers.{most_turns, most_saved_turns};
 ghost use Rattle.p8_commands.specs.Ranges.{IsInRam};
 ghost use Rattle.p8_commands.specs.Seen.{command_if_any, run_if_any, IsWithin, HasLimits};
 
@@ -26,17 +27,22 @@ const MOST_TURNS: u64 = 1_000_000;
 /// How many turns a run makes at most where no number is asked for.
 const USUAL_TURNS: u64 = 100_000;
 
+/// The greatest number of turns of a history that is kept in a file, and how many it has at most where no number is asked for.
+const MOST_SAVED_TURNS: u64 = 40_000;
+
 /// The greatest seed of a made program.
 const MOST_SEED: u64 = 4_294_967_295;
 
-/// How many turns the value of `--turns` says, where it has one, or None for another spelling.
-fn turns_in(value: Option<&str>) -> Option<u64>
-    ensures turns { result ≡ turns_by (name_of value.entry) }
-    ensures within { ForSome result (λ turns. turns ≤ most_turns) }
+/// How many turns the value of `--turns` says, at most so many, or None for another spelling. Where it has no value it is the usual number.
+fn turns_in(value: Option<&str>, most: u64, usual: u64) -> Option<u64>
+    requires most { most ≤ most_turns }
+    requires usual { usual ≤ most }
+    ensures turns { result ≡ turns_by most usual (name_of value.entry) }
+    ensures within { ForSome result (λ turns. turns ≤ most) }
 {
     match value {
-        None => Some(USUAL_TURNS),
-        Some(text) => number_in(text.as_bytes(), MOST_TURNS),
+        None => Some(usual),
+        Some(text) => number_in(text.as_bytes(), most),
     }
 }
 
@@ -51,15 +57,24 @@ fn dump_in(value: Option<&str>) -> Option<Option<(u16, u16)>>
     }
 }
 
-/// A run by the values of the arguments that every run has, or None where one of them is lacking or has another spelling.
-fn run_in<'a>(matches: &ArgMatches<'a>) -> Option<Run<'a>>
-    ensures seen { run_if_any result ≡ run_of (first_value (found_of matches.now)) }
+/// A run by the values of the arguments that every run has, with the value of `--dump`, or None where one of them is lacking or has another
+/// spelling.
+fn run_in<'a>(
+    matches: &ArgMatches<'a>,
+    most: u64,
+    usual: u64,
+    dump: Option<&str>,
+) -> Option<Run<'a>>
+    requires most { most ≤ most_turns }
+    requires usual { usual ≤ most }
+    ensures seen { run_if_any result ≡ run_of most usual (name_of dump.entry) (first_value (found_of matches.now)) }
     ensures within { IfSome result IsWithin }
+    ensures turns { IfSome result (λ run. run.turns ≤ most) }
 {
     let file = matches.get_str("FILE")?;
     let clocks = number_in(matches.get_str("CLOCKS")?.as_bytes(), MOST_CLOCKS)?;
-    let turns = turns_in(matches.get_str("turns"))?;
-    let dump = dump_in(matches.get_str("dump"))?;
+    let turns = turns_in(matches.get_str("turns"), most, usual)?;
+    let dump = dump_in(dump)?;
     Some(Run {
         file,
         clocks,
@@ -67,6 +82,23 @@ fn run_in<'a>(matches: &ArgMatches<'a>) -> Option<Run<'a>>
         turns,
         dump,
     })
+}
+
+/// A run that is traced.
+fn traced_in<'a>(matches: &ArgMatches<'a>) -> Option<Run<'a>>
+    ensures seen { run_if_any result ≡ traced_of (first_value (found_of matches.now)) }
+    ensures within { IfSome result IsWithin }
+{
+    run_in(matches, MOST_TURNS, USUAL_TURNS, matches.get_str("dump"))
+}
+
+/// A run that is saved.
+fn saved_in<'a>(matches: &ArgMatches<'a>) -> Option<Run<'a>>
+    ensures seen { run_if_any result ≡ saved_of (first_value (found_of matches.now)) }
+    ensures within { IfSome result IsWithin }
+    ensures turns { IfSome result (λ run. run.turns ≤ most_saved_turns) }
+{
+    run_in(matches, MOST_SAVED_TURNS, MOST_SAVED_TURNS, None)
 }
 
 /// Whether a flag with this value is given.
@@ -79,11 +111,24 @@ fn is_given(value: Option<&str>) -> bool
     }
 }
 
-/// Whether `--alone` is given.
-fn is_alone(matches: &ArgMatches<'_>) -> bool
-    ensures { result ≡ is_alone_by (first_value (found_of matches.now)) }
+/// Whether the flag of this name is given.
+fn has_flag(matches: &ArgMatches<'_>, name: &str) -> bool
+    ensures { result ≡ has_flag_by name.now (first_value (found_of matches.now)) }
 {
-    is_given(matches.get_str("alone"))
+    is_given(matches.get_str(name))
+}
+
+/// The command to check a history file, or None where a file isn't named.
+fn check_in<'a>(matches: &ArgMatches<'a>) -> Option<Command<'a>>
+    ensures seen { command_if_any result ≡ check_of (first_value (found_of matches.now)) }
+    ensures within { IfSome result HasLimits }
+{
+    Some(Command::Check {
+        raw: has_flag(matches, "raw"),
+        file: matches.get_str("FILE")?,
+        history: matches.get_str("HISTORY")?,
+        script: matches.get_str("pins"),
+    })
 }
 
 /// The seed of a made program.
@@ -128,16 +173,21 @@ fn meaning_in<'a>(command: Subcommand, matches: &ArgMatches<'a>) -> Option<Comma
             file: matches.get_str("FILE")?,
         }),
         Subcommand::Raw => Some(Command::Raw {
-            run: run_in(matches)?,
+            run: traced_in(matches)?,
         }),
         Subcommand::Run => Some(Command::Run {
-            run: run_in(matches)?,
-            alone: is_alone(matches),
+            run: traced_in(matches)?,
+            alone: has_flag(matches, "alone"),
         }),
+        Subcommand::Save => Some(Command::Save {
+            raw: has_flag(matches, "raw"),
+            run: saved_in(matches)?,
+        }),
+        Subcommand::Check => check_in(matches),
         Subcommand::Convert => convert_in(matches.get_str("FILE")?),
         Subcommand::Make => Some(Command::Make {
             seed: seed_in(matches)?,
-            alone: is_alone(matches),
+            alone: has_flag(matches, "alone"),
         }),
         Subcommand::Help => Some(Command::Help {
             topic: topic_in(matches.get_str("COMMAND"))?,

@@ -21,7 +21,7 @@ use Rattle.p8_inputs.specs.declared.stop.Stop.TheVariants.{Unread, Missing, NoMe
 use Rattle.p8_inputs.specs.Programs.{fault_of}
 use Rattle.p8_inputs.specs.Sources.{HasOneOutcome, IsListingFrom}
 use Rattle.p8_inputs.specs.Inputs.{IsProgram, IsScriptFor, IsProgramUnread, HasFault}
-use Rattle.p8_inputs.specs.Asks.{Ask, program, listing, script, Given, bytes, lines, Gives, Give, StopsAtProgram, StopsAtScript, StopsAt, StopsFirst, Stops, IsOfFiles, HasOneReading}
+use Rattle.p8_inputs.specs.Asks.{Ask, program, listing, script, history, Given, bytes, lines, Gives, Give, StopsAtFile, StopsAtProgram, StopsAtScript, StopsAt, StopsFirst, Stops, IsOfFiles, HasOneReading}
 use Rattle.p8_inputs.proofs.Stopping.{first-or_memory}
 
 start-one : (file : Option (List ℕ)) (a b : List ℕ) → AreStartOf file a → AreStartOf file b → a ≡ b
@@ -73,6 +73,27 @@ module _ (files : List ℕ → Option (List ℕ)) where
 
   faulty-same : {a b : List ℕ} {f g : LoadFault} → (a ≡ b) × (f ≡ g) → BadProgram a f ≡ BadProgram b g
   faulty-same e = λ i. BadProgram (e.0 i) (e.1 i)
+
+  file-stop-one : (before now : ℕ) (file : List ℕ) (a b : Stop) → IsOfFiles a → IsOfFiles b → StopsAtFile (Some files) before now file a → StopsAtFile (Some files) before now file b → a ≡ b
+  file-stop-one before now file (Missing a) (Missing b) s t p q = ap Missing (p.0 ∙ sym q.0)
+  file-stop-one before now file (Unread a) b s t p q = absurd s
+  file-stop-one before now file NoMemory b s t p q = absurd s
+  file-stop-one before now file (Refused a m x) b s t p q = absurd p
+  file-stop-one before now file (BadProgram a f) b s t p q = absurd p
+  file-stop-one before now file (BadScript a m) b s t p q = absurd p
+  file-stop-one before now file a (Unread b) s t p q = absurd t
+  file-stop-one before now file a NoMemory s t p q = absurd t
+  file-stop-one before now file a (Refused b n y) s t p q = absurd q
+  file-stop-one before now file a (BadProgram b g) s t p q = absurd q
+  file-stop-one before now file a (BadScript b n) s t p q = absurd q
+
+  file-never_both : (before now : ℕ) (file xs : List ℕ) (stop : Stop) → IsOfFiles stop → IsRead (Some files) file xs → StopsAtFile (Some files) before now file stop → ⊥
+  file-never_both before now file xs (Missing name) s is stops = read-some file name xs is stops.0 stops.1
+  file-never_both before now file xs (Unread name) s is stops = s
+  file-never_both before now file xs NoMemory s is stops = s
+  file-never_both before now file xs (Refused name number place) s is stops = stops
+  file-never_both before now file xs (BadProgram name fault) s is stops = stops
+  file-never_both before now file xs (BadScript name line) s is stops = stops
 
   script-stop-one : (before now : ℕ) (file : List ℕ) (a b : Stop) → IsOfFiles a → IsOfFiles b → StopsAtScript (Some files) before now file a → StopsAtScript (Some files) before now file b → a ≡ b
   script-stop-one before now file (Missing a) (Missing b) s t p q = ap Missing (p.0 ∙ sym q.0)
@@ -172,6 +193,9 @@ module _ (files : List ℕ → Option (List ℕ)) where
     gives-one (program format file) (bytes xs) (bytes ys) p q = ap bytes (program-one format file xs ys p q)
     gives-one (listing file) (bytes xs) (bytes ys) p q = ap bytes (listing-one file xs ys p q)
     gives-one (script file) (lines xs) (lines ys) p q = ap lines (script-one file xs ys p q)
+    gives-one (history file) (bytes xs) (bytes ys) p q = ap bytes (read-one file xs ys p q)
+    gives-one (history file) (lines xs) b p q = absurd p
+    gives-one (history file) (bytes xs) (lines ys) p q = absurd q
     gives-one (program format file) (lines xs) b p q = absurd p
     gives-one (program format file) (bytes xs) (lines ys) p q = absurd q
     gives-one (listing file) (lines xs) b p q = absurd p
@@ -183,6 +207,7 @@ module _ (files : List ℕ → Option (List ℕ)) where
     stop-one before now (program format file) a b s t p q = program-stop-one before now format file a b s t p q
     stop-one before now (listing file) a b s t p q = program-stop-one before now Source file a b s t p q
     stop-one before now (script file) a b s t p q = script-stop-one before now file a b s t p q
+    stop-one before now (history file) a b s t p q = file-stop-one before now file a b s t p q
 
     never-both : (before now : ℕ) (ask : Ask) (given : Given) (stop : Stop) → IsOfFiles stop → Gives (Some files) ask given → StopsAt (Some files) before now ask stop → ⊥
     never-both before now (program format file) (bytes xs) stop s is stops = program-never_both before now format file xs stop s is stops
@@ -191,6 +216,8 @@ module _ (files : List ℕ → Option (List ℕ)) where
     never-both before now (program format file) (lines xs) stop s is stops = is
     never-both before now (listing file) (lines xs) stop s is stops = is
     never-both before now (script file) (bytes xs) stop s is stops = is
+    never-both before now (history file) (bytes xs) stop s is stops = file-never_both before now file xs stop s is stops
+    never-both before now (history file) (lines xs) stop s is stops = is
 
     -- ---- all asks
 
@@ -257,6 +284,7 @@ ask-unread-rose : (files : Files) (before now : ℕ) (ask : Ask) (name : List �
 ask-unread-rose files before now (program format file) name unread = program-unread-rose files before now format file name unread
 ask-unread-rose files before now (listing file) name unread = program-unread-rose files before now Source file name unread
 ask-unread-rose files before now (script file) name unread = unread.1
+ask-unread-rose files before now (history file) name unread = unread.1
 
 pub unread-rose : (files : Files) (before now : ℕ) (asks : List Ask) (name : List ℕ) → StopsFirst files before now asks (Unread name) → Rose before now
 unread-rose files before now [] name unread = absurd unread

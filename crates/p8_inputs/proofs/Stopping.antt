@@ -1,14 +1,16 @@
 -- Why there is nothing to run, by the step that finds it.
-use Rattle.std.proofs.Common.{◌≡◌, ◌⊎◌, ℕ, ◌≤◌, inl, inr, refl, sym, subst, List, ◌∷◌, Option, Some, None, arith}
+use Rattle.std.proofs.Common.{◌≡◌, ◌⊎◌, ℕ, ◌≤◌, inl, inr, refl, sym, subst, List, [], ◌∷◌, ◌++◌, Option, Some, None, arith}
 use Rattle.std.specs.Prelude.{Result, Ok, Err, IfErr, IsErrAnd}
 use Rattle.p8_io.specs.Counts.{Rose}
+use Rattle.p8_history.specs.Worlds.{Line}
 use Rattle.p8_io.specs.Shelves.{Files, IsLacking}
+use Rattle.p8_inputs.specs.declared.inputs.Inputs.{Inputs}
 use Rattle.p8_inputs.specs.declared.program.Format.{Format}
 use Rattle.p8_inputs.specs.declared.stop.Stop.{Stop}
 use Rattle.p8_inputs.specs.declared.stop.Stop.TheVariants.{Unread, Missing, NoMemory, Refused, BadProgram, BadScript}
-use Rattle.p8_inputs.specs.Inputs.{IsProgram}
-use Rattle.p8_inputs.specs.Asks.{Ask, program, script_ask, bytes, StopsAtProgram, StopsAtScript, StopsFirst, Stops}
-use Rattle.p8_inputs.specs.Steps.{StopsAtFile}
+use Rattle.p8_inputs.specs.Inputs.{IsProgram, IsScriptFor}
+use Rattle.p8_inputs.specs.Asks.{Ask, program, script_ask, run_asks, check_asks, history, Given, bytes, lines, Give, StopsAtFile, StopsAtProgram, StopsAtScript, StopsFirst, Stops}
+use Rattle.p8_inputs.specs.Runs.{Begins}
 
 -- an error that is handed on
 pub handed-on : {T E : Type 0} (r : Result T E) (e : E) (P : E → Type 0) → IsErrAnd r (λ given. given ≡ e) → P e → IfErr r P
@@ -75,3 +77,34 @@ file-stops files before now file NoMemory stops = tt
 file-stops files before now file (Refused name number place) stops = absurd stops
 file-stops files before now file (BadProgram name fault) stops = absurd stops
 file-stops files before now file (BadScript name line) stops = absurd stops
+
+-- ---- asks behind others
+
+file-since : (files : Files) (before between now : ℕ) (file : List ℕ) (stop : Stop) → before ≤ between → StopsAtFile files between now file stop → StopsAtFile files before now file stop
+file-since files before between now file (Unread name) later stops = (stops.0, since before between now later stops.1)
+file-since files before between now file (Missing name) later stops = (stops.0, lacking-since before between now files name later stops.1)
+file-since files before between now file NoMemory later stops = tt
+file-since files before between now file (Refused name number place) later stops = absurd stops
+file-since files before between now file (BadProgram name fault) later stops = absurd stops
+file-since files before between now file (BadScript name line) later stops = absurd stops
+
+module _ (files : Files) (before now : ℕ) where
+  -- asks are given something, and what is behind them stops
+  pub behind : (asks more : List Ask) (given : List Given) (stop : Stop) → Give files asks given → StopsFirst files before now more stop → StopsFirst files before now (asks ++ more) stop
+  behind [] more [] stop gives stops = stops
+  behind (ask ∷ asks) more (x ∷ given) stop gives stops = inr ((x, gives.0), behind asks more given stop gives.1 stops)
+  behind [] more (x ∷ given) stop gives stops = absurd gives
+  behind (ask ∷ asks) more [] stop gives stops = absurd gives
+
+-- what is given where there are a program and a pin script
+script-given : (files : Files) (named : Option (List ℕ)) (xs : List Line) → IsScriptFor files named xs → (given : List Given) × Give files (script_ask named) given
+script-given files None xs is = ([], tt)
+script-given files (Some file) xs is = (lines xs ∷ [], (is, tt))
+
+-- the program and the pin script are there, and the history file stops
+pub history-stops : (files : Files) (before between now : ℕ) (format : Format) (file recorded : List ℕ) (named : Option (List ℕ)) (inputs : Inputs) (stop : Stop) → before ≤ between → Begins files format file named inputs → StopsAtFile files between now recorded stop → Stops files before now (check_asks format file named recorded) stop
+history-stops files before between now format file recorded named inputs stop later begins stops =
+    let script = script-given files named inputs.script begins.5 in
+    first-stops files before now (check_asks format file named recorded) stop
+    (behind files before now (run_asks format file named) (history recorded ∷ []) (bytes begins.0 ∷ script.0) stop (begins.1, script.1)
+    (inl (file-since files before between now recorded stop later stops)))

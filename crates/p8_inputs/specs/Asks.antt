@@ -1,5 +1,5 @@
 -- What a command reads of a shelf: a list of asks, one after the other, and the first of them that stops it (this project's profile).
-use Rattle.std.specs.Prelude.{ℕ, ◌≡◌, ◌⊎◌, List, [], ◌∷◌, Option, Some, None}
+use Rattle.std.specs.Prelude.{ℕ, ◌≡◌, ◌⊎◌, List, [], ◌∷◌, ◌++◌, Option, Some, None}
 use Rattle.p8_history.specs.Worlds.{Line}
 use Rattle.p8_pins.specs.Scripts.{IsFault}
 use Rattle.p8_io.specs.Counts.{Rose}
@@ -11,13 +11,15 @@ use Rattle.p8_inputs.specs.declared.stop.Stop.TheVariants.{Unread, Missing, NoMe
 use Rattle.p8_inputs.specs.Inputs.{IsProgram, IsScriptFor, IsProgramMissing, IsProgramUnread, HasRefusal, HasFault}
 use Rattle.p8_inputs.specs.Sources.{IsListingFrom}
 
--- an ask: for the program of a file, by what the file is taken for; for the listing of a source; or for the pin script of a file
+-- an ask: for the program of a file, by what the file is taken for; for the listing of a source; for the pin script of a file; or for the
+-- bytes of a history file, whatever they are
 pub data Ask : Type 0 where
   program : Format → (file : List ℕ) → Ask
   listing : (file : List ℕ) → Ask
   script : (file : List ℕ) → Ask
+  history : (file : List ℕ) → Ask
 
--- what an ask is given: the bytes of a program or of a listing, or the lines of a pin script
+-- what an ask is given: the bytes of a program, of a listing or of a history file, or the lines of a pin script
 pub data Given : Type 0 where
   bytes : List ℕ → Given
   lines : List Line → Given
@@ -27,6 +29,14 @@ abbrev pub script_ask : Option (List ℕ) → List Ask
 script_ask None = []
 script_ask (Some file) = script file ∷ []
 
+-- a run asks for its program and then for its pin script
+abbrev pub run_asks : Format → (file : List ℕ) → (script : Option (List ℕ)) → List Ask
+run_asks format file named = program format file ∷ script_ask named
+
+-- a history is checked after both
+abbrev pub check_asks : Format → (file : List ℕ) → (script : Option (List ℕ)) → (recorded : List ℕ) → List Ask
+check_asks format file named recorded = run_asks format file named ++ history recorded ∷ []
+
 -- ---- what there is
 
 -- the shelf has this for an ask
@@ -34,9 +44,11 @@ abbrev pub Gives : Files → Ask → Given → Type 0
 Gives files (program format file) (bytes xs) = IsProgram files format file xs
 Gives files (listing file) (bytes xs) = IsListingFrom files file xs
 Gives files (script file) (lines xs) = IsScriptFor files (Some file) xs
+Gives files (history file) (bytes xs) = IsRead files file xs
 Gives files (program format file) (lines xs) = ⊥
 Gives files (listing file) (lines xs) = ⊥
 Gives files (script file) (bytes xs) = ⊥
+Gives files (history file) (lines xs) = ⊥
 
 -- it has these for the asks
 abbrev pub Give : Files → List Ask → List Given → Type 0
@@ -45,7 +57,31 @@ Give files (ask ∷ asks) (given ∷ more) = Gives files ask given × Give files
 Give files [] (given ∷ more) = ⊥
 Give files (ask ∷ asks) [] = ⊥
 
+-- what is among the things that are given: the first bytes, the lines, and the bytes behind the first thing
+abbrev pub bytes_in : List Given → List ℕ
+bytes_in [] = []
+bytes_in (bytes xs ∷ given) = xs
+bytes_in (lines xs ∷ given) = bytes_in given
+
+abbrev pub lines_in : List Given → List Line
+lines_in [] = []
+lines_in (bytes xs ∷ given) = lines_in given
+lines_in (lines xs ∷ given) = xs
+
+abbrev pub later_bytes_in : List Given → List ℕ
+later_bytes_in [] = []
+later_bytes_in (first ∷ given) = bytes_in given
+
 -- ---- what stops
+
+-- why there are no bytes of a file: it could not be read, or it is missing
+abbrev pub StopsAtFile : Files → (before now : ℕ) → (file : List ℕ) → Stop → Type 0
+StopsAtFile files before now file (Unread name) = (name ≡ file) × Rose before now
+StopsAtFile files before now file (Missing name) = (name ≡ file) × IsLacking before now files name
+StopsAtFile files before now file NoMemory = Unit {0}
+StopsAtFile files before now file (Refused name number place) = ⊥
+StopsAtFile files before now file (BadProgram name fault) = ⊥
+StopsAtFile files before now file (BadScript name line) = ⊥
 
 -- Why there is no program of a file, between the shelf's counts before and now: a file that could not be read or is missing, the
 -- source's first refusal, or the first fault of what is no source. Want of memory may always come.
@@ -72,6 +108,7 @@ abbrev pub StopsAt : Files → (before now : ℕ) → Ask → Stop → Type 0
 StopsAt files before now (program format file) stop = StopsAtProgram files before now format file stop
 StopsAt files before now (listing file) stop = StopsAtProgram files before now Source file stop
 StopsAt files before now (script file) stop = StopsAtScript files before now file stop
+StopsAt files before now (history file) stop = StopsAtFile files before now file stop
 
 -- The first ask that stops does so for this reason: it is the first one, or there is something for the first one and a later one stops.
 abbrev pub StopsFirst : Files → (before now : ℕ) → List Ask → Stop → Type 0

@@ -1,9 +1,10 @@
 -- What is run: bytes, by what they are taken for (this project's profile). Those of a source are its image.
-use Rattle.std.specs.Prelude.{ℕ, ◌≡◌, nat_le, if◌then◌else◌, List, length, Option, Some, None}
+use Rattle.std.specs.Prelude.{ℕ, ◌≡◌, nat_le, if◌then◌else◌, Bool, true, false, List, length, Option, Some, None}
 use Rattle.p8_words.specs.declared.failure.Fail.{Fail}
 use Rattle.p8_words.specs.declared.failure.Fail.TheVariants.{Refused, NoMemory}
 use Rattle.p8_access.specs.declared.kinds.Origin.{Origin}
 use Rattle.p8_access.specs.declared.kinds.Origin.TheVariants.{Pasm}
+use Rattle.p8_access.specs.declared.memory.Boot.{Boot}
 use Rattle.p8_access.specs.Boots.{ram_of}
 use Rattle.p8_history.specs.Worlds.{Line, World}
 use Rattle.p8_image.specs.declared.faults.LoadFault.{LoadFault}
@@ -28,6 +29,11 @@ format_by None = Source
 -- what a file to run is taken for, by its name: an image of a kind, or else a source
 abbrev pub format_named : List ℕ → Format
 format_named name = format_by (kind_named name)
+
+-- what it is taken for: hub memory where it is raw, and else by its name
+abbrev pub format_for : (raw : Bool) → List ℕ → Format
+format_for true name = Memory
+format_for false name = format_named name
 
 -- the first fault of what is run, if it can't be: hub memory has to fit the hub, and an image has rules of its own
 abbrev pub fault_of : Format → List ℕ → Option LoadFault
@@ -54,6 +60,10 @@ first_by Source bytes = start_of (header_of bytes)
 abbrev pub other_file : ImageKind → List ℕ → List ℕ
 other_file kind.Binary bytes = memory_of bytes
 other_file kind.Eeprom bytes = binary_of bytes
+
+-- the boot of what is run
+abbrev pub boot_by : Format → (bytes : List ℕ) → Boot
+boot_by format bytes = record { ram = memory_by format bytes; first = first_by format bytes }
 
 -- the world of what is run, with a pin script and limits
 abbrev pub world_of : Format → (bytes : List ℕ) → (script : List Line) → (clocks turns : ℕ) → World

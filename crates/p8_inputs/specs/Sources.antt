@@ -23,22 +23,26 @@ pub record IsBuiltFrom (files : Files) (top : List ℕ) (sources : List NamedSou
 -- these bytes are the image of the project of a top file
 abbrev pub IsImageFrom : Files → (top bytes : List ℕ) → Type 0
 IsImageFrom files top bytes =
-    (sources : List NamedSource) × (clock : Clock) × (objects : List ObjectPart) × IsBuiltFrom files top sources clock objects × (bytes ≡ image_of clock objects)
+    (sources : List NamedSource) × (clock : Clock) × (objects : List ObjectPart)
+    × IsBuiltFrom files top sources clock objects × (bytes ≡ image_of clock objects)
 
 -- this text is the listing of the project of a top file
 abbrev pub IsListingFrom : Files → (top text : List ℕ) → Type 0
 IsListingFrom files top text =
-    (sources : List NamedSource) × (clock : Clock) × (objects : List ObjectPart) × IsBuiltFrom files top sources clock objects × (text ≡ listing_of (map (λ source. source.name) sources) objects)
+    (sources : List NamedSource) × (clock : Clock) × (objects : List ObjectPart)
+    × IsBuiltFrom files top sources clock objects × (text ≡ listing_of (map (λ source. source.name) sources) objects)
 
 -- the project of a top file is refused: this file of it, with this number, at this place; while it is gathered, or else when it is built
 pub data IsRefusedFrom (files : Files) (top name : List ℕ) (number : ℕ) (place : Place) : Type 0 where
   while_gathered : GathersTo files top (refused name number place) → IsRefusedFrom files top name number place
-  when_built : (sources : List NamedSource) → GathersTo files top (project sources) → IsRefusedWith sources name (fault number place) → IsRefusedFrom files top name number place
+  when_built : (sources : List NamedSource) → GathersTo files top (project sources)
+      → IsRefusedWith sources name (fault number place) → IsRefusedFrom files top name number place
 
 -- Where a shelf tells its files, a source has one outcome.
 pub record HasOneOutcome (files : List ℕ → Option (List ℕ)) : Type 0 where
   pub one_image : (top : List ℕ) (some others : List NamedSource) (clock other : Clock) (objects parts : List ObjectPart)
-      → IsBuiltFrom (Some files) top some clock objects → IsBuiltFrom (Some files) top others other parts → (some ≡ others) × (clock ≡ other) × (objects ≡ parts)
+      → IsBuiltFrom (Some files) top some clock objects → IsBuiltFrom (Some files) top others other parts
+      → (some ≡ others) × (clock ≡ other) × (objects ≡ parts)
   pub not_missing : (before now : ℕ) (top name : List ℕ) (sources : List NamedSource) (clock : Clock) (objects : List ObjectPart)
       → IsBuiltFrom (Some files) top sources clock objects → ¬ Gathers (shelved (Some files) before now) top (missing name)
   pub not_refused : (top name : List ℕ) (number : ℕ) (place : Place) (sources : List NamedSource) (clock : Clock) (objects : List ObjectPart)

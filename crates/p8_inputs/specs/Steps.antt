@@ -1,12 +1,10 @@
 -- internal
--- Why one file gives nothing.
+-- What one file gives.
 use Rattle.std.specs.Prelude.{ℕ, ◌≡◌, List}
 use Rattle.p8_access.specs.declared.memory.Boot.{Boot}
-use Rattle.p8_io.specs.Counts.{Rose}
-use Rattle.p8_io.specs.Shelves.{Files, IsLacking, IsRead}
+use Rattle.p8_io.specs.Shelves.{Files}
 use Rattle.p8_inputs.specs.declared.program.Format.{Format}
-use Rattle.p8_inputs.specs.declared.stop.Stop.{Stop}
-use Rattle.p8_inputs.specs.declared.stop.Stop.TheVariants.{Unread, Missing, NoMemory}
+use Rattle.p8_inputs.specs.declared.program.Format.TheVariants.{Source}
 use Rattle.p8_inputs.specs.Inputs.{IsProgram}
 use Rattle.p8_inputs.specs.Programs.{memory_by, first_by}
 use Rattle.p8_inputs.specs.Runs.{HasProperTrees}
@@ -17,9 +15,7 @@ IsBootOf files format file boot =
     (bytes : List ℕ) × IsProgram files format file bytes × HasProperTrees files format file bytes
     × (boot.ram ≡ memory_by format bytes) × (boot.first ≡ first_by format bytes)
 
--- why a file gives no bytes
-abbrev pub StopsAtFile : Files → (before now : ℕ) → (file : List ℕ) → Stop → Type 0
-StopsAtFile files before now file (Unread name) = (name ≡ file) × Rose before now
-StopsAtFile files before now file (Missing name) = (name ≡ file) × IsLacking before now files name
-StopsAtFile files before now file NoMemory = Unit {0}
-StopsAtFile files before now file _ = ⊥
+-- a file of this format has the bytes that are run themselves
+abbrev pub IsOfBytes : Format → Type 0
+IsOfBytes Source = ⊥
+IsOfBytes format = Unit {0}

@@ -10,7 +10,8 @@ use Rattle.p8_inputs.specs.Refusals.{name_numbered}
 -- a place in a file, and what is wrong there
 abbrev pub refusal_line : (name : List ℕ) → (number : ℕ) → Place → List ℕ
 refusal_line name number place =
-    codes "prop: " ++ name ++ codes ":" ++ decimal place.line ++ codes ":" ++ decimal place.column ++ codes ": " ++ decimal number ++ codes " " ++ name_numbered number ++ 10 ∷ []
+    codes "prop: " ++ name ++ codes ":" ++ decimal place.line ++ codes ":" ++ decimal place.column
+    ++ codes ": " ++ decimal number ++ codes " " ++ name_numbered number ++ 10 ∷ []
 
 -- the line that tells it
 abbrev pub line_of : Stop → List ℕ

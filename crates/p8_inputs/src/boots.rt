@@ -6,6 +6,7 @@ ghost use Rattle.p8_image.specs.Loading.{image_in, memory_of, start_of};
 ghost use Rattle.p8_inputs.specs.Programs.{fault_of, memory_by, first_by, IsFaultOf};
 ghost use Rattle.p8_inputs.specs.declared.program.Format.TheVariants.{Memory, Image, Eeprom};
 
+use crate::program::Format;
 use p8_access::Boot;
 use p8_image::{LoadFault, load, load_eeprom};
 use p8_words::{Fail, NoMemory};
@@ -15,7 +16,7 @@ use std::alloc::Global;
 const HUB_BYTES: usize = 32_768;
 
 /// The boot of hub memory. It is refused exactly where it has more than 32,768 bytes.
-pub fn memory_boot(alloc: Global, bytes: &[u8]) -> Result<Boot, Fail<LoadFault>>
+fn memory_boot(alloc: Global, bytes: &[u8]) -> Result<Boot, Fail<LoadFault>>
     ensures ram { IfOk result (λ boot. boot.ram ≡ memory_by Memory bytes.now) }
     ensures first { IfOk result (λ boot. boot.first ≡ first_by Memory bytes.now) }
     ensures good { OnOk result (fault_of Memory bytes.now ≡ None) }
@@ -44,7 +45,7 @@ pub fn binary_boot(alloc: Global, image: &p8_image::Image) -> Result<Boot, NoMem
 }
 
 /// The boot of an image. Bytes that are none are refused with their first fault.
-pub fn image_boot(alloc: Global, bytes: &[u8]) -> Result<Boot, Fail<LoadFault>>
+fn image_boot(alloc: Global, bytes: &[u8]) -> Result<Boot, Fail<LoadFault>>
     ensures ram { IfOk result (λ boot. boot.ram ≡ memory_by Image bytes.now) }
     ensures first { IfOk result (λ boot. boot.first ≡ first_by Image bytes.now) }
     ensures good { OnOk result (fault_of Image bytes.now ≡ None) }
@@ -59,7 +60,7 @@ pub fn image_boot(alloc: Global, bytes: &[u8]) -> Result<Boot, Fail<LoadFault>>
 }
 
 /// The boot of the image that an `.eeprom` file holds. Bytes that are none are refused with their first fault.
-pub fn eeprom_boot(alloc: Global, bytes: &[u8]) -> Result<Boot, Fail<LoadFault>>
+fn eeprom_boot(alloc: Global, bytes: &[u8]) -> Result<Boot, Fail<LoadFault>>
     ensures ram { IfOk result (λ boot. boot.ram ≡ memory_by Eeprom bytes.now) }
     ensures first { IfOk result (λ boot. boot.first ≡ first_by Eeprom bytes.now) }
     ensures good { OnOk result (fault_of Eeprom bytes.now ≡ None) }
@@ -70,5 +71,20 @@ pub fn eeprom_boot(alloc: Global, bytes: &[u8]) -> Result<Boot, Fail<LoadFault>>
     match image.boot(alloc) {
         Ok(boot) => Ok(boot),
         Err(NoMemory) => Err(Fail::NoMemory),
+    }
+}
+
+/// The boot of bytes that are run, by what they are taken for; those of a source are its image. They are refused with their first fault.
+pub fn boot_of(alloc: Global, format: Format, bytes: &[u8]) -> Result<Boot, Fail<LoadFault>>
+    ensures ram { IfOk result (λ boot. boot.ram ≡ memory_by format bytes.now) }
+    ensures first { IfOk result (λ boot. boot.first ≡ first_by format bytes.now) }
+    ensures good { OnOk result (fault_of format bytes.now ≡ None) }
+    ensures refused { IfErr result (IsFaultOf format bytes.now) }
+    ensures proper { IfOk result (λ boot. IsProperOrigin boot.first) }
+{
+    match format {
+        Format::Memory => memory_boot(alloc, bytes),
+        Format::Eeprom => eeprom_boot(alloc, bytes),
+        Format::Image | Format::Source => image_boot(alloc, bytes),
     }
 }

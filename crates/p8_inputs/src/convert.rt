@@ -41,7 +41,8 @@ fn other_in<S: Shelf>(
     file: &str,
     shelf: &mut S,
 ) -> Result<Vec<u8>, Stop>
-    ensures text { IfOk result (λ text. (bytes : List ℕ) × IsProgram (S.files shelf.old) (format_of kind) file.now bytes × (text.items ≡ other_file kind bytes)) }
+    ensures text { IfOk result
+        (λ text. (bytes : List ℕ) × IsProgram (S.files shelf.old) (format_of kind) file.now bytes × (text.items ≡ other_file kind bytes)) }
     ensures stopped { IfErr result (StopsAtProgram (S.files shelf.old) (S.faults shelf.old) (S.faults shelf.new) (format_of kind) file.now) }
     ensures later { S.faults shelf.old ≤ S.faults shelf.new }
     ensures kept { S.files shelf.new ≡ S.files shelf.old }
@@ -69,7 +70,8 @@ pub fn other_image<S: Shelf>(
     file: &str,
     shelf: &mut S,
 ) -> Result<Vec<u8>, Stop>
-    ensures text { IfOk result (λ text. (bytes : List ℕ) × IsProgram (S.files shelf.old) (format_of kind) file.now bytes × (text.items ≡ other_file kind bytes)) }
+    ensures text { IfOk result
+        (λ text. (bytes : List ℕ) × IsProgram (S.files shelf.old) (format_of kind) file.now bytes × (text.items ≡ other_file kind bytes)) }
     ensures stopped { IfErr result (Stops (S.files shelf.old) (S.faults shelf.old) (S.faults shelf.new) (program_ask (format_of kind) file.now ∷ [])) }
     ensures later { S.faults shelf.old ≤ S.faults shelf.new }
     ensures kept { S.files shelf.new ≡ S.files shelf.old }

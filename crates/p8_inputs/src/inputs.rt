@@ -2,14 +2,14 @@
 ghost use Rattle.std.specs.Prelude.{◌≡◌, ◌≤◌, ◌∷◌, Some, IfOk, IfErr};
 ghost use Rattle.p8_access.specs.Proper.{IsProperOrigin};
 ghost use Rattle.p8_io.specs.Shelves.{IsRead};
-ghost use Rattle.p8_inputs.specs.Asks.{StopsAtProgram, StopsAtScript, Stops, program as program_ask, script_ask};
+ghost use Rattle.p8_inputs.specs.Asks.{StopsAtFile, StopsAtProgram, StopsAtScript, Stops, script_ask, run_asks, check_asks};
 ghost use Rattle.p8_inputs.specs.Inputs.{IsScriptFor};
 ghost use Rattle.p8_inputs.specs.Naming.{name_of};
 ghost use Rattle.p8_inputs.specs.Runs.{Begins};
-ghost use Rattle.p8_inputs.specs.Steps.{IsBootOf, StopsAtFile};
-ghost use Rattle.p8_inputs.specs.declared.program.Format.TheVariants.{Memory, Image, Eeprom, Source};
+ghost use Rattle.p8_inputs.specs.Steps.{IsBootOf, IsOfBytes};
+ghost use Rattle.p8_inputs.specs.declared.program.Format.TheVariants.{Source};
 
-use crate::boots::{binary_boot, eeprom_boot, image_boot, memory_boot};
+use crate::boots::{binary_boot, boot_of};
 use crate::program::{Format, Program};
 use crate::sources::image_in;
 use crate::stop::Stop;
@@ -29,6 +29,13 @@ pub struct Inputs {
     pub script: PinScript,
 }
 
+/// What a history file is checked against, and the file's bytes.
+#[derive(Drop)]
+pub struct Recorded {
+    pub inputs: Inputs,
+    pub history: Vec<u8>,
+}
+
 /// The bytes of a file.
 pub(crate) fn bytes_in<S: Shelf>(alloc: Global, file: &str, shelf: &mut S) -> Result<Vec<u8>, Stop>
     ensures read { IfOk result (λ bytes. IsRead (S.files shelf.old) file.now bytes.items) }
@@ -45,51 +52,18 @@ pub(crate) fn bytes_in<S: Shelf>(alloc: Global, file: &str, shelf: &mut S) -> Re
     }
 }
 
-/// The boot of a file of hub memory.
-fn memory_in<S: Shelf>(alloc: Global, file: &str, shelf: &mut S) -> Result<Boot, Stop>
-    ensures boot { IfOk result (IsBootOf (S.files shelf.old) Memory file.now) }
+/// The boot of a file that has the bytes which are run.
+fn file_in<S: Shelf>(alloc: Global, program: Program<'_>, shelf: &mut S) -> Result<Boot, Stop>
+    requires { IsOfBytes program.format }
+    ensures boot { IfOk result (IsBootOf (S.files shelf.old) program.entry.format program.entry.file.now) }
     ensures proper { IfOk result (λ boot. IsProperOrigin boot.first) }
-    ensures stopped { IfErr result (StopsAtProgram (S.files shelf.old) (S.faults shelf.old) (S.faults shelf.new) Memory file.now) }
+    ensures stopped { IfErr result (StopsAtProgram (S.files shelf.old) (S.faults shelf.old) (S.faults shelf.new) program.entry.format program.entry.file.now) }
     ensures later { S.faults shelf.old ≤ S.faults shelf.new }
     ensures kept { S.files shelf.new ≡ S.files shelf.old }
 {
-    let name = Text::copy_of(alloc, file.as_bytes())?;
-    let bytes = bytes_in(alloc, file, shelf)?;
-    match memory_boot(alloc, &bytes) {
-        Ok(boot) => Ok(boot),
-        Err(Fail::Refused(fault)) => Err(Stop::BadProgram { file: name, fault }),
-        Err(Fail::NoMemory) => Err(Stop::NoMemory),
-    }
-}
-
-/// The boot of an image.
-fn image_file_in<S: Shelf>(alloc: Global, file: &str, shelf: &mut S) -> Result<Boot, Stop>
-    ensures boot { IfOk result (IsBootOf (S.files shelf.old) Image file.now) }
-    ensures proper { IfOk result (λ boot. IsProperOrigin boot.first) }
-    ensures stopped { IfErr result (StopsAtProgram (S.files shelf.old) (S.faults shelf.old) (S.faults shelf.new) Image file.now) }
-    ensures later { S.faults shelf.old ≤ S.faults shelf.new }
-    ensures kept { S.files shelf.new ≡ S.files shelf.old }
-{
-    let name = Text::copy_of(alloc, file.as_bytes())?;
-    let bytes = bytes_in(alloc, file, shelf)?;
-    match image_boot(alloc, &bytes) {
-        Ok(boot) => Ok(boot),
-        Err(Fail::Refused(fault)) => Err(Stop::BadProgram { file: name, fault }),
-        Err(Fail::NoMemory) => Err(Stop::NoMemory),
-    }
-}
-
-/// The boot of an image in an `.eeprom` file.
-fn eeprom_file_in<S: Shelf>(alloc: Global, file: &str, shelf: &mut S) -> Result<Boot, Stop>
-    ensures boot { IfOk result (IsBootOf (S.files shelf.old) Eeprom file.now) }
-    ensures proper { IfOk result (λ boot. IsProperOrigin boot.first) }
-    ensures stopped { IfErr result (StopsAtProgram (S.files shelf.old) (S.faults shelf.old) (S.faults shelf.new) Eeprom file.now) }
-    ensures later { S.faults shelf.old ≤ S.faults shelf.new }
-    ensures kept { S.files shelf.new ≡ S.files shelf.old }
-{
-    let name = Text::copy_of(alloc, file.as_bytes())?;
-    let bytes = bytes_in(alloc, file, shelf)?;
-    match eeprom_boot(alloc, &bytes) {
+    let name = Text::copy_of(alloc, program.file.as_bytes())?;
+    let bytes = bytes_in(alloc, program.file, shelf)?;
+    match boot_of(alloc, program.format, &bytes) {
         Ok(boot) => Ok(boot),
         Err(Fail::Refused(fault)) => Err(Stop::BadProgram { file: name, fault }),
         Err(Fail::NoMemory) => Err(Stop::NoMemory),
@@ -118,10 +92,8 @@ fn boot_in<S: Shelf>(alloc: Global, program: Program<'_>, shelf: &mut S) -> Resu
     ensures kept { S.files shelf.new ≡ S.files shelf.old }
 {
     match program.format {
-        Format::Memory => memory_in(alloc, program.file, shelf),
-        Format::Image => image_file_in(alloc, program.file, shelf),
-        Format::Eeprom => eeprom_file_in(alloc, program.file, shelf),
         Format::Source => source_in(alloc, program.file, shelf),
+        Format::Memory | Format::Image | Format::Eeprom => file_in(alloc, program, shelf),
     }
 }
 
@@ -180,11 +152,38 @@ pub fn read_inputs<S: Shelf>(
 ) -> Result<Inputs, Stop>
     ensures begins { IfOk result (Begins (S.files shelf.old) program.entry.format program.entry.file.now (name_of script.entry)) }
     ensures proper { IfOk result (λ inputs. IsProperOrigin inputs.boot.first) }
-    ensures stopped { IfErr result (Stops (S.files shelf.old) (S.faults shelf.old) (S.faults shelf.new) (program_ask program.entry.format program.entry.file.now ∷ script_ask (name_of script.entry))) }
+    ensures stopped { IfErr result
+        (Stops (S.files shelf.old) (S.faults shelf.old) (S.faults shelf.new) (run_asks program.entry.format program.entry.file.now (name_of script.entry))) }
     ensures later { S.faults shelf.old ≤ S.faults shelf.new }
     ensures kept { S.files shelf.new ≡ S.files shelf.old }
 {
     let boot = boot_in(alloc, program, shelf)?;
     let script = script_for(alloc, script, shelf)?;
     Ok(Inputs { boot, script })
+}
+
+/// Reads what a run begins with, and then the bytes of a history file, whatever they are.
+///
+/// # Errors
+///
+/// Those of [`read_inputs`]; then, for the history file, `Missing`, `Unread` and `NoMemory` as there.
+pub fn read_recorded<S: Shelf>(
+    alloc: Global,
+    program: Program<'_>,
+    script: Option<&str>,
+    history: &str,
+    shelf: &mut S,
+) -> Result<Recorded, Stop>
+    ensures begins { IfOk result (λ read. Begins (S.files shelf.old) program.entry.format program.entry.file.now (name_of script.entry) read.inputs) }
+    ensures history { IfOk result (λ read. IsRead (S.files shelf.old) history.now read.history.items) }
+    ensures proper { IfOk result (λ read. IsProperOrigin read.inputs.boot.first) }
+    ensures stopped { IfErr result
+        (Stops (S.files shelf.old) (S.faults shelf.old) (S.faults shelf.new)
+        (check_asks program.entry.format program.entry.file.now (name_of script.entry) history.now)) }
+    ensures later { S.faults shelf.old ≤ S.faults shelf.new }
+    ensures kept { S.files shelf.new ≡ S.files shelf.old }
+{
+    let inputs = read_inputs(alloc, program, script, shelf)?;
+    let history = bytes_in(alloc, history, shelf)?;
+    Ok(Recorded { inputs, history })
 }

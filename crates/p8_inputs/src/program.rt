@@ -1,6 +1,6 @@
 // What is run.
 ghost use Rattle.std.specs.Prelude.{◌≡◌};
-ghost use Rattle.p8_inputs.specs.Programs.{format_named, format_of};
+ghost use Rattle.p8_inputs.specs.Programs.{format_for, format_named, format_of};
 
 use p8_commands::ImageKind;
 
@@ -35,6 +35,17 @@ impl Format {
         match ImageKind::named(file) {
             Some(kind) => Format::of(kind),
             None => Format::Source,
+        }
+    }
+
+    /// What a file to run is taken for: hub memory where it is raw, and else by its name.
+    pub fn chosen(raw: bool, file: &str) -> Format
+        ensures { result ≡ format_for raw file.now }
+    {
+        if raw {
+            Format::Memory
+        } else {
+            Format::named(file)
         }
     }
 }

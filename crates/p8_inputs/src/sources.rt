@@ -36,7 +36,8 @@ fn project_in<S: Shelf>(alloc: Global, file: &str, shelf: &mut S) -> Result<Proj
 
 /// Why a project isn't gathered.
 fn stop_of_gathering(fault: GatherFault) -> Stop
-    ensures { (files : Files) (before now : ℕ) (top : List ℕ) → Answers (shelved files before now) top (Err fault) → StopsAtProgram files before now Source top result }
+    ensures { (files : Files) (before now : ℕ) (top : List ℕ)
+        → Answers (shelved files before now) top (Err fault) → StopsAtProgram files before now Source top result }
 {
     match fault {
         GatherFault::Source {

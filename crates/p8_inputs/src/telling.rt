@@ -14,7 +14,8 @@ use p8_tree::Place;
 
 /// Writes the line of a file that could not be read.
 pub fn tell_unread<E: Sink>(file: &[u8], faults: &mut E)
-    ensures wrote { Wrote (E.faults faults.old) (E.faults faults.new) (E.taken faults.old) (E.taken faults.new) (codes "prop: cannot read " ++ file.now ++ 10 ∷ []) }
+    ensures wrote { Wrote (E.faults faults.old) (E.faults faults.new) (E.taken faults.old) (E.taken faults.new)
+        (codes "prop: cannot read " ++ file.now ++ 10 ∷ []) }
     ensures later { E.faults faults.old ≤ E.faults faults.new }
 {
     let _ = write_pieces(faults, &[b"prop: cannot read ", file, b"\n"]);
@@ -22,7 +23,8 @@ pub fn tell_unread<E: Sink>(file: &[u8], faults: &mut E)
 
 /// Writes the line of a file that doesn't exist.
 pub fn tell_missing<E: Sink>(file: &[u8], faults: &mut E)
-    ensures wrote { Wrote (E.faults faults.old) (E.faults faults.new) (E.taken faults.old) (E.taken faults.new) (codes "prop: " ++ file.now ++ codes " is missing" ++ 10 ∷ []) }
+    ensures wrote { Wrote (E.faults faults.old) (E.faults faults.new) (E.taken faults.old) (E.taken faults.new)
+        (codes "prop: " ++ file.now ++ codes " is missing" ++ 10 ∷ []) }
     ensures later { E.faults faults.old ≤ E.faults faults.new }
 {
     let _ = write_pieces(faults, &[b"prop: ", file, b" is missing", b"\n"]);
@@ -52,7 +54,8 @@ fn tell_place<'a, E: Sink>(
     name: &'a [u8],
     faults: &mut E,
 )
-    ensures wrote { Wrote (E.faults faults.old) (E.faults faults.new) (E.taken faults.old) (E.taken faults.new) (codes "prop: " ++ file.now ++ codes ":" ++ line.now ++ codes ":" ++ column.now ++ codes ": " ++ number.now ++ codes " " ++ name.now ++ 10 ∷ []) }
+    ensures wrote { Wrote (E.faults faults.old) (E.faults faults.new) (E.taken faults.old) (E.taken faults.new)
+        (codes "prop: " ++ file.now ++ codes ":" ++ line.now ++ codes ":" ++ column.now ++ codes ": " ++ number.now ++ codes " " ++ name.now ++ 10 ∷ []) }
     ensures later { E.faults faults.old ≤ E.faults faults.new }
 {
     let _ = write_pieces(
@@ -95,7 +98,8 @@ fn hex_digit(digit: u8) -> u8
 
 /// Writes the line of a file and its length, which is wrong.
 fn tell_length<E: Sink>(file: &[u8], length: usize, faults: &mut E)
-    ensures wrote { Wrote (E.faults faults.old) (E.faults faults.new) (E.taken faults.old) (E.taken faults.new) (codes "prop: " ++ file.now ++ codes ": length " ++ decimal length ++ 10 ∷ []) }
+    ensures wrote { Wrote (E.faults faults.old) (E.faults faults.new) (E.taken faults.old) (E.taken faults.new)
+        (codes "prop: " ++ file.now ++ codes ": length " ++ decimal length ++ 10 ∷ []) }
     ensures later { E.faults faults.old ≤ E.faults faults.new }
 {
     let mut digits = Buffer::new();
@@ -113,7 +117,8 @@ fn tell_length<E: Sink>(file: &[u8], length: usize, faults: &mut E)
 
 /// Writes the line of a file and the sum of its bytes, which is wrong.
 fn tell_sum<E: Sink>(file: &[u8], sum: u8, faults: &mut E)
-    ensures wrote { Wrote (E.faults faults.old) (E.faults faults.new) (E.taken faults.old) (E.taken faults.new) (codes "prop: " ++ file.now ++ codes ": sum " ++ hex_digit_of (sum / 16) ++ hex_digit_of (sum % 16) ++ 10 ∷ []) }
+    ensures wrote { Wrote (E.faults faults.old) (E.faults faults.new) (E.taken faults.old) (E.taken faults.new)
+        (codes "prop: " ++ file.now ++ codes ": sum " ++ hex_digit_of (sum / 16) ++ hex_digit_of (sum % 16) ++ 10 ∷ []) }
     ensures later { E.faults faults.old ≤ E.faults faults.new }
 {
     let digits = [hex_digit(sum / 16), hex_digit(sum % 16)];
@@ -122,7 +127,8 @@ fn tell_sum<E: Sink>(file: &[u8], sum: u8, faults: &mut E)
 
 /// Writes the line of a file and the place in its header that is wrong, by the place's name.
 fn tell_header<E: Sink>(file: &[u8], name: &str, faults: &mut E)
-    ensures wrote { Wrote (E.faults faults.old) (E.faults faults.new) (E.taken faults.old) (E.taken faults.new) (codes "prop: " ++ file.now ++ codes ": header " ++ name.now ++ 10 ∷ []) }
+    ensures wrote { Wrote (E.faults faults.old) (E.faults faults.new) (E.taken faults.old) (E.taken faults.new)
+        (codes "prop: " ++ file.now ++ codes ": header " ++ name.now ++ 10 ∷ []) }
     ensures later { E.faults faults.old ≤ E.faults faults.new }
 {
     let _ = write_pieces(
@@ -133,7 +139,8 @@ fn tell_header<E: Sink>(file: &[u8], name: &str, faults: &mut E)
 
 /// Writes the line of a file and what is wrong with it.
 pub fn tell_bad_program<E: Sink>(file: &[u8], fault: LoadFault, faults: &mut E)
-    ensures wrote { Wrote (E.faults faults.old) (E.faults faults.new) (E.taken faults.old) (E.taken faults.new) (codes "prop: " ++ file.now ++ codes ": " ++ fault_text fault ++ 10 ∷ []) }
+    ensures wrote { Wrote (E.faults faults.old) (E.faults faults.new) (E.taken faults.old) (E.taken faults.new)
+        (codes "prop: " ++ file.now ++ codes ": " ++ fault_text fault ++ 10 ∷ []) }
     ensures later { E.faults faults.old ≤ E.faults faults.new }
 {
     match fault {
@@ -145,7 +152,8 @@ pub fn tell_bad_program<E: Sink>(file: &[u8], fault: LoadFault, faults: &mut E)
 
 /// Writes the line of a pin script with a bad line.
 pub fn tell_bad_script<E: Sink>(file: &[u8], line: u32, faults: &mut E)
-    ensures wrote { Wrote (E.faults faults.old) (E.faults faults.new) (E.taken faults.old) (E.taken faults.new) (codes "prop: " ++ file.now ++ codes ": line " ++ decimal line ++ 10 ∷ []) }
+    ensures wrote { Wrote (E.faults faults.old) (E.faults faults.new) (E.taken faults.old) (E.taken faults.new)
+        (codes "prop: " ++ file.now ++ codes ": line " ++ decimal line ++ 10 ∷ []) }
     ensures later { E.faults faults.old ≤ E.faults faults.new }
 {
     let mut digits = Buffer::new();

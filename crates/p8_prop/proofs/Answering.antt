@@ -2,6 +2,7 @@
 use Rattle.std.proofs.Common.{◌≡◌, ◌≤◌, ap, sym, subst, refl, ℕ, inl, List, [], Option, Some, None}
 use Rattle.std.proofs.lemmas.List.{append-nil}
 use Rattle.std.specs.Prelude.{Result, Ok, Err, IfOk, IfErr}
+use Rattle.p8_verify.specs.declared.verdicts.Cause.{Cause}
 use Rattle.std.specs.declared.vec.Vec.{Vec}
 use Rattle.std.specs.declared.alloc.Global.{Global}
 use Rattle.p8_io.specs.Counts.{Rose}
@@ -11,12 +12,14 @@ use Rattle.p8_inputs.specs.declared.stop.Stop.TheVariants as stop
 use Rattle.p8_inputs.specs.Asks.{Stops, HasOneReading}
 use Rattle.p8_commands.specs.Commands.{Command}
 use Rattle.p8_prop.specs.declared.status.Status.{Status}
-use Rattle.p8_prop.specs.Headline.{IsHeadline}
-use Rattle.p8_prop.specs.Texts.{asks_of, IsAskedFor}
-use Rattle.p8_prop.specs.Verdicts.{Outside, ShelfSeen, SinkSeen, Verdict, unsaid, stopped, written, unwritten, StopsCommand, IsVerdict, IsOut, IsTold, status_of}
+use Rattle.p8_work.specs.declared.work.Answer.{Answer}
+use Rattle.p8_work.specs.declared.work.Answer.TheVariants.{Text, Bad}
+use Rattle.p8_work.specs.Texts.{asks_of}
+use Rattle.p8_work.specs.Works.{IsText, IsAnswerTo}
+use Rattle.p8_prop.specs.Verdicts.{Outside, SinkSeen, Verdict, unsaid, stopped, bad, written, unwritten, StopsCommand, IsVerdict, IsOut, IsTold, status_of}
 use Rattle.p8_prop.specs.Promises.{HasHeadline, Keeps}
-use Rattle.p8_prop.specs.Works.{IsText, IsFrom, IsAnswer}
-use Rattle.p8_prop.proofs.Completing.{one-verdict, complete}
+use Rattle.p8_prop.specs.Answers.{IsFrom, IsGiven, IsStopped, IsAnswer}
+use Rattle.p8_prop.proofs.Completing.{HasOneCheck, one-verdict, complete}
 
 -- the shelf kept its files, and no count fell
 abbrev pub IsKept : Outside → Type 0
@@ -31,25 +34,22 @@ no-headline : (o : Outside) (command : Option Command) (reason : Stop) → HasHe
 no-headline o None reason = tt
 no-headline o (Some command) reason = tt
 
--- the verdict of an answer, and its headline
-from-verdict : (o : Outside) (command : Command) (text : Result (Vec ℕ Global) Stop) (verdict : Verdict) → IsFrom text o.out verdict
-    → IfOk text (λ xs. IsText o.shelf.files command xs.items) → IfErr text (Stops o.shelf.files o.shelf.before o.shelf.now (asks_of command))
+-- the verdict on what came of a command, and its headline
+from-verdict : (o : Outside) (command : Command) (answer : Answer) (verdict : Verdict) → IsFrom answer o.out verdict → IsAnswerTo o.shelf.files command answer
     → IsVerdict o (Some command) verdict × HasHeadline o.shelf.files (Some command) verdict
-from-verdict o command (Ok xs) (written text) from is stops =
-    let moved : IsText o.shelf.files command text = subst (IsText o.shelf.files command) (sym from) is in
+from-verdict o command (Text text) (written other) from is =
+    let moved : IsText o.shelf.files command other = subst (IsText o.shelf.files command) (sym from) is in
     (moved.0, moved.1)
-from-verdict o command (Ok xs) (unwritten text) from is stops =
-    let moved : IsText o.shelf.files command text = subst (IsText o.shelf.files command) (sym from.0) is in
+from-verdict o command (Text text) (unwritten other) from is =
+    let moved : IsText o.shelf.files command other = subst (IsText o.shelf.files command) (sym from.0) is in
     ((moved.0, from.1), tt)
-from-verdict o command (Err reason) (stopped other) from is stops =
-    (subst (λ (r : Stop). Stops o.shelf.files o.shelf.before o.shelf.now (asks_of command) r) (sym from) stops, tt)
-from-verdict o command (Ok xs) unsaid from is stops = absurd from
-from-verdict o command (Ok xs) (stopped other) from is stops = absurd from
-from-verdict o command (Err reason) unsaid from is stops = absurd from
-from-verdict o command (Err reason) (written text) from is stops = absurd from
-from-verdict o command (Err reason) (unwritten text) from is stops = absurd from
+from-verdict o command (Text text) unsaid from is = absurd from
+from-verdict o command (Text text) (stopped reason) from is = absurd from
+from-verdict o command (Text text) (bad history turn cause) from is = absurd from
+from-verdict o command (Bad history turn cause) verdict from is =
+    subst (λ (v : Verdict). IsVerdict o (Some command) v × HasHeadline o.shelf.files (Some command) v) (sym from) (is, tt)
 
-module _ (one : (files : List ℕ → Option (List ℕ)) → HasOneReading files) where
+module _ (one_check : HasOneCheck) (one : (files : List ℕ → Option (List ℕ)) → HasOneReading files) where
   keeps : (o : Outside) (command : Option Command) (status : Status) (verdict : Verdict) → IsVerdict o command verdict → HasHeadline o.shelf.files command verdict
       → status ≡ status_of verdict → IsTold o.faults verdict → IsOut o.out verdict → IsKept o → Keeps o command status
   keeps o command status verdict is headline answered told out kept = record {
@@ -58,8 +58,8 @@ module _ (one : (files : List ℕ → Option (List ℕ)) → HasOneReading files
     answered = answered;
     told = told;
     out = out;
-    one_verdict = one-verdict one o command;
-    complete = complete one o command verdict is;
+    one_verdict = one-verdict one_check one o command;
+    complete = complete one_check one o command verdict is;
     headline = headline;
     kept = kept.0;
     shelf_later = kept.1;
@@ -67,12 +67,14 @@ module _ (one : (files : List ℕ → Option (List ℕ)) → HasOneReading files
     faults_later = kept.3;
   }
 
-  -- a command, by what is answered of its text
-  pub command-keeps : (o : Outside) (command : Command) (text : Result (Vec ℕ Global) Stop) (status : Status) → IsAnswer text o.out o.faults status
-      → IfOk text (λ xs. IsText o.shelf.files command xs.items) → IfErr text (Stops o.shelf.files o.shelf.before o.shelf.now (asks_of command)) → IsKept o → Keeps o (Some command) status
-  command-keeps o command text status answer is stops kept =
-      let from = from-verdict o command text answer.verdict answer.from is stops in
+  -- a command, by what is answered of what came of it
+  pub command-keeps : (o : Outside) (command : Command) (came : Result Answer Stop) (status : Status) → IsAnswer came o.out o.faults status
+      → IfOk came (IsAnswerTo o.shelf.files command) → IfErr came (Stops o.shelf.files o.shelf.before o.shelf.now (asks_of command)) → IsKept o → Keeps o (Some command) status
+  command-keeps o command (Ok came) status answer is stops kept =
+      let from = from-verdict o command came answer.verdict answer.from is in
       keeps o (Some command) status answer.verdict from.0 from.1 answer.answered answer.told answer.written_out kept
+  command-keeps o command (Err reason) status answer is stops kept =
+      keeps o (Some command) status (stopped reason) stops tt answer.answered answer.told answer.written_out kept
 
   -- words that are no command
   pub unsaid-keeps : (o : Outside) (command : Option Command) (status : Status) → command ≡ None → status ≡ status_of unsaid → IsTold o.faults unsaid → IsOut o.out unsaid → IsKept o → Keeps o command status
@@ -93,32 +95,35 @@ nothing-appended (Some xs) = ap Some (sym (append-nil xs))
 same-taken : (sink : SinkSeen) → sink.taken_now ≡ sink.taken → Appended sink.taken sink.taken_now []
 same-taken sink same = subst (λ (now : Option (List ℕ)). Appended sink.taken now []) (sym same) (nothing-appended sink.taken)
 
-pub wrote : (text : Vec ℕ Global) (out faults : SinkSeen) (status : Status) → status ≡ status_of (written text.items)
-    → Appended out.taken out.taken_now text.items → faults.taken_now ≡ faults.taken → IsAnswer (Ok text) out faults status
-wrote text out faults status answered appended same = record {
-  verdict = written text.items;
-  from = refl;
-  answered = answered;
-  told = inl (same-taken faults same);
-  written_out = appended;
-}
+module _ (text : Vec ℕ Global) (out faults : SinkSeen) (status : Status) where
+  pub wrote : status ≡ status_of (written text.items) → Appended out.taken out.taken_now text.items → faults.taken_now ≡ faults.taken → IsGiven (Text text) out faults status
+  wrote answered appended same = record {
+    verdict = written text.items;
+    from = refl;
+    answered = answered;
+    told = inl (same-taken faults same);
+    written_out = appended;
+  }
 
-pub not-wrote : (text : Vec ℕ Global) (out faults : SinkSeen) (status : Status) → status ≡ status_of (unwritten text.items)
-    → Rose out.before out.now → AppendedPrefix out.taken out.taken_now text.items → IsTold faults (unwritten text.items) → IsAnswer (Ok text) out faults status
-not-wrote text out faults status answered rose prefix told = record {
-  verdict = unwritten text.items;
-  from = (refl, rose);
-  answered = answered;
-  told = told;
-  written_out = prefix;
-}
+  pub not-wrote : status ≡ status_of (unwritten text.items) → Rose out.before out.now → AppendedPrefix out.taken out.taken_now text.items → IsTold faults (unwritten text.items) → IsGiven (Text text) out faults status
+  not-wrote answered rose prefix told = record {
+    verdict = unwritten text.items;
+    from = (refl, rose);
+    answered = answered;
+    told = told;
+    written_out = prefix;
+  }
 
-pub not-there : (reason : Stop) (out faults : SinkSeen) (status : Status) → status ≡ status_of (stopped reason)
-    → out.taken_now ≡ out.taken → IsTold faults (stopped reason) → IsAnswer (Err reason) out faults status
-not-there reason out faults status answered same told = record {
-  verdict = stopped reason;
+pub not-good : (history : List ℕ) (turn : ℕ) (cause : Cause) (out faults : SinkSeen) (status : Status) → status ≡ status_of (bad history turn cause)
+    → out.taken_now ≡ out.taken → IsTold faults (bad history turn cause) → IsGiven (Bad history turn cause) out faults status
+not-good history turn cause out faults status answered same told = record {
+  verdict = bad history turn cause;
   from = refl;
   answered = answered;
   told = told;
   written_out = same-taken out same;
 }
+
+pub not-there : (reason : Stop) (out faults : SinkSeen) (status : Status) → status ≡ status_of (stopped reason)
+    → out.taken_now ≡ out.taken → IsTold faults (stopped reason) → IsStopped reason out faults status
+not-there reason out faults status answered same told = record { answered = answered; told = told; written_out = same-taken out same }

@@ -1,45 +1,83 @@
 -- Where the shelf tells its files, there is one verdict.
 use Rattle.std.proofs.Common.{◌≡◌, ◌∙◌, ap, sym, subst, refl, ℕ, inl, inr, List, Option, Some, None}
+use Rattle.p8_access.specs.declared.memory.Boot.{Boot}
 use Rattle.p8_access.specs.declared.order.Turn.{Turn}
-use Rattle.p8_history.specs.Worlds.{World}
+use Rattle.p8_history.specs.Worlds.{Line, World}
 use Rattle.p8_history.proofs.OneHistory.{one-history}
 use Rattle.p8_lives.specs.Lives.{asks}
 use Rattle.p8_lives.specs.Laws.{one-asked}
-use Rattle.p8_report.specs.Text.{text_of}
-use Rattle.p8_made.specs.Summary.{made_world, summary_of}
+use Rattle.p8_verify.specs.declared.verdicts.Cause.{Cause}
+use Rattle.p8_verify.specs.declared.verdicts.Cause.TheVariants.{Form}
+use Rattle.p8_verify.specs.declared.verdicts.Verdict as checking
+use Rattle.p8_verify.specs.declared.verdicts.Verdict.TheVariants.{Good, Bad}
+use Rattle.p8_verify.specs.Verdicts as checks
+use Rattle.p8_finish.specs.declared.finish.Finish.{Finish}
+use Rattle.p8_finish.specs.declared.finish.Finish.TheVariants.{Trace, Summary, Saved}
+use Rattle.p8_finish.specs.Finishes.{told_by}
+use Rattle.p8_finish.specs.Checks.{good_line}
 use Rattle.p8_io.specs.Counts.{Rose}
 use Rattle.p8_io.specs.Shelves.{Files}
 use Rattle.p8_inputs.specs.declared.stop.Stop.{Stop}
 use Rattle.p8_inputs.specs.declared.stop.Stop.TheVariants as stop
 use Rattle.p8_inputs.specs.Asks.{Given, HasOneReading}
 use Rattle.p8_inputs.proofs.Deciding.{unread-rose}
-use Rattle.p8_commands.specs.Commands.{Command, BuildSource, ListSource, RunMemory, RunProgram, Convert, Make, Help}
-use Rattle.p8_prop.specs.Texts.{asks_of, IsTrace, IsSummary, IsTextOf, IsAskedFor}
-use Rattle.p8_prop.specs.Verdicts.{Outside, Verdict, unsaid, stopped, written, unwritten, StopsCommand, IsVerdict, IsCertain, status_of, HasOneVerdict, IsComplete}
+use Rattle.p8_commands.specs.Commands.{Command, BuildSource, ListSource, RunMemory, RunProgram, Save, Check, Convert, Make, Help}
+use Rattle.p8_work.specs.Texts.{asks_of, IsToldOf, IsTextOf, IsAskedFor, IsBadBy, IsBadHistory}
+use Rattle.p8_prop.specs.Verdicts.{Outside, Verdict, unsaid, stopped, bad, written, unwritten, StopsCommand, IsVerdict, IsCertain, status_of, HasOneVerdict, IsComplete}
 
 some-not_none : {A : Type 0} {a : A} → Some a ≡ None → ⊥
 some-not_none e = cc
 
+-- ---- one verdict on a history file
+
+-- the law that there is one
+abbrev pub HasOneCheck : Type 0
+HasOneCheck = (boot : Boot) (script : List Line) (xs : List ℕ) (v u : checking.Verdict) → checks.IsVerdict boot script xs v → checks.IsVerdict boot script xs u → v ≡ u
+
+abbrev number-of : checking.Verdict → ℕ
+number-of (Good count) = count
+number-of (Bad turn cause) = turn
+
+abbrev cause-of : checking.Verdict → Cause
+cause-of (Good count) = Form
+cause-of (Bad turn cause) = cause
+
+good-not_bad : {count turn : ℕ} {cause : Cause} → Good count ≡ Bad turn cause → ⊥
+good-not_bad e = cc
+
 -- ---- one text
 
-trace-one : (w : World) (dump : Option (ℕ × ℕ)) (a b : List ℕ) → IsTrace w dump a → IsTrace w dump b → a ≡ b
-trace-one w dump a b p q =
+told-one : (w : World) (finish : Finish) (a b : List ℕ) → IsToldOf w finish a → IsToldOf w finish b → a ≡ b
+told-one w finish a b p q =
     let past : p.0 ≡ q.0 = one-history asks w one-asked p.0 q.0 p.1 q.1 in
-    p.2 ∙ ap (λ (turns : List Turn). text_of w turns dump) past ∙ sym q.2
+    p.2 ∙ ap (told_by finish w) past ∙ sym q.2
 
-summary-one : (seed : ℕ) (a b : List ℕ) → IsSummary seed a → IsSummary seed b → a ≡ b
-summary-one seed a b p q =
-    let past : p.0 ≡ q.0 = one-history asks (made_world seed) one-asked p.0 q.0 p.1 q.1 in
-    p.2 ∙ ap (λ (turns : List Turn). summary_of seed (made_world seed) turns) past ∙ sym q.2
+module _ (one_check : HasOneCheck) where
+  text-one : (command : Command) (given : List Given) (a b : List ℕ) → IsTextOf command given a → IsTextOf command given b → a ≡ b
+  text-one (BuildSource file) given a b p q = p ∙ sym q
+  text-one (ListSource file) given a b p q = p ∙ sym q
+  text-one (RunMemory run) given a b p q = told-one _ (Trace run.dump) a b p q
+  text-one (RunProgram alone run) given a b p q = told-one _ (Trace run.dump) a b p q
+  text-one (Save raw run) given a b p q = told-one _ Saved a b p q
+  text-one (Check raw file history script) given a b p q =
+      let same : Good p.0 ≡ Good q.0 = one_check _ _ _ (Good p.0) (Good q.0) p.1 q.1 in
+      p.2 ∙ ap good_line (ap number-of same) ∙ sym q.2
+  text-one (Convert kind file) given a b p q = p ∙ sym q
+  text-one (Make alone seed) given a b p q = told-one _ (Summary seed) a b p q
+  text-one (Help topic) given a b p q = p ∙ sym q
 
-text-one : (command : Command) (given : List Given) (a b : List ℕ) → IsTextOf command given a → IsTextOf command given b → a ≡ b
-text-one (BuildSource file) given a b p q = p ∙ sym q
-text-one (ListSource file) given a b p q = p ∙ sym q
-text-one (RunMemory run) given a b p q = trace-one _ run.dump a b p q
-text-one (RunProgram alone run) given a b p q = trace-one _ run.dump a b p q
-text-one (Convert kind file) given a b p q = p ∙ sym q
-text-one (Make alone seed) given a b p q = summary-one seed a b p q
-text-one (Help topic) given a b p q = p ∙ sym q
+  -- a history that isn't good is so at one turn, for one cause
+  bad-one : (command : Command) (given : List Given) (a b : List ℕ) (m n : ℕ) (x y : Cause) → IsBadBy command given a m x → IsBadBy command given b n y → bad a m x ≡ bad b n y
+  bad-one (Check raw file history script) given a b m n x y p q =
+      let same : Bad m x ≡ Bad n y = one_check _ _ _ (Bad m x) (Bad n y) p.1 q.1 in
+      λ i. bad ((p.0 ∙ sym q.0) i) (number-of (same i)) (cause-of (same i))
+  bad-one _ given a b m n x y p q = absurd p
+
+  -- and then there is no text
+  bad-or_text : (command : Command) (given : List Given) (text name : List ℕ) (turn : ℕ) (cause : Cause) → IsTextOf command given text → IsBadBy command given name turn cause → ⊥
+  bad-or_text (Check raw file history script) given text name turn cause p q =
+      good-not_bad (one_check _ _ _ (Good p.0) (Bad turn cause) p.1 q.1)
+  bad-or_text _ given text name turn cause p q = q
 
 -- ---- one verdict
 
@@ -47,16 +85,31 @@ text-one (Help topic) given a b p q = p ∙ sym q
 abbrev with_files : Outside → Files → Outside
 with_files o files = record o { shelf = record o.shelf { files = files } }
 
-module _ (files : List ℕ → Option (List ℕ)) (one : HasOneReading files) where
+module _ (one_check : HasOneCheck) (files : List ℕ → Option (List ℕ)) (one : HasOneReading files) where
   asked-one : (command : Command) (a b : List ℕ) → IsAskedFor (Some files) command a → IsAskedFor (Some files) command b → a ≡ b
   asked-one command a b p q =
       let same : p.0 ≡ q.0 = one.one_given (asks_of command) p.0 q.0 p.1 q.1 in
-      text-one command q.0 a b (subst (λ (given : List Given). IsTextOf command given a) same p.2) q.2
+      text-one one_check command q.0 a b (subst (λ (given : List Given). IsTextOf command given a) same p.2) q.2
+
+  history-one : (command : Command) (a b : List ℕ) (m n : ℕ) (x y : Cause) → IsBadHistory (Some files) command a m x → IsBadHistory (Some files) command b n y → bad a m x ≡ bad b n y
+  history-one command a b m n x y p q =
+      let same : p.0 ≡ q.0 = one.one_given (asks_of command) p.0 q.0 p.1 q.1 in
+      bad-one one_check command q.0 a b m n x y (subst (λ (given : List Given). IsBadBy command given a m x) same p.2) q.2
+
+  history-or_text : (command : Command) (text name : List ℕ) (turn : ℕ) (cause : Cause) → IsAskedFor (Some files) command text → IsBadHistory (Some files) command name turn cause → ⊥
+  history-or_text command text name turn cause p q =
+      let same : p.0 ≡ q.0 = one.one_given (asks_of command) p.0 q.0 p.1 q.1 in
+      bad-or_text one_check command q.0 text name turn cause (subst (λ (given : List Given). IsTextOf command given text) same p.2) q.2
 
   verdict-one : (o : Outside) (command : Command) (a b : Verdict) → IsCertain a → IsCertain b → IsVerdict (with_files o (Some files)) (Some command) a → IsVerdict (with_files o (Some files)) (Some command) b → a ≡ b
   verdict-one o command (stopped x) (stopped y) s t p q = ap stopped (one.one_stop o.shelf.before o.shelf.now (asks_of command) x y s t p q)
+  verdict-one o command (stopped x) (bad b n y) s t p q = absurd (one.never_both o.shelf.before o.shelf.now (asks_of command) q.0 x s q.1 p)
   verdict-one o command (stopped x) (written y) s t p q = absurd (one.never_both o.shelf.before o.shelf.now (asks_of command) q.0 x s q.1 p)
+  verdict-one o command (bad a m x) (stopped y) s t p q = absurd (one.never_both o.shelf.before o.shelf.now (asks_of command) p.0 y t p.1 q)
+  verdict-one o command (bad a m x) (bad b n y) s t p q = history-one command a b m n x y p q
+  verdict-one o command (bad a m x) (written y) s t p q = absurd (history-or_text command y a m x q p)
   verdict-one o command (written x) (stopped y) s t p q = absurd (one.never_both o.shelf.before o.shelf.now (asks_of command) p.0 y t p.1 q)
+  verdict-one o command (written x) (bad b n y) s t p q = absurd (history-or_text command x b n y p q)
   verdict-one o command (written x) (written y) s t p q = ap written (asked-one command x y p q)
   verdict-one o command unsaid b s t p q = absurd (some-not_none p)
   verdict-one o command (unwritten x) b s t p q = absurd s
@@ -75,15 +128,16 @@ none-stopped o (stop.BadScript name line) s p = p
 none-one : (o : Outside) (a : Verdict) → IsCertain a → IsVerdict o None a → a ≡ unsaid
 none-one o unsaid s p = refl
 none-one o (stopped reason) s p = absurd (none-stopped o reason s p)
+none-one o (bad history turn cause) s p = absurd p
 none-one o (written text) s p = absurd p
 none-one o (unwritten text) s p = absurd s
 
-module _ (one : (files : List ℕ → Option (List ℕ)) → HasOneReading files) where
+module _ (one_check : HasOneCheck) (one : (files : List ℕ → Option (List ℕ)) → HasOneReading files) where
   pub one-verdict : (o : Outside) (command : Option Command) → HasOneVerdict o command
   one-verdict o None files a b told s t p q = none-one o a s p ∙ sym (none-one o b t q)
   one-verdict o (Some command) files a b told s t p q =
       subst (λ (f : Files). IsVerdict (with_files o f) (Some command) a → IsVerdict (with_files o f) (Some command) b → a ≡ b) (sym told)
-      (verdict-one files (one files) o command a b s t) p q
+      (verdict-one one_check files (one files) o command a b s t) p q
 
   -- a file that could not be read is one that the shelf has counted
   unread-risen : (o : Outside) (command : Option Command) (name : List ℕ) → IsVerdict o command (stopped (stop.Unread name)) → Rose o.shelf.before o.shelf.now
@@ -93,6 +147,7 @@ module _ (one : (files : List ℕ → Option (List ℕ)) → HasOneReading files
   -- what comes is due, or a count rose, or there was no memory
   pub complete : (o : Outside) (command : Option Command) (verdict : Verdict) → IsVerdict o command verdict → IsComplete o command verdict
   complete o command unsaid p files due told certain is quiet out_quiet = inl (one-verdict o command files unsaid due told tt certain p is)
+  complete o command (bad history turn cause) p files due told certain is quiet out_quiet = inl (one-verdict o command files (bad history turn cause) due told tt certain p is)
   complete o command (written text) p files due told certain is quiet out_quiet = inl (one-verdict o command files (written text) due told tt certain p is)
   complete o command (unwritten text) p files due told certain is quiet out_quiet =
       let same : written text ≡ due = one-verdict o command files (written text) due told tt certain p.0 is in

@@ -1,4 +1,3 @@
-mod Asking
-mod Coming
 mod Completing
+mod Doing
 mod Answering

@@ -1,7 +1,7 @@
 -- The exit status of each outcome (this project's profile).
 use Rattle.std.specs.Prelude.{ℕ}
 use Rattle.p8_prop.specs.declared.status.Status.{Status}
-use Rattle.p8_prop.specs.declared.status.Status.TheVariants.{Ok, Usage, Refused, ShelfFault, Missing, SinkFault, NoMemory, BadImage, BadScript}
+use Rattle.p8_prop.specs.declared.status.Status.TheVariants.{Ok, Usage, Refused, ShelfFault, Missing, SinkFault, NoMemory, BadImage, BadScript, BadHistory}
 
 abbrev pub code_of : Status → ℕ
 code_of Ok = 0
@@ -13,3 +13,4 @@ code_of SinkFault = 5
 code_of NoMemory = 6
 code_of BadImage = 7
 code_of BadScript = 8
+code_of BadHistory = 9

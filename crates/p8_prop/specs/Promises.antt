@@ -3,7 +3,7 @@ use Rattle.std.specs.Prelude.{ℕ, ◌≡◌, ◌≤◌, List, Option, Some}
 use Rattle.p8_io.specs.Shelves.{Files}
 use Rattle.p8_commands.specs.Commands.{Command}
 use Rattle.p8_prop.specs.declared.status.Status.{Status}
-use Rattle.p8_prop.specs.Headline.{IsHeadline}
+use Rattle.p8_work.specs.Headline.{IsHeadline}
 use Rattle.p8_prop.specs.Verdicts.{Outside, Verdict, written, status_of, IsVerdict, IsOut, IsTold, HasOneVerdict, IsComplete}
 
 -- the headline, of a text that was written
@@ -22,8 +22,8 @@ pub record Keeps (o : Outside) (command : Option Command) (status : Status) : Ty
   -- where the shelf tells its files there is one verdict, and it is the one that comes
   pub one_verdict : HasOneVerdict o command
   pub complete : IsComplete o command verdict
-  -- What a run prints with status 0 is the trace of the one rotation-ordered history of the eight-cog machine started from the image of
-  -- its program, whichever threads took its turns; and there the accesses of each life of Spin are, in order, those that its source
+  -- What a run prints with status 0 is the trace, or the file, of the one rotation-ordered history of the eight-cog machine started from the image
+  -- of its program, whichever threads took its turns; and there the accesses of each life of Spin are, in order, those that its source
   -- makes of the answers it got. The image that a build writes with status 0 keeps the meaning of its source: whichever of its methods
   -- a cog begins with, and whatever answers come, its bytecodes make the accesses that the source says, and never halt for a reason
   -- that the source doesn't have.

@@ -3,6 +3,8 @@ use Rattle.std.specs.Prelude.{ℕ, ◌≡◌, ◌⊎◌, List, [], ◌∷◌, �
 use Rattle.p8_io.specs.Counts.{Rose}
 use Rattle.p8_io.specs.Shelves.{Files}
 use Rattle.p8_io.specs.Sinks.{Appended, AppendedPrefix, Wrote}
+use Rattle.p8_verify.specs.declared.verdicts.Cause.{Cause}
+use Rattle.p8_finish.specs.Checks.{bad_line}
 use Rattle.p8_inputs.specs.declared.stop.Stop.{Stop}
 use Rattle.p8_inputs.specs.declared.stop.Stop.TheVariants as stop
 use Rattle.p8_inputs.specs.Asks.{Stops, IsOfFiles}
@@ -11,7 +13,7 @@ use Rattle.p8_commands.specs.Commands.{Command}
 use Rattle.p8_commands.specs.Pages.{usage_line}
 use Rattle.p8_prop.specs.declared.status.Status.{Status}
 use Rattle.p8_prop.specs.declared.status.Status.TheVariants as status
-use Rattle.p8_prop.specs.Texts.{asks_of, IsAskedFor}
+use Rattle.p8_work.specs.Texts.{asks_of, IsAskedFor, IsBadHistory}
 
 -- the shelf of a call as it is seen from outside: its files and its count of faults, before and now
 pub record ShelfSeen : Type 0 where
@@ -33,11 +35,12 @@ pub record Outside : Type 0 where
   pub out : SinkSeen
   pub faults : SinkSeen
 
--- How a call ends. The words are no command; or what the command reads stops it, for a reason; or its text was written; or that
--- could not be written, or only a part of it.
+-- How a call ends. The words are no command; or what the command reads stops it, for a reason; or the history file that it checks isn't that of the
+-- run, which shows at a turn; or its text was written; or that could not be written, or only a part of it.
 pub data Verdict : Type 0 where
   unsaid : Verdict
   stopped : Stop → Verdict
+  bad : (history : List ℕ) (turn : ℕ) → Cause → Verdict
   written : (text : List ℕ) → Verdict
   unwritten : (text : List ℕ) → Verdict
 
@@ -57,10 +60,15 @@ abbrev pub HasText : Outside → Option Command → List ℕ → Type 0
 HasText o None text = ⊥
 HasText o (Some command) text = IsAskedFor o.shelf.files command text
 
+abbrev pub HasBadHistory : Outside → Option Command → (history : List ℕ) → (turn : ℕ) → Cause → Type 0
+HasBadHistory o None history turn cause = ⊥
+HasBadHistory o (Some command) history turn cause = IsBadHistory o.shelf.files command history turn cause
+
 -- the order is that of the words, of what the command reads, of the run, and of printing
 abbrev pub IsVerdict : Outside → Option Command → Verdict → Type 0
 IsVerdict o command unsaid = command ≡ None
 IsVerdict o command (stopped reason) = StopsCommand o command reason
+IsVerdict o command (bad history turn cause) = HasBadHistory o command history turn cause
 IsVerdict o command (written text) = HasText o command text
 IsVerdict o command (unwritten text) = HasText o command text × Rose o.out.before o.out.now
 
@@ -78,6 +86,7 @@ stop_status (stop.BadScript file line) = status.BadScript
 abbrev pub status_of : Verdict → Status
 status_of unsaid = status.Usage
 status_of (stopped reason) = stop_status reason
+status_of (bad history turn cause) = status.BadHistory
 status_of (written text) = status.Ok
 status_of (unwritten text) = status.SinkFault
 
@@ -85,6 +94,7 @@ status_of (unwritten text) = status.SinkFault
 abbrev pub line_of : Verdict → List ℕ
 line_of unsaid = usage_line
 line_of (stopped reason) = stops.line_of reason
+line_of (bad history turn cause) = bad_line history turn cause
 line_of (written text) = []
 line_of (unwritten text) = codes "prop: cannot write" ++ 10 ∷ []
 
@@ -92,6 +102,7 @@ line_of (unwritten text) = codes "prop: cannot write" ++ 10 ∷ []
 abbrev pub IsOut : SinkSeen → Verdict → Type 0
 IsOut out unsaid = Appended out.taken out.taken_now []
 IsOut out (stopped reason) = Appended out.taken out.taken_now []
+IsOut out (bad history turn cause) = Appended out.taken out.taken_now []
 IsOut out (written text) = Appended out.taken out.taken_now text
 IsOut out (unwritten text) = AppendedPrefix out.taken out.taken_now text
 
@@ -105,13 +116,15 @@ IsTold faults verdict = Wrote faults.before faults.now faults.taken faults.taken
 abbrev pub IsCertain : Verdict → Type 0
 IsCertain unsaid = Unit {0}
 IsCertain (stopped reason) = IsOfFiles reason
+IsCertain (bad history turn cause) = Unit {0}
 IsCertain (written text) = Unit {0}
 IsCertain (unwritten text) = ⊥
 
 -- where the shelf tells its files, words have one such verdict: so one status is due, one line, and one text
 abbrev pub HasOneVerdict : Outside → Option Command → Type 0
 HasOneVerdict o command =
-    (files : List ℕ → Option (List ℕ)) (a b : Verdict) → o.shelf.files ≡ Some files → IsCertain a → IsCertain b → IsVerdict o command a → IsVerdict o command b → a ≡ b
+    (files : List ℕ → Option (List ℕ)) (a b : Verdict) → o.shelf.files ≡ Some files → IsCertain a → IsCertain b
+    → IsVerdict o command a → IsVerdict o command b → a ≡ b
 
 -- it is the one that is answered, where the shelf's count didn't rise, nor that of the output where a text is due, but for want of memory
 abbrev pub IsComplete : Outside → Option Command → Verdict → Type 0

@@ -1,15 +1,19 @@
 // Writes what came of a command, and tells how it ended.
 ghost use Rattle.std.specs.Prelude.{◌≡◌, ◌≤◌, ◌++◌, ◌∷◌, [], codes};
 ghost use Rattle.p8_commands.specs.Pages.{usage_line};
+ghost use Rattle.p8_finish.specs.Checks.{bad_line};
 ghost use Rattle.p8_inputs.specs.Stops.{line_of as stop_line};
 ghost use Rattle.p8_io.specs.Sinks.{Wrote};
 ghost use Rattle.p8_prop.specs.Verdicts.{stop_status};
-ghost use Rattle.p8_prop.specs.Works.{IsAnswer};
-ghost use Rattle.p8_prop.specs.declared.status.Status.TheVariants.{Usage, SinkFault};
+ghost use Rattle.p8_prop.specs.Answers.{IsAnswer, IsGiven};
+ghost use Rattle.p8_prop.specs.declared.status.Status.TheVariants.{Usage, SinkFault, BadHistory};
 
 use crate::status::Status;
+use p8_finish::tell_bad_history;
 use p8_inputs::Stop;
 use p8_io::{Sink, write_pieces};
+use p8_verify::Cause;
+use p8_work::Answer;
 
 /// The line of words that are no command.
 const USAGE: &[u8] =
@@ -59,13 +63,19 @@ fn unwritten<E: Sink>(faults: &mut E) -> Status
     Status::SinkFault
 }
 
-/// Writes the text of a command, where there is one, and tells how that ended.
-pub fn answered<K: Sink, E: Sink>(
-    text: Result<Vec<u8>, Stop>,
-    out: &mut K,
-    faults: &mut E,
-) -> Status
-    ensures answer { IsAnswer text
+/// Tells that a history file isn't that of the run.
+fn bad<E: Sink>(history: &[u8], turn: u64, cause: Cause, faults: &mut E) -> Status
+    ensures status { result ≡ BadHistory }
+    ensures wrote { Wrote (E.faults faults.old) (E.faults faults.new) (E.taken faults.old) (E.taken faults.new) (bad_line history.now turn cause) }
+    ensures later { E.faults faults.old ≤ E.faults faults.new }
+{
+    tell_bad_history(history, turn, cause, faults);
+    Status::BadHistory
+}
+
+/// Writes the text that came of a command, or tells what came in its place, and how that ended.
+fn given<K: Sink, E: Sink>(answer: &Answer, out: &mut K, faults: &mut E) -> Status
+    ensures answer { IsGiven answer.now
         (record {
           before = K.faults out.old;
           now = K.faults out.new;
@@ -82,11 +92,44 @@ pub fn answered<K: Sink, E: Sink>(
     ensures out_later { K.faults out.old ≤ K.faults out.new }
     ensures faults_later { E.faults faults.old ≤ E.faults faults.new }
 {
-    match text {
-        Ok(text) => match out.write(&text) {
+    match answer {
+        Answer::Text(text) => match out.write(text) {
             Ok(()) => Status::Ok,
             Err(_) => unwritten(faults),
         },
+        Answer::Bad {
+            history,
+            turn,
+            cause,
+        } => bad(history.as_slice(), *turn, *cause, faults),
+    }
+}
+
+/// Writes what came of a command, where anything did, and tells how that ended.
+pub fn answered<K: Sink, E: Sink>(
+    answer: Result<Answer, Stop>,
+    out: &mut K,
+    faults: &mut E,
+) -> Status
+    ensures answer { IsAnswer answer
+        (record {
+          before = K.faults out.old;
+          now = K.faults out.new;
+          taken = K.taken out.old;
+          taken_now = K.taken out.new;
+        })
+        (record {
+          before = E.faults faults.old;
+          now = E.faults faults.new;
+          taken = E.taken faults.old;
+          taken_now = E.taken faults.new;
+        })
+        result }
+    ensures out_later { K.faults out.old ≤ K.faults out.new }
+    ensures faults_later { E.faults faults.old ≤ E.faults faults.new }
+{
+    match answer {
+        Ok(answer) => given(&answer, out, faults),
         Err(stop) => stopped(&stop, faults),
     }
 }

@@ -2,58 +2,43 @@
 ghost use Rattle.std.specs.Prelude.{◌≡◌, ◌≤◌, reverse, IfOk};
 ghost use Rattle.p8_access.specs.Proper.{IsProperOrigin};
 ghost use Rattle.p8_history.specs.Histories.{Ended as HasEnded};
-ghost use Rattle.p8_history.specs.Worlds.{World};
 ghost use Rattle.p8_hub.specs.Standing.{IsHub};
 ghost use Rattle.p8_lives.specs.Lives.{asks};
 ghost use Rattle.p8_ledger.specs.Worlds.{world_of};
-ghost use Rattle.p8_prop.specs.Works.{told_by, CanBeMade, IsInRam, IsRunnable, IsTextOfWork, IsToldOf};
+ghost use Rattle.p8_work.specs.Texts.{IsToldOf};
+ghost use Rattle.p8_prop.specs.Answers.{CanBeDone, IsDone};
+ghost use Rattle.p8_work.specs.Works.{world_in, IsRunnable};
 
-use crate::work::{Finish, Work};
 use p8_crew::{Starter, run_crew};
-use p8_desk::{Desk, Start};
-use p8_ledger::Ended;
+use p8_desk::Desk;
+use p8_finish::{Finish, told};
+use p8_ledger::{Ended, Start};
 use p8_machine::run_alone;
-use p8_made::summary;
-use p8_report::trace;
 use p8_words::NoMemory;
+use p8_work::{Answer, Work};
 use std::alloc::Global;
 use std::sync::Wait;
 use std::thread::Threads;
 
-/// What is told of an ended history.
-fn told(alloc: Global, ended: &Ended, finish: Finish) -> Result<Vec<u8>, NoMemory>
-    requires { IsInRam finish }
-    ensures { (w : World)
-        → w.memory ≡ ended.now.history.boot.ram
-        → w.first ≡ ended.now.history.boot.first
-        → w.turns ≡ ended.now.history.limits.turns
-        → IsHub w (reverse ended.now.history.turns.list) ended.now.hub
-        → IfOk result (λ text. text.items ≡ told_by finish w (reverse ended.now.history.turns.list)) }
-{
-    match finish {
-        Finish::Trace { dump } => trace(alloc, ended, dump),
-        Finish::Summary { seed } => summary(alloc, seed, ended),
-    }
-}
-
 /// What is told of a run that one thread makes.
 fn told_alone(alloc: Global, start: Start, finish: Finish) -> Result<Vec<u8>, NoMemory>
     requires { IsRunnable start finish }
-    ensures { IfOk result (λ text. IsToldOf start finish text.items) }
+    ensures { IfOk result (λ text. IsToldOf (world_in start) finish text.items) }
 {
+    let script = start.script.copy(alloc)?;
     let ended = run_alone(alloc, start.boot, start.script, start.limits)?;
-    let text = told(alloc, &ended, finish)?;
+    let text = told(alloc, &ended, &script, finish)?;
     Ok(text)
 }
 
-/// The text of what a command comes to, where one thread makes all turns.
-pub fn text_of_alone(alloc: Global, work: Work) -> Result<Vec<u8>, NoMemory>
-    requires { CanBeMade work }
-    ensures { IfOk result (λ text. IsTextOfWork work text.items) }
+/// What comes of a command, where one thread makes all turns.
+pub fn done_alone(alloc: Global, work: Work) -> Result<Answer, NoMemory>
+    requires { CanBeDone work }
+    ensures { IfOk result (IsDone work) }
 {
     match work {
-        Work::Text(text) => Ok(text),
-        Work::Run { start, finish } => told_alone(alloc, start, finish),
+        Work::Done(answer) => Ok(answer),
+        Work::Run { start, finish } => Ok(Answer::Text(told_alone(alloc, start, finish)?)),
     }
 }
 
@@ -84,25 +69,29 @@ fn told_by_crew<R: Threads + Wait + Clone + Send + Drop + 'static, F: Starter>(
     finish: Finish,
 ) -> Result<Vec<u8>, NoMemory>
     requires { IsRunnable start finish }
-    ensures { IfOk result (λ text. IsToldOf start finish text.items) }
+    ensures { IfOk result (λ text. IsToldOf (world_in start) finish text.items) }
 {
+    let script = start.script.copy(alloc)?;
     let ended = run_by_crew(rt, alloc, starter, start)?;
-    let text = told(alloc, &ended, finish)?;
+    let text = told(alloc, &ended, &script, finish)?;
     Ok(text)
 }
 
-/// The text of what a command comes to, where a crew makes all turns.
-pub fn text_of_crew<R: Threads + Wait + Clone + Send + Drop + 'static, F: Starter>(
+/// What comes of a command, where a crew makes all turns.
+pub fn done_by_crew<R: Threads + Wait + Clone + Send + Drop + 'static, F: Starter>(
     rt: &R,
     alloc: Global,
     starter: &mut F,
     work: Work,
-) -> Result<Vec<u8>, NoMemory>
-    requires { CanBeMade work }
-    ensures { IfOk result (λ text. IsTextOfWork work text.items) }
+) -> Result<Answer, NoMemory>
+    requires { CanBeDone work }
+    ensures { IfOk result (IsDone work) }
 {
     match work {
-        Work::Text(text) => Ok(text),
-        Work::Run { start, finish } => told_by_crew(rt, alloc, starter, start, finish),
+        Work::Done(answer) => Ok(answer),
+        Work::Run { start, finish } => {
+            let text = told_by_crew(rt, alloc, starter, start, finish)?;
+            Ok(Answer::Text(text))
+        }
     }
 }

@@ -3,11 +3,9 @@
 
 mod answer;
 mod driver;
-mod laws;
 mod status;
 mod text;
 mod top;
-mod work;
 
 pub use status::Status;
 pub use top::{prop, prop_alone};

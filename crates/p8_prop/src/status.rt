@@ -23,10 +23,12 @@ pub enum Status {
     BadImage,
     /// A pin script is refused.
     BadScript,
+    /// A history file isn't the history of the run that it was checked against.
+    BadHistory,
 }
 
 impl Status {
-    /// The exit status of the program: 0 to 8, in the order of the variants.
+    /// The exit status of the program: 0 to 9, in the order of the variants.
     pub fn code(&self) -> u8
         ensures { result ≡ code_of self.now }
     {
@@ -40,6 +42,7 @@ impl Status {
             Status::NoMemory => 6,
             Status::BadImage => 7,
             Status::BadScript => 8,
+            Status::BadHistory => 9,
         }
     }
 }

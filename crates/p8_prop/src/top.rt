@@ -6,47 +6,47 @@ ghost use Rattle.p8_prop.specs.Promises.{Keeps};
 
 use crate::answer::{answered, stopped, unsaid};
 use crate::status::Status;
-use crate::text::{text_alone, text_by_crew};
+use crate::text::{answer_alone, answer_by_crew};
 use p8_commands::{Command, command_in};
 use p8_crew::Starter;
 use p8_inputs::{Stop, one_reading};
 use p8_io::{Shelf, Sink};
+use p8_verify::one_verdict;
 use p8_words::NoMemory;
 use std::alloc::Global;
 use std::sync::Wait;
 use std::thread::Threads;
 
-/// Does what the words say, and writes its text to `out`: `build FILE` the bytes of the image of a source, `list FILE` its listing,
-/// `raw FILE CLOCKS` the trace of a run of the file's bytes as hub memory, with cog 0 started on them as PASM,
-/// `run FILE CLOCKS` that of a run of an image, with cog 0 started as Spin by its header, `make SEED` a summary of a run of
-/// the made program of a seed, and `help` or `help COMMAND` what the commands are ([`help_page`](p8_commands::help_page)). `run` takes
-/// a file with a name that ends in `.binary` as an image and any other as a source, which it builds first. A source is the top file of a project: the files that its objects mention are read from the shelf too.
+/// Does what the words say, and writes its text to `out`. [`help_page`](p8_commands::help_page) tells each command with its arguments and their
+/// limits, and `help` and `help COMMAND` write that page.
 ///
-/// `words` are those after the program's name, and are read by the rules of `clap`: the first is the command's,
-/// and FILE and CLOCKS stand in this order, with options before, between and after them, each once at most,
-/// its value in the next word or after `=`. CLOCKS is one to ten decimal digits, at most 100,000,000: no turn is
-/// made at that clock or later. `--pins F` gives the levels of the input pins by a pin script, `--turns K` ends
-/// the run after K turns, one to ten decimal digits and at most 1,000,000, where it isn't given after 100,000,
-/// and `--dump A:N` adds a dump of N bytes from the address A on; A is four hexadecimal digits and N one to
-/// five decimal digits, at least 1, with A + N at most 32,768. SEED is one to ten decimal digits, at most 4,294,967,295.
-/// `--help` and `-h` are no command.
+/// - `build` and `list` write the image and the listing of a source;
+/// - `raw` and `run` write the trace of a run, `save` its history as a file, and `check` how many turns a history file has that is the one of
+///   a run;
+/// - `convert` writes an image as the other kind of file, and `make` the summary of a run of a made program.
 ///
-/// The turns of `run` and `make` are made by a crew of eight threads, which `starter` gives their work; where one of them
-/// isn't started, by this thread. `--alone` asks for this thread alone, which also makes the turns of `raw`. The text is the
-/// same in each case. With a crew this call may wait for its threads, and what it promises it promises where it returns.
+/// A file is taken for an image where its name ends in `.binary` or `.eeprom`, and else for the top file of a project of sources, which is built
+/// first: the files that its objects mention are read from the shelf too. `raw`, and `save` and `check` with `--raw`, take it for hub memory, with
+/// cog 0 started on it as PASM. `words` are those after the program's name, and are read by the rules of `clap`; `--help` and `-h` are no command.
 ///
-/// The words are looked at first, then the file with its project, then the pin script; then the run is made, and then its
-/// text is written. The shelf's files stay as they were, and no count of faults falls. Every status but `Ok` is told by one
-/// line on `faults`, and before the text is written nothing goes to `out`:
+/// The turns of `run` and `make` are made by a crew of eight threads, which `starter` gives their work; where one of them isn't started, by this
+/// thread. `--alone` asks for this thread alone, which also makes the turns of every other command. The text is the same in each case. With a crew
+/// this call may wait for its threads, and what it promises it promises where it returns.
+///
+/// The words are looked at first, then the file with its project, then the pin script, then the history file; then the run is made, and then its
+/// text is written. The shelf's files stay as they were, and no count of faults falls. Every status but `Ok` is told by one line on `faults`, and
+/// before the text is written nothing goes to `out`:
 ///
 /// - `Usage` exactly where the words are no command;
 /// - `Refused` exactly where the project of a source is refused, with the first refusal: of a file while the project is gathered
 ///   ([`gather`](p8_objects::gather)), or else when it is built ([`build`](p8_build::build));
 /// - `ShelfFault` only where the shelf has counted a fault;
 /// - `Missing` where the shelf has no file of that name, which the words or the project ask for;
-/// - `BadImage` exactly where the file is no image, with its first fault: of its length, of the sum of its bytes, of the
-///   places in its header; for `raw` exactly where it has more than 32,768 bytes;
+/// - `BadImage` exactly where the file is no image, with its first fault: of its length, of the sum of its bytes, of the places in its header; for
+///   hub memory exactly where it has more than 32,768 bytes;
 /// - `BadScript` exactly where the pin script has a bad line, or more than 1,048,576 bytes;
+/// - `BadHistory` exactly where the history file isn't that of the run, with the first turn of which that can be said, and why
+///   ([`verify`](p8_verify::verify));
 /// - `SinkFault` only where `out` has counted a fault; a prefix of the text is out then;
 /// - `NoMemory` where there was no memory, also for words that are no command.
 pub fn prop<
@@ -86,10 +86,11 @@ pub fn prop<
     }) (command_of (map string_bytes words.now)) result }
 {
     one_reading();
+    one_verdict();
     match command_in(alloc, words) {
         Ok(Some(command)) => {
             answered(
-                text_by_crew(rt, alloc, starter, command, shelf),
+                answer_by_crew(rt, alloc, starter, command, shelf),
                 out,
                 faults,
             )
@@ -130,8 +131,9 @@ pub fn prop_alone<S: Shelf, K: Sink, E: Sink>(
     }) (alone_of (command_of (map string_bytes words.now))) result }
 {
     one_reading();
+    one_verdict();
     match command_alone_in(alloc, words) {
-        Ok(Some(command)) => answered(text_alone(alloc, command, shelf), out, faults),
+        Ok(Some(command)) => answered(answer_alone(alloc, command, shelf), out, faults),
         Ok(None) => unsaid(faults),
         Err(NoMemory) => stopped(&Stop::NoMemory, faults),
     }

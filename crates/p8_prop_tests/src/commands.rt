@@ -16,6 +16,14 @@ const TEXT: &[u8] =
     locks ........\npins 00000000 00000000\ncog 0 stopped\ncog 1 stopped\ncog 2 stopped\n\
     cog 3 stopped\ncog 4 stopped\ncog 5 stopped\ncog 6 stopped\ncog 7 stopped\n0000: 00 1B\n";
 
+/// The history of a run of the image as hub memory up to clock 17: the load of cog 0.
+const HISTORY: &[u8] =
+    b"P8H1\x11\0\0\0\x40\x9C\0\0\x01\0\0\0\x10\0\0\0\0\x01\0\0\0\0\0\0\0\0\0\0\0\0\0\0\0\0\0\0";
+
+/// That of another cog.
+const OTHER_HISTORY: &[u8] =
+    b"P8H1\x11\0\0\0\x40\x9C\0\0\x01\0\0\0\x10\0\0\0\x01\x01\0\0\0\0\0\0\0\0\0\0\0\0\0\0\0\0\0\0";
+
 /// The listing of `PUB main`.
 const LISTING: &[u8] = b"object main.spin 0010\nmethod 1 0018\n0018 32\n";
 
@@ -69,7 +77,7 @@ fn words_of(alloc: Global, words: &[&str]) -> Result<Vec<String>, NoMemory> {
     Ok(line)
 }
 
-/// Makes a call of these words, where the shelf has an image, an empty file, a bad pin script, and a good and a bad source.
+/// Makes a call of these words, where the shelf has an image, an empty file, a bad pin script, a good and a bad source, and two history files.
 fn left_by(alloc: Global, words: &[&str], failing: Failing) -> Result<Left, NoMemory> {
     let mut shelf = MemShelf::new(alloc);
     shelf.add("a.binary", IMAGE)?;
@@ -77,6 +85,8 @@ fn left_by(alloc: Global, words: &[&str], failing: Failing) -> Result<Left, NoMe
     shelf.add("a.pins", b"9000 1")?;
     shelf.add("main.spin", b"PUB main\n")?;
     shelf.add("bad.spin", b"CON\n  a = 1\n")?;
+    shelf.add("a.history", HISTORY)?;
+    shelf.add("b.history", OTHER_HISTORY)?;
     let mut shelf = shelf.with(failing_at(alloc, failing.read)?);
     let mut out = MemSink::new(alloc, 4096)?.with(failing_at(alloc, failing.write)?);
     let mut faults = MemSink::new(alloc, 4096)?;
@@ -130,6 +140,31 @@ fn builds_lists_and_runs_a_source(rt: HostRuntime) -> Result<(), Fail> {
     let words = ["build", "bad.spin"];
     let line = "prop: bad.spin:1:1: 18 NoPub\n";
     assert!(rt; refused(rt.alloc(), &words, NOTHING, Status::Refused, line)?);
+    Ok(())
+}
+
+#[test]
+fn saves_a_history(rt: HostRuntime) -> Result<(), Fail> {
+    let left = left_by(rt.alloc(), &["save", "a.binary", "17", "--raw"], NOTHING)?;
+    assert_eq!(rt; left.status, Status::Ok);
+    assert!(rt; left.out.bytes() == HISTORY);
+    let words = ["save", "a.binary", "17", "--turns", "40001"];
+    assert!(rt; refused(rt.alloc(), &words, NOTHING, Status::Usage, USAGE)?);
+    Ok(())
+}
+
+#[test]
+fn checks_a_history(rt: HostRuntime) -> Result<(), Fail> {
+    let words = ["check", "a.binary", "a.history", "--raw"];
+    let left = left_by(rt.alloc(), &words, NOTHING)?;
+    assert_eq!(rt; left.status, Status::Ok);
+    assert!(rt; left.out.bytes() == b"good 1\n");
+    let words = ["check", "a.binary", "b.history", "--raw"];
+    let line = "prop: b.history: turn 1 key\n";
+    assert!(rt; refused(rt.alloc(), &words, NOTHING, Status::BadHistory, line)?);
+    let words = ["check", "a.binary", "c.history", "--pins", "a.pins"];
+    let line = "prop: a.pins: line 1\n";
+    assert!(rt; refused(rt.alloc(), &words, NOTHING, Status::BadScript, line)?);
     Ok(())
 }
 

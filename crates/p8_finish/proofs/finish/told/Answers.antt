@@ -1,0 +1,13 @@
+use Rattle.std.proofs.Common.{◌≡◌, reverse, subst, sym, IfOk}
+use Rattle.std.proofs.lemmas.Result.{IfOk-weaker}
+use Rattle.p8_ledger.specs.Worlds.{world_of}
+use Rattle.p8_finish.specs.declared.finish.Finish.{Finish}
+use Rattle.p8_finish.specs.Finishes.{told_by}
+use Rattle.p8_finish.proofs.finish.told.Goals as goal
+
+pub returns-in-Saved : goal.returns-in-Saved
+returns-in-Saved c =
+    let w = world_of c.args.ended.now.history.boot c.args.script.now c.args.ended.now.history.limits in
+    let past = reverse c.args.ended.now.history.turns.list in
+    subst (λ (finish : Finish). IfOk c.history_bytes.result (λ text. text.items ≡ told_by finish w past)) (sym c.in-Saved.is)
+    (IfOk-weaker c.history_bytes.result _ _ (λ bytes is. is.bytes_are) (c.history_bytes.ensures c.args.script.now))

@@ -1,0 +1,22 @@
+-- What is told of a history that has ended (this project's profile).
+use Rattle.std.specs.Prelude.{ℕ, ◌+◌, ◌≤◌, List}
+use Rattle.std.specs.Option.{ForSome}
+use Rattle.p8_access.specs.declared.order.Turn.{Turn}
+use Rattle.p8_history.specs.Worlds.{World}
+use Rattle.p8_made.specs.Summary.{summary_of}
+use Rattle.p8_report.specs.Text.{text_of}
+use Rattle.p8_verify.specs.Files.{file_of}
+use Rattle.p8_finish.specs.declared.finish.Finish.{Finish}
+use Rattle.p8_finish.specs.declared.finish.Finish.TheVariants.{Trace, Summary, Saved}
+
+-- the text of a past: its trace with a dump, the summary of the made program of a seed, or the bytes of its file
+abbrev pub told_by : Finish → World → List Turn → List ℕ
+told_by (Trace dump) w past = text_of w past dump
+told_by (Summary seed) w past = summary_of seed w past
+told_by Saved w past = file_of w past
+
+-- It can be told: the range of a dump is in hub RAM, and isn't empty; and a history that is saved has at most 40,000 turns by its limit.
+abbrev pub CanBeTold : Finish → (turns : ℕ) → Type 0
+CanBeTold (Trace dump) turns = ForSome dump (λ range. 1 ≤ range.1) × ForSome dump (λ range. range.0 + range.1 ≤ 32768)
+CanBeTold (Summary seed) turns = Unit {0}
+CanBeTold Saved turns = turns ≤ 40000

@@ -1,0 +1,50 @@
+// What is told of a history that has ended.
+ghost use Rattle.std.specs.Prelude.{◌≡◌, ◌≤◌, reverse, IfOk};
+ghost use Rattle.p8_history.specs.Histories.{Ended as HasEnded};
+ghost use Rattle.p8_hub.specs.Standing.{IsHub};
+ghost use Rattle.p8_ledger.specs.Worlds.{world_of};
+ghost use Rattle.p8_lives.specs.Lives.{asks};
+ghost use Rattle.p8_finish.specs.Finishes.{told_by, CanBeTold};
+
+use p8_ledger::Ended;
+use p8_made::summary;
+use p8_pins::PinScript;
+use p8_report::trace;
+use p8_verify::history_bytes;
+use p8_words::NoMemory;
+use std::alloc::Global;
+
+/// What is told of a run in the end.
+#[derive(Clone, Copy)]
+pub enum Finish {
+    /// Its trace, with a dump of a range of hub RAM: an address, and how many bytes from there on.
+    Trace { dump: Option<(u16, u16)> },
+    /// The summary of the made program of a seed.
+    Summary { seed: u32 },
+    /// The bytes of its file.
+    Saved,
+}
+
+/// What is told of a history that has ended, with the pin script that it was made with.
+///
+/// A dump isn't empty, and is in hub RAM. A history that is saved has at most 40,000 turns by its limits, and each has at most 100,000,000
+/// clocks. The only error is want of memory.
+pub fn told(
+    alloc: Global,
+    ended: &Ended,
+    script: &PinScript,
+    finish: Finish,
+) -> Result<Vec<u8>, NoMemory>
+    requires can { CanBeTold finish ended.now.history.limits.turns }
+    requires clocks { ended.now.history.limits.clocks ≤ 100000000 }
+    requires ended { HasEnded asks (world_of ended.now.history.boot script.now ended.now.history.limits) (reverse ended.now.history.turns.list) }
+    requires hub { IsHub (world_of ended.now.history.boot script.now ended.now.history.limits) (reverse ended.now.history.turns.list) ended.now.hub }
+    ensures { IfOk result (λ text. text.items
+        ≡ told_by finish (world_of ended.now.history.boot script.now ended.now.history.limits) (reverse ended.now.history.turns.list)) }
+{
+    match finish {
+        Finish::Trace { dump } => trace(alloc, ended, dump),
+        Finish::Summary { seed } => summary(alloc, seed, ended),
+        Finish::Saved => history_bytes(alloc, &ended.history),
+    }
+}

@@ -1,0 +1,22 @@
+-- What comes of the work of a command is what comes of the command.
+use Rattle.std.proofs.Common.{sym, subst, ap, ◌≡◌, ◌≤◌, List}
+use Rattle.p8_access.specs.declared.memory.Boot.{Boot}
+use Rattle.p8_access.specs.declared.order.Turn.{Turn}
+use Rattle.p8_history.specs.Worlds.{Line, World}
+use Rattle.p8_io.specs.Shelves.{Files}
+use Rattle.p8_commands.specs.Commands.{Command}
+use Rattle.p8_work.specs.declared.work.Answer.{Answer}
+use Rattle.p8_work.specs.declared.work.Answer.TheVariants.{Text, Bad}
+use Rattle.p8_work.specs.declared.work.Work.{Work}
+use Rattle.p8_work.specs.declared.work.Work.TheVariants.{Done, Run}
+use Rattle.p8_work.specs.Works.{IsAnswerTo, IsText, IsWork}
+use Rattle.p8_prop.specs.Answers.{CanBeDone, IsDone}
+
+pub can-be-done : (files : Files) (command : Command) (work : Work) → IsWork files command work → CanBeDone work
+can-be-done files command (Done answer) work = tt
+can-be-done files command (Run start finish) work = work.0
+
+pub answer-comes : (files : Files) (command : Command) (work : Work) (answer : Answer) → IsWork files command work → IsDone work answer → IsAnswerTo files command answer
+answer-comes files command (Done answer) other work is = subst (IsAnswerTo files command) (sym is) work
+answer-comes files command (Run start finish) (Text text) work is = subst (IsText files command) (sym is.2) (work.1 is.0 is.1)
+answer-comes files command (Run start finish) (Bad history turn cause) work is = absurd is

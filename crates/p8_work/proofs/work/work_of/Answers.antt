@@ -1,0 +1,47 @@
+use Rattle.std.proofs.Common.{subst, sym, IfOk}
+use Rattle.std.proofs.lemmas.Result.{IfOk-weaker}
+use Rattle.p8_finish.specs.declared.finish.Finish.TheVariants.{Trace, Saved}
+use Rattle.p8_inputs.specs.declared.program.Format.{Format}
+use Rattle.p8_inputs.specs.declared.program.Format.TheVariants.{Memory}
+use Rattle.p8_inputs.specs.Programs.{format_for, format_named}
+use Rattle.p8_commands.specs.Commands.{RunMemory, RunProgram, Save}
+use Rattle.p8_commands.specs.declared.command.Command.{Command}
+use Rattle.p8_commands.specs.Seen.{command_read, running}
+use Rattle.p8_work.specs.Works.{IsRunWork, IsWork}
+use Rattle.p8_work.proofs.Coming.{run-work}
+use Rattle.p8_work.proofs.work.work_of.Goals as goal
+
+pub returns-in-Raw-clause-work : goal.returns-in-Raw-clause-work
+returns-in-Raw-clause-work g c =
+    let files = g.S.Shelf.files c.args.shelf.now in
+    let run = running c.in-Raw.run' in
+    subst (λ (command : Command). IfOk c.run_work.result (IsWork files (command_read command))) (sym c.in-Raw.is)
+    (IfOk-weaker c.run_work.result _ _ (run-work files (RunMemory run) Memory run (Trace run.dump) (λ text is. is)) c.run_work.ensures.work)
+
+pub returns-in-Run-clause-work : goal.returns-in-Run-clause-work
+returns-in-Run-clause-work g c =
+    let files = g.S.Shelf.files c.args.shelf.now in
+    let run = running c.in-Run.run' in
+    let result = c.run_work-in-Run.result in
+    subst (λ (command : Command). IfOk result (IsWork files (command_read command))) (sym c.in-Run.is)
+    (IfOk-weaker result _ _ (run-work files (RunProgram c.in-Run.alone run) (format_named run.file) run (Trace run.dump) (λ text is. is))
+    (subst (λ (format : Format). IfOk result (IsRunWork files format run (Trace run.dump))) c.named-format.ensures c.run_work-in-Run.ensures.work))
+
+pub returns-in-Save-clause-work : goal.returns-in-Save-clause-work
+returns-in-Save-clause-work g c =
+    let files = g.S.Shelf.files c.args.shelf.now in
+    let run = running c.in-Save.run' in
+    let result = c.run_work-in-Save.result in
+    subst (λ (command : Command). IfOk result (IsWork files (command_read command))) (sym c.in-Save.is)
+    (IfOk-weaker result _ _ (run-work files (Save c.in-Save.raw run) (format_for c.in-Save.raw run.file) run Saved (λ text is. is))
+    (subst (λ (format : Format). IfOk result (IsRunWork files format run Saved)) c.chosen.ensures c.run_work-in-Save.ensures.work))
+
+pub returns-in_ok-work-in-Make-clause-work : goal.returns-in_ok-work-in-Make-clause-work
+returns-in_ok-work-in-Make-clause-work g c =
+    let files = g.S.Shelf.files c.args.shelf.now in
+    subst (λ (command : Command). IsWork files (command_read command) c.in_ok-work-in-Make.work) (sym c.in-Make.is) (c.in_ok-work-in-Make.ensures files c.in-Make.alone)
+
+pub returns-in_ok-work-in-Help-clause-work : goal.returns-in_ok-work-in-Help-clause-work
+returns-in_ok-work-in-Help-clause-work g c =
+    let files = g.S.Shelf.files c.args.shelf.now in
+    subst (λ (command : Command). IsWork files (command_read command) c.in_ok-work-in-Help.work) (sym c.in-Help.is) (c.in_ok-work-in-Help.ensures files)

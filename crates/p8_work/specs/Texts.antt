@@ -1,0 +1,71 @@
+-- What each command reads, and the text that it asks for (this project's profile).
+use Rattle.std.specs.Prelude.{ℕ, ◌≡◌, List, [], ◌∷◌}
+use Rattle.p8_access.specs.declared.memory.Boot.{Boot}
+use Rattle.p8_access.specs.declared.order.Turn.{Turn}
+use Rattle.p8_history.specs.Worlds.{World}
+use Rattle.p8_history.specs.Histories.{Ended}
+use Rattle.p8_lives.specs.Lives.{asks}
+use Rattle.p8_io.specs.Shelves.{Files}
+use Rattle.p8_made.specs.Summary.{made_world}
+use Rattle.p8_verify.specs.declared.verdicts.Cause.{Cause}
+use Rattle.p8_verify.specs.declared.verdicts.Verdict as checked
+use Rattle.p8_verify.specs.declared.verdicts.Verdict.TheVariants.{Good, Bad}
+use Rattle.p8_verify.specs.Verdicts.{IsVerdict}
+use Rattle.p8_finish.specs.declared.finish.Finish.{Finish}
+use Rattle.p8_finish.specs.declared.finish.Finish.TheVariants.{Trace, Summary, Saved}
+use Rattle.p8_finish.specs.Finishes.{told_by}
+use Rattle.p8_finish.specs.Checks.{good_line}
+use Rattle.p8_inputs.specs.declared.program.Format.{Format}
+use Rattle.p8_inputs.specs.declared.program.Format.TheVariants.{Memory, Source}
+use Rattle.p8_inputs.specs.Programs.{format_for, format_named, format_of, other_file, boot_by, world_of}
+use Rattle.p8_inputs.specs.Asks.{Ask, program, listing, run_asks, check_asks, Given, bytes_in, lines_in, later_bytes_in, Give}
+use Rattle.p8_commands.specs.Commands.{Command, Running, BuildSource, ListSource, RunMemory, RunProgram, Save, Check, Convert, Make, Help}
+use Rattle.p8_commands.specs.Pages.{help_text}
+
+-- what a command reads, in this order: a run its program and then its pin script, where one is named, and a check a history after both
+abbrev pub asks_of : Command → List Ask
+asks_of (BuildSource file) = program Source file ∷ []
+asks_of (ListSource file) = listing file ∷ []
+asks_of (RunMemory run) = run_asks Memory run.file run.script
+asks_of (RunProgram alone run) = run_asks (format_named run.file) run.file run.script
+asks_of (Save raw run) = run_asks (format_for raw run.file) run.file run.script
+asks_of (Check raw file history script) = check_asks (format_for raw file) file script history
+asks_of (Convert kind file) = program (format_of kind) file ∷ []
+asks_of (Make alone seed) = []
+asks_of (Help topic) = []
+
+-- the text that is told of the ended history of a world; there is one such history
+abbrev pub IsToldOf : World → Finish → List ℕ → Type 0
+IsToldOf world finish text = (past : List Turn) × Ended asks world past × (text ≡ told_by finish world past)
+
+-- the text that is told of a run of what is given, by what it is taken for
+abbrev pub IsToldOfRun : Format → Running → Finish → List Given → List ℕ → Type 0
+IsToldOfRun format run finish given text = IsToldOf (world_of format (bytes_in given) (lines_in given) run.clocks run.turns) finish text
+
+-- the verdict on a history file, by what is given: its program, by what that is taken for, its pin script, and its bytes
+abbrev pub HasVerdict : Format → List Given → checked.Verdict → Type 0
+HasVerdict format given verdict = IsVerdict (boot_by format (bytes_in given)) (lines_in given) (later_bytes_in given) verdict
+
+-- the text of a command, by what it is given
+abbrev pub IsTextOf : Command → List Given → List ℕ → Type 0
+IsTextOf (BuildSource file) given text = text ≡ bytes_in given
+IsTextOf (ListSource file) given text = text ≡ bytes_in given
+IsTextOf (RunMemory run) given text = IsToldOfRun Memory run (Trace run.dump) given text
+IsTextOf (RunProgram alone run) given text = IsToldOfRun (format_named run.file) run (Trace run.dump) given text
+IsTextOf (Save raw run) given text = IsToldOfRun (format_for raw run.file) run Saved given text
+IsTextOf (Check raw file history script) given text = (count : ℕ) × HasVerdict (format_for raw file) given (Good count) × (text ≡ good_line count)
+IsTextOf (Convert kind file) given text = text ≡ other_file kind (bytes_in given)
+IsTextOf (Make alone seed) given text = IsToldOf (made_world seed) (Summary seed) text
+IsTextOf (Help topic) given text = text ≡ help_text topic
+
+-- the text that a command asks for, whether one thread makes a run or a crew does
+abbrev pub IsAskedFor : Files → Command → List ℕ → Type 0
+IsAskedFor files command text = (given : List Given) × Give files (asks_of command) given × IsTextOf command given text
+
+-- what a command is given to check isn't good: this history, at this turn, for this cause
+abbrev pub IsBadBy : Command → List Given → (name : List ℕ) → (turn : ℕ) → Cause → Type 0
+IsBadBy (Check raw file history script) given name turn cause = (name ≡ history) × HasVerdict (format_for raw file) given (Bad turn cause)
+IsBadBy command given name turn cause = ⊥
+
+abbrev pub IsBadHistory : Files → Command → (name : List ℕ) → (turn : ℕ) → Cause → Type 0
+IsBadHistory files command name turn cause = (given : List Given) × Give files (asks_of command) given × IsBadBy command given name turn cause

@@ -1,0 +1,68 @@
+-- internal
+-- What a command comes to once its files are read.
+use Rattle.std.specs.Prelude.{ℕ, ◌≡◌, ◌≤◌, List}
+use Rattle.p8_access.specs.declared.memory.Boot.{Boot}
+use Rattle.p8_access.specs.Proper.{IsProperOrigin}
+use Rattle.p8_access.specs.declared.order.Turn.{Turn}
+use Rattle.p8_history.specs.Worlds.{Line, World}
+use Rattle.p8_history.specs.Histories.{Ended}
+use Rattle.p8_lives.specs.Lives.{asks}
+use Rattle.p8_ledger.specs.Worlds as machine
+use Rattle.p8_ledger.specs.declared.start.Start.{Start}
+use Rattle.p8_io.specs.Shelves.{Files}
+use Rattle.p8_verify.specs.declared.verdicts.Verdict.TheVariants as verdict
+use Rattle.p8_verify.specs.Verdicts.{IsVerdict}
+use Rattle.p8_finish.specs.declared.finish.Finish.{Finish}
+use Rattle.p8_finish.specs.Finishes.{told_by, CanBeTold}
+use Rattle.p8_finish.specs.Checks.{good_line}
+use Rattle.p8_inputs.specs.declared.program.Format.{Format}
+use Rattle.p8_inputs.specs.Asks.{Given, Give, run_asks}
+use Rattle.p8_commands.specs.Commands.{Command, Running}
+use Rattle.p8_work.specs.declared.work.Answer.{Answer}
+use Rattle.p8_work.specs.declared.work.Answer.TheVariants.{Text, Bad}
+use Rattle.p8_work.specs.declared.work.Work.{Work}
+use Rattle.p8_work.specs.declared.work.Work.TheVariants.{Done, Run}
+use Rattle.p8_work.specs.Headline.{IsRun, IsHeadline}
+use Rattle.p8_work.specs.Texts.{IsToldOfRun, IsAskedFor, IsBadHistory}
+
+abbrev pub world_in : Start → World
+world_in start = machine.world_of start.boot start.script start.limits
+
+-- a run can be made, and what is told of it
+pub record IsRunnable (start : Start) (finish : Finish) : Type 0 where
+  pub clocks : start.limits.clocks ≤ 100000000
+  pub turns : start.limits.turns ≤ 1000000
+  pub first : IsProperOrigin start.boot.first
+  pub can_be_told : CanBeTold finish start.limits.turns
+
+-- this is the text of a command
+abbrev pub IsText : Files → Command → List ℕ → Type 0
+IsText files command text = IsAskedFor files command text × IsHeadline files command text
+
+-- this is what comes of a command
+abbrev pub IsAnswerTo : Files → Command → Answer → Type 0
+IsAnswerTo files command (Text text) = IsText files command text.items
+IsAnswerTo files command (Bad history turn cause) = IsBadHistory files command history turn cause
+
+-- this is what a command comes to: what comes of it, or a run, of each ended history of which its text is told
+abbrev pub IsWork : Files → Command → Work → Type 0
+IsWork files command (Done answer) = IsAnswerTo files command answer
+IsWork files command (Run start finish) =
+    IsRunnable start finish × ((past : List Turn) → Ended asks (world_in start) past → IsText files command (told_by finish (world_in start) past))
+
+-- this is the text of a run of a file, by what the file is taken for and what is told
+abbrev pub IsTextOfRun : Files → Format → Running → Finish → List ℕ → Type 0
+IsTextOfRun files format run finish text =
+    ((given : List Given) × Give files (run_asks format run.file run.script) given × IsToldOfRun format run finish given text)
+    × IsRun files format run finish text
+
+-- this is what a run of a file comes to
+abbrev pub IsRunWork : Files → Format → Running → Finish → Work → Type 0
+IsRunWork files format run finish (Done answer) = ⊥
+IsRunWork files format run finish (Run start other) =
+    IsRunnable start other × ((past : List Turn) → Ended asks (world_in start) past → IsTextOfRun files format run finish (told_by other (world_in start) past))
+
+-- this is the verdict on a history file of this name, with these bytes, by what a run of it begins with
+abbrev pub IsCheckedBy : Boot → List Line → (bytes name : List ℕ) → Answer → Type 0
+IsCheckedBy boot script bytes name (Text text) = (count : ℕ) × IsVerdict boot script bytes (verdict.Good count) × (text.items ≡ good_line count)
+IsCheckedBy boot script bytes name (Bad history turn cause) = (history ≡ name) × IsVerdict boot script bytes (verdict.Bad turn cause)

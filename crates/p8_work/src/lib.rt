@@ -1,0 +1,7 @@
+//! What each command reads, and what it comes to once its files are read: its text, a verdict, or a run with what is told of it.
+#![tactic(auto)]
+
+mod laws;
+mod work;
+
+pub use work::{Answer, Work, work_of};
