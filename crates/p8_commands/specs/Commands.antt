@@ -10,7 +10,7 @@ use Rattle.p8_commands.specs.declared.table.Subcommand.{Subcommand}
 use Rattle.p8_commands.specs.declared.table.Subcommand.TheVariants as named
 use Rattle.p8_commands.specs.declared.kind.ImageKind.{ImageKind}
 use Rattle.p8_commands.specs.Kinds.{kind_named}
-use Rattle.p8_commands.specs.Numbers.{number_of, range_of, most_clocks, most_turns, usual_turns, most_saved_turns, most_seed}
+use Rattle.p8_commands.specs.Numbers.{number_of, number_from, range_of, most_clocks, most_turns, usual_turns, most_saved_turns, last_pin, least_bits, most_bits, most_seed}
 use Rattle.p8_commands.specs.Table.{entry_of, app_for, subcommand_named}
 
 -- a run: its file, the clock before which it ends, the file of a pin script, if any, how many turns it makes at most, and the
@@ -23,8 +23,9 @@ pub record Running : Type 0 where
   pub dump : Option (ℕ × ℕ)
 
 -- A command: to write the image of a source or its listing; to run hub memory, or an image or a source; to save the history of a run, or to check
--- one; to write an image as the other kind of file; to run the made program of a seed; or to tell a command or all of them. A run is made by one
--- thread alone, or by a crew of eight. What is saved or checked is hub memory where it is raw, and else an image or a source.
+-- one; to read the bytes that stand on a pin of a run, with so many clocks a bit, or to write a pin script that sends the bytes of a file from a clock
+-- on; to write the wave of a run, of all that it has or of what changes; to write an image as the other kind of file; to run the made program of a seed; or to tell a command or all of them. A run is made by one
+-- thread alone, or by a crew of eight. Where it says whether it is raw, what is run is hub memory where it is, and else an image or a source.
 pub data Command : Type 0 where
   BuildSource : (file : List ℕ) → Command
   ListSource : (file : List ℕ) → Command
@@ -32,6 +33,9 @@ pub data Command : Type 0 where
   RunProgram : (alone : Bool) (run : Running) → Command
   Save : (raw : Bool) (run : Running) → Command
   Check : (raw : Bool) (file history : List ℕ) (script : Option (List ℕ)) → Command
+  Serial : (raw : Bool) (run : Running) (pin bits : ℕ) → Command
+  TypeFile : (file : List ℕ) (pin bits start : ℕ) → Command
+  Wave : (alone raw all : Bool) (run : Running) → Command
   Convert : ImageKind → (file : List ℕ) → Command
   Make : (alone : Bool) (seed : ℕ) → Command
   Help : (topic : Option Subcommand) → Command
@@ -39,6 +43,7 @@ pub data Command : Type 0 where
 -- the command, where one thread alone carries it out, and else none
 abbrev pub alone_of : Option Command → Option Command
 alone_of (Some (RunProgram false run)) = None
+alone_of (Some (Wave false raw all run)) = None
 alone_of (Some (Make false seed)) = None
 alone_of command = command
 
@@ -65,12 +70,15 @@ run_of most usual dump value =
     run_by (value (codes "FILE")) (option_and_then (number_of most_clocks) (value (codes "CLOCKS")))
     (value (codes "pins")) (turns_by most usual (value (codes "turns"))) (dump_by dump)
 
--- a run that is traced, and one that is saved
+-- a run that is traced, one that is saved, and one of which another thing is told
 abbrev pub traced_of : (Text → Option Text) → Option Running
 traced_of value = run_of most_turns usual_turns (value (codes "dump")) value
 
 abbrev pub saved_of : (Text → Option Text) → Option Running
 saved_of value = run_of most_saved_turns most_saved_turns None value
+
+abbrev pub told_of : (Text → Option Text) → Option Running
+told_of value = run_of most_turns usual_turns None value
 
 -- a flag with this value is given
 abbrev pub is_given : Option Text → Bool
@@ -87,6 +95,27 @@ check_by raw _ _ script = None
 
 abbrev pub check_of : (Text → Option Text) → Option Command
 check_of value = check_by (has_flag (codes "raw") value) (value (codes "FILE")) (value (codes "HISTORY")) (value (codes "pins"))
+
+abbrev pub pin_of : (Text → Option Text) → Option ℕ
+pin_of value = option_and_then (number_of last_pin) (value (codes "PIN"))
+
+abbrev pub bits_of : (Text → Option Text) → Option ℕ
+bits_of value = option_and_then (number_from least_bits most_bits) (value (codes "BITS"))
+
+abbrev pub serial_by : (raw : Bool) → Option Running → (pin bits : Option ℕ) → Option Command
+serial_by raw (Some run) (Some pin) (Some bits) = Some (Serial raw run pin bits)
+serial_by raw _ _ _ = None
+
+abbrev pub serial_of : (Text → Option Text) → Option Command
+serial_of value = serial_by (has_flag (codes "raw") value) (told_of value) (pin_of value) (bits_of value)
+
+abbrev pub type_by : Option Text → (pin bits start : Option ℕ) → Option Command
+type_by (Some file) (Some pin) (Some bits) (Some start) = Some (TypeFile file pin bits start)
+type_by _ _ _ _ = None
+
+abbrev pub type_of : (Text → Option Text) → Option Command
+type_of value =
+    type_by (value (codes "FILE")) (pin_of value) (bits_of value) (option_and_then (number_from 1 most_clocks) (value (codes "START")))
 
 abbrev pub seed_of : (Text → Option Text) → Option ℕ
 seed_of value = option_and_then (number_of most_seed) (value (codes "SEED"))
@@ -107,6 +136,9 @@ meaning_of named.Raw value = option_map RunMemory (traced_of value)
 meaning_of named.Run value = option_map (RunProgram (has_flag (codes "alone") value)) (traced_of value)
 meaning_of named.Save value = option_map (Save (has_flag (codes "raw") value)) (saved_of value)
 meaning_of named.Check value = check_of value
+meaning_of named.Serial value = serial_of value
+meaning_of named.TypeFile value = type_of value
+meaning_of named.Wave value = option_map (Wave (has_flag (codes "alone") value) (has_flag (codes "raw") value) (has_flag (codes "all") value)) (told_of value)
 meaning_of named.Convert value = option_and_then convert_of (value (codes "FILE"))
 meaning_of named.Make value = option_map (Make (has_flag (codes "alone") value)) (seed_of value)
 meaning_of named.Help value = option_map Help (topic_of (value (codes "COMMAND")))

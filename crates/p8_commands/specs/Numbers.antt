@@ -1,5 +1,5 @@
 -- Numbers and ranges in words of the command line, with their limits (this project's profile). A word is a list of bytes.
-use Rattle.std.specs.Prelude.{ℕ, ◌+◌, ◌-◌, ◌*◌, nat_le, if◌then◌else◌, ◌&&◌, ◌||◌, ◌==◌, Bool, List, [], ◌∷◌, Option, Some, None, length}
+use Rattle.std.specs.Prelude.{ℕ, ◌+◌, ◌-◌, ◌*◌, nat_le, if◌then◌else◌, ◌&&◌, ◌||◌, ◌==◌, Bool, List, [], ◌∷◌, Option, Some, None, option_and_then, length}
 use Rattle.std.specs.List.{list_all}
 
 -- a decimal digit
@@ -20,6 +20,10 @@ value_within limit text =
 abbrev pub number_of : ℕ → List ℕ → Option ℕ
 number_of limit text =
     if nat_le 1 (length text) && nat_le (length text) 10 then value_within limit text else None
+
+-- such a number that is also at least another one
+abbrev pub number_from : (least limit : ℕ) → List ℕ → Option ℕ
+number_from least limit text = option_and_then (λ number. if nat_le least number then Some number else None) (number_of limit text)
 
 -- a hexadecimal digit, in capitals or small letters
 abbrev pub is_hexadecimal : ℕ → Bool
@@ -68,6 +72,17 @@ usual_turns = 100000
 -- the greatest number of turns of a history that is kept in a file, and how many it has at most where none is asked for
 abbrev pub most_saved_turns : ℕ
 most_saved_turns = 40000
+
+-- the number of the last pin
+abbrev pub last_pin : ℕ
+last_pin = 31
+
+-- how many clocks a bit has at least and at most
+abbrev pub least_bits : ℕ
+least_bits = 2
+
+abbrev pub most_bits : ℕ
+most_bits = 10000
 
 -- the greatest seed of a made program
 abbrev pub most_seed : ℕ

@@ -1,15 +1,15 @@
 -- internal
 -- The table and the command of the words, as the code has them.
-use Rattle.std.specs.Prelude.{◌≤◌, Option, Some, None, map}
+use Rattle.std.specs.Prelude.{ℕ, ◌≤◌, Option, Some, None, map}
 use Rattle.p8_commands.specs.declared.table.Argument.{Argument as ArgumentHeld}
 use Rattle.p8_commands.specs.declared.table.Row.{Row}
 use Rattle.p8_commands.specs.declared.command.Command.{Command as CommandRead}
 use Rattle.p8_commands.specs.declared.command.Command.TheVariants as read
 use Rattle.p8_commands.specs.declared.command.Run.{Run as RunRead}
-use Rattle.p8_commands.specs.Commands.{Command, Running, BuildSource, ListSource, RunMemory, RunProgram, Save, Check, Convert, Make, Help}
+use Rattle.p8_commands.specs.Commands.{Command, Running, BuildSource, ListSource, RunMemory, RunProgram, Save, Check, Serial, TypeFile, Wave, Convert, Make, Help}
 use Rattle.p8_commands.specs.Table.{Argument, Entry}
 use Rattle.p8_commands.specs.Naming.{name_of}
-use Rattle.p8_commands.specs.Numbers.{most_clocks, most_turns, most_saved_turns}
+use Rattle.p8_commands.specs.Numbers.{most_clocks, most_turns, most_saved_turns, last_pin, least_bits, most_bits}
 use Rattle.p8_commands.specs.Ranges.{IsInRam}
 
 abbrev pub argument_of : ArgumentHeld → Argument
@@ -28,6 +28,9 @@ command_read (read.Raw run) = RunMemory (running run)
 command_read (read.Run run alone) = RunProgram alone (running run)
 command_read (read.Save raw run) = Save raw (running run)
 command_read (read.Check raw file history script) = Check raw file.now history.now (name_of script)
+command_read (read.Serial raw run pin bits) = Serial raw (running run) pin bits
+command_read (read.TypeFile file pin bits start) = TypeFile file.now pin bits start
+command_read (read.Wave alone raw all run) = Wave alone raw all (running run)
 command_read (read.Convert kind file) = Convert kind file.now
 command_read (read.Make seed alone) = Make alone seed
 command_read (read.Help topic) = Help topic
@@ -44,8 +47,14 @@ run_if_any (Some run) = Some (running run)
 abbrev pub IsWithin : RunRead → Type 0
 IsWithin run = (run.clocks ≤ most_clocks) × (run.turns ≤ most_turns) × IsInRam run.dump
 
+abbrev pub IsOnPin : (pin bits : ℕ) → Type 0
+IsOnPin pin bits = (pin ≤ last_pin) × (least_bits ≤ bits) × (bits ≤ most_bits)
+
 abbrev pub HasLimits : CommandRead → Type 0
 HasLimits (read.Raw run) = IsWithin run
 HasLimits (read.Run run alone) = IsWithin run
 HasLimits (read.Save raw run) = IsWithin run × (run.turns ≤ most_saved_turns)
+HasLimits (read.Serial raw run pin bits) = IsWithin run × IsOnPin pin bits
+HasLimits (read.Wave alone raw all run) = IsWithin run
+HasLimits (read.TypeFile file pin bits start) = IsOnPin pin bits × (1 ≤ start) × (start ≤ most_clocks)
 HasLimits _ = Unit {0}

@@ -64,6 +64,12 @@ raw = flag (codes "raw") (codes "FILE has the bytes of hub memory from address 0
 abbrev pub any_file : Argument
 any_file = operand (codes "FILE") (codes "an image where the name ends in .binary or .eeprom, and else a source in Spin; with --raw hub memory")
 
+abbrev pub pin : Argument
+pin = operand (codes "PIN") (codes "the number of a pin: 1 to 10 digits, at most 31")
+
+abbrev pub bits : Argument
+bits = operand (codes "BITS") (codes "how many clocks a bit has: 1 to 10 digits, from 2 to 10000")
+
 -- the arguments that follow the file in each run
 abbrev pub run_options : List Argument
 run_options = clocks ∷ pins ∷ turns ∷ dump ∷ []
@@ -107,6 +113,26 @@ entry_of named.Check = record {
   about = codes "Checks that a history is that of a run of a file: writes its number of turns, or tells the first turn that isn't.";
   example = codes "prop check blink.spin blink.history";
 }
+entry_of named.Serial = record {
+  word = codes "serial";
+  arguments = any_file ∷ clocks ∷ pin ∷ bits ∷ pins ∷ turns ∷ raw ∷ [];
+  about = codes "Runs a file up to a clock, and writes the bytes that stand on a pin as 8 data bits, no parity and one stop bit.";
+  example = codes "prop serial hello.spin 200000 30 694";
+}
+entry_of named.TypeFile = record {
+  word = codes "type";
+  arguments =
+      operand (codes "FILE") (codes "the bytes to send, at most 5000") ∷ pin ∷ bits
+      ∷ operand (codes "START") (codes "the clock at which the first byte begins: 1 to 10 digits, from 1 to 100000000") ∷ [];
+  about = codes "Writes a pin script that sends the bytes of a file on a pin, as serial reads them.";
+  example = codes "prop type hello.txt 31 694 20000";
+}
+entry_of named.Wave = record {
+  word = codes "wave";
+  arguments = any_file ∷ clocks ∷ pins ∷ turns ∷ raw ∷ flag (codes "all") (codes "shows what never changes too") ∷ alone ∷ [];
+  about = codes "Runs a file up to a clock, and writes the wave of its pins, cogs and locks as a value change dump.";
+  example = codes "prop wave blink.spin 200000";
+}
 entry_of named.Convert = record {
   word = codes "convert";
   arguments = operand (codes "FILE") (codes "an image, whose name ends in .binary or .eeprom") ∷ [];
@@ -128,7 +154,9 @@ entry_of named.Help = record {
 
 -- all commands, in the order in which they are told
 abbrev pub subcommands : List Subcommand
-subcommands = named.Build ∷ named.List ∷ named.Raw ∷ named.Run ∷ named.Save ∷ named.Check ∷ named.Convert ∷ named.Make ∷ named.Help ∷ []
+subcommands =
+    named.Build ∷ named.List ∷ named.Raw ∷ named.Run ∷ named.Save ∷ named.Check ∷ named.Serial ∷ named.TypeFile ∷ named.Wave
+    ∷ named.Convert ∷ named.Make ∷ named.Help ∷ []
 
 -- the command that a word names
 unfoldable pub subcommand_named : Text → Option Subcommand

@@ -53,6 +53,34 @@ pub enum Command<'a> {
         /// The file of a pin script.
         script: Option<&'a str>,
     },
+    /// Reads the bytes that stand on a pin of a run, with so many clocks a bit. What is run is hub memory where it is raw, and else an image or a
+    /// source.
+    Serial {
+        raw: bool,
+        run: Run<'a>,
+        /// At most 31.
+        pin: u8,
+        /// 2 to 10,000 clocks.
+        bits: u32,
+    },
+    /// Writes a pin script that sends the bytes of a file on a pin, with so many clocks a bit, from a clock on.
+    TypeFile {
+        file: &'a str,
+        /// At most 31.
+        pin: u8,
+        /// 2 to 10,000 clocks.
+        bits: u32,
+        /// 1 to 100,000,000.
+        start: u64,
+    },
+    /// Writes the wave of a run, of all that it has or of what changes, by one thread or by a crew. What is run is hub memory where it is raw, and
+    /// else an image or a source.
+    Wave {
+        alone: bool,
+        raw: bool,
+        all: bool,
+        run: Run<'a>,
+    },
     /// Writes an image of this kind as the other kind of file.
     Convert {
         kind: ImageKind,
@@ -78,8 +106,10 @@ impl Command<'_> {
             Command::Build { .. } | Command::List { .. } => true,
             Command::Raw { .. } | Command::Save { .. } => true,
             Command::Check { .. } | Command::Convert { .. } => true,
+            Command::Serial { .. } | Command::TypeFile { .. } => true,
             Command::Help { .. } => true,
             Command::Run { alone, .. } => alone,
+            Command::Wave { alone, .. } => alone,
             Command::Make { alone, .. } => alone,
         }
     }

@@ -1,7 +1,7 @@
 // Numbers and ranges in the words of the command line.
 ghost use Rattle.std.specs.Prelude.{◌≡◌, ◌<◌, ◌≤◌, Some, None, ℕ, length, IfSome};
 ghost use Rattle.std.specs.Option.{ForSome};
-ghost use Rattle.p8_commands.specs.Numbers.{number_of, count_of, range_of, range_by};
+ghost use Rattle.p8_commands.specs.Numbers.{number_of, number_from as number_from_of, count_of, range_of, range_by};
 ghost use Rattle.p8_commands.specs.Numbers.{address_by, hexadecimal_digit as hexadecimal_digit_of, value_within, most_seed};
 ghost use Rattle.p8_commands.specs.Ranges.{IsInRam};
 
@@ -34,6 +34,17 @@ pub fn number_in(text: &[u8], limit: u64) -> Option<u64>
         return None;
     }
     value_of(text, limit)
+}
+
+/// The number of one to ten decimal digits that is at least a number and at most a limit, or None for any other text.
+pub fn number_from(text: &[u8], least: u64, limit: u64) -> Option<u64>
+    requires { limit ≤ most_seed }
+    ensures number { result ≡ number_from_of least limit text.now }
+    ensures least { ForSome result (λ number. least ≤ number) }
+    ensures within { ForSome result (λ number. number ≤ limit) }
+{
+    let number = number_in(text, limit)?;
+    if number < least { None } else { Some(number) }
 }
 
 /// The value of a hexadecimal digit of either case, or None for any other byte.

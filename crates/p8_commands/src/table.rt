@@ -54,6 +54,12 @@ pub enum Subcommand {
     Save,
     /// Checks a history file.
     Check,
+    /// Reads the bytes that stand on a pin of a run.
+    Serial,
+    /// Writes a pin script that sends the bytes of a file.
+    TypeFile,
+    /// Writes the wave of a run.
+    Wave,
     /// Writes an image as the other kind of file.
     Convert,
     /// Runs a made program.
@@ -146,6 +152,41 @@ const HISTORY_FILE: Argument = Argument {
     about: "the history of a run of FILE, as save writes it",
 };
 
+const PIN: Argument = Argument {
+    kind: ArgumentKind::Operand,
+    name: "PIN",
+    value: "",
+    about: "the number of a pin: 1 to 10 digits, at most 31",
+};
+
+const BITS: Argument = Argument {
+    kind: ArgumentKind::Operand,
+    name: "BITS",
+    value: "",
+    about: "how many clocks a bit has: 1 to 10 digits, from 2 to 10000",
+};
+
+const START: Argument = Argument {
+    kind: ArgumentKind::Operand,
+    name: "START",
+    value: "",
+    about: "the clock at which the first byte begins: 1 to 10 digits, from 1 to 100000000",
+};
+
+const ALL: Argument = Argument {
+    kind: ArgumentKind::Flag,
+    name: "all",
+    value: "",
+    about: "shows what never changes too",
+};
+
+const MESSAGE_FILE: Argument = Argument {
+    kind: ArgumentKind::Operand,
+    name: "FILE",
+    value: "",
+    about: "the bytes to send, at most 5000",
+};
+
 const IMAGE_FILE: Argument = Argument {
     kind: ArgumentKind::Operand,
     name: "FILE",
@@ -179,6 +220,9 @@ impl Subcommand {
             Subcommand::Run,
             Subcommand::Save,
             Subcommand::Check,
+            Subcommand::Serial,
+            Subcommand::TypeFile,
+            Subcommand::Wave,
             Subcommand::Convert,
             Subcommand::Make,
             Subcommand::Help,
@@ -225,6 +269,24 @@ impl Subcommand {
                 arguments: &[ANY_FILE, HISTORY_FILE, PINS, RAW],
                 about: "Checks that a history is that of a run of a file: writes its number of turns, or tells the first turn that isn't.",
                 example: "prop check blink.spin blink.history",
+            },
+            Subcommand::Serial => Row {
+                word: "serial",
+                arguments: &[ANY_FILE, CLOCKS, PIN, BITS, PINS, TURNS, RAW],
+                about: "Runs a file up to a clock, and writes the bytes that stand on a pin as 8 data bits, no parity and one stop bit.",
+                example: "prop serial hello.spin 200000 30 694",
+            },
+            Subcommand::TypeFile => Row {
+                word: "type",
+                arguments: &[MESSAGE_FILE, PIN, BITS, START],
+                about: "Writes a pin script that sends the bytes of a file on a pin, as serial reads them.",
+                example: "prop type hello.txt 31 694 20000",
+            },
+            Subcommand::Wave => Row {
+                word: "wave",
+                arguments: &[ANY_FILE, CLOCKS, PINS, TURNS, RAW, ALL, ALONE],
+                about: "Runs a file up to a clock, and writes the wave of its pins, cogs and locks as a value change dump.",
+                example: "prop wave blink.spin 200000",
             },
             Subcommand::Convert => Row {
                 word: "convert",

@@ -3,16 +3,16 @@ ghost use Rattle.std.specs.Prelude.{◌≡◌, ◌≤◌, Some, None, codes, map
 ghost use Rattle.std.specs.Option.{ForSome};
 ghost use Rattle.clap.specs.Matches.{first_value, found_of};
 ghost use Rattle.p8_commands.specs.Commands.{command_of, said_to, meaning_of, run_of, traced_of, saved_of, turns_by};
-ghost use Rattle.p8_commands.specs.Commands.{dump_by, is_given as is_given_by, has_flag as has_flag_by, check_of, seed_of, topic_of, convert_of};
+ghost use Rattle.p8_commands.specs.Commands.{dump_by, is_given as is_given_by, has_flag as has_flag_by, check_of, told_of, pin_of, bits_of, serial_of, type_of, seed_of, topic_of, convert_of};
 ghost use Rattle.p8_commands.specs.Naming.{name_of};
-ghost use Rattle.p8_commands.specs.Numbers.{most_turns, most_saved_turns};
+ghost use Rattle.p8_commands.specs.Numbers.{most_turns, most_saved_turns, last_pin, least_bits, most_bits};
 ghost use Rattle.p8_commands.specs.Ranges.{IsInRam};
 ghost use Rattle.p8_commands.specs.Seen.{command_if_any, run_if_any, IsWithin, HasLimits};
 
 use crate::arguments::{command_for, matches_in};
 use crate::command::{Command, Run};
 use crate::kind::ImageKind;
-use crate::numbers::{number_in, range_in};
+use crate::numbers::{number_from, number_in, range_in};
 use crate::table::Subcommand;
 use clap::ArgMatches;
 use p8_words::NoMemory;
@@ -29,6 +29,14 @@ const USUAL_TURNS: u64 = 100_000;
 
 /// The greatest number of turns of a history that is kept in a file, and how many it has at most where no number is asked for.
 const MOST_SAVED_TURNS: u64 = 40_000;
+
+/// The number of the last pin.
+const LAST_PIN: u64 = 31;
+
+/// How many clocks a bit has at least and at most.
+const LEAST_BITS: u64 = 2;
+
+const MOST_BITS: u64 = 10_000;
 
 /// The greatest seed of a made program.
 const MOST_SEED: u64 = 4_294_967_295;
@@ -101,6 +109,14 @@ fn saved_in<'a>(matches: &ArgMatches<'a>) -> Option<Run<'a>>
     run_in(matches, MOST_SAVED_TURNS, MOST_SAVED_TURNS, None)
 }
 
+/// A run of which another thing than its trace is told.
+fn told_in<'a>(matches: &ArgMatches<'a>) -> Option<Run<'a>>
+    ensures seen { run_if_any result ≡ told_of (first_value (found_of matches.now)) }
+    ensures within { IfSome result IsWithin }
+{
+    run_in(matches, MOST_TURNS, USUAL_TURNS, None)
+}
+
 /// Whether a flag with this value is given.
 fn is_given(value: Option<&str>) -> bool
     ensures { result ≡ is_given_by (name_of value.entry) }
@@ -128,6 +144,51 @@ fn check_in<'a>(matches: &ArgMatches<'a>) -> Option<Command<'a>>
         file: matches.get_str("FILE")?,
         history: matches.get_str("HISTORY")?,
         script: matches.get_str("pins"),
+    })
+}
+
+/// The number of a pin.
+fn pin_in(matches: &ArgMatches<'_>) -> Option<u8>
+    ensures seen { result ≡ pin_of (first_value (found_of matches.now)) }
+    ensures within { ForSome result (λ pin. pin ≤ last_pin) }
+{
+    let pin = number_in(matches.get_str("PIN")?.as_bytes(), LAST_PIN)?;
+    Some(pin as u8)
+}
+
+/// How many clocks a bit has.
+fn bits_in(matches: &ArgMatches<'_>) -> Option<u32>
+    ensures seen { result ≡ bits_of (first_value (found_of matches.now)) }
+    ensures least { ForSome result (λ bits. least_bits ≤ bits) }
+    ensures within { ForSome result (λ bits. bits ≤ most_bits) }
+{
+    let bits = number_from(matches.get_str("BITS")?.as_bytes(), LEAST_BITS, MOST_BITS)?;
+    Some(bits as u32)
+}
+
+/// The command to read the bytes on a pin, or None where a value has another spelling.
+fn serial_in<'a>(matches: &ArgMatches<'a>) -> Option<Command<'a>>
+    ensures seen { command_if_any result ≡ serial_of (first_value (found_of matches.now)) }
+    ensures within { IfSome result HasLimits }
+{
+    Some(Command::Serial {
+        raw: has_flag(matches, "raw"),
+        run: told_in(matches)?,
+        pin: pin_in(matches)?,
+        bits: bits_in(matches)?,
+    })
+}
+
+/// The command to send the bytes of a file, or None where a value has another spelling.
+fn type_in<'a>(matches: &ArgMatches<'a>) -> Option<Command<'a>>
+    ensures seen { command_if_any result ≡ type_of (first_value (found_of matches.now)) }
+    ensures within { IfSome result HasLimits }
+{
+    Some(Command::TypeFile {
+        file: matches.get_str("FILE")?,
+        pin: pin_in(matches)?,
+        bits: bits_in(matches)?,
+        start: number_from(matches.get_str("START")?.as_bytes(), 1, MOST_CLOCKS)?,
     })
 }
 
@@ -184,6 +245,14 @@ fn meaning_in<'a>(command: Subcommand, matches: &ArgMatches<'a>) -> Option<Comma
             run: saved_in(matches)?,
         }),
         Subcommand::Check => check_in(matches),
+        Subcommand::Serial => serial_in(matches),
+        Subcommand::TypeFile => type_in(matches),
+        Subcommand::Wave => Some(Command::Wave {
+            alone: has_flag(matches, "alone"),
+            raw: has_flag(matches, "raw"),
+            all: has_flag(matches, "all"),
+            run: told_in(matches)?,
+        }),
         Subcommand::Convert => convert_in(matches.get_str("FILE")?),
         Subcommand::Make => Some(Command::Make {
             seed: seed_in(matches)?,

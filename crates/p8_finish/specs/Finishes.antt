@@ -1,22 +1,31 @@
 -- What is told of a history that has ended (this project's profile).
-use Rattle.std.specs.Prelude.{ℕ, ◌+◌, ◌≤◌, List}
+use Rattle.std.specs.Prelude.{ℕ, ◌+◌, ◌<◌, ◌≤◌, List}
 use Rattle.std.specs.Option.{ForSome}
 use Rattle.p8_access.specs.declared.order.Turn.{Turn}
 use Rattle.p8_history.specs.Worlds.{World}
 use Rattle.p8_made.specs.Summary.{summary_of}
 use Rattle.p8_report.specs.Text.{text_of}
+use Rattle.p8_serial.specs.Laws.{IsRate}
+use Rattle.p8_serial.specs.Serial.{serial_of}
 use Rattle.p8_verify.specs.Files.{file_of}
+use Rattle.p8_wave.specs.Wave.{wave_of}
 use Rattle.p8_finish.specs.declared.finish.Finish.{Finish}
-use Rattle.p8_finish.specs.declared.finish.Finish.TheVariants.{Trace, Summary, Saved}
+use Rattle.p8_finish.specs.declared.finish.Finish.TheVariants.{Trace, Summary, Saved, Serial, Wave}
 
--- the text of a past: its trace with a dump, the summary of the made program of a seed, or the bytes of its file
+-- the text of a past: its trace with a dump, the summary of the made program of a seed, the bytes of its file, those on a pin, or its
+-- wave
 abbrev pub told_by : Finish → World → List Turn → List ℕ
 told_by (Trace dump) w past = text_of w past dump
 told_by (Summary seed) w past = summary_of seed w past
 told_by Saved w past = file_of w past
+told_by (Serial pin bits) w past = serial_of w past pin bits
+told_by (Wave all) w past = wave_of w past all
 
--- It can be told: the range of a dump is in hub RAM, and isn't empty; and a history that is saved has at most 40,000 turns by its limit.
+-- It can be told: the range of a dump is in hub RAM, and isn't empty; a history that is saved has at most 40,000 turns by its limit; there is such a
+-- pin, and such a bit.
 abbrev pub CanBeTold : Finish → (turns : ℕ) → Type 0
 CanBeTold (Trace dump) turns = ForSome dump (λ range. 1 ≤ range.1) × ForSome dump (λ range. range.0 + range.1 ≤ 32768)
 CanBeTold (Summary seed) turns = Unit {0}
 CanBeTold Saved turns = turns ≤ 40000
+CanBeTold (Wave all) turns = Unit {0}
+CanBeTold (Serial pin bits) turns = (pin < 32) × IsRate bits

@@ -10,7 +10,9 @@ use p8_ledger::Ended;
 use p8_made::summary;
 use p8_pins::PinScript;
 use p8_report::trace;
+use p8_serial::serial_text;
 use p8_verify::history_bytes;
+use p8_wave::wave;
 use p8_words::NoMemory;
 use std::alloc::Global;
 
@@ -23,12 +25,16 @@ pub enum Finish {
     Summary { seed: u32 },
     /// The bytes of its file.
     Saved,
+    /// The bytes that stand on a pin, with so many clocks a bit.
+    Serial { pin: u8, bits: u32 },
+    /// The wave, of all that it has or of what changes.
+    Wave { all: bool },
 }
 
 /// What is told of a history that has ended, with the pin script that it was made with.
 ///
 /// A dump isn't empty, and is in hub RAM. A history that is saved has at most 40,000 turns by its limits, and each has at most 100,000,000
-/// clocks. The only error is want of memory.
+/// clocks. A pin is at most 31, and a bit has 2 to 10,000 clocks. The only error is want of memory.
 pub fn told(
     alloc: Global,
     ended: &Ended,
@@ -46,5 +52,7 @@ pub fn told(
         Finish::Trace { dump } => trace(alloc, ended, dump),
         Finish::Summary { seed } => summary(alloc, seed, ended),
         Finish::Saved => history_bytes(alloc, &ended.history),
+        Finish::Wave { all } => wave(alloc, &ended.history, script, all),
+        Finish::Serial { pin, bits } => serial_text(alloc, &ended.history, script, pin, bits),
     }
 }

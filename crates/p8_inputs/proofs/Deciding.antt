@@ -1,9 +1,10 @@
 -- Where the shelf tells its files, asks come to one thing alone: what they are given, or one reason that stops them.
-use Rattle.std.proofs.Common.{◌≡◌, ◌∙◌, ap, ap₂, sym, subst, ℕ, inl, inr, refl, List, [], ◌∷◌, Option, Some, None}
+use Rattle.std.proofs.Common.{◌≡◌, ◌<◌, ◌≤◌, ◌∙◌, ap, ap₂, sym, subst, arith, ℕ, inl, inr, refl, List, [], ◌∷◌, length, Option, Some, None}
 use Rattle.p8_history.specs.Worlds.{Line}
 use Rattle.p8_tree.specs.declared.places.Place.{Place}
 use Rattle.p8_tree.specs.Projects.{NamedSource}
 use Rattle.p8_image.specs.declared.faults.LoadFault.{LoadFault}
+use Rattle.p8_image.specs.declared.faults.LoadFault.TheVariants.{BadLength}
 use Rattle.p8_image.specs.declared.parts.ObjectPart.{ObjectPart}
 use Rattle.p8_image.specs.Layout.{image_of}
 use Rattle.p8_io.specs.Counts.{Rose}
@@ -21,7 +22,7 @@ use Rattle.p8_inputs.specs.declared.stop.Stop.TheVariants.{Unread, Missing, NoMe
 use Rattle.p8_inputs.specs.Programs.{fault_of}
 use Rattle.p8_inputs.specs.Sources.{HasOneOutcome, IsListingFrom}
 use Rattle.p8_inputs.specs.Inputs.{IsProgram, IsScriptFor, IsProgramUnread, HasFault}
-use Rattle.p8_inputs.specs.Asks.{Ask, program, listing, script, history, Given, bytes, lines, Gives, Give, StopsAtFile, StopsAtProgram, StopsAtScript, StopsAt, StopsFirst, Stops, IsOfFiles, HasOneReading}
+use Rattle.p8_inputs.specs.Asks.{most_sent, Ask, program, listing, script, history, message, Given, bytes, lines, Gives, Give, StopsAtFile, StopsAtMessage, StopsAtProgram, StopsAtScript, StopsAt, StopsFirst, Stops, IsOfFiles, HasOneReading}
 use Rattle.p8_inputs.proofs.Stopping.{first-or_memory}
 
 start-one : (file : Option (List ℕ)) (a b : List ℕ) → AreStartOf file a → AreStartOf file b → a ≡ b
@@ -94,6 +95,38 @@ module _ (files : List ℕ → Option (List ℕ)) where
   file-never_both before now file xs (Refused name number place) s is stops = stops
   file-never_both before now file xs (BadProgram name fault) s is stops = stops
   file-never_both before now file xs (BadScript name line) s is stops = stops
+
+  -- too many bytes are as many wherever they are read
+  long-one : (file a b xs ys : List ℕ) (f g : LoadFault) → a ≡ file → IsRead (Some files) a xs → f ≡ BadLength (length xs) → b ≡ file → IsRead (Some files) b ys → g ≡ BadLength (length ys) → BadProgram a f ≡ BadProgram b g
+  long-one file a b xs ys f g a-is a-read f-is b-is b-read g-is =
+      let same : xs ≡ ys = read-same_name a b xs ys (b-is ∙ sym a-is) a-read b-read in
+      let fault : f ≡ g = f-is ∙ ap (λ (zs : List ℕ). BadLength (length zs)) same ∙ sym g-is in
+      λ i. BadProgram ((a-is ∙ sym b-is) i) (fault i)
+
+  message-stop-one : (before now : ℕ) (file : List ℕ) (a b : Stop) → IsOfFiles a → IsOfFiles b → StopsAtMessage (Some files) before now file a → StopsAtMessage (Some files) before now file b → a ≡ b
+  message-stop-one before now file (Missing a) (Missing b) s t p q = ap Missing (p.0 ∙ sym q.0)
+  message-stop-one before now file (Missing a) (BadProgram b g) s t p q = absurd (read-some b a q.1.0 q.1.1 (p.0 ∙ sym q.0) p.1)
+  message-stop-one before now file (BadProgram a f) (Missing b) s t p q = absurd (read-some a b p.1.0 p.1.1 (q.0 ∙ sym p.0) q.1)
+  message-stop-one before now file (BadProgram a f) (BadProgram b g) s t p q = long-one file a b p.1.0 q.1.0 f g p.0 p.1.1 p.1.3 q.0 q.1.1 q.1.3
+  message-stop-one before now file (Unread a) b s t p q = absurd s
+  message-stop-one before now file NoMemory b s t p q = absurd s
+  message-stop-one before now file (Refused a m x) b s t p q = absurd p
+  message-stop-one before now file (BadScript a m) b s t p q = absurd p
+  message-stop-one before now file a (Unread b) s t p q = absurd t
+  message-stop-one before now file a NoMemory s t p q = absurd t
+  message-stop-one before now file a (Refused b n y) s t p q = absurd q
+  message-stop-one before now file a (BadScript b n) s t p q = absurd q
+
+  message-never_both : (before now : ℕ) (file xs : List ℕ) (stop : Stop) → IsOfFiles stop → IsRead (Some files) file xs → length xs ≤ most_sent → StopsAtMessage (Some files) before now file stop → ⊥
+  message-never_both before now file xs (Missing name) s is few stops = read-some file name xs is stops.0 stops.1
+  message-never_both before now file xs (BadProgram name fault) s is few stops =
+      let same : length xs ≡ length stops.1.0 = ap length (read-same_name file name xs stops.1.0 stops.0 is stops.1.1) in
+      let many : most_sent < length stops.1.0 = stops.1.2 in
+      omega arith
+  message-never_both before now file xs (Unread name) s is few stops = s
+  message-never_both before now file xs NoMemory s is few stops = s
+  message-never_both before now file xs (Refused name number place) s is few stops = stops
+  message-never_both before now file xs (BadScript name line) s is few stops = stops
 
   script-stop-one : (before now : ℕ) (file : List ℕ) (a b : Stop) → IsOfFiles a → IsOfFiles b → StopsAtScript (Some files) before now file a → StopsAtScript (Some files) before now file b → a ≡ b
   script-stop-one before now file (Missing a) (Missing b) s t p q = ap Missing (p.0 ∙ sym q.0)
@@ -194,6 +227,9 @@ module _ (files : List ℕ → Option (List ℕ)) where
     gives-one (listing file) (bytes xs) (bytes ys) p q = ap bytes (listing-one file xs ys p q)
     gives-one (script file) (lines xs) (lines ys) p q = ap lines (script-one file xs ys p q)
     gives-one (history file) (bytes xs) (bytes ys) p q = ap bytes (read-one file xs ys p q)
+    gives-one (message file) (bytes xs) (bytes ys) p q = ap bytes (read-one file xs ys p.0 q.0)
+    gives-one (message file) (lines xs) b p q = absurd p
+    gives-one (message file) (bytes xs) (lines ys) p q = absurd q
     gives-one (history file) (lines xs) b p q = absurd p
     gives-one (history file) (bytes xs) (lines ys) p q = absurd q
     gives-one (program format file) (lines xs) b p q = absurd p
@@ -208,6 +244,7 @@ module _ (files : List ℕ → Option (List ℕ)) where
     stop-one before now (listing file) a b s t p q = program-stop-one before now Source file a b s t p q
     stop-one before now (script file) a b s t p q = script-stop-one before now file a b s t p q
     stop-one before now (history file) a b s t p q = file-stop-one before now file a b s t p q
+    stop-one before now (message file) a b s t p q = message-stop-one before now file a b s t p q
 
     never-both : (before now : ℕ) (ask : Ask) (given : Given) (stop : Stop) → IsOfFiles stop → Gives (Some files) ask given → StopsAt (Some files) before now ask stop → ⊥
     never-both before now (program format file) (bytes xs) stop s is stops = program-never_both before now format file xs stop s is stops
@@ -218,6 +255,8 @@ module _ (files : List ℕ → Option (List ℕ)) where
     never-both before now (script file) (bytes xs) stop s is stops = is
     never-both before now (history file) (bytes xs) stop s is stops = file-never_both before now file xs stop s is stops
     never-both before now (history file) (lines xs) stop s is stops = is
+    never-both before now (message file) (bytes xs) stop s is stops = message-never_both before now file xs stop s is.0 is.1 stops
+    never-both before now (message file) (lines xs) stop s is stops = is
 
     -- ---- all asks
 
@@ -285,6 +324,7 @@ ask-unread-rose files before now (program format file) name unread = program-unr
 ask-unread-rose files before now (listing file) name unread = program-unread-rose files before now Source file name unread
 ask-unread-rose files before now (script file) name unread = unread.1
 ask-unread-rose files before now (history file) name unread = unread.1
+ask-unread-rose files before now (message file) name unread = unread.1
 
 pub unread-rose : (files : Files) (before now : ℕ) (asks : List Ask) (name : List ℕ) → StopsFirst files before now asks (Unread name) → Rose before now
 unread-rose files before now [] name unread = absurd unread

@@ -1,7 +1,8 @@
 -- What a command reads of a shelf: a list of asks, one after the other, and the first of them that stops it (this project's profile).
-use Rattle.std.specs.Prelude.{ℕ, ◌≡◌, ◌⊎◌, List, [], ◌∷◌, ◌++◌, Option, Some, None}
+use Rattle.std.specs.Prelude.{ℕ, ◌≡◌, ◌<◌, ◌≤◌, ◌⊎◌, List, [], ◌∷◌, ◌++◌, length, Option, Some, None}
 use Rattle.p8_history.specs.Worlds.{Line}
 use Rattle.p8_pins.specs.Scripts.{IsFault}
+use Rattle.p8_image.specs.declared.faults.LoadFault.TheVariants.{BadLength}
 use Rattle.p8_io.specs.Counts.{Rose}
 use Rattle.p8_io.specs.Shelves.{Files, IsLacking, IsRead}
 use Rattle.p8_inputs.specs.declared.program.Format.{Format}
@@ -11,18 +12,23 @@ use Rattle.p8_inputs.specs.declared.stop.Stop.TheVariants.{Unread, Missing, NoMe
 use Rattle.p8_inputs.specs.Inputs.{IsProgram, IsScriptFor, IsProgramMissing, IsProgramUnread, HasRefusal, HasFault}
 use Rattle.p8_inputs.specs.Sources.{IsListingFrom}
 
--- an ask: for the program of a file, by what the file is taken for; for the listing of a source; for the pin script of a file; or for the
--- bytes of a history file, whatever they are
+-- an ask: for the program of a file, by what the file is taken for; for the listing of a source; for the pin script of a file; for the bytes of a
+-- history file, whatever they are; or for the bytes of a message, which is to be sent and has at most 5,000
 pub data Ask : Type 0 where
   program : Format → (file : List ℕ) → Ask
   listing : (file : List ℕ) → Ask
   script : (file : List ℕ) → Ask
   history : (file : List ℕ) → Ask
+  message : (file : List ℕ) → Ask
 
--- what an ask is given: the bytes of a program, of a listing or of a history file, or the lines of a pin script
+-- what an ask is given: the bytes of a program, of a listing, of a history file or of a message, or the lines of a pin script
 pub data Given : Type 0 where
   bytes : List ℕ → Given
   lines : List Line → Given
+
+-- how many bytes a message has at most
+abbrev pub most_sent : ℕ
+most_sent = 5000
 
 -- a file is asked for its pin script, where one is named
 abbrev pub script_ask : Option (List ℕ) → List Ask
@@ -45,10 +51,12 @@ Gives files (program format file) (bytes xs) = IsProgram files format file xs
 Gives files (listing file) (bytes xs) = IsListingFrom files file xs
 Gives files (script file) (lines xs) = IsScriptFor files (Some file) xs
 Gives files (history file) (bytes xs) = IsRead files file xs
+Gives files (message file) (bytes xs) = IsRead files file xs × (length xs ≤ most_sent)
 Gives files (program format file) (lines xs) = ⊥
 Gives files (listing file) (lines xs) = ⊥
 Gives files (script file) (bytes xs) = ⊥
 Gives files (history file) (lines xs) = ⊥
+Gives files (message file) (lines xs) = ⊥
 
 -- it has these for the asks
 abbrev pub Give : Files → List Ask → List Given → Type 0
@@ -93,6 +101,16 @@ StopsAtProgram files before now format file (Refused name number place) = HasRef
 StopsAtProgram files before now format file (BadProgram name fault) = HasFault files format file name fault
 StopsAtProgram files before now format file (BadScript name line) = ⊥
 
+-- why there is no message in a file: there are no bytes of it, or too many
+abbrev pub StopsAtMessage : Files → (before now : ℕ) → (file : List ℕ) → Stop → Type 0
+StopsAtMessage files before now file (Unread name) = (name ≡ file) × Rose before now
+StopsAtMessage files before now file (Missing name) = (name ≡ file) × IsLacking before now files name
+StopsAtMessage files before now file NoMemory = Unit {0}
+StopsAtMessage files before now file (Refused name number place) = ⊥
+StopsAtMessage files before now file (BadProgram name fault) =
+    (name ≡ file) × ((bytes : List ℕ) × IsRead files name bytes × (most_sent < length bytes) × (fault ≡ BadLength (length bytes)))
+StopsAtMessage files before now file (BadScript name line) = ⊥
+
 -- why there is no pin script of a file: it could not be read, it is missing, or it has a first bad line
 abbrev pub StopsAtScript : Files → (before now : ℕ) → (file : List ℕ) → Stop → Type 0
 StopsAtScript files before now file (Unread name) = (name ≡ file) × Rose before now
@@ -109,6 +127,7 @@ StopsAt files before now (program format file) stop = StopsAtProgram files befor
 StopsAt files before now (listing file) stop = StopsAtProgram files before now Source file stop
 StopsAt files before now (script file) stop = StopsAtScript files before now file stop
 StopsAt files before now (history file) stop = StopsAtFile files before now file stop
+StopsAt files before now (message file) stop = StopsAtMessage files before now file stop
 
 -- The first ask that stops does so for this reason: it is the first one, or there is something for the first one and a later one stops.
 abbrev pub StopsFirst : Files → (before now : ℕ) → List Ask → Stop → Type 0

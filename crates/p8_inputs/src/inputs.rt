@@ -1,8 +1,8 @@
 // The files of a run.
-ghost use Rattle.std.specs.Prelude.{◌≡◌, ◌≤◌, ◌∷◌, Some, IfOk, IfErr};
+ghost use Rattle.std.specs.Prelude.{◌≡◌, ◌≤◌, ◌∷◌, [], length, Some, IfOk, IfErr};
 ghost use Rattle.p8_access.specs.Proper.{IsProperOrigin};
 ghost use Rattle.p8_io.specs.Shelves.{IsRead};
-ghost use Rattle.p8_inputs.specs.Asks.{StopsAtFile, StopsAtProgram, StopsAtScript, Stops, script_ask, run_asks, check_asks};
+ghost use Rattle.p8_inputs.specs.Asks.{StopsAtFile, StopsAtProgram, StopsAtScript, Stops, script_ask, run_asks, check_asks, most_sent, message as message_ask};
 ghost use Rattle.p8_inputs.specs.Inputs.{IsScriptFor};
 ghost use Rattle.p8_inputs.specs.Naming.{name_of};
 ghost use Rattle.p8_inputs.specs.Runs.{Begins};
@@ -14,11 +14,15 @@ use crate::program::{Format, Program};
 use crate::sources::image_in;
 use crate::stop::Stop;
 use p8_access::Boot;
+use p8_image::LoadFault;
 use p8_io::{Shelf, ShelfError};
 use p8_pins::PinScript;
 use p8_tree::Text;
 use p8_words::Fail;
 use std::alloc::Global;
+
+/// How many bytes a message has at most.
+const MOST_SENT: usize = 5_000;
 
 /// What a run begins with.
 #[derive(Drop)]
@@ -186,4 +190,28 @@ pub fn read_recorded<S: Shelf>(
     let inputs = read_inputs(alloc, program, script, shelf)?;
     let history = bytes_in(alloc, history, shelf)?;
     Ok(Recorded { inputs, history })
+}
+
+/// The bytes of a message that is to be sent, at most 5,000.
+///
+/// # Errors
+///
+/// `Missing`, `Unread` and `NoMemory` as for [`read_inputs`]; `BadProgram` with the length exactly where the file has more bytes.
+pub fn read_message<S: Shelf>(alloc: Global, file: &str, shelf: &mut S) -> Result<Vec<u8>, Stop>
+    ensures read { IfOk result (λ bytes. IsRead (S.files shelf.old) file.now bytes.items) }
+    ensures short { IfOk result (λ bytes. length bytes.items ≤ most_sent) }
+    ensures stopped { IfErr result (Stops (S.files shelf.old) (S.faults shelf.old) (S.faults shelf.new) (message_ask file.now ∷ [])) }
+    ensures later { S.faults shelf.old ≤ S.faults shelf.new }
+    ensures kept { S.files shelf.new ≡ S.files shelf.old }
+{
+    let name = Text::copy_of(alloc, file.as_bytes())?;
+    let bytes = bytes_in(alloc, file, shelf)?;
+    let length = bytes.as_slice().len();
+    if length > MOST_SENT {
+        return Err(Stop::BadProgram {
+            file: name,
+            fault: LoadFault::BadLength { length },
+        });
+    }
+    Ok(bytes)
 }

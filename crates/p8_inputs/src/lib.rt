@@ -12,7 +12,7 @@ mod stop;
 mod telling;
 
 pub use convert::other_image;
-pub use inputs::{Inputs, Recorded, read_inputs, read_recorded};
+pub use inputs::{Inputs, Recorded, read_inputs, read_message, read_recorded};
 pub use laws::{one_reading, one_source};
 pub use program::{Format, Program};
 pub use sources::{image_of_source, listing_of_source};

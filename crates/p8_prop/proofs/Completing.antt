@@ -12,7 +12,7 @@ use Rattle.p8_verify.specs.declared.verdicts.Verdict as checking
 use Rattle.p8_verify.specs.declared.verdicts.Verdict.TheVariants.{Good, Bad}
 use Rattle.p8_verify.specs.Verdicts as checks
 use Rattle.p8_finish.specs.declared.finish.Finish.{Finish}
-use Rattle.p8_finish.specs.declared.finish.Finish.TheVariants.{Trace, Summary, Saved}
+use Rattle.p8_finish.specs.declared.finish.Finish.TheVariants.{Trace, Summary, Saved, Serial, Wave}
 use Rattle.p8_finish.specs.Finishes.{told_by}
 use Rattle.p8_finish.specs.Checks.{good_line}
 use Rattle.p8_io.specs.Counts.{Rose}
@@ -21,7 +21,7 @@ use Rattle.p8_inputs.specs.declared.stop.Stop.{Stop}
 use Rattle.p8_inputs.specs.declared.stop.Stop.TheVariants as stop
 use Rattle.p8_inputs.specs.Asks.{Given, HasOneReading}
 use Rattle.p8_inputs.proofs.Deciding.{unread-rose}
-use Rattle.p8_commands.specs.Commands.{Command, BuildSource, ListSource, RunMemory, RunProgram, Save, Check, Convert, Make, Help}
+use Rattle.p8_commands.specs.Commands.{Command, BuildSource, ListSource, RunMemory, RunProgram, Save, Check, Serial as ReadPin, TypeFile, Wave as ShowWave, Convert, Make, Help}
 use Rattle.p8_work.specs.Texts.{asks_of, IsToldOf, IsTextOf, IsAskedFor, IsBadBy, IsBadHistory}
 use Rattle.p8_prop.specs.Verdicts.{Outside, Verdict, unsaid, stopped, bad, written, unwritten, StopsCommand, IsVerdict, IsCertain, status_of, HasOneVerdict, IsComplete}
 
@@ -62,6 +62,9 @@ module _ (one_check : HasOneCheck) where
   text-one (Check raw file history script) given a b p q =
       let same : Good p.0 ≡ Good q.0 = one_check _ _ _ (Good p.0) (Good q.0) p.1 q.1 in
       p.2 ∙ ap good_line (ap number-of same) ∙ sym q.2
+  text-one (ReadPin raw run pin bits) given a b p q = told-one _ (Serial pin bits) a b p q
+  text-one (ShowWave alone raw all run) given a b p q = told-one _ (Wave all) a b p q
+  text-one (TypeFile file pin bits start) given a b p q = p ∙ sym q
   text-one (Convert kind file) given a b p q = p ∙ sym q
   text-one (Make alone seed) given a b p q = told-one _ (Summary seed) a b p q
   text-one (Help topic) given a b p q = p ∙ sym q

@@ -23,13 +23,15 @@ use std::thread::Threads;
 /// - `build` and `list` write the image and the listing of a source;
 /// - `raw` and `run` write the trace of a run, `save` its history as a file, and `check` how many turns a history file has that is the one of
 ///   a run;
+/// - `serial` writes the bytes that stand on a pin of a run, and `type` a pin script that sends the bytes of a file;
+/// - `wave` writes the wave of a run;
 /// - `convert` writes an image as the other kind of file, and `make` the summary of a run of a made program.
 ///
 /// A file is taken for an image where its name ends in `.binary` or `.eeprom`, and else for the top file of a project of sources, which is built
-/// first: the files that its objects mention are read from the shelf too. `raw`, and `save` and `check` with `--raw`, take it for hub memory, with
-/// cog 0 started on it as PASM. `words` are those after the program's name, and are read by the rules of `clap`; `--help` and `-h` are no command.
+/// first: the files that its objects mention are read from the shelf too. `raw`, and each other command with `--raw`, takes it for hub memory, with cog
+/// 0 started on it as PASM. `words` are those after the program's name, and are read by the rules of `clap`; `--help` and `-h` are no command.
 ///
-/// The turns of `run` and `make` are made by a crew of eight threads, which `starter` gives their work; where one of them isn't started, by this
+/// The turns of `run`, `wave` and `make` are made by a crew of eight threads, which `starter` gives their work; where one of them isn't started, by this
 /// thread. `--alone` asks for this thread alone, which also makes the turns of every other command. The text is the same in each case. With a crew
 /// this call may wait for its threads, and what it promises it promises where it returns.
 ///
@@ -43,7 +45,7 @@ use std::thread::Threads;
 /// - `ShelfFault` only where the shelf has counted a fault;
 /// - `Missing` where the shelf has no file of that name, which the words or the project ask for;
 /// - `BadImage` exactly where the file is no image, with its first fault: of its length, of the sum of its bytes, of the places in its header; for
-///   hub memory exactly where it has more than 32,768 bytes;
+///   hub memory exactly where it has more than 32,768 bytes, and for `type` exactly where it has more than 5,000;
 /// - `BadScript` exactly where the pin script has a bad line, or more than 1,048,576 bytes;
 /// - `BadHistory` exactly where the history file isn't that of the run, with the first turn of which that can be said, and why
 ///   ([`verify`](p8_verify::verify));
@@ -100,7 +102,7 @@ pub fn prop<
     }
 }
 
-/// Does what [`prop`] does, by this thread alone: it waits for nobody and always returns. A `run` or a `make` without `--alone`
+/// Does what [`prop`] does, by this thread alone: it waits for nobody and always returns. A `run`, a `wave` or a `make` without `--alone`
 /// is no command here, and its status is `Usage`; all else is as there.
 pub fn prop_alone<S: Shelf, K: Sink, E: Sink>(
     alloc: Global,

@@ -24,6 +24,10 @@ const HISTORY: &[u8] =
 const OTHER_HISTORY: &[u8] =
     b"P8H1\x11\0\0\0\x40\x9C\0\0\x01\0\0\0\x10\0\0\0\x01\x01\0\0\0\0\0\0\0\0\0\0\0\0\0\0\0\0\0\0";
 
+/// The pin script that sends the byte $41 on pin 0 from clock 1000 on, with 100 clocks a bit.
+const SENT: &[u8] =
+    b"0 00000001\n1000 00000000\n1100 00000001\n1200 00000000\n1700 00000001\n1800 00000000\n1900 00000001\n";
+
 /// The listing of `PUB main`.
 const LISTING: &[u8] = b"object main.spin 0010\nmethod 1 0018\n0018 32\n";
 
@@ -77,7 +81,8 @@ fn words_of(alloc: Global, words: &[&str]) -> Result<Vec<String>, NoMemory> {
     Ok(line)
 }
 
-/// Makes a call of these words, where the shelf has an image, an empty file, a bad pin script, a good and a bad source, and two history files.
+/// Makes a call of these words, where the shelf has an image, an empty file, a bad pin script, a good and a bad source, and two history files, a message and the script that
+/// sends it.
 fn left_by(alloc: Global, words: &[&str], failing: Failing) -> Result<Left, NoMemory> {
     let mut shelf = MemShelf::new(alloc);
     shelf.add("a.binary", IMAGE)?;
@@ -85,6 +90,8 @@ fn left_by(alloc: Global, words: &[&str], failing: Failing) -> Result<Left, NoMe
     shelf.add("a.pins", b"9000 1")?;
     shelf.add("main.spin", b"PUB main\n")?;
     shelf.add("bad.spin", b"CON\n  a = 1\n")?;
+    shelf.add("a.txt", b"A")?;
+    shelf.add("sent.pins", SENT)?;
     shelf.add("a.history", HISTORY)?;
     shelf.add("b.history", OTHER_HISTORY)?;
     let mut shelf = shelf.with(failing_at(alloc, failing.read)?);
@@ -165,6 +172,43 @@ fn checks_a_history(rt: HostRuntime) -> Result<(), Fail> {
     let words = ["check", "a.binary", "c.history", "--pins", "a.pins"];
     let line = "prop: a.pins: line 1\n";
     assert!(rt; refused(rt.alloc(), &words, NOTHING, Status::BadScript, line)?);
+    Ok(())
+}
+
+#[test]
+fn sends_bytes_and_reads_them(rt: HostRuntime) -> Result<(), Fail> {
+    let left = left_by(rt.alloc(), &["type", "a.txt", "0", "100", "1000"], NOTHING)?;
+    assert_eq!(rt; left.status, Status::Ok);
+    assert!(rt; left.out.bytes() == SENT);
+    let rows: [(&str, &[u8]); 2] = [("1951", b"1000 41\nbytes 1\n"), ("1950", b"bytes 0\n")];
+    for (clocks, text) in rows {
+        let words = [
+            "serial",
+            "a.binary",
+            clocks,
+            "0",
+            "100",
+            "--raw",
+            "--pins=sent.pins",
+        ];
+        let left = left_by(rt.alloc(), &words, NOTHING)?;
+        assert!(rt; left.out.bytes() == text);
+    }
+    let words = ["serial", "a.binary", "1951", "32", "100"];
+    assert!(rt; refused(rt.alloc(), &words, NOTHING, Status::Usage, USAGE)?);
+    Ok(())
+}
+
+#[test]
+fn shows_a_wave(rt: HostRuntime) -> Result<(), Fail> {
+    let words = ["wave", "a.binary", "20000", "--alone"];
+    let left = left_by(rt.alloc(), &words, NOTHING)?;
+    assert_eq!(rt; left.status, Status::Ok);
+    assert!(rt;
+        left.out
+            .bytes()
+            .starts_with(b"$version Propeller P8X32A $end\n")
+    );
     Ok(())
 }
 

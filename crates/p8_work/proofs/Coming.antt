@@ -1,5 +1,5 @@
 -- What a command comes to is what comes of it.
-use Rattle.std.proofs.Common.{◌≡◌, ◌∙◌, sym, ap, subst, refl, Bool, ℕ, List, [], ◌∷◌, ◌++◌, Option, Some, None}
+use Rattle.std.proofs.Common.{◌≡◌, ◌∙◌, sym, ap, subst, refl, Bool, ℕ, List, [], ◌∷◌, ◌++◌, length, ◌≤◌, Option, Some, None}
 use Rattle.std.specs.Borrow.{Bor}
 use Rattle.p8_access.specs.declared.memory.Boot.{Boot}
 use Rattle.p8_access.specs.declared.order.Turn.{Turn}
@@ -19,17 +19,18 @@ use Rattle.p8_verify.specs.Verdicts.{IsVerdict}
 use Rattle.p8_finish.specs.declared.finish.Finish.{Finish}
 use Rattle.p8_finish.specs.declared.finish.Finish.TheVariants.{Summary}
 use Rattle.p8_finish.specs.Finishes.{told_by}
+use Rattle.p8_serial.specs.Typed.{typed_text}
 use Rattle.p8_inputs.specs.declared.inputs.Inputs.{Inputs}
 use Rattle.p8_inputs.specs.declared.inputs.Recorded.{Recorded}
 use Rattle.p8_inputs.specs.declared.program.Format.{Format}
-use Rattle.p8_inputs.specs.Asks.{Given, bytes, lines, Give, history, script_ask, check_asks, bytes_in, lines_in, later_bytes_in}
+use Rattle.p8_inputs.specs.Asks.{most_sent, Given, bytes, lines, Give, history, script_ask, check_asks, bytes_in, lines_in, later_bytes_in}
 use Rattle.p8_inputs.specs.Inputs.{IsProgram, IsScriptFor}
 use Rattle.p8_inputs.specs.Naming as inputs
 use Rattle.p8_inputs.specs.Programs.{format_for, world_of, memory_by, first_by, boot_by, format_of, other_file}
 use Rattle.p8_inputs.specs.Runs.{Begins, HasProperTrees}
 use Rattle.p8_inputs.specs.Sources.{IsImageFrom, IsListingFrom}
 use Rattle.p8_commands.specs.declared.kind.ImageKind.{ImageKind}
-use Rattle.p8_commands.specs.Commands.{Command, Running, BuildSource, ListSource, Check, Convert, Make}
+use Rattle.p8_commands.specs.Commands.{Command, Running, BuildSource, ListSource, Check, TypeFile, Convert, Make}
 use Rattle.p8_commands.specs.Naming as commands
 use Rattle.p8_work.specs.declared.work.Answer.{Answer}
 use Rattle.p8_work.specs.declared.work.Answer.TheVariants.{Text, Bad}
@@ -54,6 +55,10 @@ listed files file text is = ((bytes text ∷ [], (is, tt), refl), tt)
 -- so is an image as the other kind of file
 pub converted : (files : Files) (kind : ImageKind) (file text : List ℕ) → ((xs : List ℕ) × IsProgram files (format_of kind) file xs × (text ≡ other_file kind xs)) → IsText files (Convert kind file) text
 converted files kind file text is = ((bytes is.0 ∷ [], (is.1, tt), is.2), tt)
+
+-- so is a script that sends a message
+pub typed-told : (files : Files) (file xs text : List ℕ) (pin bits start : ℕ) → IsRead files file xs → length xs ≤ most_sent → text ≡ typed_text xs pin bits start → IsText files (TypeFile file pin bits start) text
+typed-told files file xs text pin bits start read few is = ((bytes xs ∷ [], ((read, few), tt), is), tt)
 
 -- ---- a run
 

@@ -19,9 +19,9 @@ use Rattle.p8_inputs.specs.declared.program.Format.TheVariants.{Memory, Source}
 use Rattle.p8_inputs.specs.Inputs.{IsProgram, IsScriptFor}
 use Rattle.p8_inputs.specs.Programs.{format_for, format_named, world_of}
 use Rattle.p8_inputs.specs.Sources.{IsBuiltFrom}
-use Rattle.p8_commands.specs.Commands.{Command, Running, BuildSource, ListSource, RunMemory, RunProgram, Save, Check, Convert, Make, Help}
+use Rattle.p8_commands.specs.Commands.{Command, Running, BuildSource, ListSource, RunMemory, RunProgram, Save, Check, Serial as ReadPin, TypeFile, Wave as ShowWave, Convert, Make, Help}
 use Rattle.p8_finish.specs.declared.finish.Finish.{Finish}
-use Rattle.p8_finish.specs.declared.finish.Finish.TheVariants.{Trace, Saved}
+use Rattle.p8_finish.specs.declared.finish.Finish.TheVariants.{Trace, Saved, Serial, Wave}
 use Rattle.p8_finish.specs.Finishes.{told_by}
 
 -- the one history of a world: it has ended, its keys rise, and no other one has ended
@@ -67,6 +67,9 @@ IsHeadline files (RunMemory run) text = IsRun files Memory run (Trace run.dump) 
 IsHeadline files (RunProgram alone run) text = IsRun files (format_named run.file) run (Trace run.dump) text
 IsHeadline files (Save raw run) text = IsRun files (format_for raw run.file) run Saved text
 IsHeadline files (Check raw file history script) text = Unit {0}
+IsHeadline files (ReadPin raw run pin bits) text = IsRun files (format_for raw run.file) run (Serial pin bits) text
+IsHeadline files (ShowWave alone raw all run) text = IsRun files (format_for raw run.file) run (Wave all) text
+IsHeadline files (TypeFile file pin bits start) text = Unit {0}
 IsHeadline files (Convert kind file) text = Unit {0}
 IsHeadline files (Make alone seed) text = Unit {0}
 IsHeadline files (Help topic) text = Unit {0}

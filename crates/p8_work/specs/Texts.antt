@@ -12,14 +12,15 @@ use Rattle.p8_verify.specs.declared.verdicts.Verdict as checked
 use Rattle.p8_verify.specs.declared.verdicts.Verdict.TheVariants.{Good, Bad}
 use Rattle.p8_verify.specs.Verdicts.{IsVerdict}
 use Rattle.p8_finish.specs.declared.finish.Finish.{Finish}
-use Rattle.p8_finish.specs.declared.finish.Finish.TheVariants.{Trace, Summary, Saved}
+use Rattle.p8_finish.specs.declared.finish.Finish.TheVariants.{Trace, Summary, Saved, Serial, Wave}
 use Rattle.p8_finish.specs.Finishes.{told_by}
 use Rattle.p8_finish.specs.Checks.{good_line}
+use Rattle.p8_serial.specs.Typed.{typed_text}
 use Rattle.p8_inputs.specs.declared.program.Format.{Format}
 use Rattle.p8_inputs.specs.declared.program.Format.TheVariants.{Memory, Source}
 use Rattle.p8_inputs.specs.Programs.{format_for, format_named, format_of, other_file, boot_by, world_of}
-use Rattle.p8_inputs.specs.Asks.{Ask, program, listing, run_asks, check_asks, Given, bytes_in, lines_in, later_bytes_in, Give}
-use Rattle.p8_commands.specs.Commands.{Command, Running, BuildSource, ListSource, RunMemory, RunProgram, Save, Check, Convert, Make, Help}
+use Rattle.p8_inputs.specs.Asks.{Ask, program, listing, message, run_asks, check_asks, Given, bytes_in, lines_in, later_bytes_in, Give}
+use Rattle.p8_commands.specs.Commands.{Command, Running, BuildSource, ListSource, RunMemory, RunProgram, Save, Check, Serial as ReadPin, TypeFile, Wave as ShowWave, Convert, Make, Help}
 use Rattle.p8_commands.specs.Pages.{help_text}
 
 -- what a command reads, in this order: a run its program and then its pin script, where one is named, and a check a history after both
@@ -30,6 +31,9 @@ asks_of (RunMemory run) = run_asks Memory run.file run.script
 asks_of (RunProgram alone run) = run_asks (format_named run.file) run.file run.script
 asks_of (Save raw run) = run_asks (format_for raw run.file) run.file run.script
 asks_of (Check raw file history script) = check_asks (format_for raw file) file script history
+asks_of (ReadPin raw run pin bits) = run_asks (format_for raw run.file) run.file run.script
+asks_of (ShowWave alone raw all run) = run_asks (format_for raw run.file) run.file run.script
+asks_of (TypeFile file pin bits start) = message file ∷ []
 asks_of (Convert kind file) = program (format_of kind) file ∷ []
 asks_of (Make alone seed) = []
 asks_of (Help topic) = []
@@ -54,6 +58,9 @@ IsTextOf (RunMemory run) given text = IsToldOfRun Memory run (Trace run.dump) gi
 IsTextOf (RunProgram alone run) given text = IsToldOfRun (format_named run.file) run (Trace run.dump) given text
 IsTextOf (Save raw run) given text = IsToldOfRun (format_for raw run.file) run Saved given text
 IsTextOf (Check raw file history script) given text = (count : ℕ) × HasVerdict (format_for raw file) given (Good count) × (text ≡ good_line count)
+IsTextOf (ReadPin raw run pin bits) given text = IsToldOfRun (format_for raw run.file) run (Serial pin bits) given text
+IsTextOf (ShowWave alone raw all run) given text = IsToldOfRun (format_for raw run.file) run (Wave all) given text
+IsTextOf (TypeFile file pin bits start) given text = text ≡ typed_text (bytes_in given) pin bits start
 IsTextOf (Convert kind file) given text = text ≡ other_file kind (bytes_in given)
 IsTextOf (Make alone seed) given text = IsToldOf (made_world seed) (Summary seed) text
 IsTextOf (Help topic) given text = text ≡ help_text topic

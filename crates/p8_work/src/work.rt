@@ -1,7 +1,8 @@
 // What each command reads, and what it comes to then.
-ghost use Rattle.std.specs.Prelude.{◌≡◌, ◌≤◌, ◌∷◌, [], ℕ, List, Bool, Err, IfOk, IfErr};
+ghost use Rattle.std.specs.Prelude.{◌≡◌, ◌<◌, ◌≤◌, ◌∷◌, [], ℕ, List, Bool, Err, IfOk, IfErr};
 ghost use Rattle.p8_access.specs.declared.memory.Boot.{Boot};
 ghost use Rattle.p8_history.specs.Worlds.{Line};
+ghost use Rattle.p8_serial.specs.Laws.{IsRate};
 ghost use Rattle.p8_verify.specs.Answers.{Tells};
 ghost use Rattle.p8_access.specs.Boots.{ram_of};
 ghost use Rattle.p8_access.specs.Proper.{IsProperOrigin};
@@ -13,7 +14,7 @@ ghost use Rattle.p8_finish.specs.Finishes.{CanBeTold};
 ghost use Rattle.p8_inputs.specs.Asks.{Stops, program as program_ask, run_asks};
 ghost use Rattle.p8_inputs.specs.Sources.{IsImageFrom};
 ghost use Rattle.p8_inputs.specs.declared.program.Format.TheVariants.{Source};
-ghost use Rattle.p8_commands.specs.Commands.{BuildSource, ListSource, Check, Convert, Make, Help};
+ghost use Rattle.p8_commands.specs.Commands.{BuildSource, ListSource, Check, TypeFile, Convert, Make, Help};
 ghost use Rattle.p8_commands.specs.Naming.{name_of};
 ghost use Rattle.p8_commands.specs.Seen.{command_read, running, HasLimits, IsWithin};
 ghost use Rattle.p8_work.specs.Headline.{IsBuild};
@@ -26,12 +27,13 @@ use p8_commands::{Command, ImageKind, Run, Subcommand, help_page};
 use p8_finish::{Finish, good_line};
 use p8_inputs::{
     Format, Program, Recorded, Stop, image_of_source, listing_of_source, other_image, read_inputs,
-    read_recorded,
+    read_message, read_recorded,
 };
 use p8_io::Shelf;
 use p8_ledger::{Limits, Start};
 use p8_made::made_image;
 use p8_pins::PinScript;
+use p8_serial::typed;
 use p8_tree::Text;
 use p8_verify::{Cause, VerifyFault, verify};
 use p8_words::NoMemory;
@@ -207,6 +209,29 @@ fn check_work<S: Shelf>(
     Ok(Work::Done(answer))
 }
 
+/// A pin script that sends the bytes of a file.
+fn typed_work<S: Shelf>(
+    alloc: Global,
+    file: &str,
+    pin: u8,
+    bits: u32,
+    start: u64,
+    shelf: &mut S,
+) -> Result<Work, Stop>
+    requires pin { pin < 32 }
+    requires rate { IsRate bits }
+    requires begins { (1 ≤ start) × (start ≤ 100000000) }
+    ensures work { IfOk result (IsWork (S.files shelf.old) (TypeFile file.now pin bits start)) }
+    ensures stopped { IfErr result
+        (Stops (S.files shelf.old) (S.faults shelf.old) (S.faults shelf.new) (asks_of (TypeFile file.now pin bits start))) }
+    ensures later { S.faults shelf.old ≤ S.faults shelf.new }
+    ensures kept { S.files shelf.new ≡ S.files shelf.old }
+{
+    let bytes = read_message(alloc, file, shelf)?;
+    let text = typed(alloc, &bytes, pin, bits, start)?;
+    Ok(Work::Done(Answer::Text(text)))
+}
+
 /// The boot of the made program of a seed.
 fn made_boot(alloc: Global, seed: u32) -> Result<Boot, NoMemory>
     ensures ram { IfOk result (λ boot. boot.ram ≡ ram_of (made_bytes seed)) }
@@ -289,6 +314,25 @@ pub fn work_of<S: Shelf>(alloc: Global, command: Command<'_>, shelf: &mut S) -> 
             history,
             script,
         } => check_work(alloc, raw, file, script, history, shelf),
+        Command::Serial {
+            raw,
+            run,
+            pin,
+            bits,
+        } => {
+            let format = Format::chosen(raw, run.file);
+            run_work(alloc, format, run, Finish::Serial { pin, bits }, shelf)
+        }
+        Command::Wave { raw, all, run, .. } => {
+            let format = Format::chosen(raw, run.file);
+            run_work(alloc, format, run, Finish::Wave { all }, shelf)
+        }
+        Command::TypeFile {
+            file,
+            pin,
+            bits,
+            start,
+        } => typed_work(alloc, file, pin, bits, start, shelf),
         Command::Convert { kind, file } => other_work(alloc, kind, file, shelf),
         Command::Make { seed, .. } => {
             let work = made_work(alloc, seed)?;

@@ -1,5 +1,8 @@
-use Rattle.std.proofs.Common.{◌≡◌, reverse, subst, sym, IfOk}
+use Rattle.std.proofs.Common.{◌≡◌, refl, reverse, subst, sym, IfOk}
 use Rattle.std.proofs.lemmas.Result.{IfOk-weaker}
+use Rattle.p8_history.proofs.Rising.{rises}
+use Rattle.p8_lives.specs.Lives.{asks}
+use Rattle.p8_lives.specs.Laws.{one-asked, asked-first, asked-later}
 use Rattle.p8_ledger.specs.Worlds.{world_of}
 use Rattle.p8_finish.specs.declared.finish.Finish.{Finish}
 use Rattle.p8_finish.specs.Finishes.{told_by}
@@ -11,3 +14,10 @@ returns-in-Saved c =
     let past = reverse c.args.ended.now.history.turns.list in
     subst (λ (finish : Finish). IfOk c.history_bytes.result (λ text. text.items ≡ told_by finish w past)) (sym c.in-Saved.is)
     (IfOk-weaker c.history_bytes.result _ _ (λ bytes is. is.bytes_are) (c.history_bytes.ensures c.args.script.now))
+
+pub returns-in-Wave : goal.returns-in-Wave
+returns-in-Wave c =
+    let w = world_of c.args.ended.now.history.boot c.args.script.now c.args.ended.now.history.limits in
+    let past = reverse c.args.ended.now.history.turns.list in
+    subst (λ (finish : Finish). IfOk c.wave.result (λ text. text.items ≡ told_by finish w past)) (sym c.in-Wave.is)
+    (c.wave.ensures w refl (rises asks w one-asked asked-first asked-later past c.requires.ended.legal))

@@ -1,10 +1,10 @@
 use Rattle.std.proofs.Common.{subst, sym, IfOk}
 use Rattle.std.proofs.lemmas.Result.{IfOk-weaker}
-use Rattle.p8_finish.specs.declared.finish.Finish.TheVariants.{Trace, Saved}
+use Rattle.p8_finish.specs.declared.finish.Finish.TheVariants.{Trace, Saved, Serial, Wave}
 use Rattle.p8_inputs.specs.declared.program.Format.{Format}
 use Rattle.p8_inputs.specs.declared.program.Format.TheVariants.{Memory}
 use Rattle.p8_inputs.specs.Programs.{format_for, format_named}
-use Rattle.p8_commands.specs.Commands.{RunMemory, RunProgram, Save}
+use Rattle.p8_commands.specs.Commands.{RunMemory, RunProgram, Save, Serial as ReadPin, Wave as ShowWave}
 use Rattle.p8_commands.specs.declared.command.Command.{Command}
 use Rattle.p8_commands.specs.Seen.{command_read, running}
 use Rattle.p8_work.specs.Works.{IsRunWork, IsWork}
@@ -35,6 +35,27 @@ returns-in-Save-clause-work g c =
     subst (λ (command : Command). IfOk result (IsWork files (command_read command))) (sym c.in-Save.is)
     (IfOk-weaker result _ _ (run-work files (Save c.in-Save.raw run) (format_for c.in-Save.raw run.file) run Saved (λ text is. is))
     (subst (λ (format : Format). IfOk result (IsRunWork files format run Saved)) c.chosen.ensures c.run_work-in-Save.ensures.work))
+
+pub returns-in-Serial-clause-work : goal.returns-in-Serial-clause-work
+returns-in-Serial-clause-work g c =
+    let files = g.S.Shelf.files c.args.shelf.now in
+    let run = running c.in-Serial.run' in
+    let result = c.run_work-in-Serial.result in
+    let finish = Serial c.in-Serial.pin c.in-Serial.bits in
+    subst (λ (command : Command). IfOk result (IsWork files (command_read command))) (sym c.in-Serial.is)
+    (IfOk-weaker result _ _ (run-work files (ReadPin c.in-Serial.raw run c.in-Serial.pin c.in-Serial.bits) (format_for c.in-Serial.raw run.file) run finish (λ text is. is))
+    (subst (λ (format : Format). IfOk result (IsRunWork files format run finish)) c.chosen-format.ensures c.run_work-in-Serial.ensures.work))
+
+pub returns-in-Wave-clause-work : goal.returns-in-Wave-clause-work
+returns-in-Wave-clause-work g c =
+    let files = g.S.Shelf.files c.args.shelf.now in
+    let run = running c.in-Wave.run' in
+    let result = c.run_work-in-Wave.result in
+    let finish = Wave c.in-Wave.all in
+    let command = ShowWave c.in-Wave.alone c.in-Wave.raw c.in-Wave.all run in
+    subst (λ (command : Command). IfOk result (IsWork files (command_read command))) (sym c.in-Wave.is)
+    (IfOk-weaker result _ _ (run-work files command (format_for c.in-Wave.raw run.file) run finish (λ text is. is))
+    (subst (λ (format : Format). IfOk result (IsRunWork files format run finish)) c.chosen-format-in-Wave.ensures c.run_work-in-Wave.ensures.work))
 
 pub returns-in_ok-work-in-Make-clause-work : goal.returns-in_ok-work-in-Make-clause-work
 returns-in_ok-work-in-Make-clause-work g c =
