@@ -165,7 +165,7 @@ fn checks_a_history(rt: HostRuntime) -> Result<(), Fail> {
     let words = ["check", "a.binary", "a.history", "--raw"];
     let left = left_by(rt.alloc(), &words, NOTHING)?;
     assert_eq!(rt; left.status, Status::Ok);
-    assert!(rt; left.out.bytes() == b"good 1\n");
+    assert!(rt; left.out.bytes() == b"good 1\n".as_slice());
     let words = ["check", "a.binary", "b.history", "--raw"];
     let line = "prop: b.history: turn 1 key\n";
     assert!(rt; refused(rt.alloc(), &words, NOTHING, Status::BadHistory, line)?);
