@@ -1,5 +1,5 @@
 -- What a shelf of files answers (this project's profile). A name and a file are lists of bytes.
-use Rattle.std.specs.Prelude.{ℕ, ◌≡◌, List, Option, Some, None, Result, Ok, Err, take}
+use Rattle.std.specs.Prelude.{ℕ, ◌≡◌, List, [], ◌∷◌, ◌++◌, Option, Some, None, Result, Ok, Err, take}
 use Rattle.std.specs.declared.vec.Vec.{Vec}
 use Rattle.std.specs.declared.alloc.Global.{Global}
 use Rattle.p8_io.specs.declared.shelf.ShelfError.{ShelfError}
@@ -9,6 +9,20 @@ use Rattle.p8_io.specs.Counts.{Rose}
 -- the files of a shelf by name, where it tells them
 abbrev pub Files : Type 0
 Files = Option (List ℕ → Option (List ℕ))
+
+-- the names that were read so far, in order and each as often as it was read, where the shelf tells them
+abbrev pub Log : Type 0
+Log = Option (List (List ℕ))
+
+-- the log with a name more
+abbrev pub logged : Log → List ℕ → Log
+logged None name = None
+logged (Some past) name = Some (past ++ name ∷ [])
+
+-- between two logs exactly these names were read, in this order; a shelf may tell none from some read on
+abbrev pub WereRead : Log → Log → List (List ℕ) → Type 0
+WereRead before None names = Unit {0}
+WereRead before (Some now) names = (past : List (List ℕ)) × (before ≡ Some past) × (now ≡ past ++ names)
 
 -- how many bytes of a file are read: one more than the 1,048,576 that any file of the project may have
 unfoldable pub read_limit : ℕ

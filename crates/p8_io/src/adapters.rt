@@ -1,9 +1,9 @@
 // The files and the streams of the system, as a shelf and as sinks. They tell no contents.
-ghost use Rattle.std.specs.Prelude.{◌≡◌, ◌≤◌, ℕ, None, IfOk, IfSome, OnOk, is_err, take, vec_len};
+ghost use Rattle.std.specs.Prelude.{◌≡◌, ◌≤◌, ◌∷◌, [], ℕ, None, IfOk, IfSome, OnOk, is_err, take, vec_len};
 ghost use Rattle.std.specs.Bool.{OnTrue};
 ghost use Rattle.std.specs.Io.KnownBytes.{Appends};
 ghost use Rattle.p8_io.specs.Memory.{counted_if};
-ghost use Rattle.p8_io.specs.Shelves.{Reads, read_limit};
+ghost use Rattle.p8_io.specs.Shelves.{Reads, WereRead, read_limit};
 ghost use Rattle.p8_io.specs.Sinks.{Writes};
 
 use crate::count::raise;
@@ -99,6 +99,8 @@ fn read_file<R: Files>(
 impl<'a, R: Files> Shelf for FileShelf<'a, R> {
     ghost files = { λ _. None };
 
+    ghost log = { λ _. None };
+
     ghost faults = { λ faults. faults };
 
     #[tactic(auto, unfolding(crate::specs::Shelves::read_limit))]
@@ -107,6 +109,7 @@ impl<'a, R: Files> Shelf for FileShelf<'a, R> {
         ensures reads { Reads self.old self.new None name.now result }
         ensures limited { IfOk result (λ bytes. vec_len bytes ≤ read_limit) }
         ensures later { self.old ≤ self.new }
+        ensures logged { WereRead None None (name.now ∷ []) }
 
         // A read that gives bytes is no fault.
         ensures quiet { OnOk result (self.new ≡ self.old) }

@@ -4,6 +4,7 @@
 mod adapters;
 mod count;
 mod fails;
+mod log;
 mod memory_shelf;
 mod memory_sink;
 mod pieces;

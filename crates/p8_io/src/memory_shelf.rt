@@ -1,13 +1,14 @@
 // A shelf of files in memory.
-ghost use Rattle.std.specs.Prelude.{◌≡◌, ◌≤◌, ◌↔◌, [], None, IsTrue, false, OnOk, OnErr, IfOk, take, vec_len};
+ghost use Rattle.std.specs.Prelude.{◌≡◌, ◌≤◌, ◌↔◌, ◌∷◌, [], None, IsTrue, false, OnOk, OnErr, IfOk, take, vec_len};
 ghost use Rattle.std.specs.Option.{option_copied};
 ghost use Rattle.std.specs.FinMap as map;
 ghost use Rattle.p8_io.specs.Counts.{raised};
-ghost use Rattle.p8_io.specs.Shelves.{Reads, read_limit};
-ghost use Rattle.p8_io.specs.Memory.{empty_shelf, counted_if, is_next_listed};
+ghost use Rattle.p8_io.specs.Shelves.{Reads, WereRead, logged, read_limit};
+ghost use Rattle.p8_io.specs.Memory.{empty_shelf, counted_if, is_next_listed, names_of};
 
 use crate::count::raise;
 use crate::fails::{Calls, FailList};
+use crate::log::ReadLog;
 use crate::shelf::{Shelf, ShelfError};
 use p8_words::NoMemory;
 use std::alloc::{AllocError, Global};
@@ -19,14 +20,16 @@ pub(crate) const READ_LIMIT: usize = 1_048_577;
 
 /// Files in memory, for tests and for callers that have the bytes already.
 ///
-/// A contract sees the files by name, the count of faults, how many reads there were, and the numbers of
-/// those that are to fail. It tells its files, so a read answers `Missing` exactly where there is no file
-/// of the name, and fails exactly where its number is listed.
+/// A contract sees the files by name, the count of faults, which names were read and how many reads there were, and
+/// the numbers of those that are to fail. It tells its files, so a read answers `Missing` exactly where there is no file
+/// of the name, and fails exactly where its number is listed. It tells the names that were read until there is no
+/// memory for one of them.
 #[derive(Drop)]
 pub struct MemShelf {
     alloc: Global,
     contents: BTreeMap<String, Vec<u8>>,
     calls: Calls,
+    log: ReadLog,
     faults: u64,
 }
 
@@ -41,6 +44,7 @@ impl Model for MemShelf {
     ghost view = { λ shelf. record {
       files = files_of shelf.contents.entries;
       faults = shelf.faults;
+      log = shelf.log;
       calls = shelf.calls.made;
       fails = shelf.calls.fails;
     } };
@@ -58,6 +62,7 @@ impl MemShelf {
                 made: 0,
                 fails: FailList::new(alloc),
             },
+            log: ReadLog::new(alloc),
             faults: 0,
         }
     }
@@ -66,6 +71,7 @@ impl MemShelf {
     pub fn with(self, fails: FailList) -> MemShelf
         ensures files { result.files ≡ self.files }
         ensures faults { result.faults ≡ self.faults }
+        ensures log { result.log ≡ self.log }
         ensures calls { result.calls ≡ self.calls }
         ensures fails { result.fails ≡ fails }
     {
@@ -76,6 +82,7 @@ impl MemShelf {
                 made: self.calls.made,
                 fails,
             },
+            log: self.log,
             faults: self.faults,
         }
     }
@@ -85,6 +92,7 @@ impl MemShelf {
         ensures ok { OnOk result (self.new.files ≡ map.insert self.old.files name.now bytes.now) }
         ensures err { OnErr result (self.new.files ≡ self.old.files) }
         ensures faults { self.new.faults ≡ self.old.faults }
+        ensures log { self.new.log ≡ self.old.log }
         ensures calls { self.new.calls ≡ self.old.calls }
         ensures fails { self.new.fails ≡ self.old.fails }
     {
@@ -94,6 +102,14 @@ impl MemShelf {
             Ok(_) => Ok(()),
             Err(_) => Err(NoMemory),
         }
+    }
+
+    /// The names that were read since `new`, in order and each as often as it was read, whatever came of it; None
+    /// where there was no memory for one of them.
+    pub fn names_read(&self) -> Option<&[String]>
+        ensures { names_of result ≡ self.now.log }
+    {
+        self.log.names()
     }
 
     // The bytes of the file of that name.
@@ -120,6 +136,8 @@ impl Shelf for MemShelf {
 
     ghost files = { λ shelf. Some (map.get shelf.files) };
 
+    ghost log = { λ shelf. shelf.log };
+
     ghost faults = { λ shelf. shelf.faults };
 
     #[tactic(auto, unfolding(crate::specs::Shelves::read_limit))]
@@ -129,6 +147,10 @@ impl Shelf for MemShelf {
         ensures limited { IfOk result (λ bytes. vec_len bytes ≤ read_limit) }
         ensures later { self.old.faults ≤ self.new.faults }
         ensures kept { self.new.files ≡ self.old.files }
+        ensures logged { WereRead self.old.log self.new.log (name.now ∷ []) }
+
+        // After bytes it tells that too.
+        ensures noted { OnOk result (self.new.log ≡ logged self.old.log name.now) }
 
         // The listed reads fail, and no others.
         ensures failed { (result ≡ Err ShelfError.Failed) ↔ IsTrue (is_next_listed self.old.fails self.old.calls) }
@@ -137,6 +159,7 @@ impl Shelf for MemShelf {
         ensures calls { self.new.calls ≡ raised self.old.calls }
         ensures fails { self.new.fails ≡ self.old.fails }
     {
+        let noted = self.log.add(self.alloc, name);
         if self.calls.is_failing() {
             raise(&mut self.faults);
             return Err(ShelfError::Failed);
@@ -144,9 +167,9 @@ impl Shelf for MemShelf {
         let Some(file) = self.file(name) else {
             return Err(ShelfError::Missing);
         };
-        match start_of(alloc, file, READ_LIMIT) {
-            Ok(start) => Ok(start),
-            Err(_) => Err(ShelfError::NoMemory),
+        match (noted, start_of(alloc, file, READ_LIMIT)) {
+            (Ok(()), Ok(start)) => Ok(start),
+            _ => Err(ShelfError::NoMemory),
         }
     }
 }

@@ -1,7 +1,7 @@
 // A shelf of files, and why a read of it gave no bytes.
-ghost use Rattle.std.specs.Prelude.{◌≡◌, ◌≤◌, ℕ, IfOk, vec_len};
+ghost use Rattle.std.specs.Prelude.{◌≡◌, ◌≤◌, ◌∷◌, [], ℕ, IfOk, vec_len};
 ghost use Rattle.p8_io.specs.declared.shelf.ShelfError.TheVariants.{NoMemory};
-ghost use Rattle.p8_io.specs.Shelves.{Files, Reads, read_limit};
+ghost use Rattle.p8_io.specs.Shelves.{Files, Log, Reads, WereRead, read_limit};
 
 use std::alloc::{AllocError, Global};
 use std::error::Error;
@@ -42,10 +42,14 @@ impl From<AllocError> for ShelfError {
 ///
 /// A shelf counts its faults, and a read that fails for a reason of the outside raises the count: it
 /// is then greater than before the call, or stands at the last value of 64 bits. A shelf in memory
-/// also tells contracts which files it has; one over the system's files tells nothing of them.
+/// also tells contracts which files it has and which were read; one over the system's files tells
+/// neither.
 pub trait Shelf {
     /// The bytes of each file, where the shelf tells them.
     ghost files: { Self → Files };
+
+    /// The names that were read so far, in order, where the shelf tells them.
+    ghost log: { Self → Log };
 
     /// How many faults there have been.
     ghost faults: { Self → ℕ };
@@ -54,12 +58,14 @@ pub trait Shelf {
     ///
     /// `Missing`: there is no file of that name. A shelf that doesn't tell its files counts this as a
     /// fault too. `Failed`: the file could not be read; the count of faults rose. `NoMemory`: there
-    /// was no memory for the bytes. The files stay as they were.
+    /// was no memory for the bytes. The files stay as they were. Whatever the answer is, the name is
+    /// one more of those that were read.
     fn read(&mut self, alloc: Global, name: &str) -> Result<Vec<u8>, ShelfError>
         // Where the files are told, `Ok` has the start of the named one, so a name that the shelf
         // lacks is never `Ok`.
         ensures reads { Reads (faults self.old) (faults self.new) (files self.old) name.now result }
         ensures limited { IfOk result (λ bytes. vec_len bytes ≤ read_limit) }
         ensures later { faults self.old ≤ faults self.new }
-        ensures kept { files self.new ≡ files self.old };
+        ensures kept { files self.new ≡ files self.old }
+        ensures logged { WereRead (log self.old) (log self.new) (name.now ∷ []) };
 }
