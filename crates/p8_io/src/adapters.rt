@@ -14,17 +14,25 @@ use std::alloc::Global;
 use std::fs::File;
 use std::io::{Error, ErrorKind, Read, Write};
 use std::marker::Model;
+use std::path::{Path, PathBuf};
 use std::rt::Files;
 
 /// The files of the system, by their paths.
 ///
-/// A read is `Missing` where the system has nothing of that name, and `Failed` at every other fault, as at
-/// a folder. Either raises the count of faults by one. Want of memory, the system's too, is `NoMemory` and
+/// A name is looked for as it stands. Where nothing of that name is there, it is looked for beside the first file that
+/// was read, and then in the folders that the shelf was given, in their order; a path from the root has one place.
+///
+/// A read is `Missing` where the system has nothing of that name in any of these, and `Failed` at every other fault,
+/// as at a folder. Either raises the count of faults by one. Want of memory, the system's too, is `NoMemory` and
 /// no fault. A contract sees the count alone, and nothing of what the files hold.
 #[derive(Drop)]
 pub struct FileShelf<'a, R> {
     rt: &'a R,
     faults: u64,
+    // Where a name is looked for that isn't there as it stands.
+    folders: Vec<PathBuf>,
+    // Whether the folder of the first file that was read is among them.
+    has_read: bool,
 }
 
 impl<'a, R> Model for FileShelf<'a, R> {
@@ -36,11 +44,32 @@ impl<'a, R> Model for FileShelf<'a, R> {
 }
 
 impl<'a, R: Files> FileShelf<'a, R> {
-    /// A shelf without faults so far.
-    pub fn new(rt: &'a R) -> FileShelf<'a, R>
+    /// A shelf without faults so far, which also looks for files in these folders.
+    pub fn new(rt: &'a R, folders: Vec<PathBuf>) -> FileShelf<'a, R>
         ensures { result ≡ 0 }
     {
-        FileShelf { rt, faults: 0 }
+        FileShelf {
+            rt,
+            faults: 0,
+            folders,
+            has_read: false,
+        }
+    }
+
+    // Reads a file. The folder of the first one becomes the first of those in which others are looked for.
+    fn read_found(&mut self, alloc: Global, name: &str) -> Result<Vec<u8>, ShelfError>
+        ensures limited { IfOk result (λ bytes. vec_len bytes ≤ READ_LIMIT) }
+        ensures quiet { self.new ≡ self.old }
+    {
+        let name = Path::new(name);
+        let (path, bytes) = read_first(self.rt, alloc, &self.folders, name, READ_LIMIT)?;
+        if let (false, Some(folder)) = (self.has_read, path.as_path().parent()) {
+            match self.folders.insert(0, folder.to_path_buf(alloc)?) {
+                Ok(()) => self.has_read = true,
+                Err(_) => return Err(ShelfError::NoMemory),
+            }
+        }
+        Ok(bytes)
     }
 }
 
@@ -85,15 +114,38 @@ fn first_bytes<F: Read>(alloc: Global, file: &mut F, limit: usize) -> Result<Vec
 fn read_file<R: Files>(
     rt: &R,
     alloc: Global,
-    name: &str,
+    path: Path<'_>,
     limit: usize,
 ) -> Result<Vec<u8>, ShelfError>
     ensures { IfOk result (λ bytes. vec_len bytes ≤ limit) }
 {
-    match File::open(rt, name) {
+    match File::open(rt, path) {
         Ok(mut file) => first_bytes(alloc, &mut file, limit),
         Err(error) => Err(cause_at_open(&error)),
     }
+}
+
+// Reads the first bytes of the file of this name, as it stands or else in the first of the folders that has it, and
+// tells its path.
+fn read_first<R: Files>(
+    rt: &R,
+    alloc: Global,
+    folders: &[PathBuf],
+    name: Path<'_>,
+    limit: usize,
+) -> Result<(PathBuf, Vec<u8>), ShelfError>
+    ensures { IfOk result (λ found. vec_len found.1 ≤ limit) }
+{
+    let mut path = name.to_path_buf(alloc)?;
+    for folder in folders {
+        match read_file(rt, alloc, path.as_path(), limit) {
+            Ok(bytes) => return Ok((path, bytes)),
+            Err(ShelfError::Missing) => path = folder.as_path().join(alloc, name)?,
+            Err(error) => return Err(error),
+        }
+    }
+    let bytes = read_file(rt, alloc, path.as_path(), limit)?;
+    Ok((path, bytes))
 }
 
 impl<'a, R: Files> Shelf for FileShelf<'a, R> {
@@ -114,7 +166,7 @@ impl<'a, R: Files> Shelf for FileShelf<'a, R> {
         // A read that gives bytes is no fault.
         ensures quiet { OnOk result (self.new ≡ self.old) }
     {
-        match read_file(self.rt, alloc, name, READ_LIMIT) {
+        match self.read_found(alloc, name) {
             Ok(bytes) => Ok(bytes),
             Err(ShelfError::NoMemory) => Err(ShelfError::NoMemory),
             Err(error) => {
