@@ -80,7 +80,7 @@ fn a_stream_that_takes_no_more_fails(rt: HostRuntime) {
 #[test]
 fn the_system_lacks_or_refuses_files(rt: HostRuntime) {
     let alloc = rt.alloc();
-    let mut shelf = FileShelf::new(&rt);
+    let mut shelf = FileShelf::new(&rt, Vec::new(rt.alloc()));
     for (name, cause) in [
         ("no such file.spin", ShelfError::Missing),
         (".", ShelfError::Failed),

@@ -97,7 +97,12 @@ impl<'a> Run<'a> {
                 inputs_in(rt.alloc(), program, self.pins, &mut project.shelf)
             }
             Format::Memory | Format::Image | Format::Eeprom => {
-                inputs_in(rt.alloc(), self.program, self.pins, &mut FileShelf::new(rt))
+                inputs_in(
+                    rt.alloc(),
+                    self.program,
+                    self.pins,
+                    &mut FileShelf::new(rt, Vec::new(rt.alloc())),
+                )
             }
         }
     }

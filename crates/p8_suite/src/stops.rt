@@ -38,7 +38,7 @@ impl<'a> Stopped<'a> {
             file: self.image,
             format: Format::Image,
         };
-        let mut shelf = FileShelf::new(rt);
+        let mut shelf = FileShelf::new(rt, Vec::new(rt.alloc()));
         match read_inputs(alloc, program, named(self.pins), &mut shelf) {
             Ok(_) => Ok(false),
             Err(stop) => {
