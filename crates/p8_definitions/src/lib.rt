@@ -18,5 +18,5 @@ pub use labels::first_label_repeat;
 pub use language::{NamedConstant, predefined};
 pub use name_set::NameSet;
 pub use names::{Defined, is_local, names_of, own_names};
-pub use repeats::{FileNames, file_names, first_own_repeat};
+pub use repeats::{FileNames, file_names, first_own_repeat, predefined_names};
 pub use rules::{count_fault, count_value, first_count_fault, first_params_fault, lacks_pub};

@@ -1,7 +1,7 @@
 // Names that are defined twice.
 ghost use Rattle.std.specs.Prelude.{◌≡◌, ℕ, List, ◌++◌, ◌↔◌, IsTrue, Contains, IfOk, OnOk, map};
 ghost use Rattle.p8_tree.specs.Views.{method_of};
-ghost use Rattle.p8_definitions.specs.Names.{spelled, file_names, predefined as table};
+ghost use Rattle.p8_definitions.specs.Names.{spelled, file_names, predefined as table, predefined_names};
 ghost use Rattle.p8_definitions.specs.Repeats.{Repeats, RepeatIn, HasOwnRepeat, NameRepeatIn};
 ghost use Rattle.p8_definitions.specs.Rules.{InAny};
 ghost use Rattle.p8_definitions.specs.Items.{method as method_tree};
@@ -9,7 +9,7 @@ ghost use Rattle.p8_definitions.specs.Standing.{item_of, items_of, defined_of, a
 
 use crate::first_faults::{first_of_two, where_so};
 use crate::items::Item;
-use crate::language::NamedConstant;
+use crate::language::{NamedConstant, predefined};
 use crate::name_set::NameSet;
 use crate::names::{Defined, names_of, own_names};
 use p8_faults::Fault;
@@ -126,4 +126,15 @@ fn put_predefined(predefined: &[NamedConstant], names: &mut NameSet) -> Result<(
         names.put(constant.name.as_slice())?;
     }
     Ok(())
+}
+
+/// The names of the constants that the language defines: those that are there from the start in each file, before all that
+/// the file defines.
+pub fn predefined_names(alloc: Global) -> Result<NameSet, AllocError>
+    ensures { IfOk result (λ names. Holds names predefined_names) }
+{
+    let constants = predefined(alloc)?;
+    let mut names = NameSet::new(alloc);
+    put_predefined(&constants, &mut names)?;
+    Ok(names)
 }

@@ -1,7 +1,7 @@
 -- What is wrong with the names of a file: 12 to 18, and 20 by instances. Each fault is a fact about an item, by itself or by
 -- the items beside it. Sources: the Propeller Manual v1.2, the Spin chapter; the numbers and places are this project's profile.
 use Rattle.std.specs.Prelude.{◌⊎◌, ℕ, Bool, if◌then◌else◌, List, [], ◌∷◌, Option, Some, None}
-use Rattle.p8_tree.specs.Expressions.{Tree}
+use Rattle.p8_tree.specs.Expressions.{Tree, node, Str}
 use Rattle.p8_tree.specs.Sources as trees
 use Rattle.p8_tree.specs.Sources.{Contents, Datum, Declared, MethodTree, Source}
 use Rattle.p8_faults.specs.declared.faults.Fault.{Fault}
@@ -68,9 +68,14 @@ abbrev pub UnknownInOption : Environment → Option Tree → Fault → Type 0
 UnknownInOption env None f = ⊥
 UnknownInOption env (Some e) f = UnknownIn env e f
 
+-- the count of a datum, in brackets after its value. A string stands there once, and what stands after it isn't looked at
+abbrev pub count_of_datum : Tree → Option Tree → Option Tree
+count_of_datum (node p (Str text)) count = None
+count_of_datum value count = count
+
 abbrev pub UnknownInData : Environment → List Datum → Fault → Type 0
 UnknownInData env [] f = ⊥
-UnknownInData env (d ∷ ds) f = (UnknownIn env d.value f ⊎ UnknownInOption env d.count f) ⊎ UnknownInData env ds f
+UnknownInData env (d ∷ ds) f = (UnknownIn env d.value f ⊎ UnknownInOption env (count_of_datum d.value d.count) f) ⊎ UnknownInData env ds f
 
 abbrev pub UnknownInContents : Environment → Contents → Fault → Type 0
 UnknownInContents env trees.Nothing f = ⊥

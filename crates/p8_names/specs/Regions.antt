@@ -11,7 +11,7 @@ use Rattle.p8_kinds.specs.Environments.{Environment}
 use Rattle.p8_kinds.specs.Kinds.{own, or_else}
 use Rattle.p8_kinds.specs.Misuses.{UnknownIn}
 use Rattle.p8_names.specs.Settings.{has_name}
-use Rattle.p8_names.specs.Faults.{local_label, UnknownInOption}
+use Rattle.p8_names.specs.Faults.{local_label, count_of_datum, UnknownInOption}
 
 -- what is known of names in DAT, by the kinds of the whole file
 abbrev pub environment_at : Kinds → Kinds → Setting → List (List ℕ) → Environment
@@ -23,7 +23,7 @@ environment_at kinds publics s region = record {
 
 -- the names of one datum
 abbrev pub UnknownInDatum : Environment → Datum → Fault → Type 0
-UnknownInDatum env d f = UnknownIn env d.value f ⊎ UnknownInOption env d.count f
+UnknownInDatum env d f = UnknownIn env d.value f ⊎ UnknownInOption env (count_of_datum d.value d.count) f
 
 -- whether a label ends what local labels before it belong to
 abbrev pub is_end : Option (List ℕ) → Bool

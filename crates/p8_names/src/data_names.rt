@@ -1,5 +1,6 @@
 // The names in the lines of `DAT`, each looked up among the local labels that its line sees and the names of the file.
-ghost use Rattle.std.specs.Prelude.{◌≡◌, ◌<◌, ◌≤◌, ◌+◌, ℕ, List, None, IfOk, OnOk, length, drop, map, option_map};
+ghost use Rattle.std.specs.Prelude.{◌≡◌, ◌<◌, ◌≤◌, ◌+◌, ℕ, List, Option, None, IfOk, OnOk, length, drop, map, option_map, if◌then◌else◌};
+ghost use Rattle.p8_tree.specs.Expressions.{Tree};
 ghost use Rattle.p8_tree.specs.Views.{tree_of, datum_of, instruction_of, contents_of};
 ghost use Rattle.p8_tree.specs.Sources.{Instr};
 ghost use Rattle.p8_fold.specs.Entries.{setting_of};
@@ -7,7 +8,7 @@ ghost use Rattle.p8_definitions.specs.Standing.{item_of, items_of, IsFirstOf};
 ghost use Rattle.p8_kinds.specs.declared.scope.Scope.{Scope as declared_scope};
 ghost use Rattle.p8_kinds.specs.Environments.{environment_of};
 ghost use Rattle.p8_kinds.specs.Kinds.{own};
-ghost use Rattle.p8_names.specs.Faults.{labels_ahead, labels_at, UnknownInOption, UnknownInData, UnknownInContents, HasUnknown, UnknownInLines};
+ghost use Rattle.p8_names.specs.Faults.{labels_ahead, labels_at, count_of_datum, UnknownInOption, UnknownInData, UnknownInContents, HasUnknown, UnknownInLines};
 ghost use Rattle.p8_names.specs.Regions.{environment_at, UnknownInDatum, is_end, IsLabelEntered, HasLabels, IsInRegion};
 
 use crate::next_kinds::one_more;
@@ -15,7 +16,7 @@ use crate::own_kinds::enter;
 use p8_definitions::{Item, first_of_two, is_local};
 use p8_faults::Fault;
 use p8_kinds::{Kinds, NameKind, Scope, first_unknown};
-use p8_tree::{DatBody, DatItem, Expr, InstrLine, Text};
+use p8_tree::{DatBody, DatItem, Expr, ExprKind, InstrLine, Text};
 use p8_words::NoMemory;
 
 /// The size that a local label has.
@@ -31,12 +32,38 @@ fn unknown_in_option(scope: &Scope, expr: &Option<Expr>) -> Option<Fault>
     }
 }
 
+// Whether a datum is a string.
+fn is_string(value: &Expr) -> bool
+    ensures { (count : Option Tree) → count_of_datum (tree_of value.now) count ≡ (if result then None else count) }
+{
+    match &value.kind {
+        ExprKind::Str(_) => true,
+        ExprKind::Call(_) => false,
+        ExprKind::Number(_) | ExprKind::Here | ExprKind::Var(_) => false,
+        ExprKind::Unary(_, _) | ExprKind::Binary(_, _, _) => false,
+        ExprKind::Assign(_, _, _) | ExprKind::Change(_, _) | ExprKind::Address(_) => false,
+        ExprKind::ObjectAddress(_) | ExprKind::ObjConst(_, _, _) => false,
+        ExprKind::Built(_, _) | ExprKind::Look(_, _, _) => false,
+    }
+}
+
+// The first fault of the names of a datum's count: that of a string isn't looked at.
+fn unknown_in_count(scope: &Scope, item: &DatItem) -> Option<Fault>
+    ensures { IsFirstOf result (UnknownInOption (environment_of scope.now) (count_of_datum (datum_of item.now).value (datum_of item.now).count)) }
+{
+    if is_string(&item.value) {
+        None
+    } else {
+        unknown_in_option(scope, &item.count)
+    }
+}
+
 // The first fault of the names of a datum.
 fn unknown_in_datum(scope: &Scope, item: &DatItem) -> Option<Fault>
     ensures { IsFirstOf result (UnknownInDatum (environment_of scope.now) (datum_of item.now)) }
 {
     let value = first_unknown(scope, &item.value);
-    first_of_two(value, unknown_in_option(scope, &item.count))
+    first_of_two(value, unknown_in_count(scope, item))
 }
 
 // The first fault of the names of a line's data.
