@@ -1,5 +1,5 @@
 -- What is seen of a file is one thing, by what the file sees itself.
-use Rattle.std.proofs.Common.{◌≡◌, ◌⊎◌, inl, inr, ℕ, List, [], Option, Some, None, IsSome, refl, sym, ap, ◌∙◌}
+use Rattle.std.proofs.Common.{◌≡◌, ◌⊎◌, inl, inr, ℕ, List, Option, Some, None, IsSome, refl, sym, ap, ◌∙◌}
 use mathlib.Core.Path.{fun_ext}
 use Rattle.p8_tree.specs.Sources.{Source}
 use Rattle.p8_fold.specs.declared.meanings.Meaning.{Meaning}
@@ -10,6 +10,7 @@ use Rattle.p8_constants.specs.Items as con
 use Rattle.p8_constants.specs.Constants.{scope_of}
 use Rattle.p8_constants.proofs.OneValue.{has_one}
 use Rattle.p8_definitions.specs.Items.{items}
+use Rattle.p8_definitions.specs.Names.{predefined_names}
 use Rattle.p8_kinds.specs.declared.children.Child.{Child}
 use Rattle.p8_kinds.specs.declared.children.ChildMethod.{ChildMethod}
 use Rattle.p8_kinds.specs.declared.children.ChildConst.{ChildConst}
@@ -53,5 +54,5 @@ child methods consts = record { methods = methods; consts = consts }
 
 pub one_child : (file : Source) (children : List Child) (c d : Child) → IsChildOf file children c → IsChildOf file children d → c ≡ d
 one_child file children c d h k =
-    let constants : c.consts ≡ d.consts = h.constants ∙ (ap (λ s. constants_from s [] (items file)) (one_setting file children h.setting k.setting h.right k.right) ∙ sym k.constants) in
+    let constants : c.consts ≡ d.consts = h.constants ∙ (ap (λ s. constants_from s predefined_names (items file)) (one_setting file children h.setting k.setting h.right k.right) ∙ sym k.constants) in
     ap (λ ms. child ms c.consts) (h.methods ∙ sym k.methods) ∙ ap (λ cs. child d.methods cs) constants

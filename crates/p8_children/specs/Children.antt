@@ -1,15 +1,16 @@
 -- What a file sees of the files of its objects: their PUBs and their constants (Propeller Manual v1.2, "OBJ", "PUB" and "CON" of
 -- the Spin chapter).
 --
--- Of several definitions of one name in a file the first counts, for its users too. PUBs are told by their numbers, so one whose
--- name is defined before it has an entry without a name.
+-- Of several definitions of one name in a file the first counts, for its users too; the constants that the language defines are
+-- there from the start, before all that the file defines. PUBs are told by their numbers, so one whose name is defined before it
+-- has an entry without a name.
 use Rattle.std.specs.Prelude.{◌≡◌, ℕ, min, length, if◌then◌else◌, List, [], ◌∷◌, ◌++◌, Option, Some, None, slice_get}
 use Rattle.p8_tree.specs.Sources as trees
 use Rattle.p8_tree.specs.Sources.{MethodTree, Source}
 use Rattle.p8_tree.specs.Projects.{NamedSource}
 use Rattle.p8_fold.specs.Meanings.{Setting}
 use Rattle.p8_definitions.specs.Items.{Item, constant, method, items}
-use Rattle.p8_definitions.specs.Names.{name_of}
+use Rattle.p8_definitions.specs.Names.{name_of, predefined_names}
 use Rattle.p8_kinds.specs.declared.children.Child.{Child}
 use Rattle.p8_kinds.specs.declared.children.ChildMethod.{ChildMethod}
 use Rattle.p8_kinds.specs.declared.children.ChildConst.{ChildConst}
@@ -59,11 +60,11 @@ constants_from s before (x ∷ xs) = constant_at s before x ++ constants_from s 
 
 -- what is seen of a file, by what it sees itself of the files of its objects
 pub record IsChildOf (file : Source) (children : List Child) (child : Child) : Type 0 where
-  pub methods : child.methods ≡ methods_from [] (items file)
+  pub methods : child.methods ≡ methods_from predefined_names (items file)
   -- what the names of the file mean where a constant is needed
   pub setting : Setting
   pub right : IsSetting file children setting
-  pub constants : child.consts ≡ constants_from setting [] (items file)
+  pub constants : child.consts ≡ constants_from setting predefined_names (items file)
 
 -- ---- a project, where each file has its children
 

@@ -1,14 +1,15 @@
 // What is seen of a file.
-ghost use Rattle.std.specs.Prelude.{◌≡◌, ℕ, List, [], ◌++◌, Some, IfOk, OnOk};
+ghost use Rattle.std.specs.Prelude.{◌≡◌, ℕ, List, ◌++◌, Some, IfOk, OnOk};
 ghost use Rattle.p8_tree.specs.Views.{method_of, source_of};
 ghost use Rattle.p8_fold.specs.Entries.{setting_of};
 ghost use Rattle.p8_definitions.specs.Items.{method as method_tree};
+ghost use Rattle.p8_definitions.specs.Names.{predefined_names};
 ghost use Rattle.p8_definitions.specs.Standing.{item_of, items_of, Holds};
 ghost use Rattle.p8_names.specs.Settings.{is_one_of};
 ghost use Rattle.p8_names.specs.Kinds.{value_in};
 ghost use Rattle.p8_children.specs.Children.{shown_name, method_at, methods_from, named_constant, constant_at, constants_from, behind, IsChildOf};
 
-use p8_definitions::{Item, NameSet, items_of};
+use p8_definitions::{Item, NameSet, items_of, predefined_names};
 use p8_fold::{Consts, Meaning};
 use p8_kinds::{Child, ChildConst, ChildMethod, Children};
 use p8_names::constants_in;
@@ -33,12 +34,12 @@ pub(crate) fn child_of(
     Ok(child)
 }
 
-// What is seen of items.
+// What is seen of items. The names of the language come before theirs.
 fn shown(alloc: Global, items: &[Item<'_>], consts: &Consts) -> Result<Child, AllocError>
-    ensures methods { IfOk result (λ child. child.methods ≡ methods_from [] (items_of items.now)) }
-    ensures constants { IfOk result (λ child. child.consts ≡ constants_from (setting_of consts.now) [] (items_of items.now)) }
+    ensures methods { IfOk result (λ child. child.methods ≡ methods_from predefined_names (items_of items.now)) }
+    ensures constants { IfOk result (λ child. child.consts ≡ constants_from (setting_of consts.now) predefined_names (items_of items.now)) }
 {
-    let mut before = NameSet::new(alloc);
+    let mut before = predefined_names(alloc)?;
     let mut methods = List::new(alloc);
     let mut constants = List::new(alloc);
     for item in items {

@@ -1,0 +1,5 @@
+PUB main
+DAT
+        org 5
+        long $[3]
+        long $, $

@@ -1,0 +1,4 @@
+CON
+  b = a
+  a = f(b)
+PUB main

@@ -1,0 +1,4 @@
+CON
+  b = a
+  a = constant(b)
+PUB main

@@ -1,0 +1,5 @@
+CON
+  #a
+  b
+  a = b[1]
+PUB main

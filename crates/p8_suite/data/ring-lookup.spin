@@ -1,0 +1,4 @@
+CON
+  b = a
+  a = lookup(1: b)
+PUB main

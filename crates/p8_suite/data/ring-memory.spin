@@ -1,0 +1,4 @@
+CON
+  b = a
+  a = long[b]
+PUB main
