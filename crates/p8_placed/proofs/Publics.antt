@@ -12,6 +12,7 @@ use Rattle.p8_tree.specs.Sources.{MethodTree, Source}
 use Rattle.p8_tree.specs.Projects.{NamedSource}
 use Rattle.p8_faults.specs.Faults.{fault}
 use Rattle.p8_definitions.specs.Items.{Item, constant, variable, object, method, line, items}
+use Rattle.p8_definitions.specs.Names.{predefined_names}
 use Rattle.p8_definitions.specs.Rules.{HasTooManyParams}
 use Rattle.p8_kinds.specs.declared.children.Child.{Child}
 use Rattle.p8_kinds.specs.declared.children.ChildMethod.{ChildMethod}
@@ -150,7 +151,7 @@ module _ (files : List NamedSource) (children : List Children) (xs : List Compil
       let other : IsThere files children xs s.number s.file s.children z.0 = record { stands = s.stands; beside = s.beside; compiled = z.1 } in
       let whole = compiled-at files children xs project s.number s.file s.children z.0 other in
       let p = public-of name 1 c.methods number params is in
-      let shows = shown [] (items s.file.tree) p.place p.c (ap (λ ms. slice_get ms p.place) (sym s.is.methods) ∙ p.is) in
+      let shows = shown predefined_names (items s.file.tree) p.place p.c (ap (λ ms. slice_get ms p.place) (sym s.is.methods) ∙ p.is) in
       let m = shows.0 in
       let place : slice_get (numbered (items s.file.tree)) p.place ≡ Some m = at-front (publics (items s.file.tree)) (privates (items s.file.tree)) p.place m shows.1 in
       let f = few s.file.tree s.children (s.number == 0) z.0 whole in
