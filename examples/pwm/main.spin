@@ -1,0 +1,16 @@
+{{ Runs a motor on pin 8 faster and faster, by 20,000 pulses a second of a quarter, a half and three quarters of the time. }}
+CON
+  _clkmode = xtal1 + pll16x
+  _xinfreq = 5_000_000
+
+  MOTOR  = 8
+  PERIOD = 80_000_000 / 20_000          ' clocks
+
+OBJ
+  pwm : "pwm"
+
+PUB main | quarters
+  pwm.start(MOTOR, PERIOD)
+  repeat quarters from 1 to 3
+    waitcnt(3 * PERIOD + cnt)
+    pwm.set(PERIOD * quarters / 4)
