@@ -60,7 +60,7 @@ put           shl     data, #1                  ' sends a byte; Z is whether a d
               test    data, #1 wz
 put_ret       ret
 
-exchange      shl     data, #32 - 9             ' sends nine bits, the highest first, and puts what the line had in their place
+exchange      shl     data, #32 - 9             ' sends nine bits, the highest first; then DATA is what the line had
               mov     bits, #9
 :next_bit     shl     data, #1 wc
               muxnc   dira, sda                 ' a 0 is driven, a 1 is let go

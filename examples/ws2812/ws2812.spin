@@ -1,7 +1,8 @@
 {{ Colours for a row of WS2812 LEDs, which hang on one pin. A cog in PASM sends them.
 
-Each LED takes 24 bits, green, red and blue, the highest bit first, and hands on the bits that follow. Its datasheet wants a pin that is
-high for 0.35 us for a 0 and 0.7 us for a 1, then low for 0.8 us or 0.6 us, each give or take 0.15 us; 50 us of low end the row. }}
+Each LED takes 24 bits, green, red and blue, the highest bit first, and hands on the bits that follow. Its datasheet
+wants a pin that is high for 0.35 us for a 0 and 0.7 us for a 1, then low for 0.8 us or 0.6 us, each give or take
+0.15 us; 50 us of low end the row. }}
 CON
   LIMIT = 64                            ' LEDs
 
