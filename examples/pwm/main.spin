@@ -1,4 +1,4 @@
-{{ Runs a motor on pin 8 faster and faster: on for a quarter, a half, three quarters of the time, 20,000 times a second. }}
+{{ Runs a motor on pin 8 faster and faster: on for a quarter, a half, three quarters of each 20,000th of a second. }}
 CON
   _clkmode = xtal1 + pll16x
   _xinfreq = 5_000_000
