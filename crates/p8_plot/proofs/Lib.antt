@@ -1,0 +1,4 @@
+mod Columns
+mod Marking
+mod Plotting
+mod Staying

@@ -1,0 +1,4 @@
+-- What public contracts cite.
+pub mod Plot
+-- Internal.
+pub mod Tracing

@@ -1,0 +1,13 @@
+//! The levels of pins over the clocks of a run, as text for a terminal.
+#![tactic(auto)]
+
+mod grid;
+mod mark;
+mod picture;
+mod scale;
+mod text;
+mod trace;
+mod view;
+
+pub use picture::plot;
+pub use view::View;

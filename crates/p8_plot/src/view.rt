@@ -1,0 +1,12 @@
+// What a picture shows of a run.
+
+/// The clocks of a run that a picture shows, and its characters.
+#[derive(Clone, Copy, Debug, PartialEq, Eq)]
+pub struct View {
+    /// The first clock shown.
+    pub from: u64,
+    /// The clock before which the picture ends, `u64::MAX` where it goes on to the run's end.
+    pub to: u64,
+    /// Whether all characters are ASCII.
+    pub ascii: bool,
+}
