@@ -10,7 +10,7 @@ use Rattle.p8_plot.specs.Plot.{width_of, column_at, columns_of}
 use Rattle.p8_plot.specs.Tracing.{Follow}
 
 -- a column begins at a clock that is shown
-begins-inside : (shown width i : ℕ) → 0 < width → i < div_ceil shown width → i * width < shown
+pub begins-inside : (shown width i : ℕ) → 0 < width → i < div_ceil shown width → i * width < shown
 begins-inside shown width i wide h =
     omega (arith, (div_ceil_times shown width wide).1, mul-le (i + 1) width (div_ceil shown width) width (omega (arith, h)) (omega arith))
 

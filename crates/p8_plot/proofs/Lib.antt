@@ -1,4 +1,6 @@
 mod Columns
+mod Covering
 mod Marking
 mod Plotting
+mod Ranges
 mod Staying

@@ -7,8 +7,8 @@ use Rattle.p8_levels.specs.Changes.{Tells}
 use Rattle.p8_plot.specs.declared.view.View.{View}
 use Rattle.p8_plot.specs.Plot.{columns_of, picture_of, plot_of}
 
-pub told-plot : (w : World) (past : List Turn) (pins : List ℕ) (view : View) (end : ℕ) (lines : List Line) → Tells w past lines → end ≡ min view.to (end_of w past) → picture_of (λ pin t. is_high pin (level_at lines t)) view.ascii (columns_of view.from end) pins ≡ plot_of w past pins view
+pub told-plot : (w : World) (past : List Turn) (view : View) (end : ℕ) (lines : List Line) → Tells w past lines → end ≡ min view.to (end_of w past) → picture_of (λ pin t. is_high pin (level_at lines t)) view.ascii (columns_of view.from end) view.pins ≡ plot_of w past view
 unfolding plot_of
-told-plot w past pins view end lines tells is =
-    ap (λ (high : ℕ → ℕ → Bool). picture_of high view.ascii (columns_of view.from end) pins) (λ i pin t. is_high pin (tells.pins t i))
-    ∙ ap (λ (e : ℕ). picture_of (high_at w past) view.ascii (columns_of view.from e) pins) is
+told-plot w past view end lines tells is =
+    ap (λ (high : ℕ → ℕ → Bool). picture_of high view.ascii (columns_of view.from end) view.pins) (λ i pin t. is_high pin (tells.pins t i))
+    ∙ ap (λ (e : ℕ). picture_of (high_at w past) view.ascii (columns_of view.from e) view.pins) is

@@ -6,7 +6,7 @@ use Rattle.std.specs.Int.{div_ceil}
 use Rattle.std.specs.List.{list_all, range_with_len}
 use Rattle.p8_access.specs.declared.order.Turn.{Turn}
 use Rattle.p8_history.specs.Worlds.{World}
-use Rattle.p8_levels.specs.Levels.{high_at, end_of}
+use Rattle.p8_levels.specs.Levels.{is_high, high_at, end_of}
 use Rattle.p8_plot.specs.declared.grid.Column.{Column}
 use Rattle.p8_plot.specs.declared.mark.Mark.{Mark}
 use Rattle.p8_plot.specs.declared.mark.Mark.TheVariants.{Low, High, Changing}
@@ -72,11 +72,12 @@ scale_of (column ∷ columns) =
     apart 4 (map (λ ticked. codes "|") (ticked (column ∷ columns))) ++ codes "\n"
     ++ apart 4 (map (λ ticked. decimal ticked.first) (ticked (column ∷ columns))) ++ codes "\n"
 
--- the picture of pins, each with the clocks at which it is high
-unfoldable pub picture_of : (high : (pin : ℕ) → ℕ → Bool) (ascii : Bool) (columns : List Column) (pins : List ℕ) → List ℕ
-picture_of high ascii columns pins = flat_map (λ pin. pin_line (high pin) ascii columns pin) pins ++ scale_of columns
+-- the picture of the pins whose bits are set, from pin 0 on, each with the clocks at which it is high
+unfoldable pub picture_of : (high : (pin : ℕ) → ℕ → Bool) (ascii : Bool) (columns : List Column) (pins : ℕ) → List ℕ
+picture_of high ascii columns pins =
+    flat_map (λ pin. if is_high pin pins then pin_line (high pin) ascii columns pin else []) (range_with_len 0 32) ++ scale_of columns
 
--- the picture of pins of a run: the clocks from the view's first one on that are before its end and the run's
-unfoldable pub plot_of : World → List Turn → (pins : List ℕ) → View → List ℕ
-plot_of w past pins view =
-    picture_of (high_at w past) view.ascii (columns_of view.from (min view.to (end_of w past))) pins
+-- the picture of a run: the clocks from the view's first one on that are before its end and the run's
+unfoldable pub plot_of : World → List Turn → View → List ℕ
+plot_of w past view =
+    picture_of (high_at w past) view.ascii (columns_of view.from (min view.to (end_of w past))) view.pins

@@ -1,10 +1,12 @@
 -- internal
 -- A pin along the changes of a run's pins.
 use Rattle.std.specs.Prelude.{ℕ, ◌≡◌, ◌<◌, ◌≤◌, ◌&&◌, nat_le, if◌then◌else◌, Bool, true, false, not, List, [], ◌∷◌}
-use Rattle.p8_history.specs.Worlds.{Line}
+use Rattle.p8_history.specs.Worlds.{Line, level_at}
 use Rattle.p8_levels.specs.Levels.{is_high}
 use Rattle.p8_levels.specs.Changes.{Ahead, RiseFrom, pins_from}
+use Rattle.p8_plot.specs.Plot.{pin_line}
 use Rattle.p8_plot.specs.declared.grid.Column.{Column}
+use Rattle.p8_plot.specs.declared.view.View.{View}
 
 -- two levels are the same
 abbrev pub same : Bool → Bool → Bool
@@ -36,3 +38,8 @@ pub record IsBefore (whole : ℕ → Bool) (pin : ℕ) (ahead : Ahead) (columns 
   pub from : ℕ
   pub at : IsFrom whole pin from ahead
   pub follow : Follow from columns
+
+-- the line of a pin along the changes, where its bit is set
+abbrev pub shown_line : List Line → View → List Column → (pin : ℕ) → List ℕ
+shown_line lines view columns pin =
+    if is_high pin view.pins then pin_line (λ t. is_high pin (level_at lines t)) view.ascii columns pin else []

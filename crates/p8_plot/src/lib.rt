@@ -2,6 +2,7 @@
 #![tactic(auto)]
 
 mod grid;
+mod laws;
 mod mark;
 mod picture;
 mod scale;
@@ -9,5 +10,6 @@ mod text;
 mod trace;
 mod view;
 
+pub use laws::columns_cover;
 pub use picture::plot;
 pub use view::View;

@@ -1,16 +1,16 @@
 // The picture of pins of a run.
-ghost use Rattle.std.specs.Prelude.{◌≡◌, ◌<◌, ◌++◌, ℕ, Bool, All, codes, flat_map, reverse, IfOk, OnOk};
+ghost use Rattle.std.specs.Prelude.{◌≡◌, ◌<◌, ◌++◌, ℕ, flat_map, reverse, IfOk, OnOk};
 ghost use Rattle.p8_history.specs.Worlds.{World, level_at};
 ghost use Rattle.p8_history.specs.Histories.{Rises};
 ghost use Rattle.p8_levels.specs.Levels.{is_high};
 ghost use Rattle.p8_levels.specs.Changes.{lines_of, RiseFrom};
 ghost use Rattle.p8_plot.specs.Plot.{label_of, mark_of, text_of_mark, pin_line, picture_of, plot_of};
-ghost use Rattle.p8_plot.specs.Tracing.{Follow};
+ghost use Rattle.p8_plot.specs.Tracing.{Follow, shown_line};
 
 use crate::grid::{Column, columns};
 use crate::scale::push_scale;
 use crate::text::{push_decimal, push_text};
-use crate::trace::Trace;
+use crate::trace::{Trace, is_set};
 use crate::view::View;
 use p8_access::Turn;
 use p8_levels::{Change, pin_changes, run_end};
@@ -66,23 +66,39 @@ fn push_line(
     push_text(out, b"\n")
 }
 
-/// The picture of pins whose changes these are.
-#[tactic(auto, unfolding(crate::specs::Plot::picture_of))]
+/// Appends the line of a pin where its bit is set.
+fn push_shown(
+    out: &mut Vec<u8>,
+    changes: &[Change],
+    columns: &[Column],
+    pin: u8,
+    view: &View,
+) -> Result<(), NoMemory>
+    requires pin { pin < 32 }
+    requires rise { RiseFrom 0 (lines_of changes.now) }
+    requires follow { Follow 0 columns.now }
+    ensures { OnOk result (out.new.items ≡ out.old.items ++ shown_line (lines_of changes.now) view.now columns.now pin) }
+{
+    if is_set(view.pins, pin) {
+        push_line(out, changes, columns, pin, view.ascii)?;
+    }
+    Ok(())
+}
+
+/// The picture of the pins whose changes these are.
 fn picture(
     alloc: Global,
     changes: &[Change],
     columns: &[Column],
-    pins: &[u8],
-    ascii: bool,
+    view: &View,
 ) -> Result<Vec<u8>, NoMemory>
-    requires pins { All (λ pin. pin < 32) pins.now }
     requires rise { RiseFrom 0 (lines_of changes.now) }
     requires follow { Follow 0 columns.now }
-    ensures { IfOk result (λ text. text.items ≡ picture_of (λ pin t. is_high pin (level_at (lines_of changes.now) t)) ascii columns.now pins.now) }
+    ensures { IfOk result (λ text. text.items ≡ picture_of (λ pin t. is_high pin (level_at (lines_of changes.now) t)) view.now.ascii columns.now view.now.pins) }
 {
     let mut out = Vec::new(alloc);
-    for pin in pins {
-        push_line(&mut out, changes, columns, *pin, ascii)?;
+    for pin in 0..32 {
+        push_shown(&mut out, changes, columns, pin, view)?;
     }
     push_scale(&mut out, columns)?;
     Ok(out)
@@ -91,7 +107,7 @@ fn picture(
 /// The picture of some pins over the clocks of a run, as text for a terminal, with lines of at most 120 characters.
 ///
 /// `turns` are the turns of a run, the oldest first, with rising keys; `clocks` and `limit` are the run's limits of clocks and
-/// turns. `pins` are 0 to 31, shown in this order. Shown are the clocks from the view's first one on that are before its end and
+/// turns. The pins are shown from the lowest on. Shown are the clocks from the view's first one on that are before its end and
 /// the run's. There are at most 110 columns, each for as few clocks as can be, and the last one for what is left. A line has the
 /// label of a pin and a mark for each column: high or low where the pin is so at all clocks of the column, else changing. Below
 /// are a line with a tick at each tenth column and a line with the clocks at which these columns begin; where no clock is shown
@@ -102,21 +118,13 @@ pub fn plot(
     turns: &[Turn],
     clocks: u64,
     limit: u64,
-    pins: &[u8],
     view: &View,
 ) -> Result<Vec<u8>, NoMemory>
-    requires rises { Rises (reverse turns.now) }
-    requires pins { All (λ pin. pin < 32) pins.now }
-    ensures { (w : World) → w.script ≡ script.now → w.clocks ≡ clocks → w.turns ≡ limit → IfOk result (λ text. text.items ≡ plot_of w (reverse turns.now) pins.now view.now) }
+    requires { Rises (reverse turns.now) }
+    ensures { (w : World) → w.script ≡ script.now → w.clocks ≡ clocks → w.turns ≡ limit → IfOk result (λ text. text.items ≡ plot_of w (reverse turns.now) view.now) }
 {
     let changes = pin_changes(alloc, turns, script)?;
     let end = view.to.min(run_end(turns, clocks, limit));
     let columns = columns(alloc, view.from, end)?;
-    picture(
-        alloc,
-        changes.as_slice(),
-        columns.as_slice(),
-        pins,
-        view.ascii,
-    )
+    picture(alloc, changes.as_slice(), columns.as_slice(), view)
 }

@@ -10,9 +10,9 @@ use crate::mark::Mark;
 use p8_levels::Change;
 use std::marker::Model;
 
-/// Whether a pin is high, of 32.
+/// Whether the bit of a pin is set, of 32.
 #[tactic(auto, unfolding(p8_levels::specs::Levels::is_high))]
-fn high_in(pins: u32, pin: u8) -> bool
+pub fn is_set(pins: u32, pin: u8) -> bool
     requires { pin < 32 }
     ensures { result ≡ is_high pin pins }
 {
@@ -55,7 +55,7 @@ impl<'a> Trace<'a> {
         requires { pin < 32 }
         ensures { result ≡ is_high pin self.now.pins }
     {
-        high_in(self.pins, pin)
+        is_set(self.pins, pin)
     }
 
     /// Goes past all changes that aren't later than a clock. Whether the pin stays as it was.
@@ -71,7 +71,7 @@ impl<'a> Trace<'a> {
             if clock < change.clock {
                 return stayed;
             }
-            stayed &= same_level(high, high_in(change.pins, pin));
+            stayed &= same_level(high, is_set(change.pins, pin));
             self.pins = change.pins;
             self.changes = rest;
         }

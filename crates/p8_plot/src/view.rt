@@ -1,8 +1,10 @@
 // What a picture shows of a run.
 
-/// The clocks of a run that a picture shows, and its characters.
+/// The pins and the clocks of a run that a picture shows, and its characters.
 #[derive(Clone, Copy, Debug, PartialEq, Eq)]
 pub struct View {
+    /// The pins shown, bit n for pin n.
+    pub pins: u32,
     /// The first clock shown.
     pub from: u64,
     /// The clock before which the picture ends, `u64::MAX` where it goes on to the run's end.

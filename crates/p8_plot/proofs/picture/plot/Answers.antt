@@ -23,6 +23,6 @@ returns c = λ w script clocks turns.
     let end : c.min-end.result ≡ min c.args.view.now.to (end_of w past) = c.min-end.ensures ∙ ap (min c.args.view.now.to) (c.run_end.ensures w clocks turns) in
     let columns = c.as_slice-2.ensures.value ∙ c.in_ok-columns.ensures.columns in
     subst (λ (text : List ℕ). IfOk c.picture.result (λ r. r.items ≡ text))
-    (ap (λ (cs : List Column). picture_of (λ pin t. is_high pin (level_at (lines_of c.as_slice.result.now) t)) c.args.view.now.ascii cs c.args.pins.now) columns
-    ∙ told-plot w past c.args.pins.now c.args.view.now c.min-end.result (lines_of c.as_slice.result.now) tells end)
+    (ap (λ (cs : List Column). picture_of (λ pin t. is_high pin (level_at (lines_of c.as_slice.result.now) t)) c.args.view.now.ascii cs c.args.view.now.pins) columns
+    ∙ told-plot w past c.args.view.now c.min-end.result (lines_of c.as_slice.result.now) tells end)
     c.picture.ensures

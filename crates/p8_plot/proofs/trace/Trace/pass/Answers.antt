@@ -10,5 +10,5 @@ loop-change-preserved c =
     record {
       passed = passes-change c.args.clock trace.pins c.args.self.now trace.changes.now c.in-Some.rest.now c.in-Some.change.now i.passed is (omega (arith, c.if-clock-change.false));
       stays = goes-on c.args.pin c.is_high-high.result c.args.clock c.loop-change.stayed _ trace.changes.now i.stays c.in-Some.change.now c.in-Some.rest.now c.same_level-stayed.result is
-          (omega (arith, c.if-clock-change.false)) (c.same_level-stayed.ensures ∙ ap (same c.is_high-high.result) c.high_in.ensures);
+          (omega (arith, c.if-clock-change.false)) (c.same_level-stayed.ensures ∙ ap (same c.is_high-high.result) c.is_set.ensures);
     }
