@@ -69,8 +69,8 @@ apart before (text ∷ texts) = replicate before 32 ++ text ++ apart (10 - lengt
 abbrev pub scale_of : List Column → List ℕ
 scale_of [] = []
 scale_of (column ∷ columns) =
-    apart 4 (map (λ ticked. codes "|") (ticked (column ∷ columns))) ++ codes "\n"
-    ++ apart 4 (map (λ ticked. decimal ticked.first) (ticked (column ∷ columns))) ++ codes "\n"
+    apart 4 (map (λ column. codes "|") (ticked (column ∷ columns))) ++ codes "\n"
+    ++ apart 4 (map (λ column. decimal column.first) (ticked (column ∷ columns))) ++ codes "\n"
 
 -- the picture of the pins whose bits are set, from pin 0 on, each with the clocks at which it is high
 unfoldable pub picture_of : (high : (pin : ℕ) → ℕ → Bool) (ascii : Bool) (columns : List Column) (pins : ℕ) → List ℕ

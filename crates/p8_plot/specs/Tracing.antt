@@ -39,7 +39,7 @@ pub record IsBefore (whole : ℕ → Bool) (pin : ℕ) (ahead : Ahead) (columns 
   pub at : IsFrom whole pin from ahead
   pub follow : Follow from columns
 
--- the line of a pin along the changes, where its bit is set
-abbrev pub shown_line : List Line → View → List Column → (pin : ℕ) → List ℕ
-shown_line lines view columns pin =
+-- the line of a pin along the changes, where it is shown
+abbrev pub line_of_pin : List Line → View → List Column → (pin : ℕ) → List ℕ
+line_of_pin lines view columns pin =
     if is_high pin view.pins then pin_line (λ t. is_high pin (level_at lines t)) view.ascii columns pin else []

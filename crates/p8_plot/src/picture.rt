@@ -4,8 +4,8 @@ ghost use Rattle.p8_history.specs.Worlds.{World, level_at};
 ghost use Rattle.p8_history.specs.Histories.{Rises};
 ghost use Rattle.p8_levels.specs.Levels.{is_high};
 ghost use Rattle.p8_levels.specs.Changes.{lines_of, RiseFrom};
-ghost use Rattle.p8_plot.specs.Plot.{label_of, mark_of, text_of_mark, pin_line, picture_of, plot_of};
-ghost use Rattle.p8_plot.specs.Tracing.{Follow, shown_line};
+ghost use Rattle.p8_plot.specs.Plot.{label_of, mark_of, text_of_mark, picture_of, plot_of};
+ghost use Rattle.p8_plot.specs.Tracing.{Follow, line_of_pin};
 
 use crate::grid::{Column, columns};
 use crate::scale::push_scale;
@@ -48,26 +48,8 @@ fn push_marks(
     Ok(())
 }
 
-/// Appends the line of a pin.
+/// Appends the line of a pin where it is shown.
 fn push_line(
-    out: &mut Vec<u8>,
-    changes: &[Change],
-    columns: &[Column],
-    pin: u8,
-    ascii: bool,
-) -> Result<(), NoMemory>
-    requires pin { pin < 32 }
-    requires rise { RiseFrom 0 (lines_of changes.now) }
-    requires follow { Follow 0 columns.now }
-    ensures { OnOk result (out.new.items ≡ out.old.items ++ pin_line (λ t. is_high pin (level_at (lines_of changes.now) t)) ascii columns.now pin) }
-{
-    push_label(out, pin)?;
-    push_marks(out, changes, columns, pin, ascii)?;
-    push_text(out, b"\n")
-}
-
-/// Appends the line of a pin where its bit is set.
-fn push_shown(
     out: &mut Vec<u8>,
     changes: &[Change],
     columns: &[Column],
@@ -77,15 +59,17 @@ fn push_shown(
     requires pin { pin < 32 }
     requires rise { RiseFrom 0 (lines_of changes.now) }
     requires follow { Follow 0 columns.now }
-    ensures { OnOk result (out.new.items ≡ out.old.items ++ shown_line (lines_of changes.now) view.now columns.now pin) }
+    ensures { OnOk result (out.new.items ≡ out.old.items ++ line_of_pin (lines_of changes.now) view.now columns.now pin) }
 {
-    if is_set(view.pins, pin) {
-        push_line(out, changes, columns, pin, view.ascii)?;
+    if !is_set(view.pins, pin) {
+        return Ok(());
     }
-    Ok(())
+    push_label(out, pin)?;
+    push_marks(out, changes, columns, pin, view.ascii)?;
+    push_text(out, b"\n")
 }
 
-/// The picture of the pins whose changes these are.
+/// The picture of a run with these changes of its pins.
 fn picture(
     alloc: Global,
     changes: &[Change],
@@ -98,7 +82,7 @@ fn picture(
 {
     let mut out = Vec::new(alloc);
     for pin in 0..32 {
-        push_shown(&mut out, changes, columns, pin, view)?;
+        push_line(&mut out, changes, columns, pin, view)?;
     }
     push_scale(&mut out, columns)?;
     Ok(out)
