@@ -1,0 +1,5 @@
+//! Tests of pictures of pins.
+#![tactic(auto)]
+
+#[cfg(test)]
+mod pictures;
