@@ -1,0 +1,4 @@
+mod Bounds
+mod Words
+mod Proper
+mod Nesting

@@ -1,0 +1,6 @@
+//! Laws of folded methods: that they could have been read, and that their code is no longer. The definitions stand in specs/.
+#![tactic(auto)]
+
+mod laws;
+
+pub use laws::folded_bodies_are_proper;
