@@ -2,3 +2,4 @@ mod Bounds
 mod Words
 mod Proper
 mod Nesting
+mod Misuse

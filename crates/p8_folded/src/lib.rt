@@ -3,4 +3,4 @@
 
 mod laws;
 
-pub use laws::folded_bodies_are_proper;
+pub use laws::{folded_bodies_are_proper, folded_bodies_misuse_nothing};
