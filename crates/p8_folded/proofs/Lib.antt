@@ -3,3 +3,13 @@ mod Words
 mod Proper
 mod Nesting
 mod Misuse
+mod Starting
+mod Depth
+mod Fixed
+mod Growing
+mod Closer
+mod Steady
+mod Length
+mod Expressions
+mod Statements
+mod Methods

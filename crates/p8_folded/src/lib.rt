@@ -3,4 +3,6 @@
 
 mod laws;
 
-pub use laws::{folded_bodies_are_proper, folded_bodies_misuse_nothing};
+pub use laws::{
+    folded_bodies_are_proper, folded_bodies_misuse_nothing, folded_methods_are_no_longer,
+};
