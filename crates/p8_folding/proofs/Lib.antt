@@ -1,0 +1,4 @@
+mod Keeping
+mod Lengths
+mod Trees
+mod Bodies
