@@ -1,4 +1,3 @@
-mod Bounds
 mod Words
 mod Proper
 mod Nesting
@@ -13,3 +12,4 @@ mod Length
 mod Expressions
 mod Statements
 mod Methods
+mod Resolved

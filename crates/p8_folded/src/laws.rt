@@ -1,19 +1,32 @@
 // Laws of folded methods. The functions do nothing: their contracts are the laws.
-ghost use Rattle.std.specs.Prelude.{◌≡◌, ◌≤◌, Bool, IsTrue};
+ghost use Rattle.std.specs.Prelude.{◌≡◌, ◌≤◌, ◌+◌, ℕ, Bool, IsTrue, List, slice_get, Some};
+ghost use Rattle.p8_tree.specs.declared.places.Place.{Place};
 ghost use Rattle.p8_tree.specs.Nesting.{leave_loops, depth};
-ghost use Rattle.p8_tree.specs.Proper.{AreProperStatements};
-ghost use Rattle.p8_tree.specs.Sources.{MethodTree};
+ghost use Rattle.p8_tree.specs.Projects.{NamedSource};
+ghost use Rattle.p8_tree.specs.Proper.{AreProperStatements, IsProperMethod};
+ghost use Rattle.p8_tree.specs.Sources.{MethodTree, Source};
 ghost use Rattle.p8_tree.specs.Statements.{Statements};
 ghost use Rattle.p8_faults.specs.declared.faults.Fault.{Fault};
+ghost use Rattle.p8_definitions.specs.Items.{items};
+ghost use Rattle.p8_kinds.specs.declared.children.Children.{Children};
+ghost use Rattle.p8_kinds.specs.declared.kinds.Kinds.{Kinds};
+ghost use Rattle.p8_kinds.specs.declared.name_kinds.Label.{Label};
 ghost use Rattle.p8_kinds.specs.Environments.{Environment};
+ghost use Rattle.p8_kinds.specs.FileSettings.{file_setting};
 ghost use Rattle.p8_kinds.specs.Misuses.{MisuseInStatements};
-ghost use Rattle.p8_short.specs.Constants.{Constants, constants_in};
-ghost use Rattle.p8_short.specs.Folding.{folded_body};
+ghost use Rattle.p8_names.specs.Kinds.{numbered};
+ghost use Rattle.p8_names.specs.Resolution.{IsNamed};
+ghost use Rattle.p8_children.specs.Children.{AreChildren};
 ghost use Rattle.p8_gen.specs.Depths.{held_in};
+ghost use Rattle.p8_gen.specs.Files.{names_in};
 ghost use Rattle.p8_gen.specs.Methods.{method_code};
 ghost use Rattle.p8_gen.specs.Names.{Names, all_wide};
 ghost use Rattle.p8_stmt.specs.Methods.{rebodied, IsMethodFault};
+ghost use Rattle.p8_short.specs.Constants.{Constants, constants_in};
+ghost use Rattle.p8_short.specs.Folding.{folded_body};
 ghost use Rattle.p8_folded.specs.Asked.{AreWords, HideNoConstant};
+
+use p8_resolved::{own_names_are_apart, resolved_constants_are_words};
 
 /// Law: a folded body could have been read, where the values of constants are words: its trees are proper, each NEXT and each QUIT stands in a
 /// loop, and its blocks stand no deeper in one another than they did.
@@ -37,3 +50,13 @@ pub fn folded_methods_are_no_longer()
     ensures depth { (n : Names) → n.wide ≡ all_wide → HideNoConstant n → (ss : Statements) → held_in n (folded_body (constants_in n.constants) ss) ≤ held_in n ss }
     ensures faults { (n : Names) → n.wide ≡ all_wide → HideNoConstant n → (m : MethodTree) → AreProperStatements m.body → ((f : Fault) → ¬ IsMethodFault n m f) → (f : Fault) → ¬ IsMethodFault n (rebodied m (folded_body (constants_in n.constants) m.body)) f }
 {}
+
+/// Law: a file whose names are resolved has what is asked: its constants, and those of the files of its objects, are words, and no name of a
+/// method that was read hides one of them.
+pub fn resolved_files_can_be_folded()
+    ensures words { (files : List NamedSource) → (all : List Children) → AreChildren files all → (i : ℕ) → (file : NamedSource) → (seen : Children) → slice_get files i ≡ Some file → slice_get all i ≡ Some seen → (top : Bool) → (found : Kinds) → IsNamed file.tree seen top found → AreWords (constants_in (file_setting found seen)) }
+    ensures names { (source : Source) → (seen : Children) → (top : Bool) → (found : Kinds) → IsNamed source seen top found → (k : ℕ) → (m : MethodTree) → slice_get (numbered (items source)) k ≡ Some m → IsProperMethod m → (labels : List Label) → (statement : Place) → HideNoConstant (names_in found seen labels (k + 1) statement) }
+{
+    resolved_constants_are_words();
+    own_names_are_apart();
+}

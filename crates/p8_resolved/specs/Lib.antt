@@ -1,0 +1,2 @@
+-- What resolved names are.
+pub mod Words
