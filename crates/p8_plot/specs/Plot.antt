@@ -65,12 +65,18 @@ abbrev pub apart : (before : ℕ) → List (List ℕ) → List ℕ
 apart before [] = []
 apart before (text ∷ texts) = replicate before 32 ++ text ++ apart (10 - length text) texts
 
--- a line with the ticks, each at its column, and one with the clocks at which these columns begin; neither where there are no columns
+-- a line with the ticks, each at its column
+abbrev pub tick_line : List Column → List ℕ
+tick_line columns = apart 4 (map (λ column. codes "|") (ticked columns)) ++ codes "\n"
+
+-- a line with the clocks at which the columns with ticks begin
+abbrev pub clock_line : List Column → List ℕ
+clock_line columns = apart 4 (map (λ column. decimal column.first) (ticked columns)) ++ codes "\n"
+
+-- both lines; neither where there are no columns
 abbrev pub scale_of : List Column → List ℕ
 scale_of [] = []
-scale_of (column ∷ columns) =
-    apart 4 (map (λ column. codes "|") (ticked (column ∷ columns))) ++ codes "\n"
-    ++ apart 4 (map (λ column. decimal column.first) (ticked (column ∷ columns))) ++ codes "\n"
+scale_of (column ∷ columns) = tick_line (column ∷ columns) ++ clock_line (column ∷ columns)
 
 -- the picture of the pins whose bits are set, from pin 0 on, each with the clocks at which it is high
 unfoldable pub picture_of : (high : (pin : ℕ) → ℕ → Bool) (ascii : Bool) (columns : List Column) (pins : ℕ) → List ℕ

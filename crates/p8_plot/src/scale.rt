@@ -1,7 +1,7 @@
 // The ticks below a picture, and the clocks at them.
-ghost use Rattle.std.specs.Prelude.{◌≡◌, ◌++◌, ◌-◌, codes, length, map, IfOk, OnOk};
+ghost use Rattle.std.specs.Prelude.{◌≡◌, ◌++◌, ◌-◌, length, IfOk, OnOk};
 ghost use Rattle.std.specs.Fmt.{decimal};
-ghost use Rattle.p8_plot.specs.Plot.{apart, ticked, scale_of};
+ghost use Rattle.p8_plot.specs.Plot.{tick_line, clock_line, scale_of};
 
 use crate::grid::Column;
 use crate::text::{push_spaces, push_text};
@@ -11,9 +11,9 @@ use p8_words::NoMemory;
 /// How many columns a terminal has before the first column of a picture.
 const LABEL: usize = 4;
 
-/// Appends a tick at each tenth column.
+/// Appends the line with a tick at each tenth column.
 fn push_ticks(out: &mut Vec<u8>, columns: &[Column]) -> Result<(), NoMemory>
-    ensures { OnOk result (out.new.items ≡ out.old.items ++ apart 4 (map (λ tick. codes "|") (ticked columns.now))) }
+    ensures { OnOk result (out.new.items ≡ out.old.items ++ tick_line columns.now) }
 {
     let mut before = LABEL;
     for column in columns {
@@ -23,21 +23,7 @@ fn push_ticks(out: &mut Vec<u8>, columns: &[Column]) -> Result<(), NoMemory>
             before = 9;
         }
     }
-    Ok(())
-}
-
-/// Appends the clock at which it begins at each tenth column.
-fn push_clocks(out: &mut Vec<u8>, columns: &[Column]) -> Result<(), NoMemory>
-    ensures { OnOk result (out.new.items ≡ out.old.items ++ apart 4 (map (λ tick. decimal tick.first) (ticked columns.now))) }
-{
-    let mut before = LABEL;
-    for column in columns {
-        if column.number % 10 == 0 {
-            push_spaces(out, before)?;
-            before = push_clock(out, column.first)?;
-        }
-    }
-    Ok(())
+    push_text(out, b"\n")
 }
 
 /// Appends a clock, and gives how many of ten characters it leaves.
@@ -51,7 +37,21 @@ fn push_clock(out: &mut Vec<u8>, clock: u64) -> Result<usize, NoMemory>
     Ok(10usize.saturating_sub(text.len()))
 }
 
-/// Appends the line of ticks and the line of clocks, where there are columns.
+/// Appends the line with the clock at which it begins at each tenth column.
+fn push_clocks(out: &mut Vec<u8>, columns: &[Column]) -> Result<(), NoMemory>
+    ensures { OnOk result (out.new.items ≡ out.old.items ++ clock_line columns.now) }
+{
+    let mut before = LABEL;
+    for column in columns {
+        if column.number % 10 == 0 {
+            push_spaces(out, before)?;
+            before = push_clock(out, column.first)?;
+        }
+    }
+    push_text(out, b"\n")
+}
+
+/// Appends both lines, where there are columns.
 pub fn push_scale(out: &mut Vec<u8>, columns: &[Column]) -> Result<(), NoMemory>
     ensures { OnOk result (out.new.items ≡ out.old.items ++ scale_of columns.now) }
 {
@@ -59,7 +59,5 @@ pub fn push_scale(out: &mut Vec<u8>, columns: &[Column]) -> Result<(), NoMemory>
         return Ok(());
     }
     push_ticks(out, columns)?;
-    push_text(out, b"\n")?;
-    push_clocks(out, columns)?;
-    push_text(out, b"\n")
+    push_clocks(out, columns)
 }
