@@ -36,7 +36,7 @@ columns-covered from end =
     covered-by from end (width_of (end - from)) 0 (div_ceil (end - from) (width_of (end - from))) (omega arith) (omega arith)
     ∙ ap₂ range_with_len (omega arith) (omega arith)
 
-few-by : (shown : ℕ) → div_ceil shown (width_of shown) ≤ 110
+pub few-by : (shown : ℕ) → div_ceil shown (width_of shown) ≤ 110
 few-by shown = elim (cases_lt 110 (div_ceil shown (width_of shown))) [
   | inr few ↦ few
   | inl many ↦

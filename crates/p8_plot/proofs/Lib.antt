@@ -1,5 +1,6 @@
 mod Columns
 mod Covering
+mod Fitting
 mod Marking
 mod Plotting
 mod Ranges

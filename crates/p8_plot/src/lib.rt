@@ -10,6 +10,6 @@ mod text;
 mod trace;
 mod view;
 
-pub use laws::columns_cover;
+pub use laws::{columns_cover, lines_fit};
 pub use picture::plot;
 pub use view::View;
