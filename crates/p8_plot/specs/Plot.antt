@@ -81,7 +81,8 @@ scale_of (column ∷ columns) = tick_line (column ∷ columns) ++ clock_line (co
 -- the picture of the pins whose bits are set, from pin 0 on, each with the clocks at which it is high
 unfoldable pub picture_of : (high : (pin : ℕ) → ℕ → Bool) (ascii : Bool) (columns : List Column) (pins : ℕ) → List ℕ
 picture_of high ascii columns pins =
-    flat_map (λ pin. if is_high pin pins then pin_line (high pin) ascii columns pin else []) (range_with_len 0 32) ++ scale_of columns
+    flat_map (λ pin. if is_high pin pins then pin_line (high pin) ascii columns pin else []) (range_with_len 0 32)
+    ++ scale_of columns
 
 -- the picture of a run: the clocks from the view's first one on that are before its end and the run's
 unfoldable pub plot_of : World → List Turn → View → List ℕ

@@ -25,7 +25,8 @@ fn push(columns: &mut Vec<Column>, column: Column) -> Result<(), NoMemory>
     Ok(())
 }
 
-/// The columns for the clocks from one on and before an end: as few clocks a column as fit, the last column with what is left.
+/// The columns for the clocks from one on and before an end: as few clocks a column as fit, the last column with what
+/// is left.
 pub fn columns(alloc: Global, from: u64, end: u64) -> Result<Vec<Column>, NoMemory>
     ensures columns { IfOk result (λ columns. columns.items ≡ columns_of from end) }
     ensures follow { IfOk result (λ columns. Follow 0 columns.items) }

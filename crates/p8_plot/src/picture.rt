@@ -90,13 +90,14 @@ fn picture(
 
 /// The picture of some pins over the clocks of a run, as text for a terminal.
 ///
-/// `turns` are the turns of a run, the oldest first, with rising keys; `clocks` and `limit` are the run's limits of clocks and
-/// turns. The pins are shown from the lowest on. Shown are the clocks from the view's first one on that are before its end and
-/// the run's, which is at its limit of clocks, or at the last turn's clock where it has as many turns as it may have. There are
-/// at most 110 columns, each for as few clocks as can be, and the last one for what is left. A line has the label of a pin and a
-/// mark for each column: high or low where the pin is so at all clocks of the column, else changing. Below are a line with a
-/// tick at each tenth column and a line with the clocks at which these columns begin; where no clock is shown there are the
-/// labels alone. The only error is want of memory.
+/// `turns` are the turns of a run, the oldest first, with rising keys; `clocks` and `limit` are the run's limits of
+/// clocks and turns. The pins are shown from the lowest on. Shown are the clocks from the view's first one on that
+/// are before its end and the run's, which is at its limit of clocks, or at the last turn's clock where it has as
+/// many turns as it may have. There are at most 110 columns, each for as few clocks as can be, and the last one for
+/// what is left. A line has the label of a pin and a mark for each column: high or low where the pin is so at all
+/// clocks of the column, else changing. Below are a line with a tick at each tenth column and a line with the clocks
+/// at which these columns begin; where no clock is shown there are the labels alone. The only error is want of
+/// memory.
 pub fn plot(
     alloc: Global,
     script: &PinScript,

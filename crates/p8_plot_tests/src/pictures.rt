@@ -55,7 +55,8 @@ fn marks_what_changes(rt: HostRuntime) -> Result<(), Fail> {
     let begin = "P4  ▁▔╳▁▁".as_bytes();
     let end = "▁▁▔\n\
         \x20   |         |         |         |         |         |         |         |         |         |         |\n\
-        \x20   100       130       160       190       220       250       280       310       340       370       400\n"
+        \x20   100       130       160       190       220       250       280       310       340       370       \
+        400\n"
         .as_bytes();
     assert!(rt; text.as_slice().starts_with(begin));
     assert!(rt; text.as_slice().ends_with(end));
