@@ -5,6 +5,7 @@ use Rattle.std.proofs.lemmas.Option.{same_Some, none-some}
 use Rattle.p8_tree.specs.Sources as trees
 use Rattle.p8_tree.specs.Projects.{NamedSource}
 use Rattle.p8_definitions.specs.Items.{items}
+use Rattle.p8_definitions.specs.Names.{predefined_names}
 use Rattle.p8_kinds.specs.declared.children.Child.{Child}
 use Rattle.p8_kinds.specs.declared.children.Children.{Children}
 use Rattle.p8_kinds.specs.declared.kinds.Kinds.{Kinds}
@@ -42,7 +43,7 @@ module _ (files : List NamedSource) (all : List Children) (children : AreChildre
   of-child item None n is = tt
   of-child item (Some c) n is =
       let h = (seen-at files all (mentions file.tree) seen.items (children.each i file seen stands beside) item c is).2 in
-      subst (λ cs. IsWord (constant_among cs n)) (sym h.is.constants) (seen-words h.file.tree h.children.items h.is.setting h.is.right [] (items h.file.tree) n)
+      subst (λ cs. IsWord (constant_among cs n)) (sym h.is.constants) (seen-words h.file.tree h.children.items h.is.setting h.is.right predefined_names (items h.file.tree) n)
 
   of-kind : (k : Option NameKind) (n : List ℕ) → IsWord (constant_behind seen k n)
   of-kind None n = tt
