@@ -4,6 +4,7 @@ mod Tens
 mod Ranges
 mod Taking
 mod Picturing
+mod Same
 mod Sectioning
 mod Walking
 mod Pieces

@@ -1,5 +1,5 @@
 -- Lists that a loop makes.
-use Rattle.std.proofs.Common.{◌≡◌, ◌∙◌, refl, sym, ap, ℕ, zero, suc, ◌+◌, ◌<◌, List, [], ◌∷◌, ◌++◌, map, take, drop, set, get_or, length, append_assoc, arith, Bool, ◌||◌}
+use Rattle.std.proofs.Common.{◌≡◌, ◌∙◌, refl, sym, ap, ℕ, zero, suc, ◌+◌, ◌<◌, List, [], ◌∷◌, ◌++◌, map, take, drop, set, get_or, length, append_assoc, arith, Bool, true, false, ◌||◌, if◌then◌else◌}
 use Rattle.std.specs.List.{range_with_len, flat_map, list_any}
 use Rattle.std.proofs.lemmas.List.Folds.{list_any_more}
 use Rattle.std.proofs.lemmas.List.{map-id, append-nil}
@@ -47,7 +47,8 @@ module _ {X : Type 0} (m : X → X) (xs ys : List X) (i : ℕ) (d : X) (made : y
       ∙ ap (λ (x : X). list_any p (take i xs) || p x) (ap (λ (zs : List X). get_or zs i d) made ∙ get_step m xs i d below)
       ∙ sym (list_any_more p xs i d below)
 
--- all variables
-pub all_entries : map (λ (n : ℕ). still (Pin n)) (range_with_len 0 32) ++ flat_map (λ (n : ℕ). map still (cog_variables n)) (range_with_len 0 8) ++ flat_map (λ (n : ℕ). map still (lock_variables n)) (range_with_len 0 8) ≡ map still variables
+-- all variables that may be shown
+pub all_entries : (pins_only : Bool) → map (λ (n : ℕ). still (Pin n)) (range_with_len 0 32) ++ (if pins_only then [] else flat_map (λ (n : ℕ). map still (cog_variables n)) (range_with_len 0 8)) ++ flat_map (λ (n : ℕ). map still (lock_variables n)) (range_with_len 0 8) ≡ map still (variables pins_only)
 unfolding variables
-all_entries = refl
+all_entries true = refl
+all_entries false = refl

@@ -14,16 +14,12 @@ use Rattle.p8_wave.specs.Scale.{time_of}
 use Rattle.p8_wave.specs.Wave.{value_text, variable_text, values_text, section_text, scope_text, scope_with}
 use Rattle.p8_wave.specs.Following.{pictured, differs}
 use Rattle.p8_wave.specs.Walks.{Shows}
-use Rattle.p8_wave.specs.Sections.{entry_of, marked, some_differ, entry_text, change_text, section_of, declared_in, scope_of}
+use Rattle.p8_wave.specs.Sections.{AreVariables, entry_of, marked, some_differ, entry_text, change_text, section_of, declared_in, scope_of}
 
--- each variable is one
-abbrev pub AreVariables : List Variable → Type 0
-AreVariables [] = Unit {0}
-AreVariables (v ∷ vs) = IsVariable v × AreVariables vs
-
-pub all_variables : AreVariables variables
+pub all_variables : (pins_only : Bool) → AreVariables (variables pins_only)
 unfolding variables
-all_variables = search rules
+all_variables true = search rules
+all_variables false = search rules
 
 module _ (w : World) (past : List Turn) (clock before : ℕ) (old new : Picture) (prior : before ≡ clock - 1) (shown_old : Shows w past before old) (shown_new : Shows w past clock new) where
   same_change : (v : Variable) → IsVariable v → differs old new v ≡ changes_at w past clock v
@@ -32,11 +28,11 @@ module _ (w : World) (past : List Turn) (clock before : ℕ) (old new : Picture)
       ∙ ap (λ n. not (nat_eq (value_at w past (clock - 1) v) n)) (shown_new.values v is)
 
   module _ (p : Variable → Bool) where
-    any_from : (vs : List Variable) → AreVariables vs → some_differ old new (map (entry_of p) vs) ≡ list_any (changes_at w past clock) vs
+    pub any_from : (vs : List Variable) → AreVariables vs → some_differ old new (map (entry_of p) vs) ≡ list_any (changes_at w past clock) vs
     any_from [] all = refl
     any_from (v ∷ vs) (is, all) = rw (same_change v is, any_from vs all) refl
 
-    marked_from : (vs : List Variable) → AreVariables vs → map (marked old new) (map (entry_of p) vs) ≡ map (entry_of (λ (v : Variable). changes_at w past clock v || p v)) vs
+    pub marked_from : (vs : List Variable) → AreVariables vs → map (marked old new) (map (entry_of p) vs) ≡ map (entry_of (λ (v : Variable). changes_at w past clock v || p v)) vs
     marked_from [] all = refl
     marked_from (v ∷ vs) (is, all) = rw (same_change v is, marked_from vs all) refl
 
@@ -55,16 +51,10 @@ module _ (w : World) (past : List Turn) (clock before : ℕ) (old new : Picture)
         ∙ ap (λ xs. (if changes_at w past clock v then value_text (width_of v) (mark_of v) (value_at w past clock v) else []) ++ xs) (values_from vs all)
         ∙ step (changes_at w past clock v) v (filter (changes_at w past clock) vs)
 
-    pub any_all : some_differ old new (map (entry_of p) variables) ≡ list_any (changes_at w past clock) variables
-    any_all = any_from variables all_variables
-
-    pub marked_all : map (marked old new) (map (entry_of p) variables) ≡ map (entry_of (λ (v : Variable). changes_at w past clock v || p v)) variables
-    marked_all = marked_from variables all_variables
-
-    pub section_all : (time : ℕ) → time ≡ time_of w clock → section_of time old new (map (entry_of p) variables) ≡ section_text w past clock
-    section_all time e =
-        ap (λ n. codes "#" ++ decimal n ++ codes "\n" ++ flat_map (change_text old new) (map (entry_of p) variables)) e
-        ∙ ap (λ xs. codes "#" ++ decimal (time_of w clock) ++ codes "\n" ++ xs) (values_from variables all_variables)
+    pub section_all : (vs : List Variable) → AreVariables vs → (time : ℕ) → time ≡ time_of w clock → section_of time old new (map (entry_of p) vs) ≡ section_text w past vs clock
+    section_all vs all time e =
+        ap (λ n. codes "#" ++ decimal n ++ codes "\n" ++ flat_map (change_text old new) (map (entry_of p) vs)) e
+        ∙ ap (λ xs. codes "#" ++ decimal (time_of w clock) ++ codes "\n" ++ xs) (values_from vs all)
 
 -- what is declared in a scope
 module _ (p : Variable → Bool) where
@@ -90,13 +80,10 @@ module _ (p : Variable → Bool) where
 
 -- the values of those that are shown, in a picture
 module _ (w : World) (past : List Turn) (clock : ℕ) (picture : Picture) (shows : Shows w past clock picture) (p : Variable → Bool) where
-  values_shown : (q : Variable → Bool) (vs : List Variable) → AreVariables vs → flat_map (entry_text picture) (map (entry_of p) (filter q vs)) ≡ values_text w past clock (filter q vs)
+  pub values_shown : (q : Variable → Bool) (vs : List Variable) → AreVariables vs → flat_map (entry_text picture) (map (entry_of p) (filter q vs)) ≡ values_text w past clock (filter q vs)
   values_shown q [] all = refl
   values_shown q (v ∷ vs) (is, all) = shown_step (q v) v (filter q vs) is (values_shown q vs all)
     where
       shown_step : (b : Bool) (v : Variable) (vs : List Variable) → IsVariable v → flat_map (entry_text picture) (map (entry_of p) vs) ≡ values_text w past clock vs → flat_map (entry_text picture) (map (entry_of p) (if b then v ∷ vs else vs)) ≡ values_text w past clock (if b then v ∷ vs else vs)
       shown_step true v vs is e = rw (shows.values v is) (ap (λ xs. value_text (width_of v) (mark_of v) (value_at w past clock v) ++ xs) e)
       shown_step false v vs is e = e
-
-  pub first_values : (q : Variable → Bool) → flat_map (entry_text picture) (map (entry_of p) (filter q variables)) ≡ values_text w past clock (filter q variables)
-  first_values q = values_shown q variables all_variables

@@ -14,15 +14,15 @@ use Rattle.p8_wave.specs.declared.courses.Course.{Course}
 use Rattle.p8_wave.specs.declared.entries.Entry.{Entry}
 use Rattle.p8_wave.specs.declared.pictures.Picture.{Picture}
 use Rattle.p8_wave.specs.declared.variables.Variable.{Variable}
-use Rattle.p8_wave.specs.Variables.{variables, IsVariable}
+use Rattle.p8_wave.specs.Variables.{IsVariable}
 use Rattle.p8_wave.specs.Values.{value_at, turns_by, changes_at, changes, end_of}
 use Rattle.p8_wave.specs.Scale.{time_of}
 use Rattle.p8_wave.specs.Wave.{section_text, changes_text}
 use Rattle.p8_wave.specs.Following.{AreSignals}
 use Rattle.p8_wave.specs.Walks.{IsAt, IsLater, Shows}
-use Rattle.p8_wave.specs.Sections.{entry_of, still, marked, some_differ, section_of, changed_by, sections_by, IsDone}
+use Rattle.p8_wave.specs.Sections.{AreVariables, entry_of, still, marked, some_differ, section_of, changed_by, sections_by, IsDone}
 use Rattle.p8_wave.proofs.Ranges.{none, none_any, more_clocks, more_any, all_any}
-use Rattle.p8_wave.proofs.Sectioning.{AreVariables, all_variables, any_all, marked_all, section_all}
+use Rattle.p8_wave.proofs.Sectioning.{any_from, marked_from, section_all}
 use Rattle.p8_wave.proofs.Picturing.{at_later, shows_at}
 
 -- entries agree where their tests do
@@ -34,10 +34,10 @@ none_of : (f : Variable → Bool) → ((v : Variable) → IsVariable v → f v �
 none_of f never [] all = refl
 none_of f never (v ∷ vs) (is, all) = rw (never v is) (none_of f never vs all)
 
-module _ (w : World) (past : List Turn) where
+module _ (w : World) (past : List Turn) (vs : List Variable) (are : AreVariables vs) where
   -- a clock at which some variable changes
   abbrev changes_some : ℕ → Bool
-  changes_some c = list_any (changes_at w past c) variables
+  changes_some c = list_any (changes_at w past c) vs
 
   -- nothing changes at a clock where one picture shows the values at it and at the clock before
   quiet_at : (u : ℕ) (p : Picture) → Shows w past (u - 1) p → Shows w past u p → (v : Variable) → IsVariable v → changes_at w past u v ≡ false
@@ -69,10 +69,10 @@ module _ (w : World) (past : List Turn) where
     quiet_one u up below = quiet_at u p (shows_one (u - 1) (omega arith) (omega arith)) (shows_one u (omega arith) (omega arith))
 
     quiet_some : (u : ℕ) → clock < u → u ≤ next - 1 → changes_some u ≡ false
-    quiet_some u up below = none_of (changes_at w past u) (quiet_one u up below) variables all_variables
+    quiet_some u up below = none_of (changes_at w past u) (quiet_one u up below) vs are
 
     -- at the begin
-    pub begun : clock ≡ 0 → (next < end_of w past → 0 < next) → (text : List ℕ) (entries : List Entry) → entries ≡ map still variables → IsDone w past next left course p entries text text
+    pub begun : clock ≡ 0 → (next < end_of w past → 0 < next) → (text : List ℕ) (entries : List Entry) → entries ≡ map still vs → IsDone w past vs next left course p entries text text
     begun first some text entries unchanged =
         let nothing = none changes_some 1 (next - 1) (λ u up below. quiet_some u (omega arith) (omega arith)) in
         record {
@@ -80,13 +80,13 @@ module _ (w : World) (past : List Turn) where
           some = some;
           at = at_last;
           shows = shows_last (omega arith);
-          told = unchanged ∙ entries_agree (λ _. false) (changed_by w past (next - 1)) (λ v is. sym (none_any (λ c. changes_at w past c v) 1 (next - 1) (λ u up below. quiet_one u (omega arith) (omega arith) v is))) variables all_variables;
-          written = sym (append-nil text) ∙ ap (λ cs. text ++ flat_map (section_text w past) cs) (sym nothing);
+          told = unchanged ∙ entries_agree (λ _. false) (changed_by w past (next - 1)) (λ v is. sym (none_any (λ c. changes_at w past c v) 1 (next - 1) (λ u up below. quiet_one u (omega arith) (omega arith) v is))) vs are;
+          written = sym (append-nil text) ∙ ap (λ cs. text ++ flat_map (section_text w past vs) cs) (sym nothing);
         }
 
     -- one event more
     module _ (left₀ : List Turn) (course₀ : Course) (old : Picture) (entries₀ entries : List Entry) (before text₀ text : List ℕ) (time : ℕ)
-        (done : IsDone w past clock left₀ course₀ old entries₀ before text₀) (inside : clock < end_of w past) (later : clock < next) (is_time : time ≡ time_of w clock)
+        (done : IsDone w past vs clock left₀ course₀ old entries₀ before text₀) (inside : clock < end_of w past) (later : clock < next) (is_time : time ≡ time_of w clock)
         (new_entries : entries ≡ map (marked old p) entries₀)
         (new_text : text ≡ text₀ ++ (if some_differ old p entries₀ then section_of time old p entries else [])) where
       shows_now : Shows w past clock p
@@ -95,67 +95,67 @@ module _ (w : World) (past : List Turn) where
       first : clock ≡ clock - 1 + 1
       first = let positive = done.some inside in omega arith
 
-      marked_now : entries ≡ map (entry_of (λ (v : Variable). changes_at w past clock v || changed_by w past (clock - 1) v)) variables
+      marked_now : entries ≡ map (entry_of (λ (v : Variable). changes_at w past clock v || changed_by w past (clock - 1) v)) vs
       marked_now =
           new_entries ∙ ap (map (marked old p)) done.told
-          ∙ marked_all w past clock (clock - 1) old p refl done.shows shows_now (changed_by w past (clock - 1))
+          ∙ marked_from w past clock (clock - 1) old p refl done.shows shows_now (changed_by w past (clock - 1)) vs are
 
       some_now : some_differ old p entries₀ ≡ changes_some clock
       some_now =
           ap (some_differ old p) done.told
-          ∙ any_all w past clock (clock - 1) old p refl done.shows shows_now (changed_by w past (clock - 1))
+          ∙ any_from w past clock (clock - 1) old p refl done.shows shows_now (changed_by w past (clock - 1)) vs are
 
-      section_now : section_of time old p entries ≡ section_text w past clock
+      section_now : section_of time old p entries ≡ section_text w past vs clock
       section_now =
           ap (section_of time old p) marked_now
-          ∙ section_all w past clock (clock - 1) old p refl done.shows shows_now (λ (v : Variable). changes_at w past clock v || changed_by w past (clock - 1) v) time is_time
+          ∙ section_all w past clock (clock - 1) old p refl done.shows shows_now (λ (v : Variable). changes_at w past clock v || changed_by w past (clock - 1) v) vs are time is_time
 
-      section_if : (b : Bool) → flat_map (section_text w past) (if b then clock ∷ [] else []) ≡ (if b then section_text w past clock else [])
-      section_if true = append-nil (section_text w past clock)
+      section_if : (b : Bool) → flat_map (section_text w past vs) (if b then clock ∷ [] else []) ≡ (if b then section_text w past vs clock else [])
+      section_if true = append-nil (section_text w past vs clock)
       section_if false = refl
 
-      text_now : text ≡ before ++ sections_by w past (next - 1)
+      text_now : text ≡ before ++ sections_by w past vs (next - 1)
       text_now =
           new_text
           ∙ ap (λ b. text₀ ++ (if b then section_of time old p entries else [])) some_now
           ∙ ap (λ xs. text₀ ++ (if changes_some clock then xs else [])) section_now
           ∙ ap (λ xs. text₀ ++ xs) (sym (section_if (changes_some clock)))
-          ∙ ap (λ xs. xs ++ flat_map (section_text w past) (if changes_some clock then clock ∷ [] else [])) done.written
-          ∙ append_assoc before (sections_by w past (clock - 1)) (flat_map (section_text w past) (if changes_some clock then clock ∷ [] else []))
-          ∙ ap (λ xs. before ++ xs) (sym (flat_map-append (section_text w past) (filter changes_some (range_with_len 1 (clock - 1))) (if changes_some clock then clock ∷ [] else [])))
-          ∙ ap (λ cs. before ++ flat_map (section_text w past) cs) (sym (more_clocks changes_some (next - 1) (clock - 1) clock first (omega arith) quiet_some))
+          ∙ ap (λ xs. xs ++ flat_map (section_text w past vs) (if changes_some clock then clock ∷ [] else [])) done.written
+          ∙ append_assoc before (sections_by w past vs (clock - 1)) (flat_map (section_text w past vs) (if changes_some clock then clock ∷ [] else []))
+          ∙ ap (λ xs. before ++ xs) (sym (flat_map-append (section_text w past vs) (filter changes_some (range_with_len 1 (clock - 1))) (if changes_some clock then clock ∷ [] else [])))
+          ∙ ap (λ cs. before ++ flat_map (section_text w past vs) cs) (sym (more_clocks changes_some (next - 1) (clock - 1) clock first (omega arith) quiet_some))
 
-      pub stepped : IsDone w past next left course p entries before text
+      pub stepped : IsDone w past vs next left course p entries before text
       stepped = record {
         within = within;
         some = λ _. omega arith;
         at = at_last;
         shows = shows_last (omega arith);
-        told = marked_now ∙ entries_agree (λ (v : Variable). changes_at w past clock v || changed_by w past (clock - 1) v) (changed_by w past (next - 1)) (λ v is. sym (more_any (λ c. changes_at w past c v) (next - 1) (clock - 1) clock first (omega arith) (λ u up below. quiet_one u up below v is))) variables all_variables;
+        told = marked_now ∙ entries_agree (λ (v : Variable). changes_at w past clock v || changed_by w past (clock - 1) v) (changed_by w past (next - 1)) (λ v is. sym (more_any (λ c. changes_at w past c v) (next - 1) (clock - 1) clock first (omega arith) (λ u up below. quiet_one u up below v is))) vs are;
         written = text_now;
       }
 
   -- the end
   module _ (left : List Turn) (course : Course) (old new : Picture) (entries₀ entries : List Entry) (before text₀ text : List ℕ) (time : ℕ)
-      (done : IsDone w past (end_of w past) left course old entries₀ before text₀) (is_time : time ≡ time_of w (end_of w past))
+      (done : IsDone w past vs (end_of w past) left course old entries₀ before text₀) (is_time : time ≡ time_of w (end_of w past))
       (shows_new : Shows w past (end_of w past) new)
       (new_entries : entries ≡ map (marked old new) entries₀)
       (new_text : text ≡ text₀ ++ section_of time old new entries) where
-    marked_end : entries ≡ map (entry_of (λ (v : Variable). changes_at w past (end_of w past) v || changed_by w past (end_of w past - 1) v)) variables
+    marked_end : entries ≡ map (entry_of (λ (v : Variable). changes_at w past (end_of w past) v || changed_by w past (end_of w past - 1) v)) vs
     marked_end =
         new_entries ∙ ap (map (marked old new)) done.told
-        ∙ marked_all w past (end_of w past) (end_of w past - 1) old new refl done.shows shows_new (changed_by w past (end_of w past - 1))
+        ∙ marked_from w past (end_of w past) (end_of w past - 1) old new refl done.shows shows_new (changed_by w past (end_of w past - 1)) vs are
 
     never_first : (v : Variable) → changes_at w past 0 v ≡ false
     never_first v = grind (arith, nat_tests)
 
-    pub end_entries : entries ≡ map (entry_of (changes w past)) variables
-    end_entries = marked_end ∙ entries_agree _ (changes w past) (λ v is. sym (all_any (λ c. changes_at w past c v) (end_of w past) (never_first v))) variables all_variables
+    pub end_entries : entries ≡ map (entry_of (changes w past)) vs
+    end_entries = marked_end ∙ entries_agree _ (changes w past) (λ v is. sym (all_any (λ c. changes_at w past c v) (end_of w past) (never_first v))) vs are
 
-    pub end_text : text ≡ before ++ changes_text w past
+    pub end_text : text ≡ before ++ changes_text w past vs
     end_text =
         new_text
         ∙ ap (λ es. text₀ ++ section_of time old new es) marked_end
-        ∙ ap (λ xs. text₀ ++ xs) (section_all w past (end_of w past) (end_of w past - 1) old new refl done.shows shows_new (λ (v : Variable). changes_at w past (end_of w past) v || changed_by w past (end_of w past - 1) v) time is_time)
-        ∙ ap (λ xs. xs ++ section_text w past (end_of w past)) done.written
-        ∙ append_assoc before (sections_by w past (end_of w past - 1)) (section_text w past (end_of w past))
+        ∙ ap (λ xs. text₀ ++ xs) (section_all w past (end_of w past) (end_of w past - 1) old new refl done.shows shows_new (λ (v : Variable). changes_at w past (end_of w past) v || changed_by w past (end_of w past - 1) v) vs are time is_time)
+        ∙ ap (λ xs. xs ++ section_text w past vs (end_of w past)) done.written
+        ∙ append_assoc before (sections_by w past vs (end_of w past - 1)) (section_text w past vs (end_of w past))

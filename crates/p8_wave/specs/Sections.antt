@@ -1,6 +1,6 @@
 -- internal
 -- The text of a wave over the entries that the code keeps.
-use Rattle.std.specs.Prelude.{ℕ, ◌-◌, ◌≡◌, ◌<◌, ◌≤◌, ◌||◌, if◌then◌else◌, Bool, false, Option, List, [], ◌++◌, codes, map, flat_map, filter}
+use Rattle.std.specs.Prelude.{ℕ, ◌-◌, ◌≡◌, ◌<◌, ◌≤◌, ◌||◌, if◌then◌else◌, Bool, false, Option, List, [], ◌∷◌, ◌++◌, codes, map, flat_map, filter}
 use Rattle.std.specs.Fmt.{decimal}
 use Rattle.std.specs.List.{range_with_len, list_any}
 use Rattle.p8_access.specs.declared.order.Turn.{Turn}
@@ -11,12 +11,17 @@ use Rattle.p8_wave.specs.declared.pictures.Picture.{Picture}
 use Rattle.p8_wave.specs.declared.walks.Walk.{Walk}
 use Rattle.p8_wave.specs.declared.variables.Scope.{Scope}
 use Rattle.p8_wave.specs.declared.variables.Variable.{Variable}
-use Rattle.p8_wave.specs.Variables.{scopes, variables, mark_of, width_of, is_in}
+use Rattle.p8_wave.specs.Variables.{scopes, IsVariable, mark_of, width_of, is_in}
 use Rattle.p8_wave.specs.Values.{changes_at, changes, end_of}
 use Rattle.p8_wave.specs.Scale.{scale_text}
 use Rattle.p8_wave.specs.Wave.{value_text, variable_text, scope_with, section_text, changes_text}
 use Rattle.p8_wave.specs.Following.{pictured, differs}
 use Rattle.p8_wave.specs.Walks.{IsAt, Shows}
+
+-- each of these is one of the variables
+abbrev pub AreVariables : List Variable → Type 0
+AreVariables [] = Unit {0}
+AreVariables (v ∷ vs) = IsVariable v × AreVariables vs
 
 -- an entry that is not marked
 abbrev pub unmarked : Variable → (mark : ℕ) → Entry
@@ -70,22 +75,22 @@ first_of picture entries = codes "#0\n$dumpvars\n" ++ flat_map (entry_text pictu
 abbrev pub changed_by : World → List Turn → ℕ → Variable → Bool
 changed_by w past clock v = list_any (λ (c : ℕ). changes_at w past c v) (range_with_len 1 clock)
 
--- the sections of the clocks after 0 up to a clock at which some variable changes
-abbrev pub sections_by : World → List Turn → ℕ → List ℕ
-sections_by w past clock = flat_map (section_text w past) (filter (λ (c : ℕ). list_any (changes_at w past c) variables) (range_with_len 1 clock))
+-- the sections of the clocks after 0 up to a clock at which one of some variables changes
+abbrev pub sections_by : World → List Turn → List Variable → ℕ → List ℕ
+sections_by w past vs clock = flat_map (section_text w past vs) (filter (λ (c : ℕ). list_any (changes_at w past c) vs) (range_with_len 1 clock))
 
 -- all that comes before a clock is written: a walk has come to the clock before, a picture shows the values at
 -- it, and each entry tells whether its variable has changed
-pub record IsDone (w : World) (past : List Turn) (next : ℕ) (left : List Turn) (course : Course) (old : Picture) (entries : List Entry) (before text : List ℕ) : Type 0 where
+pub record IsDone (w : World) (past : List Turn) (vs : List Variable) (next : ℕ) (left : List Turn) (course : Course) (old : Picture) (entries : List Entry) (before text : List ℕ) : Type 0 where
   pub within : next ≤ end_of w past
   pub some : next < end_of w past → 0 < next
   pub at : IsAt w past (next - 1) left course
   pub shows : Shows w past (next - 1) old
-  pub told : entries ≡ map (entry_of (changed_by w past (next - 1))) variables
-  pub written : text ≡ before ++ sections_by w past (next - 1)
+  pub told : entries ≡ map (entry_of (changed_by w past (next - 1))) vs
+  pub written : text ≡ before ++ sections_by w past vs (next - 1)
 
--- what a walk along a history has written
-pub record IsWalked (w : World) (past : List Turn) (walk : Walk) : Type 0 where
-  pub text : walk.sections.text.items ≡ changes_text w past
-  pub entries : walk.sections.entries.items ≡ map (entry_of (changes w past)) variables
+-- what a walk along a history has written of some variables
+pub record IsWalked (w : World) (past : List Turn) (vs : List Variable) (walk : Walk) : Type 0 where
+  pub text : walk.sections.text.items ≡ changes_text w past vs
+  pub entries : walk.sections.entries.items ≡ map (entry_of (changes w past)) vs
   pub first : Shows w past 0 walk.first

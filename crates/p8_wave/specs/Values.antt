@@ -10,6 +10,7 @@ use Rattle.p8_history.specs.declared.states.CogState.TheVariants.{Stopped, Start
 use Rattle.p8_history.specs.Worlds.{World}
 use Rattle.p8_history.specs.Hub.{newest, cog_state, is_set, is_taken}
 use Rattle.p8_history.specs.Pins.{outa_of, dira_of, pins_at}
+use Rattle.p8_wave.specs.declared.variables.Selection.{Selection}
 use Rattle.p8_wave.specs.declared.variables.Variable.{Variable}
 use Rattle.p8_wave.specs.declared.variables.Variable.TheVariants.{Pin, Outa, Dira, State, Lock, Taken}
 use Rattle.p8_wave.specs.Variables.{variables}
@@ -67,10 +68,10 @@ changes_at w past clock v = not (nat_eq (value_at w past (clock - 1) v) (value_a
 abbrev pub changes : World → List Turn → Variable → Bool
 changes w past v = list_any (λ (clock : ℕ). changes_at w past clock v) (range_with_len 1 (end_of w past))
 
--- the variables that are shown: those that change, or all
-abbrev pub shown : World → List Turn → (all : Bool) → List Variable
-shown w past all = filter (λ (v : Variable). all || changes w past v) variables
+-- the variables that are shown: of those that may be, the ones that change, or all
+abbrev pub shown : World → List Turn → Selection → List Variable
+shown w past selection = filter (λ (v : Variable). selection.all || changes w past v) (variables selection.pins_only)
 
--- the clocks after 0 and before the end at which some variable changes
-abbrev pub change_clocks : World → List Turn → List ℕ
-change_clocks w past = filter (λ (clock : ℕ). list_any (changes_at w past clock) variables) (range_with_len 1 (end_of w past - 1))
+-- the clocks after 0 and before the end at which one of some variables changes
+abbrev pub change_clocks : World → List Turn → List Variable → List ℕ
+change_clocks w past vs = filter (λ (clock : ℕ). list_any (changes_at w past clock) vs) (range_with_len 1 (end_of w past - 1))

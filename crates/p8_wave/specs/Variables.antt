@@ -1,5 +1,5 @@
 -- The variables of a wave, their names and scopes.
-use Rattle.std.specs.Prelude.{ℕ, ◌+◌, ◌*◌, ◌<◌, nat_eq, Bool, true, false, List, [], ◌∷◌, ◌++◌, codes, map, flat_map}
+use Rattle.std.specs.Prelude.{ℕ, ◌+◌, ◌*◌, ◌<◌, nat_eq, if◌then◌else◌, Bool, true, false, List, [], ◌∷◌, ◌++◌, codes, map, flat_map}
 use Rattle.std.specs.Fmt.{decimal}
 use Rattle.std.specs.List.{range_with_len}
 use Rattle.p8_history.specs.Hub.{cogs, locks}
@@ -19,9 +19,11 @@ cog_variables n = Outa n ∷ Dira n ∷ State n ∷ []
 abbrev pub lock_variables : ℕ → List Variable
 lock_variables n = Lock n ∷ Taken n ∷ []
 
--- all variables, in the order in which they stand
-unfoldable pub variables : List Variable
-variables = map Pin (range_with_len 0 32) ++ flat_map cog_variables cogs ++ flat_map lock_variables locks
+-- the variables that may be shown, in the order in which they stand: those of the pins, of the cogs unless the pins
+-- and the locks are to stand alone, and of the locks
+unfoldable pub variables : (pins_only : Bool) → List Variable
+variables pins_only =
+    map Pin (range_with_len 0 32) ++ (if pins_only then [] else flat_map cog_variables cogs) ++ flat_map lock_variables locks
 
 -- there is such a variable
 abbrev pub IsVariable : Variable → Type 0

@@ -1,11 +1,12 @@
 -- The text of a wave (IEEE 1364-2005, section 18, "Value change dump files"). Where the standard leaves a
 -- choice it is this project's profile. A past is a list of turns, the newest first.
-use Rattle.std.specs.Prelude.{ℕ, ◌+◌, ◌-◌, ◌/◌, ◌%◌, ◌^◌, nat_eq, if◌then◌else◌, Bool, List, [], ◌∷◌, ◌++◌, codes, map, flat_map, filter}
+use Rattle.std.specs.Prelude.{ℕ, ◌+◌, ◌-◌, ◌/◌, ◌%◌, ◌^◌, nat_eq, if◌then◌else◌, List, [], ◌∷◌, ◌++◌, codes, map, flat_map, filter}
 use Rattle.std.specs.Fmt.{decimal}
 use Rattle.std.specs.List.{range_with_len}
 use Rattle.p8_access.specs.declared.order.Turn.{Turn}
 use Rattle.p8_history.specs.Worlds.{World}
 use Rattle.p8_wave.specs.declared.variables.Scope.{Scope}
+use Rattle.p8_wave.specs.declared.variables.Selection.{Selection}
 use Rattle.p8_wave.specs.declared.variables.Variable.{Variable}
 use Rattle.p8_wave.specs.Variables.{scopes, variables, width_of, mark_of, name_of, scope_name, is_in}
 use Rattle.p8_wave.specs.Values.{end_of, value_at, changes_at, shown, change_clocks}
@@ -42,9 +43,9 @@ values_text w past clock vs = flat_map (λ (v : Variable). value_text (width_of 
 abbrev pub time_text : World → ℕ → List ℕ
 time_text w clock = codes "#" ++ decimal (time_of w clock) ++ codes "\n"
 
--- a clock, and the variables that change at it
-abbrev pub section_text : World → List Turn → ℕ → List ℕ
-section_text w past clock = time_text w clock ++ values_text w past clock (filter (changes_at w past clock) variables)
+-- a clock, and those of some variables that change at it
+abbrev pub section_text : World → List Turn → List Variable → ℕ → List ℕ
+section_text w past vs clock = time_text w clock ++ values_text w past clock (filter (changes_at w past clock) vs)
 
 -- the time scale and the variables that are shown
 abbrev pub head_text : World → List Variable → List ℕ
@@ -56,10 +57,12 @@ head_text w vs =
 abbrev pub first_text : World → List Turn → List Variable → List ℕ
 first_text w past vs = codes "#0\n$dumpvars\n" ++ values_text w past 0 vs ++ codes "$end\n"
 
--- a section for each clock at which something changes, and one for the end
-abbrev pub changes_text : World → List Turn → List ℕ
-changes_text w past = flat_map (section_text w past) (change_clocks w past) ++ section_text w past (end_of w past)
+-- a section for each clock at which one of some variables changes, and one for the end
+abbrev pub changes_text : World → List Turn → List Variable → List ℕ
+changes_text w past vs = flat_map (section_text w past vs) (change_clocks w past vs) ++ section_text w past vs (end_of w past)
 
 -- the whole text
-abbrev pub wave_of : World → List Turn → (all : Bool) → List ℕ
-wave_of w past all = head_text w (shown w past all) ++ first_text w past (shown w past all) ++ changes_text w past
+abbrev pub wave_of : World → List Turn → Selection → List ℕ
+wave_of w past selection =
+    head_text w (shown w past selection) ++ first_text w past (shown w past selection)
+    ++ changes_text w past (variables selection.pins_only)

@@ -1,5 +1,5 @@
 // The variables of a wave, with the characters that stand for them.
-ghost use Rattle.std.specs.Prelude.{◌≡◌, ◌||◌, ◌++◌, ◌≤◌, ℕ, List, map, flat_map, filter, IfOk, OnOk};
+ghost use Rattle.std.specs.Prelude.{◌≡◌, ◌||◌, ◌++◌, ◌≤◌, ℕ, List, [], map, flat_map, filter, if◌then◌else◌, IfOk, OnOk};
 ghost use Rattle.std.specs.List.{range_with_len};
 ghost use Rattle.p8_history.specs.Hub.{cogs, locks};
 ghost use Rattle.p8_wave.specs.declared.variables.Variable.TheVariants.{Pin};
@@ -68,13 +68,15 @@ fn push_locks(entries: &mut Vec<Entry>) -> Result<(), NoMemory>
     Ok(())
 }
 
-/// All variables, of which none has changed.
-pub fn entries(alloc: Global) -> Result<Vec<Entry>, NoMemory>
-    ensures { IfOk result (λ entries. entries.items ≡ map still variables) }
+/// The variables that may be shown, of which none has changed: all, or those of the pins and the locks alone.
+pub fn entries(alloc: Global, pins_only: bool) -> Result<Vec<Entry>, NoMemory>
+    ensures { IfOk result (λ entries. entries.items ≡ map still (variables pins_only)) }
 {
     let mut entries = Vec::new(alloc);
     push_pins(&mut entries)?;
-    push_cogs(&mut entries)?;
+    if !pins_only {
+        push_cogs(&mut entries)?;
+    }
     push_locks(&mut entries)?;
     Ok(entries)
 }

@@ -17,5 +17,5 @@ mod variables;
 mod walks;
 mod waves;
 
-pub use variables::{Scope, Variable};
+pub use variables::{Scope, Selection, Variable};
 pub use waves::wave;

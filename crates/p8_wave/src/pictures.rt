@@ -6,7 +6,7 @@ use crate::signals::Signals;
 use crate::variables::Variable;
 
 /// The values of all variables at a clock.
-#[derive(Clone, Copy)]
+#[derive(Clone, Copy, PartialEq, Eq)]
 pub struct Picture {
     pub signals: Signals,
     /// The levels of all pins, bit n for pin n.

@@ -35,15 +35,15 @@ fn push_time(out: &mut Vec<u8>, clock: u64, ticks: u64) -> Result<(), NoMemory>
 }
 
 impl Sections {
-    /// No section, where a clock lasts so many units of time.
-    pub fn open(alloc: Global, ticks: u64) -> Result<Sections, NoMemory>
+    /// No section, where a clock lasts so many units of time, of all variables or of the pins and the locks alone.
+    pub fn open(alloc: Global, ticks: u64, pins_only: bool) -> Result<Sections, NoMemory>
         ensures text { IfOk result (λ sections. sections.text.items ≡ []) }
-        ensures entries { IfOk result (λ sections. sections.entries.items ≡ map still variables) }
+        ensures entries { IfOk result (λ sections. sections.entries.items ≡ map still (variables pins_only)) }
         ensures ticks { IfOk result (λ sections. sections.ticks ≡ ticks) }
     {
         Ok(Sections {
             text: Vec::new(alloc),
-            entries: entries(alloc)?,
+            entries: entries(alloc, pins_only)?,
             ticks,
         })
     }
@@ -55,6 +55,9 @@ impl Sections {
         ensures text { self.new.text.items ≡ self.old.text.items }
         ensures ticks { self.new.ticks ≡ self.old.ticks }
     {
+        if old == new {
+            return false;
+        }
         mark_changes(&mut self.entries, old, new)
     }
 

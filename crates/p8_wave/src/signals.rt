@@ -33,7 +33,7 @@ impl Phase {
 
 /// The eight cogs and the eight locks after some turns: what each cog is doing, its registers OUTA and DIRA,
 /// and whether each lock is set, and whether it is taken.
-#[derive(Clone, Copy)]
+#[derive(Clone, Copy, PartialEq, Eq)]
 pub struct Signals {
     pub phases: [Phase; 8],
     pub outa: [u32; 8],

@@ -1,4 +1,4 @@
-// What a wave shows: the variables, and the scopes in which they stand.
+// What a wave shows: the variables, the scopes in which they stand, and which of them are shown.
 
 /// A scope of a wave: variables that a viewer shows together.
 #[derive(Clone, Copy, Debug, PartialEq, Eq)]
@@ -26,4 +26,13 @@ pub enum Variable {
     Lock(u8),
     /// Whether this lock is taken.
     Taken(u8),
+}
+
+/// Which variables of a run a wave shows.
+#[derive(Clone, Copy, Debug, PartialEq, Eq)]
+pub struct Selection {
+    /// Also those that never change in the run.
+    pub all: bool,
+    /// Those of the pins and the locks alone: each has one bit.
+    pub pins_only: bool,
 }

@@ -2,11 +2,12 @@
 ghost use Rattle.std.specs.Prelude.{◌≡◌, ◌++◌, [], List, map, reverse, IfOk, OnOk};
 ghost use Rattle.p8_access.specs.declared.order.Turn.{Turn};
 ghost use Rattle.p8_history.specs.Worlds.{World};
+ghost use Rattle.p8_wave.specs.declared.variables.Variable.{Variable};
 ghost use Rattle.p8_wave.specs.Variables.{variables};
 ghost use Rattle.p8_wave.specs.Values.{changes};
 ghost use Rattle.p8_wave.specs.Wave.{changes_text};
 ghost use Rattle.p8_wave.specs.Walks.{IsAt, IsSet};
-ghost use Rattle.p8_wave.specs.Sections.{still, entry_of, IsWalked};
+ghost use Rattle.p8_wave.specs.Sections.{AreVariables, still, entry_of, IsWalked};
 
 use crate::courses::{Course, next_clock, take_turns};
 use crate::entries::entries;
@@ -32,16 +33,18 @@ fn write_sections(
     script: &PinScript,
     end: u64,
 ) -> Result<(), NoMemory>
-    ensures text { (w : World) (past : List Turn)
+    ensures text { (w : World) (past : List Turn) (vs : List Variable)
+        → AreVariables vs
         → IsSet w past script.now sections.old.ticks end
         → IsAt w past 0 turns.now course.old
-        → sections.old.entries.items ≡ map still variables
-        → OnOk result (sections.new.text.items ≡ sections.old.text.items ++ changes_text w past) }
-    ensures entries { (w : World) (past : List Turn)
+        → sections.old.entries.items ≡ map still vs
+        → OnOk result (sections.new.text.items ≡ sections.old.text.items ++ changes_text w past vs) }
+    ensures entries { (w : World) (past : List Turn) (vs : List Variable)
+        → AreVariables vs
         → IsSet w past script.now sections.old.ticks end
         → IsAt w past 0 turns.now course.old
-        → sections.old.entries.items ≡ map still variables
-        → OnOk result (sections.new.entries.items ≡ map (entry_of (changes w past)) variables) }
+        → sections.old.entries.items ≡ map still vs
+        → OnOk result (sections.new.entries.items ≡ map (entry_of (changes w past)) vs) }
 {
     let mut left = turns;
     let mut old = course.picture();
@@ -57,23 +60,24 @@ fn write_sections(
     sections.end(end, &old, &course.picture())
 }
 
-/// Walks along a history, the oldest turn first.
+/// Walks along a history, the oldest turn first, and writes all variables or those of the pins and the locks alone.
 pub fn walk_along(
     alloc: Global,
     turns: &[Turn],
     script: &PinScript,
     end: u64,
     ticks: u64,
+    pins_only: bool,
 ) -> Result<Walk, NoMemory>
     ensures { (w : World) (past : List Turn)
         → IsSet w past script.now ticks end
         → past ≡ reverse turns.now
-        → IfOk result (IsWalked w past) }
+        → IfOk result (IsWalked w past (variables pins_only)) }
 {
     let mut course = Course::open(script);
     let left = take_turns(&mut course.signals, turns, 0);
     let first = course.picture();
-    let mut sections = Sections::open(alloc, ticks)?;
+    let mut sections = Sections::open(alloc, ticks, pins_only)?;
     write_sections(&mut sections, &mut course, left, script, end)?;
     Ok(Walk { sections, first })
 }

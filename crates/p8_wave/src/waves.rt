@@ -4,6 +4,7 @@ ghost use Rattle.p8_access.specs.declared.order.Turn.{Turn};
 ghost use Rattle.p8_history.specs.Worlds.{World};
 ghost use Rattle.p8_history.specs.Histories.{Rises};
 ghost use Rattle.p8_ledger.specs.Worlds.{world_of};
+ghost use Rattle.p8_wave.specs.Variables.{variables};
 ghost use Rattle.p8_wave.specs.Values.{last_clock as last_clock_of, end_of as end_in};
 ghost use Rattle.p8_wave.specs.Scale.{frequency, period_of};
 ghost use Rattle.p8_wave.specs.Wave.{wave_of};
@@ -12,6 +13,7 @@ ghost use Rattle.p8_wave.specs.Sections.{IsWalked};
 use crate::entries::shown;
 use crate::heads::{push_first, push_head};
 use crate::scale::Scale;
+use crate::variables::Selection;
 use crate::walks::{Walk, walk_along};
 use p8_access::Turn;
 use p8_disassembly::push_text;
@@ -42,14 +44,19 @@ fn end_of(turns: &[Turn], limits: &Limits) -> u64
 }
 
 /// The whole text, where a walk has been made.
-fn text(alloc: Global, scale: &Scale, walk: &Walk, all: bool) -> Result<Vec<u8>, NoMemory>
+fn text(
+    alloc: Global,
+    scale: &Scale,
+    walk: &Walk,
+    selection: Selection,
+) -> Result<Vec<u8>, NoMemory>
     ensures { (w : World) (past : List Turn)
         → scale.now.frequency ≡ frequency w
         → scale.now.period ≡ period_of scale.now.frequency
-        → IsWalked w past walk.now
-        → IfOk result (λ text. text.items ≡ wave_of w past all) }
+        → IsWalked w past (variables selection.pins_only) walk.now
+        → IfOk result (λ text. text.items ≡ wave_of w past selection) }
 {
-    let shown = shown(alloc, &walk.sections.entries, all)?;
+    let shown = shown(alloc, &walk.sections.entries, selection.all)?;
     let mut out = Vec::new(alloc);
     push_head(alloc, &mut out, scale, &shown)?;
     push_first(&mut out, &shown, &walk.first)?;
@@ -58,25 +65,26 @@ fn text(alloc: Global, scale: &Scale, walk: &Walk, all: bool) -> Result<Vec<u8>,
 }
 
 /// A history that has ended, as a Value Change Dump (IEEE 1364-2005, section 18): the 32 pins, what each cog
-/// does and drives, and the locks, at each clock at which one of them changes.
+/// does and drives, and the locks, at each clock at which one of them changes; or the pins and the locks alone.
 ///
-/// `script` is the pin script of the run. A variable stands in the text where it changes in the run, or
-/// always where `all` is true. The keys of the turns rise, as in each history of a run. The only error is
-/// want of memory.
+/// `script` is the pin script of the run. A variable stands in the text where it changes in the run, or always
+/// where `selection.all` is true; where `selection.pins_only` is true, the pins and the locks alone may stand,
+/// so that each variable has one bit. The keys of the turns rise, as in each history of a run. The only error
+/// is want of memory.
 pub fn wave(
     alloc: Global,
     history: &History,
     script: &PinScript,
-    all: bool,
+    selection: Selection,
 ) -> Result<Vec<u8>, NoMemory>
     ensures { (w : World)
         → w ≡ world_of history.now.boot script.now history.now.limits
         → Rises (reverse history.now.turns.list)
-        → IfOk result (λ text. text.items ≡ wave_of w (reverse history.now.turns.list) all) }
+        → IfOk result (λ text. text.items ≡ wave_of w (reverse history.now.turns.list) selection) }
 {
     let turns = history.turns.as_slice();
     let end = end_of(turns, &history.limits);
     let scale = Scale::of_boot(&history.boot);
-    let walk = walk_along(alloc, turns, script, end, scale.ticks())?;
-    text(alloc, &scale, &walk, all)
+    let walk = walk_along(alloc, turns, script, end, scale.ticks(), selection.pins_only)?;
+    text(alloc, &scale, &walk, selection)
 }

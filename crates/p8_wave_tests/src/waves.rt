@@ -3,7 +3,7 @@ use p8_access::{Boot, Origin};
 use p8_ledger::{Ended, Limits};
 use p8_machine::run_alone;
 use p8_pins::PinScript;
-use p8_wave::wave;
+use p8_wave::{Selection, wave};
 use p8_words::NoMemory;
 use std::alloc::Global;
 use std::test::Fail;
@@ -30,22 +30,91 @@ const WOKEN: &[u8] = b"$version Propeller P8X32A $end\n$timescale 100 ps $end\n\
     #2082250\nb00 F\n\
     #2500000\n";
 
-/// The clock is 80 MHz, so a clock lasts 125 units of 100 ps.
-#[test]
-fn a_cog_wakes_another(rt: HostRuntime) -> Result<(), Fail> {
+/// The wave of a run of a raw program over 20,000 clocks, without a pin script.
+fn raw_wave(alloc: Global, program: &[u8], selection: Selection) -> Result<Vec<u8>, NoMemory> {
     let limits = Limits {
         clocks: 20_000,
         turns: 100_000,
     };
-    let boot = Boot::raw(rt.alloc(), &WAKING)?;
-    let ended = run_alone(rt.alloc(), boot, PinScript::empty(rt.alloc()), limits)?;
-    let text = wave(
-        rt.alloc(),
-        &ended.history,
-        &PinScript::empty(rt.alloc()),
-        false,
-    )?;
+    let boot = Boot::raw(alloc, program)?;
+    let ended = run_alone(alloc, boot, PinScript::empty(alloc), limits)?;
+    wave(alloc, &ended.history, &PinScript::empty(alloc), selection)
+}
+
+/// The clock is 80 MHz, so a clock lasts 125 units of 100 ps.
+#[test]
+fn a_cog_wakes_another(rt: HostRuntime) -> Result<(), Fail> {
+    let selection = Selection {
+        all: false,
+        pins_only: false,
+    };
+    let text = raw_wave(rt.alloc(), &WAKING, selection)?;
     assert_eq!(rt; text.as_slice(), WOKEN);
+    Ok(())
+}
+
+/// Of the same run pin 0 alone changes.
+const WOKEN_PINS: &[u8] = b"$version Propeller P8X32A $end\n$timescale 100 ps $end\n\
+    $scope module pins $end\n$var wire 1 ! P0 $end\n$upscope $end\n\
+    $enddefinitions $end\n\
+    #0\n$dumpvars\n0!\n$end\n\
+    #2081125\n1!\n\
+    #2082000\n0!\n\
+    #2500000\n";
+
+#[test]
+fn pins_alone(rt: HostRuntime) -> Result<(), Fail> {
+    let selection = Selection {
+        all: false,
+        pins_only: true,
+    };
+    let text = raw_wave(rt.alloc(), &WAKING, selection)?;
+    assert_eq!(rt; text.as_slice(), WOKEN_PINS);
+    Ok(())
+}
+
+/// Cog 0 takes a lock, sets it, clears it and gives it back, and stops.
+const LOCKING: [u8; 24] = [
+    0x04, 0x0A, 0xFC, 0x0C, 0x06, 0x0A, 0x7C, 0x0C, 0x07, 0x0A, 0x7C, 0x0C, 0x05, 0x0A, 0x7C, 0x0C,
+    0x03, 0x0A, 0x7C, 0x0C, 0x00, 0x00, 0x00, 0x00,
+];
+
+/// The first access is at clock 8224, and each comes 16 clocks after the one before. All pins and locks stand, and no
+/// cog.
+const LOCKED: &[u8] = b"$version Propeller P8X32A $end\n$timescale 100 ps $end\n\
+    $scope module pins $end\n\
+    $var wire 1 ! P0 $end\n$var wire 1 \" P1 $end\n$var wire 1 # P2 $end\n$var wire 1 $ P3 $end\n\
+    $var wire 1 % P4 $end\n$var wire 1 & P5 $end\n$var wire 1 ' P6 $end\n$var wire 1 ( P7 $end\n\
+    $var wire 1 ) P8 $end\n$var wire 1 * P9 $end\n$var wire 1 + P10 $end\n$var wire 1 , P11 $end\n\
+    $var wire 1 - P12 $end\n$var wire 1 . P13 $end\n$var wire 1 / P14 $end\n$var wire 1 0 P15 $end\n\
+    $var wire 1 1 P16 $end\n$var wire 1 2 P17 $end\n$var wire 1 3 P18 $end\n$var wire 1 4 P19 $end\n\
+    $var wire 1 5 P20 $end\n$var wire 1 6 P21 $end\n$var wire 1 7 P22 $end\n$var wire 1 8 P23 $end\n\
+    $var wire 1 9 P24 $end\n$var wire 1 : P25 $end\n$var wire 1 ; P26 $end\n$var wire 1 < P27 $end\n\
+    $var wire 1 = P28 $end\n$var wire 1 > P29 $end\n$var wire 1 ? P30 $end\n$var wire 1 @ P31 $end\n\
+    $upscope $end\n$scope module locks $end\n\
+    $var wire 1 Y lock0 $end\n$var wire 1 Z taken0 $end\n$var wire 1 [ lock1 $end\n$var wire 1 \\ taken1 $end\n\
+    $var wire 1 ] lock2 $end\n$var wire 1 ^ taken2 $end\n$var wire 1 _ lock3 $end\n$var wire 1 ` taken3 $end\n\
+    $var wire 1 a lock4 $end\n$var wire 1 b taken4 $end\n$var wire 1 c lock5 $end\n$var wire 1 d taken5 $end\n\
+    $var wire 1 e lock6 $end\n$var wire 1 f taken6 $end\n$var wire 1 g lock7 $end\n$var wire 1 h taken7 $end\n\
+    $upscope $end\n$enddefinitions $end\n#0\n$dumpvars\n\
+    0!\n0\"\n0#\n0$\n0%\n0&\n0'\n0(\n0)\n0*\n0+\n0,\n0-\n0.\n0/\n00\n\
+    01\n02\n03\n04\n05\n06\n07\n08\n09\n0:\n0;\n0<\n0=\n0>\n0?\n0@\n\
+    0Y\n0Z\n0[\n0\\\n0]\n0^\n0_\n0`\n0a\n0b\n0c\n0d\n0e\n0f\n0g\n0h\n\
+    $end\n\
+    #1028000\n1Z\n\
+    #1030000\n1Y\n\
+    #1032000\n0Y\n\
+    #1034000\n0Z\n\
+    #2500000\n";
+
+#[test]
+fn all_pins_and_locks(rt: HostRuntime) -> Result<(), Fail> {
+    let selection = Selection {
+        all: true,
+        pins_only: true,
+    };
+    let text = raw_wave(rt.alloc(), &LOCKING, selection)?;
+    assert_eq!(rt; text.as_slice(), LOCKED);
     Ok(())
 }
 
@@ -93,7 +162,11 @@ fn turns_run_out(rt: HostRuntime) -> Result<(), Fail> {
     let lines = b"100 00000002\n8200 00000000\n8224 00000004\n";
     let script = PinScript::read(rt.alloc(), lines)?;
     let ended = few_turns(rt.alloc(), &script)?;
-    let text = wave(rt.alloc(), &ended.history, &script, false)?;
+    let selection = Selection {
+        all: false,
+        pins_only: false,
+    };
+    let text = wave(rt.alloc(), &ended.history, &script, selection)?;
     assert_eq!(rt; text.as_slice(), FEW);
     Ok(())
 }
