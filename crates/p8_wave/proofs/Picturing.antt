@@ -9,6 +9,7 @@ use Rattle.p8_history.specs.Histories.{Rises}
 use Rattle.p8_history.specs.Hub.{cogs, cog_state, is_set, is_taken}
 use Rattle.p8_history.specs.Pins.{outa_of, dira_of, pins_at, pins_with, dira, outputs}
 use Rattle.p8_pins.specs.Matches.{IsBefore}
+use Rattle.p8_levels.specs.Levels.{by, end_of}
 use Rattle.p8_wave.specs.declared.courses.Course.{Course}
 use Rattle.p8_pins.specs.declared.spans.Span.{Span}
 use Rattle.p8_wave.specs.declared.signals.Signals.{Signals}
@@ -17,7 +18,7 @@ use Rattle.p8_wave.specs.declared.pictures.Picture.{Picture}
 use Rattle.p8_wave.specs.declared.variables.Variable.{Variable}
 use Rattle.p8_wave.specs.declared.variables.Variable.TheVariants.{Pin, Outa, Dira, State, Lock, Taken}
 use Rattle.p8_wave.specs.Variables.{IsVariable}
-use Rattle.p8_wave.specs.Values.{value_of, value_at, turns_by, end_of, state_number, is_halted, bit_of}
+use Rattle.p8_wave.specs.Values.{value_of, value_at, state_number, is_halted, bit_of}
 use Rattle.p8_wave.specs.Following.{AreSignals, pictured, phase_number, phase_of}
 use Rattle.p8_wave.specs.Walks.{IsAt, IsLater, Shows, left_by, taken_by}
 use Rattle.p8_wave.proofs.Taking.{same_on, split_on, taken_on, taken, split_taken, left_later}
@@ -60,19 +61,19 @@ shows_values w past clock p s pins (Taken n) below = ap bit_of (of_eight p.signa
 
 module _ (w : World) (past : List Turn) (clock : ℕ) (p : Picture) (levels : ℕ) where
   -- a picture of the signals after the turns up to a clock, with the levels that are seen at it
-  pub shows : AreSignals w (turns_by clock past) p.signals
-      → p.pins ≡ pins_with (dira (turns_by clock past)) (outputs (turns_by clock past)) levels
+  pub shows : AreSignals w (by past clock) p.signals
+      → p.pins ≡ pins_with (dira (by past clock)) (outputs (by past clock)) levels
       → level_at w.script (min clock (end_of w past - 1)) ≡ levels
       → Shows w past clock p
   unfolding value_at
   shows signals pins level = record {
-    values = shows_values w (turns_by clock past) (min clock (end_of w past - 1)) p signals (pins ∙ ap (pins_with (dira (turns_by clock past)) (outputs (turns_by clock past))) (sym level));
+    values = shows_values w (by past clock) (min clock (end_of w past - 1)) p signals (pins ∙ ap (pins_with (dira (by past clock)) (outputs (by past clock))) (sym level));
   }
 
 -- a walk stays where it is up to the next turn and the next line
 pub at_later : (w : World) (past : List Turn) (clock later : ℕ) (left : List Turn) (course : Course) → Rises past → clock ≤ later → IsLater later left → IsBefore later course.span.end → IsAt w past clock left course → IsAt w past later left course
 at_later w past clock later left course rises order first line at =
-    let same : turns_by later past ≡ turns_by clock past = same_on clock later past left order rises at.split first in
+    let same : by past later ≡ by past clock = same_on clock later past left order rises at.split first in
     record {
       split = at.split ∙ ap (λ xs. reverse left ++ xs) (sym same);
       later = first;
@@ -83,7 +84,7 @@ at_later w past clock later left course rises order first line at =
 
 -- the picture of a walk at a clock before the end
 pub shows_at : (w : World) (past : List Turn) (clock : ℕ) (left : List Turn) (course : Course) (p : Picture) → IsAt w past clock left course → clock ≤ end_of w past - 1 → p.signals ≡ course.signals
-    → p.pins ≡ pins_with (dira (turns_by clock past)) (outputs (turns_by clock past)) course.span.levels → Shows w past clock p
+    → p.pins ≡ pins_with (dira (by past clock)) (outputs (by past clock)) course.span.levels → Shows w past clock p
 shows_at w past clock left course p at within signals pins =
     let seen : min clock (end_of w past - 1) ≡ clock = omega arith in
     shows w past clock p course.span.levels (rw signals at.signals) pins (rw seen (at.levels clock (omega arith) at.line))
@@ -97,7 +98,7 @@ gone w past before clock left left' course signals span rises order at is_left n
       split = rw is_left (split_on before clock past left order rises at.split);
       later = rw is_left (left_later clock left);
       line = line;
-      signals = rw (taken_on before clock past left order rises at.split) (noted (turns_by before past) at.signals);
+      signals = rw (taken_on before clock past left order rises at.split) (noted (by past before) at.signals);
       levels = levels;
     }
 
@@ -107,7 +108,7 @@ pub opened : (w : World) (past turns left' : List Turn) (signals first : Signals
     → IsAt w past 0 left' (record { signals = signals; span = span })
 opened w past turns left' signals first span rises is_past is_left begun noted line levels =
     let whole : past ≡ reverse turns ++ [] = is_past ∙ sym (append-nil (reverse turns)) in
-    let taken_all : turns_by 0 past ≡ taken_by 0 turns [] = ap (turns_by 0) whole ∙ taken 0 turns [] (subst Rises whole rises) tt in
+    let taken_all : by past 0 ≡ taken_by 0 turns [] = ap (λ ts. by ts 0) whole ∙ taken 0 turns [] (subst Rises whole rises) tt in
     record {
       split = rw is_left (whole ∙ sym (split_taken 0 turns []) ∙ ap (λ xs. reverse (left_by 0 turns) ++ xs) (sym taken_all));
       later = rw is_left (left_later 0 turns);
@@ -128,6 +129,6 @@ pub shows_end : (w : World) (past : List Turn) (end : ℕ) (left : List Turn) (c
     → Shows w past end p
 shows_end w past end left course signals p rises is_end at noted is pins =
     let before : end - 1 ≤ end = omega arith in
-    let s : AreSignals w (turns_by end past) signals = rw (taken_on (end - 1) end past left before rises at.split) (noted (turns_by (end - 1) past) at.signals) in
+    let s : AreSignals w (by past end) signals = rw (taken_on (end - 1) end past left before rises at.split) (noted (by past (end - 1)) at.signals) in
     let seen : min end (end_of w past - 1) ≡ end - 1 = omega arith in
-    shows w past end p course.span.levels (rw is s) (pins (turns_by end past) s) (rw seen (at.levels (end - 1) (omega arith) at.line))
+    shows w past end p course.span.levels (rw is s) (pins (by past end) s) (rw seen (at.levels (end - 1) (omega arith) at.line))

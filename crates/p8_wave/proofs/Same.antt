@@ -5,11 +5,12 @@ use Rattle.std.proofs.lemmas.Bool.Decides.{nat_tests}
 use lib.Pointwise.{pointwise, pointwise_decides, bytes_decides}
 use lib.Dec.{eqb}
 use mathlib.Core.Bool.{beq}
+use denote.Enum.Bare.{same_true, true_same}
+use Rattle.p8_wave.specs.contracts.signals.Phase.{the_type}
 use Rattle.p8_wave.specs.contracts.signals.PhasePartialEq.TheImpl.{eq-value}
 use Rattle.p8_wave.specs.declared.entries.Entry.{Entry}
 use Rattle.p8_wave.specs.declared.pictures.Picture.{Picture}
 use Rattle.p8_wave.specs.declared.signals.Phase.{Phase}
-use Rattle.p8_wave.specs.declared.signals.Phase.TheVariants.{Stopped, Starting, Running, Halted}
 use Rattle.p8_wave.specs.declared.variables.Variable.{Variable}
 use Rattle.p8_wave.specs.Following.{differs}
 use Rattle.p8_wave.specs.Sections.{marked, some_differ}
@@ -39,22 +40,7 @@ bits_decide false true = search rules
 bits_decide false false = (λ _. refl, λ _. refl)
 
 phases_decide : (a b : Phase) → (eq-value.it a b ≡ true → a ≡ b) × (a ≡ b → eq-value.it a b ≡ true)
-phases_decide Stopped Stopped = (λ _. refl, λ _. refl)
-phases_decide Stopped Starting = search rules
-phases_decide Stopped Running = search rules
-phases_decide Stopped Halted = search rules
-phases_decide Starting Stopped = search rules
-phases_decide Starting Starting = (λ _. refl, λ _. refl)
-phases_decide Starting Running = search rules
-phases_decide Starting Halted = search rules
-phases_decide Running Stopped = search rules
-phases_decide Running Starting = search rules
-phases_decide Running Running = (λ _. refl, λ _. refl)
-phases_decide Running Halted = search rules
-phases_decide Halted Stopped = search rules
-phases_decide Halted Starting = search rules
-phases_decide Halted Running = search rules
-phases_decide Halted Halted = (λ _. refl, λ _. refl)
+phases_decide a b = (same_true the_type tt a b, true_same the_type a b)
 
 both : (a b : Bool) → true ≡ (a && b) → (a ≡ true) × (b ≡ true)
 both true true e = (refl, refl)

@@ -8,7 +8,7 @@ use Rattle.p8_access.specs.declared.order.Turn.{Turn}
 use Rattle.p8_history.specs.Histories.{Rises}
 use Rattle.p8_history.specs.Worlds.{World}
 use Rattle.p8_wave.specs.declared.signals.Signals.{Signals}
-use Rattle.p8_wave.specs.Values.{turns_by}
+use Rattle.p8_levels.specs.Levels.{by}
 use Rattle.p8_wave.specs.Following.{AreSignals}
 use Rattle.p8_wave.specs.Walks.{taken_by, left_by, IsLater, IsTaking}
 
@@ -29,19 +29,19 @@ after_push : (c : ℕ) (turns : List Turn) (turn : Turn) → AllAfter c turns �
 after_push c [] turn all here = (here, tt)
 after_push c (x ∷ turns) turn (first, all) here = (first, after_push c turns turn all here)
 
-keep_all : (c : ℕ) (turns : List Turn) → AllBy c turns → turns_by c turns ≡ turns
+keep_all : (c : ℕ) (turns : List Turn) → AllBy c turns → by turns c ≡ turns
 keep_all c [] all = refl
 keep_all c (turn ∷ turns) (here, rest) =
     let test : nat_le turn.key.clock c ≡ true = grind (arith, nat_tests) in
     rw test (ap (λ xs. turn ∷ xs) (keep_all c turns rest))
 
-keep_none : (c : ℕ) (turns : List Turn) → AllAfter c turns → turns_by c turns ≡ []
+keep_none : (c : ℕ) (turns : List Turn) → AllAfter c turns → by turns c ≡ []
 keep_none c [] all = refl
 keep_none c (turn ∷ turns) (here, rest) =
     let test : nat_le turn.key.clock c ≡ false = grind (arith, nat_tests) in
     rw test (keep_none c turns rest)
 
-kept_by : (c : ℕ) (turns : List Turn) → AllBy c (turns_by c turns)
+kept_by : (c : ℕ) (turns : List Turn) → AllBy c (by turns c)
 kept_by c [] = tt
 kept_by c (turn ∷ turns) = elim (cases_lt c turn.key.clock) [
   | inr h ↦ let test : nat_le turn.key.clock c ≡ true = grind (arith, nat_tests) in rw test (h, kept_by c turns)
@@ -61,17 +61,17 @@ moved : (turn : Turn) (left done : List Turn) → reverse (turn ∷ left) ++ don
 moved turn left done = ap (λ xs. xs ++ done) (reverse-append (turn ∷ []) left) ∙ append_assoc (reverse left) (turn ∷ []) done
 
 pub taken : (c : ℕ) (left done : List Turn) → Rises (reverse left ++ done) → AllBy c done
-    → turns_by c (reverse left ++ done) ≡ taken_by c left done
+    → by (reverse left ++ done) c ≡ taken_by c left done
 taken c [] done rises all = keep_all c done all
 taken c (turn ∷ left) done rises all = elim (cases_lt c turn.key.clock) [
   | inr h ↦
       let test : nat_le turn.key.clock c ≡ true = grind (arith, nat_tests) in
-      ap (turns_by c) (moved turn left done) ∙ rw test (taken c left (turn ∷ done) (subst Rises (moved turn left done) rises) (h, all))
+      ap (λ ts. by ts c) (moved turn left done) ∙ rw test (taken c left (turn ∷ done) (subst Rises (moved turn left done) rises) (h, all))
   | inl h ↦
       let test : nat_le turn.key.clock c ≡ false = grind (arith, nat_tests) in
       let after = rest_after (reverse left) turn done c (subst Rises (moved turn left done) rises) h in
       filter-append (λ (t : Turn). nat_le t.key.clock c) (reverse (turn ∷ left)) done
-      ∙ ap (λ xs. xs ++ turns_by c done) (keep_none c (reverse (turn ∷ left)) (subst (AllAfter c) (sym (reverse-append (turn ∷ []) left)) (after_push c (reverse left) turn after h)))
+      ∙ ap (λ xs. xs ++ by done c) (keep_none c (reverse (turn ∷ left)) (subst (AllAfter c) (sym (reverse-append (turn ∷ []) left)) (after_push c (reverse left) turn after h)))
       ∙ keep_all c done all
       ∙ rw test refl
 ]
@@ -115,14 +115,14 @@ none_taken c [] done later = refl
 none_taken c (turn ∷ left) done later = let test : nat_le turn.key.clock c ≡ false = grind (arith, nat_tests) in rw test refl
 
 -- from one clock to a later one
-module _ (before clock : ℕ) (past left : List Turn) (later : before ≤ clock) (rises : Rises past) (split : past ≡ reverse left ++ turns_by before past) where
-  pub taken_on : turns_by clock past ≡ taken_by clock left (turns_by before past)
+module _ (before clock : ℕ) (past left : List Turn) (later : before ≤ clock) (rises : Rises past) (split : past ≡ reverse left ++ by past before) where
+  pub taken_on : by past clock ≡ taken_by clock left (by past before)
   taken_on =
-      ap (turns_by clock) split ∙ taken clock left (turns_by before past) (subst Rises split rises) (by_later before clock (turns_by before past) later (kept_by before past))
+      ap (λ ts. by ts clock) split ∙ taken clock left (by past before) (subst Rises split rises) (by_later before clock (by past before) later (kept_by before past))
 
-  pub split_on : past ≡ reverse (left_by clock left) ++ turns_by clock past
+  pub split_on : past ≡ reverse (left_by clock left) ++ by past clock
   split_on =
-      split ∙ sym (split_taken clock left (turns_by before past)) ∙ ap (λ xs. reverse (left_by clock left) ++ xs) (sym taken_on)
+      split ∙ sym (split_taken clock left (by past before)) ∙ ap (λ xs. reverse (left_by clock left) ++ xs) (sym taken_on)
 
-  pub same_on : IsLater clock left → turns_by clock past ≡ turns_by before past
-  same_on first = taken_on ∙ none_taken clock left (turns_by before past) first
+  pub same_on : IsLater clock left → by past clock ≡ by past before
+  same_on first = taken_on ∙ none_taken clock left (by past before) first

@@ -10,12 +10,13 @@ use Rattle.p8_history.specs.Worlds.{World}
 use Rattle.p8_history.specs.Histories.{Rises}
 use Rattle.p8_history.specs.Pins.{pins_with, dira, outputs}
 use Rattle.p8_pins.specs.Matches.{IsBefore}
+use Rattle.p8_levels.specs.Levels.{by, end_of}
 use Rattle.p8_wave.specs.declared.courses.Course.{Course}
 use Rattle.p8_wave.specs.declared.entries.Entry.{Entry}
 use Rattle.p8_wave.specs.declared.pictures.Picture.{Picture}
 use Rattle.p8_wave.specs.declared.variables.Variable.{Variable}
 use Rattle.p8_wave.specs.Variables.{IsVariable}
-use Rattle.p8_wave.specs.Values.{value_at, turns_by, changes_at, changes, end_of}
+use Rattle.p8_wave.specs.Values.{value_at, changes_at, changes}
 use Rattle.p8_wave.specs.Scale.{time_of}
 use Rattle.p8_wave.specs.Wave.{section_text, changes_text}
 use Rattle.p8_wave.specs.Following.{AreSignals}
@@ -51,7 +52,7 @@ module _ (w : World) (past : List Turn) (vs : List Variable) (are : AreVariables
     at_one u up below = at_later w past clock u left course rises up (quiet u below).0 (quiet u below).1 at
 
     shows_one : (u : ℕ) → clock ≤ u → u < next → Shows w past u p
-    shows_one u up below = let here = at_one u up below in shows_at w past u left course p here (omega arith) signals (pins (turns_by u past) here.signals)
+    shows_one u up below = let here = at_one u up below in shows_at w past u left course p here (omega arith) signals (pins (by past u) here.signals)
 
     pub at_last : IsAt w past (next - 1) left course
     at_last = elim (cases_lt 0 next) [
@@ -62,7 +63,7 @@ module _ (w : World) (past : List Turn) (vs : List Variable) (are : AreVariables
     pub shows_last : clock ≤ end_of w past - 1 → Shows w past (next - 1) p
     shows_last small = elim (cases_lt 0 next) [
       | inl h ↦ shows_one (next - 1) low (omega arith)
-      | inr h ↦ let e : next - 1 ≡ clock = omega arith in rw e (shows_at w past clock left course p at small signals (pins (turns_by clock past) at.signals))
+      | inr h ↦ let e : next - 1 ≡ clock = omega arith in rw e (shows_at w past clock left course p at small signals (pins (by past clock) at.signals))
     ]
 
     quiet_one : (u : ℕ) → clock < u → u ≤ next - 1 → (v : Variable) → IsVariable v → changes_at w past u v ≡ false
@@ -90,7 +91,7 @@ module _ (w : World) (past : List Turn) (vs : List Variable) (are : AreVariables
         (new_entries : entries ≡ map (marked old p) entries₀)
         (new_text : text ≡ text₀ ++ (if some_differ old p entries₀ then section_of time old p entries else [])) where
       shows_now : Shows w past clock p
-      shows_now = shows_at w past clock left course p at (omega arith) signals (pins (turns_by clock past) at.signals)
+      shows_now = shows_at w past clock left course p at (omega arith) signals (pins (by past clock) at.signals)
 
       first : clock ≡ clock - 1 + 1
       first = let positive = done.some inside in omega arith

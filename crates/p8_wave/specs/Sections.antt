@@ -5,6 +5,7 @@ use Rattle.std.specs.Fmt.{decimal}
 use Rattle.std.specs.List.{range_with_len, list_any}
 use Rattle.p8_access.specs.declared.order.Turn.{Turn}
 use Rattle.p8_history.specs.Worlds.{World}
+use Rattle.p8_levels.specs.Levels.{end_of}
 use Rattle.p8_wave.specs.declared.courses.Course.{Course}
 use Rattle.p8_wave.specs.declared.entries.Entry.{Entry}
 use Rattle.p8_wave.specs.declared.pictures.Picture.{Picture}
@@ -12,7 +13,7 @@ use Rattle.p8_wave.specs.declared.walks.Walk.{Walk}
 use Rattle.p8_wave.specs.declared.variables.Scope.{Scope}
 use Rattle.p8_wave.specs.declared.variables.Variable.{Variable}
 use Rattle.p8_wave.specs.Variables.{scopes, IsVariable, mark_of, width_of, is_in}
-use Rattle.p8_wave.specs.Values.{changes_at, changes, end_of}
+use Rattle.p8_wave.specs.Values.{changes_at, changes}
 use Rattle.p8_wave.specs.Scale.{scale_text}
 use Rattle.p8_wave.specs.Wave.{value_text, variable_text, scope_with, section_text, changes_text}
 use Rattle.p8_wave.specs.Following.{pictured, differs}

@@ -1,6 +1,6 @@
 -- The value of each variable of a wave at each clock, and when it changes. A past is a list of turns, the
 -- newest first.
-use Rattle.std.specs.Prelude.{ℕ, ◌-◌, ◌/◌, ◌%◌, ◌^◌, ◌==◌, ◌||◌, nat_eq, nat_le, min, not, if◌then◌else◌, Bool, true, false, List, [], ◌∷◌, Option, Some, None, length, filter}
+use Rattle.std.specs.Prelude.{ℕ, ◌-◌, ◌/◌, ◌%◌, ◌^◌, ◌==◌, ◌||◌, nat_eq, min, not, if◌then◌else◌, Bool, true, false, List, Option, Some, None, filter}
 use Rattle.std.specs.List.{range_with_len, list_any}
 use Rattle.p8_access.specs.declared.kinds.Access.{Access}
 use Rattle.p8_access.specs.declared.kinds.Access.TheVariants.{CogStop, Halt}
@@ -10,6 +10,7 @@ use Rattle.p8_history.specs.declared.states.CogState.TheVariants.{Stopped, Start
 use Rattle.p8_history.specs.Worlds.{World}
 use Rattle.p8_history.specs.Hub.{newest, cog_state, is_set, is_taken}
 use Rattle.p8_history.specs.Pins.{outa_of, dira_of, pins_at}
+use Rattle.p8_levels.specs.Levels.{by, end_of}
 use Rattle.p8_wave.specs.declared.variables.Selection.{Selection}
 use Rattle.p8_wave.specs.declared.variables.Variable.{Variable}
 use Rattle.p8_wave.specs.declared.variables.Variable.TheVariants.{Pin, Outa, Dira, State, Lock, Taken}
@@ -42,23 +43,10 @@ value_of w past clock (State n) = state_number (cog_state w past n) (is_halted p
 value_of w past clock (Lock n) = bit_of (is_set past n)
 value_of w past clock (Taken n) = bit_of (is_taken past n)
 
--- the turns up to a clock
-abbrev pub turns_by : ℕ → List Turn → List Turn
-turns_by clock past = filter (λ (turn : Turn). nat_le turn.key.clock clock) past
-
--- the clock of the last turn
-abbrev pub last_clock : List Turn → ℕ
-last_clock [] = 0
-last_clock (turn ∷ past) = turn.key.clock
-
--- the clock at which a wave ends: the last turn's where the turns ran out, else that of the limit
-abbrev pub end_of : World → List Turn → ℕ
-end_of w past = if nat_eq (length past) w.turns then last_clock past else w.clocks
-
 -- the value of a variable at a clock up to the end: after the turns up to that clock, with the script's
 -- levels at it; a line of the script at the end or later isn't seen
 unfoldable pub value_at : World → List Turn → ℕ → Variable → ℕ
-value_at w past clock v = value_of w (turns_by clock past) (min clock (end_of w past - 1)) v
+value_at w past clock v = value_of w (by past clock) (min clock (end_of w past - 1)) v
 
 -- a variable has another value than at the clock before
 abbrev pub changes_at : World → List Turn → ℕ → Variable → Bool

@@ -5,12 +5,13 @@ use Rattle.p8_access.specs.declared.order.Turn.{Turn}
 use Rattle.p8_history.specs.Worlds.{World, Line, level_at}
 use Rattle.p8_history.specs.Histories.{Rises}
 use Rattle.p8_pins.specs.Matches.{IsBefore}
+use Rattle.p8_levels.specs.Levels.{by, end_of}
 use Rattle.p8_wave.specs.declared.courses.Course.{Course}
 use Rattle.p8_wave.specs.declared.pictures.Picture.{Picture}
 use Rattle.p8_wave.specs.declared.signals.Signals.{Signals}
 use Rattle.p8_wave.specs.declared.variables.Variable.{Variable}
 use Rattle.p8_wave.specs.Variables.{IsVariable}
-use Rattle.p8_wave.specs.Values.{turns_by, value_at, end_of}
+use Rattle.p8_wave.specs.Values.{value_at}
 use Rattle.p8_wave.specs.Scale.{frequency, period_of, ticks_in}
 use Rattle.p8_wave.specs.Following.{AreSignals, pictured}
 
@@ -37,10 +38,10 @@ IsLater clock (turn ∷ turns) = clock < turn.key.clock
 
 -- a walk is at a clock of a history, with these turns left
 pub record IsAt (w : World) (past : List Turn) (clock : ℕ) (left : List Turn) (course : Course) : Type 0 where
-  pub split : past ≡ reverse left ++ turns_by clock past
+  pub split : past ≡ reverse left ++ by past clock
   pub later : IsLater clock left
   pub line : IsBefore clock course.span.end
-  pub signals : AreSignals w (turns_by clock past) course.signals
+  pub signals : AreSignals w (by past clock) course.signals
   pub levels : (u : ℕ) → clock ≤ u → IsBefore u course.span.end → level_at w.script u ≡ course.span.levels
 
 -- a picture shows the values at a clock

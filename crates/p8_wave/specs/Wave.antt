@@ -5,11 +5,12 @@ use Rattle.std.specs.Fmt.{decimal}
 use Rattle.std.specs.List.{range_with_len}
 use Rattle.p8_access.specs.declared.order.Turn.{Turn}
 use Rattle.p8_history.specs.Worlds.{World}
+use Rattle.p8_levels.specs.Levels.{end_of}
 use Rattle.p8_wave.specs.declared.variables.Scope.{Scope}
 use Rattle.p8_wave.specs.declared.variables.Selection.{Selection}
 use Rattle.p8_wave.specs.declared.variables.Variable.{Variable}
 use Rattle.p8_wave.specs.Variables.{scopes, variables, width_of, mark_of, name_of, scope_name, is_in}
-use Rattle.p8_wave.specs.Values.{end_of, value_at, changes_at, shown, change_clocks}
+use Rattle.p8_wave.specs.Values.{value_at, changes_at, shown, change_clocks}
 use Rattle.p8_wave.specs.Scale.{frequency, period_of, scale_text, time_of}
 
 -- a number in this many binary digits

@@ -5,7 +5,6 @@ ghost use Rattle.p8_history.specs.Worlds.{World};
 ghost use Rattle.p8_history.specs.Histories.{Rises};
 ghost use Rattle.p8_ledger.specs.Worlds.{world_of};
 ghost use Rattle.p8_wave.specs.Variables.{variables};
-ghost use Rattle.p8_wave.specs.Values.{last_clock as last_clock_of, end_of as end_in};
 ghost use Rattle.p8_wave.specs.Scale.{frequency, period_of};
 ghost use Rattle.p8_wave.specs.Wave.{wave_of};
 ghost use Rattle.p8_wave.specs.Sections.{IsWalked};
@@ -15,33 +14,12 @@ use crate::heads::{push_first, push_head};
 use crate::scale::Scale;
 use crate::variables::Selection;
 use crate::walks::{Walk, walk_along};
-use p8_access::Turn;
 use p8_disassembly::push_text;
-use p8_ledger::{History, Limits};
+use p8_ledger::History;
+use p8_levels::run_end;
 use p8_pins::PinScript;
 use p8_words::NoMemory;
 use std::alloc::Global;
-
-/// The clock of the last turn, or 0 where there is none.
-fn last_clock(turns: &[Turn]) -> u64
-    ensures { result ≡ last_clock_of (reverse turns.now) }
-{
-    match turns {
-        [.., turn] => turn.key.clock,
-        [] => 0,
-    }
-}
-
-/// The clock at which a wave ends.
-fn end_of(turns: &[Turn], limits: &Limits) -> u64
-    ensures { (w : World) → w.clocks ≡ limits.now.clocks → w.turns ≡ limits.now.turns → result ≡ end_in w (reverse turns.now) }
-{
-    if turns.len() as u64 == limits.turns {
-        last_clock(turns)
-    } else {
-        limits.clocks
-    }
-}
 
 /// The whole text, where a walk has been made.
 fn text(
@@ -83,8 +61,15 @@ pub fn wave(
         → IfOk result (λ text. text.items ≡ wave_of w (reverse history.now.turns.list) selection) }
 {
     let turns = history.turns.as_slice();
-    let end = end_of(turns, &history.limits);
+    let end = run_end(turns, history.limits.clocks, history.limits.turns);
     let scale = Scale::of_boot(&history.boot);
-    let walk = walk_along(alloc, turns, script, end, scale.ticks(), selection.pins_only)?;
+    let walk = walk_along(
+        alloc,
+        turns,
+        script,
+        end,
+        scale.ticks(),
+        selection.pins_only,
+    )?;
     text(alloc, &scale, &walk, selection)
 }

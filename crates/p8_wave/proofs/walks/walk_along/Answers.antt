@@ -3,7 +3,7 @@ use Rattle.p8_history.specs.Worlds.{Line, level_at}
 use Rattle.p8_pins.specs.Matches.{IsBefore}
 use Rattle.p8_wave.specs.declared.courses.Course.{Course}
 use Rattle.p8_wave.specs.Variables.{variables}
-use Rattle.p8_wave.specs.Values.{turns_by}
+use Rattle.p8_levels.specs.Levels.{by}
 use Rattle.p8_wave.specs.Wave.{changes_text}
 use Rattle.p8_wave.specs.Walks.{IsSet}
 use Rattle.p8_wave.proofs.Sectioning.{all_variables}
@@ -22,5 +22,5 @@ returns c = λ w past set is_past.
     record {
       text = c.in_ok-write_sections.ensures.text w past vs are set' at c.in_ok-sections.ensures.entries ∙ ap (λ (xs : List ℕ). xs ++ changes_text w past vs) c.in_ok-sections.ensures.text;
       entries = c.in_ok-write_sections.ensures.entries w past vs are set' at c.in_ok-sections.ensures.entries;
-      first = shows_at w past 0 c.take_turns-left.result.now course c.picture-first.result at (omega arith) c.picture-first.ensures.signals (c.picture-first.ensures.pins w (turns_by 0 past) at.signals);
+      first = shows_at w past 0 c.take_turns-left.result.now course c.picture-first.result at (omega arith) c.picture-first.ensures.signals (c.picture-first.ensures.pins w (by past 0) at.signals);
     }
