@@ -1,5 +1,5 @@
 // Laws of folded methods. The functions do nothing: their contracts are the laws.
-ghost use Rattle.std.specs.Prelude.{◌≡◌, ◌≤◌, ◌+◌, ℕ, Bool, IsTrue, List, slice_get, Some};
+ghost use Rattle.std.specs.Prelude.{◌≡◌, ◌≤◌, ◌+◌, ℕ, Bool, IsTrue, List, length, slice_get, Some};
 ghost use Rattle.p8_tree.specs.declared.places.Place.{Place};
 ghost use Rattle.p8_tree.specs.Nesting.{leave_loops, depth};
 ghost use Rattle.p8_tree.specs.Projects.{NamedSource};
@@ -19,7 +19,7 @@ ghost use Rattle.p8_names.specs.Resolution.{IsNamed};
 ghost use Rattle.p8_children.specs.Children.{AreChildren};
 ghost use Rattle.p8_gen.specs.Depths.{held_in};
 ghost use Rattle.p8_gen.specs.Files.{names_in};
-ghost use Rattle.p8_gen.specs.Methods.{method_code};
+ghost use Rattle.p8_gen.specs.Methods.{bytes_of, method_code};
 ghost use Rattle.p8_gen.specs.Names.{Names, all_wide};
 ghost use Rattle.p8_stmt.specs.Methods.{rebodied, IsMethodFault};
 ghost use Rattle.p8_short.specs.Constants.{Constants, constants_in};
@@ -27,6 +27,7 @@ ghost use Rattle.p8_short.specs.Folding.{folded_body};
 ghost use Rattle.p8_folded.specs.Asked.{AreWords, HideNoConstant};
 
 use p8_resolved::{own_names_are_apart, resolved_constants_are_words};
+use p8_templates::code_ends_where_its_bytes_do;
 
 /// Law: a folded body could have been read, where the values of constants are words: its trees are proper, each NEXT and each QUIT stands in a
 /// loop, and its blocks stand no deeper in one another than they did.
@@ -46,10 +47,12 @@ pub fn folded_bodies_misuse_nothing()
 ///
 /// The method was read, and what is a constant of its file where a number is needed is that constant in its statements, too.
 pub fn folded_methods_are_no_longer()
-    ensures length { (n : Names) → n.wide ≡ all_wide → HideNoConstant n → (ss : Statements) → AreProperStatements ss → (method_code n (folded_body (constants_in n.constants) ss)).end ≤ (method_code n ss).end }
+    ensures length { (n : Names) → n.wide ≡ all_wide → HideNoConstant n → (ss : Statements) → AreProperStatements ss → length (bytes_of (method_code n (folded_body (constants_in n.constants) ss))) ≤ length (bytes_of (method_code n ss)) }
     ensures depth { (n : Names) → n.wide ≡ all_wide → HideNoConstant n → (ss : Statements) → held_in n (folded_body (constants_in n.constants) ss) ≤ held_in n ss }
     ensures faults { (n : Names) → n.wide ≡ all_wide → HideNoConstant n → (m : MethodTree) → AreProperStatements m.body → ((f : Fault) → ¬ IsMethodFault n m f) → (f : Fault) → ¬ IsMethodFault n (rebodied m (folded_body (constants_in n.constants) m.body)) f }
-{}
+{
+    code_ends_where_its_bytes_do();
+}
 
 /// Law: a file whose names are resolved has what is asked: its constants, and those of the files of its objects, are words, and no name of a
 /// method that was read hides one of them.
