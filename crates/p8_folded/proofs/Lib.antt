@@ -13,3 +13,4 @@ mod Expressions
 mod Statements
 mod Methods
 mod Resolved
+mod Hiding

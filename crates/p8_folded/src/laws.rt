@@ -1,5 +1,5 @@
 // Laws of folded methods. The functions do nothing: their contracts are the laws.
-ghost use Rattle.std.specs.Prelude.{◌≡◌, ◌≤◌, ◌+◌, ℕ, Bool, IsTrue, List, length, slice_get, Some};
+ghost use Rattle.std.specs.Prelude.{◌≡◌, ◌≤◌, ◌+◌, ℕ, Bool, IsTrue, nat_le, if◌then◌else◌, List, length, slice_get, Some};
 ghost use Rattle.p8_tree.specs.declared.places.Place.{Place};
 ghost use Rattle.p8_tree.specs.Nesting.{leave_loops, depth};
 ghost use Rattle.p8_tree.specs.Projects.{NamedSource};
@@ -13,10 +13,12 @@ ghost use Rattle.p8_kinds.specs.declared.kinds.Kinds.{Kinds};
 ghost use Rattle.p8_kinds.specs.declared.name_kinds.Label.{Label};
 ghost use Rattle.p8_kinds.specs.Environments.{Environment};
 ghost use Rattle.p8_kinds.specs.FileSettings.{file_setting};
+ghost use Rattle.p8_kinds.specs.Kinds.{kind_of};
 ghost use Rattle.p8_kinds.specs.Misuses.{MisuseInStatements};
 ghost use Rattle.p8_names.specs.Kinds.{numbered};
 ghost use Rattle.p8_names.specs.Resolution.{IsNamed};
 ghost use Rattle.p8_children.specs.Children.{AreChildren};
+ghost use Rattle.p8_meaning.specs.Programs.{File};
 ghost use Rattle.p8_gen.specs.Depths.{held_in};
 ghost use Rattle.p8_gen.specs.Files.{names_in};
 ghost use Rattle.p8_gen.specs.Methods.{bytes_of, method_code};
@@ -24,6 +26,7 @@ ghost use Rattle.p8_gen.specs.Names.{Names, all_wide};
 ghost use Rattle.p8_stmt.specs.Methods.{rebodied, IsMethodFault};
 ghost use Rattle.p8_short.specs.Constants.{Constants, constants_in};
 ghost use Rattle.p8_short.specs.Folding.{folded_body};
+ghost use Rattle.p8_short.specs.Projects.{HidesNone, constants_of};
 ghost use Rattle.p8_folded.specs.Asked.{AreWords, HideNoConstant};
 
 use p8_resolved::{own_names_are_apart, resolved_constants_are_words};
@@ -61,5 +64,14 @@ pub fn resolved_files_can_be_folded()
     ensures names { (source : Source) → (seen : Children) → (top : Bool) → (found : Kinds) → IsNamed source seen top found → (k : ℕ) → (m : MethodTree) → slice_get (numbered (items source)) k ≡ Some m → IsProperMethod m → (labels : List Label) → (statement : Place) → HideNoConstant (names_in found seen labels (k + 1) statement) }
 {
     resolved_constants_are_words();
+    own_names_are_apart();
+}
+
+/// Law: where the names of a file are resolved, and its methods were read, no method hides one of its constants or objects: for each method the
+/// constants are those of the whole file. What the names of the file are in a method is what was resolved; a number that no method has counts as 0.
+pub fn resolved_files_hide_none()
+    ensures constants { (source : Source) → (seen : Children) → (top : Bool) → (found : Kinds) → IsNamed source seen top found → ((k : ℕ) → (m : MethodTree) → slice_get (numbered (items source)) k ≡ Some m → IsProperMethod m) → (f : File) → f.children ≡ seen.items → ((method : ℕ) → (name : List ℕ) → f.kind method name ≡ kind_of found (if nat_le method (length (numbered (items source))) then method else 0) name) → (method : ℕ) → constants_of f method ≡ constants_in (file_setting found seen) }
+    ensures hides { (source : Source) → (seen : Children) → (top : Bool) → (found : Kinds) → IsNamed source seen top found → ((k : ℕ) → (m : MethodTree) → slice_get (numbered (items source)) k ≡ Some m → IsProperMethod m) → (f : File) → f.children ≡ seen.items → ((method : ℕ) → (name : List ℕ) → f.kind method name ≡ kind_of found (if nat_le method (length (numbered (items source))) then method else 0) name) → HidesNone f }
+{
     own_names_are_apart();
 }

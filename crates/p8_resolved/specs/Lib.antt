@@ -1,2 +1,3 @@
 -- What resolved names are.
 pub mod Words
+pub mod Own
