@@ -24,8 +24,8 @@ after p q = record { onwards = omega arith; short = omega arith }
 pub there : (a x : ℕ) → Within a a x x
 there a x = record { onwards = omega arith; short = omega arith }
 
--- Places to which a piece of either code may jump, each as a place of the first code and one of the second: a place where the
--- piece has ended, or one before it begins.
+-- Places to which a piece of either code may jump, each as a place of the first code and one of the second: a place
+-- where the piece has ended, or one before it begins.
 pub data Targets : Type 0 where
   nowhere : Targets
   ahead : (t u : ℕ) → Targets → Targets

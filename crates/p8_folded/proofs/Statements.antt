@@ -110,52 +110,52 @@ module _ (n : Names) (ready : Ready n) where
 
   -- ---- loops, around a body
 
-  module _ (ss tt' : Statements) (l k : Option Loop) (around : (ts : Targets) (i j : Option Loop) → AreLoops ts i j → Closer ts (body n i ss) (body n j tt')) where
-    inner-closer : (ts : Targets) (x y : ℕ) (counted : Bool) → IsTarget ts x y → Closer ts (up_to_end (λ next. body n (inside next x counted) ss)) (up_to_end (λ next. body n (inside next y counted) tt'))
-    inner-closer ts x y counted to = ups (inner-steady n x counted ss) (inner-steady n y counted tt') (λ i j. around (ahead i j ts) (inside i x counted) (inside j y counted) (first-ahead i j ts, under-ahead i j to, refl))
+  module _ (ss original : Statements) (l k : Option Loop) (around : (ts : Targets) (i j : Option Loop) → AreLoops ts i j → Closer ts (body n i ss) (body n j original)) where
+    inner-closer : (ts : Targets) (x y : ℕ) (counted : Bool) → IsTarget ts x y → Closer ts (up_to_end (λ next. body n (inside next x counted) ss)) (up_to_end (λ next. body n (inside next y counted) original))
+    inner-closer ts x y counted to = ups (inner-steady n x counted ss) (inner-steady n y counted original) (λ i j. around (ahead i j ts) (inside i x counted) (inside j y counted) (first-ahead i j ts, under-ahead i j to, refl))
 
-    forever-closer : (ts : Targets) → Closer ts (code_of n l (Repeat Forever ss)) (code_of n k (Repeat Forever tt'))
+    forever-closer : (ts : Targets) → Closer ts (code_of n l (Repeat Forever ss)) (code_of n k (Repeat Forever original))
     forever-closer ts =
-        ups (forever-steady n ss) (forever-steady n tt') (λ x y. froms (λ i j.
+        ups (forever-steady n ss) (forever-steady n original) (λ x y. froms (λ i j.
         both (around (back i j (ahead x y ts)) (inside i x false) (inside j y false) (first-back i j (ahead x y ts), under-back i j (first-ahead x y ts), refl)) (goes 0x04 i j (first-back i j (ahead x y ts)))))
 
-    count-closer : (ts : Targets) (e : Tree) → Closer ts (code_of n l (Repeat (Count (folded (constants_in n.constants) e)) ss)) (code_of n k (Repeat (Count e) tt'))
+    count-closer : (ts : Targets) (e : Tree) → Closer ts (code_of n l (Repeat (Count (folded (constants_in n.constants) e)) ss)) (code_of n k (Repeat (Count e) original))
     count-closer ts e =
-        ups (count-steady n (folded (constants_in n.constants) e) ss) (count-steady n e tt') (λ x y.
+        ups (count-steady n (folded (constants_in n.constants) e) ss) (count-steady n e original) (λ x y.
         both (both (expression-closer (ahead x y ts) e) (goes 0x08 x y (first-ahead x y ts))) (froms (λ i j.
         both (inner-closer (back i j (ahead x y ts)) x y true (under-back i j (first-ahead x y ts))) (goes 0x09 i j (first-back i j (ahead x y ts))))))
 
-    before-closer : (ts : Targets) (until : Bool) (e : Tree) → Closer ts (code_of n l (Repeat (Before until (folded (constants_in n.constants) e)) ss)) (code_of n k (Repeat (Before until e) tt'))
+    before-closer : (ts : Targets) (until : Bool) (e : Tree) → Closer ts (code_of n l (Repeat (Before until (folded (constants_in n.constants) e)) ss)) (code_of n k (Repeat (Before until e) original))
     before-closer ts until e =
-        ups (before-steady n until (folded (constants_in n.constants) e) ss) (before-steady n until e tt') (λ x y. froms (λ i j.
+        ups (before-steady n until (folded (constants_in n.constants) e) ss) (before-steady n until e original) (λ x y. froms (λ i j.
         both (both (both (expression-closer (back i j (ahead x y ts)) e) (goes (zero_jump until) x y (under-back i j (first-ahead x y ts))))
         (around (back i j (ahead x y ts)) (inside i x false) (inside j y false) (first-back i j (ahead x y ts), under-back i j (first-ahead x y ts), refl))) (goes 0x04 i j (first-back i j (ahead x y ts)))))
 
-    after-closer : (ts : Targets) (until : Bool) (e : Tree) → Closer ts (code_of n l (Repeat (After until (folded (constants_in n.constants) e)) ss)) (code_of n k (Repeat (After until e) tt'))
+    after-closer : (ts : Targets) (until : Bool) (e : Tree) → Closer ts (code_of n l (Repeat (After until (folded (constants_in n.constants) e)) ss)) (code_of n k (Repeat (After until e) original))
     after-closer ts until e =
-        ups (after-steady n until (folded (constants_in n.constants) e) ss) (after-steady n until e tt') (λ x y. froms (λ i j.
+        ups (after-steady n until (folded (constants_in n.constants) e) ss) (after-steady n until e original) (λ x y. froms (λ i j.
         both (both (inner-closer (back i j (ahead x y ts)) x y false (under-back i j (first-ahead x y ts))) (expression-closer (back i j (ahead x y ts)) e))
         (goes (zero_jump (not until)) i j (first-back i j (ahead x y ts)))))
 
     from-closer : (ts : Targets) (name : List ℕ) (a b : Tree) (step : Option Tree) (at : Place)
-        → Closer ts (code_of n l (Repeat (folded_course (constants_in n.constants) (From name a b step at)) ss)) (code_of n k (Repeat (From name a b step at) tt'))
+        → Closer ts (code_of n l (Repeat (folded_course (constants_in n.constants) (From name a b step at)) ss)) (code_of n k (Repeat (From name a b step at) original))
     from-closer ts name a b step at =
-        ups (from-steady n name (folded (constants_in n.constants) a) (folded (constants_in n.constants) b) (option_map (folded (constants_in n.constants)) step) ss) (from-steady n name a b step tt') (λ x y.
+        ups (from-steady n name (folded (constants_in n.constants) a) (folded (constants_in n.constants) b) (option_map (folded (constants_in n.constants)) step) ss) (from-steady n name a b step original) (λ x y.
         both (both (expression-closer (ahead x y ts) a) (ones (plain_op (home_of n name) Pop))) (froms (λ i j.
         both (both (both (both (inner-closer (back i j (ahead x y ts)) x y false (under-back i j (first-ahead x y ts))) (step-closer (back i j (ahead x y ts)) step)) (expression-closer (back i j (ahead x y ts)) a))
         (expression-closer (back i j (ahead x y ts)) b)) (stepping-closer (back i j (ahead x y ts)) name i j (first-back i j (ahead x y ts)) step))))
 
     -- a loop that only its body ends, in place of one with a test before it
-    endless-closer : (ts : Targets) (until : Bool) (e : Tree) → Closer ts (code_of n l (Repeat Forever ss)) (code_of n k (Repeat (Before until e) tt'))
+    endless-closer : (ts : Targets) (until : Bool) (e : Tree) → Closer ts (code_of n l (Repeat Forever ss)) (code_of n k (Repeat (Before until e) original))
     endless-closer ts until e =
-        ups (forever-steady n ss) (before-steady n until e tt') (λ x y. froms (λ i j.
+        ups (forever-steady n ss) (before-steady n until e original) (λ x y. froms (λ i j.
         both (both (gone (growing.both (value-grows n e) (growing.jumps n.wide n.statement (zero_jump until) y)))
         (around (back i j (ahead x y ts)) (inside i x false) (inside j y false) (first-back i j (ahead x y ts), under-back i j (first-ahead x y ts), refl))) (goes 0x04 i j (first-back i j (ahead x y ts)))))
 
     -- a loop that is left, or none
     abbrev IsCloser : Targets → Option Course → Course → Type 0
     IsCloser ts None course = Unit {0}
-    IsCloser ts (Some left) course = Closer ts (code_of n l (Repeat left ss)) (code_of n k (Repeat course tt'))
+    IsCloser ts (Some left) course = Closer ts (code_of n l (Repeat left ss)) (code_of n k (Repeat course original))
 
     count-if : (ts : Targets) (t : Bool) (e : Tree) → IsCloser ts (if t then None else Some (Count (folded (constants_in n.constants) e))) (Count e)
     count-if ts true e = tt
@@ -182,7 +182,8 @@ module _ (n : Names) (ready : Ready n) where
 
 -- ---- chains of IF
 
--- the arms that are left, after each of which but the last one stands `further`, and after the last one `last`; or the arms and the body of an ELSE
+-- the arms that are left, after each of which but the last one stands `further`, and after the last one `last`; or the
+-- arms and the body of an ELSE
 abbrev chain_code : Names → Option Loop → (further last : Piece) → Chain → Piece
 chain_code n l further last (Going arms) = chain n l further last arms
 chain_code n l further last (Ended arms ss) = chain n l further further arms ⨾ body n l ss
@@ -224,28 +225,28 @@ module _ (n : Names) (ready : Ready n) (l k : Option Loop) (ts : Targets) (loops
   arm-grows last more items negated ss =
       growing.ups (λ x. growing.both (growing.both (growing.both (test-grows n items) (growing.jumps n.wide n.statement (zero_jump negated) x)) (body-grows n k ss)) more)
 
-  module _ (tests : Items) (negated : Bool) (ss tt' : Statements) (around : (us : Targets) → AreLoops us l k → Closer us (body n l ss) (body n k tt')) where
-    arm-closer : (a b : Piece) → Ends ts a b → Closer ts (arm_code l a (folded_items (constants_in n.constants) tests) negated ss) (arm_code k b tests negated tt')
+  module _ (tests : Items) (negated : Bool) (ss original : Statements) (around : (us : Targets) → AreLoops us l k → Closer us (body n l ss) (body n k original)) where
+    arm-closer : (a b : Piece) → Ends ts a b → Closer ts (arm_code l a (folded_items (constants_in n.constants) tests) negated ss) (arm_code k b tests negated original)
     arm-closer a b ends =
-        ups (arm-steady n l a ends.left (folded_items (constants_in n.constants) tests) negated ss) (arm-steady n k b ends.right tests negated tt') (λ x y.
+        ups (arm-steady n l a ends.left (folded_items (constants_in n.constants) tests) negated ss) (arm-steady n k b ends.right tests negated original) (λ x y.
         both (both (both (test-closer n ready (ahead x y ts) tests) (goes n ready (zero_jump negated) x y (first-ahead x y ts))) (around (ahead x y ts) (loops-ahead x y ts l k loops))) (lift x y ends.closer))
 
     -- the body alone, in place of the arm
-    body-of-arm : (b : Piece) → Grows b → Alike b b → Closer ts (body n l ss) (arm_code k b tests negated tt')
+    body-of-arm : (b : Piece) → Grows b → Alike b b → Closer ts (body n l ss) (arm_code k b tests negated original)
     body-of-arm b more like =
-        ups {p = λ x. body n l ss} (λ x y. same-body n l ss) (arm-steady n k b like tests negated tt') (λ x y.
+        ups {p = λ x. body n l ss} (λ x y. same-body n l ss) (arm-steady n k b like tests negated original) (λ x y.
         both (both (gone (growing.both (test-grows n tests) (growing.jumps n.wide n.statement (zero_jump negated) y))) (around (ahead x y ts) (loops-ahead x y ts l k loops))) (gone more))
 
-    arm-step : (left : Chain) (arms : Arms) (k' : Condition) → IsTest k' → (f a g b : Piece) → Ends ts a b
+    arm-step : (left : Chain) (arms : Arms) (verdict : Condition) → IsTest verdict → (f a g b : Piece) → Ends ts a b
         → Closer ts (chain_code n l f f left) (chain n k g g arms) → Closer ts (chain_code n l f a left) (chain n k g g arms)
-        → Closer ts (chain_code n l f a (with_arm left k' (arm (folded_items (constants_in n.constants) tests) negated ss))) (chain n k g g arms ⨾ arm_code k b tests negated tt')
+        → Closer ts (chain_code n l f a (with_arm left verdict (arm (folded_items (constants_in n.constants) tests) negated ss))) (chain n k g g arms ⨾ arm_code k b tests negated original)
     arm-step (Going before) arms NoTest test f a g b ends first last = absurd test
     arm-step (Going before) arms Unknown test f a g b ends first last = both first (arm-closer a b ends)
     arm-step (Going before) arms (Known true) test f a g b ends first last = both first (body-of-arm b ends.closer.right ends.right)
-    arm-step (Going before) arms (Known false) test f a g b ends first last = both last (gone (arm-grows b ends.closer.right tests negated tt'))
-    arm-step (Ended before body') arms NoTest test f a g b ends first last = absurd test
-    arm-step (Ended before body') arms Unknown test f a g b ends first last = both first (gone (arm-grows b ends.closer.right tests negated tt'))
-    arm-step (Ended before body') arms (Known t) test f a g b ends first last = both first (gone (arm-grows b ends.closer.right tests negated tt'))
+    arm-step (Going before) arms (Known false) test f a g b ends first last = both last (gone (arm-grows b ends.closer.right tests negated original))
+    arm-step (Ended before last_body) arms NoTest test f a g b ends first last = absurd test
+    arm-step (Ended before last_body) arms Unknown test f a g b ends first last = both first (gone (arm-grows b ends.closer.right tests negated original))
+    arm-step (Ended before last_body) arms (Known t) test f a g b ends first last = both first (gone (arm-grows b ends.closer.right tests negated original))
 
 -- the code of what is left of a chain, without an ELSE
 left-code : (n : Names) (place : Place) (l : Option Loop) (left : Chain)
@@ -275,12 +276,12 @@ left-other-steady n l (Ended arms last) ss = λ x y. widths.both (chain-other-st
 -- ---- statements
 
 -- a statement, or none, in place of a loop
-loop-closer : (n : Names) (ready : Ready n) (place : Place) (ss tt' : Statements) (l k : Option Loop)
-    (around : (us : Targets) (i j : Option Loop) → AreLoops us i j → Closer us (body (record n { statement = place }) i ss) (body (record n { statement = place }) j tt'))
-    → (ts : Targets) (o : Option Course) (course : Course) → IsCloser (record n { statement = place }) (ready-in n place ready) ss tt' l k around ts o course
-    → Closer ts (body n l (loop place o ss)) (code_of (record n { statement = place }) k (Repeat course tt'))
-loop-closer n ready place ss tt' l k around ts None course h = gone (action-grows (record n { statement = place }) k (Repeat course tt'))
-loop-closer n ready place ss tt' l k around ts (Some left) course h = h
+loop-closer : (n : Names) (ready : Ready n) (place : Place) (ss original : Statements) (l k : Option Loop)
+    (around : (us : Targets) (i j : Option Loop) → AreLoops us i j → Closer us (body (record n { statement = place }) i ss) (body (record n { statement = place }) j original))
+    → (ts : Targets) (o : Option Course) (course : Course) → IsCloser (record n { statement = place }) (ready-in n place ready) ss original l k around ts o course
+    → Closer ts (body n l (loop place o ss)) (code_of (record n { statement = place }) k (Repeat course original))
+loop-closer n ready place ss original l k around ts None course h = gone (action-grows (record n { statement = place }) k (Repeat course original))
+loop-closer n ready place ss original l k around ts (Some left) course h = h
 
 -- a place from which on bodies of arms stand lies ahead
 record IsFirst (ts : Targets) (t u : ℕ) : Type 0 where

@@ -1,4 +1,5 @@
--- What is asked of the constants of a file, and of the names of its methods, where bodies are folded. Each file that is accepted has it.
+-- What is asked of the constants of a file, and of the names of its methods, where bodies are folded. Each file that is
+-- accepted has it.
 use Rattle.std.specs.Prelude.{◌≡◌, ℕ, ◌^◌, ◌<◌, List, Some, IfSome}
 use Rattle.p8_kinds.specs.declared.name_kinds.NameKind.TheVariants as kinds
 use Rattle.p8_gen.specs.Names.{Names}

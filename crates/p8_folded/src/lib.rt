@@ -1,4 +1,5 @@
-//! Laws of folded methods: that they could have been read, and that their code is no longer. The definitions stand in specs/.
+//! Laws of folded methods: that they could have been read, and that their code is no longer. The definitions stand in
+//! specs/.
 #![tactic(auto)]
 
 mod laws;
