@@ -1,0 +1,311 @@
+"""What docs/FORMATS.md says of inputs and texts, written once more in Python, so that the program is compared with something else than itself."""
+
+import bisect
+import re
+import struct
+
+PROGRAM_LIMITS = {"clocks": 100_000_000, "turns": 1_000_000, "kept": 40_000, "seed": 0xFFFFFFFF, "pin": 31, "bits": 10_000, "start": 100_000_000}
+SCRIPT_BYTES, SCRIPT_LINES, HUB_BYTES = 1_048_576, 100_000, 32_768
+
+
+# Pin scripts
+
+
+def script_levels(content):
+    """The clocks and levels of a pin script, or the number of its first bad line."""
+    if len(content) > SCRIPT_BYTES:
+        return 0
+    found = []
+    for number, line in enumerate(content.split(b"\n"), 1):
+        # The last line may lack its end, and then it has no carriage return that belongs to one.
+        is_ended = number <= content.count(b"\n")
+        line = line[:-1] if is_ended and line.endswith(b"\r") else line
+        if not line or line.startswith(b"#"):
+            continue
+        good = re.fullmatch(rb"(\d{1,10}) ([0-9A-Fa-f]{8})", line)
+        if not good or (found and int(good[1]) <= found[-1][0]) or len(found) == SCRIPT_LINES:
+            return number
+        found.append((int(good[1]), int(good[2], 16)))
+    return found
+
+
+def typed(content, pin, bits, start):
+    """The script that sends the bytes of a file on a pin."""
+    changes = [(0, 1)]
+    for place, byte in enumerate(content):
+        frame = [0, *(byte >> bit & 1 for bit in range(8)), 1]
+        for bit, level in enumerate(frame):
+            if level != changes[-1][1]:
+                changes.append((start + 10 * bits * place + bits * bit, level))
+    return "".join(f"{clock} {level << pin:08X}\n" for clock, level in changes).encode()
+
+
+# Images
+
+
+def word(content, at):
+    return struct.unpack_from("<H", content, at)[0]
+
+
+def image_fault(content, is_eeprom):
+    """The first fault of a file as an image, or None."""
+    length, rest = len(content), sum(content) % 256
+    if length != HUB_BYTES if is_eeprom else not 16 <= length <= HUB_BYTES or length % 4:
+        return f"length {length}"
+    if rest != (0 if is_eeprom else 0x14):
+        return f"sum {rest:02X}"
+    pbase, vbase, dbase, pcurr, dcurr = (word(content, at) for at in range(6, 16, 2))
+    if pbase != 16:
+        return "header pbase"
+    if vbase < 16 or vbase % 4 if is_eeprom else vbase != length:
+        return "header vbase"
+    if not vbase + 8 <= dbase <= 32_764 or dbase % 4:
+        return "header dbase"
+    if not 24 <= pcurr < vbase:
+        return "header pcurr"
+    if not dbase + 4 <= dcurr <= HUB_BYTES or dcurr % 4:
+        return "header dcurr"
+    return None
+
+
+def mend_sum(content, is_eeprom):
+    """The file with the checksum that its bytes ask for, where it is long enough to have one."""
+    if len(content) < 6:
+        return content
+    changed = bytearray(content)
+    changed[5] = 0
+    changed[5] = ((0 if is_eeprom else 0x14) - sum(changed)) % 256
+    return bytes(changed)
+
+
+# Traces
+
+
+class Trace:
+    """The turns of a trace, and its limits."""
+
+    def __init__(self, text, clocks, most):
+        self.turns = []
+        for line in text.split(b"\n"):
+            if line.startswith(b"ended"):
+                break
+            clock, cog, rest = line.split(b" ", 2)
+            self.turns.append((int(clock), int(cog), rest.split()))
+        last = self.turns[-1][0] if self.turns else 0
+        self.end = last if len(self.turns) == most else clocks
+
+    def keys(self):
+        return [(clock, cog) for clock, cog, _ in self.turns]
+
+
+def levels(trace, script, pin):
+    """The level of a pin at clock 0, and each later clock at which it changes."""
+    outputs, directions = [0] * 8, [0] * 8
+    now, driven = (0, 0), {}
+    for clock, cog, (access, *rest) in trace.turns:
+        if access == b"outa":
+            outputs[cog] = int(rest[0], 16)
+        elif access == b"dira":
+            directions[cog] = int(rest[0], 16)
+        elif access in (b"cogstop", b"coginit", b"halt"):
+            cleared = cog if access == b"halt" else 8 if rest[0] == b"none" else int(rest[0])
+            if cleared < 8:
+                outputs[cleared] = directions[cleared] = 0
+        else:
+            continue
+        state = any(it >> pin & 1 for it in directions), any(out & made & (1 << pin) for out, made in zip(outputs, directions))
+        if state != now:
+            now = driven[clock] = state
+    events = sorted({0, *(clock for clock, _ in script), *driven})
+    found, outside, driver = [], 0, (0, 0)
+    given = dict(script)
+    for clock in events:
+        outside = given.get(clock, outside)
+        driver = driven.get(clock, driver)
+        level = int(driver[1] if driver[0] else outside >> pin & 1)
+        if not found or level != found[-1][1]:
+            found.append((clock, level))
+    return found
+
+
+def serial_text(trace, script, pin, bits):
+    """The bytes that stand on a pin."""
+    changes = levels(trace, script, pin)
+    clocks = [clock for clock, _ in changes]
+    edges = [clock for clock, level in changes[1:] if level == 0]
+    half, begin, lines, good = bits // 2, 0, [], 0
+
+    def level_at(clock):
+        return changes[bisect.bisect_right(clocks, clock) - 1][1]
+
+    while True:
+        at = bisect.bisect_left(edges, begin)
+        if at == len(edges) or edges[at] + 9 * bits + half >= trace.end:
+            break
+        start = edges[at]
+        stop = start + 9 * bits + half
+        byte = sum(level_at(start + (bit + 1) * bits + half) << bit for bit in range(8))
+        is_good = level_at(stop)
+        good += is_good
+        lines.append(f"{start} {byte:02X}\n" if is_good else f"{start} framing\n")
+        begin = stop + 1
+    return ("".join(lines) + f"bytes {good}\n").encode()
+
+
+def wave_of_pins(text):
+    """The changes of each pin in a wave, as time and level, and the time at which the wave ends."""
+    head, _, body = text.decode().partition("$enddefinitions $end\n")
+    pins = {mark: int(pin) for mark, pin in re.findall(r"^\$var wire 1 (\S) P(\d+) \$end$", head, re.M)}
+    found, time = {pin: [] for pin in pins.values()}, 0
+    for line in body.splitlines():
+        if line.startswith("#"):
+            time = int(line[1:])
+        elif line[0] in "01" and line[1:] in pins:
+            found[pins[line[1:]]].append((time, int(line[0])))
+    return found, time
+
+
+# History files
+
+# For each kind of access: the numbers that its further byte may be, and what a, b and c stay below.
+SMALL, WORD, LONG = 8, 1 << 16, 1 << 32
+FORMS = {
+    0: ([0], 1, 1, 1), 1: ([0], 1, 1, 1), 2: (range(3), WORD, 1, 1), 3: (range(3), WORD, LONG, 1), 4: ([0], 1, 1, 1),
+    5: ([*range(8), 255], LONG, LONG, 2 * WORD), 6: ([0], SMALL, 1, 1), 7: ([0], 1, 1, 1), 8: ([0], SMALL, 1, 1), 9: ([0], SMALL, 1, 1),
+    10: ([0], SMALL, 1, 1), 11: ([0], 256, 1, 1), 12: ([0], 1, 1, 1), 13: ([0], LONG, 1, 1), 14: ([0], LONG, 1, 1),
+    15: (range(3), LONG, LONG, 1), 16: ([0], 1, 1, 1), 17: (range(10), LONG, 1, 1),
+}  # fmt: skip
+ANSWERS = {0: 1, 1: LONG, 2: SMALL, 3: 1, 4: 1, 5: 1}
+HALT_NUMBERS = {0: LONG, 1: 512, 2: WORD, 3: WORD}
+TURN = struct.Struct("<IBBBBIIII")
+
+
+def is_turn(turn):
+    """Whether 24 bytes are those of some turn."""
+    _, cog, kind, answer, further, a, b, c, value = turn
+    if cog > 7 or kind not in FORMS or answer not in ANSWERS or value >= ANSWERS[answer]:
+        return False
+    allowed, most_a, most_b, most_c = FORMS[kind]
+    if further not in allowed or a >= most_a or b >= most_b or c >= most_c:
+        return False
+    if kind == 5:
+        return b == 0 if c == 0 else c >= WORD
+    if kind == 15:
+        return b == 0 or further != 0
+    if kind == 17:
+        return a < HALT_NUMBERS.get(further, 1)
+    return True
+
+
+def form_fault(content):
+    """The turn at which a file has no form of a history, or None."""
+    if len(content) < 16 or content[:4] != b"P8H1":
+        return 0
+    clocks, most, count = struct.unpack_from("<III", content, 4)
+    if clocks > 100_000_000 or most > 40_000 or count > 40_000:
+        return 0
+    for turn in range(count):
+        at = 16 + TURN.size * turn
+        if at + TURN.size > len(content) or not is_turn(TURN.unpack_from(content, at)):
+            return turn + 1
+    return count + 1 if len(content) > 16 + TURN.size * count else None
+
+
+def change_of(old, new):
+    """The first turn in which two files of one head differ, and the cause that a check of the new one tells; None where nothing can be told."""
+    for place, (was, now) in enumerate(zip(TURN.iter_unpack(old[16:]), TURN.iter_unpack(new[16:])), 1):
+        if was != now:
+            cause = "key" if was[:2] != now[:2] else "answer" if (was[2], *was[4:8]) == (now[2], *now[4:8]) else "access"
+            return place, cause
+    return None
+
+
+# Command lines
+
+NUMBER = re.compile(r"[0-9]{1,10}")
+
+
+def number(least, most):
+    return lambda text: bool(NUMBER.fullmatch(text)) and least <= int(text) <= most
+
+
+def is_dump(text):
+    good = re.fullmatch(r"([0-9A-Fa-f]{4}):([0-9]{1,5})", text)
+    return bool(good) and int(good[2]) >= 1 and int(good[1], 16) + int(good[2]) <= HUB_BYTES
+
+
+def anything(_):
+    return True
+
+
+def is_image(text):
+    return text.endswith((".binary", ".eeprom"))
+
+
+CLOCKS, TURNS, KEPT = (number(0, PROGRAM_LIMITS[it]) for it in ("clocks", "turns", "kept"))
+PIN, BITS, START, SEED = number(0, 31), number(2, 10_000), number(1, 100_000_000), number(0, 0xFFFFFFFF)
+RUN = {"--pins": anything, "--turns": TURNS}
+COMMANDS = {
+    "build": ([anything], {}), "list": ([anything], {}), "raw": ([anything, CLOCKS], {**RUN, "--dump": is_dump}),
+    "run": ([anything, CLOCKS], {**RUN, "--dump": is_dump, "--alone": None}), "save": ([anything, CLOCKS], {**RUN, "--turns": KEPT, "--raw": None}),
+    "check": ([anything, anything], {"--pins": anything, "--raw": None}), "serial": ([anything, CLOCKS, PIN, BITS], {**RUN, "--raw": None}),
+    "type": ([anything, PIN, BITS, START], {}), "wave": ([anything, CLOCKS], {**RUN, "--raw": None, "--all": None, "--alone": None}),
+    "convert": ([is_image], {}), "make": ([SEED], {"--alone": None}),
+}  # fmt: skip
+
+
+def has_short(command, operands):
+    return command in ("build", "list") or command == "run" and not is_image(operands[0])
+
+
+class Words:
+    """How the words after a command fall to its operands and options."""
+
+    def __init__(self, options):
+        self.options, self.operands, self.given, self.is_good = options, [], {}, True
+
+    def take(self, words):
+        words = list(words)
+        while words and self.is_good:
+            word = words.pop(0)
+            if word == "--":
+                self.operands += words
+                return
+            if word == "-" or not word.startswith("-"):
+                self.operands.append(word)
+                continue
+            name, equals, value = word.partition("=")
+            if name not in self.options or name in self.given:
+                self.is_good = False
+            elif self.options[name] is None:
+                self.is_good = not equals
+                self.given[name] = ""
+            else:
+                if not equals:
+                    self.is_good = bool(words) and (words[0] == "-" or not words[0].startswith("-"))
+                    value = words.pop(0) if words else ""
+                self.is_good = self.is_good and self.options[name](value)
+                self.given[name] = value
+
+
+def is_command(words, knows_short):
+    """Whether words are a command."""
+    if not words:
+        return False
+    command, *rest = words
+    if command == "help":
+        found = Words({})
+        found.take(rest)
+        return found.is_good and (not found.operands or len(found.operands) == 1 and found.operands[0] in (*COMMANDS, "help"))
+    if command not in COMMANDS:
+        return False
+    operands, options = COMMANDS[command]
+    if knows_short and command in ("build", "list", "run"):
+        options = {**options, "--short": None}
+    found = Words(options)
+    found.take(rest)
+    if not found.is_good or len(found.operands) != len(operands):
+        return False
+    if "--short" in found.given and not has_short(command, found.operands):
+        return False
+    return all(fits(text) for fits, text in zip(operands, found.operands))
