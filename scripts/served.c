@@ -7,12 +7,16 @@
 // A request is its length, four bytes, and texts with a zero after each: for each run the files for its output and its faults, its bounds of
 // processor time and of time, what is to fail and which call of it, the number of its words, and the words. The answer is, for each run, how
 // it ended as `wait` tells it, its microseconds of processor time, and how many calls of the failing kind it made.
+//
+// In place of failing, threads may be slowed where they wait for one another or wake one another: one of them always, the others now and
+// then, as a number says. So turns are handed on in schedules that are rare else.
 #define _GNU_SOURCE
 #include <dlfcn.h>
 #include <errno.h>
 #include <fcntl.h>
 #include <pthread.h>
 #include <signal.h>
+#include <stdarg.h>
 #include <stdatomic.h>
 #include <stdint.h>
 #include <stdio.h>
@@ -23,12 +27,13 @@
 #include <sys/syscall.h>
 #include <sys/time.h>
 #include <sys/wait.h>
+#include <time.h>
 #include <unistd.h>
 
 #define MOST_WORDS 64
 
-// What fails: the call of that number, or with a capital letter that one and all after it.
-enum kind { NOTHING = '-', MEMORY = 'm', THREADS = 't', READS = 'r', WRITES = 'w' };
+// What fails: the call of that number, or with a capital letter that one and all after it. SLOW threads don't fail: the number is a schedule's.
+enum kind { NOTHING = '-', MEMORY = 'm', THREADS = 't', READS = 'r', WRITES = 'w', SLOW = 's' };
 
 struct answer {
   int32_t status, microseconds, calls;
@@ -40,6 +45,9 @@ static int number;
 static _Atomic int32_t own_calls;
 static _Atomic int32_t *calls = &own_calls;
 
+static _Atomic uint32_t threads;
+static _Thread_local uint32_t own_number, own_state;
+
 extern void *__libc_malloc(size_t);
 extern void *__libc_realloc(void *, size_t);
 
@@ -48,6 +56,45 @@ static int fails(enum kind kind) {
     return 0;
   int call = atomic_fetch_add(calls, 1) + 1;
   return call == number || (is_lasting && call > number);
+}
+
+// A call of the system that is done without being counted.
+static long call(long which, long a, long b, long c, long d, long e, long f) {
+  static long (*real)(long, ...);
+  if (!real)
+    real = (long (*)(long, ...))dlsym(RTLD_NEXT, "syscall");
+  return real(which, a, b, c, d, e, f);
+}
+
+// Sleeps in the thread that is always slow, and in another one at each eighth call or so.
+static void slow_down(void) {
+  if (failing != SLOW)
+    return;
+  if (!own_number) {
+    own_number = atomic_fetch_add(&threads, 1) + 1;
+    own_state = number * 2654435761u + own_number * 40503u;
+  }
+  own_state = own_state * 1664525u + 1013904223u;
+  int is_always = own_number == 1 + (uint32_t)number % 9;
+  struct timespec nap = {.tv_nsec = is_always ? 20000 : own_state >> 16};
+  if (is_always || own_state >> 29 == 0)
+    nanosleep(&nap, NULL);
+}
+
+long syscall(long which, ...) {
+  va_list more;
+  long with[6];
+  va_start(more, which);
+  for (int at = 0; at < 6; at++)
+    with[at] = va_arg(more, long);
+  va_end(more);
+  slow_down();
+  return call(which, with[0], with[1], with[2], with[3], with[4], with[5]);
+}
+
+int sched_yield(void) {
+  slow_down();
+  return call(SYS_sched_yield, 0, 0, 0, 0, 0, 0);
 }
 
 void *malloc(size_t size) {
@@ -80,7 +127,7 @@ ssize_t read(int from, void *to, size_t size) {
     errno = EIO;
     return -1;
   }
-  return syscall(SYS_read, from, to, size);
+  return call(SYS_read, from, (long)to, size, 0, 0, 0);
 }
 
 ssize_t write(int to, const void *from, size_t size) {
@@ -88,14 +135,14 @@ ssize_t write(int to, const void *from, size_t size) {
     errno = ENOSPC;
     return -1;
   }
-  return syscall(SYS_write, to, from, size);
+  return call(SYS_write, to, (long)from, size, 0, 0, 0);
 }
 
 ssize_t __write(int to, const void *from, size_t size) { return write(to, from, size); }
 
 static void take(int from, void *to, size_t size) {
   for (size_t done = 0; done < size;) {
-    ssize_t got = syscall(SYS_read, from, (char *)to + done, size - done);
+    ssize_t got = call(SYS_read, from, (long)((char *)to + done), size - done, 0, 0, 0);
     if (got <= 0)
       _exit(0);
     done += got;
@@ -170,7 +217,7 @@ static int serve(int socket, char **words) {
       answer.microseconds = (used.ru_utime.tv_sec + used.ru_stime.tv_sec) * 1000000 + used.ru_utime.tv_usec + used.ru_stime.tv_usec;
       answer.calls = atomic_load(calls);
       pass(&place);
-      if (syscall(SYS_write, socket, &answer, sizeof answer) != sizeof answer)
+      if (call(SYS_write, socket, (long)&answer, sizeof answer, 0, 0, 0) != sizeof answer)
         _exit(0);
     }
     free(request);

@@ -21,14 +21,15 @@ PROCESSOR, PASSED = 20, 300
 
 
 class Failing(NamedTuple):
-    """Which call is to fail: of memory `m`, threads `t`, reads `r` or writes `w`, counted from 1; with a capital letter all from it on."""
+    """Which call is to fail: of memory `m`, threads `t`, reads `r` or writes `w`, counted from 1; with a capital letter all from it on. With `s` threads
+    are slowed in the schedule of that number."""
 
     kind: str = "-"
     call: int = 0
 
 
 class Step(NamedTuple):
-    """A run: the program's words, and the file of the folder into which its output goes."""
+    """A run: the program's words, and the file of the folder into which its output goes, which no other run of a request writes."""
 
     words: list
     out: str = "out"
@@ -54,7 +55,6 @@ class Served:
         self.folder = self.kept.name
         self.bounds = str(processor), str(passed)
         library = os.path.join(self.folder, "served.so")
-        # Only what a run leaves lies in the folder that it runs in.
         source = os.path.join(HERE, "served.c")
         subprocess.run(["cc", "-O2", "-shared", "-fPIC", "-o", library, source, "-ldl"], check=True)
         ours, theirs = socket.socketpair()
@@ -62,7 +62,7 @@ class Served:
         self.program = subprocess.Popen(
             [os.path.realpath(program)],
             cwd=self.folder,
-            env={**os.environ, "LD_PRELOAD": library, "SERVED": str(theirs.fileno())},
+            env={"LD_PRELOAD": library, "SERVED": str(theirs.fileno())},
             pass_fds=[theirs.fileno()],
             stdin=subprocess.DEVNULL,
         )
@@ -107,7 +107,6 @@ class Served:
                 raise RuntimeError("the program that is kept at its door has gone")
             told += more
         ended, microseconds, calls = ANSWER.unpack(told)
-        # What it wrote is read at once: a later run may write the same file.
         status = -os.WTERMSIG(ended) if os.WIFSIGNALED(ended) else os.WEXITSTATUS(ended)
         return Left(status, self.get(step.out), self.get(f"told{place}"), microseconds / 1e6, calls)
 
