@@ -360,8 +360,8 @@ def memory(random):
     longs = [instruction(random, count + 8) for _ in range(count)]
     longs += [random.choice([random.randrange(1 << 32), random.randrange(0x8000), random.randrange(16), 0]) for _ in range(8)]
     if random.random() < 0.7:
-        # A start of all cogs with the code behind it.
-        longs = [0x0C7C0802, 0xE4FC0A00, 0x0C7C0C03, 0x5C7C0000, 0x00000038, random.randrange(1, 9), 0, *longs]
+        # Starts of new cogs with the code from 001C on, and then of cog 0 itself, or its stop.
+        longs = [0x0C7C0802, 0xE4FC0A00, random.choice([0x0C7C0C02, 0x0C7C0C03]), 0, 0x78, random.randrange(1, 8), 0x70, *longs]
     return b"".join(it.to_bytes(4, "little") for it in longs)
 
 
