@@ -1,6 +1,7 @@
 """What docs/FORMATS.md says of inputs and texts, written once more in Python, so that the program is compared with something else than itself."""
 
 import bisect
+import math
 import re
 import struct
 
@@ -68,6 +69,14 @@ def image_fault(content, is_eeprom):
     return None
 
 
+def boot_of(image):
+    """The memory that a run of a good `.binary` file begins with."""
+    memory = bytearray(image) + bytes(HUB_BYTES - len(image))
+    dbase = word(image, 10)
+    memory[dbase - 8 : dbase] = bytes.fromhex("FFFFF9FF") * 2
+    return bytes(memory)
+
+
 def mend_sum(content, is_eeprom):
     """The file with the checksum that its bytes ask for, where it is long enough to have one."""
     if len(content) < 6:
@@ -96,6 +105,12 @@ class Trace:
 
     def keys(self):
         return [(clock, cog) for clock, cog, _ in self.turns]
+
+
+def dump_of(text):
+    """The bytes of the dump at the end of a trace."""
+    rows = re.findall(rb"^[0-9A-F]{4}:((?: [0-9A-F]{2})+)$", text, re.M)
+    return bytes.fromhex(b"".join(rows).decode())
 
 
 def levels(trace, script, pin):
@@ -218,6 +233,48 @@ def change_of(old, new):
             cause = "key" if was[:2] != now[:2] else "answer" if (was[2], *was[4:8]) == (now[2], *now[4:8]) else "access"
             return place, cause
     return None
+
+
+# Operators
+
+WORDS = 1 << 32
+
+
+def signed(value):
+    return value - WORDS if value >> 31 else value
+
+
+def truth(is_true):
+    return WORDS - 1 if is_true else 0
+
+
+def rotate_left(value, count):
+    return value << count % 32 | value >> (32 - count % 32)
+
+
+def reverse(value, count):
+    return int(f"{value:032b}"[::-1], 2) >> (32 - count) % 32
+
+
+def quotient(value, by):
+    size = abs(signed(value)) // abs(signed(by))
+    return size if (signed(value) < 0) == (signed(by) < 0) else -size
+
+
+# What an operator makes of two words; its value counts mod 2^32. Nothing is asked of a divisor of 0.
+BINARY = {
+    "->": lambda a, b: rotate_left(a, -b % 32), "<-": rotate_left, ">>": lambda a, b: a >> b % 32, "<<": lambda a, b: a << b % 32,
+    "#>": lambda a, b: max(signed(a), signed(b)), "<#": lambda a, b: min(signed(a), signed(b)), "&": lambda a, b: a & b, "|": lambda a, b: a | b,
+    "^": lambda a, b: a ^ b, "+": lambda a, b: a + b, "-": lambda a, b: a - b, "~>": lambda a, b: signed(a) >> b % 32, "><": reverse,
+    "AND": lambda a, b: truth(a and b), "OR": lambda a, b: truth(a or b), "*": lambda a, b: a * b, "**": lambda a, b: signed(a) * signed(b) >> 32,
+    "/": quotient, "//": lambda a, b: signed(a) - quotient(a, b) * signed(b), "<": lambda a, b: truth(signed(a) < signed(b)),
+    ">": lambda a, b: truth(signed(a) > signed(b)), "<>": lambda a, b: truth(a != b), "==": lambda a, b: truth(a == b),
+    "=<": lambda a, b: truth(signed(a) <= signed(b)), "=>": lambda a, b: truth(signed(a) >= signed(b)),
+}  # fmt: skip
+UNARY = {
+    "-": lambda a: -a, "!": lambda a: ~a, "||": lambda a: abs(signed(a)), ">|": int.bit_length, "|<": lambda a: 1 << a % 32, "^^": math.isqrt,
+    "NOT ": lambda a: truth(not a), "+": lambda a: a,
+}  # fmt: skip
 
 
 # Command lines

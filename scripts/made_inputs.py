@@ -3,10 +3,10 @@ formed or damaged."""
 
 import re
 
+import expected
+
 CHIP_CLOCKS = ("rcfast", "rcslow", "xtal1", "xtal1 + pll16x", "xinput", "xtal3 + pll2x", "xtal2 + pll1x")
-BINARY = "-> <- >> << #> <# & | ^ + - ~> >< AND OR * ** / // < > <> == =< =>".split()
 ASSIGNED = "+= -= *= /= //= &= |= ^= <<= >>= ~>= ->= <-= #>= <#= >= <= <>= ===".split()
-UNARY = ["-", "!", "||", ">|", "|<", "^^", "NOT ", "+"]
 MNEMONICS = (
     "ror rol shr shl rcr rcl sar rev mins maxs min max movs movd movi and andn or xor muxc muxnc muxz muxnz add sub addabs subabs sumc sumnc "
     "sumz sumnz mov neg abs absneg negc negnc negz negnz cmps cmpsx addx subx adds subs addsx subsx cmpsub test testn cmp cmpx"
@@ -176,8 +176,8 @@ class Spin:
             text = self.value(depth)
             return f"({text})" if ":=" in text else text
         if pick < 0.45:
-            return f"({self.random.choice(UNARY)}{self.operand(depth - 1)})"
-        return f"({self.operand(depth - 1)} {self.random.choice(BINARY)} {self.operand(depth - 1)})"
+            return f"({self.random.choice(list(expected.UNARY))}{self.operand(depth - 1)})"
+        return f"({self.operand(depth - 1)} {self.random.choice(list(expected.BINARY))} {self.operand(depth - 1)})"
 
     def operand(self, depth):
         text = self.expression(depth)
@@ -264,6 +264,24 @@ class Spin:
         self.open_loops -= 1
         if kind == "after":
             self.lines.append(f"{before}{self.random.choice(['while', 'until'])} {self.expression(2)}")
+
+
+def constant(random, depth):
+    """An expression of numbers alone, each operation in parentheses, and its value."""
+    pick = random.random()
+    if depth < 1 or pick < 0.2:
+        value = random.choice([random.randrange(40), random.randrange(1 << 32), 1 << random.randrange(32), 0xFFFFFFFF, 0x80000000, 0x7FFFFFFF])
+        return str(value), value
+    if pick < 0.4:
+        operator = random.choice(list(expected.UNARY))
+        text, value = constant(random, depth - 1)
+        return f"({operator}{text})", expected.UNARY[operator](value) % expected.WORDS
+    operator = random.choice(list(expected.BINARY))
+    left, one = constant(random, depth - 1)
+    right, other = constant(random, depth - 1)
+    if operator in ("/", "//") and other == 0:
+        return left, one
+    return f"({left} {operator} {right})", expected.BINARY[operator](one, other) % expected.WORDS
 
 
 def methods_of(text):
