@@ -1,11 +1,11 @@
-"""What docs/FORMATS.md says of inputs and texts, written once more in Python, so that the program is compared with something else than itself."""
+"""What docs/FORMATS.md and docs/LANGUAGE.md say of inputs, texts and operators, written once more in Python, so that
+the program is compared with something else than itself."""
 
 import bisect
 import math
 import re
 import struct
 
-PROGRAM_LIMITS = {"clocks": 100_000_000, "turns": 1_000_000, "kept": 40_000, "seed": 0xFFFFFFFF, "pin": 31, "bits": 10_000, "start": 100_000_000}
 SCRIPT_BYTES, SCRIPT_LINES, HUB_BYTES = 1_048_576, 100_000, 32_768
 
 
@@ -128,7 +128,9 @@ def levels(trace, script, pin):
                 outputs[cleared] = directions[cleared] = 0
         else:
             continue
-        state = any(it >> pin & 1 for it in directions), any(out & made & (1 << pin) for out, made in zip(outputs, directions))
+        state = any(it >> pin & 1 for it in directions), any(
+            out & made & (1 << pin) for out, made in zip(outputs, directions)
+        )
         if state != now:
             now = driven[clock] = state
     events = sorted({0, *(clock for clock, _ in script), *driven})
@@ -186,7 +188,8 @@ def wave_of_pins(text):
 SMALL, WORD, LONG = 8, 1 << 16, 1 << 32
 FORMS = {
     0: ([0], 1, 1, 1), 1: ([0], 1, 1, 1), 2: (range(3), WORD, 1, 1), 3: (range(3), WORD, LONG, 1), 4: ([0], 1, 1, 1),
-    5: ([*range(8), 255], LONG, LONG, 2 * WORD), 6: ([0], SMALL, 1, 1), 7: ([0], 1, 1, 1), 8: ([0], SMALL, 1, 1), 9: ([0], SMALL, 1, 1),
+    5: ([*range(8), 255], LONG, LONG, 2 * WORD), 6: ([0], SMALL, 1, 1), 7: ([0], 1, 1, 1), 8: ([0], SMALL, 1, 1),
+    9: ([0], SMALL, 1, 1),
     10: ([0], SMALL, 1, 1), 11: ([0], 256, 1, 1), 12: ([0], 1, 1, 1), 13: ([0], LONG, 1, 1), 14: ([0], LONG, 1, 1),
     15: (range(3), LONG, LONG, 1), 16: ([0], 1, 1, 1), 17: (range(10), LONG, 1, 1),
 }  # fmt: skip
@@ -227,10 +230,12 @@ def form_fault(content):
 
 
 def change_of(old, new):
-    """The first turn in which two files of one head differ, and the cause that a check of the new one tells; None where nothing can be told."""
+    """The first turn in which two files of one head differ, and the cause that a check of the new one tells."""
     for place, (was, now) in enumerate(zip(TURN.iter_unpack(old[16:]), TURN.iter_unpack(new[16:])), 1):
         if was != now:
-            cause = "key" if was[:2] != now[:2] else "answer" if (was[2], *was[4:8]) == (now[2], *now[4:8]) else "access"
+            cause = "key" if was[:2] != now[:2] else "answer" if (was[2], *was[4:8]) == (
+                now[2], *now[4:8]
+            ) else "access"
             return place, cause
     return None
 
@@ -263,16 +268,22 @@ def quotient(value, by):
 
 # What an operator makes of two words; its value counts mod 2^32. Nothing is asked of a divisor of 0.
 BINARY = {
-    "->": lambda a, b: rotate_left(a, -b % 32), "<-": rotate_left, ">>": lambda a, b: a >> b % 32, "<<": lambda a, b: a << b % 32,
-    "#>": lambda a, b: max(signed(a), signed(b)), "<#": lambda a, b: min(signed(a), signed(b)), "&": lambda a, b: a & b, "|": lambda a, b: a | b,
-    "^": lambda a, b: a ^ b, "+": lambda a, b: a + b, "-": lambda a, b: a - b, "~>": lambda a, b: signed(a) >> b % 32, "><": reverse,
-    "AND": lambda a, b: truth(a and b), "OR": lambda a, b: truth(a or b), "*": lambda a, b: a * b, "**": lambda a, b: signed(a) * signed(b) >> 32,
-    "/": quotient, "//": lambda a, b: signed(a) - quotient(a, b) * signed(b), "<": lambda a, b: truth(signed(a) < signed(b)),
+    "->": lambda a, b: rotate_left(a, -b % 32), "<-": rotate_left, ">>": lambda a, b: a >> b % 32, "<<": lambda a,
+    b: a << b % 32,
+    "#>": lambda a, b: max(signed(a), signed(b)), "<#": lambda a, b: min(signed(a), signed(b)), "&": lambda a, b: a & b,
+    "|": lambda a, b: a | b,
+    "^": lambda a, b: a ^ b, "+": lambda a, b: a + b, "-": lambda a, b: a - b, "~>": lambda a, b: signed(a) >> b % 32,
+    "><": reverse,
+    "AND": lambda a, b: truth(a and b), "OR": lambda a, b: truth(a or b), "*": lambda a, b: a * b, "**": lambda a,
+    b: signed(a) * signed(b) >> 32,
+    "/": quotient, "//": lambda a, b: signed(a) - quotient(a, b) * signed(b), "<": lambda a,
+    b: truth(signed(a) < signed(b)),
     ">": lambda a, b: truth(signed(a) > signed(b)), "<>": lambda a, b: truth(a != b), "==": lambda a, b: truth(a == b),
     "=<": lambda a, b: truth(signed(a) <= signed(b)), "=>": lambda a, b: truth(signed(a) >= signed(b)),
 }  # fmt: skip
 UNARY = {
-    "-": lambda a: -a, "!": lambda a: ~a, "||": lambda a: abs(signed(a)), ">|": int.bit_length, "|<": lambda a: 1 << a % 32, "^^": math.isqrt,
+    "-": lambda a: -a, "!": lambda a: ~a, "||": lambda a: abs(signed(a)), ">|": int.bit_length,
+    "|<": lambda a: 1 << a % 32, "^^": math.isqrt,
     "NOT ": lambda a: truth(not a), "+": lambda a: a,
 }  # fmt: skip
 
@@ -299,14 +310,17 @@ def is_image(text):
     return text.endswith((".binary", ".eeprom"))
 
 
-CLOCKS, TURNS, KEPT = (number(0, PROGRAM_LIMITS[it]) for it in ("clocks", "turns", "kept"))
+CLOCKS, TURNS, KEPT = number(0, 100_000_000), number(0, 1_000_000), number(0, 40_000)
 PIN, BITS, START, SEED = number(0, 31), number(2, 10_000), number(1, 100_000_000), number(0, 0xFFFFFFFF)
 RUN = {"--pins": anything, "--turns": TURNS}
 COMMANDS = {
     "build": ([anything], {}), "list": ([anything], {}), "raw": ([anything, CLOCKS], {**RUN, "--dump": is_dump}),
-    "run": ([anything, CLOCKS], {**RUN, "--dump": is_dump, "--alone": None}), "save": ([anything, CLOCKS], {**RUN, "--turns": KEPT, "--raw": None}),
-    "check": ([anything, anything], {"--pins": anything, "--raw": None}), "serial": ([anything, CLOCKS, PIN, BITS], {**RUN, "--raw": None}),
-    "type": ([anything, PIN, BITS, START], {}), "wave": ([anything, CLOCKS], {**RUN, "--raw": None, "--all": None, "--alone": None}),
+    "run": ([anything, CLOCKS], {**RUN, "--dump": is_dump, "--alone": None}),
+    "save": ([anything, CLOCKS], {**RUN, "--turns": KEPT, "--raw": None}),
+    "check": ([anything, anything], {"--pins": anything, "--raw": None}),
+    "serial": ([anything, CLOCKS, PIN, BITS], {**RUN, "--raw": None}),
+    "type": ([anything, PIN, BITS, START], {}),
+    "wave": ([anything, CLOCKS], {**RUN, "--raw": None, "--all": None, "--alone": None}),
     "convert": ([is_image], {}), "make": ([SEED], {"--alone": None}),
 }  # fmt: skip
 
@@ -353,7 +367,9 @@ def is_command(words, knows_short):
     if command == "help":
         found = Words({})
         found.take(rest)
-        return found.is_good and (not found.operands or len(found.operands) == 1 and found.operands[0] in (*COMMANDS, "help"))
+        return found.is_good and (
+            not found.operands or len(found.operands) == 1 and found.operands[0] in (*COMMANDS, "help")
+        )
     if command not in COMMANDS:
         return False
     operands, options = COMMANDS[command]

@@ -1,5 +1,5 @@
-"""Inputs for the program that are made up from a seed: projects of Spin, hub memory with PASM, pin scripts, histories and command lines, well
-formed or damaged."""
+"""Inputs for the program that are made up from a seed: projects of Spin, hub memory with PASM, pin scripts, histories
+and command lines, well formed or damaged."""
 
 import re
 
@@ -8,16 +8,21 @@ import expected
 CHIP_CLOCKS = ("rcfast", "rcslow", "xtal1", "xtal1 + pll16x", "xinput", "xtal3 + pll2x", "xtal2 + pll1x")
 ASSIGNED = "+= -= *= /= //= &= |= ^= <<= >>= ~>= ->= <-= #>= <#= >= <= <>= ===".split()
 MNEMONICS = (
-    "ror rol shr shl rcr rcl sar rev mins maxs min max movs movd movi and andn or xor muxc muxnc muxz muxnz add sub addabs subabs sumc sumnc "
-    "sumz sumnz mov neg abs absneg negc negnc negz negnz cmps cmpsx addx subx adds subs addsx subsx cmpsub test testn cmp cmpx"
+    "ror rol shr shl rcr rcl sar rev mins maxs min max movs movd movi and andn or xor muxc muxnc muxz muxnz add sub "
+    "addabs subabs sumc sumnc sumz sumnz mov neg abs absneg negc negnc negz negnz cmps cmpsx addx subx adds subs addsx "
+    "subsx cmpsub test testn cmp cmpx"
 ).split()
+OF_THE_HUB = [
+    "wrlong t, u", "rdlong t, u", "rdbyte t, #4", "locknew t", "cogid t", "lockset t", "mov outa, t", "mov dira, t"
+]
 CONDITIONS = "if_z if_nz if_c if_nc if_c_and_z if_nc_or_z if_always if_c_eq_z if_a if_be".split()
 TOKEN = re.compile(r"[A-Za-z_]\w*|[$%]*\d\w*|\"[^\"\n]*\"|\r\n|\s+|.", re.S)
 ODD_BYTES = b"\0\t\n\r\x1a !\"#$%'()*,.:;=?@[\\]{|}~\x80\xfe\xff09azAZ_"
 
 
 class Names:
-    """What a method sees: variables with their number of elements, constants, labels, methods with their numbers of parameters, objects."""
+    """What a method sees: variables with their numbers of elements, constants, labels, methods with their numbers of
+    parameters, and objects."""
 
     def __init__(self):
         self.variables, self.constants, self.labels, self.methods = [], [], [], []
@@ -56,12 +61,18 @@ class Spin:
                     self.lines.append("  _xinfreq = 5_000_000")
             for number in range(random.randrange(4)):
                 names.constants.append(f"k{number}")
-                self.lines.append(random.choice([f"  k{number} = {self.number()}", f"  #{random.randrange(99)}, k{number}", f"  k{number}"]))
+                self.lines.append(
+                    random.choice(
+                        [f"  k{number} = {self.number()}", f"  #{random.randrange(99)}, k{number}", f"  k{number}"]
+                    )
+                )
         self.lines.append("VAR")
         for number in range(random.randrange(1, 5)):
             count = random.choice([1, 1, 2, 5, 16])
             names.variables.append((f"v{number}", count))
-            self.lines.append(f"  {random.choice(['long', 'word', 'byte'])} v{number}" + (f"[{count}]" if count > 1 else ""))
+            self.lines.append(
+                f"  {random.choice(['long', 'word', 'byte'])} v{number}" + (f"[{count}]" if count > 1 else "")
+            )
         self.lines.append("  long stack[40]")
         if self.children:
             self.lines.append("OBJ")
@@ -85,16 +96,21 @@ class Spin:
         for _ in range(random.randrange(6)):
             self.lines.append("  " + self.instruction())
         self.lines += random.choice([["  jmp #code"], ["  cogid t", "  cogstop t"], []])
-        self.lines += ["t long 0", f"u long {self.number()}, {self.number()}[{random.randrange(4)}]", f"w byte \"abc\", {random.randrange(256)}"]
+        self.lines += [
+            "t long 0",
+            f"u long {self.number()}, {self.number()}[{random.randrange(4)}]",
+            f"w byte \"abc\", {random.randrange(256)}",
+        ]
         self.names.labels += ["u", "w"]
 
     def instruction(self):
         random = self.random
         condition = random.choice(CONDITIONS) + " " if self.chance(0.3) else ""
         if self.chance(0.25):
-            return condition + random.choice(["wrlong t, u", "rdlong t, u", "rdbyte t, #4", "locknew t", "cogid t", "lockset t", "mov outa, t", "mov dira, t"])
+            return condition + random.choice(OF_THE_HUB)
         effects = random.choice(["", "", " wz", " wc", " wz, wc", " nr"])
-        return f"{condition}{random.choice(MNEMONICS)} t, {random.choice(['u', '#' + str(random.randrange(512)), 't', 'ina', 'cnt'])}{effects}"
+        operand = random.choice(["u", f"#{random.randrange(512)}", "t", "ina", "cnt"])
+        return f"{condition}{random.choice(MNEMONICS)} t, {operand}{effects}"
 
     def write_method(self, place, name, count):
         random = self.random
@@ -103,7 +119,11 @@ class Spin:
         own = [f"i{number}" for number in range(random.randrange(3))]
         head = "PUB" if place == 0 or self.chance(0.5) else "PRI"
         self.locals = arguments + own + ([f"r{place}"] if result else []) + ["result"]
-        self.lines.append(f"{head} {name}" + (f"({', '.join(arguments)})" if arguments else "") + result + (f" | {', '.join(own)}" if own else ""))
+        self.lines.append(
+            f"{head} {name}" + (f"({', '.join(arguments)})" if arguments else "") + result + (
+                f" | {', '.join(own)}" if own else ""
+            )
+        )
         self.body(2, random.randrange(1, 7))
 
     def body(self, column, most):
@@ -115,7 +135,7 @@ class Spin:
 
     def number(self):
         random = self.random
-        value = random.choice([random.randrange(16), random.randrange(256), random.randrange(1 << 32), 1 << random.randrange(32), 0xFFFFFFFF])
+        value = random.choice([random.randrange(1 << random.choice([4, 8, 32])), 1 << random.randrange(32), 0xFFFFFFFF])
         return random.choice([str(value), f"${value:X}", f"%{value:b}"])
 
     def variable(self):
@@ -128,8 +148,21 @@ class Spin:
             name, count = random.choice(self.names.variables)
             return f"{name}[{self.expression(1)} & {count - 1}]" if count in (2, 16) else name
         if pick < 0.9:
-            return random.choice(["outa", "dira", f"outa[{random.randrange(32)}]", f"dira[{random.randrange(32)}..{random.randrange(32)}]"])
-        return random.choice([f"{random.choice(self.locals)}.byte[{random.randrange(4)}]", f"byte[@{self.names.variables[0][0]}]", f"long[$7F00 + {random.randrange(64)}]"])
+            return random.choice(
+                [
+                    "outa",
+                    "dira",
+                    f"outa[{random.randrange(32)}]",
+                    f"dira[{random.randrange(32)}..{random.randrange(32)}]",
+                ]
+            )
+        return random.choice(
+            [
+                f"{random.choice(self.locals)}.byte[{random.randrange(4)}]",
+                f"byte[@{self.names.variables[0][0]}]",
+                f"long[$7F00 + {random.randrange(64)}]",
+            ]
+        )
 
     def value(self, depth):
         random = self.random
@@ -139,14 +172,23 @@ class Spin:
         if pick < 0.7:
             return random.choice(self.locals)
         if pick < 0.8:
-            return random.choice([*self.names.constants, *self.names.labels, *(f"@{it}" for it in self.names.labels), self.names.variables[0][0]])
+            return random.choice(
+                [
+                    *self.names.constants,
+                    *self.names.labels,
+                    *(f"@{it}" for it in self.names.labels),
+                    self.names.variables[0][0],
+                ]
+            )
         if pick < 0.9:
-            return random.choice(["ina", "cnt", "par", "cogid", "clkfreq", "clkmode", "outa", "ina[3..0]", "posx", "true", '"A"', "@v0"])
+            return random.choice(
+                ["ina", "cnt", "par", "cogid", "clkfreq", "clkmode", "outa", "ina[3..0]", "posx", "true", '"A"', "@v0"]
+            )
         if depth < 1:
             return "result"
         return random.choice(
             [
-                lambda: f"lookup({self.expression(depth - 1)}: {self.number()}, {self.expression(depth - 1)}..{self.number()})",
+                lambda: f"lookup({self.expression(0)}: {self.number()}, {self.expression(depth - 1)}..{self.number()})",
                 lambda: f"lookdownz({self.expression(depth - 1)}: {self.number()}, {self.number()})",
                 lambda: 'strsize(string("some text"))',
                 lambda: f"constant({self.random.randrange(99)} + {self.random.randrange(99)})",
@@ -189,7 +231,9 @@ class Spin:
         if column < 10 and pick < 0.25:
             self.block(column)
         elif pick < 0.5:
-            self.lines.append(f"{before}{self.variable()} {random.choice([':=', ':=', random.choice(ASSIGNED)])} {self.expression(3)}")
+            self.lines.append(
+                f"{before}{self.variable()} {random.choice([':=', ':=', random.choice(ASSIGNED)])} {self.expression(3)}"
+            )
         elif pick < 0.6:
             self.lines.append(f"{before}{self.variable()}{random.choice(['++', '--', '~', '~~'])}")
         elif pick < 0.7 and self.names.objects + self.names.methods[1:]:
@@ -199,7 +243,11 @@ class Spin:
         elif pick < 0.95:
             self.lines.append(before + self.built_in())
         else:
-            self.lines.append(before + random.choice(["return", f"return {self.expression(1)}", "abort", f"abort {self.expression(1)}"]))
+            self.lines.append(
+                before + random.choice(
+                    ["return", f"return {self.expression(1)}", "abort", f"abort {self.expression(1)}"]
+                )
+            )
 
     def built_in(self):
         random = self.random
@@ -250,7 +298,9 @@ class Spin:
     def loop(self, kind, column, few):
         before = " " * column
         counter = self.random.choice(self.locals)
-        tail = f"from {self.expression(1)} to {self.random.randrange(12)}" + self.random.choice(["", f" step {self.random.randrange(4)}"])
+        tail = f"from {self.expression(1)} to {self.random.randrange(12)}" + self.random.choice(
+            ["", f" step {self.random.randrange(4)}"]
+        )
         heads = {
             "count": f"repeat {self.random.randrange(6)}",
             "while": f"repeat while {self.expression(2)}",
@@ -270,7 +320,8 @@ def constant(random, depth):
     """An expression of numbers alone, each operation in parentheses, and its value."""
     pick = random.random()
     if depth < 1 or pick < 0.2:
-        value = random.choice([random.randrange(40), random.randrange(1 << 32), 1 << random.randrange(32), 0xFFFFFFFF, 0x80000000, 0x7FFFFFFF])
+        some = [random.randrange(40), random.randrange(1 << 32), 1 << random.randrange(32)]
+        value = random.choice([*some, 0xFFFFFFFF, 0x80000000, 0x7FFFFFFF])
         return str(value), value
     if pick < 0.4:
         operator = random.choice(list(expected.UNARY))
@@ -307,7 +358,9 @@ def damage_names(random, text):
     words = [at for at, token in enumerate(tokens) if re.fullmatch(r"[a-z]\w?", token)]
     for _ in range(random.choice([1, 1, 2, 3])):
         if words:
-            tokens[random.choice(words)] = random.choice([tokens[random.choice(words)], "main", "nosuch", "k0", "v0", "t", "result"])
+            tokens[random.choice(words)] = random.choice(
+                [tokens[random.choice(words)], "main", "nosuch", "k0", "v0", "t", "result"]
+            )
     return "".join(tokens)
 
 
@@ -316,7 +369,15 @@ def damage_tokens(random, text):
     for _ in range(random.choice([1, 1, 1, 2, 5])):
         at = random.randrange(len(tokens))
         other = random.choice(tokens)
-        tokens[at] = random.choice([lambda: "", lambda: tokens[at] * 2, lambda: other, lambda: tokens[at] + " " + other, lambda: tokens[at][1:]])()
+        tokens[at] = random.choice(
+            [
+                lambda: "",
+                lambda: tokens[at] * 2,
+                lambda: other,
+                lambda: tokens[at] + " " + other,
+                lambda: tokens[at][1:],
+            ]
+        )()
     return "".join(tokens)
 
 
@@ -376,10 +437,13 @@ def memory(random):
     """Hub memory with PASM: instructions, and data that they use."""
     count = random.choice([1, 4, 16, 40])
     longs = [instruction(random, count + 8) for _ in range(count)]
-    longs += [random.choice([random.randrange(1 << 32), random.randrange(0x8000), random.randrange(16), 0]) for _ in range(8)]
+    longs += [
+        random.choice([random.randrange(1 << 32), random.randrange(0x8000), random.randrange(16), 0]) for _ in range(8)
+    ]
     if random.random() < 0.7:
         # Starts of new cogs with the code from 001C on, and then of cog 0 itself, or its stop.
-        longs = [0x0C7C0802, 0xE4FC0A00, random.choice([0x0C7C0C02, 0x0C7C0C03]), 0, 0x78, random.randrange(1, 8), 0x70, *longs]
+        last = random.choice([0x0C7C0C02, 0x0C7C0C03])
+        longs = [0x0C7C0802, 0xE4FC0A00, last, 0, 0x78, random.randrange(1, 8), 0x70, *longs]
     return b"".join(it.to_bytes(4, "little") for it in longs)
 
 
@@ -388,29 +452,39 @@ def script(random):
     clock, lines = 0, []
     for _ in range(random.choice([0, 1, 3, 20])):
         clock += random.choice([0 if random.random() < 0.03 else 1, random.randrange(1, 3000), 16])
-        lines.append(random.choice([f"{clock} {random.randrange(1 << 32):08X}", f"{clock} {1 << random.randrange(4):08x}", "# a line", ""]))
+        lines.append(
+            random.choice(
+                [f"{clock} {random.randrange(1 << 32):08X}", f"{clock} {1 << random.randrange(4):08x}", "# a line", ""]
+            )
+        )
     text = random.choice(["\n", "\r\n"]).join(lines) + random.choice(["", "\n"])
     return damage_bytes(random, text.encode()) if random.random() < 0.3 else text.encode()
 
 
 COMMANDS = "build list raw run save check serial type wave convert make help".split()
-ODD_WORDS = ["", "-", "--", "-h", "--help", "--alone", "--raw", "--all", "--turns", "--dump=0000:1", "--pins=", "--pins", "-1", "1e3", "0x10", "99999999999", "+1", " 1"]
+ODD_WORDS = [
+    *("", " 1", "-1", "+1", "1e3", "0x10", "99999999999", "-", "--"),
+    *("-h", "--help", "--alone", "--raw", "--all", "--turns", "--dump=0000:1", "--pins=", "--pins"),
+]
 
 
 def words(random):
     """A command line over the files of a case, mostly with the operands that its command takes."""
-    numbers = ["0", "1", "7", "17", "0017", "20000", "100000000", "100000001", "1000000", "1000001", "40000", "40001", "32", "31", "5000"]
-    files = ["main.spin", "a.binary", "a.eeprom", "a.bin", "a.history", "a.pins", "none.spin", ".", "none.binary", "a.txt"]
+    numbers = "0 1 7 17 0017 31 32 5000 20000 40000 40001 1000000 1000001 100000000 100000001".split()
+    files = "main.spin a.binary a.eeprom a.bin a.history a.pins a.txt none.spin none.binary .".split()
     command = random.choice(COMMANDS)
     operands = {
-        "raw": "fn", "run": "fn", "save": "fn", "check": "ff", "serial": "fnnn", "type": "fnnn", "wave": "fn", "make": "n", "help": "c",
+        "raw": "fn", "run": "fn", "save": "fn", "check": "ff", "serial": "fnnn", "type": "fnnn", "wave": "fn",
+        "make": "n", "help": "c",
     }.get(command, "f")
     line = [random.choice({"f": files, "n": numbers, "c": COMMANDS}[kind]) for kind in operands]
     for _ in range(random.choice([0, 0, 1, 1, 2, 3])):
         option = random.choice(
             [
-                ["--pins", "a.pins"], ["--pins=a.pins"], ["--turns", random.choice(numbers)], [f"--turns={random.choice(numbers)}"], ["--alone"], ["--raw"],
-                ["--all"], ["--dump", "0010:4"], ["--dump=7fff:1"], ["--dump=7fff:2"], ["--short"], [random.choice(ODD_WORDS)],
+                ["--pins", "a.pins"], ["--pins=a.pins"], ["--turns", random.choice(numbers)],
+                [f"--turns={random.choice(numbers)}"], ["--alone"], ["--raw"],
+                ["--all"], ["--dump", "0010:4"], ["--dump=7fff:1"], ["--dump=7fff:2"], ["--short"],
+                [random.choice(ODD_WORDS)],
             ]
         )
         at = random.randrange(len(line) + 1)

@@ -1,4 +1,5 @@
-"""The hub of docs/MACHINE.md, written once more in Python: it takes the turns of a trace and tells where it would have answered otherwise."""
+"""The hub of docs/MACHINE.md, written once more in Python: it takes the turns of a trace and tells where it would have
+answered otherwise."""
 
 import bisect
 import re
@@ -101,7 +102,11 @@ class Hub:
     def tail(self, count, is_by_turns):
         """What a trace ends with, without its dump."""
         made, high = self.driven()
-        lines = [f"ended {'turns' if is_by_turns else 'clocks'} {count}", f"locks {''.join(LOCK_LETTERS[it] for it in self.locks)}", f"pins {made:08X} {high:08X}"]
+        lines = [
+            f"ended {'turns' if is_by_turns else 'clocks'} {count}",
+            f"locks {''.join(LOCK_LETTERS[it] for it in self.locks)}",
+            f"pins {made:08X} {high:08X}",
+        ]
         return "\n".join([*lines, *(f"cog {number} {state}" for number, state in enumerate(self.cogs)), ""])
 
 

@@ -1,15 +1,16 @@
 // Keeps a program at the door of its `main`, and makes its calls of the system fail where it is asked to.
 //
-// Loaded with the program by LD_PRELOAD (served.py does so), it waits for requests on the socket whose number stands in SERVED. Each names
-// runs of the program: a run is a child of the program as it stood before `main`, so that it costs no loading. Without SERVED the
-// program runs as ever.
+// Loaded with the program by LD_PRELOAD (served.py does so), it waits for requests on the socket whose number stands
+// in SERVED. Each names runs of the program: a run is a child of the program as it stood before `main`, so that it
+// costs no loading. Without SERVED the program runs as ever.
 //
-// A request is its length, four bytes, and texts with a zero after each: for each run the files for its output and its faults, its bounds of
-// processor time and of time, what is to fail and which call of it, the number of its words, and the words. The answer is, for each run, how
-// it ended as `wait` tells it, its microseconds of processor time, and how many calls of the failing kind it made.
+// A request is its length, four bytes, and texts with a zero after each: for each run the files for its output and
+// its faults, its bounds of processor time and of time, what is to fail and which call of it, the number of its
+// words, and the words. The answer is, for each run, how it ended as `wait` tells it, its microseconds of processor
+// time, and how many calls of the failing kind it made.
 //
-// In place of failing, threads may be slowed where they wait for one another or wake one another: one of them always, the others now and
-// then, as a number says. So turns are handed on in schedules that are rare else.
+// In place of failing, threads may be slowed where they wait for one another or wake one another: one of them always,
+// the others now and then, as a number says. So turns are handed on in schedules that are rare else.
 #define _GNU_SOURCE
 #include <dlfcn.h>
 #include <errno.h>
@@ -32,7 +33,8 @@
 
 #define MOST_WORDS 64
 
-// What fails: the call of that number, or with a capital letter that one and all after it. SLOW threads don't fail: the number is a schedule's.
+// What fails: the call of that number, or with a capital letter that one and all after it. SLOW threads don't fail: the
+// number is that of a schedule.
 enum kind { NOTHING = '-', MEMORY = 'm', THREADS = 't', READS = 'r', WRITES = 'w', SLOW = 's' };
 
 struct answer {
@@ -197,6 +199,8 @@ static void pass(char **place) {
     next(place);
 }
 
+static int32_t microseconds(struct timeval time) { return time.tv_sec * 1000000 + time.tv_usec; }
+
 // Serves until the socket is closed; returns in each child, with its words.
 static int serve(int socket, char **words) {
   for (;;) {
@@ -214,7 +218,7 @@ static int serve(int socket, char **words) {
         return begin(&place, words);
       }
       wait4(child, &answer.status, 0, &used);
-      answer.microseconds = (used.ru_utime.tv_sec + used.ru_stime.tv_sec) * 1000000 + used.ru_utime.tv_usec + used.ru_stime.tv_usec;
+      answer.microseconds = microseconds(used.ru_utime) + microseconds(used.ru_stime);
       answer.calls = atomic_load(calls);
       pass(&place);
       if (call(SYS_write, socket, (long)&answer, sizeof answer, 0, 0, 0) != sizeof answer)
@@ -227,7 +231,8 @@ static int serve(int socket, char **words) {
 typedef int main_of(int, char **, char **);
 typedef int starter(main_of *, int, char **, void (*)(void), void (*)(void), void (*)(void), void *);
 
-int __libc_start_main(main_of *main, int count, char **words, void (*init)(void), void (*fini)(void), void (*ended)(void), void *stack) {
+int __libc_start_main(main_of *main, int count, char **words, void (*init)(void), void (*fini)(void),
+                      void (*ended)(void), void *stack) {
   static char *own[MOST_WORDS + 3];
   starter *real = (starter *)dlsym(RTLD_NEXT, "__libc_start_main");
   const char *socket = getenv("SERVED");

@@ -1,7 +1,8 @@
-"""Runs of the program for the scripts that try it: many a second, each with bounds of time, and with calls of the system that fail.
+"""Runs of the program for the scripts that try it: many a second, each with bounds of time, and with calls of the
+system that fail.
 
-The program is kept at the door of its `main` by served.c, which is compiled into a folder that goes with the process. What runs is the file
-that was named, as it is.
+The program is kept at the door of its `main` by served.c, which is compiled into a folder that goes with the process.
+What runs is the file that was named, as it is.
 """
 
 import os
@@ -21,15 +22,16 @@ PROCESSOR, PASSED = 20, 300
 
 
 class Failing(NamedTuple):
-    """Which call is to fail: of memory `m`, threads `t`, reads `r` or writes `w`, counted from 1; with a capital letter all from it on. With `s` threads
-    are slowed in the schedule of that number."""
+    """Which call is to fail: of memory `m`, threads `t`, reads `r` or writes `w`, counted from 1; with a capital
+    letter all from it on. With `s` threads are slowed in the schedule of that number."""
 
     kind: str = "-"
     call: int = 0
 
 
 class Step(NamedTuple):
-    """A run: the program's words, and the file of the folder into which its output goes, which no other run of a request writes."""
+    """A run: the program's words, and the file of the folder into which its output goes; no other run of a request
+    writes that file."""
 
     words: list
     out: str = "out"
