@@ -27,7 +27,7 @@ use Rattle.p8_image.proofs.Memories.{Lies}
 use Rattle.p8_placed.proofs.Instances.{IsProject, compiled-at}
 use Rattle.p8_placed.proofs.Texts.{near-texts, text-is, kind-in-method}
 use Rattle.p8_placed.proofs.Results.{no-result}
-use Rattle.p8_placed.proofs.Seen.{has-words}
+use Rattle.p8_resolved.proofs.Seen.{has-words}
 use Rattle.p8_placed.proofs.Publics.{public-method}
 use Rattle.p8_placed.proofs.Sounds.{sound-of}
 
@@ -47,7 +47,7 @@ agrees files children xs project proper clock parts hub cog i file seen x there 
           i.file file seen x there refl refl item (slice_get seen.items item) name number params refl is;
       constants = λ e. value-alike (setting_of seen x) (meaning.setting_of (file_of files file.tree seen x) (suc k)) (own-alike files file.tree seen (i.file == 0) x whole.names (proper i.file file there.stands) k m at) e
           ∙ ap (λ s. value s e) (sym (setting-same (file_of files file.tree seen x) (project.changed i.file) (suc k)));
-      words = λ e read. value-word (setting_of seen x) (has-words files children project.children_are i.file file seen (i.file == 0) x there.stands there.beside whole.names) e read;
+      words = λ e read. value-word (setting_of seen x) (has-words files children project.children_are i.file file seen (i.file == 0) x.kinds there.stands there.beside whole.names) e read;
       texts = λ p. text-is files children xs i.file file seen x there p;
       near_texts = λ p. near-texts clock (objects_of files children xs) i.file (object_of files file.tree seen x) parts hub object_is (text_number (strings_of file.tree) p);
     }

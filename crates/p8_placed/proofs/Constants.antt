@@ -7,20 +7,10 @@ use Rattle.p8_tree.specs.Proper.{IsProperTree, IsProperForm, AreProperTrees}
 use Rattle.p8_operators.specs.Operators.{or_zero, divides, unary_result, binary_result}
 use Rattle.p8_fold.specs.declared.meanings.Meaning.{Meaning}
 use Rattle.p8_fold.specs.declared.meanings.Meaning.TheVariants as meaning_case
-use Rattle.p8_fold.specs.Meanings.{Setting, meaning_of, value_of_meaning, address_of_meaning, given, outside_operands}
+use Rattle.p8_fold.specs.Meanings.{Setting, meaning_of, value_of_meaning, address_of_meaning, given}
 use Rattle.p8_fold.specs.Values.{constant_of, before, between, value, value_of_form, value_of_variable, address_of, value_of_one}
-use Rattle.p8_placed.proofs.Bounds.{unary-word, binary-word}
-
--- names have words as their values and no addresses, and `$` and registers have none
-abbrev pub IsWord : Option Meaning → Type 0
-IsWord (Some (meaning_case.Value v)) = v < 2 ^ 32
-IsWord (Some (meaning_case.Label cog offset)) = ⊥
-IsWord _ = Unit {0}
-
-pub record HasWords (s : Setting) : Type 0 where
-  pub names : (n : List ℕ) → IsWord (s.name n)
-  pub constants : (object n : List ℕ) → IsWord (s.constant object n)
-  pub here : s.here ≡ outside_operands None
+use Rattle.p8_resolved.specs.Words.{IsWord, HasWords}
+use Rattle.p8_resolved.proofs.Bounds.{unary-word, binary-word}
 
 abbrev IsSmall : Option ℕ → Type 0
 IsSmall None = Unit {0}

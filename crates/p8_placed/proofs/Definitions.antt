@@ -6,7 +6,6 @@ use Rattle.std.specs.Map.{lookup}
 use Rattle.std.specs.Str.{bytes_eq}
 use Rattle.std.proofs.lemmas.Grind.{flat_map-append}
 use Rattle.std.proofs.lemmas.Option.{same_Some, none-some}
-use Rattle.std.proofs.lemmas.Slice.Eq.{bytes_eq-Decides}
 use Rattle.p8_tree.specs.Sources as trees
 use Rattle.p8_tree.specs.Sources.{Constant, Declared, Child as ChildItem, MethodTree, Line, BlockTree, Source}
 use Rattle.p8_fold.specs.declared.meanings.Meaning.{Meaning}
@@ -23,11 +22,6 @@ use Rattle.p8_kinds.specs.declared.name_kinds.NameKind.TheVariants as kind
 use Rattle.p8_kinds.specs.FileSettings.{meaning_of_kind, constant_among, constant_in}
 use Rattle.p8_names.specs.Settings.{has_name, definition, with_children, constant_of_child}
 use Rattle.p8_names.specs.Kinds.{objects, object_in, item_kind, kind_among, value_in}
-
--- ---- names
-
-pub same-bytes : (xs ys : List ℕ) → bytes_eq xs ys ≡ true → xs ≡ ys
-same-bytes xs ys is = (bytes_eq-Decides xs ys).0 is
 
 -- ---- kinds and items
 

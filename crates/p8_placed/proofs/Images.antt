@@ -1,15 +1,12 @@
 -- The memory that an image starts with.
-use Rattle.std.proofs.Common.{◌≡◌, ◌<◌, ◌≤◌, ℕ, zero, suc, ◌+◌, ◌-◌, ◌*◌, ◌%◌, ◌==◌, min, Bool, true, false, ◌&&◌, nat_le, if◌then◌else◌, List, [], ◌∷◌, ◌++◌, length, take, drop, replicate, slice_index, append_assoc, length-append, Option, Some, None, refl, sym, ap, ◌∙◌, arith}
-use Rattle.std.proofs.lemmas.Bool.Decides.{nat_tests}
-use Rattle.std.proofs.lemmas.List.{get_or_append_left, take-append-le, take_all}
-use Rattle.p8_access.specs.Boots.{ram_of}
+use Rattle.std.proofs.Common.{◌≡◌, ℕ, ◌+◌, ◌*◌, ◌%◌, min, List, [], ◌∷◌, ◌++◌, length, take, drop, slice_index, append_assoc, refl, sym, ap, ◌∙◌, arith}
+use Rattle.std.proofs.lemmas.List.{take-append-le, take_all}
 use Rattle.p8_bcog.specs.Code.{byte_at, word_at, code_end, code_of}
 use Rattle.p8_image.specs.declared.clocks.Clock.{Clock}
-use Rattle.p8_image.specs.declared.faults.LoadFault.{LoadFault}
 use Rattle.p8_image.specs.declared.parts.ObjectPart.{ObjectPart}
 use Rattle.p8_image.specs.Headers.{header_of}
 use Rattle.p8_image.specs.Layout.{header_by, image_of, variables_base, first_frame}
-use Rattle.p8_image.specs.Loading.{IsImage, first_unmet, demands, memory_of, frame_mark}
+use Rattle.p8_image.specs.Loading.{IsImage, memory_of}
 use Rattle.p8_image.specs.Places.{Stands}
 use Rattle.p8_image.proofs.Memories.{Lies, after, filling, memory-is, byte-is, ends-at, places-of}
 use Rattle.p8_image.specs.Projects.{FitsHub}

@@ -27,7 +27,8 @@ use Rattle.p8_placed.proofs.NamedSettings.{named-alike, kind-is, among-object}
 use Rattle.p8_placed.proofs.Files.{IsThere}
 use Rattle.p8_placed.proofs.Counting.{count-alike, instances-alike, few, parts-length, instances-length, instance-at}
 use Rattle.p8_placed.proofs.Objects.{item-of}
-use Rattle.p8_placed.proofs.OwnKinds.{count-is, object-of-file}
+use Rattle.p8_resolved.proofs.Counts.{count-is}
+use Rattle.p8_placed.proofs.OwnKinds.{object-of-file}
 
 -- ---- numbers of files
 

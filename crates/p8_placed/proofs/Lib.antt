@@ -1,4 +1,3 @@
-mod Bounds
 mod Constants
 mod Holding
 mod Linking
@@ -18,10 +17,7 @@ mod Placing
 mod Frames
 mod Starting
 mod Texts
-mod Words
-mod Seen
 mod Results
-mod Distinct
 mod OwnSettings
 mod Misused
 mod Environments

@@ -1,63 +1,18 @@
 -- A method's own names are locals, so what else a name is in a method it is in the whole file.
-use Rattle.std.proofs.Common.{◌≡◌, ℕ, zero, suc, ◌+◌, ◌≤◌, Bool, true, false, nat_le, if◌then◌else◌, List, [], ◌∷◌, ◌++◌, length, slice_get, Option, Some, None, refl, sym, ◌∙◌, subst, arith, length-append}
-use Rattle.std.specs.Map.{lookup}
-use Rattle.std.specs.Str.{bytes_eq}
+use Rattle.std.proofs.Common.{◌≡◌, ℕ, zero, suc, ◌≤◌, Bool, true, false, nat_le, if◌then◌else◌, List, length, slice_get, Option, Some, None, refl, sym, subst, arith}
 use Rattle.std.proofs.lemmas.Bool.Decides.{nat_tests}
-use Rattle.p8_tree.specs.Sources.{Declared, MethodTree, Source}
-use Rattle.p8_fold.specs.Meanings.{Setting}
-use Rattle.p8_definitions.specs.Items.{Item, constant, variable, object, method, line, items}
-use Rattle.p8_definitions.specs.Rules.{count_in}
+use Rattle.p8_tree.specs.Sources.{Source}
+use Rattle.p8_definitions.specs.Items.{items}
 use Rattle.p8_kinds.specs.declared.children.Children.{Children}
 use Rattle.p8_kinds.specs.declared.kinds.Kinds.{Kinds}
 use Rattle.p8_kinds.specs.declared.name_kinds.NameKind.{NameKind}
 use Rattle.p8_kinds.specs.declared.name_kinds.NameKind.TheVariants as kind
 use Rattle.p8_kinds.specs.Kinds.{own, or_else, kind_of}
-use Rattle.p8_names.specs.Kinds.{methods, publics, privates, numbered, own_kind, method_setting, param_kinds, result_kind, local_kinds}
+use Rattle.p8_names.specs.Kinds.{methods, numbered}
 use Rattle.p8_names.specs.Resolution.{IsNamed}
 use Rattle.p8_placed.specs.Programs.{kind_by}
-
-abbrev pub IsOwn : Option NameKind → Type 0
-IsOwn None = Unit {0}
-IsOwn (Some (kind.Local offset)) = Unit {0}
-IsOwn (Some k) = ⊥
-
-own-where : (b : Bool) (x y : Option NameKind) → IsOwn x → IsOwn y → IsOwn (if b then x else y)
-own-where true x y p q = p
-own-where false x y p q = q
-
-own-locals : (s : Setting) (longs : ℕ) (xs : List Declared) (n : List ℕ) → IsOwn (lookup (bytes_eq n) (local_kinds s longs xs))
-own-locals s longs [] n = tt
-own-locals s longs (x ∷ xs) n = own-where (bytes_eq n x.name) (Some _) (lookup (bytes_eq n) (local_kinds s (longs + count_in s x.count) xs)) tt (own-locals s (longs + count_in s x.count) xs n)
-
-own-result : (o : Option (List ℕ)) (rest : List (List ℕ × NameKind)) (n : List ℕ) → IsOwn (lookup (bytes_eq n) rest) → IsOwn (lookup (bytes_eq n) (result_kind o ++ rest))
-own-result None rest n p = p
-own-result (Some m) rest n p = own-where (bytes_eq n m) (Some _) (lookup (bytes_eq n) rest) tt p
-
-own-params : (longs : ℕ) (ns : List (List ℕ)) (rest : List (List ℕ × NameKind)) (n : List ℕ) → IsOwn (lookup (bytes_eq n) rest) → IsOwn (lookup (bytes_eq n) (param_kinds longs ns ++ rest))
-own-params longs [] rest n p = p
-own-params longs (m ∷ ns) rest n p = own-where (bytes_eq n m) (Some _) (lookup (bytes_eq n) (param_kinds (longs + 1) ns ++ rest)) tt (own-params (longs + 1) ns rest n p)
-
-pub own-of : (s : Setting) (m : Option MethodTree) (n : List ℕ) → IsOwn (own_kind s m n)
-own-of s None n = tt
-own-of s (Some m) n =
-    let t = method_setting s m in
-    own-params 1 m.params (result_kind m.result_name ++ local_kinds t (length m.params + 1) m.locals) n
-    (own-result m.result_name (local_kinds t (length m.params + 1) m.locals) n (own-locals t (length m.params + 1) m.locals n))
-
-one-more : (b : Bool) (m : MethodTree) (ps qs : List MethodTree) (n : ℕ) → length ps + length qs ≡ n → length ((if b then m ∷ [] else []) ++ ps) + length ((if b then [] else m ∷ []) ++ qs) ≡ suc n
-one-more true m ps qs n e = omega (arith, e)
-one-more false m ps qs n e = omega (arith, e)
-
-split : (xs : List Item) → length (publics xs) + length (privates xs) ≡ length (methods xs)
-split [] = refl
-split (constant x ∷ xs) = split xs
-split (variable x ∷ xs) = split xs
-split (object x ∷ xs) = split xs
-split (method m ∷ xs) = one-more m.public m (publics xs) (privates xs) (length (methods xs)) (split xs)
-split (line x ∷ xs) = split xs
-
-pub count-is : (xs : List Item) → length (numbered xs) ≡ length (methods xs)
-count-is xs = length-append (publics xs) (privates xs) ∙ split xs
+use Rattle.p8_resolved.proofs.Counts.{count-is}
+use Rattle.p8_resolved.proofs.Own.{IsOwn, own-of}
 
 -- in which kinds a name is looked for
 abbrev pub number_by : Source → ℕ → ℕ

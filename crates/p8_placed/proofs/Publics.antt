@@ -34,8 +34,8 @@ use Rattle.p8_placed.specs.Programs.{file_of, program_of, with_sources}
 use Rattle.p8_placed.proofs.Files.{IsThere, program-at, changed-at, method-there}
 use Rattle.p8_placed.proofs.Counting.{element, few, changed-method}
 use Rattle.p8_placed.proofs.Instances.{IsProject, compiled-at}
-use Rattle.p8_placed.proofs.Seen.{seen-at}
-use Rattle.p8_placed.proofs.Distinct.{of-numbered}
+use Rattle.p8_resolved.proofs.Seen.{seen-at}
+use Rattle.p8_resolved.proofs.Distinct.{of-numbered}
 
 -- ---- what is shown of a file
 

@@ -35,7 +35,8 @@ use Rattle.p8_placed.proofs.Alike.{Alike}
 use Rattle.p8_placed.proofs.NamedSettings.{named-alike, kind-is}
 use Rattle.p8_placed.proofs.Files.{IsThere, object-at}
 use Rattle.p8_placed.proofs.Counting.{count-alike}
-use Rattle.p8_placed.proofs.OwnKinds.{IsOwn, own-of, count-is}
+use Rattle.p8_resolved.proofs.Counts.{count-is}
+use Rattle.p8_resolved.proofs.Own.{IsOwn, own-of}
 use Rattle.p8_placed.proofs.Instances.{IsProject, compiled-at}
 use Rattle.p8_placed.proofs.RoomsWays.{own-fits}
 

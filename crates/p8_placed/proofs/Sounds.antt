@@ -34,7 +34,7 @@ use Rattle.p8_placed.proofs.Files.{IsThere, method-there}
 use Rattle.p8_placed.proofs.Counting.{few, changed-method}
 use Rattle.p8_placed.proofs.NamedSettings.{kind-is}
 use Rattle.p8_placed.proofs.Objects.{IsItem, item-of}
-use Rattle.p8_placed.proofs.OwnKinds.{IsOwn, own-of}
+use Rattle.p8_resolved.proofs.Own.{IsOwn, own-of}
 use Rattle.p8_placed.proofs.Frames.{coded}
 use Rattle.p8_placed.proofs.Environments.{hiding-alike}
 use Rattle.p8_placed.proofs.Rooms.{Within, within-where, among-within, within-frame, longs-same, sizes, instances-some}
@@ -42,8 +42,8 @@ use Rattle.p8_placed.proofs.OwnSettings.{own-so}
 use Rattle.p8_placed.proofs.Instances.{IsProject, at-length, compiled-at}
 use Rattle.p8_placed.proofs.Placing.{of-file}
 use Rattle.p8_placed.proofs.Publics.{at-front, few-params}
-use Rattle.p8_placed.proofs.Words.{IsConstWord}
-use Rattle.p8_placed.proofs.Seen.{file-const}
+use Rattle.p8_resolved.proofs.Words.{IsConstWord}
+use Rattle.p8_resolved.proofs.Seen.{file-const}
 
 -- ---- a kind that is no local
 
@@ -210,7 +210,7 @@ module _ (files : List NamedSource) (children : List Children) (xs : List Compil
       omega (arith, some, h.count_is)
 
   pub sound-of : (name : List ℕ) (q : NameKind) → (names_of files file seen x k m).kind name ≡ Some q → HasRoom (names_of files file seen x k m) name q → IsSound (names_of files file seen x k m) t name q
-  sound-of name (kind.Const v) is room = subst IsConstWord (of-file-kind name (kind.Const v) refl is) (file-const files children project.children_are i.file file seen (i.file == 0) x there.stands there.beside whole.names name)
+  sound-of name (kind.Const v) is room = subst IsConstWord (of-file-kind name (kind.Const v) refl is) (file-const files children project.children_are i.file file seen (i.file == 0) x.kinds there.stands there.beside whole.names name)
   sound-of name (kind.Global size offset) is room =
       (sizes whole.names.setting file.tree name (kind.Global size offset) proper (among name (kind.Global size offset) refl (λ v e. absurd (cc)) is), room)
   sound-of name (kind.Local offset) is room = local-within offset name is

@@ -1,5 +1,5 @@
 -- The memory of the image of a project has the methods of its source.
-use Rattle.std.proofs.Common.{◌≡◌, inl, inr, ℕ, suc, ◌+◌, ◌-◌, ◌*◌, ◌%◌, ◌^◌, ◌<◌, ◌≤◌, ◌==◌, Bool, true, false, if◌then◌else◌, List, [], ◌∷◌, length, slice_get, Option, Some, None, refl, sym, ap, ◌∙◌, subst, arith}
+use Rattle.std.proofs.Common.{◌≡◌, inl, inr, ℕ, suc, ◌+◌, ◌-◌, ◌*◌, ◌%◌, ◌^◌, ◌<◌, ◌≤◌, Bool, true, false, if◌then◌else◌, List, [], ◌∷◌, length, slice_get, Option, Some, None, refl, sym, ap, ◌∙◌, subst, arith}
 use Rattle.std.specs.Str.{bytes_eq}
 use Rattle.std.proofs.lemmas.Bool.{cases_lt}
 use Rattle.std.proofs.lemmas.Option.{same_Some, none-some, slice_get_within}
@@ -46,7 +46,7 @@ use Rattle.p8_placed.specs.Programs.{file_of, program_of, with_sources, addresse
 use Rattle.p8_placed.specs.Agreements.{names_of, HaveRoom, NamesHaveRoom}
 use Rattle.p8_placed.proofs.Holding.{within}
 use Rattle.p8_placed.proofs.Tables.{stands-fits}
-use Rattle.p8_placed.proofs.Definitions.{same-bytes}
+use Rattle.p8_resolved.proofs.Counts.{same-bytes}
 use Rattle.p8_placed.proofs.Files.{IsThere, file-of, program-at, changed-at, object-at, method-place, method-there}
 use Rattle.p8_placed.proofs.Counting.{element, part-at}
 use Rattle.p8_image.proofs.Memories.{Lies}

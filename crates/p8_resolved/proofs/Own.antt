@@ -19,7 +19,7 @@ use Rattle.p8_resolved.proofs.Counts.{count-is}
 use Rattle.p8_resolved.proofs.Distinct.{own-apart, own-name}
 
 -- nothing, or a long of the frame
-abbrev IsOwn : Option NameKind → Type 0
+abbrev pub IsOwn : Option NameKind → Type 0
 IsOwn None = Unit {0}
 IsOwn (Some k) = IsLocal k
 
@@ -39,7 +39,7 @@ own-params : (longs : ℕ) (ns : List (List ℕ)) (rest : List (List ℕ × Name
 own-params longs [] rest n p = p
 own-params longs (m ∷ ns) rest n p = own-where (bytes_eq n m) (Some _) (lookup (bytes_eq n) (param_kinds (longs + 1) ns ++ rest)) tt (own-params (longs + 1) ns rest n p)
 
-own-of : (s : Setting) (m : Option MethodTree) (n : List ℕ) → IsOwn (own_kind s m n)
+pub own-of : (s : Setting) (m : Option MethodTree) (n : List ℕ) → IsOwn (own_kind s m n)
 own-of s None n = tt
 own-of s (Some m) n =
     let t = method_setting s m in
