@@ -182,6 +182,36 @@ def wave_of_pins(text):
     return found, time
 
 
+# Pictures of pins
+
+MARKS = "▁▔╳", "_-X"
+COLUMNS = 110
+
+
+def picture(trace, script, view):
+    """The pins of a view, which is pins, the first clock, the clock after the last one, and the marks, as text."""
+    pins, first, last, (low, high, changing) = view
+    end = min(last, trace.end)
+    width = max(1, -(-(end - first) // COLUMNS))
+    starts = list(range(first, end, width))
+    lines = []
+    for pin in sorted(pins):
+        changes = levels(trace, script, pin)
+        clocks = [clock for clock, _ in changes]
+        row = f"P{pin}".ljust(4)
+        for start in starts:
+            at = bisect.bisect_right(clocks, start)
+            is_constant = at == len(clocks) or clocks[at] >= min(start + width, end)
+            row += (high if changes[at - 1][1] else low) if is_constant else changing
+        lines.append(row)
+    if starts:
+        ticks = starts[::10]
+        lines += [
+            "    " + "".join(text.ljust(10) for text in row).rstrip() for row in (["|"] * len(ticks), map(str, ticks))
+        ]
+    return "".join(line + "\n" for line in lines).encode()
+
+
 # History files
 
 # For each kind of access: the numbers that its further byte may be, and what a, b and c stay below.
