@@ -235,10 +235,6 @@ loop-proper : (place : Place) (o : Option Course) (body : Statements) → IfSome
 loop-proper place None body h k = tt
 loop-proper place (Some course) body h k = (tt, (h, k))
 
-some-test : (xs : Items) (number : Tree → Option ℕ) → IsTrue (not (is_no_item xs)) → IsTrue (not (is_no_item (items_with number xs)))
-some-test no_items number h = h
-some-test (xs ▸ x) number h = h
-
 module _ (c : Constants) (words : AreWords c) where
   gives : GivesWords (shorter_number c)
   gives = record { by = shorter-word c words }
@@ -321,4 +317,4 @@ module _ (c : Constants) (words : AreWords c) where
     choices-proper : (arms : Arms) → AreProperChoices arms → AreProperChoices (folded_arms c arms)
     choices-proper no_arms h = tt
     choices-proper (arms ⊳ arm tests negated body) h =
-        (choices-proper arms h.0, (h.1.0, some-test tests (shorter_number c) h.1.1, tests-proper tests h.1.2, body-proper body h.1.3))
+        (choices-proper arms h.0, (h.1.0, some_item (shorter_number c) gives tests h.1.1, tests-proper tests h.1.2, body-proper body h.1.3))
