@@ -1,4 +1,6 @@
 // Worked runs as waves.
+ghost use Rattle.std.specs.Prelude.{◌≤◌, length};
+
 use p8_access::{Boot, Origin};
 use p8_ledger::{Ended, Limits};
 use p8_machine::run_alone;
@@ -31,7 +33,9 @@ const WOKEN: &[u8] = b"$version Propeller P8X32A $end\n$timescale 100 ps $end\n\
     #2500000\n";
 
 /// The wave of a run of a raw program over 20,000 clocks, without a pin script.
-fn raw_wave(alloc: Global, program: &[u8], selection: Selection) -> Result<Vec<u8>, NoMemory> {
+fn raw_wave(alloc: Global, program: &[u8], selection: Selection) -> Result<Vec<u8>, NoMemory>
+    requires { length program.now ≤ 32768 }
+{
     let limits = Limits {
         clocks: 20_000,
         turns: 100_000,
