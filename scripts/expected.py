@@ -391,7 +391,7 @@ class Words:
 
 def is_command(words, knows_short):
     """Whether words are a command."""
-    if not words:
+    if not words or any("\udc80" <= letter <= "\udcff" for word in words for letter in word):
         return False
     command, *rest = words
     if command == "help":

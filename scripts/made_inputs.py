@@ -463,7 +463,8 @@ def script(random):
 
 COMMANDS = "build list raw run save check serial type wave convert make help".split()
 ODD_WORDS = [
-    *("", " 1", "-1", "+1", "1e3", "0x10", "99999999999", "-", "--"),
+    # The last of these is a byte that isn't UTF-8.
+    *("", " 1", "-1", "+1", "1e3", "0x10", "99999999999", "-", "--", "a\nb", "é", "\udcff"),
     *("-h", "--help", "--alone", "--raw", "--all", "--turns", "--dump=0000:1", "--pins=", "--pins"),
 ]
 

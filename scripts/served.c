@@ -31,8 +31,6 @@
 #include <time.h>
 #include <unistd.h>
 
-#define MOST_WORDS 64
-
 // What fails: the call of that number, or with a capital letter that one and all after it. SLOW threads don't fail: the
 // number is that of a schedule.
 enum kind { NOTHING = '-', MEMORY = 'm', THREADS = 't', READS = 'r', WRITES = 'w', SLOW = 's' };
@@ -170,8 +168,8 @@ static void bound(int timer, const char *seconds) {
   setitimer(timer, &limit, NULL);
 }
 
-// Where a run begins: its words, and after them the environment, as a program finds them.
-static int begin(char **place, char **words) {
+// Where a run begins. Gives the number of its words, the program's name among them.
+static int begin(char **place, char ***words) {
   lead_to(next(place), 1);
   lead_to(next(place), 2);
   bound(ITIMER_PROF, next(place));
@@ -183,11 +181,13 @@ static int begin(char **place, char **words) {
     failing = NOTHING;
   number = atoi(next(place));
   int count = atoi(next(place));
-  words[0] = "prop";
+  // Behind the words stands an environment, as a program finds it, which is empty.
+  char **own = __libc_malloc((count + 3) * sizeof *own);
+  own[0] = "prop";
   for (int at = 1; at <= count; at++)
-    words[at] = next(place);
-  words[count + 1] = NULL;
-  words[count + 2] = NULL;
+    own[at] = next(place);
+  own[count + 1] = own[count + 2] = NULL;
+  *words = own;
   return count + 1;
 }
 
@@ -202,7 +202,7 @@ static void pass(char **place) {
 static int32_t microseconds(struct timeval time) { return time.tv_sec * 1000000 + time.tv_usec; }
 
 // Serves until the socket is closed; returns in each child, with its words.
-static int serve(int socket, char **words) {
+static int serve(int socket, char ***words) {
   for (;;) {
     uint32_t length;
     take(socket, &length, sizeof length);
@@ -233,13 +233,11 @@ typedef int starter(main_of *, int, char **, void (*)(void), void (*)(void), voi
 
 int __libc_start_main(main_of *main, int count, char **words, void (*init)(void), void (*fini)(void),
                       void (*ended)(void), void *stack) {
-  static char *own[MOST_WORDS + 3];
   starter *real = (starter *)dlsym(RTLD_NEXT, "__libc_start_main");
   const char *socket = getenv("SERVED");
   if (socket) {
     calls = mmap(NULL, sizeof *calls, PROT_READ | PROT_WRITE, MAP_SHARED | MAP_ANONYMOUS, -1, 0);
-    count = serve(atoi(socket), own);
-    words = own;
+    count = serve(atoi(socket), &words);
   }
   return real(main, count, words, init, fini, ended, stack);
 }
