@@ -1,14 +1,14 @@
-mod Lists
+pub mod Lists
 mod Firsts
 pub mod Methods
-mod Ready
-mod One
+pub mod Ready
+pub mod One
 mod Refusals
 mod Numbering
 mod OneByOne
 mod Making
-mod Wholes
+pub mod Wholes
 mod Uniqueness
-mod Here
+pub mod Here
 mod Counting
 mod WholeCode

@@ -12,7 +12,7 @@ use Rattle.p8_faults.specs.declared.faults.Fault.{Fault}
 use Rattle.p8_faults.specs.Faults.{IsFirstFault, is_same_place}
 use Rattle.p8_fold.specs.Entries.{setting_of as setting_in}
 use Rattle.p8_fold.specs.Meanings.{Setting}
-use Rattle.p8_definitions.specs.Items.{items}
+use Rattle.p8_definitions.specs.Items.{Item, items}
 use Rattle.p8_definitions.specs.Standing.{IsFirstOf}
 use Rattle.p8_kinds.specs.declared.children.Children.{Children}
 use Rattle.p8_kinds.specs.declared.kinds.Kinds.{Kinds}
@@ -37,7 +37,7 @@ use Rattle.p8_build.specs.Parts.{method_part, method_parts, text_number, strings
 use Rattle.p8_build.specs.Files.{CompiledFile, method_names, IsCode, IsCodeFault, of_method, too_many, object_of, are_too_many, IsFirstTooMany}
 use Rattle.p8_build.specs.Numbers.{number_in, number_by, AreNumbers, use_by}
 use Rattle.p8_build.specs.Coding as coding
-use Rattle.p8_build.specs.Coding.{names_by, AreReady, part_by, IsPart, IsFaultOfOne, of_one, ArePartsOf, IsCoded, IsOneTooMany}
+use Rattle.p8_build.specs.Coding.{AreReady, part_by, parts_by, IsPart, IsFaultOfOne, of_one, ArePartsOf, IsCoded, IsOneTooMany}
 use Rattle.p8_build.specs.Phases.{compiled, IsObjectOf, IsCodeFaultOf, object_by}
 use Rattle.p8_build.specs.declared.coding.Coded.{Coded}
 use Rattle.p8_build.specs.declared.coding.FileTables.{FileTables}
@@ -122,3 +122,22 @@ module _ (source : Source) (children : Children) (kinds : Kinds) (dat : Dat) (na
     where
       one_part : (c : MethodCode) (m : MethodTree) (p part : MethodPart) → part ≡ p → p ≡ part_by number m c → part ≡ method_part strings m c
       one_part c m p part a b = a ∙ b ∙ ap (λ (f : Place → ℕ). part_by f m c) numbers
+
+-- ---- the object of a file with these codes
+
+parts_with : (strings : List (Place × List ℕ)) (ms : List MethodTree) (codes : List MethodCode) → parts_by (text_number strings) ms codes ≡ method_parts strings ms codes
+parts_with strings [] codes = refl
+parts_with strings (m ∷ ms) [] = refl
+parts_with strings (m ∷ ms) (code ∷ codes) = ap (λ ps. method_part strings m code ∷ ps) (parts_with strings ms codes)
+
+pub coded_object : (files : List NamedSource) (source : Source) (children : Children) (kinds : Kinds) (dat : Dat) (codes : List MethodCode) (s : Setting) (xs : List Item) (ms : List MethodTree) (number : Place → ℕ) (strings : List (Place × List ℕ)) (parts : List MethodPart) (object : ObjectPart)
+    → s ≡ file_setting kinds children → xs ≡ items source → ms ≡ numbered (items source) → ◌≡◌ {A = Place → ℕ} number (text_number strings) → strings ≡ strings_of source
+    → parts ≡ parts_by number ms codes → object ≡ object_by files s xs dat.bytes parts (map (λ x. x.1) strings) → object ≡ object_of files source children (compiled kinds dat codes)
+coded_object files source children kinds dat codes s xs ms number strings parts object setting whole methods numbers texts are is =
+    let made : parts ≡ method_parts strings (numbered (items source)) codes =
+    are ∙ ap (λ (f : Place → ℕ). parts_by f ms codes) numbers ∙ parts_with strings ms codes ∙ ap (λ ns. method_parts strings ns codes) methods in
+    is
+    ∙ ap (λ (ps : List MethodPart). object_by files s xs dat.bytes ps (map (λ x. x.1) strings)) made
+    ∙ ap (λ (ys : List Item). object_by files s ys dat.bytes (method_parts strings (numbered (items source)) codes) (map (λ x. x.1) strings)) whole
+    ∙ ap (λ (t : Setting). object_by files t (items source) dat.bytes (method_parts strings (numbered (items source)) codes) (map (λ x. x.1) strings)) setting
+    ∙ ap (λ (ts : List (Place × List ℕ)). object_by files (file_setting kinds children) (items source) dat.bytes (method_parts ts (numbered (items source)) codes) (map (λ x. x.1) ts)) texts

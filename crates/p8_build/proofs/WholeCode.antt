@@ -43,7 +43,7 @@ abbrev pub names_with : Kinds → Tables → ℕ → MethodTree → Names
 names_with kinds tables k m = names_from kinds (k + 1) tables m.place
 
 -- the words of texts
-words_are : (ss : List StringText) → map (λ (s : StringText). (text_of s).1) ss ≡ map (λ (x : Place × List ℕ). x.1) (map text_of ss)
+pub words_are : (ss : List StringText) → map (λ (s : StringText). (text_of s).1) ss ≡ map (λ (x : Place × List ℕ). x.1) (map text_of ss)
 words_are [] = refl
 words_are (s ∷ ss) = ap (λ ws. (text_of s).1 ∷ ws) (words_are ss)
 

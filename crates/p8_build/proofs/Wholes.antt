@@ -33,11 +33,12 @@ use Rattle.p8_image.specs.Clocks.{clock_of}
 use Rattle.p8_image.specs.Projects.{IsMain, HasMain, BeginsWithMain}
 use Rattle.p8_stmt.specs.declared.code.MethodCode.{MethodCode}
 use Rattle.p8_stmt.specs.Methods.{IsCodeOf}
+use Rattle.p8_build.specs.declared.building.Accepted.{Accepted}
 use Rattle.p8_build.specs.declared.building.Built.{Built}
 use Rattle.p8_build.specs.Parts.{strings_of, method_part, method_parts}
 use Rattle.p8_build.specs.Files.{CompiledFile, method_names, IsCompiled, object_of}
 use Rattle.p8_build.specs.Builds.{IsFile, IsRefusal, of_image, IsImageFault, AreCompiled, objects_from, objects_of, constant_named, constant_value, clock_by}
-use Rattle.p8_build.specs.Phases.{AreNamed, compiled, AreAssembled, AreObjects, IsObjectOf, clock_in, IsFinished, IsFirstAt, IsBuiltBy}
+use Rattle.p8_build.specs.Phases.{AreNamed, compiled, AreAssembled, AreObjects, IsObjectOf, clock_in, IsFinished, IsFirstAt, IsAccepted, IsBuiltBy}
 use Rattle.p8_build.proofs.Lists.{element, one_element, Each, choose}
 use Rattle.p8_build.proofs.Firsts.{refusal, first_of}
 use Rattle.p8_build.proofs.Methods.{first_public}
@@ -46,7 +47,7 @@ use Rattle.p8_build.proofs.Refusals.{ImageFaulty, image_faulty, one_file, IsObje
 
 -- ---- the objects
 
-objects_are : (all fs : List NamedSource) (cs : List Children) (xs : List CompiledFile) (os : List ObjectPart) → length cs ≡ length fs → length xs ≡ length fs → length os ≡ length fs
+pub objects_are : (all fs : List NamedSource) (cs : List Children) (xs : List CompiledFile) (os : List ObjectPart) → length cs ≡ length fs → length xs ≡ length fs → length os ≡ length fs
     → ((i : ℕ) (f : NamedSource) (c : Children) (x : CompiledFile) (o : ObjectPart) → slice_get fs i ≡ Some f → slice_get cs i ≡ Some c → slice_get xs i ≡ Some x → slice_get os i ≡ Some o → o ≡ object_of all f.tree c x) → os ≡ objects_from all fs cs xs
 objects_are all [] cs xs [] a b d each = refl
 objects_are all [] cs xs (o ∷ os) a b d each = absurd (omega arith)
@@ -56,7 +57,7 @@ objects_are all (f ∷ fs) (c ∷ cs) (x ∷ xs) [] a b d each = absurd (omega a
 objects_are all (f ∷ fs) (c ∷ cs) (x ∷ xs) (o ∷ os) a b d each =
     ap (λ y. y ∷ os) (each 0 f c x o refl refl refl refl) ∙ ap (λ ys. object_of all f.tree c x ∷ ys) (objects_are all fs cs xs os (omega arith) (omega arith) (omega arith) (λ i. each (suc i)))
 
-objects_same : (all fs : List NamedSource) (cs : List Children) (xs ys : List CompiledFile) → length cs ≡ length fs → length xs ≡ length fs → length ys ≡ length fs
+pub objects_same : (all fs : List NamedSource) (cs : List Children) (xs ys : List CompiledFile) → length cs ≡ length fs → length xs ≡ length fs → length ys ≡ length fs
     → ((i : ℕ) (f : NamedSource) (c : Children) (x y : CompiledFile) → slice_get fs i ≡ Some f → slice_get cs i ≡ Some c → slice_get xs i ≡ Some x → slice_get ys i ≡ Some y → object_of all f.tree c x ≡ object_of all f.tree c y) → objects_from all fs cs xs ≡ objects_from all fs cs ys
 objects_same all [] cs xs ys a b d each = refl
 objects_same all (f ∷ fs) [] xs ys a b d each = absurd (omega arith)
@@ -143,23 +144,23 @@ four_times : (n : ℕ) → 4 * n % 4 ≡ 0
 four_times n = omega arith
 
 -- a method that is compiled can be started
-is_main : (strings : List (Place × List ℕ)) (names : Names) (m : MethodTree) (code : MethodCode) → IsCodeOf names m code → IsMain (method_part strings m code)
+pub is_main : (strings : List (Place × List ℕ)) (names : Names) (m : MethodTree) (code : MethodCode) → IsCodeOf names m code → IsMain (method_part strings m code)
 is_main strings names m code h = record {
   code = subst (λ (bytes : List ℕ). 0 < length bytes) (sym h.bytes) (code_before _ _);
   parameters = four_times (length m.params);
   locals = ap (λ n. n % 4) h.locals ∙ four_times _;
 }
 
-not_lacking : (b : Bool) → (IsTrue (true && not b) → ⊥) → b ≡ true
+pub not_lacking : (b : Bool) → (IsTrue (true && not b) → ⊥) → b ≡ true
 not_lacking true h = refl
 not_lacking false h = absurd (h refl)
 
-main_first : (strings : List (Place × List ℕ)) (ms : List MethodTree) (codes : List MethodCode) → 0 < length ms → length codes ≡ length ms → ((m : MethodTree) (c : MethodCode) → slice_get ms 0 ≡ Some m → slice_get codes 0 ≡ Some c → IsMain (method_part strings m c)) → HasMain (method_parts strings ms codes)
+pub main_first : (strings : List (Place × List ℕ)) (ms : List MethodTree) (codes : List MethodCode) → 0 < length ms → length codes ≡ length ms → ((m : MethodTree) (c : MethodCode) → slice_get ms 0 ≡ Some m → slice_get codes 0 ≡ Some c → IsMain (method_part strings m c)) → HasMain (method_parts strings ms codes)
 main_first strings [] codes l e is = absurd (omega arith)
 main_first strings (m ∷ ms) [] l e is = absurd (omega arith)
 main_first strings (m ∷ ms) (c ∷ cs) l e is = is m c refl refl
 
-has_methods : (source : Source) → has_public (items source) ≡ true → 0 < length (numbered (items source))
+pub has_methods : (source : Source) → has_public (items source) ≡ true → 0 < length (numbered (items source))
 has_methods source e =
     let first = first_public (items source) e in
     omega (arith, length-append (publics (items source)) (privates (items source)), ap length first.2)
@@ -182,15 +183,28 @@ begins_with_main files children named objects l beside h =
 -- ---- the image
 
 -- the clock by the names in hand
-clock_is : (xs : List CompiledFile) (named : List Named) (n : Named) → 0 < length xs → slice_get named 0 ≡ Some n → ((x : CompiledFile) → slice_get xs 0 ≡ Some x → x.kinds ≡ n.kinds) → clock_in n.kinds ≡ clock_by xs
+pub clock_is : (xs : List CompiledFile) (named : List Named) (n : Named) → 0 < length xs → slice_get named 0 ≡ Some n → ((x : CompiledFile) → slice_get xs 0 ≡ Some x → x.kinds ≡ n.kinds) → clock_in n.kinds ≡ clock_by xs
 clock_is [] named n l at same = absurd (omega arith)
 clock_is (x ∷ xs) named n l at same = ap clock_in (sym (same x refl))
 
-pub built_by : (files : List NamedSource) (children : List Children) (named : List Named) (n : Named) (objects : List ObjectPart) (b : Built) → 0 < length files → AreObjects files children named objects → slice_get named 0 ≡ Some n → IsFinished (clock_in n.kinds) objects b → IsBuiltBy files children b
-built_by files children named n objects b l h at done = record {
-  compiled = h.xs;
-  each = h.compiled;
-  finished = subst (λ (os : List ObjectPart). IsFinished (clock_by h.xs) os b) h.are (subst (λ (o : Option Clock). IsFinished o objects b) (clock_is h.xs named n (omega (arith, h.compiled.count)) at (λ x there. h.kinds 0 n x at there)) done);
+-- the image that the names of the top file give
+pub finished_by : (files : List NamedSource) (children : List Children) (named : List Named) (n : Named) (objects : List ObjectPart) (b : Built) → 0 < length files → (h : AreObjects files children named objects) → slice_get named 0 ≡ Some n → IsFinished (clock_in n.kinds) objects b → IsFinished (clock_by h.xs) objects b
+finished_by files children named n objects b l h at done =
+    subst (λ (o : Option Clock). IsFinished o objects b) (clock_is h.xs named n (omega (arith, h.compiled.count)) at (λ x there. h.kinds 0 n x at there)) done
+
+pub accepted_by : (files : List NamedSource) (children : List Children) (a : Accepted) (objects : List ObjectPart) → AreNamed files children a.named → AreAssembled files children a.named a.assembled → (h : AreObjects files children a.named objects) → IsFinished (clock_by h.xs) objects a.built → IsAccepted files children a
+accepted_by files children a objects names dats h done = record {
+  named = names;
+  assembled = dats;
+  objects = record { xs = h.xs; compiled = h.compiled; kinds = h.kinds; are = done.objects_are ∙ h.are };
+  finished = subst (λ (os : List ObjectPart). IsFinished (clock_by h.xs) os a.built) (sym done.objects_are) done;
+}
+
+pub built_by : (files : List NamedSource) (children : List Children) (a : Accepted) → IsAccepted files children a → IsBuiltBy files children a.built
+built_by files children a is = record {
+  compiled = is.objects.xs;
+  each = is.objects.compiled;
+  finished = subst (λ (os : List ObjectPart). IsFinished (clock_by is.objects.xs) os a.built) is.objects.are is.finished;
 }
 
 below_three : (p : ℕ) → p < 3 → (p < 2) ⊎ (p ≡ 2)

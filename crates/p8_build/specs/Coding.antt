@@ -33,6 +33,11 @@ part_by number m code = record {
   uses = map (use_by number) code.strings;
 }
 
+-- methods with their codes, one by one
+abbrev pub parts_by : (Place → ℕ) → List MethodTree → List MethodCode → List MethodPart
+parts_by number (m ∷ ms) (code ∷ codes) = part_by number m code ∷ parts_by number ms codes
+parts_by number _ _ = []
+
 pub record IsPart (names : Names) (number : Place → ℕ) (m : MethodTree) (part : MethodPart) : Type 0 where
   pub code : MethodCode
   pub right : IsCodeOf names m code

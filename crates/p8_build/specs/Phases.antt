@@ -24,6 +24,7 @@ use Rattle.p8_image.specs.Layout.{header_by, image_of}
 use Rattle.p8_image.specs.Loading.{image_in}
 use Rattle.p8_image.specs.Projects.{FitsHub}
 use Rattle.p8_stmt.specs.declared.code.MethodCode.{MethodCode}
+use Rattle.p8_build.specs.declared.building.Accepted.{Accepted}
 use Rattle.p8_build.specs.declared.building.Built.{Built}
 use Rattle.p8_build.specs.declared.fault.FileFault.{FileFault}
 use Rattle.p8_build.specs.Parts.{variable_in, instances_of}
@@ -147,3 +148,10 @@ pub record IsBuiltBy (files : List NamedSource) (children : List Children) (b : 
   pub compiled : List CompiledFile
   pub each : AreCompiled files children compiled
   pub finished : IsFinished (clock_by compiled) (objects_of files children compiled) b
+
+-- what the files of an accepted project come to
+pub record IsAccepted (files : List NamedSource) (children : List Children) (a : Accepted) : Type 0 where
+  pub named : AreNamed files children a.named
+  pub assembled : AreAssembled files children a.named a.assembled
+  pub objects : AreObjects files children a.named a.built.objects
+  pub finished : IsFinished (clock_by objects.xs) a.built.objects a.built

@@ -4,7 +4,7 @@ ghost use Rattle.p8_tree.specs.Views.{named_sources_of, named_source_of};
 ghost use Rattle.p8_children.specs.Mentions.{HaveMentioned, HaveNoRing};
 ghost use Rattle.p8_build.specs.Parts.{AreProper, most_files};
 ghost use Rattle.p8_build.specs.Told.{IsBuiltTo, IsImageBuilt, IsRefusal};
-ghost use Rattle.p8_build.specs.Phases.{IsBuiltBy, IfFirstRefused};
+ghost use Rattle.p8_build.specs.Phases.{IsAccepted, IsBuiltBy, IfFirstRefused};
 
 use crate::assembling::assemble_all;
 use crate::fault::{BuildFault, FileFault, in_file, told};
@@ -12,6 +12,7 @@ use crate::finishing::finish;
 use crate::naming::resolve_all;
 use crate::objects::objects_of_all;
 use p8_children::children_of;
+use p8_dat::Dat;
 use p8_image::{Image, ObjectPart};
 use p8_kinds::{Children, Named};
 use p8_tree::{List, Project, ProjectFile};
@@ -73,6 +74,33 @@ pub fn build(alloc: Global, project: &Project) -> Result<Image, BuildFault>
     Ok(image)
 }
 
+/// What the files of a project that is accepted come to, in their order.
+#[derive(Drop)]
+pub struct Accepted<'a> {
+    /// Their names.
+    pub named: List<Named<'a>>,
+    /// Their data.
+    pub assembled: List<Dat>,
+    /// What the project is built to.
+    pub built: Built,
+}
+
+impl Accepted<'_> {
+    /// What the project is built to.
+    pub fn into_built(self) -> Built
+        ensures { result ≡ self.entry.built }
+    {
+        let Accepted {
+            named,
+            assembled,
+            built,
+        } = self;
+        drop(named);
+        drop(assembled);
+        built
+    }
+}
+
 /// Builds files by what they see of their objects.
 fn build_files(
     alloc: Global,
@@ -86,11 +114,39 @@ fn build_files(
     ensures built { IfOk result (IsBuiltBy (map named_source_of files.now) children.now) }
     ensures refused { IfErr result (IfFirstRefused (map named_source_of files.now) children.now) }
 {
+    let accepted = accept(alloc, files, children)?;
+    Ok(accepted.into_built())
+}
+
+/// What files come to, by what they see of their objects, or their first refusal.
+///
+/// The files are those of a project with the top file first, and what each sees is that of [`children_of`].
+///
+/// # Errors
+///
+/// `Refused` with the first refusal: by phase, then by file in their order, then by place, then by number, as
+/// [`build_parts`] tells it. `NoMemory` may come at any point.
+pub fn accept<'a>(
+    alloc: Global,
+    files: &'a [ProjectFile],
+    children: &'a [Children],
+) -> Result<Accepted<'a>, Fail<FileFault>>
+    requires first { 0 < length files.now }
+    requires few { length files.now ≤ most_files }
+    requires proper { AreProper (map named_source_of files.now) }
+    requires children { length children.now ≡ length files.now }
+    ensures accepted { IfOk result (IsAccepted (map named_source_of files.now) children.now) }
+    ensures refused { IfErr result (IfFirstRefused (map named_source_of files.now) children.now) }
+{
     let named = resolve_all(alloc, files, children)?;
-    let data = assemble_all(alloc, named.as_slice())?;
-    let objects = objects_of_all(alloc, files, named.as_slice(), data.as_slice())?;
+    let assembled = assemble_all(alloc, named.as_slice())?;
+    let objects = objects_of_all(alloc, files, named.as_slice(), assembled.as_slice())?;
     match finish(alloc, &named.as_slice()[0].kinds, objects) {
-        Ok(built) => Ok(built),
+        Ok(built) => Ok(Accepted {
+            named,
+            assembled,
+            built,
+        }),
         Err(fail) => Err(in_file(0, fail)),
     }
 }

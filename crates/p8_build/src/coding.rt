@@ -5,7 +5,7 @@ ghost use Rattle.p8_fold.specs.Entries.{setting_of};
 ghost use Rattle.p8_stmt.specs.Methods.{AreResolved};
 ghost use Rattle.p8_definitions.specs.Standing.{IsFirstOf};
 ghost use Rattle.p8_build.specs.Numbers.{number_by};
-ghost use Rattle.p8_build.specs.Coding.{part_by, names_by, AreReady, IsOneTooMany, IsCoded, IsOneMore};
+ghost use Rattle.p8_build.specs.Coding.{part_by, parts_by, names_by, AreReady, IsOneTooMany, IsCoded, IsOneMore};
 
 use crate::texts::TextNumbers;
 use p8_definitions::first_of_two;
@@ -14,7 +14,7 @@ use p8_gen::Tables;
 use p8_image::MethodPart;
 use p8_kinds::Kinds;
 use p8_stmt::{MethodCode, method_code};
-use p8_tree::{List, Method};
+use p8_tree::{List, Method, Text};
 use p8_words::{Fail, NoMemory};
 use std::alloc::{AllocError, Global};
 
@@ -93,6 +93,50 @@ fn number_behind(index: usize) -> Result<u32, NoMemory>
     match u32::try_from(index) {
         Ok(index) if index < u32::MAX => Ok(index + 1),
         _ => Err(NoMemory),
+    }
+}
+
+/// The parts of methods with these codes, one for each.
+pub(crate) fn parts_of(
+    alloc: Global,
+    methods: &[&Method],
+    codes: &[MethodCode],
+    texts: &TextNumbers,
+) -> Result<List<MethodPart>, NoMemory>
+    requires { length codes.now ≡ length methods.now }
+    ensures { IfOk result (λ parts. parts ≡ parts_by (number_by texts.now) (map (λ m. method_of m.now) methods.now) codes.now) }
+{
+    let mut parts = List::new(alloc);
+    for (index, method) in methods.iter().enumerate() {
+        parts.push(part_with(alloc, method, &codes[index], texts)?)?;
+    }
+    Ok(parts)
+}
+
+/// The part of a method with a copy of this code.
+fn part_with(
+    alloc: Global,
+    method: &Method,
+    code: &MethodCode,
+    texts: &TextNumbers,
+) -> Result<MethodPart, NoMemory>
+    ensures { IfOk result (λ part. part ≡ part_by (number_by texts.now) (method_of method.now) code.now) }
+{
+    Ok(MethodPart {
+        parameters: parameters_size(method)?,
+        locals: code.locals,
+        code: Text::copy_of(alloc, code.bytes.as_slice())?,
+        uses: texts.uses(alloc, code.strings.as_slice())?,
+    })
+}
+
+/// The bytes of a method's parameters: there is no memory for more than a number tells.
+fn parameters_size(method: &Method) -> Result<u16, NoMemory>
+    ensures { IfOk result (λ size. size ≡ 4 * length method.now.params) }
+{
+    match u16::try_from(method.params.len()) {
+        Ok(count) => count.checked_mul(4).ok_or(NoMemory),
+        Err(_) => Err(NoMemory),
     }
 }
 

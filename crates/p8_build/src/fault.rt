@@ -35,9 +35,11 @@ impl From<NoMemory> for BuildFault {
 
 /// A fault of a file, by the file's number among those of a project.
 #[derive(Clone, Copy)]
-pub(crate) struct FileFault {
-    pub(crate) file: usize,
-    pub(crate) fault: Fault,
+pub struct FileFault {
+    /// The number of the file, counted from 0.
+    pub file: usize,
+    /// What is wrong with it.
+    pub fault: Fault,
 }
 
 /// The failure of the file of this number.
@@ -50,8 +52,9 @@ pub(crate) fn in_file(file: usize, fail: Fail<Fault>) -> Fail<FileFault>
     }
 }
 
-/// What is told of a fault of a file.
-pub(crate) fn told(alloc: Global, file: &ProjectFile, fault: Fault) -> BuildFault
+/// What is told of a fault of a file: the file's name, and the fault's number and place; or `NoMemory` where there is none
+/// for the name.
+pub fn told(alloc: Global, file: &ProjectFile, fault: Fault) -> BuildFault
     ensures { IsToldOf (named_source_of file.now) fault result }
 {
     match Text::copy_of(alloc, file.name.as_slice()) {

@@ -17,13 +17,15 @@ use std::alloc::{AllocError, Global};
 /// Where a whole project is refused: the beginning of its top file.
 const START: Place = Place { line: 1, column: 1 };
 
-/// The image of a project with the top file's names and these objects, or why there is none: it is too large, or else no clock is
-/// told.
-pub(crate) fn finish(
-    alloc: Global,
-    kinds: &Kinds,
-    objects: List<ObjectPart>,
-) -> Result<Built, Fail<Fault>>
+/// The image of a project with the top file's names and these objects.
+///
+/// The first object is that of the top file, whose first method is started.
+///
+/// # Errors
+///
+/// `Refused` with 28 where the first frame would end after the hub's 32,768 bytes, else with 29 where the clock's constants
+/// tell none, both at the beginning of the top file. `NoMemory` may come at any point.
+pub fn finish(alloc: Global, kinds: &Kinds, objects: List<ObjectPart>) -> Result<Built, Fail<Fault>>
     requires { BeginsWithMain objects }
     ensures built { IfOk result (IsFinished (clock_in kinds.now) objects) }
     ensures refused { IfErr result (IfFirstImageFault objects (clock_in kinds.now)) }

@@ -11,6 +11,8 @@ mod naming;
 mod objects;
 mod texts;
 
-pub use building::{Built, build, build_parts};
-pub use fault::BuildFault;
+pub use building::{Accepted, Built, accept, build, build_parts};
+pub use fault::{BuildFault, FileFault, told};
+pub use finishing::finish;
 pub use laws::one_build;
+pub use objects::object_of_codes;

@@ -6,13 +6,15 @@ ghost use Rattle.p8_tree.specs.Views.{source_of, child_of, declared_of, named_so
 ghost use Rattle.p8_faults.specs.Faults.{IsFirstFault};
 ghost use Rattle.p8_fold.specs.Entries.{setting_of};
 ghost use Rattle.p8_definitions.specs.Standing.{item_of as item_tree, items_of as item_trees};
-ghost use Rattle.p8_names.specs.Kinds.{object_in, objects};
+ghost use Rattle.p8_definitions.specs.Items.{items};
+ghost use Rattle.p8_names.specs.Kinds.{numbered as numbered_methods, object_in, objects};
 ghost use Rattle.p8_build.specs.Parts.{most_files, number_of, variable_in, instances_of, AreProper};
+ghost use Rattle.p8_build.specs.Files.{object_of};
 ghost use Rattle.p8_build.specs.Numbers.{text_of};
-ghost use Rattle.p8_build.specs.Phases.{AreNamed, seen_by, AreAssembled, AreObjects, IfFirst, IfFault, IsNamedSo, IsObjectOf, IsCodeFaultOf, object_by};
+ghost use Rattle.p8_build.specs.Phases.{AreNamed, seen_by, AreAssembled, AreObjects, IfFirst, IfFault, IsNamedSo, IsObjectOf, IsCodeFaultOf, object_by, compiled};
 
 use crate::assembling::instances;
-use crate::coding::{Coded, FileTables, code_of_all, first_too_many};
+use crate::coding::{Coded, FileTables, code_of_all, first_too_many, parts_of};
 use crate::fault::{FileFault, in_file};
 use crate::texts::{TextNumbers, copies_of, strings_of_all};
 use p8_dat::Dat;
@@ -21,8 +23,9 @@ use p8_faults::Fault;
 use p8_fold::Consts;
 use p8_gen::Tables;
 use p8_image::{MethodPart, ObjectPart, Variable};
-use p8_kinds::Named;
+use p8_kinds::{Named, consts_of};
 use p8_names::numbered;
+use p8_stmt::MethodCode;
 use p8_strings::StringText;
 use p8_tree::{List, ProjectFile, Text};
 use p8_words::{Fail, NoMemory};
@@ -89,6 +92,37 @@ fn object_of(
             strings.as_slice(),
         )?),
     }
+}
+
+/// The object of a file with these names and data, and with these codes for its methods, in the order of their numbers.
+///
+/// The files are those of the project, among which those of the objects are told by their numbers.
+pub fn object_of_codes(
+    alloc: Global,
+    files: &[ProjectFile],
+    named: &Named<'_>,
+    dat: &Dat,
+    codes: &[MethodCode],
+) -> Result<ObjectPart, NoMemory>
+    requires few { length files.now ≤ most_files }
+    requires codes { length codes.now ≡ length (numbered_methods (items (source_of named.now.file.now))) }
+    ensures { IfOk result (λ object. object ≡ object_of (map named_source_of files.now) (source_of named.now.file.now) named.now.children.now (compiled named.now.kinds dat.now codes.now)) }
+{
+    let items = items_of(alloc, named.file)?;
+    let methods = numbered(alloc, &items)?;
+    let consts = consts_of(alloc, &named.kinds, named.children)?;
+    let strings = strings_of_all(alloc, &methods)?;
+    let texts = TextNumbers::of(alloc, strings.as_slice())?;
+    let parts = parts_of(alloc, &methods, codes, &texts)?;
+    Ok(object_with(
+        alloc,
+        files,
+        &consts,
+        &items,
+        dat,
+        parts,
+        strings.as_slice(),
+    )?)
 }
 
 /// The object of a file with these items, data, methods and texts.
