@@ -1,7 +1,7 @@
 mod Words
-mod Proper
-mod Nesting
-mod Misuse
+pub mod Proper
+pub mod Nesting
+pub mod Misuse
 mod Starting
 mod Depth
 mod Fixed
@@ -11,6 +11,6 @@ mod Steady
 mod Length
 mod Expressions
 mod Statements
-mod Methods
-mod Resolved
-mod Hiding
+pub mod Methods
+pub mod Resolved
+pub mod Hiding

@@ -6,21 +6,21 @@ mod Tables
 mod Alike
 mod Definitions
 mod NamedSettings
-mod Files
-mod Counting
+pub mod Files
+pub mod Counting
 mod Objects
 mod Images
 mod Codes
 mod OwnKinds
 mod Instances
 mod Placing
-mod Frames
+pub mod Frames
 mod Starting
 mod Texts
 mod Results
 mod OwnSettings
 mod Misused
-mod Environments
+pub mod Environments
 mod Publics
 mod Rooms
 mod Sounds
