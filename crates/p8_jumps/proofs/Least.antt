@@ -1,5 +1,5 @@
 -- The rounds that only widen come to the least choice of wide jumps.
-use Rattle.std.proofs.Common.{◌≡◌, ℕ, zero, suc, refl, sym, ap, ◌∙◌, subst, ◌+◌, ◌<◌, ◌≤◌, ◌&&◌, ◌||◌, nat_le, nat_lt, Bool, true, false, not, List, [], ◌∷◌, length, map, replicate, Some, ◌++◌, slice_get, get_or, drop, append_assoc, drop-cons, ◌⊎◌, inl, inr, arith}
+use Rattle.std.proofs.Common.{◌≡◌, ℕ, zero, suc, refl, sym, ap, ◌∙◌, subst, ◌+◌, ◌<◌, ◌≤◌, ◌&&◌, ◌||◌, nat_le, nat_lt, Bool, true, false, not, List, [], ◌∷◌, length, map, replicate, Some, slice_get, ◌⊎◌, inl, inr, arith}
 use Rattle.std.specs.Prelude.{count_by, unwrap_or, Contains}
 use Rattle.std.proofs.lemmas.Bool.{cases_lt}
 use Rattle.std.proofs.lemmas.Bool.Decides.{nat_tests}
@@ -14,8 +14,6 @@ use Rattle.p8_faults.specs.Faults.{fault}
 use Rattle.p8_gen.specs.Methods.{method_code}
 use Rattle.p8_gen.specs.Names.{Names, widened, all_wide, wide_in}
 use Rattle.p8_gen.specs.Pieces.{is_near, reach}
-use Rattle.p8_gen.specs.Uses.{way_of}
-use Rattle.p8_gen.specs.declared.writer.Way.{Way}
 use Rattle.p8_stmt.specs.Methods.{IsCodeOf, IsMethodFault, jump_too_far, frame_too_large, holds_too_much, rebodied, most_held}
 use Rattle.p8_stmt.specs.declared.code.MethodCode.{MethodCode}
 use Rattle.p8_jumps.specs.Jumps.{Fits, IsLeast, IsShortCode}
@@ -107,15 +105,6 @@ round-at ws i (x ∷ vs) zero v at =
 round-at ws i (x ∷ vs) (suc k) v at =
     let place : suc i + k ≡ i + suc k = omega arith in
     round-at ws (suc i) vs k v at ∙ ap (λ n. Some (wide_in ws n || not (is_near false v.0 v.1))) place
-
--- one jump more
-pub round-next : (ws : List Bool) (i : ℕ) (ways : List Way) (d : Way) (more : List Bool) → i < length ways
-    → (more ++ (wide_in ws i || not (is_near false (get_or ways i d).from (get_or ways i d).to)) ∷ []) ++ widened_from ws (i + 1) (map way_of (drop (i + 1) ways)) ≡ more ++ widened_from ws i (map way_of (drop i ways))
-round-next ws i ways d more lt =
-    let next : i + 1 ≡ suc i = omega arith in
-    append_assoc more _ _
-    ∙ ap (λ n. more ++ (wide_in ws i || not (is_near false (get_or ways i d).from (get_or ways i d).to)) ∷ widened_from ws n (map way_of (drop n ways))) next
-    ∙ ap (λ xs. more ++ widened_from ws i (map way_of xs)) (sym (drop-cons ways i d lt))
 
 -- ---- offsets
 
