@@ -170,7 +170,7 @@ top_begins files source children x h =
     let public : has_public (items source) ≡ true = not_lacking (has_public (items source)) (λ lacks. h.names.clean (fault 18 (record { line = 1; column = 1 })) (of_name h.names.setting h.names.right (no_pub (lacks, refl)))) in
     main_first (strings_of source) (numbered (items source)) x.codes (has_methods source public) h.code.count (λ m c at there. is_main (strings_of source) (method_names children x 0 m) m c (h.code.each 0 m c at there))
 
-begins : (files all : List NamedSource) (children : List Children) (xs : List CompiledFile) → 0 < length files → length children ≡ length files → length xs ≡ length files → ((f : NamedSource) (c : Children) (x : CompiledFile) → slice_get files 0 ≡ Some f → slice_get children 0 ≡ Some c → slice_get xs 0 ≡ Some x → IsCompiled f.tree c true x) → BeginsWithMain (objects_from all files children xs)
+pub begins : (files all : List NamedSource) (children : List Children) (xs : List CompiledFile) → 0 < length files → length children ≡ length files → length xs ≡ length files → ((f : NamedSource) (c : Children) (x : CompiledFile) → slice_get files 0 ≡ Some f → slice_get children 0 ≡ Some c → slice_get xs 0 ≡ Some x → IsCompiled f.tree c true x) → BeginsWithMain (objects_from all files children xs)
 begins [] all children xs l a b each = absurd (omega arith)
 begins (f ∷ fs) all [] xs l a b each = absurd (omega arith)
 begins (f ∷ fs) all (c ∷ cs) [] l a b each = absurd (omega arith)
