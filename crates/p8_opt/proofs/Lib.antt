@@ -1,0 +1,7 @@
+pub mod Ready
+pub mod Sizes
+pub mod Wholes
+pub mod Recoded
+pub mod Kept
+pub mod OneByOne
+pub mod Once

@@ -1,0 +1,95 @@
+// Building a project with short code.
+ghost use Rattle.std.specs.Prelude.{◌≡◌, ◌≤◌, ◌<◌, length, map, IfOk, IfErr};
+ghost use Rattle.p8_tree.specs.Views.{named_sources_of, named_source_of};
+ghost use Rattle.p8_children.specs.Children.{AreChildren};
+ghost use Rattle.p8_children.specs.Mentions.{HaveMentioned, HaveNoRing};
+ghost use Rattle.p8_build.specs.Parts.{AreProper, most_files};
+ghost use Rattle.p8_build.specs.Phases.{IfFirstRefused};
+ghost use Rattle.p8_build.specs.Told.{IsRefusal};
+ghost use Rattle.p8_opt.specs.Shorts.{IsShortBuiltTo, IsShortImageBuilt};
+ghost use Rattle.p8_opt.specs.Steps.{IsAcceptedProject};
+
+use crate::objects::short_objects;
+use p8_build::{Accepted, BuildFault, Built, FileFault, accept, finish, told};
+use p8_children::children_of;
+use p8_image::Image;
+use p8_kinds::Children;
+use p8_tree::{Project, ProjectFile};
+use p8_words::{Fail, NoMemory};
+use std::alloc::Global;
+
+/// Builds a project with shorter code of the same meaning to its image and the objects of which the image is made.
+///
+/// Each method is folded, and of its jumps the least set has two bytes for the offset. Texts of what is dropped stay. The
+/// conditions, the errors and when each comes are those of [`build_parts`](p8_build::build_parts): a project must be
+/// accepted as it stands. It takes time in proportion to the project, but for the rounds in which jumps get their second
+/// byte: at most one more than a method has jumps, and few where it isn't made for that.
+pub fn build_short_parts(alloc: Global, project: &Project) -> Result<Built, BuildFault>
+    requires first { 0 < length (named_sources_of project.now) }
+    requires few { length (named_sources_of project.now) ≤ most_files }
+    requires mentioned { HaveMentioned (named_sources_of project.now) }
+    requires no_ring { HaveNoRing (named_sources_of project.now) }
+    requires proper { AreProper (named_sources_of project.now) }
+    ensures built { IfOk result (IsShortBuiltTo (named_sources_of project.now)) }
+    ensures refused { IfErr result (IsRefusal (named_sources_of project.now)) }
+{
+    let files = project.files.as_slice();
+    let children = children_of(alloc, project)?;
+    match build_files(alloc, files, &children) {
+        Ok(built) => Ok(built),
+        Err(Fail::Refused(refusal)) => Err(told(alloc, &files[refusal.file], refusal.fault)),
+        Err(Fail::NoMemory) => Err(BuildFault::NoMemory),
+    }
+}
+
+/// Builds a project to its image with shorter code alone, under the same conditions and with the same errors as
+/// [`build_short_parts`].
+pub fn build_short(alloc: Global, project: &Project) -> Result<Image, BuildFault>
+    requires first { 0 < length (named_sources_of project.now) }
+    requires few { length (named_sources_of project.now) ≤ most_files }
+    requires mentioned { HaveMentioned (named_sources_of project.now) }
+    requires no_ring { HaveNoRing (named_sources_of project.now) }
+    requires proper { AreProper (named_sources_of project.now) }
+    ensures built { IfOk result (IsShortImageBuilt (named_sources_of project.now)) }
+    ensures refused { IfErr result (IsRefusal (named_sources_of project.now)) }
+{
+    let Built { image, objects } = build_short_parts(alloc, project)?;
+    drop(objects);
+    Ok(image)
+}
+
+/// Builds files with short code by what they see of their objects, or tells their first refusal.
+fn build_files(
+    alloc: Global,
+    files: &[ProjectFile],
+    children: &[Children],
+) -> Result<Built, Fail<FileFault>>
+    requires first { 0 < length files.now }
+    requires few { length files.now ≤ most_files }
+    requires proper { AreProper (map named_source_of files.now) }
+    requires children { AreChildren (map named_source_of files.now) children.now }
+    ensures built { IfOk result (IsShortBuiltTo (map named_source_of files.now)) }
+    ensures refused { IfErr result (IfFirstRefused (map named_source_of files.now) children.now) }
+{
+    let accepted = accept(alloc, files, children)?;
+    Ok(shortened(alloc, files, &accepted)?)
+}
+
+/// What an accepted project is built to with short code.
+fn shortened(
+    alloc: Global,
+    files: &[ProjectFile],
+    accepted: &Accepted<'_>,
+) -> Result<Built, NoMemory>
+    requires few { length files.now ≤ most_files }
+    requires accepted { IsAcceptedProject (map named_source_of files.now) accepted.now }
+    ensures { IfOk result (IsShortBuiltTo (map named_source_of files.now)) }
+{
+    let named = accepted.named.as_slice();
+    let objects = short_objects(alloc, files, named, accepted.assembled.as_slice())?;
+    match finish(alloc, &named[0].kinds, objects) {
+        Ok(built) => Ok(built),
+        Err(Fail::NoMemory) => Err(NoMemory),
+        Err(Fail::Refused(_)) => unreachable!(),
+    }
+}
