@@ -1,4 +1,5 @@
--- One code by two choices of wide jumps, where the second has all wide jumps of the first: its places, its jumps, and their ways.
+-- One code by two choices of wide jumps, where the second has all wide jumps of the first: its places, its jumps, and
+-- their ways.
 use Rattle.std.proofs.Common.{◌≡◌, ℕ, zero, suc, subst, ap, sym, ◌∙◌, ◌+◌, ◌-◌, ◌≤◌, ◌^◌, ◌==◌, ◌&&◌, ◌||◌, nat_le, nat_lt, Bool, true, false, not, if◌then◌else◌, List, [], ◌∷◌, ◌++◌, Option, Some, None, refl, arith, length, length-append, append-nil, slice_get, ◌⊎◌, inl, inr}
 use Rattle.std.specs.Prelude.{flat_map}
 use Rattle.std.proofs.lemmas.Bool.{cases_lt}
@@ -45,7 +46,7 @@ on-and-on {x} {y} {u} {v} {s} {t} a b =
     let a1 = a.one in let a2 = a.other in let a3 = a.fewer in let b1 = b.one in let b2 = b.other in let b3 = b.fewer in
     record { one = omega (arith, a1, b1); other = omega (arith, a2, b2); fewer = omega (arith, a3, b3) }
 
--- what a piece is told: a place at or after its end, one at or before its begin, or a number that is one by both choices
+-- what a piece is told: a place at or after its end, one at or before its begin, or a number that is one by both
 data Told : Type 0 where
   later : (x y : ℕ) → Told
   earlier : (x y : ℕ) → Told

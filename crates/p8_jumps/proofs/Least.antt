@@ -167,7 +167,7 @@ module _ (n : Names) (ss : Statements) where
   way_at : (f : ℕ → Bool) (k : ℕ) → k < (method_code n ss).jumps → Entry (method_code (widened n f) ss).ways k
   way_at f k lt = let count = ways-are f in entry_at (method_code (widened n f) ss).ways k (omega (arith, lt, count))
 
-  -- a jump whose offset has no room in one byte is wide by every choice by which each fits and which has these wide jumps
+  -- a jump whose offset has no room in one byte is wide by every choice that fits and has these wide jumps
   must-be-wide : (f g : ℕ → Bool) → ((k : ℕ) → f k ≡ true → g k ≡ true) → Fits n ss g → (k : ℕ) (v : ℕ × ℕ) → slice_get (method_code (widened n f) ss).ways k ≡ Some v → is_near false v.0 v.1 ≡ false → g k ≡ true
   must-be-wide f g more fits k v at far = go (g k) refl
     where

@@ -17,9 +17,9 @@ use std::alloc::Global;
 /// The code of the method with this number and this body, with two bytes for the offsets of the least set of jumps such
 /// that every other offset fits in one byte, from -64 to 63.
 ///
-/// The body's statements could have been read and resolved, and the method with it is one that compiles with two bytes for
-/// every offset. `kinds` are those of the file's names, and `tables` are made of the same file. Where a text stands in the
-/// object isn't known yet, and 0 stands for its offset. The calls go as deep as blocks stand in one another and
+/// The body's statements could have been read and resolved, and the method with it is one that compiles with two bytes
+/// for every offset. `kinds` are those of the file's names, and `tables` are made of the same file. Where a text stands
+/// in the object isn't known yet, and 0 stands for its offset. The calls go as deep as blocks stand in one another and
 /// expressions are high. Source of the offsets' forms: the public Spin bytecode listing; the choice is this project's.
 pub fn short_code(
     alloc: Global,

@@ -101,8 +101,8 @@ fn is_same(widths: &[bool], others: &[bool]) -> bool
 
 /// The least choice of wide jumps of the method with this number and this body, where each offset fits if all are wide.
 ///
-/// It begins with no wide jump and adds those whose offset doesn't fit, until each one does: at most one round more than
-/// there are jumps, each linear in the body.
+/// It begins with no wide jump and adds those whose offset doesn't fit, until each one does: at most one round more
+/// than there are jumps, each linear in the body.
 pub(crate) fn least_widths(
     alloc: Global,
     kinds: &Kinds,

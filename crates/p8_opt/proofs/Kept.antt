@@ -1,26 +1,18 @@
 -- An image with short code keeps the meaning of the source as it stands.
-use Rattle.std.proofs.Common.{◌≡◌, ℕ, zero, suc, ◌+◌, ◌%◌, ◌^◌, ◌<◌, ◌≤◌, Bool, true, false, if◌then◌else◌, nat_le, ◌==◌, List, [], ◌∷◌, length, map, slice_get, Option, Some, None, refl, ap, ap₂, sym, ◌∙◌, subst, arith}
+use Rattle.std.proofs.Common.{◌≡◌, ℕ, zero, suc, ◌+◌, ◌%◌, ◌^◌, Bool, ◌==◌, List, [], ◌∷◌, length, map, slice_get, Option, Some, None, refl, ap, sym, ◌∙◌, subst, arith}
 use Rattle.std.specs.Prelude.{All, option_map}
-use mathlib.Core.Path.{fun_ext}
-use Rattle.std.specs.Str.{bytes_eq}
-use Rattle.std.proofs.lemmas.Bool.Decides.{nat_tests}
 use Rattle.std.proofs.lemmas.List.Elements.{All-nil, All-cons}
 use Rattle.std.proofs.lemmas.Option.{same_Some, none-some}
 use Rattle.p8_access.specs.declared.kinds.Answer.{Answer}
 use Rattle.p8_access.specs.declared.kinds.Origin.{Origin}
-use Rattle.p8_tree.specs.Names.{result_word}
 use Rattle.p8_tree.specs.Projects.{NamedSource}
 use Rattle.p8_tree.specs.Proper.{IsProperFile}
-use Rattle.p8_tree.specs.Sources.{MethodTree, Source}
-use Rattle.p8_fold.specs.declared.meanings.Meaning.{Meaning}
-use Rattle.p8_fold.specs.declared.meanings.Meaning.TheVariants as meaning_case
-use Rattle.p8_fold.specs.Meanings.{Setting, meaning_of}
+use Rattle.p8_tree.specs.Sources.{MethodTree}
 use Rattle.p8_definitions.specs.Items.{items}
 use Rattle.p8_kinds.specs.declared.children.Children.{Children}
 use Rattle.p8_kinds.specs.declared.name_kinds.NameKind.{NameKind}
 use Rattle.p8_kinds.specs.declared.name_kinds.NameKind.TheVariants as kind
-use Rattle.p8_kinds.specs.FileSettings.{meaning_of_kind}
-use Rattle.p8_kinds.specs.Kinds.{own, or_else, kind_of}
+use Rattle.p8_kinds.specs.Kinds.{own}
 use Rattle.p8_names.specs.Kinds.{numbered}
 use Rattle.p8_image.specs.declared.clocks.Clock.{Clock}
 use Rattle.p8_image.specs.declared.parts.ObjectPart.{ObjectPart}
@@ -38,16 +30,15 @@ use Rattle.p8_keeps.specs.Keeps.{bytes}
 use Rattle.p8_told_lives.specs.Told.{SpinIsTold}
 use Rattle.p8_build.specs.Parts.{AreProper}
 use Rattle.p8_build.specs.Files.{CompiledFile, IsCompiled, setting_of}
-use Rattle.p8_build.specs.Builds.{IsFile, AreCompiled, objects_of}
+use Rattle.p8_build.specs.Builds.{AreCompiled, objects_of}
 use Rattle.p8_build.proofs.Methods.{proper_method}
 use Rattle.p8_placed.specs.Programs.{kind_by, file_of, program_from, program_of, with_sources, addresses_of}
 use Rattle.p8_placed.specs.Meaning.{KeepsMeaning}
-use Rattle.p8_placed.proofs.Files.{changed-at}
 use Rattle.p8_placed.proofs.Frames.{setting-outside}
 use Rattle.p8_resolved.specs.Own.{IsLocal}
 use Rattle.p8_resolved.proofs.Own.{apart, local}
 use Rattle.p8_folded.proofs.Hiding.{constants-same}
-use Rattle.p8_short.specs.Constants.{Constants, constants_in, value_meant, value_behind}
+use Rattle.p8_short.specs.Constants.{Constants, constants_in}
 use Rattle.p8_short.specs.Projects.{folded_method, folded_source, constants_of, IsFolded, AreFolded, folded_file, folded_program, HidesNone}
 use Rattle.p8_opt.specs.Shorts.{IsShort, AreShort, IsShortBuilt}
 use Rattle.p8_opt.proofs.Recoded.{folded_sources}
@@ -210,7 +201,7 @@ pub kept : (files : List NamedSource) (clock : Clock) (objects : List ObjectPart
 kept files clock objects b are same k =
     let program = program_of files b.children b.compiled in
     let placed : KeepsMeaning (memory_of (image_of clock (objects_of files b.children b.short))) (folded_program program) (addresses_of files b.short (objects_of files b.children b.short)) =
-        subst (λ (p : Program). KeepsMeaning (memory_of (image_of clock (objects_of files b.children b.short))) p (addresses_of files b.short (objects_of files b.children b.short))) (with-folded files b.children b.compiled b.short b.shorter) k in
+    subst (λ (p : Program). KeepsMeaning (memory_of (image_of clock (objects_of files b.children b.short))) p (addresses_of files b.short (objects_of files b.children b.short))) (with-folded files b.children b.compiled b.short b.shorter) k in
     keeps program (addresses_of files b.short objects) (memory_of (image_of clock objects)) are same
     (subst (λ (os : List ObjectPart). KeepsMeaning (memory_of (image_of clock os)) (folded_program program) (addresses_of files b.short os)) (sym b.objects_are) placed)
 
@@ -222,6 +213,6 @@ pub told : (files : List NamedSource) (clock : Clock) (objects : List ObjectPart
 told files clock objects b are same w past is =
     let program = program_of files b.children b.compiled in
     let placed : SpinIsTold (folded_program program) (addresses_of files b.short (objects_of files b.children b.short)) w past =
-        subst (λ (p : Program). SpinIsTold p (addresses_of files b.short (objects_of files b.children b.short)) w past) (with-folded files b.children b.compiled b.short b.shorter) is in
+    subst (λ (p : Program). SpinIsTold p (addresses_of files b.short (objects_of files b.children b.short)) w past) (with-folded files b.children b.compiled b.short b.shorter) is in
     tells program (addresses_of files b.short objects) are same w past
     (subst (λ (os : List ObjectPart). SpinIsTold (folded_program program) (addresses_of files b.short os) w past) (sym b.objects_are) placed)

@@ -1,5 +1,5 @@
 -- With short code a project is built to one thing alone.
-use Rattle.std.proofs.Common.{◌≡◌, ℕ, ◌+◌, ◌==◌, Bool, List, length, slice_get, Some, refl, ap, sym, ◌∙◌, subst, arith}
+use Rattle.std.proofs.Common.{◌≡◌, ◌==◌, Bool, List, length, ap, sym, ◌∙◌, subst, arith}
 use Rattle.std.proofs.lemmas.Option.{slice_get_within, same_Some}
 use Rattle.p8_tree.specs.Projects.{NamedSource}
 use Rattle.p8_tree.specs.Sources.{MethodTree, Source}
@@ -8,7 +8,6 @@ use Rattle.p8_definitions.specs.Items.{items}
 use Rattle.p8_kinds.specs.declared.children.Children.{Children}
 use Rattle.p8_kinds.specs.FileSettings.{file_setting}
 use Rattle.p8_names.specs.Kinds.{numbered}
-use Rattle.p8_children.specs.Children.{AreChildren}
 use Rattle.p8_gen.specs.Names.{Names, widened, wide_in}
 use Rattle.p8_image.specs.declared.clocks.Clock.{Clock}
 use Rattle.p8_image.specs.declared.parts.ObjectPart.{ObjectPart}
@@ -16,7 +15,7 @@ use Rattle.p8_stmt.specs.declared.code.MethodCode.{MethodCode}
 use Rattle.p8_stmt.specs.Methods.{IsCodeOf, rebodied}
 use Rattle.p8_build.specs.Parts.{object_part}
 use Rattle.p8_build.specs.Files.{CompiledFile, IsCompiled, setting_of, method_names, object_of}
-use Rattle.p8_build.specs.Builds.{IsFile, AreCompiled, objects_of, clock_by}
+use Rattle.p8_build.specs.Builds.{IsFile, AreCompiled, objects_of}
 use Rattle.p8_build.proofs.Lists.{element, same_lists}
 use Rattle.p8_build.proofs.One.{AreAlike, alike, same_setting, same_dat, same_labels, same_method_names, one_code}
 use Rattle.p8_build.proofs.Wholes.{objects_same, one_clock}

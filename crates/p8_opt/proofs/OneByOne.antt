@@ -1,13 +1,12 @@
 -- The short codes of a file's methods, and the objects of its files, one by one.
-use Rattle.std.proofs.Common.{◌≡◌, ◌⊎◌, inl, inr, ℕ, ◌+◌, List, [], ◌∷◌, ◌++◌, length, slice_get, map, Some, refl, ap, sym, ◌∙◌, subst, arith}
+use Rattle.std.proofs.Common.{◌≡◌, inl, inr, ℕ, ◌+◌, List, [], ◌∷◌, ◌++◌, length, slice_get, Some, refl, ap, sym, ◌∙◌, subst}
 use Rattle.std.specs.Prelude.{Result, Ok, Err, IfOk}
 use Rattle.std.proofs.lemmas.Option.{none-some, same_Some}
 use Rattle.p8_tree.specs.Projects.{NamedSource}
-use Rattle.p8_tree.specs.Sources.{MethodTree, Source}
+use Rattle.p8_tree.specs.Sources.{MethodTree}
 use Rattle.p8_tree.specs.Views.{source_of}
 use Rattle.p8_fold.specs.Entries.{setting_of as setting_in}
 use Rattle.p8_definitions.specs.Items.{items}
-use Rattle.p8_kinds.specs.declared.children.Children.{Children}
 use Rattle.p8_kinds.specs.declared.kinds.Kinds.{Kinds}
 use Rattle.p8_kinds.specs.declared.named.Named.{Named}
 use Rattle.p8_kinds.specs.Kinds.{own}
@@ -19,17 +18,15 @@ use Rattle.p8_gen.specs.declared.coder.Tables.{Tables}
 use Rattle.p8_gen.specs.Files.{first_offset, names_in}
 use Rattle.p8_gen.specs.Labels.{offset_in}
 use Rattle.p8_gen.specs.Names.{Names}
-use Rattle.p8_gen.specs.Scopes.{names_from}
 use Rattle.p8_gen.proofs.Tabled.{names_same}
 use Rattle.p8_image.specs.declared.parts.ObjectPart.{ObjectPart}
 use Rattle.p8_stmt.specs.declared.code.MethodCode.{MethodCode}
-use Rattle.p8_build.specs.Files.{CompiledFile, setting_of, method_names, object_of}
+use Rattle.p8_build.specs.Files.{object_of}
 use Rattle.p8_build.specs.Phases.{compiled}
 use Rattle.p8_build.proofs.Lists.{at_more}
-use Rattle.p8_short.specs.Constants.{Constants, constants_in}
+use Rattle.p8_short.specs.Constants.{constants_in}
 use Rattle.p8_short.specs.Folding.{folded_body}
 use Rattle.p8_jumps.specs.Jumps.{IsShortCode}
-use Rattle.p8_opt.specs.Shorts.{IsShort}
 use Rattle.p8_opt.specs.Steps.{names_by, constants_by, CanBeFolded, AreFoldable, AreShortCodes, IsAcceptedFile, IsShortObject, AreShortObjects}
 use Rattle.p8_opt.proofs.Ready.{foldable}
 

@@ -1,34 +1,21 @@
 -- The methods of an accepted file can be coded when they are folded.
-use Rattle.std.proofs.Common.{◌≡◌, ℕ, ◌+◌, ◌^◌, ◌<◌, ◌≤◌, suc, Bool, true, false, if◌then◌else◌, List, length, slice_get, Option, Some, None, refl, ap, sym, ◌∙◌, subst, arith}
-use Rattle.std.specs.Prelude.{IfSome, option_map}
-use Rattle.std.specs.Str.{bytes_eq}
-use Rattle.std.proofs.lemmas.Option.{same_Some, none-some}
-use Rattle.p8_tree.specs.Names.{result_word}
-use Rattle.p8_tree.specs.Nesting.{leave_loops, depth}
+use Rattle.std.proofs.Common.{◌≡◌, ℕ, ◌+◌, ◌≤◌, suc, Bool, length, slice_get, Some, refl, ap, sym, ◌∙◌, arith}
 use Rattle.p8_tree.specs.Projects.{NamedSource}
-use Rattle.p8_tree.specs.Proper.{IsProperFile, AreProperStatements}
+use Rattle.p8_tree.specs.Proper.{IsProperFile}
 use Rattle.p8_tree.specs.Sources.{MethodTree}
-use Rattle.p8_tree.specs.Statements.{Statements}
 use Rattle.p8_faults.specs.declared.faults.Fault.{Fault}
-use Rattle.p8_fold.specs.declared.meanings.Meaning.{Meaning}
-use Rattle.p8_fold.specs.declared.meanings.Meaning.TheVariants as meaning_case
-use Rattle.p8_fold.specs.Meanings.{Setting, meaning_of}
 use Rattle.p8_definitions.specs.Items.{items}
 use Rattle.p8_kinds.specs.declared.children.Children.{Children}
-use Rattle.p8_kinds.specs.declared.name_kinds.NameKind.{NameKind}
-use Rattle.p8_kinds.specs.declared.name_kinds.NameKind.TheVariants as kind
-use Rattle.p8_kinds.specs.FileSettings.{meaning_of_kind}
-use Rattle.p8_kinds.specs.Kinds.{own, or_else, kind_of}
+use Rattle.p8_kinds.specs.Kinds.{own}
 use Rattle.p8_names.specs.Kinds.{numbered}
-use Rattle.p8_gen.specs.Files.{kind_here}
 use Rattle.p8_gen.specs.Methods.{method_code}
 use Rattle.p8_gen.specs.Names.{Names, widened, all_wide, wide_in}
 use Rattle.p8_stmt.specs.declared.code.MethodCode.{MethodCode}
-use Rattle.p8_stmt.specs.Methods.{AreResolved, IsCodeOf, IsMethodFault, rebodied}
-use Rattle.p8_build.specs.Files.{CompiledFile, IsCompiled, IsCode, setting_of, method_names, of_method}
+use Rattle.p8_stmt.specs.Methods.{IsCodeOf, IsMethodFault}
+use Rattle.p8_build.specs.Files.{CompiledFile, IsCompiled, setting_of, method_names, of_method}
 use Rattle.p8_build.proofs.Methods.{proper_method}
 use Rattle.p8_build.proofs.Ready.{resolved}
-use Rattle.p8_short.specs.Constants.{Constants, constants_in, value_meant, value_behind}
+use Rattle.p8_short.specs.Constants.{Constants, constants_in}
 use Rattle.p8_short.specs.Folding.{folded_body}
 use Rattle.p8_folded.specs.Asked.{AreWords, HideNoConstant}
 use Rattle.p8_resolved.proofs.Own.{apart}

@@ -1,34 +1,24 @@
 -- The files of a project with short code are recoded with the folded sources.
-use Rattle.std.proofs.Common.{◌≡◌, ℕ, zero, suc, ◌+◌, ◌<◌, ◌≤◌, ◌==◌, Bool, true, false, if◌then◌else◌, List, [], ◌∷◌, ◌++◌, length, map, slice_get, Option, Some, None, refl, ap, ap₂, sym, ◌∙◌, subst, arith}
-use Rattle.std.specs.Prelude.{All, option_map}
-use Rattle.std.specs.List.{flat_map}
-use mathlib.Core.Path.{fun_ext}
-use Rattle.std.specs.Str.{bytes_eq}
+use Rattle.std.proofs.Common.{◌≡◌, ℕ, zero, suc, ◌==◌, Bool, true, false, if◌then◌else◌, List, [], ◌∷◌, ◌++◌, length, map, slice_get, Some, refl, ap, ap₂, sym, ◌∙◌, subst, arith}
+use Rattle.std.specs.Prelude.{option_map}
 use Rattle.std.proofs.lemmas.Grind.{flat_map-append}
 use Rattle.std.proofs.lemmas.List.{length-map, map-append}
-use Rattle.std.proofs.lemmas.List.Elements.{All-nil, All-cons}
 use Rattle.std.proofs.lemmas.Option.{slice_get_within, slice_get-map, same_Some, none-some}
-use Rattle.p8_tree.specs.Names.{result_word}
 use Rattle.p8_tree.specs.Projects.{NamedSource}
 use Rattle.p8_tree.specs.Proper.{IsProperFile}
 use Rattle.p8_tree.specs.Sources as trees
 use Rattle.p8_tree.specs.Sources.{MethodTree, BlockTree, Source}
-use Rattle.p8_tree.specs.Statements.{Statements}
-use Rattle.p8_fold.specs.declared.meanings.Meaning.{Meaning}
-use Rattle.p8_fold.specs.declared.meanings.Meaning.TheVariants as meaning_case
-use Rattle.p8_fold.specs.Meanings.{Setting, meaning_of}
 use Rattle.p8_definitions.specs.Items.{Item, constant, variable, object, method, line, block_items, items}
 use Rattle.p8_kinds.specs.declared.children.Children.{Children}
 use Rattle.p8_names.specs.Kinds.{public_in, private_in, publics, privates, numbered}
-use Rattle.p8_names.specs.Resolution.{IsNamed}
 use Rattle.p8_gen.specs.Names.{wide_in}
 use Rattle.p8_stmt.specs.declared.code.MethodCode.{MethodCode}
 use Rattle.p8_stmt.specs.Methods.{rebodied}
 use Rattle.p8_templates.specs.Agreeing.{environment}
 use Rattle.p8_build.specs.Parts.{AreProper}
 use Rattle.p8_build.specs.Files.{CompiledFile, IsCompiled, setting_of, method_names}
-use Rattle.p8_build.specs.Builds.{IsFile, AreCompiled}
-use Rattle.p8_build.proofs.Lists.{element, one_element}
+use Rattle.p8_build.specs.Builds.{AreCompiled}
+use Rattle.p8_build.proofs.Lists.{element}
 use Rattle.p8_build.proofs.Methods.{proper_method}
 use Rattle.p8_children.specs.Children.{AreChildren}
 use Rattle.p8_placed.specs.Recoding.{IsRecoded, HaveCodes, IsRecodedFile, AreRecoded}
@@ -43,7 +33,6 @@ use Rattle.p8_folded.specs.Asked.{AreWords}
 use Rattle.p8_folded.proofs.Proper.{body-proper}
 use Rattle.p8_folded.proofs.Nesting.{body-leaves, body-shallow}
 use Rattle.p8_folded.proofs.Misuse.{body-misused}
-use Rattle.p8_jumps.specs.Jumps.{IsShortCode}
 use Rattle.p8_jumps.proofs.Least.{no-fault}
 use Rattle.p8_opt.specs.Shorts.{IsShort, AreShort}
 use Rattle.p8_opt.proofs.Ready.{foldable}
@@ -147,7 +136,7 @@ module _ (files : List NamedSource) (file : NamedSource) (seen : Children) (top 
     count = s.count;
     each = λ k m n code at there coded.
         let same : folded_method c m ≡ n =
-            same_Some (folded_method c m) n (sym (ap (λ ms. slice_get ms k) (folded-numbered c file.tree) ∙ slice_get-map (folded_method c) (numbered (items file.tree)) k ∙ ap (option_map (folded_method c)) at) ∙ there) in
+        same_Some (folded_method c m) n (sym (ap (λ ms. slice_get ms k) (folded-numbered c file.tree) ∙ slice_get-map (folded_method c) (numbered (items file.tree)) k ∙ ap (option_map (folded_method c)) at) ∙ there) in
         subst (λ (z : MethodTree). (z ≡ rebodied m z.body) × IsRecoded (method_names seen x k m) m z.body code) same (refl, method-recoded k m code at coded);
   }
 

@@ -1,8 +1,8 @@
 -- Where the methods of a project's objects are no longer, its header tells no greater places.
-use Rattle.std.proofs.Common.{◌≡◌, ℕ, zero, suc, ◌+◌, ◌*◌, ◌/◌, ◌≤◌, List, [], ◌∷◌, length, map, replicate, slice_index, refl, ap, sym, ◌∙◌, subst, arith}
+use Rattle.std.proofs.Common.{◌≡◌, ℕ, zero, suc, ◌+◌, ◌*◌, ◌≤◌, List, [], ◌∷◌, length, map, replicate, slice_index, refl, ap, ◌∙◌, arith}
 use Rattle.p8_image.specs.declared.parts.MethodPart.{MethodPart}
 use Rattle.p8_image.specs.declared.parts.ObjectPart.{ObjectPart}
-use Rattle.p8_image.specs.Layout.{total, whole_longs, dat_offset, codes_offset, code_size, texts_offset, text_size, size_of, own_variables, variables_within, variables_of, variables_base, first_frame, frame_size, header_by}
+use Rattle.p8_image.specs.Layout.{total, whole_longs, code_size, texts_offset, text_size, size_of, own_variables, variables_within, variables_of, frame_size, header_by}
 
 -- a method with the same frame, and with no more code
 pub record IsNoLonger (o p : MethodPart) : Type 0 where

@@ -1,7 +1,6 @@
 -- A whole project with short code, from its files.
-use Rattle.std.proofs.Common.{◌≡◌, ℕ, zero, suc, ◌+◌, ◌<◌, ◌≤◌, ◌==◌, Bool, true, List, [], ◌∷◌, length, map, slice_get, Option, Some, None, refl, ap, sym, ◌∙◌, subst, arith}
+use Rattle.std.proofs.Common.{◌≡◌, ℕ, suc, ◌<◌, ◌==◌, Bool, true, List, [], ◌∷◌, length, slice_get, Some, refl, ap, sym, ◌∙◌, subst, arith}
 use Rattle.std.specs.List.{flat_map}
-use Rattle.std.proofs.lemmas.List.{length-map}
 use Rattle.std.proofs.lemmas.Option.{slice_get_within, none-some}
 use Rattle.p8_tree.specs.declared.places.Place.{Place}
 use Rattle.p8_tree.specs.Projects.{NamedSource}
@@ -18,26 +17,22 @@ use Rattle.p8_kinds.specs.declared.named.Named.{Named}
 use Rattle.p8_kinds.specs.FileSettings.{file_setting}
 use Rattle.p8_names.specs.Faults.{of_name, no_pub}
 use Rattle.p8_names.specs.Kinds.{numbered, objects}
-use Rattle.p8_names.specs.Resolution.{IsNamed}
 use Rattle.p8_dat.specs.declared.assembling.Dat.{Dat}
 use Rattle.p8_dat.specs.Blocks.{placed_lines, dat_bytes}
 use Rattle.p8_dat.specs.Labels.{labels_of}
-use Rattle.p8_children.specs.Children.{AreChildren}
-use Rattle.p8_gen.specs.Names.{Names, widened, wide_in}
+use Rattle.p8_gen.specs.Names.{widened, wide_in}
 use Rattle.p8_stmt.specs.declared.code.MethodCode.{MethodCode}
 use Rattle.p8_stmt.specs.Methods.{rebodied}
-use Rattle.p8_image.specs.declared.clocks.Clock.{Clock}
-use Rattle.p8_image.specs.declared.parts.MethodPart.{MethodPart}
 use Rattle.p8_image.specs.declared.parts.ObjectPart.{ObjectPart}
 use Rattle.p8_image.specs.Layout.{header_by, image_of}
 use Rattle.p8_image.specs.Loading.{image_in}
-use Rattle.p8_image.specs.Projects.{IsMain, HasMain, BeginsWithMain, FitsHub}
+use Rattle.p8_image.specs.Projects.{HasMain, BeginsWithMain, FitsHub}
 use Rattle.p8_build.specs.declared.building.Accepted.{Accepted}
 use Rattle.p8_build.specs.declared.building.Built.{Built}
 use Rattle.p8_build.specs.Parts.{AreProper, data_start, strings_of, method_part, method_parts, variable_in, instances_of}
-use Rattle.p8_build.specs.Files.{CompiledFile, IsCompiled, IsCode, setting_of, method_names, object_of}
+use Rattle.p8_build.specs.Files.{CompiledFile, IsCompiled, setting_of, method_names, object_of}
 use Rattle.p8_build.specs.Builds.{IsFile, AreCompiled, objects_from, objects_of, clock_by, IsImageFault, too_large, no_clock}
-use Rattle.p8_build.specs.Phases.{compiled, IsAccepted, IsFinished, clock_in}
+use Rattle.p8_build.specs.Phases.{compiled, IsFinished, clock_in}
 use Rattle.p8_build.proofs.Lists.{element, one_element, choose}
 use Rattle.p8_build.proofs.Wholes.{objects_are, is_main, main_first, has_methods, not_lacking, clock_is}
 use Rattle.p8_resolved.proofs.Seen.{has-words}
@@ -45,9 +40,8 @@ use Rattle.p8_folded.proofs.Resolved.{are-words}
 use Rattle.p8_short.specs.Constants.{constants_in}
 use Rattle.p8_short.specs.Folding.{folded_body}
 use Rattle.p8_folded.specs.Asked.{AreWords}
-use Rattle.p8_jumps.specs.Jumps.{IsShortCode}
-use Rattle.p8_opt.specs.Shorts.{IsShort, AreShort, IsShortBuilt, IsShortBuiltTo}
-use Rattle.p8_opt.specs.Steps.{IsAcceptedFile, IsShortObject, AreAcceptedFiles, AreShortObjects, IsAcceptedProject}
+use Rattle.p8_opt.specs.Shorts.{IsShort, AreShort, IsShortBuiltTo}
+use Rattle.p8_opt.specs.Steps.{AreAcceptedFiles, AreShortObjects, IsAcceptedProject}
 use Rattle.p8_opt.proofs.Ready.{no-longer}
 use Rattle.p8_opt.proofs.Sizes.{IsNoLonger, AreNoLonger, IsNoGreater, AreNoGreater, no-later}
 
@@ -102,9 +96,9 @@ pub short-fits : (files : List NamedSource) (children : List Children) (xs ys : 
     → FitsHub (header_by (objects_of files children xs)) → FitsHub (header_by (objects_of files children ys))
 short-fits files children xs ys proper beside are short fits =
     let less = no-later (objects_of files children xs) (objects_of files children ys)
-        (none-greater files files children xs ys beside are.count (short.count ∙ are.count) (λ i f c x y at_f at_c at_x at_y.
-        let there : IsFile files children i f c = record { stands = at_f; beside = at_c } in
-        object-no-greater files f c (i == 0) x y (are.each i f c x there at_x) (proper i f at_f) (short.each i f c x y there at_x at_y))) in
+    (none-greater files files children xs ys beside are.count (short.count ∙ are.count) (λ i f c x y at_f at_c at_x at_y.
+    let there : IsFile files children i f c = record { stands = at_f; beside = at_c } in
+    object-no-greater files f c (i == 0) x y (are.each i f c x there at_x) (proper i f at_f) (short.each i f c x y there at_x at_y))) in
     omega (arith, less, fits)
 
 -- the top file has a method that can be started
@@ -211,16 +205,18 @@ module _ (files : List NamedSource) (a : Accepted) (project : IsAcceptedProject 
         let plain = compiled n.0.kinds d.0 [] in
         let told : IsShort h.file.tree h.seen plain y = subst (λ (z : Source). IsShort z h.seen plain y) h.source_is (subst (λ (z : Children). IsShort (source_of n.0.file.now) z plain y) h.seen_is s.short) in
         let code : IsShort h.file.tree h.seen (compiled n.0.kinds d.0 h.x.codes) y = record { kinds = told.kinds; dat = told.dat; labels = told.labels; count = told.count; each = told.each } in
-        let made : object ≡ object_of files h.file.tree h.seen y = s.is ∙ ap (λ z. object_of files z n.0.children.now y) h.source_is ∙ ap (λ z. object_of files h.file.tree z y) h.seen_is in
-        (y, record {
-          each = λ file seen x there at_x.
-              let f = one_element files i h.there.stands there.stands in
-              let c = one_element project.children i h.there.beside there.beside in
-              let e = one_element project.is.objects.xs i h.is_x at_x in
-              let P : NamedSource → Children → CompiledFile → Type 0 = λ file seen x. IsShort file.tree seen x y × (object ≡ object_of files file.tree seen y) in
-              subst (λ (z : NamedSource). P z seen x) f (subst (λ (z : Children). P h.file z x) c (subst (λ (z : CompiledFile). P h.file h.seen z) e
-              (subst (λ (z : CompiledFile). IsShort h.file.tree h.seen z y) (sym h.whole) code, made)));
-        })
+        let made : object ≡ object_of files h.file.tree h.seen y = s.is ∙ ap (λ z. object_of files z n.0.children.now y) h.source_is ∙ ap (λ z. object_of files h.file.tree z y) h.seen_is in (
+          y,
+          record {
+            each = λ file seen x there at_x.
+                let f = one_element files i h.there.stands there.stands in
+                let c = one_element project.children i h.there.beside there.beside in
+                let e = one_element project.is.objects.xs i h.is_x at_x in
+                let P : NamedSource → Children → CompiledFile → Type 0 = λ file seen x. IsShort file.tree seen x y × (object ≡ object_of files file.tree seen y) in
+                subst (λ (z : NamedSource). P z seen x) f (subst (λ (z : Children). P h.file z x) c (subst (λ (z : CompiledFile). P h.file h.seen z) e
+                (subst (λ (z : CompiledFile). IsShort h.file.tree h.seen z y) (sym h.whole) code, made)));
+          },
+        )
 
     pub chosen : (ys : List CompiledFile) × (length ys ≡ length objects) × ((i : ℕ) (object : ObjectPart) (y : CompiledFile) → slice_get objects i ≡ Some object → slice_get ys i ≡ Some y → IsShortened i object y)
     chosen = choose IsShortened objects shortened-at
@@ -281,7 +277,7 @@ module _ (files : List NamedSource) (a : Accepted) (project : IsAcceptedProject 
     pub never-refused : (n : Named) → slice_get a.named 0 ≡ Some n → (f : Fault) → ¬ IsImageFault objects (clock_in n.kinds) f
     never-refused n at f (too_large large is) =
         let fits = short-fits files project.children project.is.objects.xs chosen.0 project.proper project.seen.one_each project.is.objects.compiled are-short
-            (subst (λ (os : List ObjectPart). FitsHub (header_by os)) project.is.objects.are project.is.finished.fits) in
+        (subst (λ (os : List ObjectPart). FitsHub (header_by os)) project.is.objects.are project.is.finished.fits) in
         let over : 32768 < (header_by (objects_of files project.children chosen.0)).dcurr = subst (λ (os : List ObjectPart). 32768 < (header_by os).dcurr) short-objects large in
         omega (arith, fits, over)
     never-refused n at f (no_clock none is) = absurd (none-some project.is.finished.clock (sym none ∙ clock-of files a project n at ∙ project.is.finished.is))

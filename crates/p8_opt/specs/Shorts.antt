@@ -1,5 +1,5 @@
--- What a project is built to with shorter code of the same meaning: each method is folded, and of its jumps the least set has two bytes for
--- the offset. Nothing else is another than without that (this project's profile).
+-- What a project is built to with shorter code of the same meaning: each method is folded, and of its jumps the least
+-- set has two bytes for the offset. Nothing else is another than without that (this project's profile).
 use Rattle.std.specs.Prelude.{◌≡◌, ℕ, List, length, slice_get, Some}
 use Rattle.p8_tree.specs.Projects.{NamedSource}
 use Rattle.p8_tree.specs.Sources.{MethodTree, Source}

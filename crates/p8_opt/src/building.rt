@@ -20,10 +20,10 @@ use std::alloc::Global;
 
 /// Builds a project with shorter code of the same meaning to its image and the objects of which the image is made.
 ///
-/// Each method is folded, and of its jumps the least set has two bytes for the offset. Texts of what is dropped stay. The
-/// conditions, the errors and when each comes are those of [`build_parts`](p8_build::build_parts): a project must be
-/// accepted as it stands. It takes time in proportion to the project, but for the rounds in which jumps get their second
-/// byte: at most one more than a method has jumps, and few where it isn't made for that.
+/// Each method is folded, and of its jumps the least set has two bytes for the offset. Texts of what is dropped stay.
+/// The conditions, the errors and when each comes are those of [`build_parts`](p8_build::build_parts): a project must be
+/// accepted as it stands. It takes time in proportion to the project, but for the rounds in which jumps get their
+/// second byte: at most one more than a method has jumps, and few where it isn't made for that.
 pub fn build_short_parts(alloc: Global, project: &Project) -> Result<Built, BuildFault>
     requires first { 0 < length (named_sources_of project.now) }
     requires few { length (named_sources_of project.now) ≤ most_files }

@@ -32,8 +32,8 @@ pub fn one_short_build()
 /// Law: the image of an accepted project with short code keeps the meaning of its source as it stands, whatever runs
 /// beside it: of each of its methods, in each frame and each cog, at the addresses that this image has.
 ///
-/// The files are those of a project with the top file first, each one read, under names of their own, and the file of each
-/// object among them, and none leads back to itself through its objects.
+/// The files are those of a project with the top file first, each one read, under names of their own, and the file of
+/// each object among them, and none leads back to itself through its objects.
 pub fn short_images_keep_meaning()
     ensures { (files : List NamedSource) → (clock : Clock) → (objects : List ObjectPart) → AreProper files → 0 < length files → AreDistinct files → HaveMentioned files → HaveNoRing files → (b : IsShortBuilt files clock objects) → KeepsMeaning (memory_of (image_of clock objects)) (program_of files b.children b.compiled) (addresses_of files b.short objects) }
 {

@@ -1,4 +1,4 @@
-use Rattle.std.proofs.Common.{◌≡◌, ◌<◌, List, length, map, slice_get, Some, refl, ap, sym, ◌∙◌, subst, arith}
+use Rattle.std.proofs.Common.{◌≡◌, List, length, map, slice_get, Some, refl, ap, sym, ◌∙◌, subst, arith}
 use Rattle.std.proofs.lemmas.Option.{slice_get_read}
 use Rattle.p8_tree.specs.Views.{named_source_of}
 use Rattle.p8_faults.specs.Faults.{IsFirstFault}
@@ -35,9 +35,9 @@ unreachable-requires c =
     let counted = project.is.named.count in
     let long : length c.as_slice-named.result.now ≡ length a.named = ap length c.as_slice-named.ensures in
     let at : slice_get a.named 0 ≡ Some n =
-        subst (λ (ns : List Named). slice_get ns 0 ≡ Some n) c.as_slice-named.ensures (slice_get_read c.as_slice-named.result.now (length c.as_slice-named.result.now) 0 n refl (omega (arith, some, counted, long)) c.index-named-0.is) in
+    subst (λ (ns : List Named). slice_get ns 0 ≡ Some n) c.as_slice-named.ensures (slice_get_read c.as_slice-named.result.now (length c.as_slice-named.result.now) 0 n refl (omega (arith, some, counted, long)) c.index-named-0.is) in
     let refused : IfFault (IsFirstFault (IsImageFault objects (clock_in n.kinds))) c.in-Err-Refused.field-0 =
-        subst (λ (m : Named). IfFault (IsFirstFault (IsImageFault objects (clock_in m.kinds))) c.in-Err-Refused.field-0) (sym c.index-named-0.is) c.in-Err-Refused.ensures.refused in
+    subst (λ (m : Named). IfFault (IsFirstFault (IsImageFault objects (clock_in m.kinds))) c.in-Err-Refused.field-0) (sym c.index-named-0.is) c.in-Err-Refused.ensures.refused in
     let first : IsFirstFault (IsImageFault objects (clock_in n.kinds)) c.in-Err-Refused.field-0-0 = subst (IfFault (IsFirstFault (IsImageFault objects (clock_in n.kinds)))) c.in-Err-Refused.field-0-is refused in
     never-refused files a project objects (c.in_ok-objects.ensures.count ∙ long)
     (subst (λ (ns : List Named). AreShortObjects files ns a.assembled objects) c.as_slice-named.ensures (subst (λ (ds : List Dat). AreShortObjects files c.as_slice-named.result.now ds objects) c.as_slice.ensures c.in_ok-objects.ensures.objects))
@@ -54,7 +54,7 @@ returns-in-Ok c =
     let counted = project.is.named.count in
     let long : length c.as_slice-named.result.now ≡ length a.named = ap length c.as_slice-named.ensures in
     let at : slice_get a.named 0 ≡ Some n =
-        subst (λ (ns : List Named). slice_get ns 0 ≡ Some n) c.as_slice-named.ensures (slice_get_read c.as_slice-named.result.now (length c.as_slice-named.result.now) 0 n refl (omega (arith, some, counted, long)) c.index-named-0.is) in
+    subst (λ (ns : List Named). slice_get ns 0 ≡ Some n) c.as_slice-named.ensures (slice_get_read c.as_slice-named.result.now (length c.as_slice-named.result.now) 0 n refl (omega (arith, some, counted, long)) c.index-named-0.is) in
     built-to files a project objects (c.in_ok-objects.ensures.count ∙ long)
     (subst (λ (ns : List Named). AreShortObjects files ns a.assembled objects) c.as_slice-named.ensures (subst (λ (ds : List Dat). AreShortObjects files c.as_slice-named.result.now ds objects) c.as_slice.ensures c.in_ok-objects.ensures.objects))
     n c.in-Ok.built at (subst (λ (m : Named). IsFinished (clock_in m.kinds) objects c.in-Ok.built) (sym c.index-named-0.is) c.in-Ok.ensures.built)

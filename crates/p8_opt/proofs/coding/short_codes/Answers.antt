@@ -1,4 +1,4 @@
-use Rattle.std.proofs.Common.{◌≡◌, ℕ, ◌+◌, length, map, ap, ◌∙◌, Bor, refl, arith}
+use Rattle.std.proofs.Common.{length, map, ap, Bor}
 use Rattle.p8_tree.specs.declared.sources.Method.{Method}
 use Rattle.p8_tree.specs.Sources.{MethodTree}
 use Rattle.p8_tree.specs.Views.{method_of}

@@ -5,11 +5,10 @@ use Rattle.p8_tree.specs.Statements.{Statements}
 use Rattle.p8_tree.specs.Views.{method_of, statements_of}
 use Rattle.p8_gen.specs.Names.{Names}
 use Rattle.p8_gen.specs.Scopes.{names_from}
-use Rattle.p8_stmt.specs.declared.code.MethodCode.{MethodCode}
 use Rattle.p8_stmt.specs.Methods.{AreResolved, IsMethodFault, rebodied}
 use Rattle.p8_short.specs.Folding.{folded_body}
 use Rattle.p8_jumps.specs.Jumps.{IsShortCode}
-use Rattle.p8_opt.specs.Steps.{names_by, constants_by}
+use Rattle.p8_opt.specs.Steps.{constants_by}
 use Rattle.p8_opt.proofs.coding.short_method.Goals as goal
 
 pub short_code-requires-clause-resolved : goal.short_code-requires-clause-resolved

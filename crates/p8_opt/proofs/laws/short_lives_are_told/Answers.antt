@@ -16,8 +16,8 @@ returns c = λ files clock objects proper some distinct mentioned no_ring b w me
     let other = with_sources (folded_sources files b.children b.compiled) (program_of files b.children b.short) in
     let are = c.folded_sources_have_folded_methods.ensures program (hide-none files b.children b.compiled proper b.each) in
     let begins = c.recoded_images_have_their_methods.ensures files (folded_sources files b.children b.compiled) b.children b.short clock proper some distinct mentioned no_ring b.seen
-        (recoded files b.children b.compiled b.short proper b.seen b.each b.shorter)
-        (short-fits files b.children b.compiled b.short proper b.seen.one_each b.each b.shorter b.fits) w
-        (memory ∙ ap (λ os. memory_of (image_of clock os)) b.objects_are) (first ∙ ap (λ os. start_of (header_of (image_of clock os))) b.objects_are) in
+    (recoded files b.children b.compiled b.short proper b.seen b.each b.shorter)
+    (short-fits files b.children b.compiled b.short proper b.seen.one_each b.each b.shorter b.fits) w
+    (memory ∙ ap (λ os. memory_of (image_of clock os)) b.objects_are) (first ∙ ap (λ os. start_of (header_of (image_of clock os))) b.objects_are) in
     told files clock objects b are (c.folds_keep_meaning.ensures program (folded_program program) are (addresses_of files b.short objects)) w past
     (c.lives_are_told.ensures.ended other (addresses_of files b.short (objects_of files b.children b.short)) w begins past ended)

@@ -1,4 +1,4 @@
-use Rattle.std.proofs.Common.{◌≡◌, ℕ, List, length, map, ap, sym, ◌∙◌, subst, Bor}
+use Rattle.std.proofs.Common.{◌≡◌, List, length, map, ap, sym, ◌∙◌, subst, Bor}
 use Rattle.std.proofs.lemmas.List.{length-map}
 use Rattle.p8_tree.specs.declared.sources.Method.{Method}
 use Rattle.p8_tree.specs.Sources.{MethodTree}
@@ -7,7 +7,6 @@ use Rattle.p8_definitions.specs.Items.{items}
 use Rattle.p8_definitions.specs.Standing.{items_of}
 use Rattle.p8_names.specs.Kinds.{numbered}
 use Rattle.p8_gen.specs.Files.{first_offset}
-use Rattle.p8_stmt.specs.declared.code.MethodCode.{MethodCode}
 use Rattle.p8_build.specs.Files.{object_of}
 use Rattle.p8_build.specs.Phases.{compiled}
 use Rattle.p8_opt.specs.Steps.{AreShortCodes, IsShortObject}

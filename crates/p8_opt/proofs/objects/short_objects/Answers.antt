@@ -1,4 +1,4 @@
-use Rattle.std.proofs.Common.{◌≡◌, ◌+◌, length, map, ap, refl, arith, slice_get, Some}
+use Rattle.std.proofs.Common.{length, map, ap, refl, arith}
 use Rattle.std.proofs.lemmas.Option.{slice_get_read}
 use Rattle.p8_tree.specs.Views.{named_source_of}
 use Rattle.p8_build.proofs.Lists.{count_more}
