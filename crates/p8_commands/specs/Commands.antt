@@ -1,6 +1,6 @@
 -- The words of the command line (this project's profile), by what the library `clap` states of the words that a
 -- command takes. Each word is a list of bytes.
-use Rattle.std.specs.Prelude.{ℕ, Bool, false, List, [], ◌∷◌, Option, Some, None, option_map, option_and_then, codes}
+use Rattle.std.specs.Prelude.{ℕ, Bool, true, false, List, [], ◌∷◌, Option, Some, None, option_map, option_and_then, codes}
 use Rattle.std.specs.Str.{bytes_eq}
 use Rattle.clap.specs.Kinds.{Kinds}
 use Rattle.clap.specs.Faults.{fault_of}
@@ -11,6 +11,7 @@ use Rattle.p8_commands.specs.declared.table.Subcommand.TheVariants as named
 use Rattle.p8_commands.specs.declared.kind.ImageKind.{ImageKind}
 use Rattle.p8_commands.specs.Kinds.{kind_named}
 use Rattle.p8_commands.specs.Numbers.{number_of, number_from, range_of, most_clocks, most_turns, usual_turns, most_saved_turns, last_pin, least_bits, most_bits, most_seed}
+use Rattle.p8_commands.specs.Pins.{mask_of, span_of}
 use Rattle.p8_commands.specs.Table.{entry_of, app_for, subcommand_named}
 
 -- a run: its file, the clock before which it ends, the file of a pin script, if any, how many turns it makes at most, and the
@@ -24,26 +25,30 @@ pub record Running : Type 0 where
 
 -- A command: to write the image of a source or its listing; to run hub memory, or an image or a source; to save the history of a run, or to check
 -- one; to read the bytes that stand on a pin of a run, with so many clocks a bit, or to write a pin script that sends the bytes of a file from a clock
--- on; to write the wave of a run, of all that it has or of what changes; to write an image as the other kind of file; to run the made program of a seed; or to tell a command or all of them. A run is made by one
--- thread alone, or by a crew of eight. Where it says whether it is raw, what is run is hub memory where it is, and else an image or a source.
+-- on; to write the wave of a run, of all that it has or of what changes; to draw some pins of a run, by their mask, from one clock on and before
+-- another; to write an image as the other kind of file; to run the made program of a seed; or to tell a command or all of them. A run is made by one
+-- thread alone, or by a crew of eight. Where it says whether it is raw, what is run is hub memory where it is, and else an image or a source. Where it
+-- says whether it is short, a source has its short code where it is.
 pub data Command : Type 0 where
-  BuildSource : (file : List ℕ) → Command
-  ListSource : (file : List ℕ) → Command
+  BuildSource : (short : Bool) (file : List ℕ) → Command
+  ListSource : (short : Bool) (file : List ℕ) → Command
   RunMemory : (run : Running) → Command
-  RunProgram : (alone : Bool) (run : Running) → Command
+  RunProgram : (alone short : Bool) (run : Running) → Command
   Save : (raw : Bool) (run : Running) → Command
   Check : (raw : Bool) (file history : List ℕ) (script : Option (List ℕ)) → Command
   Serial : (raw : Bool) (run : Running) (pin bits : ℕ) → Command
   TypeFile : (file : List ℕ) (pin bits start : ℕ) → Command
   Wave : (alone raw all : Bool) (run : Running) → Command
+  Plot : (alone raw ascii : Bool) (run : Running) (pins from to : ℕ) → Command
   Convert : ImageKind → (file : List ℕ) → Command
   Make : (alone : Bool) (seed : ℕ) → Command
   Help : (topic : Option Subcommand) → Command
 
 -- the command, where one thread alone carries it out, and else none
 abbrev pub alone_of : Option Command → Option Command
-alone_of (Some (RunProgram false run)) = None
+alone_of (Some (RunProgram false short run)) = None
 alone_of (Some (Wave false raw all run)) = None
+alone_of (Some (Plot false raw ascii run pins from to)) = None
 alone_of (Some (Make false seed)) = None
 alone_of command = command
 
@@ -117,6 +122,23 @@ abbrev pub type_of : (Text → Option Text) → Option Command
 type_of value =
     type_by (value (codes "FILE")) (pin_of value) (bits_of value) (option_and_then (number_from 1 most_clocks) (value (codes "START")))
 
+-- a run of an image or a source; an image has no short code
+abbrev pub run_named : (alone short : Bool) → Running → Option ImageKind → Option Command
+run_named alone true run (Some kind) = None
+run_named alone short run kind = Some (RunProgram alone short run)
+
+abbrev pub program_of : (alone short : Bool) → Running → Option Command
+program_of alone short run = run_named alone short run (kind_named run.file)
+
+abbrev pub plot_by : (alone raw ascii : Bool) → Option Running → (pins : Option ℕ) → (clocks : Option Text) → Option Command
+plot_by alone raw ascii (Some run) (Some pins) clocks = option_map (λ span. Plot alone raw ascii run pins span.0 span.1) (span_of run.clocks clocks)
+plot_by alone raw ascii _ _ clocks = None
+
+abbrev pub plot_of : (Text → Option Text) → Option Command
+plot_of value =
+    plot_by (has_flag (codes "alone") value) (has_flag (codes "raw") value) (has_flag (codes "ascii") value)
+    (told_of value) (option_and_then mask_of (value (codes "PINS"))) (value (codes "FROM:TO"))
+
 abbrev pub seed_of : (Text → Option Text) → Option ℕ
 seed_of value = option_and_then (number_of most_seed) (value (codes "SEED"))
 
@@ -130,15 +152,16 @@ abbrev pub convert_of : Text → Option Command
 convert_of file = option_map (λ kind. Convert kind file) (kind_named file)
 
 abbrev pub meaning_of : Subcommand → (Text → Option Text) → Option Command
-meaning_of named.Build value = option_map BuildSource (value (codes "FILE"))
-meaning_of named.List value = option_map ListSource (value (codes "FILE"))
+meaning_of named.Build value = option_map (BuildSource (has_flag (codes "short") value)) (value (codes "FILE"))
+meaning_of named.List value = option_map (ListSource (has_flag (codes "short") value)) (value (codes "FILE"))
 meaning_of named.Raw value = option_map RunMemory (traced_of value)
-meaning_of named.Run value = option_map (RunProgram (has_flag (codes "alone") value)) (traced_of value)
+meaning_of named.Run value = option_and_then (program_of (has_flag (codes "alone") value) (has_flag (codes "short") value)) (traced_of value)
 meaning_of named.Save value = option_map (Save (has_flag (codes "raw") value)) (saved_of value)
 meaning_of named.Check value = check_of value
 meaning_of named.Serial value = serial_of value
 meaning_of named.TypeFile value = type_of value
 meaning_of named.Wave value = option_map (Wave (has_flag (codes "alone") value) (has_flag (codes "raw") value) (has_flag (codes "all") value)) (told_of value)
+meaning_of named.Plot value = plot_of value
 meaning_of named.Convert value = option_and_then convert_of (value (codes "FILE"))
 meaning_of named.Make value = option_map (Make (has_flag (codes "alone") value)) (seed_of value)
 meaning_of named.Help value = option_map Help (topic_of (value (codes "COMMAND")))

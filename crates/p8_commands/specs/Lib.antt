@@ -1,5 +1,6 @@
 -- What public contracts cite.
 pub mod Numbers
+pub mod Pins
 pub mod Kinds
 pub mod Table
 pub mod Commands

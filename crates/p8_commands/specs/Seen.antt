@@ -6,7 +6,7 @@ use Rattle.p8_commands.specs.declared.table.Row.{Row}
 use Rattle.p8_commands.specs.declared.command.Command.{Command as CommandRead}
 use Rattle.p8_commands.specs.declared.command.Command.TheVariants as read
 use Rattle.p8_commands.specs.declared.command.Run.{Run as RunRead}
-use Rattle.p8_commands.specs.Commands.{Command, Running, BuildSource, ListSource, RunMemory, RunProgram, Save, Check, Serial, TypeFile, Wave, Convert, Make, Help}
+use Rattle.p8_commands.specs.Commands.{Command, Running, BuildSource, ListSource, RunMemory, RunProgram, Save, Check, Serial, TypeFile, Wave, Plot, Convert, Make, Help}
 use Rattle.p8_commands.specs.Table.{Argument, Entry}
 use Rattle.p8_commands.specs.Naming.{name_of}
 use Rattle.p8_commands.specs.Numbers.{most_clocks, most_turns, most_saved_turns, last_pin, least_bits, most_bits}
@@ -22,15 +22,16 @@ abbrev pub running : RunRead → Running
 running run = record { file = run.file.now; clocks = run.clocks; script = name_of run.script; turns = run.turns; dump = run.dump }
 
 abbrev pub command_read : CommandRead → Command
-command_read (read.Build file) = BuildSource file.now
-command_read (read.List file) = ListSource file.now
+command_read (read.Build short file) = BuildSource short file.now
+command_read (read.List short file) = ListSource short file.now
 command_read (read.Raw run) = RunMemory (running run)
-command_read (read.Run run alone) = RunProgram alone (running run)
+command_read (read.Run alone short run) = RunProgram alone short (running run)
 command_read (read.Save raw run) = Save raw (running run)
 command_read (read.Check raw file history script) = Check raw file.now history.now (name_of script)
 command_read (read.Serial raw run pin bits) = Serial raw (running run) pin bits
 command_read (read.TypeFile file pin bits start) = TypeFile file.now pin bits start
 command_read (read.Wave alone raw all run) = Wave alone raw all (running run)
+command_read (read.Plot alone raw ascii run pins from to) = Plot alone raw ascii (running run) pins from to
 command_read (read.Convert kind file) = Convert kind file.now
 command_read (read.Make seed alone) = Make alone seed
 command_read (read.Help topic) = Help topic
@@ -52,9 +53,10 @@ IsOnPin pin bits = (pin ≤ last_pin) × (least_bits ≤ bits) × (bits ≤ most
 
 abbrev pub HasLimits : CommandRead → Type 0
 HasLimits (read.Raw run) = IsWithin run
-HasLimits (read.Run run alone) = IsWithin run
+HasLimits (read.Run alone short run) = IsWithin run
 HasLimits (read.Save raw run) = IsWithin run × (run.turns ≤ most_saved_turns)
 HasLimits (read.Serial raw run pin bits) = IsWithin run × IsOnPin pin bits
 HasLimits (read.Wave alone raw all run) = IsWithin run
+HasLimits (read.Plot alone raw ascii run pins from to) = IsWithin run
 HasLimits (read.TypeFile file pin bits start) = IsOnPin pin bits × (1 ≤ start) × (start ≤ most_clocks)
 HasLimits _ = Unit {0}

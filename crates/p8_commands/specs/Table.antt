@@ -29,6 +29,9 @@ pub record Entry : Type 0 where
 abbrev pub operand : Text → Text → Argument
 operand name about = record { kind = Operand; name = name; value = []; about = about }
 
+abbrev pub optional : Text → Text → Argument
+optional name about = record { kind = OptionalOperand; name = name; value = []; about = about }
+
 abbrev pub valued : Text → Text → Text → Argument
 valued name value about = record { kind = Valued; name = name; value = value; about = about }
 
@@ -70,6 +73,17 @@ pin = operand (codes "PIN") (codes "the number of a pin: 1 to 10 digits, at most
 abbrev pub bits : Argument
 bits = operand (codes "BITS") (codes "how many clocks a bit has: 1 to 10 digits, from 2 to 10000")
 
+abbrev pub short : Argument
+short = flag (codes "short") (codes "shorter code with the same meaning, of a source alone")
+
+abbrev pub shown_pins : Argument
+shown_pins = operand (codes "PINS") (codes "the pins to draw: pins and ranges N-M of pins, divided by commas, each 1 to 10 digits, at most 31")
+
+abbrev pub shown_clocks : Argument
+shown_clocks =
+    optional (codes "FROM:TO")
+    (codes "the clocks to draw, from FROM on and before TO: each 1 to 10 digits, FROM at most TO, and TO at most CLOCKS; else all")
+
 -- the arguments that follow the file in each run
 abbrev pub run_options : List Argument
 run_options = clocks ∷ pins ∷ turns ∷ dump ∷ []
@@ -79,13 +93,13 @@ run_options = clocks ∷ pins ∷ turns ∷ dump ∷ []
 abbrev pub entry_of : Subcommand → Entry
 entry_of named.Build = record {
   word = codes "build";
-  arguments = source_file ∷ [];
+  arguments = source_file ∷ short ∷ [];
   about = codes "Writes the image of a source, as a .binary file holds it.";
   example = codes "prop build blink.spin";
 }
 entry_of named.List = record {
   word = codes "list";
-  arguments = source_file ∷ [];
+  arguments = source_file ∷ short ∷ [];
   about = codes "Writes the listing of a source: its objects, their methods, and the code of each.";
   example = codes "prop list blink.spin";
 }
@@ -97,7 +111,7 @@ entry_of named.Raw = record {
 }
 entry_of named.Run = record {
   word = codes "run";
-  arguments = operand (codes "FILE") (codes "an image where the name ends in .binary or .eeprom, and else a source in Spin") ∷ run_options ++ alone ∷ [];
+  arguments = operand (codes "FILE") (codes "an image where the name ends in .binary or .eeprom, and else a source in Spin") ∷ run_options ++ alone ∷ short ∷ [];
   about = codes "Runs an image or a source up to a clock, and writes the trace.";
   example = codes "prop run blink.spin 20000 --dump 0000:16";
 }
@@ -133,6 +147,12 @@ entry_of named.Wave = record {
   about = codes "Runs a file up to a clock, and writes the wave of its pins, cogs and locks as a value change dump.";
   example = codes "prop wave blink.spin 200000";
 }
+entry_of named.Plot = record {
+  word = codes "plot";
+  arguments = any_file ∷ clocks ∷ shown_pins ∷ shown_clocks ∷ pins ∷ turns ∷ raw ∷ flag (codes "ascii") (codes "draws with characters of ASCII alone") ∷ alone ∷ [];
+  about = codes "Runs a file up to a clock, and draws the levels of some pins as text, a line for each pin.";
+  example = codes "prop plot blink.spin 200000 16";
+}
 entry_of named.Convert = record {
   word = codes "convert";
   arguments = operand (codes "FILE") (codes "an image, whose name ends in .binary or .eeprom") ∷ [];
@@ -147,7 +167,7 @@ entry_of named.Make = record {
 }
 entry_of named.Help = record {
   word = codes "help";
-  arguments = record { kind = OptionalOperand; name = codes "COMMAND"; value = []; about = codes "the word of a command; else all commands are told" } ∷ [];
+  arguments = optional (codes "COMMAND") (codes "the word of a command; else all commands are told") ∷ [];
   about = codes "Writes what a command does, its arguments, their limits and an example.";
   example = codes "prop help run";
 }
@@ -156,7 +176,7 @@ entry_of named.Help = record {
 abbrev pub subcommands : List Subcommand
 subcommands =
     named.Build ∷ named.List ∷ named.Raw ∷ named.Run ∷ named.Save ∷ named.Check ∷ named.Serial ∷ named.TypeFile ∷ named.Wave
-    ∷ named.Convert ∷ named.Make ∷ named.Help ∷ []
+    ∷ named.Plot ∷ named.Convert ∷ named.Make ∷ named.Help ∷ []
 
 -- the command that a word names
 unfoldable pub subcommand_named : Text → Option Subcommand

@@ -23,22 +23,26 @@ pub struct Run<'a> {
 /// A command.
 #[derive(Clone, Copy)]
 pub enum Command<'a> {
-    /// Writes the image of a source.
+    /// Writes the image of a source, with its short code where it is short.
     Build {
+        short: bool,
         file: &'a str,
     },
-    /// Writes the listing of a source.
+    /// Writes the listing of a source, with its short code where it is short.
     List {
+        short: bool,
         file: &'a str,
     },
     /// Writes the trace of a run of hub memory, by one thread.
     Raw {
         run: Run<'a>,
     },
-    /// Writes the trace of a run of an image or a source, by one thread or by a crew.
+    /// Writes the trace of a run of an image or a source, by one thread or by a crew. A source has its short code where it is short, and an image
+    /// never is.
     Run {
-        run: Run<'a>,
         alone: bool,
+        short: bool,
+        run: Run<'a>,
     },
     /// Writes the history of a run as a file. What is run is hub memory where it is raw, and else an image or a source.
     Save {
@@ -81,6 +85,20 @@ pub enum Command<'a> {
         all: bool,
         run: Run<'a>,
     },
+    /// Draws the levels of some pins of a run, by one thread or by a crew. What is run is hub memory where it is raw, and else an image or a source.
+    Plot {
+        alone: bool,
+        raw: bool,
+        /// Whether it is drawn with characters of ASCII alone.
+        ascii: bool,
+        run: Run<'a>,
+        /// The mask of the pins: bit p for pin p.
+        pins: u32,
+        /// The first clock.
+        from: u64,
+        /// The clock before which it ends, at least the first one and at most the run's.
+        to: u64,
+    },
     /// Writes an image of this kind as the other kind of file.
     Convert {
         kind: ImageKind,
@@ -110,6 +128,7 @@ impl Command<'_> {
             Command::Help { .. } => true,
             Command::Run { alone, .. } => alone,
             Command::Wave { alone, .. } => alone,
+            Command::Plot { alone, .. } => alone,
             Command::Make { alone, .. } => alone,
         }
     }

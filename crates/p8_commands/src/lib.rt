@@ -6,6 +6,7 @@ mod command;
 mod kind;
 mod numbers;
 mod page;
+mod pins;
 mod table;
 mod words;
 

@@ -60,6 +60,8 @@ pub enum Subcommand {
     TypeFile,
     /// Writes the wave of a run.
     Wave,
+    /// Draws the levels of some pins of a run.
+    Plot,
     /// Writes an image as the other kind of file.
     Convert,
     /// Runs a made program.
@@ -173,6 +175,34 @@ const START: Argument = Argument {
     about: "the clock at which the first byte begins: 1 to 10 digits, from 1 to 100000000",
 };
 
+const SHOWN_PINS: Argument = Argument {
+    kind: ArgumentKind::Operand,
+    name: "PINS",
+    value: "",
+    about: "the pins to draw: pins and ranges N-M of pins, divided by commas, each 1 to 10 digits, at most 31",
+};
+
+const SHOWN_CLOCKS: Argument = Argument {
+    kind: ArgumentKind::OptionalOperand,
+    name: "FROM:TO",
+    value: "",
+    about: "the clocks to draw, from FROM on and before TO: each 1 to 10 digits, FROM at most TO, and TO at most CLOCKS; else all",
+};
+
+const ASCII: Argument = Argument {
+    kind: ArgumentKind::Flag,
+    name: "ascii",
+    value: "",
+    about: "draws with characters of ASCII alone",
+};
+
+const SHORT: Argument = Argument {
+    kind: ArgumentKind::Flag,
+    name: "short",
+    value: "",
+    about: "shorter code with the same meaning, of a source alone",
+};
+
 const ALL: Argument = Argument {
     kind: ArgumentKind::Flag,
     name: "all",
@@ -223,6 +253,7 @@ impl Subcommand {
             Subcommand::Serial,
             Subcommand::TypeFile,
             Subcommand::Wave,
+            Subcommand::Plot,
             Subcommand::Convert,
             Subcommand::Make,
             Subcommand::Help,
@@ -236,13 +267,13 @@ impl Subcommand {
         match self {
             Subcommand::Build => Row {
                 word: "build",
-                arguments: &[SOURCE_FILE],
+                arguments: &[SOURCE_FILE, SHORT],
                 about: "Writes the image of a source, as a .binary file holds it.",
                 example: "prop build blink.spin",
             },
             Subcommand::List => Row {
                 word: "list",
-                arguments: &[SOURCE_FILE],
+                arguments: &[SOURCE_FILE, SHORT],
                 about: "Writes the listing of a source: its objects, their methods, and the code of each.",
                 example: "prop list blink.spin",
             },
@@ -254,7 +285,7 @@ impl Subcommand {
             },
             Subcommand::Run => Row {
                 word: "run",
-                arguments: &[PROGRAM_FILE, CLOCKS, PINS, TURNS, DUMP, ALONE],
+                arguments: &[PROGRAM_FILE, CLOCKS, PINS, TURNS, DUMP, ALONE, SHORT],
                 about: "Runs an image or a source up to a clock, and writes the trace.",
                 example: "prop run blink.spin 20000 --dump 0000:16",
             },
@@ -287,6 +318,22 @@ impl Subcommand {
                 arguments: &[ANY_FILE, CLOCKS, PINS, TURNS, RAW, ALL, ALONE],
                 about: "Runs a file up to a clock, and writes the wave of its pins, cogs and locks as a value change dump.",
                 example: "prop wave blink.spin 200000",
+            },
+            Subcommand::Plot => Row {
+                word: "plot",
+                arguments: &[
+                    ANY_FILE,
+                    CLOCKS,
+                    SHOWN_PINS,
+                    SHOWN_CLOCKS,
+                    PINS,
+                    TURNS,
+                    RAW,
+                    ASCII,
+                    ALONE,
+                ],
+                about: "Runs a file up to a clock, and draws the levels of some pins as text, a line for each pin.",
+                example: "prop plot blink.spin 200000 16",
             },
             Subcommand::Convert => Row {
                 word: "convert",

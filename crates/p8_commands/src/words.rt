@@ -3,16 +3,17 @@ ghost use Rattle.std.specs.Prelude.{◌≡◌, ◌≤◌, Some, None, codes, map
 ghost use Rattle.std.specs.Option.{ForSome};
 ghost use Rattle.clap.specs.Matches.{first_value, found_of};
 ghost use Rattle.p8_commands.specs.Commands.{command_of, said_to, meaning_of, run_of, traced_of, saved_of, turns_by};
-ghost use Rattle.p8_commands.specs.Commands.{dump_by, is_given as is_given_by, has_flag as has_flag_by, check_of, told_of, pin_of, bits_of, serial_of, type_of, seed_of, topic_of, convert_of};
+ghost use Rattle.p8_commands.specs.Commands.{dump_by, is_given as is_given_by, has_flag as has_flag_by, check_of, told_of, pin_of, bits_of, serial_of, type_of, program_of, plot_of, seed_of, topic_of, convert_of};
 ghost use Rattle.p8_commands.specs.Naming.{name_of};
 ghost use Rattle.p8_commands.specs.Numbers.{most_turns, most_saved_turns, last_pin, least_bits, most_bits};
 ghost use Rattle.p8_commands.specs.Ranges.{IsInRam};
-ghost use Rattle.p8_commands.specs.Seen.{command_if_any, run_if_any, IsWithin, HasLimits};
+ghost use Rattle.p8_commands.specs.Seen.{command_if_any, run_if_any, running, IsWithin, HasLimits};
 
 use crate::arguments::{command_for, matches_in};
 use crate::command::{Command, Run};
 use crate::kind::ImageKind;
 use crate::numbers::{number_from, number_in, range_in};
+use crate::pins::{LAST_PIN, mask_in, span_in};
 use crate::table::Subcommand;
 use clap::ArgMatches;
 use p8_words::NoMemory;
@@ -29,9 +30,6 @@ const USUAL_TURNS: u64 = 100_000;
 
 /// The greatest number of turns of a history that is kept in a file, and how many it has at most where no number is asked for.
 const MOST_SAVED_TURNS: u64 = 40_000;
-
-/// The number of the last pin.
-const LAST_PIN: u64 = 31;
 
 /// How many clocks a bit has at least and at most.
 const LEAST_BITS: u64 = 2;
@@ -192,6 +190,37 @@ fn type_in<'a>(matches: &ArgMatches<'a>) -> Option<Command<'a>>
     })
 }
 
+/// The command to run an image or a source, or None where an image is to have short code.
+fn program_in(alone: bool, short: bool, run: Run<'_>) -> Option<Command<'_>>
+    requires { IsWithin run }
+    ensures seen { command_if_any result ≡ program_of alone short (running run.entry) }
+    ensures within { IfSome result HasLimits }
+{
+    if short && ImageKind::named(run.file).is_some() {
+        return None;
+    }
+    Some(Command::Run { alone, short, run })
+}
+
+/// The command to draw pins, or None where a value has another spelling.
+fn plot_in<'a>(matches: &ArgMatches<'a>) -> Option<Command<'a>>
+    ensures seen { command_if_any result ≡ plot_of (first_value (found_of matches.now)) }
+    ensures within { IfSome result HasLimits }
+{
+    let run = told_in(matches)?;
+    let pins = mask_in(matches.get_str("PINS")?.as_bytes())?;
+    let (from, to) = span_in(matches.get_str("FROM:TO"), run.clocks)?;
+    Some(Command::Plot {
+        alone: has_flag(matches, "alone"),
+        raw: has_flag(matches, "raw"),
+        ascii: has_flag(matches, "ascii"),
+        run,
+        pins,
+        from,
+        to,
+    })
+}
+
 /// The seed of a made program.
 fn seed_in(matches: &ArgMatches<'_>) -> Option<u32>
     ensures { result ≡ seed_of (first_value (found_of matches.now)) }
@@ -228,18 +257,21 @@ fn meaning_in<'a>(command: Subcommand, matches: &ArgMatches<'a>) -> Option<Comma
 {
     match command {
         Subcommand::Build => Some(Command::Build {
+            short: has_flag(matches, "short"),
             file: matches.get_str("FILE")?,
         }),
         Subcommand::List => Some(Command::List {
+            short: has_flag(matches, "short"),
             file: matches.get_str("FILE")?,
         }),
         Subcommand::Raw => Some(Command::Raw {
             run: traced_in(matches)?,
         }),
-        Subcommand::Run => Some(Command::Run {
-            run: traced_in(matches)?,
-            alone: has_flag(matches, "alone"),
-        }),
+        Subcommand::Run => program_in(
+            has_flag(matches, "alone"),
+            has_flag(matches, "short"),
+            traced_in(matches)?,
+        ),
         Subcommand::Save => Some(Command::Save {
             raw: has_flag(matches, "raw"),
             run: saved_in(matches)?,
@@ -253,6 +285,7 @@ fn meaning_in<'a>(command: Subcommand, matches: &ArgMatches<'a>) -> Option<Comma
             all: has_flag(matches, "all"),
             run: told_in(matches)?,
         }),
+        Subcommand::Plot => plot_in(matches),
         Subcommand::Convert => convert_in(matches.get_str("FILE")?),
         Subcommand::Make => Some(Command::Make {
             seed: seed_in(matches)?,
