@@ -25,7 +25,7 @@ pub record Running : Type 0 where
 
 -- A command: to write the image of a source or its listing; to run hub memory, or an image or a source; to save the history of a run, or to check
 -- one; to read the bytes that stand on a pin of a run, with so many clocks a bit, or to write a pin script that sends the bytes of a file from a clock
--- on; to write the wave of a run, of all that it has or of what changes; to draw some pins of a run, by their mask, from one clock on and before
+-- on; to write the wave of a run, of all that it has or of what changes, or of its pins and locks alone; to draw some pins of a run, by their mask, from one clock on and before
 -- another; to write an image as the other kind of file; to run the made program of a seed; or to tell a command or all of them. A run is made by one
 -- thread alone, or by a crew of eight. Where it says whether it is raw, what is run is hub memory where it is, and else an image or a source. Where it
 -- says whether it is short, a source has its short code where it is.
@@ -38,7 +38,7 @@ pub data Command : Type 0 where
   Check : (raw : Bool) (file history : List ℕ) (script : Option (List ℕ)) → Command
   Serial : (raw : Bool) (run : Running) (pin bits : ℕ) → Command
   TypeFile : (file : List ℕ) (pin bits start : ℕ) → Command
-  Wave : (alone raw all : Bool) (run : Running) → Command
+  Wave : (alone raw all pins_only : Bool) (run : Running) → Command
   Plot : (alone raw ascii : Bool) (run : Running) (pins from to : ℕ) → Command
   Convert : ImageKind → (file : List ℕ) → Command
   Make : (alone : Bool) (seed : ℕ) → Command
@@ -47,7 +47,7 @@ pub data Command : Type 0 where
 -- the command, where one thread alone carries it out, and else none
 abbrev pub alone_of : Option Command → Option Command
 alone_of (Some (RunProgram false short run)) = None
-alone_of (Some (Wave false raw all run)) = None
+alone_of (Some (Wave false raw all pins_only run)) = None
 alone_of (Some (Plot false raw ascii run pins from to)) = None
 alone_of (Some (Make false seed)) = None
 alone_of command = command
@@ -160,7 +160,9 @@ meaning_of named.Save value = option_map (Save (has_flag (codes "raw") value)) (
 meaning_of named.Check value = check_of value
 meaning_of named.Serial value = serial_of value
 meaning_of named.TypeFile value = type_of value
-meaning_of named.Wave value = option_map (Wave (has_flag (codes "alone") value) (has_flag (codes "raw") value) (has_flag (codes "all") value)) (told_of value)
+meaning_of named.Wave value =
+    option_map (Wave (has_flag (codes "alone") value) (has_flag (codes "raw") value) (has_flag (codes "all") value) (has_flag (codes "pins-only") value))
+    (told_of value)
 meaning_of named.Plot value = plot_of value
 meaning_of named.Convert value = option_and_then convert_of (value (codes "FILE"))
 meaning_of named.Make value = option_map (Make (has_flag (codes "alone") value)) (seed_of value)

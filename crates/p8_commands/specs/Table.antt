@@ -84,6 +84,9 @@ shown_clocks =
     optional (codes "FROM:TO")
     (codes "the clocks to draw, from FROM on and before TO: each 1 to 10 digits, FROM at most TO, and TO at most CLOCKS; else all")
 
+abbrev pub pins_only : Argument
+pins_only = flag (codes "pins-only") (codes "shows the pins and the locks alone, for readers that take no variable of more than one bit")
+
 -- the arguments that follow the file in each run
 abbrev pub run_options : List Argument
 run_options = clocks ∷ pins ∷ turns ∷ dump ∷ []
@@ -143,7 +146,7 @@ entry_of named.TypeFile = record {
 }
 entry_of named.Wave = record {
   word = codes "wave";
-  arguments = any_file ∷ clocks ∷ pins ∷ turns ∷ raw ∷ flag (codes "all") (codes "shows what never changes too") ∷ alone ∷ [];
+  arguments = any_file ∷ clocks ∷ pins ∷ turns ∷ raw ∷ flag (codes "all") (codes "shows what never changes too") ∷ pins_only ∷ alone ∷ [];
   about = codes "Runs a file up to a clock, and writes the wave of its pins, cogs and locks as a value change dump.";
   example = codes "prop wave blink.spin 200000";
 }

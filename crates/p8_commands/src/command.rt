@@ -83,6 +83,8 @@ pub enum Command<'a> {
         alone: bool,
         raw: bool,
         all: bool,
+        /// Whether it has the pins and the locks alone.
+        pins_only: bool,
         run: Run<'a>,
     },
     /// Draws the levels of some pins of a run, by one thread or by a crew. What is run is hub memory where it is raw, and else an image or a source.

@@ -210,6 +210,13 @@ const ALL: Argument = Argument {
     about: "shows what never changes too",
 };
 
+const PINS_ONLY: Argument = Argument {
+    kind: ArgumentKind::Flag,
+    name: "pins-only",
+    value: "",
+    about: "shows the pins and the locks alone, for readers that take no variable of more than one bit",
+};
+
 const MESSAGE_FILE: Argument = Argument {
     kind: ArgumentKind::Operand,
     name: "FILE",
@@ -315,7 +322,7 @@ impl Subcommand {
             },
             Subcommand::Wave => Row {
                 word: "wave",
-                arguments: &[ANY_FILE, CLOCKS, PINS, TURNS, RAW, ALL, ALONE],
+                arguments: &[ANY_FILE, CLOCKS, PINS, TURNS, RAW, ALL, PINS_ONLY, ALONE],
                 about: "Runs a file up to a clock, and writes the wave of its pins, cogs and locks as a value change dump.",
                 example: "prop wave blink.spin 200000",
             },

@@ -283,6 +283,7 @@ fn meaning_in<'a>(command: Subcommand, matches: &ArgMatches<'a>) -> Option<Comma
             alone: has_flag(matches, "alone"),
             raw: has_flag(matches, "raw"),
             all: has_flag(matches, "all"),
+            pins_only: has_flag(matches, "pins-only"),
             run: told_in(matches)?,
         }),
         Subcommand::Plot => plot_in(matches),
