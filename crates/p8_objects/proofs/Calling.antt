@@ -156,10 +156,10 @@ asked_for_none {top = top} {files = files} done o c e = subst (λ (x : Option (L
 
 -- one more file
 
-sources_more : (fs gs : List ProjectFile) (file : ProjectFile) → gs ≡ fs ++ file ∷ [] → sources_of gs ≡ sources_of fs ++ named_source_of file ∷ []
+pub sources_more : (fs gs : List ProjectFile) (file : ProjectFile) → gs ≡ fs ++ file ∷ [] → sources_of gs ≡ sources_of fs ++ named_source_of file ∷ []
 sources_more fs gs file e = ap sources_of e ∙ map-append named_source_of fs (file ∷ [])
 
-same_name : (file : ProjectFile) (name : List ℕ) → file.name ≡ name → named_source_of file ≡ named name (source_of file.tree)
+pub same_name : (file : ProjectFile) (name : List ℕ) → file.name ≡ name → named_source_of file ≡ named name (source_of file.tree)
 same_name file name e = ap (λ n. named n (source_of file.tree)) e
 
 pub more : (files files' : Files) (before before' now : ℕ) (top name : List ℕ) (fs gs : List ProjectFile) (done : List ℕ) (file : ProjectFile) → Stands (sources_of fs) done → IsAsked top (sources_of fs) done name → GoesOn files before top (sources_of fs) → files' ≡ files → IsFileOf (shelved files' before' now) name file → gs ≡ fs ++ file ∷ [] → Stands (sources_of gs) done × GoesOn files before top (sources_of gs)

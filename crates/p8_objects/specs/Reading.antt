@@ -1,5 +1,5 @@
 -- internal: what reading one file of a shelf answers.
-use Rattle.std.specs.Prelude.{ℕ, ◌≡◌, List, Result, Ok, Err}
+use Rattle.std.specs.Prelude.{ℕ, ◌≡◌, ◌⊎◌, List, [], ◌∷◌, Result, Ok, Err}
 use Rattle.std.specs.declared.vec.Vec.{Vec}
 use Rattle.std.specs.declared.alloc.Global.{Global}
 use Rattle.p8_words.specs.declared.failure.Fail.{Fail}
@@ -8,6 +8,7 @@ use Rattle.p8_tree.specs.declared.projects.ProjectFile.{ProjectFile}
 use Rattle.p8_tree.specs.Views.{source_of}
 use Rattle.p8_tree.specs.Proper.{IsProperFile}
 use Rattle.p8_io.specs.Counts.{Rose}
+use Rattle.p8_io.specs.Shelves.{Log, WereRead}
 use Rattle.p8_io.specs.declared.shelf.ShelfError.{ShelfError}
 use Rattle.p8_io.specs.declared.shelf.ShelfError.TheVariants.{Missing, Failed, NoMemory}
 use Rattle.p8_objects.specs.declared.source.FileFault.{FileFault}
@@ -20,6 +21,10 @@ use Rattle.p8_objects.specs.Outcomes.{Shelved, HasBytes, IsAbsent}
 abbrev pub IfRefused : (FileFault → Type 0) → Fail FileFault → Type 0
 IfRefused P (fail.Refused f) = P f
 IfRefused P fail.NoMemory = Unit {0}
+
+-- the file of this name was read once between two logs, or nothing was
+abbrev pub MayBeRead : List ℕ → (before now : Log) → Type 0
+MayBeRead name before now = WereRead before now [] ⊎ WereRead before now (name ∷ [])
 
 -- reading the bytes of the file of this name answers so
 abbrev pub IsRead : Shelved → List ℕ → Result (Vec ℕ Global) ShelfError → Type 0

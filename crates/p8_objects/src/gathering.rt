@@ -3,6 +3,7 @@ ghost use Rattle.std.specs.Prelude.{◌≡◌, ◌≤◌, length, IfOk};
 ghost use Rattle.p8_tree.specs.Proper.{IsProperFile};
 ghost use Rattle.p8_tree.specs.Views.{named_sources_of};
 ghost use Rattle.p8_objects.specs.Projects.{most_files};
+ghost use Rattle.p8_objects.specs.Orders.{AreAllRead, ReadsInOrder};
 ghost use Rattle.p8_objects.specs.Outcomes.{shelved, Answers};
 ghost use Rattle.p8_objects.specs.Whole.{IsFirstFile, AreDistinct, HaveMentioned, HaveNoRing, AreReadFrom, EachTree};
 
@@ -17,7 +18,8 @@ use std::alloc::Global;
 ///
 /// The top file is the first. A file that an item of `OBJ` mentions comes before the next item is looked at, unless it
 /// is among the files already: so the files come depth first, in the order of their first mention, and none is read
-/// twice. Names of files are compared byte by byte.
+/// twice. Names of files are compared byte by byte. Where the shelf tells what is read of it, those are the files of the project, each once
+/// and in their order; at an error a beginning of them.
 ///
 /// # Errors
 ///
@@ -41,6 +43,8 @@ pub fn gather<S: Shelf>(alloc: Global, shelf: &mut S, top: &str) -> Result<Proje
     ensures few { IfOk result (λ project. length (named_sources_of project) ≤ most_files) }
     ensures read { IfOk result (λ project. AreReadFrom (S.files shelf.old) (named_sources_of project)) }
     ensures proper { IfOk result (λ project. EachTree IsProperFile (named_sources_of project)) }
+    ensures all_read { IfOk result (λ project. AreAllRead (named_sources_of project) (S.log shelf.old) (S.log shelf.new)) }
+    ensures in_order { ReadsInOrder (S.files shelf.old) top.now (S.log shelf.old) (S.log shelf.new) }
     ensures later { S.faults shelf.old ≤ S.faults shelf.new }
     ensures kept { S.files shelf.new ≡ S.files shelf.old }
 {

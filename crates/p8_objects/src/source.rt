@@ -1,14 +1,15 @@
 // Reading one file of a shelf.
-ghost use Rattle.std.specs.Prelude.{◌≡◌, ◌≤◌, length, IfOk, IfErr, MatchOption};
+ghost use Rattle.std.specs.Prelude.{◌≡◌, ◌≤◌, ◌∷◌, [], length, IfOk, IfErr, MatchOption};
 ghost use Rattle.p8_lexer.specs.declared.refusal.Refusal.TheVariants.{TooManyObjects};
 ghost use Rattle.p8_lexer.specs.Refusals.{refusal_number};
 ghost use Rattle.p8_lexer.specs.Lexing.{longest_file, AreTokens};
+ghost use Rattle.p8_io.specs.Shelves.{WereRead};
 ghost use Rattle.p8_tree.specs.Views.{source_of};
 ghost use Rattle.p8_tree.specs.Proper.{IsProperFile};
 ghost use Rattle.p8_objects.specs.Sources.{ReadsAs, IsSource, IsRefused, mentions, most_objects};
 ghost use Rattle.p8_objects.specs.Mentioned.{HasTooMany};
 ghost use Rattle.p8_objects.specs.Outcomes.{shelved};
-ghost use Rattle.p8_objects.specs.Reading.{IsRead, IsFileOf, IsFileFault, IfRefused};
+ghost use Rattle.p8_objects.specs.Reading.{IsRead, IsFileOf, IsFileFault, IfRefused, MayBeRead};
 
 use crate::fault::GatherFault;
 use crate::mentions::item_too_many;
@@ -29,6 +30,8 @@ pub(crate) struct FileFault {
 /// The bytes of the file of this name. A name that isn't UTF-8 is that of no file.
 fn read_bytes<S: Shelf>(alloc: Global, shelf: &mut S, name: &Text) -> Result<Vec<u8>, ShelfError>
     ensures bytes { IsRead (shelved (S.files shelf.old) (S.faults shelf.old) (S.faults shelf.new)) name.now result }
+    ensures one { MayBeRead name.now (S.log shelf.old) (S.log shelf.new) }
+    ensures logged { IfOk result (λ _. WereRead (S.log shelf.old) (S.log shelf.new) (name.now ∷ [])) }
     ensures later { S.faults shelf.old ≤ S.faults shelf.new }
     ensures kept { S.files shelf.new ≡ S.files shelf.old }
 {
@@ -111,6 +114,8 @@ pub(crate) fn read_file<S: Shelf>(
 ) -> Result<ProjectFile, GatherFault>
     ensures file { IfOk result (IsFileOf (shelved (S.files shelf.old) (S.faults shelf.old) (S.faults shelf.new)) name) }
     ensures fault { IfErr result (IsFileFault (shelved (S.files shelf.old) (S.faults shelf.old) (S.faults shelf.new)) name) }
+    ensures one { MayBeRead name (S.log shelf.old) (S.log shelf.new) }
+    ensures logged { IfOk result (λ _. WereRead (S.log shelf.old) (S.log shelf.new) (name ∷ [])) }
     ensures later { S.faults shelf.old ≤ S.faults shelf.new }
     ensures kept { S.files shelf.new ≡ S.files shelf.old }
 {

@@ -7,13 +7,14 @@ use Rattle.p8_objects.specs.Goings.{CallsFor}
 use Rattle.p8_objects.specs.Outcomes as outcomes
 use Rattle.p8_objects.specs.Outcomes.{shelved, Answers}
 use Rattle.p8_objects.proofs.Calling.{told, begin, asked_for, asked_for_none, file_fault, call_fault, more, no_trees, tree_more}
+use Rattle.p8_objects.proofs.Ordering.{nothing-in_order, begin-reading, so-far, with-one, read-more}
 use Rattle.p8_objects.proofs.Wholes.{whole_project}
 use Rattle.p8_objects.proofs.gathering.gather.Goals as goal
 
 pub files-init : goal.files-init
 files-init g c =
     let p = begin (g.S.Shelf.files c.args.shelf.now) (g.S.Shelf.faults c.args.shelf.now) c.args.top.now c.in_ok-copy_of.field-0 c.new-files.result c.new-done.result c.new-files.ensures c.new-done.ensures (c.in_ok-copy_of.ensures ∙ c.as_bytes.ensures.value) in
-    record { stands = p.0; asked = p.1; on = p.2; proper = no_trees IsProperFile c.new-files.result c.new-files.ensures; later = omega arith; kept = refl }
+    record { stands = p.0; asked = p.1; read = begin-reading (g.S.Shelf.files c.args.shelf.now) c.args.top.now (g.S.Shelf.log c.args.shelf.now) c.new-files.result c.new-files.ensures; on = p.2; proper = no_trees IsProperFile c.new-files.result c.new-files.ensures; later = omega arith; kept = refl }
 
 pub returns-in_err-read_file-clause-answers : goal.returns-in_err-read_file-clause-answers
 returns-in_err-read_file-clause-answers g c =
@@ -41,6 +42,8 @@ files-preserved g c =
     record {
       stands = subst (λ (fs : List ProjectFile). Stands (sources_of fs) c.next_file.new.done) c.as_slice.ensures c.in_ok-asked.ensures.stands;
       asked = subst (λ (fs : List ProjectFile). CallsFor c.args.top.now (sources_of fs) c.next_file.new.done c.in_ok-asked.asked) c.as_slice.ensures (c.in_ok-asked.ensures.next c.args.top.now);
+      read = read-more (g.S.Shelf.files c.args.shelf.now) (g.S.Shelf.files c.files.shelf) (g.S.Shelf.faults c.files.shelf) (g.S.Shelf.faults c.read_file.new.shelf) (g.S.Shelf.log c.args.shelf.now) (g.S.Shelf.log c.files.shelf) (g.S.Shelf.log c.read_file.new.shelf) c.args.top.now c.in-Some.name c.files.files c.push.new.self c.files.done c.in_ok-read_file.field-0
+      c.files.invariant.read (asked_for c.files.asked c.in-Some.name c.files.invariant.asked c.in-Some.is) c.files.invariant.kept c.in_ok-read_file.ensures.file c.in_ok-read_file.ensures.logged c.in_ok-push.ensures.ok;
       on = p.1;
       proper = tree_more IsProperFile c.files.files c.push.new.self c.in_ok-read_file.field-0 c.files.invariant.proper c.in_ok-read_file.ensures.file.proper c.in_ok-push.ensures.ok;
       later = omega (arith, c.files.invariant.later, c.read_file.ensures.later);
@@ -71,3 +74,28 @@ returns-clause-read g c = (whole_project (returns-clause-answers g c)).from
 
 pub returns-clause-proper : goal.returns-clause-proper
 returns-clause-proper g c = c.files.invariant.proper
+
+pub returns-in_err-copy_of-clause-in_order : goal.returns-in_err-copy_of-clause-in_order
+returns-in_err-copy_of-clause-in_order g c = nothing-in_order (g.S.Shelf.files c.args.shelf.now) c.args.top.now (g.S.Shelf.log c.args.shelf.now)
+
+pub returns-in_err-read_file-clause-in_order : goal.returns-in_err-read_file-clause-in_order
+returns-in_err-read_file-clause-in_order g c =
+    with-one (g.S.Shelf.files c.args.shelf.now) c.args.top.now (g.S.Shelf.log c.args.shelf.now) (g.S.Shelf.log c.files.shelf) (g.S.Shelf.log c.read_file.new.shelf)
+    c.files.invariant.read c.in-Some.name (asked_for c.files.asked c.in-Some.name c.files.invariant.asked c.in-Some.is) c.read_file.ensures.one
+
+pub returns-in_err-push-clause-in_order : goal.returns-in_err-push-clause-in_order
+returns-in_err-push-clause-in_order g c =
+    with-one (g.S.Shelf.files c.args.shelf.now) c.args.top.now (g.S.Shelf.log c.args.shelf.now) (g.S.Shelf.log c.files.shelf) (g.S.Shelf.log c.read_file.new.shelf)
+    c.files.invariant.read c.in-Some.name (asked_for c.files.asked c.in-Some.name c.files.invariant.asked c.in-Some.is) c.read_file.ensures.one
+
+pub returns-in_err-asked-clause-in_order : goal.returns-in_err-asked-clause-in_order
+returns-in_err-asked-clause-in_order g c =
+    with-one (g.S.Shelf.files c.args.shelf.now) c.args.top.now (g.S.Shelf.log c.args.shelf.now) (g.S.Shelf.log c.files.shelf) (g.S.Shelf.log c.read_file.new.shelf)
+    c.files.invariant.read c.in-Some.name (asked_for c.files.asked c.in-Some.name c.files.invariant.asked c.in-Some.is) c.read_file.ensures.one
+
+pub returns-clause-all_read : goal.returns-clause-all_read
+returns-clause-all_read g c = c.files.invariant.read.read
+
+pub returns-clause-in_order : goal.returns-clause-in_order
+returns-clause-in_order g c =
+    so-far (g.S.Shelf.files c.args.shelf.now) c.args.top.now (g.S.Shelf.log c.args.shelf.now) (g.S.Shelf.log c.files.shelf) (g.S.Shelf.log c.files.shelf) c.files.invariant.read
