@@ -1,5 +1,5 @@
 -- What building a gathered project comes to.
-use Rattle.std.proofs.Common.{◌≡◌, ℕ, List, ap, refl}
+use Rattle.std.proofs.Common.{◌≡◌, ℕ, Bool, true, false, List, ap, refl}
 use Rattle.std.specs.Prelude.{[], ◌∷◌, map}
 use Rattle.p8_tree.specs.declared.projects.ProjectFile.{ProjectFile}
 use Rattle.p8_tree.specs.Views.{named_source_of}
@@ -11,20 +11,38 @@ use Rattle.p8_inputs.specs.declared.stop.Stop.{Stop}
 use Rattle.p8_inputs.specs.declared.stop.Stop.TheVariants.{Unread, Missing, NoMemory, Refused, BadProgram, BadScript}
 use Rattle.p8_objects.specs.Whole.{EachTree}
 use Rattle.p8_tree.specs.Proper.{IsProperFile}
-use Rattle.p8_build.specs.Told.{IsImageOf}
-use Rattle.p8_inputs.specs.Gathered.{StopsAtBuilding, IsListingOf}
+use Rattle.p8_image.specs.declared.parts.ObjectPart.{ObjectPart}
+use Rattle.p8_image.specs.Loading.{ImageValue}
+use Rattle.p8_build.specs.declared.building.Built.{Built}
+use Rattle.p8_build.specs.Told.{IsImageBuilt, IsBuiltTo}
+use Rattle.p8_opt.specs.Shorts.{IsShortImageBuilt, IsShortBuiltTo}
+use Rattle.p8_inputs.specs.Gathered.{StopsAtBuilding, IsImageBuiltBy, AreBuiltBy, IsListingOf}
 use Rattle.p8_inputs.specs.Runs.{HasProperTrees}
 use Rattle.p8_inputs.specs.Sources.{GathersTo, IsImageFrom, IsListingFrom, when_built}
 use Rattle.p8_inputs.specs.Asks.{StopsAtProgram}
 
-module _ (files : Files) (top : List ℕ) (sources : List NamedSource) (gathered : GathersTo files top (project sources)) where
-  pub image-from : EachTree IsProperFile sources → (bytes : List ℕ) → IsImageOf sources bytes → HasProperTrees files Source top bytes
-  image-from proper bytes is = (sources, is.clock, is.objects, record { gathered = gathered; built = is.built }, λ i f stands. proper i f (record { is = stands }), is.is)
+-- what is built is built by the choice
+pub long-image : (sources : List NamedSource) (image : ImageValue) → IsImageBuilt sources image → IsImageBuiltBy false sources image
+long-image sources image is = ((is.0.clock, is.0.objects, is.0.built, is.0.is), is.1)
 
-  pub listing-from : (text : List ℕ) → IsListingOf sources text → IsListingFrom files top text
+pub short-image : (sources : List NamedSource) (image : ImageValue) → IsShortImageBuilt sources image → IsImageBuiltBy true sources image
+short-image sources image is = ((is.0.clock, is.0.objects, is.0.built, is.0.is), is.1)
+
+pub long-parts : (sources : List NamedSource) (built : Built) → IsBuiltTo sources built → AreBuiltBy false sources built.objects
+long-parts sources built is = (is.clock, is.built)
+
+pub short-parts : (sources : List NamedSource) (built : Built) → IsShortBuiltTo sources built → AreBuiltBy true sources built.objects
+short-parts sources built is = (is.clock, is.built)
+
+module _ (files : Files) (short : Bool) (top : List ℕ) (sources : List NamedSource) (gathered : GathersTo files top (project sources)) where
+  pub image-from : EachTree IsProperFile sources → (image : ImageValue) → IsImageBuiltBy short sources image → HasProperTrees files (Source short) top image.file
+  image-from proper image is =
+      (sources, is.0.0, is.0.1, record { gathered = gathered; built = is.0.2 }, λ i f stands. proper i f (record { is = stands }), is.0.3)
+
+  pub listing-from : (text : List ℕ) → IsListingOf short sources text → IsListingFrom files short top text
   listing-from text is = (sources, is.0, is.1, record { gathered = gathered; built = is.2 }, is.3)
 
-  pub building-stops : (before now : ℕ) (stop : Stop) → StopsAtBuilding sources stop → StopsAtProgram files before now Source top stop
+  pub building-stops : (before now : ℕ) (stop : Stop) → StopsAtBuilding sources stop → StopsAtProgram files before now (Source short) top stop
   building-stops before now (Refused name number place) stops = when_built sources gathered stops
   building-stops before now NoMemory stops = tt
   building-stops before now (Unread name) stops = absurd stops
@@ -33,8 +51,8 @@ module _ (files : Files) (top : List ℕ) (sources : List NamedSource) (gathered
   building-stops before now (BadScript name line) stops = absurd stops
 
 -- the image of proper trees is an image of the project
-pub image-of-project : (files : Files) (top bytes : List ℕ) → HasProperTrees files Source top bytes → IsImageFrom files top bytes
-image-of-project files top bytes is = (is.0, is.1, is.2, is.3, is.5)
+pub image-of-project : (files : Files) (short : Bool) (top bytes : List ℕ) → HasProperTrees files (Source short) top bytes → IsImageFrom files short top bytes
+image-of-project files short top bytes is = (is.0, is.1, is.2, is.3, is.5)
 
 -- the names of a project's files
 pub same-names : (files : List ProjectFile) → map (λ (source : NamedSource). source.name) (map named_source_of files) ≡ map (λ (file : ProjectFile). file.name) files

@@ -1,5 +1,5 @@
 -- Where the shelf tells its files, asks come to one thing alone: what they are given, or one reason that stops them.
-use Rattle.std.proofs.Common.{◌≡◌, ◌<◌, ◌≤◌, ◌∙◌, ap, ap₂, sym, subst, arith, ℕ, inl, inr, refl, List, [], ◌∷◌, length, Option, Some, None}
+use Rattle.std.proofs.Common.{◌≡◌, ◌<◌, ◌≤◌, ◌∙◌, ap, ap₂, sym, subst, arith, ℕ, Bool, inl, inr, refl, List, [], ◌∷◌, length, Option, Some, None}
 use Rattle.p8_history.specs.Worlds.{Line}
 use Rattle.p8_tree.specs.declared.places.Place.{Place}
 use Rattle.p8_tree.specs.Projects.{NamedSource}
@@ -159,25 +159,25 @@ module _ (files : List ℕ → Option (List ℕ)) where
     -- ---- a program
 
     program-one : (format : Format) (file a b : List ℕ) → IsProgram (Some files) format file a → IsProgram (Some files) format file b → a ≡ b
-    program-one Source file a b p q =
-        let same = one.one_image file p.0 q.0 p.1 q.1 p.2 q.2 p.3 q.3 in
+    program-one (Source short) file a b p q =
+        let same = one.one_image short file p.0 q.0 p.1 q.1 p.2 q.2 p.3 q.3 in
         p.4 ∙ ap₂ image_of same.1 same.2 ∙ sym q.4
     program-one Memory file a b p q = read-one file a b p.0 q.0
     program-one Image file a b p q = read-one file a b p.0 q.0
     program-one Eeprom file a b p q = read-one file a b p.0 q.0
 
-    listing-one : (file a b : List ℕ) → IsListingFrom (Some files) file a → IsListingFrom (Some files) file b → a ≡ b
-    listing-one file a b p q =
-        let same = one.one_image file p.0 q.0 p.1 q.1 p.2 q.2 p.3 q.3 in
+    listing-one : (short : Bool) (file a b : List ℕ) → IsListingFrom (Some files) short file a → IsListingFrom (Some files) short file b → a ≡ b
+    listing-one short file a b p q =
+        let same = one.one_image short file p.0 q.0 p.1 q.1 p.2 q.2 p.3 q.3 in
         p.4 ∙ ap₂ (λ (sources : List NamedSource) (objects : List ObjectPart). listing_of (map (λ source. source.name) sources) objects) same.0 same.2 ∙ sym q.4
 
     program-stop-one : (before now : ℕ) (format : Format) (file : List ℕ) (a b : Stop) → IsOfFiles a → IsOfFiles b → StopsAtProgram (Some files) before now format file a → StopsAtProgram (Some files) before now format file b → a ≡ b
-    program-stop-one before now Source file (Missing a) (Missing b) s t p q = ap Missing (one.one_missing before now file a b p q)
-    program-stop-one before now Source file (Missing a) (Refused b n y) s t p q = absurd (one.missing_or_refused before now file a b n y p q)
-    program-stop-one before now Source file (Refused a m x) (Missing b) s t p q = absurd (one.missing_or_refused before now file b a m x q p)
-    program-stop-one before now Source file (Refused a m x) (Refused b n y) s t p q = refused-same (one.one_refusal file a b m n x y p q)
-    program-stop-one before now Source file (BadProgram a f) b s t p q = absurd p
-    program-stop-one before now Source file a (BadProgram b g) s t p q = absurd q
+    program-stop-one before now (Source short) file (Missing a) (Missing b) s t p q = ap Missing (one.one_missing before now file a b p q)
+    program-stop-one before now (Source short) file (Missing a) (Refused b n y) s t p q = absurd (one.missing_or_refused before now file a b n y p q)
+    program-stop-one before now (Source short) file (Refused a m x) (Missing b) s t p q = absurd (one.missing_or_refused before now file b a m x q p)
+    program-stop-one before now (Source short) file (Refused a m x) (Refused b n y) s t p q = refused-same (one.one_refusal file a b m n x y p q)
+    program-stop-one before now (Source short) file (BadProgram a f) b s t p q = absurd p
+    program-stop-one before now (Source short) file a (BadProgram b g) s t p q = absurd q
     program-stop-one before now Memory file (Missing a) (Missing b) s t p q = ap Missing (p.0 ∙ sym q.0)
     program-stop-one before now Memory file (Missing a) (BadProgram b g) s t p q = absurd (read-some b a q.0 q.2 (p.0 ∙ sym q.1) p.1)
     program-stop-one before now Memory file (BadProgram a f) (Missing b) s t p q = absurd (read-some a b p.0 p.2 (q.0 ∙ sym p.1) q.1)
@@ -204,9 +204,9 @@ module _ (files : List ℕ → Option (List ℕ)) where
     program-stop-one before now format file a (BadScript b n) s t p q = absurd q
 
     program-never_both : (before now : ℕ) (format : Format) (file xs : List ℕ) (stop : Stop) → IsOfFiles stop → IsProgram (Some files) format file xs → StopsAtProgram (Some files) before now format file stop → ⊥
-    program-never_both before now Source file xs (Missing name) s is stops = one.not_missing before now file name is.0 is.1 is.2 is.3 stops
-    program-never_both before now Source file xs (Refused name number place) s is stops = one.not_refused file name number place is.0 is.1 is.2 is.3 stops
-    program-never_both before now Source file xs (BadProgram name fault) s is stops = stops
+    program-never_both before now (Source short) file xs (Missing name) s is stops = one.not_missing before now short file name is.0 is.1 is.2 is.3 stops
+    program-never_both before now (Source short) file xs (Refused name number place) s is stops = one.not_refused short file name number place is.0 is.1 is.2 is.3 stops
+    program-never_both before now (Source short) file xs (BadProgram name fault) s is stops = stops
     program-never_both before now Memory file xs (Missing name) s is stops = read-some file name xs is.0 stops.0 stops.1
     program-never_both before now Memory file xs (Refused name number place) s is stops = stops
     program-never_both before now Memory file xs (BadProgram name fault) s is stops = there-not_faulty Memory file xs name fault is.0 is.1 stops.0 stops.1 stops.2 stops.3
@@ -224,7 +224,7 @@ module _ (files : List ℕ → Option (List ℕ)) where
 
     gives-one : (ask : Ask) (a b : Given) → Gives (Some files) ask a → Gives (Some files) ask b → a ≡ b
     gives-one (program format file) (bytes xs) (bytes ys) p q = ap bytes (program-one format file xs ys p q)
-    gives-one (listing file) (bytes xs) (bytes ys) p q = ap bytes (listing-one file xs ys p q)
+    gives-one (listing short file) (bytes xs) (bytes ys) p q = ap bytes (listing-one short file xs ys p q)
     gives-one (script file) (lines xs) (lines ys) p q = ap lines (script-one file xs ys p q)
     gives-one (history file) (bytes xs) (bytes ys) p q = ap bytes (read-one file xs ys p q)
     gives-one (message file) (bytes xs) (bytes ys) p q = ap bytes (read-one file xs ys p.0 q.0)
@@ -234,24 +234,24 @@ module _ (files : List ℕ → Option (List ℕ)) where
     gives-one (history file) (bytes xs) (lines ys) p q = absurd q
     gives-one (program format file) (lines xs) b p q = absurd p
     gives-one (program format file) (bytes xs) (lines ys) p q = absurd q
-    gives-one (listing file) (lines xs) b p q = absurd p
-    gives-one (listing file) (bytes xs) (lines ys) p q = absurd q
+    gives-one (listing short file) (lines xs) b p q = absurd p
+    gives-one (listing short file) (bytes xs) (lines ys) p q = absurd q
     gives-one (script file) (bytes xs) b p q = absurd p
     gives-one (script file) (lines xs) (bytes ys) p q = absurd q
 
     stop-one : (before now : ℕ) (ask : Ask) (a b : Stop) → IsOfFiles a → IsOfFiles b → StopsAt (Some files) before now ask a → StopsAt (Some files) before now ask b → a ≡ b
     stop-one before now (program format file) a b s t p q = program-stop-one before now format file a b s t p q
-    stop-one before now (listing file) a b s t p q = program-stop-one before now Source file a b s t p q
+    stop-one before now (listing short file) a b s t p q = program-stop-one before now (Source short) file a b s t p q
     stop-one before now (script file) a b s t p q = script-stop-one before now file a b s t p q
     stop-one before now (history file) a b s t p q = file-stop-one before now file a b s t p q
     stop-one before now (message file) a b s t p q = message-stop-one before now file a b s t p q
 
     never-both : (before now : ℕ) (ask : Ask) (given : Given) (stop : Stop) → IsOfFiles stop → Gives (Some files) ask given → StopsAt (Some files) before now ask stop → ⊥
     never-both before now (program format file) (bytes xs) stop s is stops = program-never_both before now format file xs stop s is stops
-    never-both before now (listing file) (bytes xs) stop s is stops = program-never_both before now Source file (image_of is.1 is.2) stop s (is.0, is.1, is.2, is.3, refl) stops
+    never-both before now (listing short file) (bytes xs) stop s is stops = program-never_both before now (Source short) file (image_of is.1 is.2) stop s (is.0, is.1, is.2, is.3, refl) stops
     never-both before now (script file) (lines xs) stop s is stops = script-never_both before now file xs stop s is stops
     never-both before now (program format file) (lines xs) stop s is stops = is
-    never-both before now (listing file) (lines xs) stop s is stops = is
+    never-both before now (listing short file) (lines xs) stop s is stops = is
     never-both before now (script file) (bytes xs) stop s is stops = is
     never-both before now (history file) (bytes xs) stop s is stops = file-never_both before now file xs stop s is stops
     never-both before now (history file) (lines xs) stop s is stops = is
@@ -314,14 +314,14 @@ gather-rose files before now top name o is (outcomes.mention_refused other numbe
 gather-rose files before now top name o is (outcomes.whole calls) = absurd cc
 
 program-unread-rose : (files : Files) (before now : ℕ) (format : Format) (file name : List ℕ) → IsProgramUnread files before now format file name → Rose before now
-program-unread-rose files before now Source file name unread = gather-rose files before now file name (failed name) refl unread
+program-unread-rose files before now (Source short) file name unread = gather-rose files before now file name (failed name) refl unread
 program-unread-rose files before now Memory file name unread = unread.1
 program-unread-rose files before now Image file name unread = unread.1
 program-unread-rose files before now Eeprom file name unread = unread.1
 
 ask-unread-rose : (files : Files) (before now : ℕ) (ask : Ask) (name : List ℕ) → StopsAt files before now ask (Unread name) → Rose before now
 ask-unread-rose files before now (program format file) name unread = program-unread-rose files before now format file name unread
-ask-unread-rose files before now (listing file) name unread = program-unread-rose files before now Source file name unread
+ask-unread-rose files before now (listing short file) name unread = program-unread-rose files before now (Source short) file name unread
 ask-unread-rose files before now (script file) name unread = unread.1
 ask-unread-rose files before now (history file) name unread = unread.1
 ask-unread-rose files before now (message file) name unread = unread.1

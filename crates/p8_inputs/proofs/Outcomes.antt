@@ -1,5 +1,5 @@
 -- A source on a shelf that tells its files has one outcome.
-use Rattle.std.proofs.Common.{◌≡◌, ℕ, List, Option, Some, ap, subst}
+use Rattle.std.proofs.Common.{◌≡◌, ℕ, Bool, true, false, List, Option, Some, ap, subst, refl}
 use Rattle.p8_tree.specs.declared.places.Place.{Place}
 use Rattle.p8_tree.specs.Projects.{NamedSource}
 use Rattle.p8_faults.specs.declared.faults.Fault.{Fault}
@@ -10,9 +10,10 @@ use Rattle.p8_objects.specs.Outcomes.{Outcome, project, refused, missing, shelve
 use Rattle.p8_objects.specs.Whole.{IsOfFiles}
 use Rattle.p8_objects.proofs.Wholes.{whole_project}
 use Rattle.p8_children.specs.Mentions as seen
-use Rattle.p8_build.specs.Builds.{IsBuilt, IsRefusedWith}
-use Rattle.p8_inputs.specs.Sources.{GathersTo, IsBuiltFrom, IsRefusedFrom, while_gathered, when_built, HasOneOutcome}
-use Rattle.p8_inputs.proofs.Gathering.{distinct, mentioned, no_ring}
+use Rattle.p8_build.specs.Builds.{IsBuilt, IsRefusedWith, objects_of}
+use Rattle.p8_opt.specs.Shorts.{IsShortBuilt}
+use Rattle.p8_inputs.specs.Sources.{GathersTo, IsBuiltBy, IsBuiltFrom, IsRefusedFrom, while_gathered, when_built, HasOneOutcome}
+use Rattle.p8_inputs.proofs.Gathering.{distinct, no_ring}
 
 same-project : {a b : List NamedSource} → project a ≡ project b → a ≡ b
 same-project e = cc
@@ -32,38 +33,55 @@ same-refused e = (cc, cc, cc)
 missing-not_refused : {a name : List ℕ} {number : ℕ} {place : Place} → missing a ≡ refused name number place → ⊥
 missing-not_refused e = cc
 
+-- a project with short code is accepted as it stands
+as-it_stands : (sources : List NamedSource) (clock : Clock) (objects : List ObjectPart) (b : IsShortBuilt sources clock objects) → IsBuilt sources clock (objects_of sources b.children b.compiled)
+as-it_stands sources clock objects b = record { children = b.children; seen = b.seen; compiled = b.compiled; each = b.each; objects_are = refl; clock_is = b.clock_is; fits = b.fits }
+
 -- what gathering comes to is one thing
 abbrev pub OneGathered : Type 0
 OneGathered = (files : List ℕ → Option (List ℕ)) (before now : ℕ) (top : List ℕ) (a b : Outcome) → Gathers (shelved (Some files) before now) top a → Gathers (shelved (Some files) before now) top b → IsOfFiles a → IsOfFiles b → a ≡ b
 
 -- what building comes to is one thing
 abbrev pub OneBuilt : Type 0
-OneBuilt = (files : List NamedSource) → seen.AreDistinct files → seen.HaveMentioned files → seen.HaveNoRing files → (c d : Clock) (a b : List ObjectPart) → IsBuilt files c a → IsBuilt files d b → (c ≡ d) × (a ≡ b)
+OneBuilt = (files : List NamedSource) → seen.AreDistinct files → seen.HaveNoRing files → (c d : Clock) (a b : List ObjectPart) → IsBuilt files c a → IsBuilt files d b → (c ≡ d) × (a ≡ b)
 
 abbrev pub BuiltOrRefused : Type 0
-BuiltOrRefused = (files : List NamedSource) → seen.AreDistinct files → seen.HaveMentioned files → seen.HaveNoRing files → (c : Clock) (a : List ObjectPart) (name : List ℕ) (f : Fault) → IsBuilt files c a → IsRefusedWith files name f → ⊥
+BuiltOrRefused = (files : List NamedSource) → seen.AreDistinct files → seen.HaveNoRing files → (c : Clock) (a : List ObjectPart) (name : List ℕ) (f : Fault) → IsBuilt files c a → IsRefusedWith files name f → ⊥
+
+-- the same with short code
+abbrev pub OneShortBuilt : Type 0
+OneShortBuilt = (files : List NamedSource) → seen.AreDistinct files → seen.HaveNoRing files → (c d : Clock) (a b : List ObjectPart) → IsShortBuilt files c a → IsShortBuilt files d b → (c ≡ d) × (a ≡ b)
 
 abbrev pub OneRefused : Type 0
 OneRefused = (files : List NamedSource) → seen.AreDistinct files → seen.HaveNoRing files → (a b : List ℕ) (f g : Fault) → IsRefusedWith files a f → IsRefusedWith files b g → (a ≡ b) × (f ≡ g)
 
-module _ (one : OneGathered) (same : OneBuilt) (refusal : OneRefused) (either : BuiltOrRefused) (files : List ℕ → Option (List ℕ)) where
+module _ (one : OneGathered) (same : OneBuilt) (refusal : OneRefused) (either : BuiltOrRefused) (short_same : OneShortBuilt) (files : List ℕ → Option (List ℕ)) where
+  -- what building by a choice comes to is one thing
+  built-one : (short : Bool) (sources : List NamedSource) → seen.AreDistinct sources → seen.HaveNoRing sources → (c d : Clock) (a b : List ObjectPart) → IsBuiltBy short sources c a → IsBuiltBy short sources d b → (c ≡ d) × (a ≡ b)
+  built-one false sources different none c d a b p q = same sources different none c d a b p q
+  built-one true sources different none c d a b p q = short_same sources different none c d a b p q
+
+  built-or_refused : (short : Bool) (sources : List NamedSource) → seen.AreDistinct sources → seen.HaveNoRing sources → (c : Clock) (a : List ObjectPart) (name : List ℕ) (f : Fault) → IsBuiltBy short sources c a → IsRefusedWith sources name f → ⊥
+  built-or_refused false sources different none c a name f p q = either sources different none c a name f p q
+  built-or_refused true sources different none c a name f p q = either sources different none c _ name f (as-it_stands sources c a p) q
+
   one-project : (top : List ℕ) (a b : List NamedSource) → GathersTo (Some files) top (project a) → GathersTo (Some files) top (project b) → a ≡ b
   one-project top a b g h = same-project (one files 0 0 top (project a) (project b) (g 0 0) (h 0 0) tt tt)
 
-  one-image : (top : List ℕ) (some others : List NamedSource) (clock other : Clock) (objects parts : List ObjectPart) → IsBuiltFrom (Some files) top some clock objects → IsBuiltFrom (Some files) top others other parts → (some ≡ others) × (clock ≡ other) × (objects ≡ parts)
-  one-image top some others clock other objects parts g h =
+  one-image : (short : Bool) (top : List ℕ) (some others : List NamedSource) (clock other : Clock) (objects parts : List ObjectPart) → IsBuiltFrom (Some files) short top some clock objects → IsBuiltFrom (Some files) short top others other parts → (some ≡ others) × (clock ≡ other) × (objects ≡ parts)
+  one-image short top some others clock other objects parts g h =
       let e : some ≡ others = one-project top some others g.gathered h.gathered in
       let whole = whole_project (h.gathered 0 0) in
-      let is = same others (distinct others whole.distinct) (mentioned others whole.mentioned) (no_ring others whole.no_ring) clock other objects parts (subst (λ s. IsBuilt s clock objects) e g.built) h.built in
+      let is = built-one short others (distinct others whole.distinct) (no_ring others whole.no_ring) clock other objects parts (subst (λ s. IsBuiltBy short s clock objects) e g.built) h.built in
       (e, is.0, is.1)
 
-  not-refused : (top name : List ℕ) (number : ℕ) (place : Place) (sources : List NamedSource) (clock : Clock) (objects : List ObjectPart) → IsBuiltFrom (Some files) top sources clock objects → IsRefusedFrom (Some files) top name number place → ⊥
-  not-refused top name number place sources clock objects g (while_gathered h) =
+  not-refused : (short : Bool) (top name : List ℕ) (number : ℕ) (place : Place) (sources : List NamedSource) (clock : Clock) (objects : List ObjectPart) → IsBuiltFrom (Some files) short top sources clock objects → IsRefusedFrom (Some files) top name number place → ⊥
+  not-refused short top name number place sources clock objects g (while_gathered h) =
       project-not_refused (one files 0 0 top (project sources) (refused name number place) (g.gathered 0 0) (h 0 0) tt tt)
-  not-refused top name number place sources clock objects g (when_built others h told) =
+  not-refused short top name number place sources clock objects g (when_built others h told) =
       let e : others ≡ sources = one-project top others sources h g.gathered in
       let whole = whole_project (g.gathered 0 0) in
-      either sources (distinct sources whole.distinct) (mentioned sources whole.mentioned) (no_ring sources whole.no_ring) clock objects name (fault number place) g.built (subst (λ s. IsRefusedWith s name (fault number place)) e told)
+      built-or_refused short sources (distinct sources whole.distinct) (no_ring sources whole.no_ring) clock objects name (fault number place) g.built (subst (λ s. IsRefusedWith s name (fault number place)) e told)
 
   missing-or-refused : (before now : ℕ) (top name other : List ℕ) (number : ℕ) (place : Place) → Gathers (shelved (Some files) before now) top (missing name) → IsRefusedFrom (Some files) top other number place → ⊥
   missing-or-refused before now top name other number place g (while_gathered h) =
@@ -87,7 +105,7 @@ module _ (one : OneGathered) (same : OneBuilt) (refusal : OneRefused) (either : 
   pub one-outcome : HasOneOutcome files
   one-outcome = record {
     one_image = one-image;
-    not_missing = λ before now top name sources clock objects g h. project-not_missing (one files before now top (project sources) (missing name) (g.gathered before now) h tt tt);
+    not_missing = λ before now short top name sources clock objects g h. project-not_missing (one files before now top (project sources) (missing name) (g.gathered before now) h tt tt);
     not_refused = not-refused;
     missing_or_refused = missing-or-refused;
     one_missing = λ before now top a b g h. same-missing (one files before now top (missing a) (missing b) g h tt tt);

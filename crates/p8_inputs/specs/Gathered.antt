@@ -1,6 +1,6 @@
 -- internal
 -- What is known of a project that was gathered from a shelf, and why there is none, or no image of it.
-use Rattle.std.specs.Prelude.{ℕ, ◌≡◌, ◌<◌, ◌≤◌, List, length, map}
+use Rattle.std.specs.Prelude.{ℕ, ◌≡◌, ◌<◌, ◌≤◌, Bool, List, length, map}
 use Rattle.p8_tree.specs.Projects.{NamedSource}
 use Rattle.p8_tree.specs.Proper.{IsProperFile}
 use Rattle.p8_faults.specs.Faults.{fault}
@@ -10,9 +10,11 @@ use Rattle.p8_io.specs.Shelves.{Files}
 use Rattle.p8_objects.specs.Outcomes.{project}
 use Rattle.p8_objects.specs.Projects.{most_files}
 use Rattle.p8_objects.specs.Whole.{HaveMentioned, HaveNoRing, EachTree}
-use Rattle.p8_build.specs.Builds.{IsBuilt, IsRefusedWith}
+use Rattle.p8_image.specs.Layout.{image_of}
+use Rattle.p8_image.specs.Loading.{ImageValue, image_in}
+use Rattle.p8_build.specs.Builds.{IsRefusedWith}
 use Rattle.p8_texts.specs.Listing.{listing_of}
-use Rattle.p8_inputs.specs.Sources.{GathersTo}
+use Rattle.p8_inputs.specs.Sources.{GathersTo, IsBuiltBy}
 use Rattle.p8_inputs.specs.declared.stop.Stop.{Stop}
 use Rattle.p8_inputs.specs.declared.stop.Stop.TheVariants as stop
 
@@ -29,10 +31,19 @@ pub record IsProject (files : Files) (top : List ℕ) (sources : List NamedSourc
   pub gathered : GathersTo files top (project sources)
   pub whole : IsWhole sources
 
+-- this image is that of a project
+abbrev pub IsImageBuiltBy : (short : Bool) → List NamedSource → ImageValue → Type 0
+IsImageBuiltBy short sources image =
+    ((clock : Clock) × (objects : List ObjectPart) × IsBuiltBy short sources clock objects × (image.file ≡ image_of clock objects)) × (image ≡ image_in image.file)
+
+-- a project is built to these objects
+abbrev pub AreBuiltBy : (short : Bool) → List NamedSource → List ObjectPart → Type 0
+AreBuiltBy short sources objects = (clock : Clock) × IsBuiltBy short sources clock objects
+
 -- this text is the listing of a project
-abbrev pub IsListingOf : List NamedSource → List ℕ → Type 0
-IsListingOf sources text =
-    (clock : Clock) × (objects : List ObjectPart) × IsBuilt sources clock objects × (text ≡ listing_of (map (λ source. source.name) sources) objects)
+abbrev pub IsListingOf : (short : Bool) → List NamedSource → List ℕ → Type 0
+IsListingOf short sources text =
+    (clock : Clock) × (objects : List ObjectPart) × IsBuiltBy short sources clock objects × (text ≡ listing_of (map (λ source. source.name) sources) objects)
 
 -- why a project isn't built
 abbrev pub StopsAtBuilding : List NamedSource → Stop → Type 0

@@ -14,7 +14,7 @@ use Rattle.p8_inputs.specs.Sources.{IsImageFrom, IsRefusedFrom}
 
 -- these are the bytes of what is run: of the file itself, or of the image of the project whose top file it is
 abbrev pub IsProgram : Files → Format → (file bytes : List ℕ) → Type 0
-IsProgram files Source file bytes = IsImageFrom files file bytes
+IsProgram files (Source short) file bytes = IsImageFrom files short file bytes
 IsProgram files format file bytes = IsRead files file bytes × (fault_of format bytes ≡ None)
 
 -- the lines of the pin script, where one is named, and else none
@@ -24,20 +24,20 @@ IsScriptFor files (Some name) script = (bytes : List ℕ) × IsRead files name b
 
 -- the file to run is missing, or one of its project, by what the shelf tells, with its counts before and now
 abbrev pub IsProgramMissing : Files → (before now : ℕ) → Format → (file name : List ℕ) → Type 0
-IsProgramMissing files before now Source file name = Gathers (shelved files before now) file (missing name)
+IsProgramMissing files before now (Source short) file name = Gathers (shelved files before now) file (missing name)
 IsProgramMissing files before now format file name = (name ≡ file) × IsLacking before now files name
 
 -- the file to run could not be read, or one of its project: the shelf has counted a fault
 abbrev pub IsProgramUnread : Files → (before now : ℕ) → Format → (file name : List ℕ) → Type 0
-IsProgramUnread files before now Source file name = Gathers (shelved files before now) file (failed name)
+IsProgramUnread files before now (Source short) file name = Gathers (shelved files before now) file (failed name)
 IsProgramUnread files before now format file name = (name ≡ file) × Rose before now
 
 -- the source to run is refused: a file of its project, with a number, at a place
 abbrev pub HasRefusal : Files → Format → (file name : List ℕ) → (number : ℕ) → Place → Type 0
-HasRefusal files Source file name number place = IsRefusedFrom files file name number place
+HasRefusal files (Source short) file name number place = IsRefusedFrom files file name number place
 HasRefusal files format file name number place = ⊥
 
 -- the file to run, which is no source, has this fault
 abbrev pub HasFault : Files → Format → (file name : List ℕ) → LoadFault → Type 0
-HasFault files Source file name fault = ⊥
+HasFault files (Source short) file name fault = ⊥
 HasFault files format file name fault = (bytes : List ℕ) × (name ≡ file) × IsRead files name bytes × (fault_of format bytes ≡ Some fault)

@@ -3,6 +3,7 @@ pub mod Programs
 pub mod Sources
 pub mod Inputs
 pub mod Asks
+pub mod Orders
 pub mod Refusals
 pub mod Stops
 pub mod Runs

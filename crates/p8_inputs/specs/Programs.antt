@@ -22,39 +22,39 @@ abbrev pub format_of : ImageKind → Format
 format_of kind.Binary = Image
 format_of kind.Eeprom = Eeprom
 
-abbrev pub format_by : Option ImageKind → Format
-format_by (Some kind) = format_of kind
-format_by None = Source
+abbrev pub format_by : (short : Bool) → Option ImageKind → Format
+format_by short (Some kind) = format_of kind
+format_by short None = Source short
 
--- what a file to run is taken for, by its name: an image of a kind, or else a source
-abbrev pub format_named : List ℕ → Format
-format_named name = format_by (kind_named name)
+-- what a file to run is taken for, by its name: an image of a kind, or else a source, with its short code where it is short
+abbrev pub format_named : (short : Bool) → List ℕ → Format
+format_named short name = format_by short (kind_named name)
 
 -- what it is taken for: hub memory where it is raw, and else by its name
 abbrev pub format_for : (raw : Bool) → List ℕ → Format
 format_for true name = Memory
-format_for false name = format_named name
+format_for false name = format_named false name
 
 -- the first fault of what is run, if it can't be: hub memory has to fit the hub, and an image has rules of its own
 abbrev pub fault_of : Format → List ℕ → Option LoadFault
 fault_of Memory bytes = if nat_le (length bytes) 32768 then None else Some (BadLength (length bytes))
 fault_of Image bytes = first_fault bytes
 fault_of Eeprom bytes = eeprom_fault bytes
-fault_of Source bytes = first_fault bytes
+fault_of (Source short) bytes = first_fault bytes
 
 -- the hub memory that a run begins with
 abbrev pub memory_by : Format → List ℕ → List ℕ
 memory_by Memory bytes = ram_of bytes
 memory_by Image bytes = memory_of bytes
 memory_by Eeprom bytes = bytes
-memory_by Source bytes = memory_of bytes
+memory_by (Source short) bytes = memory_of bytes
 
 -- what cog 0 is started with: hub memory as PASM at $0000 with PAR 0, an image as its header says
 abbrev pub first_by : Format → List ℕ → Origin
 first_by Memory bytes = Pasm 0 0
 first_by Image bytes = start_of (header_of bytes)
 first_by Eeprom bytes = start_of (header_of bytes)
-first_by Source bytes = start_of (header_of bytes)
+first_by (Source short) bytes = start_of (header_of bytes)
 
 -- an image of a kind as the other kind of file: of a `.binary` the memory that it begins with, of an `.eeprom` what a `.binary` has of it
 abbrev pub other_file : ImageKind → List ℕ → List ℕ

@@ -15,9 +15,9 @@ use Rattle.p8_inputs.specs.Sources.{IsBuiltFrom}
 
 -- what is run of a source is the image of its project, whose trees are such as are read
 abbrev pub HasProperTrees : Files → Format → (file bytes : List ℕ) → Type 0
-HasProperTrees files Source file bytes =
+HasProperTrees files (Source short) file bytes =
     (sources : List NamedSource) × (clock : Clock) × (objects : List ObjectPart)
-    × IsBuiltFrom files file sources clock objects × AreProper sources × (bytes ≡ image_of clock objects)
+    × IsBuiltFrom files short file sources clock objects × AreProper sources × (bytes ≡ image_of clock objects)
 HasProperTrees files format file bytes = Unit {0}
 
 -- the boot is that of the file to run, and the pin script is the one that is named

@@ -1,5 +1,5 @@
 -- Sources on a shelf: what the project of a top file is built to, or why there is no image of it (this project's profile).
-use Rattle.std.specs.Prelude.{ℕ, ◌≡◌, List, Option, Some, map}
+use Rattle.std.specs.Prelude.{ℕ, ◌≡◌, Bool, true, false, List, Option, Some, map}
 use Rattle.p8_tree.specs.declared.places.Place.{Place}
 use Rattle.p8_tree.specs.Projects.{NamedSource}
 use Rattle.p8_faults.specs.Faults.{fault}
@@ -9,28 +9,34 @@ use Rattle.p8_image.specs.Layout.{image_of}
 use Rattle.p8_io.specs.Shelves.{Files}
 use Rattle.p8_objects.specs.Outcomes.{Outcome, project, refused, missing, shelved, Gathers}
 use Rattle.p8_build.specs.Builds.{IsBuilt, IsRefusedWith}
+use Rattle.p8_opt.specs.Shorts.{IsShortBuilt}
 use Rattle.p8_texts.specs.Listing.{listing_of}
 
 -- gathering the project of a top file comes to this, whatever faults the shelf counts
 abbrev pub GathersTo : Files → (top : List ℕ) → Outcome → Type 0
 GathersTo files top outcome = (before now : ℕ) → Gathers (shelved files before now) top outcome
 
--- the project of a top file has these files, and is built to an image with this clock and these objects
-pub record IsBuiltFrom (files : Files) (top : List ℕ) (sources : List NamedSource) (clock : Clock) (objects : List ObjectPart) : Type 0 where
+-- a project is built to an image with this clock and these objects, whose methods have their short code where it is short
+abbrev pub IsBuiltBy : (short : Bool) → List NamedSource → Clock → List ObjectPart → Type 0
+IsBuiltBy false sources clock objects = IsBuilt sources clock objects
+IsBuiltBy true sources clock objects = IsShortBuilt sources clock objects
+
+-- the project of a top file has these files, and is built so
+pub record IsBuiltFrom (files : Files) (short : Bool) (top : List ℕ) (sources : List NamedSource) (clock : Clock) (objects : List ObjectPart) : Type 0 where
   pub gathered : GathersTo files top (project sources)
-  pub built : IsBuilt sources clock objects
+  pub built : IsBuiltBy short sources clock objects
 
 -- these bytes are the image of the project of a top file
-abbrev pub IsImageFrom : Files → (top bytes : List ℕ) → Type 0
-IsImageFrom files top bytes =
+abbrev pub IsImageFrom : Files → (short : Bool) → (top bytes : List ℕ) → Type 0
+IsImageFrom files short top bytes =
     (sources : List NamedSource) × (clock : Clock) × (objects : List ObjectPart)
-    × IsBuiltFrom files top sources clock objects × (bytes ≡ image_of clock objects)
+    × IsBuiltFrom files short top sources clock objects × (bytes ≡ image_of clock objects)
 
 -- this text is the listing of the project of a top file
-abbrev pub IsListingFrom : Files → (top text : List ℕ) → Type 0
-IsListingFrom files top text =
+abbrev pub IsListingFrom : Files → (short : Bool) → (top text : List ℕ) → Type 0
+IsListingFrom files short top text =
     (sources : List NamedSource) × (clock : Clock) × (objects : List ObjectPart)
-    × IsBuiltFrom files top sources clock objects × (text ≡ listing_of (map (λ source. source.name) sources) objects)
+    × IsBuiltFrom files short top sources clock objects × (text ≡ listing_of (map (λ source. source.name) sources) objects)
 
 -- the project of a top file is refused: this file of it, with this number, at this place; while it is gathered, or else when it is built
 pub data IsRefusedFrom (files : Files) (top name : List ℕ) (number : ℕ) (place : Place) : Type 0 where
@@ -40,13 +46,13 @@ pub data IsRefusedFrom (files : Files) (top name : List ℕ) (number : ℕ) (pla
 
 -- Where a shelf tells its files, a source has one outcome.
 pub record HasOneOutcome (files : List ℕ → Option (List ℕ)) : Type 0 where
-  pub one_image : (top : List ℕ) (some others : List NamedSource) (clock other : Clock) (objects parts : List ObjectPart)
-      → IsBuiltFrom (Some files) top some clock objects → IsBuiltFrom (Some files) top others other parts
+  pub one_image : (short : Bool) (top : List ℕ) (some others : List NamedSource) (clock other : Clock) (objects parts : List ObjectPart)
+      → IsBuiltFrom (Some files) short top some clock objects → IsBuiltFrom (Some files) short top others other parts
       → (some ≡ others) × (clock ≡ other) × (objects ≡ parts)
-  pub not_missing : (before now : ℕ) (top name : List ℕ) (sources : List NamedSource) (clock : Clock) (objects : List ObjectPart)
-      → IsBuiltFrom (Some files) top sources clock objects → ¬ Gathers (shelved (Some files) before now) top (missing name)
-  pub not_refused : (top name : List ℕ) (number : ℕ) (place : Place) (sources : List NamedSource) (clock : Clock) (objects : List ObjectPart)
-      → IsBuiltFrom (Some files) top sources clock objects → ¬ IsRefusedFrom (Some files) top name number place
+  pub not_missing : (before now : ℕ) (short : Bool) (top name : List ℕ) (sources : List NamedSource) (clock : Clock) (objects : List ObjectPart)
+      → IsBuiltFrom (Some files) short top sources clock objects → ¬ Gathers (shelved (Some files) before now) top (missing name)
+  pub not_refused : (short : Bool) (top name : List ℕ) (number : ℕ) (place : Place) (sources : List NamedSource) (clock : Clock) (objects : List ObjectPart)
+      → IsBuiltFrom (Some files) short top sources clock objects → ¬ IsRefusedFrom (Some files) top name number place
   pub missing_or_refused : (before now : ℕ) (top name other : List ℕ) (number : ℕ) (place : Place)
       → Gathers (shelved (Some files) before now) top (missing name) → ¬ IsRefusedFrom (Some files) top other number place
   pub one_missing : (before now : ℕ) (top a b : List ℕ)

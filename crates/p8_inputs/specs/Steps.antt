@@ -17,5 +17,5 @@ IsBootOf files format file boot =
 
 -- a file of this format has the bytes that are run themselves
 abbrev pub IsOfBytes : Format → Type 0
-IsOfBytes Source = ⊥
+IsOfBytes (Source short) = ⊥
 IsOfBytes format = Unit {0}

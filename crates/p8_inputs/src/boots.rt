@@ -85,6 +85,6 @@ pub fn boot_of(alloc: Global, format: Format, bytes: &[u8]) -> Result<Boot, Fail
     match format {
         Format::Memory => memory_boot(alloc, bytes),
         Format::Eeprom => eeprom_boot(alloc, bytes),
-        Format::Image | Format::Source => image_boot(alloc, bytes),
+        Format::Image | Format::Source { .. } => image_boot(alloc, bytes),
     }
 }

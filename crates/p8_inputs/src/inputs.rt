@@ -1,10 +1,11 @@
 // The files of a run.
 ghost use Rattle.std.specs.Prelude.{◌≡◌, ◌≤◌, ◌∷◌, [], length, Some, IfOk, IfErr};
 ghost use Rattle.p8_access.specs.Proper.{IsProperOrigin};
-ghost use Rattle.p8_io.specs.Shelves.{IsRead};
-ghost use Rattle.p8_inputs.specs.Asks.{StopsAtFile, StopsAtProgram, StopsAtScript, Stops, script_ask, run_asks, check_asks, most_sent, message as message_ask};
+ghost use Rattle.p8_io.specs.Shelves.{IsRead, WereRead};
+ghost use Rattle.p8_inputs.specs.Asks.{StopsAtFile, StopsAtProgram, StopsAtScript, Stops, program as program_ask, script_ask, run_asks, check_asks, most_sent, message as message_ask};
 ghost use Rattle.p8_inputs.specs.Inputs.{IsScriptFor};
 ghost use Rattle.p8_inputs.specs.Naming.{name_of};
+ghost use Rattle.p8_inputs.specs.Orders.{IsAllRead, IsReadSoFar, MayBeRead, AreAllRead, AreReadSoFar};
 ghost use Rattle.p8_inputs.specs.Runs.{Begins};
 ghost use Rattle.p8_inputs.specs.Steps.{IsBootOf, IsOfBytes};
 ghost use Rattle.p8_inputs.specs.declared.program.Format.TheVariants.{Source};
@@ -44,6 +45,8 @@ pub struct Recorded {
 pub(crate) fn bytes_in<S: Shelf>(alloc: Global, file: &str, shelf: &mut S) -> Result<Vec<u8>, Stop>
     ensures read { IfOk result (λ bytes. IsRead (S.files shelf.old) file.now bytes.items) }
     ensures stopped { IfErr result (StopsAtFile (S.files shelf.old) (S.faults shelf.old) (S.faults shelf.new) file.now) }
+    ensures all_read { IfOk result (λ _. WereRead (S.log shelf.old) (S.log shelf.new) (file.now ∷ [])) }
+    ensures so_far { MayBeRead file.now (S.log shelf.old) (S.log shelf.new) }
     ensures later { S.faults shelf.old ≤ S.faults shelf.new }
     ensures kept { S.files shelf.new ≡ S.files shelf.old }
 {
@@ -62,6 +65,8 @@ fn file_in<S: Shelf>(alloc: Global, program: Program<'_>, shelf: &mut S) -> Resu
     ensures boot { IfOk result (IsBootOf (S.files shelf.old) program.entry.format program.entry.file.now) }
     ensures proper { IfOk result (λ boot. IsProperOrigin boot.first) }
     ensures stopped { IfErr result (StopsAtProgram (S.files shelf.old) (S.faults shelf.old) (S.faults shelf.new) program.entry.format program.entry.file.now) }
+    ensures all_read { IfOk result (λ _. IsAllRead (S.files shelf.old) (program_ask program.entry.format program.entry.file.now) (S.log shelf.old) (S.log shelf.new)) }
+    ensures so_far { IsReadSoFar (S.files shelf.old) (program_ask program.entry.format program.entry.file.now) (S.log shelf.old) (S.log shelf.new) }
     ensures later { S.faults shelf.old ≤ S.faults shelf.new }
     ensures kept { S.files shelf.new ≡ S.files shelf.old }
 {
@@ -75,14 +80,16 @@ fn file_in<S: Shelf>(alloc: Global, program: Program<'_>, shelf: &mut S) -> Resu
 }
 
 /// The boot of a source's image.
-fn source_in<S: Shelf>(alloc: Global, file: &str, shelf: &mut S) -> Result<Boot, Stop>
-    ensures boot { IfOk result (IsBootOf (S.files shelf.old) Source file.now) }
+fn source_in<S: Shelf>(alloc: Global, short: bool, file: &str, shelf: &mut S) -> Result<Boot, Stop>
+    ensures boot { IfOk result (IsBootOf (S.files shelf.old) (Source short) file.now) }
     ensures proper { IfOk result (λ boot. IsProperOrigin boot.first) }
-    ensures stopped { IfErr result (StopsAtProgram (S.files shelf.old) (S.faults shelf.old) (S.faults shelf.new) Source file.now) }
+    ensures stopped { IfErr result (StopsAtProgram (S.files shelf.old) (S.faults shelf.old) (S.faults shelf.new) (Source short) file.now) }
+    ensures all_read { IfOk result (λ _. IsAllRead (S.files shelf.old) (program_ask (Source short) file.now) (S.log shelf.old) (S.log shelf.new)) }
+    ensures so_far { IsReadSoFar (S.files shelf.old) (program_ask (Source short) file.now) (S.log shelf.old) (S.log shelf.new) }
     ensures later { S.faults shelf.old ≤ S.faults shelf.new }
     ensures kept { S.files shelf.new ≡ S.files shelf.old }
 {
-    let image = image_in(alloc, file, shelf)?;
+    let image = image_in(alloc, short, file, shelf)?;
     let boot = binary_boot(alloc, &image)?;
     Ok(boot)
 }
@@ -92,11 +99,13 @@ fn boot_in<S: Shelf>(alloc: Global, program: Program<'_>, shelf: &mut S) -> Resu
     ensures boot { IfOk result (IsBootOf (S.files shelf.old) program.entry.format program.entry.file.now) }
     ensures proper { IfOk result (λ boot. IsProperOrigin boot.first) }
     ensures stopped { IfErr result (StopsAtProgram (S.files shelf.old) (S.faults shelf.old) (S.faults shelf.new) program.entry.format program.entry.file.now) }
+    ensures all_read { IfOk result (λ _. IsAllRead (S.files shelf.old) (program_ask program.entry.format program.entry.file.now) (S.log shelf.old) (S.log shelf.new)) }
+    ensures so_far { IsReadSoFar (S.files shelf.old) (program_ask program.entry.format program.entry.file.now) (S.log shelf.old) (S.log shelf.new) }
     ensures later { S.faults shelf.old ≤ S.faults shelf.new }
     ensures kept { S.files shelf.new ≡ S.files shelf.old }
 {
     match program.format {
-        Format::Source => source_in(alloc, program.file, shelf),
+        Format::Source { short } => source_in(alloc, short, program.file, shelf),
         Format::Memory | Format::Image | Format::Eeprom => file_in(alloc, program, shelf),
     }
 }
@@ -105,6 +114,8 @@ fn boot_in<S: Shelf>(alloc: Global, program: Program<'_>, shelf: &mut S) -> Resu
 fn script_in<S: Shelf>(alloc: Global, file: &str, shelf: &mut S) -> Result<PinScript, Stop>
     ensures script { IfOk result (IsScriptFor (S.files shelf.old) (Some file.now)) }
     ensures stopped { IfErr result (StopsAtScript (S.files shelf.old) (S.faults shelf.old) (S.faults shelf.new) file.now) }
+    ensures all_read { IfOk result (λ _. WereRead (S.log shelf.old) (S.log shelf.new) (file.now ∷ [])) }
+    ensures so_far { MayBeRead file.now (S.log shelf.old) (S.log shelf.new) }
     ensures later { S.faults shelf.old ≤ S.faults shelf.new }
     ensures kept { S.files shelf.new ≡ S.files shelf.old }
 {
@@ -128,6 +139,8 @@ fn script_for<S: Shelf>(
 ) -> Result<PinScript, Stop>
     ensures script { IfOk result (IsScriptFor (S.files shelf.old) (name_of script.entry)) }
     ensures stopped { IfErr result (Stops (S.files shelf.old) (S.faults shelf.old) (S.faults shelf.new) (script_ask (name_of script.entry))) }
+    ensures all_read { IfOk result (λ _. AreAllRead (S.files shelf.old) (script_ask (name_of script.entry)) (S.log shelf.old) (S.log shelf.new)) }
+    ensures so_far { AreReadSoFar (S.files shelf.old) (script_ask (name_of script.entry)) (S.log shelf.old) (S.log shelf.new) }
     ensures later { S.faults shelf.old ≤ S.faults shelf.new }
     ensures kept { S.files shelf.new ≡ S.files shelf.old }
 {
@@ -138,7 +151,7 @@ fn script_for<S: Shelf>(
 }
 
 /// Reads what a run begins with: the file to run, with all files of its project where it is a source, and then the pin script, if
-/// one is named.
+/// one is named. Of the shelf these files are read, each once and in this order, and at an error none after the one that stops.
 ///
 /// # Errors
 ///
@@ -158,6 +171,8 @@ pub fn read_inputs<S: Shelf>(
     ensures proper { IfOk result (λ inputs. IsProperOrigin inputs.boot.first) }
     ensures stopped { IfErr result
         (Stops (S.files shelf.old) (S.faults shelf.old) (S.faults shelf.new) (run_asks program.entry.format program.entry.file.now (name_of script.entry))) }
+    ensures all_read { IfOk result (λ _. AreAllRead (S.files shelf.old) (run_asks program.entry.format program.entry.file.now (name_of script.entry)) (S.log shelf.old) (S.log shelf.new)) }
+    ensures so_far { AreReadSoFar (S.files shelf.old) (run_asks program.entry.format program.entry.file.now (name_of script.entry)) (S.log shelf.old) (S.log shelf.new) }
     ensures later { S.faults shelf.old ≤ S.faults shelf.new }
     ensures kept { S.files shelf.new ≡ S.files shelf.old }
 {
@@ -184,6 +199,8 @@ pub fn read_recorded<S: Shelf>(
     ensures stopped { IfErr result
         (Stops (S.files shelf.old) (S.faults shelf.old) (S.faults shelf.new)
         (check_asks program.entry.format program.entry.file.now (name_of script.entry) history.now)) }
+    ensures all_read { IfOk result (λ _. AreAllRead (S.files shelf.old) (check_asks program.entry.format program.entry.file.now (name_of script.entry) history.now) (S.log shelf.old) (S.log shelf.new)) }
+    ensures so_far { AreReadSoFar (S.files shelf.old) (check_asks program.entry.format program.entry.file.now (name_of script.entry) history.now) (S.log shelf.old) (S.log shelf.new) }
     ensures later { S.faults shelf.old ≤ S.faults shelf.new }
     ensures kept { S.files shelf.new ≡ S.files shelf.old }
 {
@@ -201,6 +218,8 @@ pub fn read_message<S: Shelf>(alloc: Global, file: &str, shelf: &mut S) -> Resul
     ensures read { IfOk result (λ bytes. IsRead (S.files shelf.old) file.now bytes.items) }
     ensures short { IfOk result (λ bytes. length bytes.items ≤ most_sent) }
     ensures stopped { IfErr result (Stops (S.files shelf.old) (S.faults shelf.old) (S.faults shelf.new) (message_ask file.now ∷ [])) }
+    ensures all_read { IfOk result (λ _. AreAllRead (S.files shelf.old) (message_ask file.now ∷ []) (S.log shelf.old) (S.log shelf.new)) }
+    ensures so_far { AreReadSoFar (S.files shelf.old) (message_ask file.now ∷ []) (S.log shelf.old) (S.log shelf.new) }
     ensures later { S.faults shelf.old ≤ S.faults shelf.new }
     ensures kept { S.files shelf.new ≡ S.files shelf.old }
 {

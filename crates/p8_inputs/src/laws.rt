@@ -3,13 +3,14 @@ ghost use Rattle.std.specs.Prelude.{ℕ, List, Option};
 ghost use Rattle.p8_inputs.specs.Asks.{HasOneReading};
 ghost use Rattle.p8_inputs.specs.Sources.{HasOneOutcome};
 
-/// Law: where a shelf tells its files, a source comes to one image and one listing, or to one refusal, or one name of it is missing, and
+/// Law: where a shelf tells its files, a source comes to one image and one listing, with short code or not, or to one refusal, or one name of it is missing, and
 /// no two of these.
 pub fn one_source()
     ensures { (files : List ℕ → Option (List ℕ)) → HasOneOutcome files }
 {
     p8_objects::one_outcome();
     p8_build::one_build();
+    p8_opt::one_short_build();
 }
 
 /// Law: where a shelf tells its files, what a list of asks is given is one thing, or it stops for one reason, and never both.

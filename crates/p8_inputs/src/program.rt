@@ -13,8 +13,8 @@ pub enum Format {
     Image,
     /// An image of a program, as an `.eeprom` file holds it: the whole memory that a run begins with.
     Eeprom,
-    /// The top file of a project of sources in Spin, whose image is run.
-    Source,
+    /// The top file of a project of sources in Spin, whose image is run, with the short code of its methods where it is short.
+    Source { short: bool },
 }
 
 impl Format {
@@ -28,13 +28,14 @@ impl Format {
         }
     }
 
-    /// What a file to run is taken for, by its name: an image where that ends in `.binary` or `.eeprom`, and else a source.
-    pub fn named(file: &str) -> Format
-        ensures { result ≡ format_named file.now }
+    /// What a file to run is taken for, by its name: an image where that ends in `.binary` or `.eeprom`, and else a source, with its short code where
+    /// it is short.
+    pub fn named(short: bool, file: &str) -> Format
+        ensures { result ≡ format_named short file.now }
     {
         match ImageKind::named(file) {
             Some(kind) => Format::of(kind),
-            None => Format::Source,
+            None => Format::Source { short },
         }
     }
 
@@ -45,7 +46,7 @@ impl Format {
         if raw {
             Format::Memory
         } else {
-            Format::named(file)
+            Format::named(false, file)
         }
     }
 }

@@ -1,22 +1,25 @@
 // What a source is built to.
-ghost use Rattle.std.specs.Prelude.{◌≡◌, ◌≤◌, ◌∷◌, [], ℕ, List, Err, map, IfOk, IfErr};
+ghost use Rattle.std.specs.Prelude.{◌≡◌, ◌≤◌, ◌∷◌, [], ℕ, Bool, List, Err, map, IfOk, IfErr};
 ghost use Rattle.p8_tree.specs.Projects.{NamedSource};
 ghost use Rattle.p8_tree.specs.Views.{named_sources_of};
 ghost use Rattle.p8_io.specs.Shelves.{Files};
+ghost use Rattle.p8_objects.specs.Orders.{AreAllRead as FilesAreRead, ReadsInOrder};
 ghost use Rattle.p8_objects.specs.Outcomes.{shelved, Answers};
-ghost use Rattle.p8_build.specs.Told.{IsImageBuilt, IsRefusal};
+ghost use Rattle.p8_build.specs.Told.{IsRefusal};
 ghost use Rattle.p8_image.specs.Loading.{image_in as image_of_file};
 ghost use Rattle.p8_inputs.specs.Asks.{StopsAtProgram, Stops, program as program_ask, listing as listing_ask};
-ghost use Rattle.p8_inputs.specs.Gathered.{IsProject, IsWhole, IsListingOf, StopsAtBuilding};
+ghost use Rattle.p8_inputs.specs.Gathered.{IsProject, IsWhole, IsImageBuiltBy, AreBuiltBy, IsListingOf, StopsAtBuilding};
+ghost use Rattle.p8_inputs.specs.Orders.{IsProjectRead, AreAllRead, AreReadSoFar};
 ghost use Rattle.p8_inputs.specs.Runs.{HasProperTrees};
 ghost use Rattle.p8_inputs.specs.Sources.{IsImageFrom, IsListingFrom};
 ghost use Rattle.p8_inputs.specs.declared.program.Format.TheVariants.{Source};
 
 use crate::stop::Stop;
-use p8_build::{BuildFault, build, build_parts};
+use p8_build::{BuildFault, Built, build, build_parts};
 use p8_image::Image;
 use p8_io::Shelf;
 use p8_objects::{GatherFault, discard, gather};
+use p8_opt::{build_short, build_short_parts};
 use p8_texts::listing;
 use p8_tree::{List, Project, ProjectFile, Text};
 use std::alloc::{AllocError, Global};
@@ -24,7 +27,9 @@ use std::alloc::{AllocError, Global};
 /// The project of a top file.
 fn project_in<S: Shelf>(alloc: Global, file: &str, shelf: &mut S) -> Result<Project, Stop>
     ensures project { IfOk result (λ project. IsProject (S.files shelf.old) file.now (named_sources_of project)) }
-    ensures stopped { IfErr result (StopsAtProgram (S.files shelf.old) (S.faults shelf.old) (S.faults shelf.new) Source file.now) }
+    ensures stopped { (short : Bool) → IfErr result (StopsAtProgram (S.files shelf.old) (S.faults shelf.old) (S.faults shelf.new) (Source short) file.now) }
+    ensures all_read { IfOk result (λ project. FilesAreRead (named_sources_of project) (S.log shelf.old) (S.log shelf.new)) }
+    ensures in_order { ReadsInOrder (S.files shelf.old) file.now (S.log shelf.old) (S.log shelf.new) }
     ensures later { S.faults shelf.old ≤ S.faults shelf.new }
     ensures kept { S.files shelf.new ≡ S.files shelf.old }
 {
@@ -36,8 +41,8 @@ fn project_in<S: Shelf>(alloc: Global, file: &str, shelf: &mut S) -> Result<Proj
 
 /// Why a project isn't gathered.
 fn stop_of_gathering(fault: GatherFault) -> Stop
-    ensures { (files : Files) (before now : ℕ) (top : List ℕ)
-        → Answers (shelved files before now) top (Err fault) → StopsAtProgram files before now Source top result }
+    ensures { (files : Files) (before now : ℕ) (short : Bool) (top : List ℕ)
+        → Answers (shelved files before now) top (Err fault) → StopsAtProgram files before now (Source short) top result }
 {
     match fault {
         GatherFault::Source {
@@ -73,13 +78,39 @@ fn stop_of_building(fault: BuildFault) -> Stop
     }
 }
 
-/// The image of a project.
-fn image_of_project(alloc: Global, project: &Project) -> Result<Image, Stop>
+/// Builds a project to its image, with the short code of its methods where it is short.
+fn built_image(alloc: Global, short: bool, project: &Project) -> Result<Image, BuildFault>
     requires { IsWhole (named_sources_of project.now) }
-    ensures image { IfOk result (IsImageBuilt (named_sources_of project.now)) }
+    ensures built { IfOk result (IsImageBuiltBy short (named_sources_of project.now)) }
+    ensures refused { IfErr result (IsRefusal (named_sources_of project.now)) }
+{
+    if short {
+        build_short(alloc, project)
+    } else {
+        build(alloc, project)
+    }
+}
+
+/// Builds a project to its image and the objects of which that is made, with the short code of its methods where it is short.
+fn built_parts(alloc: Global, short: bool, project: &Project) -> Result<Built, BuildFault>
+    requires { IsWhole (named_sources_of project.now) }
+    ensures built { IfOk result (λ built. AreBuiltBy short (named_sources_of project.now) built.objects) }
+    ensures refused { IfErr result (IsRefusal (named_sources_of project.now)) }
+{
+    if short {
+        build_short_parts(alloc, project)
+    } else {
+        build_parts(alloc, project)
+    }
+}
+
+/// The image of a project.
+fn image_of_project(alloc: Global, short: bool, project: &Project) -> Result<Image, Stop>
+    requires { IsWhole (named_sources_of project.now) }
+    ensures image { IfOk result (IsImageBuiltBy short (named_sources_of project.now)) }
     ensures stopped { IfErr result (StopsAtBuilding (named_sources_of project.now)) }
 {
-    match build(alloc, project) {
+    match built_image(alloc, short, project) {
         Ok(image) => Ok(image),
         Err(fault) => Err(stop_of_building(fault)),
     }
@@ -97,12 +128,12 @@ fn names_of(alloc: Global, files: &[ProjectFile]) -> Result<List<Text>, AllocErr
 }
 
 /// The listing of a project.
-fn listing_of_project(alloc: Global, project: &Project) -> Result<Vec<u8>, Stop>
+fn listing_of_project(alloc: Global, short: bool, project: &Project) -> Result<Vec<u8>, Stop>
     requires { IsWhole (named_sources_of project.now) }
-    ensures text { IfOk result (λ text. IsListingOf (named_sources_of project.now) text.items) }
+    ensures text { IfOk result (λ text. IsListingOf short (named_sources_of project.now) text.items) }
     ensures stopped { IfErr result (StopsAtBuilding (named_sources_of project.now)) }
 {
-    let built = match build_parts(alloc, project) {
+    let built = match built_parts(alloc, short, project) {
         Ok(built) => built,
         Err(fault) => return Err(stop_of_building(fault)),
     };
@@ -112,47 +143,69 @@ fn listing_of_project(alloc: Global, project: &Project) -> Result<Vec<u8>, Stop>
 }
 
 /// The image of the project of a top file.
-pub(crate) fn image_in<S: Shelf>(alloc: Global, file: &str, shelf: &mut S) -> Result<Image, Stop>
-    ensures image { IfOk result (λ image. HasProperTrees (S.files shelf.old) Source file.now image.file) }
+pub(crate) fn image_in<S: Shelf>(
+    alloc: Global,
+    short: bool,
+    file: &str,
+    shelf: &mut S,
+) -> Result<Image, Stop>
+    ensures image { IfOk result (λ image. HasProperTrees (S.files shelf.old) (Source short) file.now image.file) }
     ensures memory { IfOk result (λ image. image ≡ image_of_file image.file) }
-    ensures stopped { IfErr result (StopsAtProgram (S.files shelf.old) (S.faults shelf.old) (S.faults shelf.new) Source file.now) }
+    ensures stopped { IfErr result (StopsAtProgram (S.files shelf.old) (S.faults shelf.old) (S.faults shelf.new) (Source short) file.now) }
+    ensures all_read { IfOk result (λ _. IsProjectRead (S.files shelf.old) file.now (S.log shelf.old) (S.log shelf.new)) }
+    ensures in_order { ReadsInOrder (S.files shelf.old) file.now (S.log shelf.old) (S.log shelf.new) }
     ensures later { S.faults shelf.old ≤ S.faults shelf.new }
     ensures kept { S.files shelf.new ≡ S.files shelf.old }
 {
     let project = project_in(alloc, file, shelf)?;
-    let image = image_of_project(alloc, &project);
+    let image = image_of_project(alloc, short, &project);
     discard(project);
     image
 }
 
 /// The listing of the project of a top file.
-fn listing_in<S: Shelf>(alloc: Global, file: &str, shelf: &mut S) -> Result<Vec<u8>, Stop>
-    ensures text { IfOk result (λ text. IsListingFrom (S.files shelf.old) file.now text.items) }
-    ensures stopped { IfErr result (StopsAtProgram (S.files shelf.old) (S.faults shelf.old) (S.faults shelf.new) Source file.now) }
+fn listing_in<S: Shelf>(
+    alloc: Global,
+    short: bool,
+    file: &str,
+    shelf: &mut S,
+) -> Result<Vec<u8>, Stop>
+    ensures text { IfOk result (λ text. IsListingFrom (S.files shelf.old) short file.now text.items) }
+    ensures stopped { IfErr result (StopsAtProgram (S.files shelf.old) (S.faults shelf.old) (S.faults shelf.new) (Source short) file.now) }
+    ensures all_read { IfOk result (λ _. IsProjectRead (S.files shelf.old) file.now (S.log shelf.old) (S.log shelf.new)) }
+    ensures in_order { ReadsInOrder (S.files shelf.old) file.now (S.log shelf.old) (S.log shelf.new) }
     ensures later { S.faults shelf.old ≤ S.faults shelf.new }
     ensures kept { S.files shelf.new ≡ S.files shelf.old }
 {
     let project = project_in(alloc, file, shelf)?;
-    let text = listing_of_project(alloc, &project);
+    let text = listing_of_project(alloc, short, &project);
     discard(project);
     text
 }
 
-/// The image of the project of sources whose top file has this name.
+/// The image of the project of sources whose top file has this name, with the short code of its methods where it is short. Of the shelf the files
+/// of the project are read, each once and in their order, and at an error no more than a beginning of them.
 ///
 /// # Errors
 ///
 /// What comes first: `Missing` and `Unread` of a file of the project, `Refused` of one with its first refusal while the project is
-/// gathered ([`gather`](p8_objects::gather)) or else when it is built ([`build`](p8_build::build)). `NoMemory` may come at any point.
-/// The shelf's files stay as they were, and its count never falls.
-pub fn image_of_source<S: Shelf>(alloc: Global, file: &str, shelf: &mut S) -> Result<Image, Stop>
-    ensures image { IfOk result (λ image. IsImageFrom (S.files shelf.old) file.now image.file) }
-    ensures trees { IfOk result (λ image. HasProperTrees (S.files shelf.old) Source file.now image.file) }
-    ensures stopped { IfErr result (Stops (S.files shelf.old) (S.faults shelf.old) (S.faults shelf.new) (program_ask Source file.now ∷ [])) }
+/// gathered ([`gather`](p8_objects::gather)) or else when it is built ([`build`](p8_build::build)), with short code or not. `NoMemory` may come at
+/// any point. The shelf's files stay as they were, and its count never falls.
+pub fn image_of_source<S: Shelf>(
+    alloc: Global,
+    short: bool,
+    file: &str,
+    shelf: &mut S,
+) -> Result<Image, Stop>
+    ensures image { IfOk result (λ image. IsImageFrom (S.files shelf.old) short file.now image.file) }
+    ensures trees { IfOk result (λ image. HasProperTrees (S.files shelf.old) (Source short) file.now image.file) }
+    ensures stopped { IfErr result (Stops (S.files shelf.old) (S.faults shelf.old) (S.faults shelf.new) (program_ask (Source short) file.now ∷ [])) }
+    ensures all_read { IfOk result (λ _. AreAllRead (S.files shelf.old) (program_ask (Source short) file.now ∷ []) (S.log shelf.old) (S.log shelf.new)) }
+    ensures so_far { AreReadSoFar (S.files shelf.old) (program_ask (Source short) file.now ∷ []) (S.log shelf.old) (S.log shelf.new) }
     ensures later { S.faults shelf.old ≤ S.faults shelf.new }
     ensures kept { S.files shelf.new ≡ S.files shelf.old }
 {
-    image_in(alloc, file, shelf)
+    image_in(alloc, short, file, shelf)
 }
 
 /// The listing of the project of sources whose top file has this name: see [`listing`](p8_texts::listing).
@@ -162,13 +215,16 @@ pub fn image_of_source<S: Shelf>(alloc: Global, file: &str, shelf: &mut S) -> Re
 /// Those of [`image_of_source`].
 pub fn listing_of_source<S: Shelf>(
     alloc: Global,
+    short: bool,
     file: &str,
     shelf: &mut S,
 ) -> Result<Vec<u8>, Stop>
-    ensures text { IfOk result (λ text. IsListingFrom (S.files shelf.old) file.now text.items) }
-    ensures stopped { IfErr result (Stops (S.files shelf.old) (S.faults shelf.old) (S.faults shelf.new) (listing_ask file.now ∷ [])) }
+    ensures text { IfOk result (λ text. IsListingFrom (S.files shelf.old) short file.now text.items) }
+    ensures stopped { IfErr result (Stops (S.files shelf.old) (S.faults shelf.old) (S.faults shelf.new) (listing_ask short file.now ∷ [])) }
+    ensures all_read { IfOk result (λ _. AreAllRead (S.files shelf.old) (listing_ask short file.now ∷ []) (S.log shelf.old) (S.log shelf.new)) }
+    ensures so_far { AreReadSoFar (S.files shelf.old) (listing_ask short file.now ∷ []) (S.log shelf.old) (S.log shelf.new) }
     ensures later { S.faults shelf.old ≤ S.faults shelf.new }
     ensures kept { S.files shelf.new ≡ S.files shelf.old }
 {
-    listing_in(alloc, file, shelf)
+    listing_in(alloc, short, file, shelf)
 }

@@ -1,5 +1,6 @@
 use Rattle.std.proofs.lemmas.Result.{IfOk-weaker, IfErr-weaker}
 use Rattle.p8_tree.specs.Views.{named_sources_of}
+use Rattle.p8_inputs.proofs.Stopping.{handed-on}
 use Rattle.p8_inputs.proofs.Building.{image-from, building-stops}
 use Rattle.p8_inputs.proofs.sources.image_in.Goals as goal
 
@@ -9,7 +10,7 @@ returns-clause-image g c =
     let top = c.args.file.now in
     let sources = named_sources_of c.in_ok-project.project in
     let gathered = c.in_ok-project.ensures.project.gathered in
-    IfOk-weaker c.image_of_project-image.result _ _ (λ image is. image-from files top sources gathered c.in_ok-project.ensures.project.whole.proper image.file is.0) c.image_of_project-image.ensures.image
+    IfOk-weaker c.image_of_project-image.result _ _ (λ image is. image-from files c.args.short top sources gathered c.in_ok-project.ensures.project.whole.proper image is) c.image_of_project-image.ensures.image
 
 pub returns-clause-memory : goal.returns-clause-memory
 returns-clause-memory g c = IfOk-weaker c.image_of_project-image.result _ _ (λ image is. is.1) c.image_of_project-image.ensures.image
@@ -20,4 +21,12 @@ returns-clause-stopped g c =
     let top = c.args.file.now in
     let sources = named_sources_of c.in_ok-project.project in
     let gathered = c.in_ok-project.ensures.project.gathered in
-    IfErr-weaker c.image_of_project-image.result _ _ (λ stop stops. building-stops files top sources gathered _ _ stop stops) c.image_of_project-image.ensures.stopped
+    IfErr-weaker c.image_of_project-image.result _ _ (λ stop stops. building-stops files c.args.short top sources gathered _ _ stop stops) c.image_of_project-image.ensures.stopped
+
+pub returns-clause-all_read : goal.returns-clause-all_read
+returns-clause-all_read g c =
+    IfOk-weaker c.image_of_project-image.result _ _ (λ _ is. (named_sources_of c.in_ok-project.project, c.in_ok-project.ensures.project.gathered, c.in_ok-project.ensures.all_read)) c.image_of_project-image.ensures.image
+
+pub returns-in_err-project-clause-stopped : goal.returns-in_err-project-clause-stopped
+returns-in_err-project-clause-stopped g c =
+    handed-on c.from_residual.result _ _ c.from_residual.ensures.1 (c.in_err-project.ensures.stopped c.args.short)

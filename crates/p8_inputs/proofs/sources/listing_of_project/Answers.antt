@@ -4,23 +4,13 @@ use Rattle.p8_tree.specs.declared.projects.ProjectFile.{ProjectFile}
 use Rattle.p8_tree.specs.Views.{named_sources_of}
 use Rattle.p8_texts.specs.Listing.{listing_of}
 use Rattle.p8_inputs.proofs.Building.{same-names}
-use Rattle.p8_inputs.proofs.Gathering.{mentioned, no_ring}
 use Rattle.p8_inputs.proofs.sources.listing_of_project.Goals as goal
-
-pub build_parts-requires-clause-mentioned : goal.build_parts-requires-clause-mentioned
-build_parts-requires-clause-mentioned c = mentioned (named_sources_of c.args.project.now) c.requires.mentioned
-
-pub build_parts-requires-clause-no_ring : goal.build_parts-requires-clause-no_ring
-build_parts-requires-clause-no_ring c = no_ring (named_sources_of c.args.project.now) c.requires.no_ring
-
-pub build_parts-requires-clause-proper : goal.build_parts-requires-clause-proper
-build_parts-requires-clause-proper c i file stands = c.requires.proper i file (record { is = stands })
 
 pub returns-clause-text : goal.returns-clause-text
 returns-clause-text c =
     let built = c.in-Ok.ensures.built in
     let names = c.as_slice-2.ensures ∙ c.in_ok-names.ensures ∙ ap (map (λ (file : ProjectFile). file.name)) c.as_slice.ensures ∙ sym (same-names c.args.project.now.files) in
-    (built.clock, c.in-Ok.built.objects, built.built, c.in_ok-text.ensures ∙ ap₂ listing_of names c.as_slice-3.ensures)
+    (built.0, c.in-Ok.built.objects, built.1, c.in_ok-text.ensures ∙ ap₂ listing_of names c.as_slice-3.ensures)
 
 pub returns-in-Err-clause-stopped : goal.returns-in-Err-clause-stopped
 returns-in-Err-clause-stopped c = c.stop_of_building.ensures (named_sources_of c.args.project.now) c.in-Err.ensures.refused

@@ -16,8 +16,8 @@ returns-in-Ok-clause-project g c =
     }
 
 pub returns-in-Err-clause-stopped : goal.returns-in-Err-clause-stopped
-returns-in-Err-clause-stopped g c =
+returns-in-Err-clause-stopped g c short =
     let before = g.S.Shelf.faults c.args.shelf.now in
     let now = g.S.Shelf.faults c.gather.new.shelf in
     let files = g.S.Shelf.files c.args.shelf.now in
-    c.stop_of_gathering.ensures files before now c.args.file.now (subst (λ r. Answers (shelved files before now) c.args.file.now r) c.in-Err.is c.gather.ensures.answers)
+    c.stop_of_gathering.ensures files before now short c.args.file.now (subst (λ r. Answers (shelved files before now) c.args.file.now r) c.in-Err.is c.gather.ensures.answers)

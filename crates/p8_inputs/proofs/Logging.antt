@@ -1,0 +1,55 @@
+-- What was read for an ask, and for asks one after the other.
+use Rattle.std.proofs.Common.{◌≡◌, ℕ, inl, inr, refl, sym, subst, List, [], ◌∷◌, ◌++◌, Option, Some, None}
+use Rattle.std.specs.Prelude.{Result, Ok, Err, IfOk}
+use Rattle.p8_io.specs.Shelves.{Files, Log, WereRead}
+use Rattle.p8_commands.specs.declared.kind.ImageKind.{ImageKind}
+use Rattle.p8_commands.specs.declared.kind.ImageKind.TheVariants as kind
+use Rattle.p8_objects.proofs.Logs.{nothing-read}
+use Rattle.p8_inputs.specs.declared.program.Format.{Format}
+use Rattle.p8_inputs.specs.declared.program.Format.TheVariants.{Memory, Image, Eeprom, Source}
+use Rattle.p8_inputs.specs.Asks.{Ask, program, script, history, message, script_ask, Given, Gives, Give}
+use Rattle.p8_inputs.specs.Orders.{IsAllRead, MayBeRead, IsReadSoFar, AreAllRead, AreReadSoFar}
+use Rattle.p8_inputs.specs.Programs.{format_of}
+use Rattle.p8_inputs.specs.Steps.{IsOfBytes}
+
+pub unread : (file : List ℕ) (log : Log) → MayBeRead file log log
+unread file log = inl (nothing-read log)
+
+module _ (files : Files) (before now : Log) where
+  -- the one file of a program that has the bytes which are run
+  pub bytes-all_read : (format : Format) (file : List ℕ) → IsOfBytes format → WereRead before now (file ∷ []) → IsAllRead files (program format file) before now
+  bytes-all_read Memory file of read = read
+  bytes-all_read Image file of read = read
+  bytes-all_read Eeprom file of read = read
+  bytes-all_read (Source short) file of read = absurd of
+
+  pub bytes-read : (format : Format) (file : List ℕ) → IsOfBytes format → MayBeRead file before now → IsReadSoFar files (program format file) before now
+  bytes-read Memory file of read = read
+  bytes-read Image file of read = read
+  bytes-read Eeprom file of read = read
+  bytes-read (Source short) file of read = absurd of
+
+  kind-of_bytes : (k : ImageKind) → IsOfBytes (format_of k)
+  kind-of_bytes kind.Binary = tt
+  kind-of_bytes kind.Eeprom = tt
+
+  pub image-all_read : (k : ImageKind) (file : List ℕ) → WereRead before now (file ∷ []) → AreAllRead files (program (format_of k) file ∷ []) before now
+  image-all_read k file read = (now, bytes-all_read (format_of k) file (kind-of_bytes k) read, refl)
+
+  pub image-read : (k : ImageKind) (file : List ℕ) → MayBeRead file before now → AreReadSoFar files (program (format_of k) file ∷ []) before now
+  image-read k file read = inl (bytes-read (format_of k) file (kind-of_bytes k) read)
+
+-- a beginning of one ask more, behind asks for which all was read
+pub some-more_read : (files : Files) (asks : List Ask) (given : List Given) (ask : Ask) (before between now : Log) → Give files asks given → AreAllRead files asks before between → IsReadSoFar files ask between now
+    → AreReadSoFar files (asks ++ ask ∷ []) before now
+some-more_read files [] [] ask before between now gives none one = inl (subst (λ (log : Log). IsReadSoFar files ask log now) none one)
+some-more_read files (first ∷ asks) (x ∷ given) ask before between now gives some one =
+    inr (some.0, some.1, (x, gives.0), some-more_read files asks given ask some.0 between now gives.1 some.2 one)
+some-more_read files [] (x ∷ given) ask before between now gives none one = absurd gives
+some-more_read files (first ∷ asks) [] ask before between now gives some one = absurd gives
+
+-- a beginning of what asks read is one of what more asks read, of which the first one may be a history's
+pub stopped-before : (files : Files) (asks : List Ask) (file : List ℕ) (before now : Log) → AreReadSoFar files asks before now → AreReadSoFar files (asks ++ history file ∷ []) before now
+stopped-before files [] file before now none = inl (subst (λ (log : Log). MayBeRead file before log) (sym none) (unread file before))
+stopped-before files (ask ∷ asks) file before now (inl first) = inl first
+stopped-before files (ask ∷ asks) file before now (inr (between, all, given, more)) = inr (between, all, given, stopped-before files asks file between now more)
