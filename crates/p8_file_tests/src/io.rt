@@ -34,6 +34,9 @@ fn a_shelf_reads_its_files(rt: HostRuntime) -> Result<(), Fail> {
             _ => assert!(rt; false, "{name}"),
         }
     }
+    let names = shelf.names_read().ok_or("the names are lost")?;
+    assert_eq!(rt; names.len(), 5);
+    assert!(rt; names[2].as_str() == "c.spin");
     Ok(())
 }
 

@@ -4,22 +4,24 @@ use Rattle.std.specs.Option.{ForSome}
 use Rattle.p8_access.specs.declared.order.Turn.{Turn}
 use Rattle.p8_history.specs.Worlds.{World}
 use Rattle.p8_made.specs.Summary.{summary_of}
+use Rattle.p8_plot.specs.Plot.{plot_of}
 use Rattle.p8_report.specs.Text.{text_of}
 use Rattle.p8_serial.specs.Laws.{IsRate}
 use Rattle.p8_serial.specs.Serial.{serial_of}
 use Rattle.p8_verify.specs.Files.{file_of}
 use Rattle.p8_wave.specs.Wave.{wave_of}
 use Rattle.p8_finish.specs.declared.finish.Finish.{Finish}
-use Rattle.p8_finish.specs.declared.finish.Finish.TheVariants.{Trace, Summary, Saved, Serial, Wave}
+use Rattle.p8_finish.specs.declared.finish.Finish.TheVariants.{Trace, Summary, Saved, Serial, Wave, Plot}
 
--- the text of a past: its trace with a dump, the summary of the made program of a seed, the bytes of its file, those on a pin, or its
--- wave
+-- the text of a past: its trace with a dump, the summary of the made program of a seed, the bytes of its file, those on a pin, its wave, or the
+-- picture of some of its pins
 abbrev pub told_by : Finish → World → List Turn → List ℕ
 told_by (Trace dump) w past = text_of w past dump
 told_by (Summary seed) w past = summary_of seed w past
 told_by Saved w past = file_of w past
 told_by (Serial pin bits) w past = serial_of w past pin bits
-told_by (Wave all) w past = wave_of w past all
+told_by (Wave selection) w past = wave_of w past selection
+told_by (Plot view) w past = plot_of w past view
 
 -- It can be told: the range of a dump is in hub RAM, and isn't empty; a history that is saved has at most 40,000 turns by its limit; there is such a
 -- pin, and such a bit.
@@ -27,5 +29,6 @@ abbrev pub CanBeTold : Finish → (turns : ℕ) → Type 0
 CanBeTold (Trace dump) turns = ForSome dump (λ range. 1 ≤ range.1) × ForSome dump (λ range. range.0 + range.1 ≤ 32768)
 CanBeTold (Summary seed) turns = Unit {0}
 CanBeTold Saved turns = turns ≤ 40000
-CanBeTold (Wave all) turns = Unit {0}
+CanBeTold (Wave selection) turns = Unit {0}
+CanBeTold (Plot view) turns = Unit {0}
 CanBeTold (Serial pin bits) turns = (pin < 32) × IsRate bits

@@ -1,18 +1,20 @@
 // What is told of a history that has ended.
 ghost use Rattle.std.specs.Prelude.{◌≡◌, ◌≤◌, reverse, IfOk};
-ghost use Rattle.p8_history.specs.Histories.{Ended as HasEnded};
+ghost use Rattle.p8_history.specs.Histories.{Ended as HasEnded, Rises};
 ghost use Rattle.p8_hub.specs.Standing.{IsHub};
 ghost use Rattle.p8_ledger.specs.Worlds.{world_of};
 ghost use Rattle.p8_lives.specs.Lives.{asks};
+ghost use Rattle.p8_plot.specs.Plot.{plot_of};
 ghost use Rattle.p8_finish.specs.Finishes.{told_by, CanBeTold};
 
-use p8_ledger::Ended;
+use p8_ledger::{Ended, History};
 use p8_made::summary;
 use p8_pins::PinScript;
+use p8_plot::{View, plot};
 use p8_report::trace;
 use p8_serial::serial_text;
 use p8_verify::history_bytes;
-use p8_wave::wave;
+use p8_wave::{Selection, wave};
 use p8_words::NoMemory;
 use std::alloc::Global;
 
@@ -27,8 +29,26 @@ pub enum Finish {
     Saved,
     /// The bytes that stand on a pin, with so many clocks a bit.
     Serial { pin: u8, bits: u32 },
-    /// The wave, of all that it has or of what changes.
-    Wave { all: bool },
+    /// The wave, of these of its variables.
+    Wave { selection: Selection },
+    /// The picture of some of its pins.
+    Plot { view: View },
+}
+
+/// The picture of some pins of a run, with the pin script that it was made with.
+fn picture(
+    alloc: Global,
+    history: &History,
+    script: &PinScript,
+    view: &View,
+) -> Result<Vec<u8>, NoMemory>
+    requires { Rises (reverse history.now.turns.list) }
+    ensures { IfOk result (λ text. text.items
+        ≡ plot_of (world_of history.now.boot script.now history.now.limits) (reverse history.now.turns.list) view.now) }
+{
+    let turns = history.turns.as_slice();
+    let limits = history.limits;
+    plot(alloc, script, turns, limits.clocks, limits.turns, view)
 }
 
 /// What is told of a history that has ended, with the pin script that it was made with.
@@ -52,7 +72,8 @@ pub fn told(
         Finish::Trace { dump } => trace(alloc, ended, dump),
         Finish::Summary { seed } => summary(alloc, seed, ended),
         Finish::Saved => history_bytes(alloc, &ended.history),
-        Finish::Wave { all } => wave(alloc, &ended.history, script, all),
+        Finish::Wave { selection } => wave(alloc, &ended.history, script, selection),
+        Finish::Plot { view } => picture(alloc, &ended.history, script, &view),
         Finish::Serial { pin, bits } => serial_text(alloc, &ended.history, script, pin, bits),
     }
 }

@@ -1,5 +1,5 @@
 mod Digits
-mod Logging
+pub mod Logging
 pub mod Deciding
 pub mod Gathering
 mod Building

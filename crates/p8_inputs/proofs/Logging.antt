@@ -4,10 +4,11 @@ use Rattle.std.specs.Prelude.{Result, Ok, Err, IfOk}
 use Rattle.p8_io.specs.Shelves.{Files, Log, WereRead}
 use Rattle.p8_commands.specs.declared.kind.ImageKind.{ImageKind}
 use Rattle.p8_commands.specs.declared.kind.ImageKind.TheVariants as kind
+use Rattle.p8_objects.specs.Orders.{no_more}
 use Rattle.p8_objects.proofs.Logs.{nothing-read}
 use Rattle.p8_inputs.specs.declared.program.Format.{Format}
 use Rattle.p8_inputs.specs.declared.program.Format.TheVariants.{Memory, Image, Eeprom, Source}
-use Rattle.p8_inputs.specs.Asks.{Ask, program, script, history, message, script_ask, Given, Gives, Give}
+use Rattle.p8_inputs.specs.Asks.{Ask, program, listing, script, history, message, Given, Give}
 use Rattle.p8_inputs.specs.Orders.{IsAllRead, MayBeRead, IsReadSoFar, AreAllRead, AreReadSoFar}
 use Rattle.p8_inputs.specs.Programs.{format_of}
 use Rattle.p8_inputs.specs.Steps.{IsOfBytes}
@@ -38,6 +39,21 @@ module _ (files : Files) (before now : Log) where
 
   pub image-read : (k : ImageKind) (file : List ℕ) → MayBeRead file before now → AreReadSoFar files (program (format_of k) file ∷ []) before now
   image-read k file read = inl (bytes-read (format_of k) file (kind-of_bytes k) read)
+
+-- where nothing is read, that is a beginning
+none-read_of : (files : Files) (ask : Ask) (log : Log) → IsReadSoFar files ask log log
+none-read_of files (program Memory file) log = unread file log
+none-read_of files (program Image file) log = unread file log
+none-read_of files (program Eeprom file) log = unread file log
+none-read_of files (program (Source short) file) log = ([], nothing-read log, no_more)
+none-read_of files (listing short file) log = ([], nothing-read log, no_more)
+none-read_of files (script file) log = unread file log
+none-read_of files (history file) log = unread file log
+none-read_of files (message file) log = unread file log
+
+pub none-read : (files : Files) (asks : List Ask) (log : Log) → AreReadSoFar files asks log log
+none-read files [] log = refl
+none-read files (ask ∷ asks) log = inl (none-read_of files ask log)
 
 -- a beginning of one ask more, behind asks for which all was read
 pub some-more_read : (files : Files) (asks : List Ask) (given : List Given) (ask : Ask) (before between now : Log) → Give files asks given → AreAllRead files asks before between → IsReadSoFar files ask between now

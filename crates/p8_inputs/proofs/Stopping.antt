@@ -97,7 +97,7 @@ module _ (files : Files) (before now : ℕ) where
   behind (ask ∷ asks) more [] stop gives stops = absurd gives
 
 -- what is given where there are a program and a pin script
-script-given : (files : Files) (named : Option (List ℕ)) (xs : List Line) → IsScriptFor files named xs → (given : List Given) × Give files (script_ask named) given
+pub script-given : (files : Files) (named : Option (List ℕ)) (xs : List Line) → IsScriptFor files named xs → (given : List Given) × Give files (script_ask named) given
 script-given files None xs is = ([], tt)
 script-given files (Some file) xs is = (lines xs ∷ [], (is, tt))
 

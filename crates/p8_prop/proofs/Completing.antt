@@ -12,7 +12,7 @@ use Rattle.p8_verify.specs.declared.verdicts.Verdict as checking
 use Rattle.p8_verify.specs.declared.verdicts.Verdict.TheVariants.{Good, Bad}
 use Rattle.p8_verify.specs.Verdicts as checks
 use Rattle.p8_finish.specs.declared.finish.Finish.{Finish}
-use Rattle.p8_finish.specs.declared.finish.Finish.TheVariants.{Trace, Summary, Saved, Serial, Wave}
+use Rattle.p8_finish.specs.declared.finish.Finish.TheVariants.{Trace, Summary, Saved, Serial, Wave, Plot}
 use Rattle.p8_finish.specs.Finishes.{told_by}
 use Rattle.p8_finish.specs.Checks.{good_line}
 use Rattle.p8_io.specs.Counts.{Rose}
@@ -21,8 +21,8 @@ use Rattle.p8_inputs.specs.declared.stop.Stop.{Stop}
 use Rattle.p8_inputs.specs.declared.stop.Stop.TheVariants as stop
 use Rattle.p8_inputs.specs.Asks.{Given, HasOneReading}
 use Rattle.p8_inputs.proofs.Deciding.{unread-rose}
-use Rattle.p8_commands.specs.Commands.{Command, BuildSource, ListSource, RunMemory, RunProgram, Save, Check, Serial as ReadPin, TypeFile, Wave as ShowWave, Convert, Make, Help}
-use Rattle.p8_work.specs.Texts.{asks_of, IsToldOf, IsTextOf, IsAskedFor, IsBadBy, IsBadHistory}
+use Rattle.p8_commands.specs.Commands.{Command, BuildSource, ListSource, RunMemory, RunProgram, Save, Check, Serial as ReadPin, TypeFile, Wave as ShowWave, Plot as DrawPins, Convert, Make, Help}
+use Rattle.p8_work.specs.Texts.{selection_of, view_of, asks_of, IsToldOf, IsTextOf, IsAskedFor, IsBadBy, IsBadHistory}
 use Rattle.p8_prop.specs.Verdicts.{Outside, Verdict, unsaid, stopped, bad, written, unwritten, StopsCommand, IsVerdict, IsCertain, status_of, HasOneVerdict, IsComplete}
 
 some-not_none : {A : Type 0} {a : A} → Some a ≡ None → ⊥
@@ -54,16 +54,17 @@ told-one w finish a b p q =
 
 module _ (one_check : HasOneCheck) where
   text-one : (command : Command) (given : List Given) (a b : List ℕ) → IsTextOf command given a → IsTextOf command given b → a ≡ b
-  text-one (BuildSource file) given a b p q = p ∙ sym q
-  text-one (ListSource file) given a b p q = p ∙ sym q
+  text-one (BuildSource short file) given a b p q = p ∙ sym q
+  text-one (ListSource short file) given a b p q = p ∙ sym q
   text-one (RunMemory run) given a b p q = told-one _ (Trace run.dump) a b p q
-  text-one (RunProgram alone run) given a b p q = told-one _ (Trace run.dump) a b p q
+  text-one (RunProgram alone short run) given a b p q = told-one _ (Trace run.dump) a b p q
   text-one (Save raw run) given a b p q = told-one _ Saved a b p q
   text-one (Check raw file history script) given a b p q =
       let same : Good p.0 ≡ Good q.0 = one_check _ _ _ (Good p.0) (Good q.0) p.1 q.1 in
       p.2 ∙ ap good_line (ap number-of same) ∙ sym q.2
   text-one (ReadPin raw run pin bits) given a b p q = told-one _ (Serial pin bits) a b p q
-  text-one (ShowWave alone raw all run) given a b p q = told-one _ (Wave all) a b p q
+  text-one (ShowWave alone raw all pins_only run) given a b p q = told-one _ (Wave (selection_of all pins_only)) a b p q
+  text-one (DrawPins alone raw ascii run pins from to) given a b p q = told-one _ (Plot (view_of pins from to ascii)) a b p q
   text-one (TypeFile file pin bits start) given a b p q = p ∙ sym q
   text-one (Convert kind file) given a b p q = p ∙ sym q
   text-one (Make alone seed) given a b p q = told-one _ (Summary seed) a b p q

@@ -4,7 +4,7 @@ use Rattle.p8_io.specs.Shelves.{Files}
 use Rattle.p8_commands.specs.Commands.{Command}
 use Rattle.p8_prop.specs.declared.status.Status.{Status}
 use Rattle.p8_work.specs.Headline.{IsHeadline}
-use Rattle.p8_prop.specs.Verdicts.{Outside, Verdict, written, status_of, IsVerdict, IsOut, IsTold, HasOneVerdict, IsComplete}
+use Rattle.p8_prop.specs.Verdicts.{Outside, Verdict, written, status_of, IsVerdict, IsOut, IsRead, IsTold, HasOneVerdict, IsComplete}
 
 -- the headline, of a text that was written
 abbrev pub HasHeadline : Files → Option Command → Verdict → Type 0
@@ -13,12 +13,13 @@ HasHeadline files command verdict = Unit {0}
 
 -- a call with this command, as it is seen from outside, and the status that it answers
 pub record Keeps (o : Outside) (command : Option Command) (status : Status) : Type 0 where
-  -- one verdict comes, which tells the status, the line and what was written
+  -- one verdict comes, which tells the status, the line, what was written and what was read
   pub verdict : Verdict
   pub is_verdict : IsVerdict o command verdict
   pub answered : status ≡ status_of verdict
   pub told : IsTold o.faults verdict
   pub out : IsOut o.out verdict
+  pub read : IsRead o command verdict
   -- where the shelf tells its files there is one verdict, and it is the one that comes
   pub one_verdict : HasOneVerdict o command
   pub complete : IsComplete o command verdict

@@ -1,13 +1,14 @@
 -- What the program answers and writes: its verdict, and what follows from that (this project's profile).
 use Rattle.std.specs.Prelude.{ℕ, ◌≡◌, ◌⊎◌, List, [], ◌∷◌, ◌++◌, Option, Some, None, codes}
 use Rattle.p8_io.specs.Counts.{Rose}
-use Rattle.p8_io.specs.Shelves.{Files}
+use Rattle.p8_io.specs.Shelves.{Files, Log}
 use Rattle.p8_io.specs.Sinks.{Appended, AppendedPrefix, Wrote}
 use Rattle.p8_verify.specs.declared.verdicts.Cause.{Cause}
 use Rattle.p8_finish.specs.Checks.{bad_line}
 use Rattle.p8_inputs.specs.declared.stop.Stop.{Stop}
 use Rattle.p8_inputs.specs.declared.stop.Stop.TheVariants as stop
 use Rattle.p8_inputs.specs.Asks.{Stops, IsOfFiles}
+use Rattle.p8_inputs.specs.Orders.{AreAllRead, AreReadSoFar}
 use Rattle.p8_inputs.specs.Stops as stops
 use Rattle.p8_commands.specs.Commands.{Command}
 use Rattle.p8_commands.specs.Pages.{usage_line}
@@ -15,10 +16,12 @@ use Rattle.p8_prop.specs.declared.status.Status.{Status}
 use Rattle.p8_prop.specs.declared.status.Status.TheVariants as status
 use Rattle.p8_work.specs.Texts.{asks_of, IsAskedFor, IsBadHistory}
 
--- the shelf of a call as it is seen from outside: its files and its count of faults, before and now
+-- the shelf of a call as it is seen from outside: its files, what was read of it and its count of faults, before and now
 pub record ShelfSeen : Type 0 where
   pub files : Files
   pub files_now : Files
+  pub log : Log
+  pub log_now : Log
   pub before : ℕ
   pub now : ℕ
 
@@ -105,6 +108,16 @@ IsOut out (stopped reason) = Appended out.taken out.taken_now []
 IsOut out (bad history turn cause) = Appended out.taken out.taken_now []
 IsOut out (written text) = Appended out.taken out.taken_now text
 IsOut out (unwritten text) = AppendedPrefix out.taken out.taken_now text
+
+-- What is read of the shelf, where it tells that: all that the command asks for, each file once and in the order of the asks; where one of them stops
+-- it a beginning of that, which ends there; and nothing for words that are no command.
+abbrev pub IsRead : Outside → Option Command → Verdict → Type 0
+IsRead o None verdict = o.shelf.log_now ≡ o.shelf.log
+IsRead o (Some command) unsaid = o.shelf.log_now ≡ o.shelf.log
+IsRead o (Some command) (stopped reason) = AreReadSoFar o.shelf.files (asks_of command) o.shelf.log o.shelf.log_now
+IsRead o (Some command) (bad history turn cause) = AreAllRead o.shelf.files (asks_of command) o.shelf.log o.shelf.log_now
+IsRead o (Some command) (written text) = AreAllRead o.shelf.files (asks_of command) o.shelf.log o.shelf.log_now
+IsRead o (Some command) (unwritten text) = AreAllRead o.shelf.files (asks_of command) o.shelf.log o.shelf.log_now
 
 -- its line is written to the output for faults, or a part of it where that output's count rose
 abbrev pub IsTold : SinkSeen → Verdict → Type 0

@@ -1,6 +1,7 @@
 // What comes of commands: what they read, a driver, and a finish.
 ghost use Rattle.std.specs.Prelude.{◌≡◌, ◌≤◌, IfOk, IfErr};
 ghost use Rattle.p8_inputs.specs.Asks.{Stops};
+ghost use Rattle.p8_inputs.specs.Orders.{AreAllRead, AreReadSoFar};
 ghost use Rattle.p8_commands.specs.Seen.{command_read, HasLimits};
 ghost use Rattle.p8_work.specs.Texts.{asks_of};
 ghost use Rattle.p8_work.specs.Works.{IsAnswerTo};
@@ -24,6 +25,8 @@ pub fn answer_alone<S: Shelf>(
     requires { HasLimits command }
     ensures answer { IfOk result (IsAnswerTo (S.files shelf.old) (command_read command.entry)) }
     ensures stopped { IfErr result (Stops (S.files shelf.old) (S.faults shelf.old) (S.faults shelf.new) (asks_of (command_read command.entry))) }
+    ensures all_read { IfOk result (λ _. AreAllRead (S.files shelf.old) (asks_of (command_read command.entry)) (S.log shelf.old) (S.log shelf.new)) }
+    ensures so_far { AreReadSoFar (S.files shelf.old) (asks_of (command_read command.entry)) (S.log shelf.old) (S.log shelf.new) }
     ensures later { S.faults shelf.old ≤ S.faults shelf.new }
     ensures kept { S.files shelf.new ≡ S.files shelf.old }
 {
@@ -43,6 +46,8 @@ pub fn answer_by_crew<R: Threads + Wait + Clone + Send + Drop + 'static, S: Shel
     requires { HasLimits command }
     ensures answer { IfOk result (IsAnswerTo (S.files shelf.old) (command_read command.entry)) }
     ensures stopped { IfErr result (Stops (S.files shelf.old) (S.faults shelf.old) (S.faults shelf.new) (asks_of (command_read command.entry))) }
+    ensures all_read { IfOk result (λ _. AreAllRead (S.files shelf.old) (asks_of (command_read command.entry)) (S.log shelf.old) (S.log shelf.new)) }
+    ensures so_far { AreReadSoFar (S.files shelf.old) (asks_of (command_read command.entry)) (S.log shelf.old) (S.log shelf.new) }
     ensures later { S.faults shelf.old ≤ S.faults shelf.new }
     ensures kept { S.files shelf.new ≡ S.files shelf.old }
 {

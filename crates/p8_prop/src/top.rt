@@ -20,23 +20,24 @@ use std::thread::Threads;
 /// Does what the words say, and writes its text to `out`. [`help_page`](p8_commands::help_page) tells each command with its arguments and their
 /// limits, and `help` and `help COMMAND` write that page.
 ///
-/// - `build` and `list` write the image and the listing of a source;
+/// - `build` and `list` write the image and the listing of a source, with `--short` with shorter code of the same meaning;
 /// - `raw` and `run` write the trace of a run, `save` its history as a file, and `check` how many turns a history file has that is the one of
 ///   a run;
 /// - `serial` writes the bytes that stand on a pin of a run, and `type` a pin script that sends the bytes of a file;
-/// - `wave` writes the wave of a run;
+/// - `wave` writes the wave of a run, and `plot` draws the levels of some of its pins;
 /// - `convert` writes an image as the other kind of file, and `make` the summary of a run of a made program.
 ///
 /// A file is taken for an image where its name ends in `.binary` or `.eeprom`, and else for the top file of a project of sources, which is built
 /// first: the files that its objects mention are read from the shelf too. `raw`, and each other command with `--raw`, takes it for hub memory, with cog
 /// 0 started on it as PASM. `words` are those after the program's name, and are read by the rules of `clap`; `--help` and `-h` are no command.
 ///
-/// The turns of `run`, `wave` and `make` are made by a crew of eight threads, which `starter` gives their work; where one of them isn't started, by this
+/// The turns of `run`, `wave`, `plot` and `make` are made by a crew of eight threads, which `starter` gives their work; where one of them isn't started, by this
 /// thread. `--alone` asks for this thread alone, which also makes the turns of every other command. The text is the same in each case. With a crew
 /// this call may wait for its threads, and what it promises it promises where it returns.
 ///
 /// The words are looked at first, then the file with its project, then the pin script, then the history file; then the run is made, and then its
-/// text is written. The shelf's files stay as they were, and no count of faults falls. Every status but `Ok` is told by one line on `faults`, and
+/// text is written. Each of these files is read once, in this order, and none after one that stops the command. The shelf's files stay as they
+/// were, and no count of faults falls. Every status but `Ok` is told by one line on `faults`, and
 /// before the text is written nothing goes to `out`:
 ///
 /// - `Usage` exactly where the words are no command;
@@ -70,6 +71,8 @@ pub fn prop<
       shelf = record {
         files = S.files shelf.old;
         files_now = S.files shelf.new;
+        log = S.log shelf.old;
+        log_now = S.log shelf.new;
         before = S.faults shelf.old;
         now = S.faults shelf.new;
       };
@@ -102,8 +105,8 @@ pub fn prop<
     }
 }
 
-/// Does what [`prop`] does, by this thread alone: it waits for nobody and always returns. A `run`, a `wave` or a `make` without `--alone`
-/// is no command here, and its status is `Usage`; all else is as there.
+/// Does what [`prop`] does, by this thread alone: it waits for nobody and always returns. A `run`, a `wave`, a `plot` or a `make`
+/// without `--alone` is no command here, and its status is `Usage`; all else is as there.
 pub fn prop_alone<S: Shelf, K: Sink, E: Sink>(
     alloc: Global,
     words: &[String],
@@ -115,6 +118,8 @@ pub fn prop_alone<S: Shelf, K: Sink, E: Sink>(
       shelf = record {
         files = S.files shelf.old;
         files_now = S.files shelf.new;
+        log = S.log shelf.old;
+        log_now = S.log shelf.new;
         before = S.faults shelf.old;
         now = S.faults shelf.new;
       };

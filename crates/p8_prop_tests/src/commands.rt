@@ -28,6 +28,9 @@ const OTHER_HISTORY: &[u8] =
 const SENT: &[u8] =
     b"0 00000001\n1000 00000000\n1100 00000001\n1200 00000000\n1700 00000001\n1800 00000000\n1900 00000001\n";
 
+/// The listing of a method that goes on for ever, with short code.
+const SHORT_LISTING: &[u8] = b"object loop.spin 0010\nmethod 1 0018\n0018 04 7E\n001A 32\n";
+
 /// The listing of `PUB main`.
 const LISTING: &[u8] = b"object main.spin 0010\nmethod 1 0018\n0018 32\n";
 
@@ -81,8 +84,8 @@ fn words_of(alloc: Global, words: &[&str]) -> Result<Vec<String>, NoMemory> {
     Ok(line)
 }
 
-/// Makes a call of these words, where the shelf has an image, an empty file, a bad pin script, a good and a bad source, and two history files, a message and the script that
-/// sends it.
+/// Makes a call of these words, where the shelf has an image, an empty file, a bad pin script, two good sources and a bad one, two history
+/// files, a message and the script that sends it.
 fn left_by(alloc: Global, words: &[&str], failing: Failing) -> Result<Left, NoMemory> {
     let mut shelf = MemShelf::new(alloc);
     shelf.add("a.binary", IMAGE)?;
@@ -90,6 +93,7 @@ fn left_by(alloc: Global, words: &[&str], failing: Failing) -> Result<Left, NoMe
     shelf.add("a.pins", b"9000 1")?;
     shelf.add("main.spin", b"PUB main\n")?;
     shelf.add("bad.spin", b"CON\n  a = 1\n")?;
+    shelf.add("loop.spin", b"PUB main\n  repeat\n")?;
     shelf.add("a.txt", b"A")?;
     shelf.add("sent.pins", SENT)?;
     shelf.add("a.history", HISTORY)?;
@@ -213,6 +217,33 @@ fn shows_a_wave(rt: HostRuntime) -> Result<(), Fail> {
 }
 
 #[test]
+fn draws_a_pin(rt: HostRuntime) -> Result<(), Fail> {
+    let words = [
+        "plot",
+        "a.binary",
+        "2000",
+        "0",
+        "995:1005",
+        "--raw",
+        "--ascii",
+        "--alone",
+        "--pins=sent.pins",
+    ];
+    let left = left_by(rt.alloc(), &words, NOTHING)?;
+    assert_eq!(rt; left.status, Status::Ok);
+    assert!(rt; left.out.bytes() == b"P0  -----_____\n    |\n    995\n".as_slice());
+    Ok(())
+}
+
+#[test]
+fn lists_short_code(rt: HostRuntime) -> Result<(), Fail> {
+    let left = left_by(rt.alloc(), &["list", "loop.spin", "--short"], NOTHING)?;
+    assert_eq!(rt; left.status, Status::Ok);
+    assert!(rt; left.out.bytes() == SHORT_LISTING);
+    Ok(())
+}
+
+#[test]
 fn tells_an_unread_file(rt: HostRuntime) -> Result<(), Fail> {
     let failing = Failing { read: 1, write: 0 };
     let words = ["raw", "a.binary", "1"];
@@ -268,11 +299,11 @@ fn tells_a_command(rt: HostRuntime) -> Result<(), Fail> {
     Ok(())
 }
 
-// No words, too many clocks, too great a seed, a call for help as an option, help on another word. A run by a crew is no command for
-// one thread.
+// No words, too many clocks, too great a seed, a call for help as an option, help on another word, short code of an image, pins and clocks
+// that there aren't. A run by a crew is no command for one thread.
 #[test]
 fn refuses_other_words(rt: HostRuntime) -> Result<(), Fail> {
-    let rows: [&[&str]; 9] = [
+    let rows: [&[&str]; 13] = [
         &["--help"],
         &["run", "--help"],
         &["help", "halt"],
@@ -282,6 +313,10 @@ fn refuses_other_words(rt: HostRuntime) -> Result<(), Fail> {
         &["make", "--alone"],
         &[],
         &["raw", "a.binary", "100000001"],
+        &["run", "none.binary", "1", "--short", "--alone"],
+        &["plot", "a.binary", "8", "0,3-1", "--alone"],
+        &["plot", "a.binary", "8", "32", "--alone"],
+        &["plot", "a.binary", "8", "0", "5:9", "--alone"],
     ];
     for words in rows {
         assert!(rt; refused(rt.alloc(), words, NOTHING, Status::Usage, USAGE)?);

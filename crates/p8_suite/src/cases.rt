@@ -52,7 +52,7 @@ impl<'a> Case<'a> {
             "dat" => Ok(Case::Dat(DatBlocks::of_words(rest)?)),
             "run" => Ok(Case::Run(Run::of_words(Format::Memory, rest)?)),
             "spin" => Ok(Case::Run(Run::of_words(Format::Image, rest)?)),
-            "made" => Ok(Case::Run(Run::of_words(Format::Source, rest)?)),
+            "made" => Ok(Case::Run(Run::of_words(Format::Source { short: false }, rest)?)),
             "build" => Ok(Case::Written(Written::of_words(Command::Build, rest)?)),
             "list" => Ok(Case::Written(Written::of_words(Command::List, rest)?)),
             "refused" => Ok(Case::Unbuilt(Unbuilt::of_words(rest)?)),

@@ -84,11 +84,21 @@ impl<'a> Written<'a> {
         let expected = fs::read(rt, self.expected)?;
         let mut project = shelved(rt, self.project)?;
         match self.command {
-            Command::Build => match image_of_source(alloc, &project.top, &mut project.shelf) {
+            Command::Build => match image_of_source(
+                alloc,
+                false,
+                &project.top,
+                &mut project.shelf,
+            ) {
                 Ok(image) => Ok(image.bytes() == expected.as_slice()),
                 Err(_) => Ok(false),
             },
-            Command::List => match listing_of_source(alloc, &project.top, &mut project.shelf) {
+            Command::List => match listing_of_source(
+                alloc,
+                false,
+                &project.top,
+                &mut project.shelf,
+            ) {
                 Ok(text) => Ok(text == expected),
                 Err(_) => Ok(false),
             },
@@ -109,7 +119,7 @@ impl<'a> Unbuilt<'a> {
     pub fn agrees<R: Files + Alloc<A = Global>>(&self, rt: &R) -> anyhow::Result<bool> {
         let alloc = rt.alloc();
         let mut project = shelved(rt, self.project)?;
-        match image_of_source(alloc, &project.top, &mut project.shelf) {
+        match image_of_source(alloc, false, &project.top, &mut project.shelf) {
             Ok(_) => Ok(false),
             Err(stop) => {
                 let mut faults = MemSink::new(alloc, LINE_BYTES)?;

@@ -88,11 +88,11 @@ impl<'a> Run<'a> {
         ensures { IfOk result (λ inputs. IsProperOrigin inputs.boot.first) }
     {
         match self.program.format {
-            Format::Source => {
+            Format::Source { short } => {
                 let mut project = shelved(rt, self.program.file)?;
                 let program = Program {
                     file: &project.top,
-                    format: Format::Source,
+                    format: Format::Source { short },
                 };
                 inputs_in(rt.alloc(), program, self.pins, &mut project.shelf)
             }

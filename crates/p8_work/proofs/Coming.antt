@@ -46,11 +46,11 @@ same-name None = refl
 same-name (Some name) = refl
 
 -- an image and a listing are what is given
-pub built : (files : Files) (file text : List ℕ) → IsImageFrom files file text → IsBuild files file text → IsText files (BuildSource file) text
-built files file text is keeps = ((bytes text ∷ [], (is, tt), refl), keeps)
+pub built : (files : Files) (short : Bool) (file text : List ℕ) → IsImageFrom files short file text → IsBuild files short file text → IsText files (BuildSource short file) text
+built files short file text is keeps = ((bytes text ∷ [], (is, tt), refl), keeps)
 
-pub listed : (files : Files) (file text : List ℕ) → IsListingFrom files file text → IsText files (ListSource file) text
-listed files file text is = ((bytes text ∷ [], (is, tt), refl), tt)
+pub listed : (files : Files) (short : Bool) (file text : List ℕ) → IsListingFrom files short file text → IsText files (ListSource short file) text
+listed files short file text is = ((bytes text ∷ [], (is, tt), refl), tt)
 
 -- so is an image as the other kind of file
 pub converted : (files : Files) (kind : ImageKind) (file text : List ℕ) → ((xs : List ℕ) × IsProgram files (format_of kind) file xs × (text ≡ other_file kind xs)) → IsText files (Convert kind file) text

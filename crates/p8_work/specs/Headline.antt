@@ -1,6 +1,6 @@
 -- The headline: what a run prints is told of the one history of its program, and in it each life of Spin is what its source says; and what a build
 -- writes keeps the meaning of its source (this project's profile).
-use Rattle.std.specs.Prelude.{ℕ, ◌≡◌, List}
+use Rattle.std.specs.Prelude.{ℕ, ◌≡◌, Bool, true, false, List}
 use Rattle.p8_access.specs.declared.order.Turn.{Turn}
 use Rattle.p8_history.specs.Worlds.{Line, World}
 use Rattle.p8_history.specs.Histories.{Ended, Rises}
@@ -11,6 +11,7 @@ use Rattle.p8_image.specs.Layout.{image_of}
 use Rattle.p8_image.specs.Loading.{memory_of}
 use Rattle.p8_lives.specs.Lives.{asks}
 use Rattle.p8_io.specs.Shelves.{Files}
+use Rattle.p8_meaning.specs.Programs.{Program, Addresses}
 use Rattle.p8_told_lives.specs.Told.{SpinIsTold}
 use Rattle.p8_placed.specs.Programs.{program_of, addresses_of}
 use Rattle.p8_placed.specs.Meaning.{KeepsMeaning}
@@ -18,11 +19,12 @@ use Rattle.p8_inputs.specs.declared.program.Format.{Format}
 use Rattle.p8_inputs.specs.declared.program.Format.TheVariants.{Memory, Source}
 use Rattle.p8_inputs.specs.Inputs.{IsProgram, IsScriptFor}
 use Rattle.p8_inputs.specs.Programs.{format_for, format_named, world_of}
-use Rattle.p8_inputs.specs.Sources.{IsBuiltFrom}
-use Rattle.p8_commands.specs.Commands.{Command, Running, BuildSource, ListSource, RunMemory, RunProgram, Save, Check, Serial as ReadPin, TypeFile, Wave as ShowWave, Convert, Make, Help}
+use Rattle.p8_inputs.specs.Sources.{IsBuiltBy, IsBuiltFrom}
+use Rattle.p8_commands.specs.Commands.{Command, Running, BuildSource, ListSource, RunMemory, RunProgram, Save, Check, Serial as ReadPin, TypeFile, Wave as ShowWave, Plot as DrawPins, Convert, Make, Help}
 use Rattle.p8_finish.specs.declared.finish.Finish.{Finish}
-use Rattle.p8_finish.specs.declared.finish.Finish.TheVariants.{Trace, Saved, Serial, Wave}
+use Rattle.p8_finish.specs.declared.finish.Finish.TheVariants.{Trace, Saved, Serial, Wave, Plot}
 use Rattle.p8_finish.specs.Finishes.{told_by}
+use Rattle.p8_work.specs.Texts.{selection_of, view_of}
 
 -- the one history of a world: it has ended, its keys rise, and no other one has ended
 pub record IsOneHistory (w : World) (past : List Turn) : Type 0 where
@@ -30,13 +32,23 @@ pub record IsOneHistory (w : World) (past : List Turn) : Type 0 where
   pub rises : Rises past
   pub only : (other : List Turn) → Ended asks w other → other ≡ past
 
+-- the program that a source is, and the addresses that its image has, with the short code of its methods where it is short
+module _ (sources : List NamedSource) (clock : Clock) (objects : List ObjectPart) where
+  abbrev pub program_by : (short : Bool) → IsBuiltBy short sources clock objects → Program
+  program_by false built = program_of sources built.children built.compiled
+  program_by true built = program_of sources built.children built.compiled
+
+  abbrev pub addresses_by : (short : Bool) → IsBuiltBy short sources clock objects → Addresses
+  addresses_by false built = addresses_of sources built.compiled objects
+  addresses_by true built = addresses_of sources built.short objects
+
 -- Where these bytes are the image of a source, each life of Spin in a past was started with a method of the source's project, and its accesses are,
 -- in order, those that the method makes of the answers which it got.
 abbrev pub IsToldBySource : Files → Format → (file bytes : List ℕ) → World → List Turn → Type 0
-IsToldBySource files Source file bytes w past =
+IsToldBySource files (Source short) file bytes w past =
     (sources : List NamedSource) × (clock : Clock) × (objects : List ObjectPart)
-    × (is : IsBuiltFrom files file sources clock objects) × (bytes ≡ image_of clock objects) ×
-    SpinIsTold (program_of sources is.built.children is.built.compiled) (addresses_of sources is.built.compiled objects) w past
+    × (is : IsBuiltFrom files short file sources clock objects) × (bytes ≡ image_of clock objects)
+    × SpinIsTold (program_by sources clock objects short is.built) (addresses_by sources clock objects short is.built) w past
 IsToldBySource files format file bytes w past = Unit {0}
 
 -- this text is what is told of a run, whose file is taken for this
@@ -51,24 +63,25 @@ pub record IsRun (files : Files) (format : Format) (run : Running) (finish : Fin
   pub printed : text ≡ told_by finish (world_of format bytes script run.clocks run.turns) past
 
 -- this is the image of a source's project, and the memory that it begins with keeps the meaning of the source
-pub record IsBuild (files : Files) (file text : List ℕ) : Type 0 where
+pub record IsBuild (files : Files) (short : Bool) (file text : List ℕ) : Type 0 where
   pub sources : List NamedSource
   pub clock : Clock
   pub objects : List ObjectPart
-  pub from : IsBuiltFrom files file sources clock objects
+  pub from : IsBuiltFrom files short file sources clock objects
   pub written : text ≡ image_of clock objects
-  pub keeps : KeepsMeaning (memory_of text) (program_of sources from.built.children from.built.compiled) (addresses_of sources from.built.compiled objects)
+  pub keeps : KeepsMeaning (memory_of text) (program_by sources clock objects short from.built) (addresses_by sources clock objects short from.built)
 
 -- what the headline says of the text of a command
 abbrev pub IsHeadline : Files → Command → (text : List ℕ) → Type 0
-IsHeadline files (BuildSource file) text = IsBuild files file text
-IsHeadline files (ListSource file) text = Unit {0}
+IsHeadline files (BuildSource short file) text = IsBuild files short file text
+IsHeadline files (ListSource short file) text = Unit {0}
 IsHeadline files (RunMemory run) text = IsRun files Memory run (Trace run.dump) text
-IsHeadline files (RunProgram alone run) text = IsRun files (format_named run.file) run (Trace run.dump) text
+IsHeadline files (RunProgram alone short run) text = IsRun files (format_named short run.file) run (Trace run.dump) text
 IsHeadline files (Save raw run) text = IsRun files (format_for raw run.file) run Saved text
 IsHeadline files (Check raw file history script) text = Unit {0}
 IsHeadline files (ReadPin raw run pin bits) text = IsRun files (format_for raw run.file) run (Serial pin bits) text
-IsHeadline files (ShowWave alone raw all run) text = IsRun files (format_for raw run.file) run (Wave all) text
+IsHeadline files (ShowWave alone raw all pins_only run) text = IsRun files (format_for raw run.file) run (Wave (selection_of all pins_only)) text
+IsHeadline files (DrawPins alone raw ascii run pins from to) text = IsRun files (format_for raw run.file) run (Plot (view_of pins from to ascii)) text
 IsHeadline files (TypeFile file pin bits start) text = Unit {0}
 IsHeadline files (Convert kind file) text = Unit {0}
 IsHeadline files (Make alone seed) text = Unit {0}

@@ -1,5 +1,5 @@
 -- What each command reads, and the text that it asks for (this project's profile).
-use Rattle.std.specs.Prelude.{ℕ, ◌≡◌, List, [], ◌∷◌}
+use Rattle.std.specs.Prelude.{ℕ, ◌≡◌, Bool, List, [], ◌∷◌}
 use Rattle.p8_access.specs.declared.memory.Boot.{Boot}
 use Rattle.p8_access.specs.declared.order.Turn.{Turn}
 use Rattle.p8_history.specs.Worlds.{World}
@@ -12,27 +12,37 @@ use Rattle.p8_verify.specs.declared.verdicts.Verdict as checked
 use Rattle.p8_verify.specs.declared.verdicts.Verdict.TheVariants.{Good, Bad}
 use Rattle.p8_verify.specs.Verdicts.{IsVerdict}
 use Rattle.p8_finish.specs.declared.finish.Finish.{Finish}
-use Rattle.p8_finish.specs.declared.finish.Finish.TheVariants.{Trace, Summary, Saved, Serial, Wave}
+use Rattle.p8_finish.specs.declared.finish.Finish.TheVariants.{Trace, Summary, Saved, Serial, Wave, Plot}
 use Rattle.p8_finish.specs.Finishes.{told_by}
 use Rattle.p8_finish.specs.Checks.{good_line}
+use Rattle.p8_plot.specs.declared.view.View.{View}
 use Rattle.p8_serial.specs.Typed.{typed_text}
+use Rattle.p8_wave.specs.declared.variables.Selection.{Selection}
 use Rattle.p8_inputs.specs.declared.program.Format.{Format}
 use Rattle.p8_inputs.specs.declared.program.Format.TheVariants.{Memory, Source}
 use Rattle.p8_inputs.specs.Programs.{format_for, format_named, format_of, other_file, boot_by, world_of}
 use Rattle.p8_inputs.specs.Asks.{Ask, program, listing, message, run_asks, check_asks, Given, bytes_in, lines_in, later_bytes_in, Give}
-use Rattle.p8_commands.specs.Commands.{Command, Running, BuildSource, ListSource, RunMemory, RunProgram, Save, Check, Serial as ReadPin, TypeFile, Wave as ShowWave, Convert, Make, Help}
+use Rattle.p8_commands.specs.Commands.{Command, Running, BuildSource, ListSource, RunMemory, RunProgram, Save, Check, Serial as ReadPin, TypeFile, Wave as ShowWave, Plot as DrawPins, Convert, Make, Help}
 use Rattle.p8_commands.specs.Pages.{help_text}
+
+-- what a wave shows, and what a picture of pins
+abbrev pub selection_of : (all pins_only : Bool) → Selection
+selection_of all pins_only = record { all = all; pins_only = pins_only }
+
+abbrev pub view_of : (pins from to : ℕ) (ascii : Bool) → View
+view_of pins from to ascii = record { pins = pins; from = from; to = to; ascii = ascii }
 
 -- what a command reads, in this order: a run its program and then its pin script, where one is named, and a check a history after both
 abbrev pub asks_of : Command → List Ask
-asks_of (BuildSource file) = program Source file ∷ []
-asks_of (ListSource file) = listing file ∷ []
+asks_of (BuildSource short file) = program (Source short) file ∷ []
+asks_of (ListSource short file) = listing short file ∷ []
 asks_of (RunMemory run) = run_asks Memory run.file run.script
-asks_of (RunProgram alone run) = run_asks (format_named run.file) run.file run.script
+asks_of (RunProgram alone short run) = run_asks (format_named short run.file) run.file run.script
 asks_of (Save raw run) = run_asks (format_for raw run.file) run.file run.script
 asks_of (Check raw file history script) = check_asks (format_for raw file) file script history
 asks_of (ReadPin raw run pin bits) = run_asks (format_for raw run.file) run.file run.script
-asks_of (ShowWave alone raw all run) = run_asks (format_for raw run.file) run.file run.script
+asks_of (ShowWave alone raw all pins_only run) = run_asks (format_for raw run.file) run.file run.script
+asks_of (DrawPins alone raw ascii run pins from to) = run_asks (format_for raw run.file) run.file run.script
 asks_of (TypeFile file pin bits start) = message file ∷ []
 asks_of (Convert kind file) = program (format_of kind) file ∷ []
 asks_of (Make alone seed) = []
@@ -52,14 +62,15 @@ HasVerdict format given verdict = IsVerdict (boot_by format (bytes_in given)) (l
 
 -- the text of a command, by what it is given
 abbrev pub IsTextOf : Command → List Given → List ℕ → Type 0
-IsTextOf (BuildSource file) given text = text ≡ bytes_in given
-IsTextOf (ListSource file) given text = text ≡ bytes_in given
+IsTextOf (BuildSource short file) given text = text ≡ bytes_in given
+IsTextOf (ListSource short file) given text = text ≡ bytes_in given
 IsTextOf (RunMemory run) given text = IsToldOfRun Memory run (Trace run.dump) given text
-IsTextOf (RunProgram alone run) given text = IsToldOfRun (format_named run.file) run (Trace run.dump) given text
+IsTextOf (RunProgram alone short run) given text = IsToldOfRun (format_named short run.file) run (Trace run.dump) given text
 IsTextOf (Save raw run) given text = IsToldOfRun (format_for raw run.file) run Saved given text
 IsTextOf (Check raw file history script) given text = (count : ℕ) × HasVerdict (format_for raw file) given (Good count) × (text ≡ good_line count)
 IsTextOf (ReadPin raw run pin bits) given text = IsToldOfRun (format_for raw run.file) run (Serial pin bits) given text
-IsTextOf (ShowWave alone raw all run) given text = IsToldOfRun (format_for raw run.file) run (Wave all) given text
+IsTextOf (ShowWave alone raw all pins_only run) given text = IsToldOfRun (format_for raw run.file) run (Wave (selection_of all pins_only)) given text
+IsTextOf (DrawPins alone raw ascii run pins from to) given text = IsToldOfRun (format_for raw run.file) run (Plot (view_of pins from to ascii)) given text
 IsTextOf (TypeFile file pin bits start) given text = text ≡ typed_text (bytes_in given) pin bits start
 IsTextOf (Convert kind file) given text = text ≡ other_file kind (bytes_in given)
 IsTextOf (Make alone seed) given text = IsToldOf (made_world seed) (Summary seed) text

@@ -1,5 +1,5 @@
 // Laws of what is run. The functions hold no code of their own: their contracts are the laws.
-ghost use Rattle.std.specs.Prelude.{◌≡◌, ℕ, List};
+ghost use Rattle.std.specs.Prelude.{◌≡◌, ℕ, Bool, List};
 ghost use Rattle.p8_access.specs.declared.order.Turn.{Turn};
 ghost use Rattle.p8_history.specs.Worlds.{World};
 ghost use Rattle.p8_history.specs.Histories.{Ended};
@@ -11,6 +11,7 @@ ghost use Rattle.p8_inputs.specs.Runs.{HasProperTrees};
 ghost use Rattle.p8_inputs.specs.declared.program.Format.TheVariants.{Source};
 ghost use Rattle.p8_work.specs.Headline.{IsToldBySource, IsBuild};
 
+use p8_opt::{short_images_keep_meaning, short_lives_are_told};
 use p8_placed::{images_have_their_methods, images_keep_meaning};
 use p8_told_lives::lives_are_told;
 
@@ -22,11 +23,13 @@ pub fn runs_are_told()
 {
     images_have_their_methods();
     lives_are_told();
+    short_lives_are_told();
 }
 
-/// Law: the image of a source keeps the meaning of the source.
+/// Law: the image of a source, with short code or not, keeps the meaning of the source.
 pub fn builds_keep_meaning()
-    ensures { (files : Files) → (file bytes : List ℕ) → HasProperTrees files Source file bytes → IsBuild files file bytes }
+    ensures { (files : Files) → (short : Bool) → (file bytes : List ℕ) → HasProperTrees files (Source short) file bytes → IsBuild files short file bytes }
 {
     images_keep_meaning();
+    short_images_keep_meaning();
 }

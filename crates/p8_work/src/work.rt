@@ -12,6 +12,8 @@ ghost use Rattle.p8_made.specs.Summary.{made_world};
 ghost use Rattle.p8_io.specs.Shelves.{Files};
 ghost use Rattle.p8_finish.specs.Finishes.{CanBeTold};
 ghost use Rattle.p8_inputs.specs.Asks.{Stops, program as program_ask, run_asks};
+ghost use Rattle.p8_inputs.specs.Orders.{AreAllRead, AreReadSoFar};
+ghost use Rattle.p8_inputs.specs.Programs.{format_for};
 ghost use Rattle.p8_inputs.specs.Sources.{IsImageFrom};
 ghost use Rattle.p8_inputs.specs.declared.program.Format.TheVariants.{Source};
 ghost use Rattle.p8_commands.specs.Commands.{BuildSource, ListSource, Check, TypeFile, Convert, Make, Help};
@@ -33,9 +35,11 @@ use p8_io::Shelf;
 use p8_ledger::{Limits, Start};
 use p8_made::made_image;
 use p8_pins::PinScript;
+use p8_plot::View;
 use p8_serial::typed;
 use p8_tree::Text;
 use p8_verify::{Cause, VerifyFault, verify};
+use p8_wave::Selection;
 use p8_words::NoMemory;
 use std::alloc::Global;
 
@@ -69,38 +73,54 @@ const MADE_LIMITS: Limits = Limits {
 };
 
 /// The bytes of the image of a source.
-fn image_bytes<S: Shelf>(alloc: Global, file: &str, shelf: &mut S) -> Result<Vec<u8>, Stop>
-    ensures text { IfOk result (λ text. IsImageFrom (S.files shelf.old) file.now text.items) }
-    ensures keeps { IfOk result (λ text. IsBuild (S.files shelf.old) file.now text.items) }
-    ensures stopped { IfErr result (Stops (S.files shelf.old) (S.faults shelf.old) (S.faults shelf.new) (program_ask Source file.now ∷ [])) }
+fn image_bytes<S: Shelf>(
+    alloc: Global,
+    short: bool,
+    file: &str,
+    shelf: &mut S,
+) -> Result<Vec<u8>, Stop>
+    ensures text { IfOk result (λ text. IsImageFrom (S.files shelf.old) short file.now text.items) }
+    ensures keeps { IfOk result (λ text. IsBuild (S.files shelf.old) short file.now text.items) }
+    ensures stopped { IfErr result (Stops (S.files shelf.old) (S.faults shelf.old) (S.faults shelf.new) (program_ask (Source short) file.now ∷ [])) }
+    ensures all_read { IfOk result (λ _. AreAllRead (S.files shelf.old) (program_ask (Source short) file.now ∷ []) (S.log shelf.old) (S.log shelf.new)) }
+    ensures so_far { AreReadSoFar (S.files shelf.old) (program_ask (Source short) file.now ∷ []) (S.log shelf.old) (S.log shelf.new) }
     ensures later { S.faults shelf.old ≤ S.faults shelf.new }
     ensures kept { S.files shelf.new ≡ S.files shelf.old }
 {
     builds_keep_meaning();
-    let image = image_of_source(alloc, file, shelf)?;
+    let image = image_of_source(alloc, short, file, shelf)?;
     let bytes = image.bytes().to_vec(alloc)?;
     Ok(bytes)
 }
 
 /// The image of a source.
-fn image_work<S: Shelf>(alloc: Global, file: &str, shelf: &mut S) -> Result<Work, Stop>
-    ensures work { IfOk result (IsWork (S.files shelf.old) (BuildSource file.now)) }
-    ensures stopped { IfErr result (Stops (S.files shelf.old) (S.faults shelf.old) (S.faults shelf.new) (asks_of (BuildSource file.now))) }
+fn image_work<S: Shelf>(alloc: Global, short: bool, file: &str, shelf: &mut S) -> Result<Work, Stop>
+    ensures work { IfOk result (IsWork (S.files shelf.old) (BuildSource short file.now)) }
+    ensures stopped { IfErr result (Stops (S.files shelf.old) (S.faults shelf.old) (S.faults shelf.new) (asks_of (BuildSource short file.now))) }
+    ensures all_read { IfOk result (λ _. AreAllRead (S.files shelf.old) (asks_of (BuildSource short file.now)) (S.log shelf.old) (S.log shelf.new)) }
+    ensures so_far { AreReadSoFar (S.files shelf.old) (asks_of (BuildSource short file.now)) (S.log shelf.old) (S.log shelf.new) }
     ensures later { S.faults shelf.old ≤ S.faults shelf.new }
     ensures kept { S.files shelf.new ≡ S.files shelf.old }
 {
-    let text = image_bytes(alloc, file, shelf)?;
+    let text = image_bytes(alloc, short, file, shelf)?;
     Ok(Work::Done(Answer::Text(text)))
 }
 
 /// The listing of a source.
-fn listing_work<S: Shelf>(alloc: Global, file: &str, shelf: &mut S) -> Result<Work, Stop>
-    ensures work { IfOk result (IsWork (S.files shelf.old) (ListSource file.now)) }
-    ensures stopped { IfErr result (Stops (S.files shelf.old) (S.faults shelf.old) (S.faults shelf.new) (asks_of (ListSource file.now))) }
+fn listing_work<S: Shelf>(
+    alloc: Global,
+    short: bool,
+    file: &str,
+    shelf: &mut S,
+) -> Result<Work, Stop>
+    ensures work { IfOk result (IsWork (S.files shelf.old) (ListSource short file.now)) }
+    ensures stopped { IfErr result (Stops (S.files shelf.old) (S.faults shelf.old) (S.faults shelf.new) (asks_of (ListSource short file.now))) }
+    ensures all_read { IfOk result (λ _. AreAllRead (S.files shelf.old) (asks_of (ListSource short file.now)) (S.log shelf.old) (S.log shelf.new)) }
+    ensures so_far { AreReadSoFar (S.files shelf.old) (asks_of (ListSource short file.now)) (S.log shelf.old) (S.log shelf.new) }
     ensures later { S.faults shelf.old ≤ S.faults shelf.new }
     ensures kept { S.files shelf.new ≡ S.files shelf.old }
 {
-    let text = listing_of_source(alloc, file, shelf)?;
+    let text = listing_of_source(alloc, short, file, shelf)?;
     Ok(Work::Done(Answer::Text(text)))
 }
 
@@ -113,6 +133,8 @@ fn other_work<S: Shelf>(
 ) -> Result<Work, Stop>
     ensures work { IfOk result (IsWork (S.files shelf.old) (Convert kind file.now)) }
     ensures stopped { IfErr result (Stops (S.files shelf.old) (S.faults shelf.old) (S.faults shelf.new) (asks_of (Convert kind file.now))) }
+    ensures all_read { IfOk result (λ _. AreAllRead (S.files shelf.old) (asks_of (Convert kind file.now)) (S.log shelf.old) (S.log shelf.new)) }
+    ensures so_far { AreReadSoFar (S.files shelf.old) (asks_of (Convert kind file.now)) (S.log shelf.old) (S.log shelf.new) }
     ensures later { S.faults shelf.old ≤ S.faults shelf.new }
     ensures kept { S.files shelf.new ≡ S.files shelf.old }
 {
@@ -133,6 +155,8 @@ fn run_work<S: Shelf>(
     ensures work { IfOk result (IsRunWork (S.files shelf.old) format (running run.entry) finish) }
     ensures stopped { IfErr result
         (Stops (S.files shelf.old) (S.faults shelf.old) (S.faults shelf.new) (run_asks format run.entry.file.now (name_of run.entry.script))) }
+    ensures all_read { IfOk result (λ _. AreAllRead (S.files shelf.old) (run_asks format run.entry.file.now (name_of run.entry.script)) (S.log shelf.old) (S.log shelf.new)) }
+    ensures so_far { AreReadSoFar (S.files shelf.old) (run_asks format run.entry.file.now (name_of run.entry.script)) (S.log shelf.old) (S.log shelf.new) }
     ensures later { S.faults shelf.old ≤ S.faults shelf.new }
     ensures kept { S.files shelf.new ≡ S.files shelf.old }
 {
@@ -154,6 +178,27 @@ fn run_work<S: Shelf>(
         },
         finish,
     })
+}
+
+/// A run of a file, which is hub memory where it is raw, and what is told of it.
+fn chosen_work<S: Shelf>(
+    alloc: Global,
+    raw: bool,
+    run: Run<'_>,
+    finish: Finish,
+    shelf: &mut S,
+) -> Result<Work, Stop>
+    requires within { IsWithin run }
+    requires can { CanBeTold finish run.turns }
+    ensures work { IfOk result (IsRunWork (S.files shelf.old) (format_for raw run.entry.file.now) (running run.entry) finish) }
+    ensures stopped { IfErr result
+        (Stops (S.files shelf.old) (S.faults shelf.old) (S.faults shelf.new) (run_asks (format_for raw run.entry.file.now) run.entry.file.now (name_of run.entry.script))) }
+    ensures all_read { IfOk result (λ _. AreAllRead (S.files shelf.old) (run_asks (format_for raw run.entry.file.now) run.entry.file.now (name_of run.entry.script)) (S.log shelf.old) (S.log shelf.new)) }
+    ensures so_far { AreReadSoFar (S.files shelf.old) (run_asks (format_for raw run.entry.file.now) run.entry.file.now (name_of run.entry.script)) (S.log shelf.old) (S.log shelf.new) }
+    ensures later { S.faults shelf.old ≤ S.faults shelf.new }
+    ensures kept { S.files shelf.new ≡ S.files shelf.old }
+{
+    run_work(alloc, Format::chosen(raw, run.file), run, finish, shelf)
 }
 
 /// The verdict on a history file of this name that wasn't found good.
@@ -197,6 +242,8 @@ fn check_work<S: Shelf>(
     ensures work { IfOk result (IsWork (S.files shelf.old) (Check raw file.now history.now (name_of script.entry))) }
     ensures stopped { IfErr result
         (Stops (S.files shelf.old) (S.faults shelf.old) (S.faults shelf.new) (asks_of (Check raw file.now history.now (name_of script.entry)))) }
+    ensures all_read { IfOk result (λ _. AreAllRead (S.files shelf.old) (asks_of (Check raw file.now history.now (name_of script.entry))) (S.log shelf.old) (S.log shelf.new)) }
+    ensures so_far { AreReadSoFar (S.files shelf.old) (asks_of (Check raw file.now history.now (name_of script.entry))) (S.log shelf.old) (S.log shelf.new) }
     ensures later { S.faults shelf.old ≤ S.faults shelf.new }
     ensures kept { S.files shelf.new ≡ S.files shelf.old }
 {
@@ -224,6 +271,8 @@ fn typed_work<S: Shelf>(
     ensures work { IfOk result (IsWork (S.files shelf.old) (TypeFile file.now pin bits start)) }
     ensures stopped { IfErr result
         (Stops (S.files shelf.old) (S.faults shelf.old) (S.faults shelf.new) (asks_of (TypeFile file.now pin bits start))) }
+    ensures all_read { IfOk result (λ _. AreAllRead (S.files shelf.old) (asks_of (TypeFile file.now pin bits start)) (S.log shelf.old) (S.log shelf.new)) }
+    ensures so_far { AreReadSoFar (S.files shelf.old) (asks_of (TypeFile file.now pin bits start)) (S.log shelf.old) (S.log shelf.new) }
     ensures later { S.faults shelf.old ≤ S.faults shelf.new }
     ensures kept { S.files shelf.new ≡ S.files shelf.old }
 {
@@ -275,17 +324,20 @@ fn help_work(alloc: Global, topic: Option<Subcommand>) -> Result<Work, NoMemory>
     Ok(Work::Done(Answer::Text(text)))
 }
 
-/// What a command comes to once its files are read.
+/// What a command comes to once its files are read. Of the shelf no other file is read, each once and in the order of the command, and none after
+/// one that stops it.
 pub fn work_of<S: Shelf>(alloc: Global, command: Command<'_>, shelf: &mut S) -> Result<Work, Stop>
     requires { HasLimits command }
     ensures work { IfOk result (IsWork (S.files shelf.old) (command_read command.entry)) }
     ensures stopped { IfErr result (Stops (S.files shelf.old) (S.faults shelf.old) (S.faults shelf.new) (asks_of (command_read command.entry))) }
+    ensures all_read { IfOk result (λ _. AreAllRead (S.files shelf.old) (asks_of (command_read command.entry)) (S.log shelf.old) (S.log shelf.new)) }
+    ensures so_far { AreReadSoFar (S.files shelf.old) (asks_of (command_read command.entry)) (S.log shelf.old) (S.log shelf.new) }
     ensures later { S.faults shelf.old ≤ S.faults shelf.new }
     ensures kept { S.files shelf.new ≡ S.files shelf.old }
 {
     match command {
-        Command::Build { file } => image_work(alloc, file, shelf),
-        Command::List { file } => listing_work(alloc, file, shelf),
+        Command::Build { short, file } => image_work(alloc, short, file, shelf),
+        Command::List { short, file } => listing_work(alloc, short, file, shelf),
         Command::Raw { run } => {
             run_work(
                 alloc,
@@ -295,19 +347,11 @@ pub fn work_of<S: Shelf>(alloc: Global, command: Command<'_>, shelf: &mut S) -> 
                 shelf,
             )
         }
-        Command::Run { run, .. } => {
-            let format = Format::named(run.file);
+        Command::Run { short, run, .. } => {
+            let format = Format::named(short, run.file);
             run_work(alloc, format, run, Finish::Trace { dump: run.dump }, shelf)
         }
-        Command::Save { raw, run } => {
-            run_work(
-                alloc,
-                Format::chosen(raw, run.file),
-                run,
-                Finish::Saved,
-                shelf,
-            )
-        }
+        Command::Save { raw, run } => chosen_work(alloc, raw, run, Finish::Saved, shelf),
         Command::Check {
             raw,
             file,
@@ -319,13 +363,33 @@ pub fn work_of<S: Shelf>(alloc: Global, command: Command<'_>, shelf: &mut S) -> 
             run,
             pin,
             bits,
+        } => chosen_work(alloc, raw, run, Finish::Serial { pin, bits }, shelf),
+        Command::Wave {
+            raw,
+            all,
+            pins_only,
+            run,
+            ..
         } => {
-            let format = Format::chosen(raw, run.file);
-            run_work(alloc, format, run, Finish::Serial { pin, bits }, shelf)
+            let selection = Selection { all, pins_only };
+            chosen_work(alloc, raw, run, Finish::Wave { selection }, shelf)
         }
-        Command::Wave { raw, all, run, .. } => {
-            let format = Format::chosen(raw, run.file);
-            run_work(alloc, format, run, Finish::Wave { all }, shelf)
+        Command::Plot {
+            raw,
+            ascii,
+            run,
+            pins,
+            from,
+            to,
+            ..
+        } => {
+            let view = View {
+                pins,
+                from,
+                to,
+                ascii,
+            };
+            chosen_work(alloc, raw, run, Finish::Plot { view }, shelf)
         }
         Command::TypeFile {
             file,

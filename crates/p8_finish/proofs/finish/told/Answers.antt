@@ -21,3 +21,7 @@ returns-in-Wave c =
     let past = reverse c.args.ended.now.history.turns.list in
     subst (λ (finish : Finish). IfOk c.wave.result (λ text. text.items ≡ told_by finish w past)) (sym c.in-Wave.is)
     (c.wave.ensures w refl (rises asks w one-asked asked-first asked-later past c.requires.ended.legal))
+
+pub picture-requires : goal.picture-requires
+picture-requires c =
+    rises asks (world_of c.args.ended.now.history.boot c.args.script.now c.args.ended.now.history.limits) one-asked asked-first asked-later (reverse c.args.ended.now.history.turns.list) c.requires.ended.legal

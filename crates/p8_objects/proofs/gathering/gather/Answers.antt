@@ -43,7 +43,7 @@ files-preserved g c =
       stands = subst (λ (fs : List ProjectFile). Stands (sources_of fs) c.next_file.new.done) c.as_slice.ensures c.in_ok-asked.ensures.stands;
       asked = subst (λ (fs : List ProjectFile). CallsFor c.args.top.now (sources_of fs) c.next_file.new.done c.in_ok-asked.asked) c.as_slice.ensures (c.in_ok-asked.ensures.next c.args.top.now);
       read = read-more (g.S.Shelf.files c.args.shelf.now) (g.S.Shelf.files c.files.shelf) (g.S.Shelf.faults c.files.shelf) (g.S.Shelf.faults c.read_file.new.shelf) (g.S.Shelf.log c.args.shelf.now) (g.S.Shelf.log c.files.shelf) (g.S.Shelf.log c.read_file.new.shelf) c.args.top.now c.in-Some.name c.files.files c.push.new.self c.files.done c.in_ok-read_file.field-0
-      c.files.invariant.read (asked_for c.files.asked c.in-Some.name c.files.invariant.asked c.in-Some.is) c.files.invariant.kept c.in_ok-read_file.ensures.file c.in_ok-read_file.ensures.logged c.in_ok-push.ensures.ok;
+          c.files.invariant.read (asked_for c.files.asked c.in-Some.name c.files.invariant.asked c.in-Some.is) c.files.invariant.kept c.in_ok-read_file.ensures.file c.in_ok-read_file.ensures.logged c.in_ok-push.ensures.ok;
       on = p.1;
       proper = tree_more IsProperFile c.files.files c.push.new.self c.in_ok-read_file.field-0 c.files.invariant.proper c.in_ok-read_file.ensures.file.proper c.in_ok-push.ensures.ok;
       later = omega (arith, c.files.invariant.later, c.read_file.ensures.later);

@@ -9,27 +9,27 @@ use Rattle.p8_prop.proofs.top.prop_alone.Goals as goal
 pub returns-in-Ok-Some : goal.returns-in-Ok-Some
 returns-in-Ok-Some g c =
     let o : Outside = record {
-      shelf = record { files = g.S.Shelf.files c.args.shelf.now; files_now = g.S.Shelf.files c.answer_alone.new.shelf; before = g.S.Shelf.faults c.args.shelf.now; now = g.S.Shelf.faults c.answer_alone.new.shelf };
+      shelf = record { files = g.S.Shelf.files c.args.shelf.now; files_now = g.S.Shelf.files c.answer_alone.new.shelf; log = g.S.Shelf.log c.args.shelf.now; log_now = g.S.Shelf.log c.answer_alone.new.shelf; before = g.S.Shelf.faults c.args.shelf.now; now = g.S.Shelf.faults c.answer_alone.new.shelf };
       out = record { before = g.K.Sink.faults c.args.out.now; now = g.K.Sink.faults c.answered.new.out; taken = g.K.Sink.taken c.args.out.now; taken_now = g.K.Sink.taken c.answered.new.out };
       faults = record { before = g.E.Sink.faults c.args.faults.now; now = g.E.Sink.faults c.answered.new.faults; taken = g.E.Sink.taken c.args.faults.now; taken_now = g.E.Sink.taken c.answered.new.faults };
     } in
     subst (λ (command : Option Command). Keeps o command c.answered.result) (ap command_if_any (sym c.in-Ok-Some.field-0-is) ∙ c.in-Ok-Some.ensures.seen)
-    (command-keeps c.one_verdict.ensures c.one_reading.ensures o (command_read c.in-Ok-Some.command) c.answer_alone.result c.answered.result c.answered.ensures.answer c.answer_alone.ensures.answer c.answer_alone.ensures.stopped (c.answer_alone.ensures.kept, c.answer_alone.ensures.later, c.answered.ensures.out_later, c.answered.ensures.faults_later))
+    (command-keeps c.one_verdict.ensures c.one_reading.ensures o (command_read c.in-Ok-Some.command) c.answer_alone.result c.answered.result c.answered.ensures.answer c.answer_alone.ensures.answer c.answer_alone.ensures.stopped c.answer_alone.ensures.all_read c.answer_alone.ensures.so_far (c.answer_alone.ensures.kept, c.answer_alone.ensures.later, c.answered.ensures.out_later, c.answered.ensures.faults_later))
 
 pub returns-in-Ok-None : goal.returns-in-Ok-None
 returns-in-Ok-None g c =
     let o : Outside = record {
-      shelf = record { files = g.S.Shelf.files c.args.shelf.now; files_now = g.S.Shelf.files c.args.shelf.now; before = g.S.Shelf.faults c.args.shelf.now; now = g.S.Shelf.faults c.args.shelf.now };
+      shelf = record { files = g.S.Shelf.files c.args.shelf.now; files_now = g.S.Shelf.files c.args.shelf.now; log = g.S.Shelf.log c.args.shelf.now; log_now = g.S.Shelf.log c.args.shelf.now; before = g.S.Shelf.faults c.args.shelf.now; now = g.S.Shelf.faults c.args.shelf.now };
       out = record { before = g.K.Sink.faults c.args.out.now; now = g.K.Sink.faults c.args.out.now; taken = g.K.Sink.taken c.args.out.now; taken_now = g.K.Sink.taken c.args.out.now };
       faults = record { before = g.E.Sink.faults c.args.faults.now; now = g.E.Sink.faults c.unsaid.new.faults; taken = g.E.Sink.taken c.args.faults.now; taken_now = g.E.Sink.taken c.unsaid.new.faults };
     } in
-    unsaid-keeps c.one_verdict.ensures c.one_reading.ensures o _ c.unsaid.result (sym (ap command_if_any (sym c.in-Ok-None.field-0-is) ∙ c.in-Ok-None.ensures.seen)) c.unsaid.ensures.status c.unsaid.ensures.wrote (nothing-appended o.out.taken) (refl, omega arith, omega arith, c.unsaid.ensures.later)
+    unsaid-keeps c.one_verdict.ensures c.one_reading.ensures o _ c.unsaid.result (sym (ap command_if_any (sym c.in-Ok-None.field-0-is) ∙ c.in-Ok-None.ensures.seen)) c.unsaid.ensures.status c.unsaid.ensures.wrote (nothing-appended o.out.taken) refl (refl, omega arith, omega arith, c.unsaid.ensures.later)
 
 pub returns-in-Err : goal.returns-in-Err
 returns-in-Err g c =
     let o : Outside = record {
-      shelf = record { files = g.S.Shelf.files c.args.shelf.now; files_now = g.S.Shelf.files c.args.shelf.now; before = g.S.Shelf.faults c.args.shelf.now; now = g.S.Shelf.faults c.args.shelf.now };
+      shelf = record { files = g.S.Shelf.files c.args.shelf.now; files_now = g.S.Shelf.files c.args.shelf.now; log = g.S.Shelf.log c.args.shelf.now; log_now = g.S.Shelf.log c.args.shelf.now; before = g.S.Shelf.faults c.args.shelf.now; now = g.S.Shelf.faults c.args.shelf.now };
       out = record { before = g.K.Sink.faults c.args.out.now; now = g.K.Sink.faults c.args.out.now; taken = g.K.Sink.taken c.args.out.now; taken_now = g.K.Sink.taken c.args.out.now };
       faults = record { before = g.E.Sink.faults c.args.faults.now; now = g.E.Sink.faults c.stopped.new.faults; taken = g.E.Sink.taken c.args.faults.now; taken_now = g.E.Sink.taken c.stopped.new.faults };
     } in
-    memory-keeps c.one_verdict.ensures c.one_reading.ensures o _ c.stopped.result c.stopped.ensures.status c.stopped.ensures.wrote (nothing-appended o.out.taken) (refl, omega arith, omega arith, c.stopped.ensures.later)
+    memory-keeps c.one_verdict.ensures c.one_reading.ensures o _ c.stopped.result c.stopped.ensures.status c.stopped.ensures.wrote (nothing-appended o.out.taken) refl (refl, omega arith, omega arith, c.stopped.ensures.later)

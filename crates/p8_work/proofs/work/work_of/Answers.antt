@@ -1,12 +1,13 @@
 use Rattle.std.proofs.Common.{subst, sym, IfOk}
 use Rattle.std.proofs.lemmas.Result.{IfOk-weaker}
-use Rattle.p8_finish.specs.declared.finish.Finish.TheVariants.{Trace, Saved, Serial, Wave}
+use Rattle.p8_finish.specs.declared.finish.Finish.TheVariants.{Trace, Saved, Serial, Wave, Plot}
 use Rattle.p8_inputs.specs.declared.program.Format.{Format}
 use Rattle.p8_inputs.specs.declared.program.Format.TheVariants.{Memory}
 use Rattle.p8_inputs.specs.Programs.{format_for, format_named}
-use Rattle.p8_commands.specs.Commands.{RunMemory, RunProgram, Save, Serial as ReadPin, Wave as ShowWave}
+use Rattle.p8_commands.specs.Commands.{RunMemory, RunProgram, Save, Serial as ReadPin, Wave as ShowWave, Plot as DrawPins}
 use Rattle.p8_commands.specs.declared.command.Command.{Command}
 use Rattle.p8_commands.specs.Seen.{command_read, running}
+use Rattle.p8_work.specs.Texts.{selection_of, view_of}
 use Rattle.p8_work.specs.Works.{IsRunWork, IsWork}
 use Rattle.p8_work.proofs.Coming.{run-work}
 use Rattle.p8_work.proofs.work.work_of.Goals as goal
@@ -24,38 +25,40 @@ returns-in-Run-clause-work g c =
     let run = running c.in-Run.run' in
     let result = c.run_work-in-Run.result in
     subst (λ (command : Command). IfOk result (IsWork files (command_read command))) (sym c.in-Run.is)
-    (IfOk-weaker result _ _ (run-work files (RunProgram c.in-Run.alone run) (format_named run.file) run (Trace run.dump) (λ text is. is))
+    (IfOk-weaker result _ _ (run-work files (RunProgram c.in-Run.alone c.in-Run.short run) (format_named c.in-Run.short run.file) run (Trace run.dump) (λ text is. is))
     (subst (λ (format : Format). IfOk result (IsRunWork files format run (Trace run.dump))) c.named-format.ensures c.run_work-in-Run.ensures.work))
 
 pub returns-in-Save-clause-work : goal.returns-in-Save-clause-work
 returns-in-Save-clause-work g c =
     let files = g.S.Shelf.files c.args.shelf.now in
     let run = running c.in-Save.run' in
-    let result = c.run_work-in-Save.result in
+    let result = c.chosen_work.result in
     subst (λ (command : Command). IfOk result (IsWork files (command_read command))) (sym c.in-Save.is)
-    (IfOk-weaker result _ _ (run-work files (Save c.in-Save.raw run) (format_for c.in-Save.raw run.file) run Saved (λ text is. is))
-    (subst (λ (format : Format). IfOk result (IsRunWork files format run Saved)) c.chosen.ensures c.run_work-in-Save.ensures.work))
+    (IfOk-weaker result _ _ (run-work files (Save c.in-Save.raw run) (format_for c.in-Save.raw run.file) run (Saved) (λ text is. is)) c.chosen_work.ensures.work)
 
 pub returns-in-Serial-clause-work : goal.returns-in-Serial-clause-work
 returns-in-Serial-clause-work g c =
     let files = g.S.Shelf.files c.args.shelf.now in
     let run = running c.in-Serial.run' in
-    let result = c.run_work-in-Serial.result in
-    let finish = Serial c.in-Serial.pin c.in-Serial.bits in
+    let result = c.chosen_work-in-Serial.result in
     subst (λ (command : Command). IfOk result (IsWork files (command_read command))) (sym c.in-Serial.is)
-    (IfOk-weaker result _ _ (run-work files (ReadPin c.in-Serial.raw run c.in-Serial.pin c.in-Serial.bits) (format_for c.in-Serial.raw run.file) run finish (λ text is. is))
-    (subst (λ (format : Format). IfOk result (IsRunWork files format run finish)) c.chosen-format.ensures c.run_work-in-Serial.ensures.work))
+    (IfOk-weaker result _ _ (run-work files (ReadPin c.in-Serial.raw run c.in-Serial.pin c.in-Serial.bits) (format_for c.in-Serial.raw run.file) run (Serial c.in-Serial.pin c.in-Serial.bits) (λ text is. is)) c.chosen_work-in-Serial.ensures.work)
 
 pub returns-in-Wave-clause-work : goal.returns-in-Wave-clause-work
 returns-in-Wave-clause-work g c =
     let files = g.S.Shelf.files c.args.shelf.now in
     let run = running c.in-Wave.run' in
-    let result = c.run_work-in-Wave.result in
-    let finish = Wave c.in-Wave.all in
-    let command = ShowWave c.in-Wave.alone c.in-Wave.raw c.in-Wave.all run in
+    let result = c.chosen_work-in-Wave.result in
     subst (λ (command : Command). IfOk result (IsWork files (command_read command))) (sym c.in-Wave.is)
-    (IfOk-weaker result _ _ (run-work files command (format_for c.in-Wave.raw run.file) run finish (λ text is. is))
-    (subst (λ (format : Format). IfOk result (IsRunWork files format run finish)) c.chosen-format-in-Wave.ensures c.run_work-in-Wave.ensures.work))
+    (IfOk-weaker result _ _ (run-work files (ShowWave c.in-Wave.alone c.in-Wave.raw c.in-Wave.all c.in-Wave.pins_only run) (format_for c.in-Wave.raw run.file) run (Wave (selection_of c.in-Wave.all c.in-Wave.pins_only)) (λ text is. is)) c.chosen_work-in-Wave.ensures.work)
+
+pub returns-in-Plot-clause-work : goal.returns-in-Plot-clause-work
+returns-in-Plot-clause-work g c =
+    let files = g.S.Shelf.files c.args.shelf.now in
+    let run = running c.in-Plot.run' in
+    let result = c.chosen_work-in-Plot.result in
+    subst (λ (command : Command). IfOk result (IsWork files (command_read command))) (sym c.in-Plot.is)
+    (IfOk-weaker result _ _ (run-work files (DrawPins c.in-Plot.alone c.in-Plot.raw c.in-Plot.ascii run c.in-Plot.pins c.in-Plot.from c.in-Plot.to) (format_for c.in-Plot.raw run.file) run (Plot (view_of c.in-Plot.pins c.in-Plot.from c.in-Plot.to c.in-Plot.ascii)) (λ text is. is)) c.chosen_work-in-Plot.ensures.work)
 
 pub returns-in_ok-work-in-Make-clause-work : goal.returns-in_ok-work-in-Make-clause-work
 returns-in_ok-work-in-Make-clause-work g c =
