@@ -1,5 +1,5 @@
 -- What was read of a shelf, between two logs.
-use Rattle.std.proofs.Common.{◌≡◌, ◌∙◌, ap, sym, subst, refl, ℕ, List, [], ◌++◌, Option, Some, None, append_assoc}
+use Rattle.std.proofs.Common.{◌∙◌, ap, sym, subst, refl, ℕ, List, [], ◌++◌, Some, None, append_assoc}
 use Rattle.std.proofs.lemmas.List.{append-nil}
 use Rattle.p8_io.specs.Shelves.{Log, WereRead}
 

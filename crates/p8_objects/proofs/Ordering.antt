@@ -1,9 +1,9 @@
 -- The order in which gathering reads files.
-use Rattle.std.proofs.Common.{◌≡◌, ◌∙◌, ap, sym, subst, refl, ℕ, inl, inr, List, [], ◌∷◌, ◌++◌, append_assoc}
+use Rattle.std.proofs.Common.{◌≡◌, ◌∙◌, ap, sym, subst, ℕ, inl, inr, List, [], ◌∷◌, ◌++◌, append_assoc}
 use Rattle.std.proofs.lemmas.List.{append-nil, map-append}
 use Rattle.p8_tree.specs.declared.projects.ProjectFile.{ProjectFile}
 use Rattle.p8_tree.specs.Projects.{NamedSource}
-use Rattle.p8_tree.specs.Views.{source_of, named_source_of}
+use Rattle.p8_tree.specs.Views.{source_of}
 use Rattle.p8_io.specs.Shelves.{Files, Log, WereRead}
 use Rattle.p8_objects.specs.Mentioned.{sources_of}
 use Rattle.p8_objects.specs.Orders.{ReadsNext, no_more, last, one_more, ReadsInOrder, names_of, AreAllRead}
