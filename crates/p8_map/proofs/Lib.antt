@@ -1,0 +1,5 @@
+mod Naming
+mod Ending
+mod Places
+mod Inside
+mod Examples

@@ -1,0 +1,230 @@
+-- The map of a project: the text that tells where everything of it stands in the hub, line by line (this project's profile). A line
+-- ends with a line feed. It begins with an address in four hexadecimal digits and the kind of what stands there; a line of a method's
+-- frame begins with `+` and the offset in the frame. All addresses are told mod 65,536, which is exact in an image that fits the hub.
+use Rattle.std.specs.Prelude.{ℕ, zero, suc, ◌+◌, ◌-◌, ◌*◌, ◌/◌, ◌%◌, ◌==◌, Option, Some, unwrap_or, option_map, List, [], ◌∷◌, ◌++◌, length, map, slice_get, slice_index, codes, if◌then◌else◌}
+use Rattle.std.specs.Fmt.{decimal}
+use Rattle.std.specs.List.{flat_map}
+use Rattle.p8_kinds.specs.declared.name_kinds.Label.{Label}
+use Rattle.p8_image.specs.declared.parts.Variable.{Variable}
+use Rattle.p8_image.specs.declared.parts.MethodPart.{MethodPart}
+use Rattle.p8_image.specs.declared.parts.ObjectPart.{ObjectPart}
+use Rattle.p8_image.specs.Headers.{word_at}
+use Rattle.p8_image.specs.Layout.{variable_size, own_variables, codes_offset, text_size, size_of, variables_of}
+use Rattle.p8_disassembly.specs.Numerals.{hex}
+use Rattle.p8_map.specs.declared.names.LocalName.{LocalName}
+use Rattle.p8_map.specs.declared.names.MethodNames.{MethodNames}
+use Rattle.p8_map.specs.declared.names.FileNames.{FileNames}
+
+-- so many bytes after an address, which has 16 bits
+abbrev pub further : ℕ → ℕ → ℕ
+further place bytes = (place + bytes) % 65536
+
+-- ---- the header, as an image has it in its first 16 bytes
+
+-- a field: where it stands, its name and its digits
+abbrev pub field_line : (place : ℕ) → (name digits : List ℕ) → List ℕ
+field_line place name digits = hex 4 place ++ codes " header " ++ name ++ codes " " ++ digits ++ 10 ∷ []
+
+abbrev pub word_line : (image : List ℕ) → (place : ℕ) → (name : List ℕ) → List ℕ
+word_line image place name = field_line place name (hex 4 (word_at image place))
+
+abbrev pub byte_line : (image : List ℕ) → (place : ℕ) → (name : List ℕ) → List ℕ
+byte_line image place name = field_line place name (hex 2 (slice_index image place))
+
+-- the clock, and the checksum
+abbrev pub clock_lines : (image : List ℕ) → List ℕ
+clock_lines image =
+    field_line 0 (codes "clkfreq") (hex 4 (word_at image 2) ++ hex 4 (word_at image 0))
+    ++ byte_line image 4 (codes "clkmode")
+    ++ byte_line image 5 (codes "checksum")
+
+-- the places
+abbrev pub place_lines : (image : List ℕ) → List ℕ
+place_lines image =
+    word_line image 6 (codes "pbase")
+    ++ word_line image 8 (codes "vbase")
+    ++ word_line image 10 (codes "dbase")
+    ++ word_line image 12 (codes "pcurr")
+    ++ word_line image 14 (codes "dcurr")
+
+abbrev pub header_lines : (image : List ℕ) → List ℕ
+header_lines image = clock_lines image ++ place_lines image
+
+-- ---- an object, which stands in the hub once
+
+-- what has elements of this size
+abbrev pub size_word : (bytes : ℕ) → List ℕ
+size_word bytes = if bytes == 1 then codes "byte" else if bytes == 2 then codes "word" else codes "long"
+
+-- the name of the file of this number
+abbrev pub file_name : List FileNames → ℕ → List ℕ
+file_name files f = unwrap_or (option_map (λ (file : FileNames). file.file) (slice_get files f)) []
+
+abbrev pub object_line : (place : ℕ) → (file : List ℕ) → List ℕ
+object_line place file = hex 4 place ++ codes " object " ++ file ++ 10 ∷ []
+
+-- an object inside: where its entry in the table stands, its name and its file
+abbrev pub child_line : (place : ℕ) → (name file : List ℕ) → List ℕ
+child_line place name file = hex 4 place ++ codes " child " ++ name ++ codes " " ++ file ++ 10 ∷ []
+
+abbrev pub child_lines : List FileNames → (place : ℕ) → (names : List (List ℕ)) → (instances : List ℕ) → List ℕ
+child_lines files place (name ∷ names) (f ∷ instances) =
+    child_line place name (file_name files f) ++ child_lines files (further place 4) names instances
+child_lines files place _ _ = []
+
+-- a label of DAT: where it stands in the hub, its address in a cog, which counts longs, and the size of what stands there
+abbrev pub label_line : (base : ℕ) → Label → List ℕ
+label_line base label =
+    hex 4 (further base label.offset) ++ codes " label " ++ label.name
+    ++ codes " cog " ++ hex 3 (label.cog / 4) ++ codes " " ++ size_word label.size ++ 10 ∷ []
+
+-- a name of a method's frame, with so many longs from this offset on
+abbrev pub frame_line : (offset : ℕ) → (kind name : List ℕ) → (longs : ℕ) → List ℕ
+frame_line offset kind name longs = codes "+" ++ hex 4 offset ++ kind ++ name ++ codes " " ++ decimal longs ++ 10 ∷ []
+
+abbrev pub parameter_lines : (offset : ℕ) → List (List ℕ) → List ℕ
+parameter_lines offset [] = []
+parameter_lines offset (name ∷ names) = frame_line offset (codes " parameter ") name 1 ++ parameter_lines (further offset 4) names
+
+abbrev pub local_lines : (offset : ℕ) → List LocalName → List ℕ
+local_lines offset [] = []
+local_lines offset (x ∷ xs) = frame_line offset (codes " local ") x.name x.longs ++ local_lines (further offset (4 * x.longs)) xs
+
+-- a method's frame: its result, its parameters and its locals
+abbrev pub frame_lines : MethodNames → List ℕ
+frame_lines m =
+    frame_line 0 (codes " result ") (unwrap_or m.result (codes "RESULT")) 1
+    ++ parameter_lines 4 m.parameters
+    ++ local_lines (further 4 (4 * length m.parameters)) m.locals
+
+-- a method: where its code begins, its number and its name
+abbrev pub method_line : (place number : ℕ) → (name : List ℕ) → List ℕ
+method_line place number name = hex 4 place ++ codes " method " ++ decimal number ++ codes " " ++ name ++ 10 ∷ []
+
+-- methods from a number on whose codes stand one after the other
+abbrev pub method_lines : (place number : ℕ) → List MethodNames → List MethodPart → List ℕ
+method_lines place number (m ∷ names) (method ∷ methods) =
+    method_line place number m.name ++ frame_lines m ++ method_lines (further place (length method.code)) (number + 1) names methods
+method_lines place number _ _ = []
+
+-- the place after the codes of methods
+abbrev pub after_codes : (place : ℕ) → List MethodPart → ℕ
+after_codes place [] = place
+after_codes place (method ∷ methods) = after_codes (further place (length method.code)) methods
+
+-- a text in quotes
+abbrev pub text_line : (place : ℕ) → (text : List ℕ) → List ℕ
+text_line place text = hex 4 place ++ codes " string " ++ 34 ∷ text ++ 34 ∷ 10 ∷ []
+
+abbrev pub text_lines : (place : ℕ) → List (List ℕ) → List ℕ
+text_lines place [] = []
+text_lines place (text ∷ texts) = text_line place text ++ text_lines (further place (text_size text)) texts
+
+-- an object that begins there, with the names of its file
+abbrev pub object_lines : List FileNames → (base : ℕ) → FileNames → ObjectPart → List ℕ
+object_lines files base names object =
+    object_line base names.file
+    ++ child_lines files (further base (4 + 4 * length object.methods)) names.instances object.instances
+    ++ flat_map (label_line base) names.labels
+    ++ method_lines (further base (codes_offset object)) 1 names.methods object.methods
+    ++ text_lines (after_codes (further base (codes_offset object)) object.methods) object.texts
+
+-- objects one after the other
+abbrev pub objects_lines : (files : List FileNames) → (base : ℕ) → List FileNames → List ObjectPart → List ℕ
+objects_lines files base (names ∷ rest) (object ∷ objects) =
+    object_lines files base names object ++ objects_lines files (further base (size_of object)) rest objects
+objects_lines files base _ _ = []
+
+-- ---- the instances of objects, each with its variables
+
+-- where objects stand, one after the other
+abbrev pub bases_from : (base : ℕ) → List ObjectPart → List ℕ
+bases_from base [] = []
+bases_from base (object ∷ objects) = base ∷ bases_from (further base (size_of object)) objects
+
+-- numbers of bytes, mod 65,536
+abbrev pub low : List ℕ → List ℕ
+low numbers = map (λ (n : ℕ). n % 65536) numbers
+
+-- the file of an instance, and where its object stands
+abbrev pub instance_file : (file : List ℕ) → (base : ℕ) → List ℕ
+instance_file file base = codes "* " ++ file ++ codes " " ++ hex 4 base ++ 10 ∷ []
+
+-- an instance: where its variables begin, what their names begin with, and its file
+abbrev pub instance_line : (place : ℕ) → (prefix file : List ℕ) → (base : ℕ) → List ℕ
+instance_line place prefix file base = hex 4 place ++ codes " instance " ++ prefix ++ instance_file file base
+
+-- the size of a variable's elements, and how many there are
+abbrev pub elements : Variable → List ℕ
+elements v = codes " " ++ size_word v.size ++ codes " " ++ decimal v.count ++ 10 ∷ []
+
+-- a variable: where it stands, its name, and its elements
+abbrev pub variable_line : (place : ℕ) → (prefix name : List ℕ) → Variable → List ℕ
+variable_line place prefix name v = hex 4 place ++ codes " variable " ++ prefix ++ name ++ elements v
+
+-- a variable among those of one size: one of another size has no line there and takes no bytes
+abbrev pub sized_line : (size place : ℕ) → (prefix name : List ℕ) → Variable → List ℕ
+sized_line size place prefix name v = if v.size == size then variable_line place prefix name v else []
+
+abbrev pub sized_bytes : (size : ℕ) → Variable → ℕ
+sized_bytes size v = if v.size == size then variable_size v else 0
+
+-- the variables of one size, one after the other
+abbrev pub sized_lines : (size place : ℕ) → (prefix : List ℕ) → (names : List (List ℕ)) → List Variable → List ℕ
+sized_lines size place prefix (name ∷ names) (v ∷ variables) =
+    sized_line size place prefix name v ++ sized_lines size (further place (sized_bytes size v)) prefix names variables
+sized_lines size place prefix _ _ = []
+
+-- the place after the variables of one size
+abbrev pub after_size : (size place : ℕ) → List Variable → ℕ
+after_size size place [] = place
+after_size size place (v ∷ variables) = after_size size (further place (sized_bytes size v)) variables
+
+-- the variables of an object: longs come first, then words, then bytes
+abbrev pub variable_lines : (place : ℕ) → (prefix : List ℕ) → (names : List (List ℕ)) → List Variable → List ℕ
+variable_lines place prefix names variables =
+    sized_lines 4 place prefix names variables
+    ++ sized_lines 2 (after_size 4 place variables) prefix names variables
+    ++ sized_lines 1 (after_size 2 (after_size 4 place variables) variables) prefix names variables
+
+-- the instances inside one, after its own variables, as `lines` tells each. One that has no variables, nor any inside it, isn't told.
+abbrev pub inner_line : (lines : (prefix : List ℕ) → (f place : ℕ) → List ℕ) → (size place : ℕ) → (prefix name : List ℕ) → (f : ℕ) → List ℕ
+inner_line lines size place prefix name f = if size == 0 then [] else lines (prefix ++ name ++ codes ".") f place
+
+abbrev pub inner_lines : (lines : (prefix : List ℕ) → (f place : ℕ) → List ℕ) → (sizes : List ℕ) → (place : ℕ) → (prefix : List ℕ)
+    → (names : List (List ℕ)) → (instances : List ℕ) → List ℕ
+inner_lines lines sizes place prefix (name ∷ names) (f ∷ instances) =
+    inner_line lines (slice_index sizes f) place prefix name f ++ inner_lines lines sizes (further place (slice_index sizes f)) prefix names instances
+inner_lines lines sizes place prefix _ _ = []
+
+-- an instance whose variables begin there, with those inside it, as `lines` tells each
+abbrev pub object_instance_lines : (lines : (prefix : List ℕ) → (f place : ℕ) → List ℕ) → (sizes : List ℕ) → (base place : ℕ)
+    → (prefix : List ℕ) → Option FileNames → Option ObjectPart → List ℕ
+object_instance_lines lines sizes base place prefix (Some names) (Some object) =
+    instance_line place prefix names.file base
+    ++ variable_lines place prefix names.variables object.variables
+    ++ inner_lines lines sizes (further place (own_variables object)) prefix names.instances object.instances
+object_instance_lines lines sizes base place prefix _ _ = []
+
+-- an instance of object f, if objects stand inside each other at most so deep, where objects have these bases and so many bytes of variables
+unfoldable pub instance_lines : List FileNames → List ObjectPart → (bases sizes : List ℕ) → (depth : ℕ) → (prefix : List ℕ) → (f place : ℕ) → List ℕ
+instance_lines files objects bases sizes zero prefix f place = []
+instance_lines files objects bases sizes (suc depth) prefix f place =
+    object_instance_lines (instance_lines files objects bases sizes depth) sizes (slice_index bases f) place prefix (slice_get files f) (slice_get objects f)
+
+-- ---- the memory after the variables
+
+-- where the first frame begins, with the stack after it, and where the memory begins that is free when the program starts, with its bytes
+abbrev pub memory_lines : (dbase dcurr : ℕ) → List ℕ
+memory_lines dbase dcurr =
+    hex 4 dbase ++ codes " stack" ++ 10 ∷ [] ++ hex 4 dcurr ++ codes " free " ++ decimal (32768 - dcurr) ++ 10 ∷ []
+
+-- ---- the whole
+
+-- the map of a project with this image, by the names of its files and their objects, the top file's first
+abbrev pub map_of : (image : List ℕ) → List FileNames → List ObjectPart → List ℕ
+map_of image files objects =
+    header_lines image
+    ++ objects_lines files 16 files objects
+    ++ instance_lines files objects (bases_from 16 objects) (low (variables_of objects)) (length objects) [] 0 (word_at image 8)
+    ++ memory_lines (word_at image 10) (word_at image 14)

@@ -1,0 +1,239 @@
+// The names of a file.
+ghost use Rattle.std.specs.Prelude.{◌≡◌, ◌++◌, ◌+◌, ◌^◌, ◌<◌, codes, map, option_map, OnOk, IfOk};
+ghost use Rattle.std.specs.List.{flat_map};
+ghost use Rattle.std.specs.Fmt.{decimal};
+ghost use Rattle.p8_tree.specs.Views.{declared_of, method_of, named_source_of, tree_of};
+ghost use Rattle.p8_fold.specs.Entries.{setting_of};
+ghost use Rattle.p8_definitions.specs.Standing.{item_of, items_of as item_trees};
+ghost use Rattle.p8_names.specs.Kinds.{object_in, objects};
+ghost use Rattle.p8_map.specs.Names.{element_name, element_names, file_names, instance_names, local_name, method_names, names_by_count, variable_name};
+
+use itoa::Buffer;
+use p8_definitions::{Item, count_value, items_of};
+use p8_disassembly::push_text;
+use p8_fold::Consts;
+use p8_kinds::Label;
+use p8_names::numbered;
+use p8_tree::{Expr, List, Method, ProjectFile, Text, VarItem};
+use p8_words::NoMemory;
+use std::alloc::Global;
+
+/// A local of a method.
+#[derive(Drop)]
+pub struct LocalName {
+    pub name: Text,
+    /// How many longs it has.
+    pub longs: u32,
+}
+
+/// The names of a method.
+#[derive(Drop)]
+pub struct MethodNames {
+    pub name: Text,
+    /// The name of its result, where it has one beside `RESULT`.
+    pub result: Option<Text>,
+    pub parameters: List<Text>,
+    pub locals: List<LocalName>,
+}
+
+/// The names of a file, in the order in which its object has what they name.
+#[derive(Drop)]
+pub struct FileNames {
+    /// The name of the file.
+    pub file: Text,
+    /// Those of its variables, in the order of the source.
+    pub variables: List<Text>,
+    /// The labels of its DAT, with their places.
+    pub labels: List<Label>,
+    /// Those of its methods, by their numbers.
+    pub methods: List<MethodNames>,
+    /// Those of the objects inside it; the elements of an array have their index in brackets.
+    pub instances: List<Text>,
+}
+
+impl FileNames {
+    /// The names of a file. `consts` are the constants that it sees, `labels` those of its DAT with their places. The only error is want
+    /// of memory.
+    pub fn of(
+        alloc: Global,
+        file: &ProjectFile,
+        consts: &Consts,
+        labels: List<Label>,
+    ) -> Result<FileNames, NoMemory>
+        ensures { IfOk result (λ names. names ≡ file_names (named_source_of file.now) (setting_of consts.now) labels) }
+    {
+        let items = items_of(alloc, &file.tree)?;
+        let methods = numbered(alloc, &items)?;
+        Ok(FileNames {
+            file: Text::copy_of(alloc, file.name.as_slice())?,
+            variables: variables_of(alloc, &items)?,
+            labels,
+            methods: methods_of(alloc, consts, &methods)?,
+            instances: instances_of(alloc, consts, &items)?,
+        })
+    }
+}
+
+/// The names of the variables among items.
+fn variables_of(alloc: Global, items: &[Item<'_>]) -> Result<List<Text>, NoMemory>
+    ensures { IfOk result (λ names. names ≡ flat_map variable_name (item_trees items.now)) }
+{
+    let mut names = List::new(alloc);
+    for item in items {
+        put_variable(alloc, &mut names, *item)?;
+    }
+    Ok(names)
+}
+
+fn put_variable(alloc: Global, names: &mut List<Text>, item: Item<'_>) -> Result<(), NoMemory>
+    ensures { OnOk result (names.new ≡ names.old ++ variable_name (item_of item.entry)) }
+{
+    match item {
+        Item::Variable(variable) => {
+            names.push(Text::copy_of(alloc, variable.name.as_slice())?)?;
+            Ok(())
+        }
+        _ => Ok(()),
+    }
+}
+
+/// The names of some methods.
+fn methods_of(
+    alloc: Global,
+    consts: &Consts,
+    methods: &[&Method],
+) -> Result<List<MethodNames>, NoMemory>
+    ensures { IfOk result (λ names. names ≡ map (method_names (setting_of consts.now)) (map (λ m. method_of m.now) methods.now)) }
+{
+    let mut names = List::new(alloc);
+    for method in methods {
+        names.push(names_of_method(alloc, consts, method)?)?;
+    }
+    Ok(names)
+}
+
+fn names_of_method(alloc: Global, consts: &Consts, method: &Method) -> Result<MethodNames, NoMemory>
+    ensures { IfOk result (λ names. names ≡ method_names (setting_of consts.now) (method_of method.now)) }
+{
+    Ok(MethodNames {
+        name: Text::copy_of(alloc, method.name.as_slice())?,
+        result: result_of(alloc, method)?,
+        parameters: copies_of(alloc, method.params.as_slice())?,
+        locals: locals_of(alloc, consts, method.locals.as_slice())?,
+    })
+}
+
+/// The name of a method's result, where it has one.
+fn result_of(alloc: Global, method: &Method) -> Result<Option<Text>, NoMemory>
+    ensures { IfOk result (λ name. name ≡ method.now.result) }
+{
+    match &method.result {
+        Some(name) => Ok(Some(Text::copy_of(alloc, name.as_slice())?)),
+        None => Ok(None),
+    }
+}
+
+/// Copies of texts.
+fn copies_of(alloc: Global, texts: &[Text]) -> Result<List<Text>, NoMemory>
+    ensures { IfOk result (λ copies. copies ≡ texts.now) }
+{
+    let mut copies = List::new(alloc);
+    for text in texts {
+        copies.push(Text::copy_of(alloc, text.as_slice())?)?;
+    }
+    Ok(copies)
+}
+
+/// The names of locals.
+fn locals_of(
+    alloc: Global,
+    consts: &Consts,
+    locals: &[VarItem],
+) -> Result<List<LocalName>, NoMemory>
+    ensures { IfOk result (λ names. names ≡ map (local_name (setting_of consts.now)) (map declared_of locals.now)) }
+{
+    let mut names = List::new(alloc);
+    for local in locals {
+        names.push(LocalName {
+            name: Text::copy_of(alloc, local.name.as_slice())?,
+            longs: count_value(consts, local.count.as_ref()),
+        })?;
+    }
+    Ok(names)
+}
+
+/// The names of the instances of objects that items stand for.
+fn instances_of(alloc: Global, consts: &Consts, items: &[Item<'_>]) -> Result<List<Text>, NoMemory>
+    ensures { IfOk result (λ names. names ≡ flat_map (instance_names (setting_of consts.now)) (objects (item_trees items.now))) }
+{
+    let mut names = List::new(alloc);
+    for item in items {
+        put_item(alloc, &mut names, consts, *item)?;
+    }
+    Ok(names)
+}
+
+fn put_item(
+    alloc: Global,
+    names: &mut List<Text>,
+    consts: &Consts,
+    item: Item<'_>,
+) -> Result<(), NoMemory>
+    ensures { OnOk result (names.new ≡ names.old ++ flat_map (instance_names (setting_of consts.now)) (object_in (item_of item.entry))) }
+{
+    match item {
+        Item::Object(object) => {
+            put_instances(alloc, names, consts, &object.name, object.count.as_ref())
+        }
+        _ => Ok(()),
+    }
+}
+
+/// Puts the names of the instances that an item of `OBJ` stands for.
+fn put_instances(
+    alloc: Global,
+    names: &mut List<Text>,
+    consts: &Consts,
+    name: &Text,
+    count: Option<&Expr>,
+) -> Result<(), NoMemory>
+    ensures { OnOk result (names.new ≡ names.old ++ names_by_count (setting_of consts.now) name.now (option_map (λ e. tree_of e.now) count.entry)) }
+{
+    match count {
+        None => {
+            names.push(Text::copy_of(alloc, name.as_slice())?)?;
+            Ok(())
+        }
+        Some(_) => put_elements(alloc, names, name, count_value(consts, count)),
+    }
+}
+
+/// Puts the names of so many elements of an array of objects.
+fn put_elements(
+    alloc: Global,
+    names: &mut List<Text>,
+    name: &Text,
+    count: u32,
+) -> Result<(), NoMemory>
+    ensures { OnOk result (names.new ≡ names.old ++ element_names name.now 0 count) }
+{
+    for index in 0..count {
+        names.push(element(alloc, name, index)?)?;
+    }
+    Ok(())
+}
+
+/// The name of an element of an array of objects.
+fn element(alloc: Global, name: &Text, index: u32) -> Result<Text, NoMemory>
+    ensures { IfOk result (λ element. element ≡ element_name name.now index) }
+{
+    let mut bytes = Vec::new(alloc);
+    push_text(&mut bytes, name.as_slice())?;
+    push_text(&mut bytes, b"[")?;
+    push_text(
+        &mut bytes,
+        Buffer::new().format(u64::from(index)).as_bytes(),
+    )?;
+    push_text(&mut bytes, b"]")?;
+    Ok(Text::from_vec(bytes))
+}
