@@ -1,0 +1,112 @@
+-- What a refusal says to a person: where it is, the line with a mark under the place, what is wrong and what often mends it. Places are
+-- those of refusals: a line ends at LF, CR LF or CR, and a tab goes to the next column of the form 8k + 1.
+use Rattle.std.specs.Prelude.{ℕ, ◌-◌, ◌==◌, nat_le, List, [], ◌∷◌, ◌++◌, take, drop, replicate, codes, Option, Some, None, if◌then◌else◌}
+use Rattle.std.specs.Fmt.{decimal}
+use Rattle.p8_tree.specs.declared.places.Place.{Place}
+use Rattle.p8_lexer.specs.declared.refusal.Refusal.{Refusal}
+use Rattle.p8_lexer.specs.declared.refusal.Refusal.TheVariants as refusal
+use Rattle.p8_lexer.specs.Characters.{text_of}
+use Rattle.p8_lexer.specs.Lexing.{is_between, is_line_end, longest_file}
+use Rattle.p8_lexer.specs.Places.{start, behind, next_tab}
+use Rattle.p8_lexer.specs.Refusals.{name_of}
+use Rattle.p8_explain.specs.Entries.{says, example, mends}
+
+-- ---- refusals by their numbers
+
+unfoldable pub numbers : List (ℕ × Refusal)
+numbers =
+    (1, refusal.BadByte) ∷
+    (2, refusal.BadNumber) ∷
+    (3, refusal.OpenComment) ∷
+    (4, refusal.OpenString) ∷
+    (5, refusal.NameTooLong) ∷
+    (6, refusal.Unexpected) ∷
+    (7, refusal.BadIndent) ∷
+    (8, refusal.TooNested) ∷
+    (9, refusal.Float) ∷
+    (10, refusal.Unsupported) ∷
+    (11, refusal.LoopWord) ∷
+    (12, refusal.NotConstant) ∷
+    (13, refusal.ZeroDivisor) ∷
+    (14, refusal.Duplicate) ∷
+    (15, refusal.Unknown) ∷
+    (16, refusal.WrongKind) ∷
+    (17, refusal.WrongArity) ∷
+    (18, refusal.NoPub) ∷
+    (19, refusal.Cycle) ∷
+    (20, refusal.TooManyObjects) ∷
+    (21, refusal.OperandRange) ∷
+    (22, refusal.FitExceeded) ∷
+    (23, refusal.OrgRange) ∷
+    (24, refusal.NoRetLabel) ∷
+    (25, refusal.JumpTooFar) ∷
+    (26, refusal.FrameTooLarge) ∷
+    (27, refusal.TooManyMethods) ∷
+    (28, refusal.ImageTooLarge) ∷
+    (29, refusal.BadClock) ∷
+    (30, refusal.FileTooLong) ∷
+    []
+
+abbrev pub beside : ℕ → List (ℕ × Refusal) → Option Refusal
+beside number [] = None
+beside number (row ∷ rows) = if row.0 == number then Some row.1 else beside number rows
+
+abbrev pub numbered : ℕ → Option Refusal
+numbered number = beside number numbers
+
+abbrev pub name : Option Refusal → List ℕ
+name None = []
+name (Some r) = name_of r
+
+abbrev pub advice : Option Refusal → List ℕ
+advice None = codes "No refusal has this number.\n"
+advice (Some r) = says r ++ codes "\n" ++ mends r ++ codes "\n"
+
+abbrev pub sample : Option Refusal → List ℕ
+sample None = []
+sample (Some r) = codes "Example: " ++ example r ++ codes "\n"
+
+-- ---- a line
+
+-- a character that a terminal can't print shows as `?`
+abbrev pub shown : ℕ → ℕ
+shown c = if is_between 32 126 c then c else 63
+
+-- what a character shows: an end of a line nothing, and a tab spaces up to the next column
+abbrev pub cell : Place → ℕ → List ℕ
+cell p c = if is_line_end c then [] else (if c == 9 then replicate ((next_tab p).column - p.column) 32 else shown c ∷ [])
+
+-- what the characters of one line show, of a text that stands at a place after another character
+abbrev pub line_from : (line before : ℕ) → Place → List ℕ → List ℕ
+line_from line before p [] = []
+line_from line before p (c ∷ cs) = (if p.line == line then cell p c else []) ++ line_from line c (behind before p c) cs
+
+-- the line of this number, of what a file may have at most
+abbrev pub line_of : List ℕ → (line : ℕ) → List ℕ
+line_of bytes line = line_from line 0 start (take longest_file (text_of bytes))
+
+-- the columns left of what is shown
+abbrev pub left_of : (column : ℕ) → ℕ
+left_of column = if nat_le column 80 then 0 else column - 50
+
+-- at most 100 columns of a line, and a mark under one of them
+abbrev pub marked : (line : List ℕ) → (column : ℕ) → List ℕ
+marked line column = take 100 (drop (left_of column) line) ++ codes "\n" ++ replicate (column - 1 - left_of column) 32 ++ codes "^\n"
+
+-- ---- whole texts
+
+abbrev pub title : (number : ℕ) → List ℕ
+title number = decimal number ++ codes " " ++ name (numbered number) ++ codes "\n"
+
+abbrev pub position : Place → List ℕ
+position place = decimal place.line ++ codes ":" ++ decimal place.column ++ codes ": "
+
+abbrev pub place_text : (file : List ℕ) → Place → List ℕ
+place_text file place = file ++ codes ":" ++ position place
+
+abbrev pub explanation_of : (file bytes : List ℕ) → (number : ℕ) → Place → List ℕ
+explanation_of file bytes number place =
+    place_text file place ++ title number ++ marked (line_of bytes place.line) place.column ++ advice (numbered number)
+
+abbrev pub entry_of : (number : ℕ) → List ℕ
+entry_of number = title number ++ advice (numbered number) ++ sample (numbered number)

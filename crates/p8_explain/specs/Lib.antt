@@ -1,0 +1,3 @@
+-- What a refusal says to a person.
+pub mod Entries
+pub mod Explaining

@@ -1,0 +1,155 @@
+// What a refusal says to a person.
+ghost use Rattle.std.specs.Prelude.{◌≡◌, ◌++◌, OnOk, IfOk};
+ghost use Rattle.p8_explain.specs.Explaining.{numbered, name, advice, sample, title, position, place_text, explanation_of, entry_of};
+
+use crate::entries::{example, mends, says};
+use crate::lines::push_marked;
+use crate::texts::{push_decimal, push_text};
+use p8_lexer::Refusal;
+use p8_tree::{Place, Text};
+use p8_words::NoMemory;
+use std::alloc::Global;
+
+// The refusal of a number.
+#[tactic(auto, unfolding(crate::specs::Explaining::numbers))]
+fn numbered(number: u8) -> Option<Refusal>
+    ensures { result ≡ numbered number }
+{
+    match number {
+        1 => Some(Refusal::BadByte),
+        2 => Some(Refusal::BadNumber),
+        3 => Some(Refusal::OpenComment),
+        4 => Some(Refusal::OpenString),
+        5 => Some(Refusal::NameTooLong),
+        6 => Some(Refusal::Unexpected),
+        7 => Some(Refusal::BadIndent),
+        8 => Some(Refusal::TooNested),
+        9 => Some(Refusal::Float),
+        10 => Some(Refusal::Unsupported),
+        11 => Some(Refusal::LoopWord),
+        12 => Some(Refusal::NotConstant),
+        13 => Some(Refusal::ZeroDivisor),
+        14 => Some(Refusal::Duplicate),
+        15 => Some(Refusal::Unknown),
+        16 => Some(Refusal::WrongKind),
+        17 => Some(Refusal::WrongArity),
+        18 => Some(Refusal::NoPub),
+        19 => Some(Refusal::Cycle),
+        20 => Some(Refusal::TooManyObjects),
+        21 => Some(Refusal::OperandRange),
+        22 => Some(Refusal::FitExceeded),
+        23 => Some(Refusal::OrgRange),
+        24 => Some(Refusal::NoRetLabel),
+        25 => Some(Refusal::JumpTooFar),
+        26 => Some(Refusal::FrameTooLarge),
+        27 => Some(Refusal::TooManyMethods),
+        28 => Some(Refusal::ImageTooLarge),
+        29 => Some(Refusal::BadClock),
+        30 => Some(Refusal::FileTooLong),
+        _ => None,
+    }
+}
+
+fn push_name(out: &mut Vec<u8>, refusal: Option<Refusal>) -> Result<(), NoMemory>
+    ensures { OnOk result (out.new.items ≡ out.old.items ++ name refusal) }
+{
+    match refusal {
+        None => Ok(()),
+        Some(refusal) => push_text(out, refusal.name().as_bytes()),
+    }
+}
+
+// Appends what is wrong, and what often mends it.
+fn push_advice(out: &mut Vec<u8>, refusal: Option<Refusal>) -> Result<(), NoMemory>
+    ensures { OnOk result (out.new.items ≡ out.old.items ++ advice refusal) }
+{
+    match refusal {
+        None => push_text(out, b"No refusal has this number.\n"),
+        Some(refusal) => {
+            push_text(out, says(refusal).as_bytes())?;
+            push_text(out, b"\n")?;
+            push_text(out, mends(refusal).as_bytes())?;
+            push_text(out, b"\n")?;
+            Ok(())
+        }
+    }
+}
+
+// Appends a line that is refused so.
+fn push_sample(out: &mut Vec<u8>, refusal: Option<Refusal>) -> Result<(), NoMemory>
+    ensures { OnOk result (out.new.items ≡ out.old.items ++ sample refusal) }
+{
+    match refusal {
+        None => Ok(()),
+        Some(refusal) => {
+            push_text(out, b"Example: ")?;
+            push_text(out, example(refusal).as_bytes())?;
+            push_text(out, b"\n")?;
+            Ok(())
+        }
+    }
+}
+
+// Appends a refusal's number and name.
+fn push_title(out: &mut Vec<u8>, number: u8) -> Result<(), NoMemory>
+    ensures { OnOk result (out.new.items ≡ out.old.items ++ title number) }
+{
+    push_decimal(out, u64::from(number))?;
+    push_text(out, b" ")?;
+    push_name(out, numbered(number))?;
+    push_text(out, b"\n")?;
+    Ok(())
+}
+
+// Appends a place.
+fn push_position(out: &mut Vec<u8>, place: Place) -> Result<(), NoMemory>
+    ensures { OnOk result (out.new.items ≡ out.old.items ++ position place) }
+{
+    push_decimal(out, u64::from(place.line))?;
+    push_text(out, b":")?;
+    push_decimal(out, u64::from(place.column))?;
+    push_text(out, b": ")?;
+    Ok(())
+}
+
+// Appends a file's name and a place.
+fn push_place(out: &mut Vec<u8>, name: &Text, place: Place) -> Result<(), NoMemory>
+    ensures { OnOk result (out.new.items ≡ out.old.items ++ place_text name.now place) }
+{
+    push_text(out, name.as_slice())?;
+    push_text(out, b":")?;
+    push_position(out, place)?;
+    Ok(())
+}
+
+/// What a refusal says to a person, of a file of this name and these bytes, with its number, from 1 to 30, and its place:
+/// the name of the file, the place and the refusal's name, the line with a mark under the place, what is wrong and what
+/// often mends it. Of a long line some 100 columns are shown. The only error is want of memory.
+pub fn explanation(
+    alloc: Global,
+    name: &Text,
+    bytes: &[u8],
+    number: u8,
+    place: Place,
+) -> Result<Vec<u8>, NoMemory>
+    ensures { IfOk result (λ text. text.items ≡ explanation_of name.now bytes.now number place) }
+{
+    let mut out = Vec::new(alloc);
+    push_place(&mut out, name, place)?;
+    push_title(&mut out, number)?;
+    push_marked(&mut out, alloc, bytes, place)?;
+    push_advice(&mut out, numbered(number))?;
+    Ok(out)
+}
+
+/// The entry of a refusal's number, from 1 to 30: its name, what is wrong, what often mends it, and an example. The only
+/// error is want of memory.
+pub fn entry(alloc: Global, number: u8) -> Result<Vec<u8>, NoMemory>
+    ensures { IfOk result (λ text. text.items ≡ entry_of number) }
+{
+    let mut out = Vec::new(alloc);
+    push_title(&mut out, number)?;
+    push_advice(&mut out, numbered(number))?;
+    push_sample(&mut out, numbered(number))?;
+    Ok(out)
+}

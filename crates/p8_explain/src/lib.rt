@@ -1,0 +1,9 @@
+//! What a refusal says to a person: the line with a mark under the place, what is wrong and what often mends it.
+#![tactic(auto)]
+
+mod entries;
+mod explaining;
+mod lines;
+mod texts;
+
+pub use explaining::{entry, explanation};
