@@ -479,6 +479,9 @@ def words(random):
         "make": "n", "help": "c",
     }.get(command, "f")
     line = [random.choice({"f": files, "n": numbers, "c": COMMANDS}[kind]) for kind in operands]
+    if command == "make" and random.random() < 0.9:
+        # Its turns are dear by threads.
+        line.append("--alone")
     for _ in range(random.choice([0, 0, 1, 1, 2, 3])):
         option = random.choice(
             [
