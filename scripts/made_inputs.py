@@ -471,8 +471,8 @@ ODD_WORDS = [
 
 def words(random):
     """A command line over the files of a case, mostly with the operands that its command takes."""
-    numbers = "0 1 7 17 0017 31 32 5000 20000 40000 40001 1000000 1000001 100000000 100000001".split()
-    files = "main.spin a.binary a.eeprom a.bin a.history a.pins a.txt none.spin none.binary .".split()
+    numbers = "0 1 7 17 0017 31 32 5000 20000 40000 40001 1000000 1000001 100000001".split()
+    files = "w.spin w.binary w.eeprom w.bin w.history w.pins w.txt none.spin none.binary .".split()
     command = random.choice(COMMANDS)
     operands = {
         "raw": "fn", "run": "fn", "save": "fn", "check": "ff", "serial": "fnnn", "type": "fnnn", "wave": "fn",
@@ -485,7 +485,7 @@ def words(random):
     for _ in range(random.choice([0, 0, 1, 1, 2, 3])):
         option = random.choice(
             [
-                ["--pins", "a.pins"], ["--pins=a.pins"], ["--turns", random.choice(numbers)],
+                ["--pins", "w.pins"], ["--pins=w.pins"], ["--turns", random.choice(numbers)],
                 [f"--turns={random.choice(numbers)}"], ["--alone"], ["--raw"],
                 ["--all"], ["--dump", "0010:4"], ["--dump=7fff:1"], ["--dump=7fff:2"], ["--short"],
                 [random.choice(ODD_WORDS)],

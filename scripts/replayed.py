@@ -2,7 +2,6 @@
 answered otherwise."""
 
 import bisect
-import re
 
 HUB_BYTES = 32_768
 WIDTHS = {"byte": 1, "word": 2, "long": 4}
@@ -122,9 +121,9 @@ def first_wrong(text, hub, most):
     rest = text.decode()[len(turns) :]
     if not rest.startswith(tail):
         return rest
-    dump = rest[len(tail) :]
-    for line in dump.splitlines():
-        row = re.fullmatch(r"([0-9A-F]{4}):((?: [0-9A-F]{2})+)", line)
-        if not row or bytes.fromhex(row[2]) != hub.memory[int(row[1], 16) :][: len(row[2]) // 3]:
+    for line in rest[len(tail) :].splitlines():
+        address, _, digits = line.partition(": ")
+        count = len(digits.split())
+        if bytes.fromhex(digits) != hub.memory[int(address, 16) :][:count]:
             return line
     return None
