@@ -8,9 +8,9 @@ use Rattle.p8_access.specs.declared.kinds.Access.TheVariants.{Wait, Halt}
 use Rattle.p8_access.specs.declared.kinds.Origin.{Origin}
 use Rattle.p8_access.specs.declared.order.Turn.{Turn}
 use Rattle.p8_access.specs.Lives.{Entered, Begun, PasmBegun, SpinBegun, is_last, has_ended, IsOnTime, IsTurnAt, IsAnnounced}
-use Rattle.p8_courses.specs.Courses.{Course}
-use Rattle.p8_courses.specs.Timing.{Outcome, Asks, Goes, Ends, earliest, behind, played}
-use Rattle.p8_courses.specs.Replaying.{turn-kept}
+use Rattle.p8_access.specs.Courses.{Course}
+use Rattle.p8_access.specs.Timing.{Outcome, Asks, Goes, Ends, earliest, behind, played}
+use Rattle.p8_access.specs.Replaying.{turn-kept}
 use Rattle.p8_bcog.specs.declared.step.Later.{Later}
 use Rattle.p8_bcog.specs.declared.step.Step.{Step}
 use Rattle.p8_bcog.specs.declared.step.Step.TheVariants.{Done, Asking}

@@ -9,10 +9,10 @@ use Rattle.p8_access.specs.declared.order.Turn.{Turn}
 use Rattle.p8_access.specs.declared.lives.Next.{Next}
 use Rattle.p8_access.specs.declared.lives.Next.TheVariants.{At, Quiet, More}
 use Rattle.p8_access.specs.Lives.{Entered, Begun, PasmBegun, SpinBegun, has_ended, Tells, announced_by, IsThorough, IsNear, IsWithin, Spends}
-use Rattle.p8_courses.specs.Courses.{Course}
-use Rattle.p8_courses.specs.Timing.{Outcome, Asks, Goes, Ends, earliest, played}
-use Rattle.p8_courses.specs.Replays.{Engine, after}
-use Rattle.p8_courses.specs.Replaying.{IsFrom, after-plus, after-asks, after-from, not-before}
+use Rattle.p8_access.specs.Courses.{Course}
+use Rattle.p8_access.specs.Timing.{Outcome, Asks, Goes, Ends, earliest, played}
+use Rattle.p8_access.specs.Replays.{Engine, after}
+use Rattle.p8_access.specs.Replaying.{IsFrom, after-plus, after-asks, after-from, not-before}
 use Rattle.p8_bcog.specs.declared.stage.Stage.{Stage}
 use Rattle.p8_bcog.specs.declared.stage.Stage.TheVariants.{Entering, Ready, Asked, Halted, Over}
 use Rattle.p8_bcog.specs.declared.state.State.{State}

@@ -7,7 +7,7 @@ use Rattle.p8_access.specs.declared.kinds.Reason.TheVariants as Why
 use Rattle.p8_access.specs.declared.kinds.Access.{Access}
 use Rattle.p8_access.specs.declared.kinds.Width.{Width}
 use Rattle.p8_access.specs.declared.kinds.Width.TheVariants.{Byte, Long}
-use Rattle.p8_courses.specs.Courses.{Course, Finish, Stop}
+use Rattle.p8_access.specs.Courses.{Course, Finish, Stop}
 use Rattle.p8_bcog.specs.declared.state.State.{State}
 use Rattle.p8_bcog.specs.declared.step.Callee.{Callee}
 use Rattle.p8_bcog.specs.declared.step.Given.{Given}

@@ -2,10 +2,10 @@
 use Rattle.std.proofs.Common.{◌≡◌, ℕ, ◌+◌, ◌<◌, ◌≤◌, ◌⊎◌, true, false, List, Result, Ok, Err, refl, sym, ◌∙◌, ap, subst}
 use Rattle.p8_access.specs.declared.kinds.Reason.{Reason}
 use Rattle.p8_access.specs.declared.order.Turn.{Turn}
-use Rattle.p8_courses.specs.Courses.{Course}
-use Rattle.p8_courses.specs.Timing.{Outcome, Goes, played}
-use Rattle.p8_courses.specs.Replays.{step, after}
-use Rattle.p8_courses.specs.Replaying.{after-one}
+use Rattle.p8_access.specs.Courses.{Course}
+use Rattle.p8_access.specs.Timing.{Outcome, Goes, played}
+use Rattle.p8_access.specs.Replays.{step, after}
+use Rattle.p8_access.specs.Replaying.{after-one}
 use Rattle.p8_bcog.specs.declared.step.Step.{Step}
 use Rattle.p8_bcog.specs.declared.step.Step.TheVariants.{Done, Asking}
 use Rattle.p8_bcog.specs.declared.stage.Stage.{Stage}

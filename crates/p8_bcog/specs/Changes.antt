@@ -2,7 +2,7 @@
 -- pushes its address. What names the variable, its address and its index or its pins, lies above all other
 -- operands; `named` says how many these are.
 use Rattle.std.specs.Prelude.{ℕ, ◌+◌, ◌-◌, ◌%◌, ◌^◌, ◌==◌, ◌&&◌, not, Bool, nat_le, None, if◌then◌else◌}
-use Rattle.p8_courses.specs.Courses.{Course}
+use Rattle.p8_access.specs.Courses.{Course}
 use Rattle.p8_bytecode.specs.declared.op.Op.{Op}
 use Rattle.p8_bcog.specs.declared.state.State.{State}
 use Rattle.p8_bcog.specs.declared.place.Place.{Place}

@@ -6,7 +6,7 @@ use Rattle.p8_access.specs.declared.kinds.Test.{Test}
 use Rattle.p8_access.specs.declared.kinds.Reason.TheVariants as Why
 use Rattle.p8_access.specs.declared.kinds.Access.{Access}
 use Rattle.p8_access.specs.declared.kinds.Access.TheVariants.{CogInit, Wait}
-use Rattle.p8_courses.specs.Courses.{Course, Stop}
+use Rattle.p8_access.specs.Courses.{Course, Stop}
 use Rattle.p8_bcog.specs.declared.step.Callee.{Callee}
 use Rattle.p8_bcog.specs.declared.step.Given.TheVariants.{Started}
 use Rattle.p8_bcog.specs.declared.state.State.{State}

@@ -1,6 +1,6 @@
 -- Jumps, and the tests of loops, of CASE and of the LOOK functions.
 use Rattle.std.specs.Prelude.{ℕ, ◌==◌, not, nat_le, if◌then◌else◌}
-use Rattle.p8_courses.specs.Courses.{Course, Finish}
+use Rattle.p8_access.specs.Courses.{Course, Finish}
 use Rattle.p8_bcog.specs.declared.state.State.{State}
 use Rattle.p8_bcog.specs.Operands.{operand, taken, replaced, tested, jumped, jumped_if, is_at_most, is_between, sum_of, difference, distance}
 

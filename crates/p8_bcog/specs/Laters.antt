@@ -4,7 +4,7 @@ use Rattle.p8_access.specs.declared.kinds.Width.{Width}
 use Rattle.p8_access.specs.declared.kinds.Width.TheVariants.{Byte}
 use Rattle.p8_access.specs.declared.kinds.Reason.{Reason}
 use Rattle.p8_access.specs.declared.kinds.Access.{Access}
-use Rattle.p8_courses.specs.Courses.{Course, Finish, Stop, Ask}
+use Rattle.p8_access.specs.Courses.{Course, Finish, Stop, Ask}
 use Rattle.p8_bcog.specs.declared.step.Later.{Later}
 use Rattle.p8_bcog.specs.declared.step.Later.TheVariants.{Left, Push, Value, Arguments, Counted, Compared, ComparedWith, Filled, Fetched, Moved}
 use Rattle.p8_bcog.specs.declared.step.Step.{Step}

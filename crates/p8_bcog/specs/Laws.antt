@@ -3,7 +3,7 @@ use Rattle.std.proofs.Common.{◌≡◌, ℕ, ◌+◌, ◌<◌, ◌≤◌, List,
 use Rattle.p8_access.specs.declared.kinds.Access.{Access}
 use Rattle.p8_access.specs.declared.order.Turn.{Turn}
 use Rattle.p8_access.specs.Lives.{Begun, PasmBegun, SpinBegun, first_turn_of, IsTurnAt}
-use Rattle.p8_courses.specs.Replaying as Course
+use Rattle.p8_access.specs.Replaying as Course
 use Rattle.p8_bcog.specs.Replay.{IsAsked, engine_of, entry_of}
 
 pub one-asked : (b : Begun) (ts : List Turn) (c d : ℕ) (a e : Access) → IsAsked b ts c a → IsAsked b ts d e → (c ≡ d) × (a ≡ e)

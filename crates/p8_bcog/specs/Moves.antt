@@ -2,7 +2,7 @@
 use Rattle.std.specs.Prelude.{ℕ, zero, suc, ◌+◌, ◌-◌, ◌%◌, ◌^◌, ◌==◌, nat_lt, if◌then◌else◌}
 use Rattle.p8_access.specs.declared.kinds.Width.{Width}
 use Rattle.p8_access.specs.declared.kinds.Width.TheVariants.{Byte}
-use Rattle.p8_courses.specs.Courses.{Course, Finish, Ask}
+use Rattle.p8_access.specs.Courses.{Course, Finish, Ask}
 use Rattle.p8_bcog.specs.declared.state.State.{State}
 use Rattle.p8_bcog.specs.Operands.{operand, taken, pushed, tested}
 use Rattle.p8_bcog.specs.Accesses.{word_in, read_of, is_readable, rom_halt, write_of, next_address}

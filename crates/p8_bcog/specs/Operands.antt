@@ -3,7 +3,7 @@ use Rattle.std.specs.Prelude.{ℕ, ◌+◌, ◌-◌, ◌%◌, ◌^◌, nat_lt, [
 use Rattle.p8_access.specs.declared.kinds.Reason.{Reason}
 use Rattle.p8_access.specs.declared.kinds.Reason.TheVariants as Why
 use Rattle.p8_words.specs.Words.{signed_value}
-use Rattle.p8_courses.specs.Courses.{Course, Stop}
+use Rattle.p8_access.specs.Courses.{Course, Stop}
 use Rattle.p8_bcog.specs.declared.state.State.{State}
 
 -- how many operands there are

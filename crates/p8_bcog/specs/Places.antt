@@ -5,7 +5,7 @@ use Rattle.p8_access.specs.declared.kinds.Access.{Access}
 use Rattle.p8_access.specs.declared.kinds.Access.TheVariants.{PinsIn, OutSet, DirSet, Clock}
 use Rattle.p8_access.specs.Proper.{bytes_in}
 use Rattle.p8_words.specs.Words.{reversed}
-use Rattle.p8_courses.specs.Courses.{Course, Finish, Stop, Ask}
+use Rattle.p8_access.specs.Courses.{Course, Finish, Stop, Ask}
 use Rattle.p8_bcog.specs.declared.state.State.{State}
 use Rattle.p8_bcog.specs.declared.place.Place.{Place}
 use Rattle.p8_bcog.specs.declared.place.Place.TheVariants.{Memory, Pins}

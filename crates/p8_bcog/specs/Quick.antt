@@ -1,7 +1,7 @@
 -- internal: the most frequent bytecodes, read from their first bytes. No public contract cites it.
 use Rattle.std.specs.Prelude.{ℕ, ◌+◌, ◌%◌, ◌≡◌, Bool, not, ◌&&◌, nat_le, nat_lt, List, Option, Result, Ok, Err, option_map}
 use Rattle.p8_access.specs.declared.kinds.Reason.{Reason}
-use Rattle.p8_courses.specs.Courses.{Course, Finish, Stop}
+use Rattle.p8_access.specs.Courses.{Course, Finish, Stop}
 use Rattle.p8_bytecode.specs.declared.op.Op.{Op}
 use Rattle.p8_bytecode.specs.Reading.{op_in}
 use Rattle.p8_bcog.specs.declared.state.State.{State}

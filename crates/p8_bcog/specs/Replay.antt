@@ -8,9 +8,9 @@ use Rattle.p8_access.specs.declared.kinds.Answer.{Answer}
 use Rattle.p8_access.specs.declared.order.Turn.{Turn}
 use Rattle.p8_access.specs.Windows.{window_of}
 use Rattle.p8_access.specs.Lives.{Entered, Begun, PasmBegun, SpinBegun}
-use Rattle.p8_courses.specs.Courses.{Course, Told}
-use Rattle.p8_courses.specs.Timing.{Outcome, Asks, Goes, Ends}
-use Rattle.p8_courses.specs.Replays.{Engine, replayed, retold}
+use Rattle.p8_access.specs.Courses.{Course, Told}
+use Rattle.p8_access.specs.Timing.{Outcome, Asks, Goes, Ends}
+use Rattle.p8_access.specs.Replays.{Engine, replayed, retold}
 use Rattle.p8_bcog.specs.declared.state.State.{State}
 use Rattle.p8_bcog.specs.Accesses.{ends, write_of}
 use Rattle.p8_bcog.specs.Bytecodes.{bytecode, clocks}

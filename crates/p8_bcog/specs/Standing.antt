@@ -2,8 +2,8 @@
 use Rattle.std.specs.Prelude.{ℕ, ◌+◌, ◌≡◌, Bool, true, false, List, ◌++◌}
 use Rattle.p8_access.specs.declared.order.Turn.{Turn}
 use Rattle.p8_access.specs.Lives.{Entered, Begun, PasmBegun, SpinBegun, has_ended}
-use Rattle.p8_courses.specs.Courses.{Stop}
-use Rattle.p8_courses.specs.Timing.{Outcome, Goes, Ends, played}
+use Rattle.p8_access.specs.Courses.{Stop}
+use Rattle.p8_access.specs.Timing.{Outcome, Goes, Ends, played}
 use Rattle.p8_bcog.specs.declared.stage.Stage.{Stage}
 use Rattle.p8_bcog.specs.declared.stage.Stage.TheVariants.{Entering, Ready, Asked, Halted, Over}
 use Rattle.p8_bcog.specs.declared.state.State.{State}

@@ -6,10 +6,10 @@ use Rattle.p8_access.specs.declared.order.Turn.{Turn}
 use Rattle.p8_access.specs.declared.lives.Next.{Next}
 use Rattle.p8_access.specs.declared.lives.Next.TheVariants.{At, Quiet, More}
 use Rattle.p8_access.specs.Lives.{IsMade}
-use Rattle.p8_courses.specs.Courses.{Course, Finish, Stop}
-use Rattle.p8_courses.specs.Timing.{Outcome, Asks, Goes}
-use Rattle.p8_courses.specs.Replays.{after}
-use Rattle.p8_courses.specs.Replaying.{IsFrom}
+use Rattle.p8_access.specs.Courses.{Course, Finish, Stop}
+use Rattle.p8_access.specs.Timing.{Outcome, Asks, Goes}
+use Rattle.p8_access.specs.Replays.{after}
+use Rattle.p8_access.specs.Replaying.{IsFrom}
 use Rattle.p8_bcog.specs.declared.step.Step.{Step}
 use Rattle.p8_bcog.specs.declared.step.Step.TheVariants.{Done, Asking}
 use Rattle.p8_bcog.specs.declared.stage.Stage.{Stage}

@@ -9,7 +9,7 @@ ghost use Rattle.p8_bcog.specs.Ready.{IsGood};
 ghost use Rattle.p8_access.specs.Lives.{IsMade};
 ghost use Rattle.p8_bytecode.specs.Spelling.{IsOp};
 ghost use Rattle.p8_bytecode.specs.Reading.{bare};
-ghost use Rattle.p8_courses.specs.Courses.{Finish};
+ghost use Rattle.p8_access.specs.Courses.{Finish};
 ghost use Rattle.p8_bcog.specs.declared.stage.Stage.TheVariants.{Ready};
 ghost use Rattle.p8_bcog.specs.Operands.{tested, pushed};
 ghost use Rattle.p8_bcog.specs.declared.state.State.{State};

@@ -1,6 +1,6 @@
 // Bytecodes up to one that asks.
 ghost use Rattle.std.specs.Prelude.{◌≡◌, ◌<◌, ◌≤◌, ◌+◌, ◌*◌, ◌^◌, length};
-ghost use Rattle.p8_courses.specs.Timing.{earliest, behind};
+ghost use Rattle.p8_access.specs.Timing.{earliest, behind};
 ghost use Rattle.p8_bcog.specs.Code.{code_of};
 ghost use Rattle.p8_bcog.specs.declared.state.State.{State};
 ghost use Rattle.p8_bcog.specs.declared.stage.Stage.TheVariants.{Ready};

@@ -2,7 +2,7 @@
 ghost use Rattle.std.specs.Prelude.{ℕ, ◌≡◌, ◌⊎◌, ◌<◌, ◌≤◌, ◌+◌, ◌^◌, [], None, IfOk};
 ghost use Rattle.p8_access.specs.declared.lives.Next.TheVariants.{Quiet};
 ghost use Rattle.p8_access.specs.Lives.{SpinBegun, announced_by, IsMade, IsMadeNext, is_last};
-ghost use Rattle.p8_courses.specs.Timing.{Asks, earliest};
+ghost use Rattle.p8_access.specs.Timing.{Asks, earliest};
 ghost use Rattle.p8_bcog.specs.declared.stage.Stage.TheVariants.{Ready, Over};
 ghost use Rattle.p8_bcog.specs.Origins.{IsSpin};
 ghost use Rattle.p8_bcog.specs.Replay.{IsAsked, Begins};

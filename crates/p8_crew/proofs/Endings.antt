@@ -1,10 +1,10 @@
 -- What the closed desk gives, as a run on one thread says it.
 use Rattle.std.proofs.Common.{◌≡◌, sym, subst, List, ◌++◌, Option, reverse}
 use Rattle.p8_access.specs.declared.order.Turn.{Turn}
-use Rattle.p8_history.specs.Worlds.{World}
-use Rattle.p8_history.specs.Histories.{Legal, Rises, Ended as HasEnded}
-use Rattle.p8_history.proofs.OneHistory.{one-history, begins-ended}
-use Rattle.p8_history.proofs.Rising.{rises}
+use Rattle.p8_access.specs.Worlds.{World}
+use Rattle.p8_access.specs.Histories.{Legal, Rises, Ended as HasEnded}
+use Rattle.p8_access.proofs.OneHistory.{one-history, begins-ended}
+use Rattle.p8_access.proofs.Rising.{rises}
 use Rattle.p8_lives.specs.Lives.{asks}
 use Rattle.p8_lives.specs.Laws.{one-asked, asked-first, asked-later}
 use Rattle.p8_ledger.specs.declared.outcome.Ended.{Ended as EndedRun}

@@ -7,7 +7,7 @@ ghost use Rattle.p8_crew.specs.Ends.{IsCrew};
 ghost use Rattle.p8_desk.specs.Closing.{Closed};
 ghost use Rattle.p8_desk.specs.PassSets.{AllThere};
 ghost use Rattle.p8_desk.specs.Passes.{PassValue};
-ghost use Rattle.p8_history.specs.Histories.{Legal, Rises, Ended as HasEnded};
+ghost use Rattle.p8_access.specs.Histories.{Legal, Rises, Ended as HasEnded};
 ghost use Rattle.p8_hub.specs.Standing.{IsHub};
 ghost use Rattle.p8_io.specs.Counts.{Rose};
 ghost use Rattle.p8_lives.specs.Lives.{asks};

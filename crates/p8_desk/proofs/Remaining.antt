@@ -8,11 +8,11 @@ use Rattle.p8_access.specs.declared.kinds.Origin.{Origin}
 use Rattle.p8_access.specs.declared.lives.Next.{Next}
 use Rattle.p8_access.specs.declared.lives.Next.TheVariants.{At, Quiet, More}
 use Rattle.p8_access.specs.Lives.{Begun, PasmBegun, SpinBegun}
-use Rattle.p8_history.specs.declared.states.CogState.{CogState}
-use Rattle.p8_history.specs.declared.states.CogState.TheVariants.{Running}
-use Rattle.p8_history.specs.Worlds.{World}
-use Rattle.p8_history.specs.Hub.{cog_state}
-use Rattle.p8_history.proofs.Nexts.{same_key}
+use Rattle.p8_access.specs.declared.states.CogState.{CogState}
+use Rattle.p8_access.specs.declared.states.CogState.TheVariants.{Running}
+use Rattle.p8_access.specs.Worlds.{World}
+use Rattle.p8_access.specs.Hub.{cog_state}
+use Rattle.p8_access.proofs.Nexts.{same_key}
 use Rattle.p8_ledger.specs.declared.steps.Step.{Step}
 use Rattle.p8_ledger.specs.declared.steps.Step.TheVariants.{Took, Said}
 use Rattle.p8_ledger.specs.Records.{Record, turns, said, says, cog_of, HasFront, HasFrontIn, IsLeastFront, NoFront}

@@ -3,11 +3,11 @@ use Rattle.std.proofs.Common.{◌≡◌, ◌≢◌, ◌∙◌, ap, sym, subst, r
 use Rattle.p8_access.specs.declared.order.Turn.{Turn}
 use Rattle.p8_access.specs.declared.lives.Next.{Next}
 use Rattle.p8_access.specs.Lives.{Begun}
-use Rattle.p8_history.specs.declared.states.CogState.{CogState}
-use Rattle.p8_history.specs.declared.states.CogState.TheVariants.{Stopped, Starting, Running}
-use Rattle.p8_history.specs.Worlds.{World}
-use Rattle.p8_history.specs.Hub.{cog_state}
-use Rattle.p8_history.specs.Histories.{begun}
+use Rattle.p8_access.specs.declared.states.CogState.{CogState}
+use Rattle.p8_access.specs.declared.states.CogState.TheVariants.{Stopped, Starting, Running}
+use Rattle.p8_access.specs.Worlds.{World}
+use Rattle.p8_access.specs.Hub.{cog_state}
+use Rattle.p8_access.specs.Histories.{begun}
 use Rattle.p8_lives.specs.Lives.{asks}
 use Rattle.p8_ledger.specs.Seats.{Sits, SitsIn}
 use Rattle.p8_ledger.proofs.Seating.{other-sits}
@@ -96,7 +96,7 @@ owes-unsaid w n r runner found owes rides = by-said runner.said refl
 
 -- how far a saying goes, where its cog runs
 pub saying-goes : (w : World) (n : ℕ) (r : Record) (runner : Runner) → HasFound runner → Owes w r n → Rides w n r runner
-    → (b : Begun) × (begun w (turns r) n ≡ Some b) × Lives w.clocks runner (said n r) b (Rattle.p8_history.specs.Histories.since_begin (turns r) n)
+    → (b : Begun) × (begun w (turns r) n ≡ Some b) × Lives w.clocks runner (said n r) b (Rattle.p8_access.specs.Histories.since_begin (turns r) n)
 saying-goes w n r runner found owes rides =
     let sits : Sits asks (Lives w.clocks runner (said n r)) runner.next w (turns r) n = subst (λ (s : CogState). SitsIn asks (Lives w.clocks runner (said n r)) runner.next w (turns r) n s) owes.runs.1 rides.sits in
     (sits.life, sits.began, sits.stood)

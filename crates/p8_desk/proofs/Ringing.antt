@@ -1,9 +1,9 @@
 -- Whom an answer names, and which words the bells are.
 use Rattle.std.proofs.Common.{◌≡◌, ap, sym, subst, arith, ℕ, suc, ◌+◌, ◌*◌, ◌-◌, ◌<◌, List}
 use Rattle.p8_access.specs.declared.order.Turn.{Turn}
-use Rattle.p8_history.specs.declared.states.CogState.TheVariants.{Stopped}
-use Rattle.p8_history.specs.Worlds.{World}
-use Rattle.p8_history.specs.Hub.{cog_state}
+use Rattle.p8_access.specs.declared.states.CogState.TheVariants.{Stopped}
+use Rattle.p8_access.specs.Worlds.{World}
+use Rattle.p8_access.specs.Hub.{cog_state}
 use Rattle.p8_desk.specs.declared.turned.Turned.{Turned}
 use Rattle.p8_desk.specs.declared.turned.Turned.TheVariants.{After}
 use Rattle.p8_desk.specs.Passes.{PassSteps}

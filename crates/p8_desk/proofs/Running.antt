@@ -15,12 +15,12 @@ use Rattle.p8_access.specs.declared.lives.Next.{Next}
 use Rattle.p8_access.specs.declared.lives.Next.TheVariants.{At, Quiet, More}
 use Rattle.p8_access.specs.Lives.{Begun, Tells, IsMade, IsMadeNext, announced_by, IsAnnounced, Spends, has_ended, is_last}
 use Rattle.p8_access.specs.Lives.{IsWithin}
-use Rattle.p8_history.specs.declared.states.CogState.{CogState}
-use Rattle.p8_history.specs.declared.states.CogState.TheVariants.{Stopped, Starting, Running}
-use Rattle.p8_history.specs.Worlds.{World}
-use Rattle.p8_history.specs.Hub.{Change, Starts, Runs, Stops, change_by, change_of, changed, cog_state, origin_of}
-use Rattle.p8_history.specs.Histories.{begins_life, begun_at, since_begin, first_access, IsNextIn}
-use Rattle.p8_history.proofs.Changes.{runs-begins, since_begin-new, since_begin-own, since_begin-other}
+use Rattle.p8_access.specs.declared.states.CogState.{CogState}
+use Rattle.p8_access.specs.declared.states.CogState.TheVariants.{Stopped, Starting, Running}
+use Rattle.p8_access.specs.Worlds.{World}
+use Rattle.p8_access.specs.Hub.{Change, Starts, Runs, Stops, change_by, change_of, changed, cog_state, origin_of}
+use Rattle.p8_access.specs.Histories.{begins_life, begun_at, since_begin, first_access, IsNextIn}
+use Rattle.p8_access.proofs.Changes.{runs-begins, since_begin-new, since_begin-own, since_begin-other}
 use Rattle.p8_lives.specs.declared.cog_life.CogLife.{CogLife}
 use Rattle.p8_lives.specs.declared.kind.Kind.{Kind}
 use Rattle.p8_lives.specs.declared.kind.Kind.TheVariants.{Pasm as OfPasm, Spin as OfSpin}

@@ -3,7 +3,7 @@ use Rattle.std.proofs.Common.{◌≡◌, ◌≢◌, ◌∙◌, ap, sym, subst, r
 use Rattle.std.specs.Prelude.{slice_get, slice_set}
 use mathlib.Core.Logic.{dite}
 use native.Mathlib.Decide.{ℕ_discrete}
-use Rattle.p8_history.specs.Worlds.{World}
+use Rattle.p8_access.specs.Worlds.{World}
 use Rattle.p8_desk.specs.declared.rider.Rider.{Rider}
 use Rattle.p8_desk.specs.declared.rule.Known.{Known}
 use Rattle.p8_desk.specs.Gathering.{Idle, RidesIn}

@@ -2,8 +2,8 @@
 use Rattle.std.proofs.Common.{◌≡◌, ◌⊎◌, inl, inr, ⊎_elim, ◌∙◌, ap, sym, subst, refl, ℕ, suc, ◌==◌, ◌<◌, ◌≤◌, ◌||◌, List, [], ◌∷◌, ◌++◌, length, Bool, true, false, Some, None, arith}
 use Rattle.p8_access.specs.declared.order.Turn.{Turn}
 use Rattle.p8_access.specs.declared.lives.Next.{Next}
-use Rattle.p8_history.specs.Worlds.{World}
-use Rattle.p8_history.specs.Histories.{Legal, Extends, Ended}
+use Rattle.p8_access.specs.Worlds.{World}
+use Rattle.p8_access.specs.Histories.{Legal, Extends, Ended}
 use Rattle.p8_lives.specs.Lives.{asks}
 use Rattle.p8_ledger.specs.declared.steps.Step.TheVariants.{Took, Said}
 use Rattle.p8_ledger.specs.Records.{Record, turns, mine}

@@ -2,7 +2,7 @@
 use Rattle.std.proofs.Common.{◌≡◌, ◌≢◌, ◌∙◌, ap, sym, subst, refl, ℕ, zero, suc, ◌+◌, ◌-◌, List, [], ◌∷◌, length, true, Some, None, arith}
 use mathlib.Core.Option.{none}
 use Rattle.atomic_table.specs.Table.{step as move}
-use Rattle.p8_history.specs.Worlds.{World}
+use Rattle.p8_access.specs.Worlds.{World}
 use Rattle.p8_ledger.specs.declared.ledger.Ledger.{Ledger}
 use Rattle.p8_ledger.specs.Records.{Record, turns, mine}
 use Rattle.p8_ledger.specs.Ledgers.{Found}

@@ -2,7 +2,7 @@
 use Rattle.std.proofs.Common.{◌≡◌, ◌⊎◌, inl, inr, ◌∙◌, ap, sym, subst, refl, ℕ, List, [], ◌∷◌, ◌++◌}
 use Rattle.p8_access.specs.declared.order.Turn.{Turn}
 use Rattle.p8_access.specs.declared.lives.Next.{Next}
-use Rattle.p8_history.specs.Worlds.{World}
+use Rattle.p8_access.specs.Worlds.{World}
 use Rattle.p8_ledger.specs.declared.steps.Step.TheVariants.{Said}
 use Rattle.p8_ledger.specs.Records.{Record, turns, mine, Begins}
 use Rattle.p8_desk.specs.declared.turned.Turned.{Turned}

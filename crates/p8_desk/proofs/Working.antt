@@ -4,12 +4,12 @@ use Rattle.p8_access.specs.declared.order.Turn.{Turn}
 use Rattle.p8_access.specs.declared.lives.Next.{Next}
 use Rattle.p8_access.specs.declared.lives.Next.TheVariants.{At, Quiet, More}
 use Rattle.p8_access.specs.Lives.{Begun, PasmBegun, SpinBegun, IsAnnounced, announced_by}
-use Rattle.p8_history.specs.declared.states.CogState.{CogState}
-use Rattle.p8_history.specs.declared.states.CogState.TheVariants.{Stopped, Starting, Running}
-use Rattle.p8_history.specs.Hub.{cog_state}
+use Rattle.p8_access.specs.declared.states.CogState.{CogState}
+use Rattle.p8_access.specs.declared.states.CogState.TheVariants.{Stopped, Starting, Running}
+use Rattle.p8_access.specs.Hub.{cog_state}
 use Rattle.p8_ledger.specs.Standing.{FitsState}
-use Rattle.p8_history.specs.Worlds.{World}
-use Rattle.p8_history.specs.Histories.{since_begin, Ended}
+use Rattle.p8_access.specs.Worlds.{World}
+use Rattle.p8_access.specs.Histories.{since_begin, Ended}
 use Rattle.p8_lives.specs.declared.kind.Kind.{Kind}
 use Rattle.p8_lives.specs.declared.kind.Kind.TheVariants.{Pasm as OfPasm, Spin as OfSpin}
 use Rattle.p8_lives.specs.Kinds.{number_of, fact_of}
@@ -128,7 +128,7 @@ settled-done w n s now new turn running g rides =
     }
 
 -- what was decided is what is answered
-over-ended : (w : World) (s : Record) → Rattle.p8_history.specs.Histories.Legal asks w (turns s) → IsTruthful w s → (length (turns s) ≡ w.turns) ⊎ NoFront w s → Ended asks w (turns s)
+over-ended : (w : World) (s : Record) → Rattle.p8_access.specs.Histories.Legal asks w (turns s) → IsTruthful w s → (length (turns s) ≡ w.turns) ⊎ NoFront w s → Ended asks w (turns s)
 over-ended w s legal truthful over = record { legal = legal; over = ⊎_elim (λ (full : length (turns s) ≡ w.turns). inl full) (λ (none : NoFront w s). none-over w s truthful none) over }
 
 pub settled-over : (w : World) (n : ℕ) (s : Record) (now : Ledger) (runner : Runner) → Granted w n s Over now → Rides w n s runner → Settled w n s now runner Ends

@@ -1,7 +1,7 @@
 -- What a closed desk gives.
 use Rattle.std.specs.Prelude.{ℕ, ◌≡◌, List, Option, Some, reverse, slice_get}
-use Rattle.p8_history.specs.Worlds.{World}
-use Rattle.p8_history.specs.Histories.{Ended}
+use Rattle.p8_access.specs.Worlds.{World}
+use Rattle.p8_access.specs.Histories.{Ended}
 use Rattle.p8_hub.specs.Standing.{IsHub}
 use Rattle.p8_lives.specs.Lives.{asks}
 use Rattle.p8_ledger.specs.declared.outcome.Ended.{Ended as EndedRun}

@@ -2,9 +2,9 @@
 -- The passes of all cogs in one seat.
 use Rattle.std.specs.Prelude.{ℕ, ◌≡◌, ◌<◌, ◌≤◌, true, List, [], Option, Some, None, slice_get}
 use Rattle.atomic_table.specs.Seated.{TableId}
-use Rattle.p8_history.specs.declared.states.CogState.TheVariants.{Stopped}
-use Rattle.p8_history.specs.Worlds.{World}
-use Rattle.p8_history.specs.Hub.{cog_state}
+use Rattle.p8_access.specs.declared.states.CogState.TheVariants.{Stopped}
+use Rattle.p8_access.specs.Worlds.{World}
+use Rattle.p8_access.specs.Hub.{cog_state}
 use Rattle.p8_ledger.specs.Records.{turns}
 use Rattle.p8_desk.specs.declared.rider.Rider.{Rider}
 use Rattle.p8_desk.specs.declared.rule.Known.{Known}

@@ -1,7 +1,7 @@
 -- The passes of a desk that has just been opened.
 use Rattle.std.specs.Prelude.{ℕ, zero, suc, false, List, [], ◌∷◌, ◌++◌, Option, Some}
 use Rattle.atomic_table.specs.Seated.{TableId}
-use Rattle.p8_history.specs.Worlds.{World}
+use Rattle.p8_access.specs.Worlds.{World}
 use Rattle.p8_desk.specs.Passes.{PassValue}
 
 -- a pass that has made no step and seen none

@@ -1,7 +1,7 @@
 -- Passes and desks, as their callers see them.
 use Rattle.std.specs.Prelude.{ℕ, ◌≡◌, Bool, List}
 use Rattle.atomic_table.specs.Seated.{TableId}
-use Rattle.p8_history.specs.Worlds.{World}
+use Rattle.p8_access.specs.Worlds.{World}
 use Rattle.p8_ledger.specs.Records.{Record}
 
 -- a desk is seen as its world, and as the table that it has

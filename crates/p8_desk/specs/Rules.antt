@@ -10,7 +10,7 @@ use mathlib.Core.Option.{Option as Home}
 use lib.ListN.{get_elem?}
 use Rattle.atomic_table.specs.Table.{State, Me, Step as Move}
 use Rattle.p8_access.specs.declared.kinds.Origin.TheVariants.{Pasm}
-use Rattle.p8_history.specs.Worlds.{World}
+use Rattle.p8_access.specs.Worlds.{World}
 use Rattle.p8_ledger.specs.Worlds.{world_of}
 use Rattle.p8_ledger.specs.declared.start.Start.{Start}
 use Rattle.p8_ledger.specs.declared.steps.Step.{Step}

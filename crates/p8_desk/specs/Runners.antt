@@ -8,10 +8,10 @@ use Rattle.p8_access.specs.declared.lives.Next.TheVariants.{At, Quiet, More}
 use Rattle.p8_access.specs.Lives.{Begun, Tells, announced_by, IsMadeNext, IsAnnounced}
 use Rattle.p8_access.specs.Proper.{IsProperOrigin}
 use Rattle.p8_cog.specs.Standing.{clock_of}
-use Rattle.p8_history.specs.declared.states.CogState.{CogState}
-use Rattle.p8_history.specs.Worlds.{World}
-use Rattle.p8_history.specs.Hub.{cog_state, origin_of}
-use Rattle.p8_history.specs.Histories.{Extends}
+use Rattle.p8_access.specs.declared.states.CogState.{CogState}
+use Rattle.p8_access.specs.Worlds.{World}
+use Rattle.p8_access.specs.Hub.{cog_state, origin_of}
+use Rattle.p8_access.specs.Histories.{Extends}
 use Rattle.p8_lives.specs.declared.cog_life.CogLife.{CogLife}
 use Rattle.p8_lives.specs.Kinds.{number_of, access_of}
 use Rattle.p8_lives.specs.Lives.{asks}

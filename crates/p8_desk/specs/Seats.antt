@@ -2,8 +2,8 @@
 -- The seat of a pass, and what its parts have to do with what it knows.
 use Rattle.std.specs.Prelude.{ℕ, suc, ◌≡◌, ◌<◌, ◌≤◌, Bool, true, false, [], Option, Some, None, length}
 use Rattle.atomic_table.specs.Seated.{TableId}
-use Rattle.p8_history.specs.Worlds.{World}
-use Rattle.p8_history.specs.Histories.{Ended}
+use Rattle.p8_access.specs.Worlds.{World}
+use Rattle.p8_access.specs.Histories.{Ended}
 use Rattle.p8_lives.specs.Lives.{asks}
 use Rattle.p8_ledger.specs.Records.{turns, mine}
 use Rattle.p8_desk.specs.declared.rule.Known.{Known}

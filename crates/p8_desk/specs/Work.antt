@@ -2,7 +2,7 @@
 -- What a try does between its steps on the lock word.
 use Rattle.std.specs.Prelude.{ℕ, ◌+◌, ◌^◌, ◌≡◌, ◌<◌, List, ◌∷◌, Option, Some, None, length}
 use Rattle.p8_access.specs.declared.lives.Next.{Next}
-use Rattle.p8_history.specs.Worlds.{World}
+use Rattle.p8_access.specs.Worlds.{World}
 use Rattle.p8_ledger.specs.declared.ledger.Ledger.{Ledger}
 use Rattle.p8_ledger.specs.declared.ledger.Taken.{Taken}
 use Rattle.p8_ledger.specs.declared.steps.Step.TheVariants.{Took, Said}

@@ -1,6 +1,6 @@
 // One try of one cog, by a seat that has its pass.
 ghost use Rattle.std.specs.Prelude.{◌≡◌, ◌+◌, ◌<◌, ◌^◌, ℕ, true, [], ◌∷◌, Some, None, length};
-ghost use Rattle.p8_history.specs.Worlds.{World};
+ghost use Rattle.p8_access.specs.Worlds.{World};
 ghost use Rattle.p8_ledger.specs.declared.ledger.Ledger.{Ledger};
 ghost use Rattle.p8_ledger.specs.Records.{Record, turns};
 ghost use Rattle.p8_ledger.specs.Ledgers.{Found, CanBeTaken};

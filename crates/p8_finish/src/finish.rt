@@ -1,6 +1,6 @@
 // What is told of a history that has ended.
 ghost use Rattle.std.specs.Prelude.{◌≡◌, ◌≤◌, reverse, IfOk};
-ghost use Rattle.p8_history.specs.Histories.{Ended as HasEnded, Rises};
+ghost use Rattle.p8_access.specs.Histories.{Ended as HasEnded, Rises};
 ghost use Rattle.p8_hub.specs.Standing.{IsHub};
 ghost use Rattle.p8_ledger.specs.Worlds.{world_of};
 ghost use Rattle.p8_lives.specs.Lives.{asks};

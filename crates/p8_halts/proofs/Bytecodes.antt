@@ -10,8 +10,8 @@ use Rattle.p8_access.specs.declared.kinds.Access.{Access}
 use Rattle.p8_access.specs.declared.kinds.Access.TheVariants.{CogStop, LockNew, LockRet, LockSet, LockClr, Wait}
 use Rattle.p8_access.specs.declared.order.Turn.{Turn}
 use Rattle.p8_access.specs.Lives.{Entered}
-use Rattle.p8_courses.specs.Courses.{Course, Finish}
-use Rattle.p8_courses.specs.Timing.{Asks}
+use Rattle.p8_access.specs.Courses.{Course, Finish}
+use Rattle.p8_access.specs.Timing.{Asks}
 use Rattle.p8_bytecode.specs.declared.op.Op.{Op}
 use Rattle.p8_bcog.specs.declared.state.State.{State}
 use Rattle.p8_bcog.specs.declared.calls.Call.{Call}

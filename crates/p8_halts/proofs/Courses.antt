@@ -5,9 +5,9 @@ use Rattle.p8_access.specs.declared.kinds.Access.{Access}
 use Rattle.p8_access.specs.declared.kinds.Answer.{Answer}
 use Rattle.p8_access.specs.declared.order.Turn.{Turn}
 use Rattle.p8_access.specs.Lives.{is_last}
-use Rattle.p8_courses.specs.Courses.{Course, Finish, Stop, Ask}
-use Rattle.p8_courses.specs.Timing.{Outcome, Asks, Goes, Ends, behind, played}
-use Rattle.p8_courses.specs.Replays.{Engine, step, after, replayed}
+use Rattle.p8_access.specs.Courses.{Course, Finish, Stop, Ask}
+use Rattle.p8_access.specs.Timing.{Outcome, Asks, Goes, Ends, behind, played}
+use Rattle.p8_access.specs.Replays.{Engine, step, after, replayed}
 use Rattle.p8_halts.specs.Halts.{IsProperReason, IsProperHalt}
 
 -- each access that a course may ask, whatever is answered

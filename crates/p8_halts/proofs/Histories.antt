@@ -7,11 +7,11 @@ use Rattle.p8_access.specs.declared.kinds.Origin.TheVariants.{Pasm, Spin}
 use Rattle.p8_access.specs.declared.kinds.Access.{Access}
 use Rattle.p8_access.specs.declared.order.Turn.{Turn}
 use Rattle.p8_access.specs.Lives.{Begun, PasmBegun, SpinBegun}
-use Rattle.p8_history.specs.declared.states.CogState.{CogState}
-use Rattle.p8_history.specs.declared.states.CogState.TheVariants.{Stopped, Starting, Running}
-use Rattle.p8_history.specs.Worlds.{World}
-use Rattle.p8_history.specs.Hub.{cog_state}
-use Rattle.p8_history.specs.Histories.{first_access, since_begin, IsNextIn, Legal}
+use Rattle.p8_access.specs.declared.states.CogState.{CogState}
+use Rattle.p8_access.specs.declared.states.CogState.TheVariants.{Stopped, Starting, Running}
+use Rattle.p8_access.specs.Worlds.{World}
+use Rattle.p8_access.specs.Hub.{cog_state}
+use Rattle.p8_access.specs.Histories.{first_access, since_begin, IsNextIn, Legal}
 use Rattle.p8_lives.specs.Lives.{asks}
 use Rattle.p8_halts.specs.Halts.{IsProperHalt, NamesRegister}
 use Rattle.p8_halts.proofs.Named.{Named, if-named}

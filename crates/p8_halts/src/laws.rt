@@ -1,8 +1,8 @@
 // The law of the halts of a history. The function does nothing: its contract is the law.
 ghost use Rattle.std.specs.Prelude.{All, List};
 ghost use Rattle.p8_access.specs.declared.order.Turn.{Turn};
-ghost use Rattle.p8_history.specs.Worlds.{World};
-ghost use Rattle.p8_history.specs.Histories.{Legal};
+ghost use Rattle.p8_access.specs.Worlds.{World};
+ghost use Rattle.p8_access.specs.Histories.{Legal};
 ghost use Rattle.p8_lives.specs.Lives.{asks};
 ghost use Rattle.p8_halts.specs.Halts.{NamesRegister};
 

@@ -6,11 +6,11 @@ use Rattle.p8_access.specs.declared.kinds.Access.TheVariants.{CogInit}
 use Rattle.p8_access.specs.declared.kinds.Answer.TheVariants.{Number}
 use Rattle.p8_access.specs.declared.order.Key.{Key}
 use Rattle.p8_access.specs.declared.order.Turn.{Turn}
-use Rattle.p8_history.specs.declared.states.CogState.{CogState}
-use Rattle.p8_history.specs.Worlds.{World}
-use Rattle.p8_history.specs.Hub.{cogs, cog_state, is_stopped}
-use Rattle.p8_history.specs.Pins.{outa_of, dira_of, dira, outputs}
-use Rattle.p8_history.specs.Histories.{answer_to}
+use Rattle.p8_access.specs.declared.states.CogState.{CogState}
+use Rattle.p8_access.specs.Worlds.{World}
+use Rattle.p8_access.specs.Hub.{cogs, cog_state, is_stopped}
+use Rattle.p8_access.specs.Pins.{outa_of, dira_of, dira, outputs}
+use Rattle.p8_access.specs.Histories.{answer_to}
 use Rattle.p8_hub.specs.Parts.{target_or, ors, driven}
 use Rattle.p8_hub.specs.Standing.{HubValue, IsHub}
 use Rattle.p8_hub.proofs.Eights.{first_one, ors_all}

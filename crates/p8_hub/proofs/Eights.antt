@@ -3,8 +3,8 @@ use Rattle.std.proofs.Common.{◌≡◌, refl, ℕ, Bool, map, arith, bit_or}
 use Rattle.std.specs.List.{position_from, find}
 use Rattle.std.proofs.lemmas.Nat.Bits.{same_from_bits, bit_at_or}
 use lib.Bits.{or_zero_r}
-use Rattle.p8_history.specs.Hub.{cogs}
-use Rattle.p8_history.specs.Pins.{or_all}
+use Rattle.p8_access.specs.Hub.{cogs}
+use Rattle.p8_access.specs.Pins.{or_all}
 use Rattle.p8_hub.specs.Parts.{ors}
 
 -- the first that passes a test

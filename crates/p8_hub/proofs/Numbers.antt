@@ -6,7 +6,7 @@ use Rattle.std.proofs.lemmas.Bool.Decides.{nat_tests}
 use borrow.Rule.Slice.PartMut.{put_mid, post_of}
 use Rattle.p8_access.specs.declared.kinds.Access.TheVariants.{Write}
 use Rattle.p8_access.specs.declared.kinds.Width.TheVariants.{Word, Long}
-use Rattle.p8_history.specs.Hub.{or_else, put_by}
+use Rattle.p8_access.specs.Hub.{or_else, put_by}
 
 -- what stands after a part that reaches to the end
 whole : (xs : List ℕ) (at k n : ℕ) → k ≡ length xs - at → drop n (take k (drop at xs)) ++ post_of at k xs ≡ drop n (drop at xs)

@@ -1,10 +1,10 @@
 -- What a hub keeps, and which history it stands for. A past is a list of turns, the newest first.
 use Rattle.std.specs.Prelude.{◌≡◌, ◌<◌, ℕ, Bool, List, map, slice_index}
 use Rattle.p8_access.specs.declared.order.Turn.{Turn}
-use Rattle.p8_history.specs.declared.states.CogState.{CogState}
-use Rattle.p8_history.specs.Worlds.{World}
-use Rattle.p8_history.specs.Hub.{cogs, locks, byte_at, cog_state, is_taken, is_set}
-use Rattle.p8_history.specs.Pins.{outa_of, dira_of}
+use Rattle.p8_access.specs.declared.states.CogState.{CogState}
+use Rattle.p8_access.specs.Worlds.{World}
+use Rattle.p8_access.specs.Hub.{cogs, locks, byte_at, cog_state, is_taken, is_set}
+use Rattle.p8_access.specs.Pins.{outa_of, dira_of}
 
 -- the 32,768 bytes of memory; each cog's state, OUTA and DIRA; each lock's two facts
 pub record HubValue : Type 0 where

@@ -2,12 +2,11 @@
 ghost use Rattle.std.specs.Prelude.{◌≡◌, ◌<◌, replicate, slice_set, slice_index_or};
 ghost use Rattle.std.specs.List.{position_from};
 ghost use Rattle.p8_access.specs.Proper.{IsNumber};
-ghost use Rattle.p8_history.specs.declared.states.CogState.TheVariants.{Stopped, Starting, Running};
-ghost use Rattle.p8_history.specs.Hub.{is_stopped, origin_of};
+ghost use Rattle.p8_access.specs.declared.states.CogState.TheVariants.{Stopped, Starting, Running};
+ghost use Rattle.p8_access.specs.Hub.{is_stopped, origin_of};
 ghost use Rattle.p8_hub.specs.Parts.{set_where, target_or};
 
-use p8_access::Origin;
-use p8_history::CogState;
+use p8_access::{CogState, Origin};
 
 /// The states of the eight cogs.
 #[derive(Drop)]

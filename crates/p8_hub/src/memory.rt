@@ -2,7 +2,7 @@
 ghost use Rattle.std.specs.Prelude.{◌≡◌, ◌<◌, ◌≤◌, ◌+◌, ◌^◌, ℕ, length, nat_lt, if◌then◌else◌, slice_index, IfOk};
 ghost use Rattle.p8_access.specs.declared.kinds.Access.TheVariants.{Write};
 ghost use Rattle.p8_access.specs.Proper.{bytes_in, IsAligned, IsReduced};
-ghost use Rattle.p8_history.specs.Hub.{put_by, or_else};
+ghost use Rattle.p8_access.specs.Hub.{put_by, or_else};
 ghost use Rattle.p8_hub.specs.Parts.{number_in};
 
 use byteorder::{ByteOrder, LittleEndian};

@@ -1,7 +1,7 @@
 // The pins that the eight cogs drive.
 ghost use Rattle.std.specs.Prelude.{◌≡◌, ◌<◌, ◌^◌, fold, replicate, slice_set, bit_and, bit_or};
 ghost use Rattle.std.specs.List.{zip};
-ghost use Rattle.p8_history.specs.Pins.{pins_with};
+ghost use Rattle.p8_access.specs.Pins.{pins_with};
 ghost use Rattle.p8_hub.specs.Parts.{ors, driven};
 
 /// The registers OUTA and DIRA of the eight cogs.

@@ -1,6 +1,6 @@
 -- Where the shelf tells its files, asks come to one thing alone: what they are given, or one reason that stops them.
 use Rattle.std.proofs.Common.{◌≡◌, ◌<◌, ◌≤◌, ◌∙◌, ap, ap₂, sym, subst, arith, ℕ, Bool, inl, inr, refl, List, [], ◌∷◌, length, Option, Some, None}
-use Rattle.p8_history.specs.Worlds.{Line}
+use Rattle.p8_access.specs.Worlds.{Line}
 use Rattle.p8_tree.specs.declared.places.Place.{Place}
 use Rattle.p8_tree.specs.Projects.{NamedSource}
 use Rattle.p8_image.specs.declared.faults.LoadFault.{LoadFault}

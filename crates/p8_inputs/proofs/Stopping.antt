@@ -2,7 +2,7 @@
 use Rattle.std.proofs.Common.{◌≡◌, ◌⊎◌, ℕ, ◌≤◌, inl, inr, refl, sym, subst, List, [], ◌∷◌, ◌++◌, Option, Some, None, arith}
 use Rattle.std.specs.Prelude.{Result, Ok, Err, IfErr, IsErrAnd}
 use Rattle.p8_io.specs.Counts.{Rose}
-use Rattle.p8_history.specs.Worlds.{Line}
+use Rattle.p8_access.specs.Worlds.{Line}
 use Rattle.p8_io.specs.Shelves.{Files, IsLacking}
 use Rattle.p8_inputs.specs.declared.inputs.Inputs.{Inputs}
 use Rattle.p8_inputs.specs.declared.program.Format.{Format}

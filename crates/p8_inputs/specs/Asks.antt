@@ -1,6 +1,6 @@
 -- What a command reads of a shelf: a list of asks, one after the other, and the first of them that stops it (this project's profile).
 use Rattle.std.specs.Prelude.{ℕ, ◌≡◌, ◌<◌, ◌≤◌, ◌⊎◌, Bool, List, [], ◌∷◌, ◌++◌, length, Option, Some, None}
-use Rattle.p8_history.specs.Worlds.{Line}
+use Rattle.p8_access.specs.Worlds.{Line}
 use Rattle.p8_pins.specs.Scripts.{IsFault}
 use Rattle.p8_image.specs.declared.faults.LoadFault.TheVariants.{BadLength}
 use Rattle.p8_io.specs.Counts.{Rose}

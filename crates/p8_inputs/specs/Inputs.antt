@@ -1,6 +1,6 @@
 -- The files of a run on a shelf: what is run, with the files of its project, and the pin script (this project's profile).
 use Rattle.std.specs.Prelude.{ℕ, ◌≡◌, List, [], Option, Some, None}
-use Rattle.p8_history.specs.Worlds.{Line}
+use Rattle.p8_access.specs.Worlds.{Line}
 use Rattle.p8_tree.specs.declared.places.Place.{Place}
 use Rattle.p8_image.specs.declared.faults.LoadFault.{LoadFault}
 use Rattle.p8_pins.specs.Scripts.{IsReadAs}

@@ -6,7 +6,7 @@ use Rattle.p8_access.specs.declared.kinds.Origin.{Origin}
 use Rattle.p8_access.specs.declared.kinds.Origin.TheVariants.{Pasm}
 use Rattle.p8_access.specs.declared.memory.Boot.{Boot}
 use Rattle.p8_access.specs.Boots.{ram_of}
-use Rattle.p8_history.specs.Worlds.{Line, World}
+use Rattle.p8_access.specs.Worlds.{Line, World}
 use Rattle.p8_image.specs.declared.faults.LoadFault.{LoadFault}
 use Rattle.p8_image.specs.declared.faults.LoadFault.TheVariants.{BadLength}
 use Rattle.p8_image.specs.Headers.{header_of}

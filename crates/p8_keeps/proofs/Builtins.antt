@@ -9,8 +9,8 @@ use Rattle.p8_access.specs.declared.kinds.Reason.TheVariants as Why
 use Rattle.p8_access.specs.declared.kinds.Test.{Test}
 use Rattle.p8_access.specs.declared.kinds.Access.{Access}
 use Rattle.p8_access.specs.declared.kinds.Access.TheVariants as access_case
-use Rattle.p8_courses.specs.Courses.{Course, Finish, Stop}
-use Rattle.p8_courses.specs.Replays.{Engine}
+use Rattle.p8_access.specs.Courses.{Course, Finish, Stop}
+use Rattle.p8_access.specs.Replays.{Engine}
 use Rattle.p8_bcog.specs.declared.marks.Mark.{Mark}
 use Rattle.p8_bcog.specs.declared.state.State.{State}
 use Rattle.p8_bcog.specs.declared.step.Callee as entry

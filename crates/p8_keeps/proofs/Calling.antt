@@ -6,7 +6,7 @@ use Rattle.std.proofs.Math.Seq.{take-append_seam, drop-append_seam}
 use Rattle.std.proofs.lemmas.Bool.{le-ltb, ltb-true, ltb-false, le-leb, lt-leb}
 use Rattle.p8_access.specs.declared.kinds.Width.TheVariants.{Long}
 use Rattle.p8_access.specs.declared.kinds.Reason.TheVariants as Why
-use Rattle.p8_courses.specs.Courses.{Course, Finish, Stop}
+use Rattle.p8_access.specs.Courses.{Course, Finish, Stop}
 use Rattle.p8_bcog.specs.declared.calls.Call.{Call}
 use Rattle.p8_bcog.specs.declared.marks.Mark.{Mark}
 use Rattle.p8_bcog.specs.declared.state.State.{State}

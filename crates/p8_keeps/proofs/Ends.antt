@@ -4,8 +4,8 @@ use Rattle.p8_access.specs.declared.kinds.Access.{Access}
 use Rattle.p8_access.specs.declared.kinds.Access.TheVariants as asked
 use Rattle.p8_access.specs.declared.kinds.Answer.{Answer}
 use Rattle.p8_access.specs.Lives.{is_last}
-use Rattle.p8_courses.specs.Courses.{Course, Finish, Stop, Ask, Told, Wants, Leaves, Closes, told}
-use Rattle.p8_courses.specs.Replays.{Engine, told_step, told_after}
+use Rattle.p8_access.specs.Courses.{Course, Finish, Stop, Ask, Told, Wants, Leaves, Closes, told}
+use Rattle.p8_access.specs.Replays.{Engine, told_step, told_after}
 use Rattle.p8_meaning.specs.Bounds.{made_of, IsSettled, IsBeginning}
 use Rattle.p8_keeps.specs.Keeps.{forgets}
 

@@ -2,7 +2,7 @@
 use Rattle.std.proofs.Common.{◌≡◌, inl, inr, refl, sym, ap, subst, ◌∙◌, arith, ℕ, zero, suc, max, ◌+◌, ◌<◌, ◌≤◌, ◌==◌, Bool, true, false, if◌then◌else◌, List, [], ◌∷◌, ◌++◌, length, Option, Some, None, append_assoc, append-nil}
 use Rattle.std.proofs.Math.ListN.{length-append}
 use Rattle.std.proofs.lemmas.Bool.{ne_eqb}
-use Rattle.p8_courses.specs.Courses.{Course, Finish}
+use Rattle.p8_access.specs.Courses.{Course, Finish}
 use Rattle.p8_tree.specs.declared.places.Place.{Place}
 use Rattle.p8_tree.specs.Heights.{height}
 use Rattle.p8_tree.specs.Proper.{IfThere, IsProperExpression, IsDone, IsProperTest, AreProperTests, IsProperCourse, IsProperStatement, AreProperStatements, AreProperArms, AreProperChoices, IsProperOtherwise}

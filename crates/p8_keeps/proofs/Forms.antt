@@ -3,8 +3,8 @@ use Rattle.std.proofs.Common.{◌≡◌, refl, sym, ap, ap₂, subst, ◌∙◌,
 use Rattle.std.specs.Prelude.{nat_le, nat_lt, not, ◌&&◌, slice_get}
 use Rattle.std.proofs.Math.ListN.{length-append}
 use Rattle.std.specs.Str.{bytes_eq}
-use Rattle.p8_courses.specs.Courses.{Course, Finish, Stop}
-use Rattle.p8_courses.specs.Replays.{Engine}
+use Rattle.p8_access.specs.Courses.{Course, Finish, Stop}
+use Rattle.p8_access.specs.Replays.{Engine}
 use Rattle.p8_tree.specs.declared.places.Place.{Place}
 use Rattle.p8_tree.specs.Names.{result_word}
 use Rattle.p8_tree.specs.Expressions.{Tree, Variable, Named, Part, Memory, Register, Index, no_index, index, Bits, whole, bits, Item, single, range, Trees, Items}

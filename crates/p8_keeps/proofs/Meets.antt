@@ -5,10 +5,10 @@ use Rattle.p8_access.specs.declared.kinds.Reason.{Reason}
 use Rattle.p8_access.specs.declared.kinds.Access.{Access}
 use Rattle.p8_access.specs.declared.kinds.Answer.{Answer}
 use Rattle.p8_access.specs.Lives.{is_last}
-use Rattle.p8_courses.specs.Courses.{Course, Finish, Stop, Ask, Told, Wants, Leaves, Closes, told}
+use Rattle.p8_access.specs.Courses.{Course, Finish, Stop, Ask, Told, Wants, Leaves, Closes, told}
 use Rattle.p8_keeps.specs.Keeps.{forgets}
 use Rattle.p8_meaning.specs.Doing.{Registers, Rest, halts, asks, word_in}
-use Rattle.p8_courses.specs.Replays.{Engine, told_step, told_after}
+use Rattle.p8_access.specs.Replays.{Engine, told_step, told_after}
 
 module _ {S : Type 0} (e : Engine S) where
   pub record Meets (f : ℕ) (d : Course S) (t : Course (Unit {0})) : Type 0 where

@@ -6,7 +6,7 @@ use Rattle.p8_access.specs.declared.kinds.Origin.{Origin}
 use Rattle.p8_access.specs.declared.kinds.Origin.TheVariants.{Spin}
 use Rattle.p8_access.specs.declared.kinds.Access.TheVariants.{CogStop}
 use Rattle.p8_access.specs.declared.kinds.Answer.{Answer}
-use Rattle.p8_courses.specs.Courses.{Course, Finish, Told, Wants, Leaves, Closes, told}
+use Rattle.p8_access.specs.Courses.{Course, Finish, Told, Wants, Leaves, Closes, told}
 use Rattle.p8_tree.specs.Sources.{MethodTree}
 use Rattle.p8_bcog.specs.declared.calls.Call.{Call}
 use Rattle.p8_bcog.specs.declared.marks.Mark.{Mark}

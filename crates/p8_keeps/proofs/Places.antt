@@ -1,8 +1,8 @@
 -- Reads and writes of variables: the bytecodes' and the source's are the same accesses.
 use Rattle.std.proofs.Common.{◌≡◌, refl, subst, ℕ, Bool, true, false, List, [], ◌∷◌, ◌++◌, Option}
 use Rattle.p8_access.specs.declared.kinds.Access.TheVariants as access_case
-use Rattle.p8_courses.specs.Courses.{Finish}
-use Rattle.p8_courses.specs.Replays.{Engine}
+use Rattle.p8_access.specs.Courses.{Finish}
+use Rattle.p8_access.specs.Replays.{Engine}
 use Rattle.p8_bcog.specs.declared.calls.Call.{Call}
 use Rattle.p8_bcog.specs.declared.marks.Mark.{Mark}
 use Rattle.p8_bcog.specs.declared.state.State.{State}

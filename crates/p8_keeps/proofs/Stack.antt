@@ -5,7 +5,7 @@ use Rattle.std.proofs.Math.ListN.{length-append}
 use Rattle.std.proofs.lemmas.List.{get_or-append-add}
 use Rattle.std.proofs.Math.Seq.{take-append_seam, drop-append_seam}
 use Rattle.std.proofs.lemmas.Bool.{le-ltb}
-use Rattle.p8_courses.specs.Courses.{Course}
+use Rattle.p8_access.specs.Courses.{Course}
 use Rattle.p8_bcog.specs.declared.state.State.{State}
 use Rattle.p8_bcog.specs.Operands.{operand, taken, tested, stopped_by}
 use Rattle.p8_keeps.specs.Courses.{takes_one, takes_two, takes_three, takes_four, takes_names, takes_value, tops}

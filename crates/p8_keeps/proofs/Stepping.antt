@@ -1,7 +1,7 @@
 -- One bytecode, by what it takes from the stack.
 use Rattle.std.proofs.Common.{◌≡◌, refl, sym, ap, subst, ◌∙◌, arith, ℕ, zero, suc, ◌+◌, ◌%◌, ◌^◌, ◌≤◌, List, [], ◌∷◌, ◌++◌, length, append_assoc, append-nil}
-use Rattle.p8_courses.specs.Courses.{Course, Finish}
-use Rattle.p8_courses.specs.Replays.{Engine}
+use Rattle.p8_access.specs.Courses.{Course, Finish}
+use Rattle.p8_access.specs.Replays.{Engine}
 use Rattle.p8_bcog.specs.declared.marks.Mark.{Mark}
 use Rattle.p8_bcog.specs.declared.state.State.{State}
 use Rattle.p8_bcog.specs.Bytecodes.{bytecode, does_found}

@@ -2,7 +2,7 @@
 use Rattle.std.specs.Prelude.{◌≡◌, ℕ, ◌+◌, ◌%◌, ◌^◌, ◌<◌, ◌≤◌, true, List, slice_get, Some}
 use Rattle.p8_access.specs.declared.kinds.Origin.{Origin}
 use Rattle.p8_access.specs.declared.kinds.Answer.{Answer}
-use Rattle.p8_courses.specs.Courses.{Told, Wants, Leaves, Closes}
+use Rattle.p8_access.specs.Courses.{Told, Wants, Leaves, Closes}
 use Rattle.p8_tree.specs.Proper.{AreProperStatements}
 use Rattle.p8_tree.specs.Sources.{MethodTree}
 use Rattle.p8_kinds.specs.declared.name_kinds.NameKind.TheVariants as kind_case

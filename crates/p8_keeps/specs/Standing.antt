@@ -6,7 +6,7 @@ use Rattle.p8_access.specs.declared.kinds.Width.TheVariants.{Byte, Word, Long}
 use Rattle.p8_access.specs.declared.kinds.Test.TheVariants as test_case
 use Rattle.p8_access.specs.declared.kinds.Reason.TheVariants as Why
 use Rattle.p8_access.specs.declared.kinds.Access.TheVariants as access_case
-use Rattle.p8_courses.specs.Courses.{Course, Finish, Stop}
+use Rattle.p8_access.specs.Courses.{Course, Finish, Stop}
 use Rattle.p8_tree.specs.Names.{result_word}
 use Rattle.p8_tree.specs.Expressions.{Tree, node, Number, Str, Here, Var, Call, Unary, Binary, Assign, Change, Address, ObjectAddress, ObjConst, Built, Look, Variable, Named, Part, Memory, Register, Index, no_index, index, Bits, whole, bits, Item, single, range, Trees, no_trees, ◌▷◌, Items, no_items, ◌▸◌}
 use Rattle.p8_operators.specs.Operators.{unary_value, binary_value, or_zero}

@@ -10,11 +10,11 @@ use Rattle.p8_access.specs.declared.order.Turn.{Turn}
 use Rattle.p8_access.specs.declared.kinds.Answer.{Answer}
 use Rattle.p8_access.specs.Proper.{IsProper}
 use Rattle.p8_access.specs.Lives.{IsMade, IsOnTime, IsAnnounced}
-use Rattle.p8_history.specs.declared.states.CogState.{CogState}
-use Rattle.p8_history.specs.declared.states.CogState.TheVariants.{Stopped, Starting, Running}
-use Rattle.p8_history.specs.Worlds.{World}
-use Rattle.p8_history.specs.Hub.{cog_state}
-use Rattle.p8_history.specs.Histories.{IsAfter, IsDue}
+use Rattle.p8_access.specs.declared.states.CogState.{CogState}
+use Rattle.p8_access.specs.declared.states.CogState.TheVariants.{Stopped, Starting, Running}
+use Rattle.p8_access.specs.Worlds.{World}
+use Rattle.p8_access.specs.Hub.{cog_state}
+use Rattle.p8_access.specs.Histories.{IsAfter, IsDue}
 use Rattle.p8_ledger.specs.Waiting.{test_in, newest_key, IsBehind, IsTimely, IsNextAt}
 use Rattle.p8_ledger.specs.Records.{Record, turns, said}
 use Rattle.p8_ledger.specs.Coming.{MayBe, MayComeIn, IsFrom, waits_for, WaitsFrom}

@@ -3,11 +3,11 @@ use Rattle.std.proofs.Common.{◌≡◌, ◌∙◌, ap, sym, subst, refl, ℕ, �
 use Rattle.p8_access.specs.declared.kinds.Test.{Test}
 use Rattle.p8_access.specs.declared.lives.Next.{Next}
 use Rattle.p8_access.specs.declared.order.Turn.{Turn}
-use Rattle.p8_history.specs.declared.states.CogState.{CogState}
-use Rattle.p8_history.specs.declared.states.CogState.TheVariants.{Stopped, Starting}
-use Rattle.p8_history.specs.Worlds.{World}
-use Rattle.p8_history.specs.Hub.{Change, change_of, changed, cog_state}
-use Rattle.p8_history.proofs.Changes.{decided, same-cog, differ-cog, other-test}
+use Rattle.p8_access.specs.declared.states.CogState.{CogState}
+use Rattle.p8_access.specs.declared.states.CogState.TheVariants.{Stopped, Starting}
+use Rattle.p8_access.specs.Worlds.{World}
+use Rattle.p8_access.specs.Hub.{Change, change_of, changed, cog_state}
+use Rattle.p8_access.proofs.Changes.{decided, same-cog, differ-cog, other-test}
 use Rattle.p8_ledger.specs.declared.fronts.Fronts.{Fronts}
 use Rattle.p8_ledger.specs.Fronts.{IsFront, IsFrontIn}
 

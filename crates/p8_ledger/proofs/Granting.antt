@@ -10,12 +10,12 @@ use Rattle.p8_access.specs.declared.order.Turn.{Turn}
 use Rattle.p8_access.specs.declared.lives.Next.{Next}
 use Rattle.p8_access.specs.declared.lives.Next.TheVariants.{At, Quiet, More}
 use Rattle.p8_access.specs.Lives.{IsMadeNext, announced_by}
-use Rattle.p8_history.specs.declared.states.CogState.{CogState}
-use Rattle.p8_history.specs.declared.states.CogState.TheVariants.{Stopped, Starting, Running}
-use Rattle.p8_history.specs.Worlds.{World}
-use Rattle.p8_history.specs.Hub.{cog_state}
-use Rattle.p8_history.specs.Histories.{answer_to, IsNext, IsNextIn, IsNextRunning, Extends}
-use Rattle.p8_history.proofs.Changes.{decided, same-cog, differ-cog}
+use Rattle.p8_access.specs.declared.states.CogState.{CogState}
+use Rattle.p8_access.specs.declared.states.CogState.TheVariants.{Stopped, Starting, Running}
+use Rattle.p8_access.specs.Worlds.{World}
+use Rattle.p8_access.specs.Hub.{cog_state}
+use Rattle.p8_access.specs.Histories.{answer_to, IsNext, IsNextIn, IsNextRunning, Extends}
+use Rattle.p8_access.proofs.Changes.{decided, same-cog, differ-cog}
 use Rattle.p8_lives.specs.Lives.{asks}
 use Rattle.p8_ledger.specs.Seats.{Sits, SitsIn}
 use Rattle.p8_ledger.specs.Standing.{FitsState}

@@ -7,12 +7,12 @@ use Rattle.p8_access.specs.declared.lives.Next.TheVariants.{At, Quiet, More}
 use Rattle.p8_access.specs.declared.order.Key.{Key}
 use Rattle.p8_access.specs.Lives.{Begun, Tells}
 use Rattle.p8_access.specs.Windows.{Before}
-use Rattle.p8_history.specs.declared.states.CogState.{CogState}
-use Rattle.p8_history.specs.declared.states.CogState.TheVariants.{Stopped, Starting, Running}
-use Rattle.p8_history.specs.Worlds.{World}
-use Rattle.p8_history.specs.Hub.{cog_state}
-use Rattle.p8_history.specs.Histories.{IsDue, IsNextIn, IsNextRunning, first_access, since_begin}
-use Rattle.p8_history.proofs.Nexts.{some-injective}
+use Rattle.p8_access.specs.declared.states.CogState.{CogState}
+use Rattle.p8_access.specs.declared.states.CogState.TheVariants.{Stopped, Starting, Running}
+use Rattle.p8_access.specs.Worlds.{World}
+use Rattle.p8_access.specs.Hub.{cog_state}
+use Rattle.p8_access.specs.Histories.{IsDue, IsNextIn, IsNextRunning, first_access, since_begin}
+use Rattle.p8_access.proofs.Nexts.{some-injective}
 use Rattle.p8_lives.specs.Lives.{asks}
 use Rattle.p8_lives.specs.Laws.{one-asked}
 use Rattle.p8_ledger.specs.Seats.{Sits, SitsIn}

@@ -9,12 +9,12 @@ use Rattle.p8_access.specs.declared.kinds.Access.TheVariants.{Begin, Load, Halt}
 use Rattle.p8_access.specs.declared.order.Turn.{Turn}
 use Rattle.p8_access.specs.declared.lives.Next.{Next}
 use Rattle.p8_access.specs.Lives.{Begun, Tells}
-use Rattle.p8_history.specs.declared.states.CogState.{CogState}
-use Rattle.p8_history.specs.declared.states.CogState.TheVariants.{Stopped, Starting, Running}
-use Rattle.p8_history.specs.Worlds.{World}
-use Rattle.p8_history.specs.Hub.{Change, Runs, Stops, change_by, change_of, changed, cog_state, origin_of}
-use Rattle.p8_history.specs.Histories.{begins_life, is_begin, begun_at, first_access}
-use Rattle.p8_history.proofs.Changes.{begun-new, since_begin-new, own-test}
+use Rattle.p8_access.specs.declared.states.CogState.{CogState}
+use Rattle.p8_access.specs.declared.states.CogState.TheVariants.{Stopped, Starting, Running}
+use Rattle.p8_access.specs.Worlds.{World}
+use Rattle.p8_access.specs.Hub.{Change, Runs, Stops, change_by, change_of, changed, cog_state, origin_of}
+use Rattle.p8_access.specs.Histories.{begins_life, is_begin, begun_at, first_access}
+use Rattle.p8_access.proofs.Changes.{begun-new, since_begin-new, own-test}
 use Rattle.p8_lives.specs.Lives.{begun_by}
 use Rattle.p8_ledger.specs.Seats.{Sits, SitsIn}
 

@@ -9,12 +9,12 @@ use Rattle.p8_access.specs.declared.kinds.Answer.TheVariants.{Done, Value, Numbe
 use Rattle.p8_access.specs.declared.order.Turn.{Turn}
 use Rattle.p8_access.specs.Proper.{IsProper, IsProperOrigin, IsNumber, IsStarted, Fits}
 use Rattle.p8_access.specs.Lives.{Begun}
-use Rattle.p8_history.specs.declared.states.CogState.{CogState}
-use Rattle.p8_history.specs.declared.states.CogState.TheVariants.{Stopped, Starting}
-use Rattle.p8_history.specs.Worlds.{World}
-use Rattle.p8_history.specs.Hub.{Starts, Runs, Stops, is_number, change_by, change_of, changed, cog_state, origin_of}
-use Rattle.p8_history.specs.Histories.{Legal, Extends, IsOver}
-use Rattle.p8_history.proofs.Changes.{other-test}
+use Rattle.p8_access.specs.declared.states.CogState.{CogState}
+use Rattle.p8_access.specs.declared.states.CogState.TheVariants.{Stopped, Starting}
+use Rattle.p8_access.specs.Worlds.{World}
+use Rattle.p8_access.specs.Hub.{Starts, Runs, Stops, is_number, change_by, change_of, changed, cog_state, origin_of}
+use Rattle.p8_access.specs.Histories.{Legal, Extends, IsOver}
+use Rattle.p8_access.proofs.Changes.{other-test}
 
 -- a legal history has at most as many turns as the limit
 pub legal-length : (asked : Begun → List Turn → ℕ → Access → Type 0) (w : World) (past : List Turn) → Legal asked w past → length past ≤ w.turns

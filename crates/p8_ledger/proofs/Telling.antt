@@ -9,13 +9,13 @@ use Rattle.p8_access.specs.declared.lives.Next.{Next}
 use Rattle.p8_access.specs.declared.lives.Next.TheVariants.{At, Quiet, More}
 use Rattle.p8_access.specs.Windows.{Before}
 use Rattle.p8_access.specs.Lives.{Begun, IsMade, first_turn_of}
-use Rattle.p8_history.specs.declared.states.CogState.{CogState}
-use Rattle.p8_history.specs.declared.states.CogState.TheVariants.{Stopped, Starting, Running}
-use Rattle.p8_history.specs.Worlds.{World}
-use Rattle.p8_history.specs.Hub.{cog_state}
-use Rattle.p8_history.specs.Histories.{answer_to, IsNext, IsNextIn, IsNextRunning, Extends, IsOver, begun_at, first_access, since_begin}
-use Rattle.p8_history.proofs.Changes.{decided, same-cog, differ-cog, other-test, own-test}
-use Rattle.p8_history.proofs.Nexts.{nat_apart, due-late, due-on_time, some-injective}
+use Rattle.p8_access.specs.declared.states.CogState.{CogState}
+use Rattle.p8_access.specs.declared.states.CogState.TheVariants.{Stopped, Starting, Running}
+use Rattle.p8_access.specs.Worlds.{World}
+use Rattle.p8_access.specs.Hub.{cog_state}
+use Rattle.p8_access.specs.Histories.{answer_to, IsNext, IsNextIn, IsNextRunning, Extends, IsOver, begun_at, first_access, since_begin}
+use Rattle.p8_access.proofs.Changes.{decided, same-cog, differ-cog, other-test, own-test}
+use Rattle.p8_access.proofs.Nexts.{nat_apart, due-late, due-on_time, some-injective}
 use Rattle.p8_lives.specs.Lives.{asks}
 use Rattle.p8_lives.specs.Laws.{asked-first, asked-later}
 use Rattle.p8_ledger.specs.Seats.{Sits, SitsIn}

@@ -4,8 +4,8 @@ use Rattle.std.specs.Prelude.{IfSome, IfNone}
 use Rattle.p8_access.specs.declared.kinds.Test.{Test}
 use Rattle.p8_access.specs.declared.order.Key.{Key}
 use Rattle.p8_access.specs.declared.order.Turn.{Turn}
-use Rattle.p8_history.specs.Worlds.{World, level_at}
-use Rattle.p8_history.specs.Pins.{pins_with, dira, outputs, Holds}
+use Rattle.p8_access.specs.Worlds.{World, level_at}
+use Rattle.p8_access.specs.Pins.{pins_with, dira, outputs, Holds}
 use Rattle.p8_pins.specs.Matches.{IsBefore}
 use Rattle.p8_pins.specs.declared.spans.Span.{Span}
 use Rattle.p8_ledger.specs.Waiting.{newest_key, IsBehind, Wakes, IsSpanFrom, IsFirstWake}

@@ -12,10 +12,10 @@ use Rattle.p8_access.specs.declared.lives.Next.{Next}
 use Rattle.p8_access.specs.declared.lives.Next.TheVariants.{At, Quiet, More}
 use Rattle.p8_access.specs.Lives.{IsMade, IsMadeNext, announced_by}
 use Rattle.p8_access.specs.Proper.{IsProper, IsNumber, IsProperOrigin}
-use Rattle.p8_history.specs.declared.states.CogState.TheVariants.{Running}
-use Rattle.p8_history.specs.Worlds.{World}
-use Rattle.p8_history.specs.Hub.{cog_state}
-use Rattle.p8_history.specs.Histories.{IsNext}
+use Rattle.p8_access.specs.declared.states.CogState.TheVariants.{Running}
+use Rattle.p8_access.specs.Worlds.{World}
+use Rattle.p8_access.specs.Hub.{cog_state}
+use Rattle.p8_access.specs.Histories.{IsNext}
 use Rattle.p8_lives.specs.Lives.{asks}
 use Rattle.p8_ledger.specs.Standing.{FitsState}
 use Rattle.p8_ledger.specs.Waiting.{IsNextAt}

@@ -5,10 +5,10 @@ use Rattle.p8_access.specs.declared.kinds.Origin.{Origin}
 use Rattle.p8_access.specs.declared.lives.Next.TheVariants.{More}
 use Rattle.p8_access.specs.declared.order.Key.{Key}
 use Rattle.p8_access.specs.Lives.{announced_by, IsAnnounced}
-use Rattle.p8_history.specs.declared.states.CogState.TheVariants.{Running}
-use Rattle.p8_history.specs.Worlds.{World}
-use Rattle.p8_history.specs.Hub.{cog_state}
-use Rattle.p8_history.specs.Histories.{Extends}
+use Rattle.p8_access.specs.declared.states.CogState.TheVariants.{Running}
+use Rattle.p8_access.specs.Worlds.{World}
+use Rattle.p8_access.specs.Hub.{cog_state}
+use Rattle.p8_access.specs.Histories.{Extends}
 use Rattle.p8_lives.specs.Lives.{asks}
 use Rattle.p8_ledger.specs.Standing.{FitsState}
 use Rattle.p8_ledger.specs.declared.ledger.Made.{Made}

@@ -4,10 +4,10 @@ use Rattle.p8_access.specs.declared.kinds.Origin.{Origin}
 use Rattle.p8_access.specs.declared.lives.Next.TheVariants.{More}
 use Rattle.p8_access.specs.Proper.{IsProperOrigin, Fits}
 use Rattle.p8_access.specs.Lives.{announced_by, IsAnnounced}
-use Rattle.p8_history.specs.declared.states.CogState.TheVariants.{Stopped, Running}
-use Rattle.p8_history.specs.Worlds.{World}
-use Rattle.p8_history.specs.Hub.{cog_state, origin_of}
-use Rattle.p8_history.specs.Histories.{Extends, Legal}
+use Rattle.p8_access.specs.declared.states.CogState.TheVariants.{Stopped, Running}
+use Rattle.p8_access.specs.Worlds.{World}
+use Rattle.p8_access.specs.Hub.{cog_state, origin_of}
+use Rattle.p8_access.specs.Histories.{Extends, Legal}
 use Rattle.p8_hub.specs.Standing.{IsHub}
 use Rattle.p8_lives.specs.Lives.{asks}
 use Rattle.p8_ledger.specs.Worlds.{world_of}

@@ -1,7 +1,7 @@
 -- Whether a cog runs or is starting.
 use Rattle.std.specs.Prelude.{Bool, true, false}
-use Rattle.p8_history.specs.declared.states.CogState.{CogState}
-use Rattle.p8_history.specs.declared.states.CogState.TheVariants.{Stopped, Starting, Running}
+use Rattle.p8_access.specs.declared.states.CogState.{CogState}
+use Rattle.p8_access.specs.declared.states.CogState.TheVariants.{Stopped, Starting, Running}
 
 -- a cog runs, or is starting
 abbrev pub FitsState : Bool → CogState → Type 0

@@ -6,9 +6,9 @@ use Rattle.p8_access.specs.declared.kinds.Access.TheVariants.{Wait}
 use Rattle.p8_access.specs.declared.order.Key.{Key}
 use Rattle.p8_access.specs.declared.order.Turn.{Turn}
 use Rattle.p8_access.specs.Windows.{Before}
-use Rattle.p8_history.specs.Worlds.{World, Line, level_at}
-use Rattle.p8_history.specs.Pins.{pins_at, Holds}
-use Rattle.p8_history.specs.Histories.{IsAfter}
+use Rattle.p8_access.specs.Worlds.{World, Line, level_at}
+use Rattle.p8_access.specs.Pins.{pins_at, Holds}
+use Rattle.p8_access.specs.Histories.{IsAfter}
 use Rattle.p8_pins.specs.Matches.{IsBefore}
 use Rattle.p8_pins.specs.declared.spans.Span.{Span}
 

@@ -1,7 +1,7 @@
 -- The world of a run.
 use Rattle.std.specs.Prelude.{List}
 use Rattle.p8_access.specs.declared.memory.Boot.{Boot}
-use Rattle.p8_history.specs.Worlds.{Line, World}
+use Rattle.p8_access.specs.Worlds.{Line, World}
 use Rattle.p8_ledger.specs.declared.outcome.Limits.{Limits}
 
 -- a boot, the lines of a pin script, and limits

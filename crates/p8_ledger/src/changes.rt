@@ -1,7 +1,7 @@
 // Which other cog a turn changes.
 ghost use Rattle.std.specs.Prelude.{◌≡◌, ℕ, Some, None};
 ghost use Rattle.p8_access.specs.Proper.{IsProper, IsNumber, Fits};
-ghost use Rattle.p8_history.specs.Hub.{change_of};
+ghost use Rattle.p8_access.specs.Hub.{change_of};
 ghost use Rattle.p8_ledger.specs.Dues.{number_of};
 
 use p8_access::{Access, Answer, Turn};

@@ -1,7 +1,7 @@
 // The turn that a cog has next.
 ghost use Rattle.std.specs.Prelude.{◌≡◌, ◌<◌, ◌^◌};
 ghost use Rattle.p8_access.specs.Proper.{IsProper};
-ghost use Rattle.p8_history.specs.Histories.{first_access as first_access_of};
+ghost use Rattle.p8_access.specs.Histories.{first_access as first_access_of};
 ghost use Rattle.p8_ledger.specs.Fronts.{IsStartClock};
 
 use p8_access::{Access, Origin, Reason, window};

@@ -4,17 +4,16 @@ ghost use Rattle.p8_access.specs.declared.kinds.Origin.{Origin};
 ghost use Rattle.p8_access.specs.declared.lives.Next.{Next};
 ghost use Rattle.p8_access.specs.declared.order.Turn.{Turn};
 ghost use Rattle.p8_access.specs.Proper.{IsProper, Fits};
-ghost use Rattle.p8_history.specs.declared.states.CogState.TheVariants.{Starting};
-ghost use Rattle.p8_history.specs.Worlds.{World};
-ghost use Rattle.p8_history.specs.Hub.{cog_state};
+ghost use Rattle.p8_access.specs.declared.states.CogState.TheVariants.{Starting};
+ghost use Rattle.p8_access.specs.Worlds.{World};
+ghost use Rattle.p8_access.specs.Hub.{cog_state};
 ghost use Rattle.p8_hub.specs.Standing.{IsHub};
 ghost use Rattle.p8_ledger.specs.Fronts.{IsFirstOf, IsFront, IsSaidFront, IsFrontIn};
 
 use crate::changes::changed_cog;
 use crate::due::start_clock;
 use crate::waits::test_of;
-use p8_access::{Key, Next, Test, Turn};
-use p8_history::CogState;
+use p8_access::{CogState, Key, Next, Test, Turn};
 use p8_hub::Hub;
 
 /// The front of a cog of which no turn comes.

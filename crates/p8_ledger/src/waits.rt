@@ -1,7 +1,7 @@
 // The clocks at which waits may end.
 ghost use Rattle.std.specs.Prelude.{◌≡◌, ◌<◌, ◌≤◌, ◌^◌, ℕ, List, Some, MatchOption, IfSome, IsTrue, ◌↔◌};
 ghost use Rattle.p8_access.specs.declared.order.Turn.{Turn};
-ghost use Rattle.p8_history.specs.Worlds.{World};
+ghost use Rattle.p8_access.specs.Worlds.{World};
 ghost use Rattle.p8_hub.specs.Standing.{IsHub};
 ghost use Rattle.p8_ledger.specs.Waiting.{test_in, newest_key, IsBehind, IsTimely, IsSpanFrom, IsFirstWake, IsDecided};
 

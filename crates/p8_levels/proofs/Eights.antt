@@ -3,8 +3,8 @@ use Rattle.std.proofs.Common.{◌≡◌, ◌∙◌, ap, sym, refl, ℕ, zero, su
 use Rattle.std.proofs.lemmas.Nat.Bits.{same_from_bits, bit_at_or}
 use lib.Bits.{or_zero_r}
 use Rattle.p8_access.specs.declared.order.Turn.{Turn}
-use Rattle.p8_history.specs.Hub.{cogs}
-use Rattle.p8_history.specs.Pins.{or_all, outa_of, dira_of, dira, outputs, pins_with}
+use Rattle.p8_access.specs.Hub.{cogs}
+use Rattle.p8_access.specs.Pins.{or_all, outa_of, dira_of, dira, outputs, pins_with}
 use Rattle.p8_levels.specs.Driving.{gathered, AreAfter}
 use Rattle.p8_levels.specs.declared.registers.Registers.{Registers}
 

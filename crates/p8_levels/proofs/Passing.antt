@@ -1,7 +1,7 @@
 -- Lists of changes, and the levels after some of them.
 use Rattle.std.proofs.Common.{◌≡◌, ◌∙◌, ap, sym, refl, subst, append_assoc, length, ℕ, ◌+◌, ◌<◌, ◌≤◌, Bool, nat_le, if◌then◌else◌, List, [], ◌∷◌, ◌++◌, arith}
 use Rattle.std.proofs.lemmas.Bool.Decides.{nat_tests}
-use Rattle.p8_history.specs.Worlds.{Line, levels_after}
+use Rattle.p8_access.specs.Worlds.{Line, levels_after}
 use Rattle.p8_levels.specs.declared.change.Change.{Change}
 use Rattle.p8_levels.specs.Changes.{line_of, lines_of, RiseFrom, Within, IsLater, Ahead, pins_from, pins_after, HasPassed}
 

@@ -3,8 +3,8 @@ use Rattle.std.proofs.Common.{◌≡◌, ◌∙◌, ap, sym, subst, ℕ, ◌<◌
 use Rattle.std.proofs.lemmas.Bool.{cases_lt}
 use Rattle.std.proofs.lemmas.List.{map-append}
 use Rattle.p8_access.specs.declared.order.Turn.{Turn}
-use Rattle.p8_history.specs.Worlds.{Line, World, level_at}
-use Rattle.p8_history.specs.Pins.{dira, outputs, pins_with}
+use Rattle.p8_access.specs.Worlds.{Line, World, level_at}
+use Rattle.p8_access.specs.Pins.{dira, outputs, pins_with}
 use Rattle.p8_levels.specs.Levels.{by, pins_when}
 use Rattle.p8_levels.specs.Changes.{line_of, lines_of, Tells, Within}
 use Rattle.p8_levels.specs.Walks.{IsStill, pins_along, HasTold}

@@ -5,8 +5,8 @@ use Rattle.std.proofs.lemmas.List.Elements.{filter-append}
 use Rattle.std.proofs.lemmas.Bool.{cases_lt}
 use Rattle.std.proofs.lemmas.Bool.Decides.{nat_tests}
 use Rattle.p8_access.specs.declared.order.Turn.{Turn}
-use Rattle.p8_history.specs.Hub.{newest, or_else}
-use Rattle.p8_history.specs.Histories.{Rises, IsAfter}
+use Rattle.p8_access.specs.Hub.{newest, or_else}
+use Rattle.p8_access.specs.Histories.{Rises, IsAfter}
 use Rattle.p8_levels.specs.Levels.{by, last_clock}
 use Rattle.p8_levels.specs.Driving.{outa_told, dira_told, TouchesNone, AreAfter, StandFor, ComeFrom}
 use Rattle.p8_levels.specs.declared.registers.Registers.{Registers}

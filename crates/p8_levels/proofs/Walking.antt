@@ -2,9 +2,9 @@
 use Rattle.std.proofs.Common.{◌≡◌, ◌∙◌, ap, refl, ℕ, ◌+◌, ◌<◌, ◌≤◌, List, [], ◌∷◌, reverse, Option, Some, None, arith, subst}
 use Rattle.std.specs.Prelude.{IfSome, MatchOption}
 use Rattle.p8_access.specs.declared.order.Turn.{Turn}
-use Rattle.p8_history.specs.Worlds.{Line, level_at}
-use Rattle.p8_history.specs.Hub.{newest}
-use Rattle.p8_history.specs.Pins.{dira, outputs, pins_with}
+use Rattle.p8_access.specs.Worlds.{Line, level_at}
+use Rattle.p8_access.specs.Hub.{newest}
+use Rattle.p8_access.specs.Pins.{dira, outputs, pins_with}
 use Rattle.p8_pins.specs.Matches.{IsBefore}
 use Rattle.p8_levels.specs.Levels.{by}
 use Rattle.p8_levels.specs.Driving.{outa_told, dira_told, AreAfter, StandFor, ComeFrom}

@@ -1,7 +1,7 @@
 -- The pins of a run as a list of changes: each has a clock, and the 32 pins from that clock on.
 use Rattle.std.specs.Prelude.{ℕ, ◌+◌, ◌≡◌, ◌<◌, ◌≤◌, List, [], ◌∷◌, ◌++◌, map}
 use Rattle.p8_access.specs.declared.order.Turn.{Turn}
-use Rattle.p8_history.specs.Worlds.{Line, World, level_at, levels_after}
+use Rattle.p8_access.specs.Worlds.{Line, World, level_at, levels_after}
 use Rattle.p8_levels.specs.declared.change.Change.{Change}
 use Rattle.p8_levels.specs.Levels.{pins_when}
 

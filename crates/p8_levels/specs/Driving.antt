@@ -2,8 +2,8 @@
 -- The registers OUTA and DIRA of the eight cogs along the turns of a run. A past is a list of turns, the newest first.
 use Rattle.std.specs.Prelude.{ℕ, zero, suc, ◌≡◌, ◌<◌, ◌≤◌, List, [], ◌∷◌, Option, None, reverse, slice_index, bit_or}
 use Rattle.p8_access.specs.declared.order.Turn.{Turn}
-use Rattle.p8_history.specs.Hub.{newest}
-use Rattle.p8_history.specs.Pins.{outa_of, dira_of, outa_by, dira_by}
+use Rattle.p8_access.specs.Hub.{newest}
+use Rattle.p8_access.specs.Pins.{outa_of, dira_of, outa_by, dira_by}
 use Rattle.p8_levels.specs.Levels.{by}
 use Rattle.p8_levels.specs.declared.registers.Registers.{Registers}
 

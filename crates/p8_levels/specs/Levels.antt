@@ -3,8 +3,8 @@
 use Rattle.std.specs.Prelude.{ℕ, ◌==◌, nat_le, if◌then◌else◌, Bool, List, [], ◌∷◌, length, filter}
 use Rattle.std.specs.Int.{bit_at}
 use Rattle.p8_access.specs.declared.order.Turn.{Turn}
-use Rattle.p8_history.specs.Worlds.{World}
-use Rattle.p8_history.specs.Pins.{pins_at}
+use Rattle.p8_access.specs.Worlds.{World}
+use Rattle.p8_access.specs.Pins.{pins_at}
 
 -- the turns of a past whose clock isn't later than this one
 abbrev pub by : List Turn → ℕ → List Turn

@@ -2,8 +2,8 @@
 -- Where a walk along a run is.
 use Rattle.std.specs.Prelude.{ℕ, ◌+◌, ◌≡◌, ◌<◌, ◌≤◌, List, [], ◌∷◌, Option, Some, None, IfSome, min}
 use Rattle.p8_access.specs.declared.order.Turn.{Turn}
-use Rattle.p8_history.specs.Worlds.{Line, level_at}
-use Rattle.p8_history.specs.Pins.{pins_with, dira, outputs}
+use Rattle.p8_access.specs.Worlds.{Line, level_at}
+use Rattle.p8_access.specs.Pins.{pins_with, dira, outputs}
 use Rattle.p8_pins.specs.Matches.{IsBefore}
 use Rattle.p8_levels.specs.Levels.{by}
 use Rattle.p8_levels.specs.Driving.{StandFor, ComeFrom}

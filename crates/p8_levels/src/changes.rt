@@ -1,8 +1,8 @@
 // All changes of the pins of a run.
 ghost use Rattle.std.specs.Prelude.{◌≡◌, ℕ, List, reverse, IfOk, OnOk, ◌++◌, ◌∷◌, []};
 ghost use Rattle.p8_access.specs.declared.order.Turn.{Turn as TurnValue};
-ghost use Rattle.p8_history.specs.Worlds.{World};
-ghost use Rattle.p8_history.specs.Histories.{Rises};
+ghost use Rattle.p8_access.specs.Worlds.{World};
+ghost use Rattle.p8_access.specs.Histories.{Rises};
 ghost use Rattle.p8_levels.specs.Changes.{lines_of, Tells};
 
 use crate::change::Change;

@@ -1,6 +1,6 @@
 // Where a run ends.
 ghost use Rattle.std.specs.Prelude.{◌≡◌, reverse};
-ghost use Rattle.p8_history.specs.Worlds.{World};
+ghost use Rattle.p8_access.specs.Worlds.{World};
 ghost use Rattle.p8_levels.specs.Levels.{end_of};
 
 use p8_access::Turn;

@@ -1,8 +1,8 @@
 // The registers by which the eight cogs drive the pins.
 ghost use Rattle.std.specs.Prelude.{◌≡◌, ◌<◌, ◌==◌, ℕ, List, [], false, if◌then◌else◌, slice_index};
 ghost use Rattle.p8_access.specs.declared.order.Turn.{Turn as TurnValue};
-ghost use Rattle.p8_history.specs.Hub.{or_else, is_number};
-ghost use Rattle.p8_history.specs.Pins.{pins_with, dira, outputs};
+ghost use Rattle.p8_access.specs.Hub.{or_else, is_number};
+ghost use Rattle.p8_access.specs.Pins.{pins_with, dira, outputs};
 ghost use Rattle.p8_levels.specs.Driving.{outa_told, dira_told, TouchesNone, AreAfter};
 
 use p8_access::{Access, Answer, Turn};

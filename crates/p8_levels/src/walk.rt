@@ -1,7 +1,7 @@
 // A walk along a run, from one clock at which the pins may change to the next.
 ghost use Rattle.std.specs.Prelude.{◌≡◌, ◌<◌, ◌≤◌, ◌+◌, ℕ, List, reverse, Some, None, MatchOption};
 ghost use Rattle.p8_access.specs.declared.order.Turn.{Turn as TurnValue};
-ghost use Rattle.p8_history.specs.Worlds.{Line};
+ghost use Rattle.p8_access.specs.Worlds.{Line};
 ghost use Rattle.p8_levels.specs.Driving.{ComeFrom, StandFor};
 ghost use Rattle.p8_levels.specs.Walks.{IsAt, pins_along, IsStill, earlier_of};
 

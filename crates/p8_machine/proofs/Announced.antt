@@ -7,11 +7,11 @@ use Rattle.p8_access.specs.declared.lives.Next.{Next}
 use Rattle.p8_access.specs.declared.lives.Next.TheVariants.{At, Quiet, More}
 use Rattle.p8_access.specs.declared.order.Turn.{Turn}
 use Rattle.p8_access.specs.Lives.{announced_by, IsAnnounced}
-use Rattle.p8_history.specs.declared.states.CogState.{CogState}
-use Rattle.p8_history.specs.declared.states.CogState.TheVariants.{Running}
-use Rattle.p8_history.specs.Worlds.{World}
-use Rattle.p8_history.specs.Hub.{cog_state}
-use Rattle.p8_history.proofs.Changes.{decided, same-cog, differ-cog}
+use Rattle.p8_access.specs.declared.states.CogState.{CogState}
+use Rattle.p8_access.specs.declared.states.CogState.TheVariants.{Running}
+use Rattle.p8_access.specs.Worlds.{World}
+use Rattle.p8_access.specs.Hub.{cog_state}
+use Rattle.p8_access.proofs.Changes.{decided, same-cog, differ-cog}
 use Rattle.p8_lives.specs.declared.cog_life.CogLife.{CogLife}
 use Rattle.p8_lives.specs.Lives.{asks}
 use Rattle.p8_ledger.specs.declared.ledger.Ledger.{Ledger}

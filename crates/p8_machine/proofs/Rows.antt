@@ -1,7 +1,7 @@
 -- Lives in a row, each of the cog of its place.
 use Rattle.std.proofs.Common.{◌≡◌, ◌∙◌, ap, sym, subst, inl, inr, ℕ, zero, suc, ◌+◌, List, [], ◌∷◌, ◌++◌, Option, Some, None, slice_get, length, arith}
 use Rattle.std.proofs.Math.ListN.{set}
-use Rattle.p8_history.proofs.Changes.{decided, same-cog, differ-cog}
+use Rattle.p8_access.proofs.Changes.{decided, same-cog, differ-cog}
 use Rattle.p8_lives.specs.declared.cog_life.CogLife.{CogLife}
 use Rattle.p8_lives.specs.Whole.{cog_of}
 use Rattle.p8_ledger.proofs.Rows.{set-there, set-else}

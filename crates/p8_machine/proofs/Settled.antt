@@ -7,12 +7,12 @@ use Rattle.p8_access.specs.declared.order.Turn.{Turn}
 use Rattle.p8_access.specs.Windows.{IsWindow, window_of}
 use Rattle.p8_access.specs.Proper.{IsProperOrigin}
 use Rattle.p8_access.specs.Lives.{Begun, Tells, IsMade}
-use Rattle.p8_history.specs.declared.states.CogState.{CogState}
-use Rattle.p8_history.specs.declared.states.CogState.TheVariants.{Stopped, Starting, Running}
-use Rattle.p8_history.specs.Worlds.{World}
-use Rattle.p8_history.specs.Hub.{cog_state, origin_of}
-use Rattle.p8_history.specs.Histories.{begun_at, IsNextIn}
-use Rattle.p8_history.proofs.Changes.{decided, same-cog, differ-cog}
+use Rattle.p8_access.specs.declared.states.CogState.{CogState}
+use Rattle.p8_access.specs.declared.states.CogState.TheVariants.{Stopped, Starting, Running}
+use Rattle.p8_access.specs.Worlds.{World}
+use Rattle.p8_access.specs.Hub.{cog_state, origin_of}
+use Rattle.p8_access.specs.Histories.{begun_at, IsNextIn}
+use Rattle.p8_access.proofs.Changes.{decided, same-cog, differ-cog}
 use Rattle.p8_lives.specs.declared.cog_life.CogLife.{CogLife}
 use Rattle.p8_lives.specs.Lives.{asks, IsStartable}
 use Rattle.p8_ledger.specs.declared.ledger.Ledger.{Ledger}

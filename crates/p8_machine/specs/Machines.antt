@@ -1,7 +1,7 @@
 -- A machine, its world and its history so far.
 use Rattle.std.specs.Prelude.{List, reverse}
 use Rattle.p8_access.specs.declared.order.Turn.{Turn}
-use Rattle.p8_history.specs.Worlds.{World}
+use Rattle.p8_access.specs.Worlds.{World}
 use Rattle.p8_ledger.specs.Records.{Record}
 use Rattle.p8_ledger.specs.Worlds.{world_of}
 use Rattle.p8_machine.specs.declared.run.Machine.{Machine}

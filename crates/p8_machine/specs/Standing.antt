@@ -4,9 +4,9 @@ use Rattle.p8_access.specs.declared.order.Turn.{Turn}
 use Rattle.p8_access.specs.declared.lives.Next.{Next}
 use Rattle.p8_access.specs.Lives.{Begun, IsMade}
 use Rattle.p8_access.specs.Proper.{IsProperOrigin}
-use Rattle.p8_history.specs.Worlds.{World}
-use Rattle.p8_history.specs.Hub.{cog_state, origin_of}
-use Rattle.p8_history.specs.Histories.{Extends}
+use Rattle.p8_access.specs.Worlds.{World}
+use Rattle.p8_access.specs.Hub.{cog_state, origin_of}
+use Rattle.p8_access.specs.Histories.{Extends}
 use Rattle.p8_lives.specs.declared.cog_life.CogLife.{CogLife}
 use Rattle.p8_lives.specs.Lives.{asks}
 use Rattle.p8_lives.specs.Whole.{stands_for}

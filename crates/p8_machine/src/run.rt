@@ -3,8 +3,8 @@ ghost use Rattle.std.specs.Prelude.{◌≡◌, ◌<◌, ◌≤◌, ◌^◌, ◌�
 ghost use Rattle.p8_access.specs.declared.order.Turn.{Turn};
 ghost use Rattle.p8_access.specs.Lives.{IsAnnounced, IsMade};
 ghost use Rattle.p8_access.specs.Proper.{IsProperOrigin, Fits};
-ghost use Rattle.p8_history.specs.Worlds.{World};
-ghost use Rattle.p8_history.specs.Histories.{Extends, IsOver, Ended as HasEnded, Rises, Legal};
+ghost use Rattle.p8_access.specs.Worlds.{World};
+ghost use Rattle.p8_access.specs.Histories.{Extends, IsOver, Ended as HasEnded, Rises, Legal};
 ghost use Rattle.p8_hub.specs.Standing.{IsHub};
 ghost use Rattle.p8_lives.specs.declared.cog_life.CogLife.{CogLife};
 ghost use Rattle.p8_lives.specs.Lives.{asks};
@@ -14,8 +14,7 @@ ghost use Rattle.p8_machine.specs.Places.{announced_in, AreAnnounced};
 ghost use Rattle.p8_machine.specs.Standing.{Stands, Comes, past_with};
 
 use crate::seats::Seats;
-use p8_access::{Boot, Turn};
-use p8_history::CogState;
+use p8_access::{Boot, CogState, Turn};
 use p8_ledger::{Ended, First, Ledger, Limits, Room, Start};
 use p8_pins::PinScript;
 use p8_words::NoMemory;

@@ -8,8 +8,8 @@ use Rattle.p8_access.specs.declared.kinds.Width.TheVariants.{Long}
 use Rattle.p8_access.specs.declared.order.Key.{Key}
 use Rattle.p8_access.specs.declared.order.Turn.{Turn}
 use Rattle.p8_access.specs.Boots.{ram_of}
-use Rattle.p8_history.specs.Worlds.{World}
-use Rattle.p8_history.specs.Hub.{value_at}
+use Rattle.p8_access.specs.Worlds.{World}
+use Rattle.p8_access.specs.Hub.{value_at}
 use Rattle.p8_disassembly.specs.Numerals.{hex}
 use Rattle.p8_made.specs.Made.{made_bytes}
 

@@ -1,7 +1,7 @@
 // The text about the history of a made program.
 ghost use Rattle.std.specs.Prelude.{◌≡◌, ◌++◌, ◌∷◌, [], codes, reverse, OnOk, IfOk};
 ghost use Rattle.std.specs.Fmt.{decimal};
-ghost use Rattle.p8_history.specs.Worlds.{World};
+ghost use Rattle.p8_access.specs.Worlds.{World};
 ghost use Rattle.p8_hub.specs.Standing.{IsHub};
 ghost use Rattle.p8_disassembly.specs.Numerals.{hex};
 ghost use Rattle.p8_made.specs.Summary.{last_key, last_line, summary_of};

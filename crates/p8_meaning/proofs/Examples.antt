@@ -10,7 +10,7 @@ use Rattle.p8_access.specs.declared.kinds.Access.{Access}
 use Rattle.p8_access.specs.declared.kinds.Access.TheVariants.{Read, Write, CogInit, CogStop, OutSet, DirSet, Clock, Wait, Halt}
 use Rattle.p8_access.specs.declared.kinds.Answer.{Answer}
 use Rattle.p8_access.specs.declared.kinds.Answer.TheVariants.{Done, Value, Number}
-use Rattle.p8_courses.specs.Courses.{Told, Wants, Leaves, Closes}
+use Rattle.p8_access.specs.Courses.{Told, Wants, Leaves, Closes}
 use Rattle.p8_tree.specs.declared.places.Place.{Place}
 use Rattle.p8_tree.specs.Expressions as expressions
 use Rattle.p8_tree.specs.Expressions.{Tree, node, Form, Var, Call, Binary, Assign, Change, Address, Built, Look, Variable, Named, Register, no_index, index, bits, whole, single, range, Trees, no_trees, ◌▷◌, no_items, ◌▸◌}

@@ -13,7 +13,7 @@ use Rattle.p8_access.specs.Proper.{bytes_in}
 use Rattle.p8_meaning.specs.Halts.{IsSourceHalt, IsSourceAccess, AreSourceAccesses}
 use Rattle.p8_access.specs.declared.kinds.Answer.{Answer}
 use Rattle.p8_access.specs.Lives.{is_last}
-use Rattle.p8_courses.specs.Courses.{Course, Finish, Stop, Ask, Told, Wants, Closes, told}
+use Rattle.p8_access.specs.Courses.{Course, Finish, Stop, Ask, Told, Wants, Closes, told}
 use Rattle.p8_meaning.specs.Doing.{aligned, Registers, Rest, untold, costs, halts, word_in, asks, tells, is_readable, reads, writes, writes_longs, next_address, given}
 use Rattle.p8_meaning.specs.Bounds.{made_of, IsSettled, IsBeginning}
 

@@ -1,7 +1,7 @@
 -- What a greater bound tells.
 use Rattle.std.specs.Prelude.{◌≡◌, List, ◌++◌}
 use Rattle.p8_access.specs.declared.kinds.Access.{Access}
-use Rattle.p8_courses.specs.Courses.{Told, Wants, Leaves, Closes}
+use Rattle.p8_access.specs.Courses.{Told, Wants, Leaves, Closes}
 
 -- the accesses that have had an answer
 abbrev pub made_of : {S : Type 0} → Told S → List Access

@@ -10,7 +10,7 @@ use Rattle.p8_access.specs.declared.kinds.Access.TheVariants.{Read, Write}
 use Rattle.p8_access.specs.declared.kinds.Answer.{Answer}
 use Rattle.p8_access.specs.declared.kinds.Answer.TheVariants.{Done, Value, Number, Was}
 use Rattle.p8_access.specs.Proper.{bytes_in}
-use Rattle.p8_courses.specs.Courses.{Course, Finish, Stop, Ask}
+use Rattle.p8_access.specs.Courses.{Course, Finish, Stop, Ask}
 
 -- the cog's own registers, which it reads by itself
 pub record Registers : Type 0 where

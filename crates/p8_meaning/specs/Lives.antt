@@ -6,7 +6,7 @@ use Rattle.p8_access.specs.declared.kinds.Origin.TheVariants.{Spin}
 use Rattle.p8_access.specs.declared.kinds.Access.TheVariants.{CogStop}
 use Rattle.p8_access.specs.declared.kinds.Answer.{Answer}
 use Rattle.p8_access.specs.Proper.{IsLongAddress}
-use Rattle.p8_courses.specs.Courses.{Course, Told, told}
+use Rattle.p8_access.specs.Courses.{Course, Told, told}
 use Rattle.p8_tree.specs.Sources.{MethodTree}
 use Rattle.p8_kinds.specs.declared.name_kinds.NameKind.TheVariants as kind_case
 use Rattle.p8_meaning.specs.Programs.{Program, File, Addresses, Scope, Instance, Target, frame_size, instance_at}

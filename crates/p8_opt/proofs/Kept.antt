@@ -22,10 +22,10 @@ use Rattle.p8_meaning.specs.Programs.{Program, File, Addresses, Target, Instance
 use Rattle.p8_meaning.specs.Calls.{method_of}
 use Rattle.p8_meaning.specs.Lives.{says, IsInstance, top_instance, inner_instance, IsMethodOrigin}
 use Rattle.p8_meaning.specs.Bounds.{made_of, IsBeginning}
-use Rattle.p8_courses.specs.Replays.{answer_of}
+use Rattle.p8_access.specs.Replays.{answer_of}
 use Rattle.p8_access.specs.declared.order.Turn.{Turn}
 use Rattle.p8_access.specs.declared.kinds.Origin.TheVariants.{Spin}
-use Rattle.p8_history.specs.Worlds.{World}
+use Rattle.p8_access.specs.Worlds.{World}
 use Rattle.p8_keeps.specs.Keeps.{bytes}
 use Rattle.p8_told_lives.specs.Told.{SpinIsTold}
 use Rattle.p8_build.specs.Parts.{AreProper}

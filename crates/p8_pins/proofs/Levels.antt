@@ -6,7 +6,7 @@ use Rattle.std.specs.List.Sorted.{IsStrictlyIncreasing, IsNonDecreasingBy}
 use Rattle.std.proofs.lemmas.List.{length-map}
 use Rattle.std.proofs.lemmas.Bool.{cases_lt, leb-true, leb-false}
 use Rattle.std.proofs.lemmas.Bool.Decides.{nat_tests}
-use Rattle.p8_history.specs.Worlds.{Line, levels_after, level_at}
+use Rattle.p8_access.specs.Worlds.{Line, levels_after, level_at}
 use Rattle.p8_pins.specs.declared.line_text.Change.{Change}
 use Rattle.p8_pins.specs.Scripts.{clocks_of}
 use Rattle.p8_pins.proofs.Rising.{clock_of-le}

@@ -7,7 +7,7 @@ use Rattle.std.proofs.Math.Seq.{take-append_seam}
 use Rattle.std.proofs.lemmas.Bool.{cases_lt, ltb-true, lt-ltb}
 use Rattle.std.proofs.lemmas.List.{map-append, take-append-drop}
 use Rattle.std.proofs.lemmas.List.Elements.{filter-append}
-use Rattle.p8_history.specs.Worlds.{Line}
+use Rattle.p8_access.specs.Worlds.{Line}
 use Rattle.p8_pins.specs.declared.line_text.Change.{Change}
 use Rattle.p8_pins.specs.Scripts.{is_skipped, Carries, clocks_of, most_lines, most_bytes, IsScript, IsFirstBad, IsReadAs, IsFault}
 use Rattle.p8_pins.specs.Changes.{clock_of, IsShort, line_of, lines_of}

@@ -9,7 +9,7 @@ use Rattle.std.proofs.Math.Nat.{pow-le-pow_left, pow-le-pow_right, mul-le-mul_le
 use Rattle.std.proofs.lemmas.Bool.Decides.{nat_tests}
 use Rattle.std.proofs.lemmas.Int.Digits.{digits_value-lt, digits_value_more, digits_more}
 use Rattle.std.proofs.lemmas.List.Splits.{slice_split_first, length-slice_split}
-use Rattle.p8_history.specs.Worlds.{Line}
+use Rattle.p8_access.specs.Worlds.{Line}
 use Rattle.p8_pins.specs.Scripts.{Carries}
 
 abbrev is_feed : ℕ → Bool

@@ -4,8 +4,8 @@ use Rattle.std.specs.List.Sorted.{IsStrictlyIncreasing}
 use Rattle.std.proofs.lemmas.Bool.{cases_lt}
 use Rattle.p8_access.specs.declared.kinds.Test.{Test}
 use Rattle.p8_access.specs.declared.kinds.Test.TheVariants.{Count, PinsEqual, PinsDiffer}
-use Rattle.p8_history.specs.Worlds.{Line, level_at}
-use Rattle.p8_history.specs.Pins.{pins_with, Holds}
+use Rattle.p8_access.specs.Worlds.{Line, level_at}
+use Rattle.p8_access.specs.Pins.{pins_with, Holds}
 use Rattle.p8_pins.specs.declared.line_text.Change.{Change}
 use Rattle.p8_pins.specs.Scripts.{clocks_of}
 use Rattle.p8_pins.specs.Matches.{HoldsAt}

@@ -1,8 +1,8 @@
 -- The clocks at which a wait's test holds while the outputs stay as they are.
 use Rattle.std.specs.Prelude.{ℕ, ◌<◌, nat_lt, List, Option, Some, None, find}
 use Rattle.p8_access.specs.declared.kinds.Test.{Test}
-use Rattle.p8_history.specs.Worlds.{Line, level_at}
-use Rattle.p8_history.specs.Pins.{pins_with, Holds}
+use Rattle.p8_access.specs.Worlds.{Line, level_at}
+use Rattle.p8_access.specs.Pins.{pins_with, Holds}
 use Rattle.p8_pins.specs.Scripts.{clocks_of}
 
 -- a test holds at a clock, with a script's levels on the input pins

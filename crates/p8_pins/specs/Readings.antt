@@ -1,7 +1,7 @@
 -- internal
 -- One more line of text.
 use Rattle.std.specs.Prelude.{◌≡◌, ◌<◌, ◌⊎◌, List, [], ◌∷◌, ◌++◌, ℕ, true, false, length}
-use Rattle.p8_history.specs.Worlds.{Line}
+use Rattle.p8_access.specs.Worlds.{Line}
 use Rattle.p8_pins.specs.Scripts.{is_skipped, Carries, most_lines}
 use Rattle.p8_pins.specs.Changes.{clock_of}
 

@@ -8,7 +8,7 @@ use Rattle.std.specs.Str.Parse.{AllDigits, digits_value}
 use Rattle.p8_words.specs.declared.failure.Fail.{Fail}
 use Rattle.p8_words.specs.declared.failure.Fail.TheVariants.{Refused, NoMemory}
 use Rattle.p8_pins.specs.declared.script_fault.ScriptFault.{ScriptFault}
-use Rattle.p8_history.specs.Worlds.{Line}
+use Rattle.p8_access.specs.Worlds.{Line}
 
 -- the greatest length of a file, in bytes
 abbrev pub most_bytes : ℕ

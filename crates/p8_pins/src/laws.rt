@@ -1,6 +1,6 @@
 // A law of pin scripts. The function does nothing: its contract is the law.
 ghost use Rattle.std.specs.Prelude.{◌≡◌, ℕ, List};
-ghost use Rattle.p8_history.specs.Worlds.{Line};
+ghost use Rattle.p8_access.specs.Worlds.{Line};
 ghost use Rattle.p8_pins.specs.Scripts.{IsReadAs, IsFault};
 
 /// A file is read as one script, or has one first bad line, never both.

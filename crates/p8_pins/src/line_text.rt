@@ -4,7 +4,7 @@ ghost use Rattle.std.specs.List.{position};
 ghost use Rattle.std.specs.Option.{SomeIff};
 ghost use Rattle.std.specs.Str.Lines.{lines, strip_carriage_return};
 ghost use Rattle.std.specs.Str.Parse.{AllDigits, digits_value};
-ghost use Rattle.p8_history.specs.Worlds.{Line};
+ghost use Rattle.p8_access.specs.Worlds.{Line};
 ghost use Rattle.p8_pins.specs.Scripts.{Carries, is_skipped as is_skipped_text};
 ghost use Rattle.p8_pins.specs.Changes.{line_of};
 

@@ -1,6 +1,6 @@
 // When a wait's test holds.
 ghost use Rattle.std.specs.Prelude.{◌≡◌, ◌<◌, ◌≤◌, ◌+◌, ◌%◌, ◌^◌, ℕ, ◌↔◌, IsTrue, IfSome, IfNone};
-ghost use Rattle.p8_history.specs.Pins.{pins_with, Holds};
+ghost use Rattle.p8_access.specs.Pins.{pins_with, Holds};
 
 use p8_access::Test;
 

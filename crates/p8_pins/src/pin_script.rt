@@ -1,7 +1,7 @@
 // Pin scripts.
 ghost use Rattle.std.specs.Prelude.{◌≡◌, ◌<◌, ◌≤◌, ◌^◌, ◌∷◌, ◌++◌, [], ℕ, length, slice_get, IsTrue, ◌↔◌, MatchBool, IfOk, IfErr, IfSome, IfNone};
 ghost use Rattle.p8_access.specs.declared.kinds.Test.{Test};
-ghost use Rattle.p8_history.specs.Worlds.{level_at as level_of};
+ghost use Rattle.p8_access.specs.Worlds.{level_at as level_of};
 ghost use Rattle.p8_pins.specs.Scripts.{IsReadAs, Tells, clocks_of};
 ghost use Rattle.p8_pins.specs.Matches.{HoldsAt, next_clock, IsBefore};
 
@@ -32,7 +32,7 @@ pub struct PinScript {
 impl Model for PinScript {
     ghost use Rattle.std.specs.Prelude.{List};
     ghost use Rattle.std.specs.List.Sorted.{IsStrictlyIncreasing};
-    ghost use Rattle.p8_history.specs.Worlds.{Line};
+    ghost use Rattle.p8_access.specs.Worlds.{Line};
     ghost use Rattle.p8_pins.specs.Scripts.{clocks_of};
     ghost use Rattle.p8_pins.specs.Changes.{lines_of, IsShort};
 

@@ -1,6 +1,6 @@
 // Spans of clocks over which the input levels stay the same.
 ghost use Rattle.std.specs.Prelude.{◌≡◌, ◌<◌, ◌≤◌, ◌^◌, ℕ, IfSome, IfNone};
-ghost use Rattle.p8_history.specs.Pins.{pins_with, Holds};
+ghost use Rattle.p8_access.specs.Pins.{pins_with, Holds};
 ghost use Rattle.p8_pins.specs.Matches.{IsBefore};
 
 use crate::matching::{first_with, pins};

@@ -5,7 +5,7 @@ ghost use Rattle.p8_tree.specs.Sources.{Source};
 ghost use Rattle.p8_kinds.specs.declared.children.Children.{Children};
 ghost use Rattle.p8_children.specs.Mentions.{AreDistinct, HaveMentioned, HaveNoRing};
 ghost use Rattle.p8_children.specs.Children.{AreChildren};
-ghost use Rattle.p8_history.specs.Worlds.{World};
+ghost use Rattle.p8_access.specs.Worlds.{World};
 ghost use Rattle.p8_image.specs.declared.clocks.Clock.{Clock as ClockOf};
 ghost use Rattle.p8_image.specs.Headers.{header_of};
 ghost use Rattle.p8_image.specs.Layout.{header_by, image_of};

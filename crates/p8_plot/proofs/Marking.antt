@@ -1,7 +1,7 @@
 -- The marks of a pin, column by column.
 use Rattle.std.proofs.Common.{◌≡◌, ◌∙◌, ap, sym, subst, ℕ, ◌+◌, ◌<◌, ◌≤◌, Bool, List, ◌∷◌, ◌++◌, length, get_or, drop, flat_map, append_assoc}
 use Rattle.std.proofs.lemmas.List.{drop_more}
-use Rattle.p8_history.specs.Worlds.{level_at, levels_after}
+use Rattle.p8_access.specs.Worlds.{level_at, levels_after}
 use Rattle.p8_levels.specs.declared.change.Change.{Change}
 use Rattle.p8_levels.specs.Levels.{is_high}
 use Rattle.p8_levels.specs.Changes.{lines_of, Ahead, RiseFrom}

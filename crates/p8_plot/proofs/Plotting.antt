@@ -1,7 +1,7 @@
 -- The picture of a run, by the changes of its pins.
 use Rattle.std.proofs.Common.{◌≡◌, ◌∙◌, ap, ℕ, Bool, List, min}
 use Rattle.p8_access.specs.declared.order.Turn.{Turn}
-use Rattle.p8_history.specs.Worlds.{Line, World, level_at}
+use Rattle.p8_access.specs.Worlds.{Line, World, level_at}
 use Rattle.p8_levels.specs.Levels.{is_high, high_at, end_of}
 use Rattle.p8_levels.specs.Changes.{Tells}
 use Rattle.p8_plot.specs.declared.view.View.{View}

@@ -1,7 +1,7 @@
 -- internal
 -- A pin along the changes of a run's pins.
 use Rattle.std.specs.Prelude.{ℕ, ◌≡◌, ◌<◌, ◌≤◌, ◌&&◌, nat_le, if◌then◌else◌, Bool, true, false, not, List, [], ◌∷◌}
-use Rattle.p8_history.specs.Worlds.{Line, level_at}
+use Rattle.p8_access.specs.Worlds.{Line, level_at}
 use Rattle.p8_levels.specs.Levels.{is_high}
 use Rattle.p8_levels.specs.Changes.{Ahead, RiseFrom, pins_from}
 use Rattle.p8_plot.specs.Plot.{pin_line}

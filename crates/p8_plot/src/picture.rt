@@ -1,7 +1,7 @@
 // The picture of pins of a run.
 ghost use Rattle.std.specs.Prelude.{◌≡◌, ◌<◌, ◌++◌, ℕ, flat_map, reverse, IfOk, OnOk};
-ghost use Rattle.p8_history.specs.Worlds.{World, level_at};
-ghost use Rattle.p8_history.specs.Histories.{Rises};
+ghost use Rattle.p8_access.specs.Worlds.{World, level_at};
+ghost use Rattle.p8_access.specs.Histories.{Rises};
 ghost use Rattle.p8_levels.specs.Levels.{is_high};
 ghost use Rattle.p8_levels.specs.Changes.{lines_of, RiseFrom};
 ghost use Rattle.p8_plot.specs.Plot.{label_of, mark_of, text_of_mark, picture_of, plot_of};

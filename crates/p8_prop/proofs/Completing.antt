@@ -2,8 +2,8 @@
 use Rattle.std.proofs.Common.{◌≡◌, ◌∙◌, ap, sym, subst, refl, ℕ, inl, inr, List, Option, Some, None}
 use Rattle.p8_access.specs.declared.memory.Boot.{Boot}
 use Rattle.p8_access.specs.declared.order.Turn.{Turn}
-use Rattle.p8_history.specs.Worlds.{Line, World}
-use Rattle.p8_history.proofs.OneHistory.{one-history}
+use Rattle.p8_access.specs.Worlds.{Line, World}
+use Rattle.p8_access.proofs.OneHistory.{one-history}
 use Rattle.p8_lives.specs.Lives.{asks}
 use Rattle.p8_lives.specs.Laws.{one-asked}
 use Rattle.p8_verify.specs.declared.verdicts.Cause.{Cause}

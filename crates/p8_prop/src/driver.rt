@@ -1,7 +1,7 @@
 // Runs, by one thread alone or by a crew, and what is told of them.
 ghost use Rattle.std.specs.Prelude.{◌≡◌, ◌≤◌, reverse, IfOk};
 ghost use Rattle.p8_access.specs.Proper.{IsProperOrigin};
-ghost use Rattle.p8_history.specs.Histories.{Ended as HasEnded};
+ghost use Rattle.p8_access.specs.Histories.{Ended as HasEnded};
 ghost use Rattle.p8_hub.specs.Standing.{IsHub};
 ghost use Rattle.p8_lives.specs.Lives.{asks};
 ghost use Rattle.p8_ledger.specs.Worlds.{world_of};

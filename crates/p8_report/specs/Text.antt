@@ -17,11 +17,11 @@ use Rattle.p8_access.specs.declared.kinds.Answer.{Answer}
 use Rattle.p8_access.specs.declared.kinds.Answer.TheVariants.{Number, Was}
 use Rattle.p8_access.specs.declared.order.Turn.{Turn}
 use Rattle.p8_access.specs.Proper.{value_of}
-use Rattle.p8_history.specs.declared.states.CogState.{CogState}
-use Rattle.p8_history.specs.declared.states.CogState.TheVariants.{Stopped, Starting, Running}
-use Rattle.p8_history.specs.Worlds.{World}
-use Rattle.p8_history.specs.Hub.{byte_at, is_taken, is_set, cog_state, origin_of, cogs, locks}
-use Rattle.p8_history.specs.Pins.{dira, outputs}
+use Rattle.p8_access.specs.declared.states.CogState.{CogState}
+use Rattle.p8_access.specs.declared.states.CogState.TheVariants.{Stopped, Starting, Running}
+use Rattle.p8_access.specs.Worlds.{World}
+use Rattle.p8_access.specs.Hub.{byte_at, is_taken, is_set, cog_state, origin_of, cogs, locks}
+use Rattle.p8_access.specs.Pins.{dira, outputs}
 use Rattle.p8_disassembly.specs.Numerals.{hex}
 
 -- the number or the previous state in an answer

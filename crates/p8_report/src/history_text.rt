@@ -1,7 +1,7 @@
 // The whole text of a history.
 ghost use Rattle.std.specs.Prelude.{◌≡◌, ◌≤◌, ◌+◌, reverse, IfOk};
 ghost use Rattle.std.specs.Option.{ForSome};
-ghost use Rattle.p8_history.specs.Worlds.{World};
+ghost use Rattle.p8_access.specs.Worlds.{World};
 ghost use Rattle.p8_hub.specs.Standing.{IsHub};
 ghost use Rattle.p8_report.specs.Text.{text_of};
 

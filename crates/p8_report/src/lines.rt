@@ -2,8 +2,8 @@
 ghost use Rattle.std.specs.Prelude.{◌≡◌, ◌≤◌, ◌++◌, ◌∷◌, [], List, codes, take, reverse, OnOk, IfOk};
 ghost use Rattle.std.specs.Fmt.{decimal};
 ghost use Rattle.p8_access.specs.declared.order.Turn.{Turn};
-ghost use Rattle.p8_history.specs.Worlds.{World};
-ghost use Rattle.p8_history.specs.Hub.{cog_state, origin_of};
+ghost use Rattle.p8_access.specs.Worlds.{World};
+ghost use Rattle.p8_access.specs.Hub.{cog_state, origin_of};
 ghost use Rattle.p8_report.specs.Text.{access_text, line_of, lines_of};
 
 use crate::accesses::write_access;

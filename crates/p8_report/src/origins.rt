@@ -1,8 +1,8 @@
 // What each cog was last started with.
 ghost use Rattle.std.specs.Prelude.{◌≡◌, ◌∷◌, [], List, IfOk};
 ghost use Rattle.p8_access.specs.declared.order.Turn.{Turn};
-ghost use Rattle.p8_history.specs.Worlds.{World};
-ghost use Rattle.p8_history.specs.Hub.{cog_state, origin_of};
+ghost use Rattle.p8_access.specs.Worlds.{World};
+ghost use Rattle.p8_access.specs.Hub.{cog_state, origin_of};
 
 use p8_access::{Access, Answer, Origin, Turn};
 use p8_words::NoMemory;

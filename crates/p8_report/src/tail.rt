@@ -1,15 +1,15 @@
 // What the hub is in the end.
 ghost use Rattle.std.specs.Prelude.{◌≡◌, ◌++◌, ◌<◌, List, length, nat_eq, codes, if◌then◌else◌, map, flat_map, OnOk};
 ghost use Rattle.p8_access.specs.declared.order.Turn.{Turn};
-ghost use Rattle.p8_history.specs.Worlds.{World};
-ghost use Rattle.p8_history.specs.Hub.{cog_state, cogs, is_taken, is_set, locks};
+ghost use Rattle.p8_access.specs.Worlds.{World};
+ghost use Rattle.p8_access.specs.Hub.{cog_state, cogs, is_taken, is_set, locks};
 ghost use Rattle.p8_hub.specs.Standing.{IsHub};
 ghost use Rattle.p8_report.specs.Text.{ended_text, lock_glyph, locks_text, pins_text, state_text, cog_text};
 
 use crate::phrases::{push_longs, push_numbered};
 use crate::words::kind_name;
+use p8_access::CogState;
 use p8_disassembly::push_text;
-use p8_history::CogState;
 use p8_hub::Hub;
 use p8_words::NoMemory;
 

@@ -3,7 +3,7 @@ use Rattle.std.proofs.Common.{◌≡◌, ◌∙◌, ap, sym, refl, subst, ℕ, �
 use Rattle.std.specs.Fmt.{decimal}
 use Rattle.std.specs.Int.{from_bool}
 use Rattle.std.proofs.lemmas.List.{length-map, append-nil}
-use Rattle.p8_history.specs.Worlds.{Line, level_at, levels_after}
+use Rattle.p8_access.specs.Worlds.{Line, level_at, levels_after}
 use Rattle.p8_levels.specs.declared.change.Change.{Change}
 use Rattle.p8_levels.specs.Levels.{is_high}
 use Rattle.p8_levels.specs.Changes.{line_of, lines_of, RiseFrom, IsLater, Ahead, pins_from, HasPassed}

@@ -1,7 +1,7 @@
 -- The text of a run, by the changes of its pins.
 use Rattle.std.proofs.Common.{◌≡◌, ◌∙◌, ap, sym, ℕ, Bool, List}
 use Rattle.p8_access.specs.declared.order.Turn.{Turn}
-use Rattle.p8_history.specs.Worlds.{Line, World, level_at}
+use Rattle.p8_access.specs.Worlds.{Line, World, level_at}
 use Rattle.p8_levels.specs.Levels.{is_high, high_at, end_of}
 use Rattle.p8_levels.specs.Changes.{Tells}
 use Rattle.p8_serial.specs.Serial.{serial_by, serial_of}

@@ -3,7 +3,7 @@ use Rattle.std.proofs.Common.{◌≡◌, ◌∙◌, ap, sym, refl, ℕ, zero, su
 use Rattle.std.specs.List.{range_with_len}
 use Rattle.std.proofs.lemmas.Bool.{cases_lt}
 use Rattle.std.proofs.lemmas.Bool.Decides.{nat_tests}
-use Rattle.p8_history.specs.Worlds.{Line, levels_after}
+use Rattle.p8_access.specs.Worlds.{Line, levels_after}
 use Rattle.p8_levels.specs.Levels.{is_high}
 use Rattle.p8_levels.specs.Changes.{RiseFrom, Ahead}
 use Rattle.p8_levels.proofs.Passing.{passes, waits, rise-from}

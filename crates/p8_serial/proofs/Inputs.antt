@@ -3,9 +3,9 @@ use Rattle.std.proofs.Common.{◌≡◌, ◌∙◌, ap, sym, refl, ℕ, zero, su
 use Rattle.std.specs.Int.{bit_at}
 use Rattle.std.proofs.lemmas.Nat.Bits.{bit_at_and, bit_at_or, bit_at_xor, bit_at_ones, bit_at-lt, bit_at-zero}
 use Rattle.p8_access.specs.declared.order.Turn.{Turn}
-use Rattle.p8_history.specs.Worlds.{World, level_at}
-use Rattle.p8_history.specs.Hub.{cogs}
-use Rattle.p8_history.specs.Pins.{or_all, outa_of, dira_of, dira, outputs, pins_with}
+use Rattle.p8_access.specs.Worlds.{World, level_at}
+use Rattle.p8_access.specs.Hub.{cogs}
+use Rattle.p8_access.specs.Pins.{or_all, outa_of, dira_of, dira, outputs, pins_with}
 use Rattle.p8_levels.specs.Levels.{by, is_high, high_at, pins_when}
 
 -- where no direction has a bit, no driven output has it

@@ -3,7 +3,7 @@ use Rattle.std.proofs.Common.{◌≡◌, ◌∙◌, ap, sym, refl, subst, ℕ, z
 use Rattle.std.specs.Fmt.{decimal}
 use Rattle.std.proofs.lemmas.Nat.{pow-add, pow_below}
 use Rattle.std.proofs.lemmas.Bool.{cases_lt}
-use Rattle.p8_history.specs.Worlds.{Line, levels_after}
+use Rattle.p8_access.specs.Worlds.{Line, levels_after}
 use Rattle.p8_disassembly.specs.Numerals.{hex}
 use Rattle.p8_levels.specs.Levels.{is_high}
 use Rattle.p8_levels.specs.Changes.{RiseFrom, Within, IsLater, Ahead, pins_from, pins_after, HasPassed}

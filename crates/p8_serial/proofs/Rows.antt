@@ -4,7 +4,7 @@ use Rattle.std.specs.Prelude.{slice_get}
 use Rattle.std.specs.Int.{bit_at}
 use Rattle.std.proofs.lemmas.List.Concat.{flat_map-append}
 use Rattle.std.proofs.lemmas.Nat.Bits.{bit_at-zero, bit_at-pow_same}
-use Rattle.p8_history.specs.Worlds.{Line, levels_after}
+use Rattle.p8_access.specs.Worlds.{Line, levels_after}
 use Rattle.p8_levels.specs.Levels.{is_high}
 use Rattle.p8_levels.specs.Changes.{RiseFrom}
 use Rattle.p8_levels.proofs.Passing.{passes, waits, rise-from}

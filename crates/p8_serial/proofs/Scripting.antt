@@ -12,7 +12,7 @@ use Rattle.std.proofs.lemmas.Nat.{pow-add, pow_below}
 use Rattle.std.proofs.lemmas.Bool.{cases_lt}
 use Rattle.std.proofs.lemmas.Bool.Decides.{nat_tests}
 use Rattle.std.proofs.lemmas.List.{length-map}
-use Rattle.p8_history.specs.Worlds.{Line}
+use Rattle.p8_access.specs.Worlds.{Line}
 use Rattle.p8_pins.specs.Scripts.{is_skipped, Carries, clocks_of, most_lines, most_bytes, IsScript, IsReadAs}
 use Rattle.p8_disassembly.specs.Numerals.{glyph, hex}
 use Rattle.p8_levels.specs.Changes.{RiseFrom}

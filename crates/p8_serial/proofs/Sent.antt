@@ -1,7 +1,7 @@
 -- What a script sends is received.
 use Rattle.std.proofs.Common.{◌≡◌, ◌∙◌, ap, sym, refl, ℕ, ◌+◌, ◌*◌, ◌<◌, ◌≤◌, Bool, true, List, [], ◌∷◌, length, flat_map, arith}
 use Rattle.p8_access.specs.declared.order.Turn.{Turn}
-use Rattle.p8_history.specs.Worlds.{Line, World, level_at, levels_after}
+use Rattle.p8_access.specs.Worlds.{Line, World, level_at, levels_after}
 use Rattle.p8_levels.specs.Levels.{is_high, high_at, end_of}
 use Rattle.p8_levels.specs.Changes.{Ahead}
 use Rattle.p8_levels.proofs.Passing.{passes, rise-from}

@@ -2,7 +2,7 @@
 -- Receiving frames along the changes of a run's pins.
 use Rattle.std.specs.Prelude.{ℕ, ◌+◌, ◌≡◌, ◌≤◌, ◌&&◌, if◌then◌else◌, Bool, not, List, [], ◌∷◌, ◌++◌, codes, filter, flat_map, length}
 use Rattle.std.specs.Fmt.{decimal}
-use Rattle.p8_history.specs.Worlds.{Line}
+use Rattle.p8_access.specs.Worlds.{Line}
 use Rattle.p8_disassembly.specs.Numerals.{hex}
 use Rattle.p8_levels.specs.Levels.{is_high}
 use Rattle.p8_levels.specs.Changes.{Ahead, RiseFrom, pins_from}

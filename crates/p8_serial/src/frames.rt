@@ -1,6 +1,6 @@
 // The frames on a pin, along the changes of a run's pins.
 ghost use Rattle.std.specs.Prelude.{◌≡◌, ◌<◌, ◌≤◌, ◌+◌, ◌*◌, ◌/◌, ◌^◌, ◌&&◌, ◌∷◌, ◌++◌, not, ℕ, Bool, List, [], length, MatchOption, IfOk, IfSome, OnOk};
-ghost use Rattle.p8_history.specs.Worlds.{level_at};
+ghost use Rattle.p8_access.specs.Worlds.{level_at};
 ghost use Rattle.p8_levels.specs.Levels.{is_high};
 ghost use Rattle.p8_levels.specs.Changes.{lines_of, RiseFrom, HasPassed, IsLater};
 ghost use Rattle.p8_serial.specs.Laws.{IsRate};

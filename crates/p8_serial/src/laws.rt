@@ -1,7 +1,7 @@
 // A law of bytes on a pin. The function does nothing: its contract is the law.
 ghost use Rattle.std.specs.Prelude.{◌≡◌, ℕ, List};
 ghost use Rattle.p8_access.specs.declared.order.Turn.{Turn};
-ghost use Rattle.p8_history.specs.Worlds.{World};
+ghost use Rattle.p8_access.specs.Worlds.{World};
 ghost use Rattle.p8_pins.specs.Scripts.{IsReadAs};
 ghost use Rattle.p8_serial.specs.Laws.{CanBeSent, Hears, received_text};
 ghost use Rattle.p8_serial.specs.Serial.{serial_of};

@@ -5,7 +5,7 @@ use Rattle.p8_access.specs.declared.kinds.Width.{Width}
 use Rattle.p8_access.specs.declared.kinds.Width.TheVariants.{Byte, Long}
 use Rattle.p8_access.specs.declared.kinds.Access.TheVariants as access_case
 use Rattle.p8_access.specs.Proper.{bytes_in}
-use Rattle.p8_courses.specs.Courses.{Course, Finish}
+use Rattle.p8_access.specs.Courses.{Course, Finish}
 use Rattle.p8_tree.specs.declared.places.Place.{Place}
 use Rattle.p8_tree.specs.Proper as proper
 use Rattle.p8_bytecode.specs.declared.op.Op.{Op}

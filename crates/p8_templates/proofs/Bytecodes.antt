@@ -2,7 +2,7 @@
 use Rattle.std.proofs.Common.{◌≡◌, refl, sym, ap, subst, ℕ, ◌+◌, ◌-◌, ◌^◌, ◌<◌, ◌==◌, not, Bool, true, false, if◌then◌else◌, nat_lt, List, Option, Some}
 use Rattle.p8_access.specs.declared.kinds.Width.TheVariants.{Word, Long}
 use Rattle.p8_tree.specs.declared.places.Place.{Place}
-use Rattle.p8_courses.specs.Courses.{Course, Finish}
+use Rattle.p8_access.specs.Courses.{Course, Finish}
 use Rattle.p8_bytecode.specs.declared.op.Op.{Op}
 use Rattle.p8_bytecode.specs.declared.operands.Operands.{Operands}
 use Rattle.p8_bytecode.specs.declared.operands.Operands.TheVariants.{Nothing, OneByte, TwoBytes, ThreeBytes, Word, Triple, Long}

@@ -2,7 +2,7 @@
 use Rattle.std.proofs.Common.{◌≡◌, refl, sym, ap, ◌∙◌, subst, arith, ℕ, ◌+◌, ◌-◌, ◌^◌, ◌≤◌, ◌==◌, Bool, true, false, if◌then◌else◌, Option, Some, None, IsTrue}
 use Rattle.p8_tree.specs.Expressions.{Variable, Named, Part, Memory, Register}
 use Rattle.p8_tree.specs.Proper as proper
-use Rattle.p8_courses.specs.Courses.{Course}
+use Rattle.p8_access.specs.Courses.{Course}
 use Rattle.p8_bytecode.specs.declared.op.Op.{Op}
 use Rattle.p8_bytecode.specs.Table.{is_effect, is_step}
 use Rattle.p8_bytecode.specs.Spelling.{IsChange, IsStep, IsOp}

@@ -1,7 +1,7 @@
 -- The effect bytes that a code generator writes, one by one.
 use Rattle.std.proofs.Common.{◌≡◌, refl, ap, ◌∙◌, arith, ℕ, ◌+◌, ◌-◌, ◌%◌, ◌^◌, ◌≤◌, ◌==◌, not, ◌&&◌, ◌||◌, Bool, true, false, nat_le, nat_lt, List, [], ◌∷◌, Some, None, IsTrue}
 use Rattle.p8_tree.specs.Proper as proper
-use Rattle.p8_courses.specs.Courses.{Course}
+use Rattle.p8_access.specs.Courses.{Course}
 use Rattle.p8_bytecode.specs.declared.op.Op.{Op}
 use Rattle.p8_bytecode.specs.Table.{is_effect, is_step}
 use Rattle.p8_operators.specs.Operators.{is_unary, binary_value}

@@ -3,7 +3,7 @@ use Rattle.std.proofs.Common.{◌≡◌, refl, sym, ap, ◌∙◌, subst, arith,
 use Rattle.p8_access.specs.declared.kinds.Width.TheVariants.{Long}
 use Rattle.p8_access.specs.Proper.{bytes_in}
 use Rattle.p8_tree.specs.Proper.{is_size}
-use Rattle.p8_courses.specs.Courses.{Course, Finish}
+use Rattle.p8_access.specs.Courses.{Course, Finish}
 use Rattle.p8_bytecode.specs.declared.op.Op.{Op}
 use Rattle.p8_bytecode.specs.declared.operands.Operands.{Operands}
 use Rattle.p8_bytecode.specs.declared.operands.Operands.TheVariants.{ShortVariable, Variable}

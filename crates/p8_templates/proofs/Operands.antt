@@ -4,7 +4,7 @@ use Rattle.std.proofs.lemmas.Bool.Decides.{nat_tests}
 use Rattle.std.proofs.lemmas.List.{get_or-drop, take_more}
 use Rattle.p8_access.specs.declared.kinds.Reason.{Reason}
 use Rattle.p8_access.specs.declared.kinds.Reason.TheVariants as Why
-use Rattle.p8_courses.specs.Courses.{Course}
+use Rattle.p8_access.specs.Courses.{Course}
 use Rattle.p8_bcog.specs.declared.state.State.{State}
 use Rattle.p8_bcog.specs.Operands.{operands, operand, taken, pushed, tested, stopped_by}
 use Rattle.p8_keeps.specs.Courses.{tops, goes_to, goes_if}

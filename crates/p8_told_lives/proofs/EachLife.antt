@@ -6,12 +6,12 @@ use Rattle.p8_access.specs.declared.kinds.Access.{Access}
 use Rattle.p8_access.specs.declared.kinds.Access.TheVariants.{Begin, Load}
 use Rattle.p8_access.specs.declared.kinds.Answer.{Answer}
 use Rattle.p8_access.specs.declared.order.Turn.{Turn}
-use Rattle.p8_history.specs.declared.states.CogState.{CogState}
-use Rattle.p8_history.specs.declared.states.CogState.TheVariants.{Stopped, Running}
-use Rattle.p8_history.specs.Worlds.{World}
-use Rattle.p8_history.specs.Hub.{is_number, Change, Starts, Runs, Stops, change_by, change_of, changed, cog_state, origin_of}
-use Rattle.p8_history.specs.Histories.{is_begin, begins_life, begun_at, begun, since_begin, IsNextRunning, IsNextIn, Extends, Legal}
-use Rattle.p8_history.proofs.Changes.{decided, same-cog, runs-begins, begun-same, begun-new, since_begin-new, since_begin-own, since_begin-other}
+use Rattle.p8_access.specs.declared.states.CogState.{CogState}
+use Rattle.p8_access.specs.declared.states.CogState.TheVariants.{Stopped, Running}
+use Rattle.p8_access.specs.Worlds.{World}
+use Rattle.p8_access.specs.Hub.{is_number, Change, Starts, Runs, Stops, change_by, change_of, changed, cog_state, origin_of}
+use Rattle.p8_access.specs.Histories.{is_begin, begins_life, begun_at, begun, since_begin, IsNextRunning, IsNextIn, Extends, Legal}
+use Rattle.p8_access.proofs.Changes.{decided, same-cog, runs-begins, begun-same, begun-new, since_begin-new, since_begin-own, since_begin-other}
 use Rattle.p8_lives.specs.Lives.{asks}
 use Rattle.p8_meaning.specs.Programs.{Program, Addresses}
 use Rattle.p8_told_lives.specs.Lives.{starts_by, is_started, turns_of_life}

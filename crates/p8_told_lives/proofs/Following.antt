@@ -6,10 +6,10 @@ use Rattle.p8_access.specs.declared.kinds.Access.TheVariants as access_case
 use Rattle.p8_access.specs.declared.kinds.Answer.{Answer}
 use Rattle.p8_access.specs.declared.order.Turn.{Turn}
 use Rattle.p8_access.specs.Lives.{is_last, IsOnTime}
-use Rattle.p8_courses.specs.Courses.{Course, Finish, Stop, Ask, Closes, told}
-use Rattle.p8_courses.specs.Timing.{Outcome, Asks, Goes, Ends, earliest, behind, played}
-use Rattle.p8_courses.specs.Replays.{Engine, step, after, replayed, told_step, told_after, retold, answer_of}
-use Rattle.p8_courses.specs.Replaying.{earliest-from, behind-later, after-asks, after-ends, asked-from}
+use Rattle.p8_access.specs.Courses.{Course, Finish, Stop, Ask, Closes, told}
+use Rattle.p8_access.specs.Timing.{Outcome, Asks, Goes, Ends, earliest, behind, played}
+use Rattle.p8_access.specs.Replays.{Engine, step, after, replayed, told_step, told_after, retold, answer_of}
+use Rattle.p8_access.specs.Replaying.{earliest-from, behind-later, after-asks, after-ends, asked-from}
 use Rattle.p8_meaning.specs.Bounds.{made_of}
 use Rattle.p8_told_lives.specs.Told.{access_of}
 

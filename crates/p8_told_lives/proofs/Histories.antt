@@ -13,13 +13,13 @@ use Rattle.p8_access.specs.declared.order.Turn.{Turn}
 use Rattle.p8_access.specs.Proper.{IsNumber}
 use Rattle.p8_access.specs.Lives.{Begun}
 use Rattle.p8_bcog.specs.Replay.{engine_of, enters_at, first_of}
-use Rattle.p8_history.specs.declared.states.CogState.{CogState}
-use Rattle.p8_history.specs.declared.states.CogState.TheVariants.{Stopped, Starting, Running}
-use Rattle.p8_history.specs.Worlds.{World}
-use Rattle.p8_history.specs.Hub.{cogs, is_number, is_stopped, stopped_cog, Change, Starts, Runs, Stops, change_by, change_of, changed, cog_state, origin_of}
-use Rattle.p8_history.specs.Histories.{answer_to, first_access, is_begin, begins_life, begun_at, begun, since_begin, IsNextRunning, IsNextIn, Extends, Legal}
-use Rattle.p8_history.proofs.Nexts.{due-late, due-on_time, some-injective}
-use Rattle.p8_history.proofs.Changes.{decided, same-cog, picked, runs-begins, none-begins, begun-same, begun-new, since_begin-new, since_begin-own, since_begin-other}
+use Rattle.p8_access.specs.declared.states.CogState.{CogState}
+use Rattle.p8_access.specs.declared.states.CogState.TheVariants.{Stopped, Starting, Running}
+use Rattle.p8_access.specs.Worlds.{World}
+use Rattle.p8_access.specs.Hub.{cogs, is_number, is_stopped, stopped_cog, Change, Starts, Runs, Stops, change_by, change_of, changed, cog_state, origin_of}
+use Rattle.p8_access.specs.Histories.{answer_to, first_access, is_begin, begins_life, begun_at, begun, since_begin, IsNextRunning, IsNextIn, Extends, Legal}
+use Rattle.p8_access.proofs.Nexts.{due-late, due-on_time, some-injective}
+use Rattle.p8_access.proofs.Changes.{decided, same-cog, picked, runs-begins, none-begins, begun-same, begun-new, since_begin-new, since_begin-own, since_begin-other}
 use Rattle.p8_lives.specs.Lives.{asks}
 use Rattle.p8_meaning.specs.Programs.{Program, Addresses, Target}
 use Rattle.p8_meaning.specs.Lives.{IsMethodOrigin}

@@ -13,7 +13,7 @@ use Rattle.p8_access.specs.declared.kinds.Access.TheVariants as asked
 use Rattle.p8_access.specs.declared.kinds.Answer.{Answer}
 use Rattle.p8_access.specs.Proper.{bytes_in, IsNumber, IsLongAddress}
 use Rattle.p8_access.specs.Lives.{is_last}
-use Rattle.p8_courses.specs.Courses.{Course, Finish, Stop, Ask, Told, told}
+use Rattle.p8_access.specs.Courses.{Course, Finish, Stop, Ask, Told, told}
 use Rattle.p8_meaning.specs.Bounds.{made_of}
 use Rattle.p8_meaning.specs.Values.{count_of, with_pins, pins_of}
 use Rattle.p8_meaning.specs.Programs.{Program, Addresses, Scope}

@@ -5,9 +5,9 @@ use Rattle.p8_access.specs.declared.kinds.Access.{Access}
 use Rattle.p8_access.specs.declared.kinds.Access.TheVariants.{CogInit}
 use Rattle.p8_access.specs.declared.kinds.Answer.{Answer}
 use Rattle.p8_access.specs.declared.order.Turn.{Turn}
-use Rattle.p8_history.specs.Worlds.{World}
-use Rattle.p8_history.specs.Hub.{is_number, cog_state, origin_of}
-use Rattle.p8_history.specs.Histories.{begins_life}
+use Rattle.p8_access.specs.Worlds.{World}
+use Rattle.p8_access.specs.Hub.{is_number, cog_state, origin_of}
+use Rattle.p8_access.specs.Histories.{begins_life}
 
 -- a turn that starts this cog: a CogInit that answered it
 abbrev pub starts_by : ℕ → Access → Answer → Bool

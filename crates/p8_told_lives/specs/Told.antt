@@ -4,8 +4,8 @@ use Rattle.p8_access.specs.declared.kinds.Origin.{Origin}
 use Rattle.p8_access.specs.declared.kinds.Origin.TheVariants.{Pasm, Spin}
 use Rattle.p8_access.specs.declared.kinds.Access.{Access}
 use Rattle.p8_access.specs.declared.order.Turn.{Turn}
-use Rattle.p8_courses.specs.Replays.{answer_of}
-use Rattle.p8_history.specs.Worlds.{World}
+use Rattle.p8_access.specs.Replays.{answer_of}
+use Rattle.p8_access.specs.Worlds.{World}
 use Rattle.p8_tree.specs.Sources.{MethodTree}
 use Rattle.p8_meaning.specs.Programs.{Program, Addresses, File, Target, frame_size}
 use Rattle.p8_meaning.specs.Calls.{method_of}

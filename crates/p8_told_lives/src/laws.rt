@@ -1,8 +1,8 @@
 // The law of the lives of a history. The function does nothing: its contract is the law.
 ghost use Rattle.std.specs.Prelude.{List};
 ghost use Rattle.p8_access.specs.declared.order.Turn.{Turn};
-ghost use Rattle.p8_history.specs.Worlds.{World};
-ghost use Rattle.p8_history.specs.Histories.{Legal, Ended};
+ghost use Rattle.p8_access.specs.Worlds.{World};
+ghost use Rattle.p8_access.specs.Histories.{Legal, Ended};
 ghost use Rattle.p8_lives.specs.Lives.{asks};
 ghost use Rattle.p8_meaning.specs.Programs.{Program, Addresses};
 ghost use Rattle.p8_told_lives.specs.Told.{IsWorldOf, SpinIsTold};

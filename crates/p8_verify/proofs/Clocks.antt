@@ -4,8 +4,8 @@ use Rattle.std.specs.List.{All}
 use Rattle.std.proofs.lemmas.List.{length-reverse, reverse-reverse, reverse-append}
 use Rattle.std.proofs.lemmas.List.Elements.{All-nil, All-cons, All-append}
 use Rattle.p8_access.specs.declared.order.Turn.{Turn}
-use Rattle.p8_history.specs.Worlds.{World}
-use Rattle.p8_history.specs.Histories.{Legal}
+use Rattle.p8_access.specs.Worlds.{World}
+use Rattle.p8_access.specs.Histories.{Legal}
 use Rattle.p8_lives.specs.Lives.{asks}
 
 -- so many clocks are enough

@@ -4,8 +4,8 @@ use Rattle.std.proofs.lemmas.List.{reverse-reverse, length-reverse, append-nil}
 use Rattle.std.specs.List.{All}
 use Rattle.p8_access.specs.declared.memory.Boot.{Boot}
 use Rattle.p8_access.specs.declared.order.Turn.{Turn}
-use Rattle.p8_history.specs.Worlds.{World, Line}
-use Rattle.p8_history.specs.Histories.{Ended}
+use Rattle.p8_access.specs.Worlds.{World, Line}
+use Rattle.p8_access.specs.Histories.{Ended}
 use Rattle.p8_lives.specs.Lives.{asks}
 use Rattle.p8_ledger.specs.Worlds.{world_of}
 use Rattle.p8_verify.specs.declared.head.Head.{Head}

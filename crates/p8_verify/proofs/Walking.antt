@@ -1,8 +1,8 @@
 -- A machine beside the records of a file: what is left of them, and what is judged of it.
 use Rattle.std.proofs.Common.{◌≡◌, ◌∙◌, ap, sym, subst, refl, ℕ, ◌+◌, ◌-◌, ◌<◌, inl, inr, List, [], ◌∷◌, length, arith}
 use Rattle.p8_access.specs.declared.order.Turn.{Turn}
-use Rattle.p8_history.specs.Worlds.{World}
-use Rattle.p8_history.specs.Histories.{Extends, IsOver}
+use Rattle.p8_access.specs.Worlds.{World}
+use Rattle.p8_access.specs.Histories.{Extends, IsOver}
 use Rattle.p8_lives.specs.Lives.{asks}
 use Rattle.p8_verify.specs.declared.verdicts.Cause.{Cause}
 use Rattle.p8_verify.specs.declared.verdicts.Cause.TheVariants.{More}

@@ -2,8 +2,8 @@
 ghost use Rattle.std.specs.Prelude.{◌≡◌, ◌<◌, ◌≤◌, ◌^◌, ◌++◌, List, OnOk, IfOk, reverse};
 ghost use Rattle.std.specs.List.{All};
 ghost use Rattle.p8_access.specs.declared.order.Turn.{Turn};
-ghost use Rattle.p8_history.specs.Worlds.{Line};
-ghost use Rattle.p8_history.specs.Histories.{Ended};
+ghost use Rattle.p8_access.specs.Worlds.{Line};
+ghost use Rattle.p8_access.specs.Histories.{Ended};
 ghost use Rattle.p8_lives.specs.Lives.{asks};
 ghost use Rattle.p8_ledger.specs.Worlds.{world_of};
 ghost use Rattle.p8_verify.specs.Table.{turn_bytes};

@@ -2,7 +2,7 @@
 ghost use Rattle.std.specs.Prelude.{◌≡◌, ◌++◌, ℕ, List, ◌↔◌};
 ghost use Rattle.p8_access.specs.declared.memory.Boot.{Boot};
 ghost use Rattle.p8_access.specs.declared.order.Turn.{Turn};
-ghost use Rattle.p8_history.specs.Worlds.{Line};
+ghost use Rattle.p8_access.specs.Worlds.{Line};
 ghost use Rattle.p8_verify.specs.declared.verdicts.Verdict.{Verdict};
 ghost use Rattle.p8_verify.specs.declared.verdicts.Verdict.TheVariants.{Good};
 ghost use Rattle.p8_verify.specs.Table.{IsWithin, turn_bytes};

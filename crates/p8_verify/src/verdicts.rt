@@ -2,7 +2,7 @@
 ghost use Rattle.std.specs.Prelude.{◌≡◌, ◌+◌, ◌∷◌, [], List, None, MatchOption, IfOk};
 ghost use Rattle.p8_access.specs.declared.order.Turn.{Turn};
 ghost use Rattle.p8_access.specs.Proper.{IsProperOrigin};
-ghost use Rattle.p8_history.specs.Histories.{Extends};
+ghost use Rattle.p8_access.specs.Histories.{Extends};
 ghost use Rattle.p8_lives.specs.Lives.{asks};
 ghost use Rattle.p8_machine.specs.Machines.{world_in, past_in, IsStanding};
 ghost use Rattle.p8_verify.specs.declared.verdicts.Verdict.TheVariants.{Bad};

@@ -2,12 +2,12 @@
 use Rattle.std.proofs.Common.{◌≡◌, ◌∙◌, refl, sym, ap, subst, ℕ, zero, suc, ◌-◌, ◌%◌, ◌<◌, ◌≤◌, min, List, [], ◌++◌, map, get_or, Bool, true, false, reverse, Option, Some, None, IfSome, arith}
 use Rattle.std.proofs.lemmas.List.{append-nil}
 use Rattle.p8_access.specs.declared.order.Turn.{Turn}
-use Rattle.p8_history.specs.declared.states.CogState.{CogState}
-use Rattle.p8_history.specs.declared.states.CogState.TheVariants as state
-use Rattle.p8_history.specs.Worlds.{World, level_at}
-use Rattle.p8_history.specs.Histories.{Rises}
-use Rattle.p8_history.specs.Hub.{cogs, cog_state, is_set, is_taken}
-use Rattle.p8_history.specs.Pins.{outa_of, dira_of, pins_at, pins_with, dira, outputs}
+use Rattle.p8_access.specs.declared.states.CogState.{CogState}
+use Rattle.p8_access.specs.declared.states.CogState.TheVariants as state
+use Rattle.p8_access.specs.Worlds.{World, level_at}
+use Rattle.p8_access.specs.Histories.{Rises}
+use Rattle.p8_access.specs.Hub.{cogs, cog_state, is_set, is_taken}
+use Rattle.p8_access.specs.Pins.{outa_of, dira_of, pins_at, pins_with, dira, outputs}
 use Rattle.p8_pins.specs.Matches.{IsBefore}
 use Rattle.p8_levels.specs.Levels.{by, end_of}
 use Rattle.p8_wave.specs.declared.courses.Course.{Course}

@@ -3,9 +3,9 @@ use Rattle.std.proofs.Common.{◌≡◌, ◌∙◌, ap, refl, ℕ, List, map, ar
 use Rattle.std.proofs.lemmas.Nat.Bits.{same_from_bits, bit_at_or}
 use lib.Bits.{or_zero_r}
 use Rattle.p8_access.specs.declared.order.Turn.{Turn}
-use Rattle.p8_history.specs.Worlds.{World}
-use Rattle.p8_history.specs.Hub.{cogs}
-use Rattle.p8_history.specs.Pins.{outa_of, dira_of, or_all, dira, outputs, pins_with}
+use Rattle.p8_access.specs.Worlds.{World}
+use Rattle.p8_access.specs.Hub.{cogs}
+use Rattle.p8_access.specs.Pins.{outa_of, dira_of, or_all, dira, outputs, pins_with}
 use Rattle.p8_hub.specs.Parts.{ors, driven}
 use Rattle.p8_wave.specs.declared.signals.Signals.{Signals}
 use Rattle.p8_wave.specs.Following.{AreSignals}

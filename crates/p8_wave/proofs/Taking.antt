@@ -5,8 +5,8 @@ use Rattle.std.proofs.lemmas.List.Elements.{filter-append}
 use Rattle.std.proofs.lemmas.Bool.Decides.{nat_tests}
 use Rattle.std.proofs.lemmas.Bool.{cases_lt}
 use Rattle.p8_access.specs.declared.order.Turn.{Turn}
-use Rattle.p8_history.specs.Histories.{Rises}
-use Rattle.p8_history.specs.Worlds.{World}
+use Rattle.p8_access.specs.Histories.{Rises}
+use Rattle.p8_access.specs.Worlds.{World}
 use Rattle.p8_wave.specs.declared.signals.Signals.{Signals}
 use Rattle.p8_levels.specs.Levels.{by}
 use Rattle.p8_wave.specs.Following.{AreSignals}

@@ -2,7 +2,7 @@
 use Rattle.std.proofs.Common.{◌≡◌, ◌∙◌, ap, ℕ, List, [], ◌++◌, ◌||◌, Option, filter, map, codes}
 use Rattle.std.specs.List.{flat_map}
 use Rattle.p8_access.specs.declared.order.Turn.{Turn}
-use Rattle.p8_history.specs.Worlds.{World}
+use Rattle.p8_access.specs.Worlds.{World}
 use Rattle.p8_wave.specs.declared.entries.Entry.{Entry}
 use Rattle.p8_wave.specs.declared.walks.Walk.{Walk}
 use Rattle.p8_wave.specs.declared.variables.Selection.{Selection}

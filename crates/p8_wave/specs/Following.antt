@@ -2,11 +2,11 @@
 -- How what the code keeps follows a history.
 use Rattle.std.specs.Prelude.{ℕ, ◌/◌, ◌%◌, ◌^◌, ◌≡◌, nat_eq, not, if◌then◌else◌, Bool, false, List, map, slice_index, slice_index_or}
 use Rattle.p8_access.specs.declared.order.Turn.{Turn}
-use Rattle.p8_history.specs.declared.states.CogState.{CogState}
-use Rattle.p8_history.specs.declared.states.CogState.TheVariants.{Stopped, Starting, Running}
-use Rattle.p8_history.specs.Worlds.{World}
-use Rattle.p8_history.specs.Hub.{cogs, locks, cog_state, is_set, is_taken}
-use Rattle.p8_history.specs.Pins.{outa_of, dira_of}
+use Rattle.p8_access.specs.declared.states.CogState.{CogState}
+use Rattle.p8_access.specs.declared.states.CogState.TheVariants.{Stopped, Starting, Running}
+use Rattle.p8_access.specs.Worlds.{World}
+use Rattle.p8_access.specs.Hub.{cogs, locks, cog_state, is_set, is_taken}
+use Rattle.p8_access.specs.Pins.{outa_of, dira_of}
 use Rattle.p8_wave.specs.declared.signals.Phase.{Phase}
 use Rattle.p8_wave.specs.declared.signals.Phase.TheVariants as phase
 use Rattle.p8_wave.specs.declared.signals.Signals.{Signals}

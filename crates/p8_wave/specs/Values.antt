@@ -5,11 +5,11 @@ use Rattle.std.specs.List.{range_with_len, list_any}
 use Rattle.p8_access.specs.declared.kinds.Access.{Access}
 use Rattle.p8_access.specs.declared.kinds.Access.TheVariants.{CogStop, Halt}
 use Rattle.p8_access.specs.declared.order.Turn.{Turn}
-use Rattle.p8_history.specs.declared.states.CogState.{CogState}
-use Rattle.p8_history.specs.declared.states.CogState.TheVariants.{Stopped, Starting, Running}
-use Rattle.p8_history.specs.Worlds.{World}
-use Rattle.p8_history.specs.Hub.{newest, cog_state, is_set, is_taken}
-use Rattle.p8_history.specs.Pins.{outa_of, dira_of, pins_at}
+use Rattle.p8_access.specs.declared.states.CogState.{CogState}
+use Rattle.p8_access.specs.declared.states.CogState.TheVariants.{Stopped, Starting, Running}
+use Rattle.p8_access.specs.Worlds.{World}
+use Rattle.p8_access.specs.Hub.{newest, cog_state, is_set, is_taken}
+use Rattle.p8_access.specs.Pins.{outa_of, dira_of, pins_at}
 use Rattle.p8_levels.specs.Levels.{by, end_of}
 use Rattle.p8_wave.specs.declared.variables.Selection.{Selection}
 use Rattle.p8_wave.specs.declared.variables.Variable.{Variable}

@@ -2,7 +2,7 @@
 use Rattle.std.specs.Prelude.{ℕ, ◌+◌, ◌*◌, ◌<◌, nat_eq, if◌then◌else◌, Bool, true, false, List, [], ◌∷◌, ◌++◌, codes, map, flat_map}
 use Rattle.std.specs.Fmt.{decimal}
 use Rattle.std.specs.List.{range_with_len}
-use Rattle.p8_history.specs.Hub.{cogs, locks}
+use Rattle.p8_access.specs.Hub.{cogs, locks}
 use Rattle.p8_wave.specs.declared.variables.Scope.{Scope}
 use Rattle.p8_wave.specs.declared.variables.Scope.TheVariants.{Pins, Cog, Locks}
 use Rattle.p8_wave.specs.declared.variables.Variable.{Variable}

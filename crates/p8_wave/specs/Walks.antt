@@ -2,8 +2,8 @@
 -- A walk along a history, and what it has come to at a clock. A past is a list of turns, the newest first.
 use Rattle.std.specs.Prelude.{ℕ, ◌≡◌, ◌<◌, ◌≤◌, nat_le, if◌then◌else◌, List, [], ◌∷◌, ◌++◌, reverse}
 use Rattle.p8_access.specs.declared.order.Turn.{Turn}
-use Rattle.p8_history.specs.Worlds.{World, Line, level_at}
-use Rattle.p8_history.specs.Histories.{Rises}
+use Rattle.p8_access.specs.Worlds.{World, Line, level_at}
+use Rattle.p8_access.specs.Histories.{Rises}
 use Rattle.p8_pins.specs.Matches.{IsBefore}
 use Rattle.p8_levels.specs.Levels.{by, end_of}
 use Rattle.p8_wave.specs.declared.courses.Course.{Course}

@@ -1,9 +1,9 @@
 // How far a walk along a history has come.
 ghost use Rattle.std.specs.Prelude.{◌≡◌, ◌<◌, ◌≤◌, [], ℕ, List, drop, IfSome};
 ghost use Rattle.p8_access.specs.declared.order.Turn.{Turn};
-ghost use Rattle.p8_history.specs.Worlds.{World, level_at as level_of};
-ghost use Rattle.p8_history.specs.Histories.{Rises};
-ghost use Rattle.p8_history.specs.Pins.{pins_with, dira as directions_after, outputs as outputs_after};
+ghost use Rattle.p8_access.specs.Worlds.{World, level_at as level_of};
+ghost use Rattle.p8_access.specs.Histories.{Rises};
+ghost use Rattle.p8_access.specs.Pins.{pins_with, dira as directions_after, outputs as outputs_after};
 ghost use Rattle.p8_pins.specs.Matches.{IsBefore};
 ghost use Rattle.p8_wave.specs.Following.{AreSignals};
 ghost use Rattle.p8_wave.specs.Walks.{IsAt, IsLater, taken_by, left_by};

@@ -1,7 +1,7 @@
 // The variables of a wave, with the characters that stand for them.
 ghost use Rattle.std.specs.Prelude.{◌≡◌, ◌||◌, ◌++◌, ◌≤◌, ℕ, List, [], map, flat_map, filter, if◌then◌else◌, IfOk, OnOk};
 ghost use Rattle.std.specs.List.{range_with_len};
-ghost use Rattle.p8_history.specs.Hub.{cogs, locks};
+ghost use Rattle.p8_access.specs.Hub.{cogs, locks};
 ghost use Rattle.p8_wave.specs.declared.variables.Variable.TheVariants.{Pin};
 ghost use Rattle.p8_wave.specs.Variables.{variables, cog_variables, lock_variables};
 ghost use Rattle.p8_wave.specs.Following.{differs};

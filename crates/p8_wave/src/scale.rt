@@ -1,6 +1,6 @@
 // The time scale of a wave.
 ghost use Rattle.std.specs.Prelude.{◌≡◌, ◌<◌, ◌≤◌, ◌+◌, ◌*◌, ◌^◌, ◌++◌, length, slice_index, OnOk};
-ghost use Rattle.p8_history.specs.Worlds.{World};
+ghost use Rattle.p8_access.specs.Worlds.{World};
 ghost use Rattle.p8_wave.specs.Scale.{frequency, period_of as period_in, power_of, ticks_of, ticks_in, count_text, second_text, unit_text, exact_text, tick_text, scale_text};
 
 use crate::texts::push_numbered;

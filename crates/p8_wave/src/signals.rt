@@ -1,8 +1,8 @@
 // What the cogs and the locks are after some turns, as far as a wave shows it.
 ghost use Rattle.std.specs.Prelude.{◌≡◌, ◌∷◌, [], List, slice_set};
 ghost use Rattle.p8_access.specs.declared.order.Turn.{Turn};
-ghost use Rattle.p8_history.specs.Worlds.{World};
-ghost use Rattle.p8_history.specs.Pins.{pins_with, dira as directions_after, outputs as outputs_after};
+ghost use Rattle.p8_access.specs.Worlds.{World};
+ghost use Rattle.p8_access.specs.Pins.{pins_with, dira as directions_after, outputs as outputs_after};
 ghost use Rattle.p8_hub.specs.Parts.{ors, driven};
 ghost use Rattle.p8_wave.specs.Following.{AreSignals, phase_number};
 

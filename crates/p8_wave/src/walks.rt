@@ -1,7 +1,7 @@
 // A walk along a history, which writes the sections of a wave.
 ghost use Rattle.std.specs.Prelude.{◌≡◌, ◌++◌, [], List, map, reverse, IfOk, OnOk};
 ghost use Rattle.p8_access.specs.declared.order.Turn.{Turn};
-ghost use Rattle.p8_history.specs.Worlds.{World};
+ghost use Rattle.p8_access.specs.Worlds.{World};
 ghost use Rattle.p8_wave.specs.declared.variables.Variable.{Variable};
 ghost use Rattle.p8_wave.specs.Variables.{variables};
 ghost use Rattle.p8_wave.specs.Values.{changes};

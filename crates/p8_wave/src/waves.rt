@@ -1,8 +1,8 @@
 // The whole text of a wave.
 ghost use Rattle.std.specs.Prelude.{◌≡◌, List, map, reverse, IfOk};
 ghost use Rattle.p8_access.specs.declared.order.Turn.{Turn};
-ghost use Rattle.p8_history.specs.Worlds.{World};
-ghost use Rattle.p8_history.specs.Histories.{Rises};
+ghost use Rattle.p8_access.specs.Worlds.{World};
+ghost use Rattle.p8_access.specs.Histories.{Rises};
 ghost use Rattle.p8_ledger.specs.Worlds.{world_of};
 ghost use Rattle.p8_wave.specs.Variables.{variables};
 ghost use Rattle.p8_wave.specs.Scale.{frequency, period_of};

@@ -3,10 +3,10 @@ use Rattle.std.proofs.Common.{◌≡◌, ◌∙◌, sym, ap, subst, refl, Bool, 
 use Rattle.std.specs.Borrow.{Bor}
 use Rattle.p8_access.specs.declared.memory.Boot.{Boot}
 use Rattle.p8_access.specs.declared.order.Turn.{Turn}
-use Rattle.p8_history.specs.Worlds.{Line, World}
-use Rattle.p8_history.specs.Histories.{Ended}
-use Rattle.p8_history.proofs.OneHistory.{one-history}
-use Rattle.p8_history.proofs.Rising.{rises}
+use Rattle.p8_access.specs.Worlds.{Line, World}
+use Rattle.p8_access.specs.Histories.{Ended}
+use Rattle.p8_access.proofs.OneHistory.{one-history}
+use Rattle.p8_access.proofs.Rising.{rises}
 use Rattle.p8_io.specs.Shelves.{Files, IsRead}
 use Rattle.p8_lives.specs.Lives.{asks}
 use Rattle.p8_lives.specs.Laws.{one-asked, asked-first, asked-later}

@@ -2,8 +2,8 @@
 -- writes keeps the meaning of its source (this project's profile).
 use Rattle.std.specs.Prelude.{ℕ, ◌≡◌, Bool, true, false, List}
 use Rattle.p8_access.specs.declared.order.Turn.{Turn}
-use Rattle.p8_history.specs.Worlds.{Line, World}
-use Rattle.p8_history.specs.Histories.{Ended, Rises}
+use Rattle.p8_access.specs.Worlds.{Line, World}
+use Rattle.p8_access.specs.Histories.{Ended, Rises}
 use Rattle.p8_tree.specs.Projects.{NamedSource}
 use Rattle.p8_image.specs.declared.clocks.Clock.{Clock}
 use Rattle.p8_image.specs.declared.parts.ObjectPart.{ObjectPart}

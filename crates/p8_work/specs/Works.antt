@@ -4,8 +4,8 @@ use Rattle.std.specs.Prelude.{ℕ, ◌≡◌, ◌≤◌, List}
 use Rattle.p8_access.specs.declared.memory.Boot.{Boot}
 use Rattle.p8_access.specs.Proper.{IsProperOrigin}
 use Rattle.p8_access.specs.declared.order.Turn.{Turn}
-use Rattle.p8_history.specs.Worlds.{Line, World}
-use Rattle.p8_history.specs.Histories.{Ended}
+use Rattle.p8_access.specs.Worlds.{Line, World}
+use Rattle.p8_access.specs.Histories.{Ended}
 use Rattle.p8_lives.specs.Lives.{asks}
 use Rattle.p8_ledger.specs.Worlds as machine
 use Rattle.p8_ledger.specs.declared.start.Start.{Start}

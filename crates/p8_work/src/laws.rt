@@ -1,8 +1,8 @@
 // Laws of what is run. The functions hold no code of their own: their contracts are the laws.
 ghost use Rattle.std.specs.Prelude.{◌≡◌, ℕ, Bool, List};
 ghost use Rattle.p8_access.specs.declared.order.Turn.{Turn};
-ghost use Rattle.p8_history.specs.Worlds.{World};
-ghost use Rattle.p8_history.specs.Histories.{Ended};
+ghost use Rattle.p8_access.specs.Worlds.{World};
+ghost use Rattle.p8_access.specs.Histories.{Ended};
 ghost use Rattle.p8_lives.specs.Lives.{asks};
 ghost use Rattle.p8_io.specs.Shelves.{Files};
 ghost use Rattle.p8_inputs.specs.declared.program.Format.{Format};

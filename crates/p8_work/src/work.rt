@@ -1,7 +1,7 @@
 // What each command reads, and what it comes to then.
 ghost use Rattle.std.specs.Prelude.{◌≡◌, ◌<◌, ◌≤◌, ◌∷◌, [], ℕ, List, Bool, Err, IfOk, IfErr};
 ghost use Rattle.p8_access.specs.declared.memory.Boot.{Boot};
-ghost use Rattle.p8_history.specs.Worlds.{Line};
+ghost use Rattle.p8_access.specs.Worlds.{Line};
 ghost use Rattle.p8_serial.specs.Laws.{IsRate};
 ghost use Rattle.p8_verify.specs.Answers.{Tells};
 ghost use Rattle.p8_access.specs.Boots.{ram_of};

@@ -1,6 +1,6 @@
 use Rattle.std.proofs.Common.{◌∙◌, [], sym, ap, subst}
 use Rattle.p8_access.specs.declared.kinds.Access.{Access}
-use Rattle.p8_courses.specs.Timing.{Outcome, Asks, earliest}
+use Rattle.p8_access.specs.Timing.{Outcome, Asks, earliest}
 use Rattle.p8_bcog.specs.declared.stage.Stage.{Stage}
 use Rattle.p8_bcog.specs.declared.state.State.{State}
 use Rattle.p8_bcog.specs.Standing.{standing}

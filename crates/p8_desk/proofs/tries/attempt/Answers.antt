@@ -1,5 +1,5 @@
 use Rattle.std.proofs.Common.{◌≡◌, ◌∙◌, sym, ap, subst, length}
-use Rattle.p8_history.specs.Worlds.{World}
+use Rattle.p8_access.specs.Worlds.{World}
 use Rattle.p8_ledger.specs.Records.{Record, turns, mine}
 use Rattle.p8_ledger.specs.Ledgers.{Found}
 use Rattle.p8_desk.specs.declared.rule.Known.{Known}

@@ -1,5 +1,5 @@
 use Rattle.std.proofs.Common.{sym, subst}
-use Rattle.p8_history.specs.declared.states.CogState.{CogState}
+use Rattle.p8_access.specs.declared.states.CogState.{CogState}
 use Rattle.p8_ledger.specs.Fronts.{IsFront}
 use Rattle.p8_ledger.proofs.fronts.front_of.Goals as goal
 

@@ -1,6 +1,6 @@
 use Rattle.std.proofs.Common.{◌+◌, ◌*◌, ℕ, refl, arith}
 use Rattle.p8_access.specs.declared.kinds.Width.TheVariants.{Long}
-use Rattle.p8_history.specs.Hub.{value_at}
+use Rattle.p8_access.specs.Hub.{value_at}
 use Rattle.p8_made.proofs.Sums.{sum_step, words_whole}
 use Rattle.p8_made.proofs.hub_words.sum_of_words.Goals as goal
 

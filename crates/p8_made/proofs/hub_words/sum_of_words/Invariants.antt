@@ -2,8 +2,8 @@ use Rattle.std.proofs.Common.{◌≡◌, ◌+◌, ◌*◌, ◌%◌, ◌^◌, ℕ
 use Rattle.std.specs.List.{range_with_len, sum}
 use Rattle.p8_access.specs.declared.kinds.Width.TheVariants.{Long}
 use Rattle.p8_access.specs.declared.order.Turn.{Turn}
-use Rattle.p8_history.specs.Worlds.{World}
-use Rattle.p8_history.specs.Hub.{value_at}
+use Rattle.p8_access.specs.Worlds.{World}
+use Rattle.p8_access.specs.Hub.{value_at}
 use Rattle.p8_hub.specs.Standing.{IsHub}
 use Rattle.p8_made.proofs.hub_words.sum_of_words.Given as goal
 

@@ -1,5 +1,5 @@
 use Rattle.std.proofs.Common.{refl, []}
-use Rattle.p8_history.specs.Worlds.{World}
+use Rattle.p8_access.specs.Worlds.{World}
 use Rattle.p8_image.specs.Headers.{header_of}
 use Rattle.p8_image.specs.Layout.{image_of}
 use Rattle.p8_image.specs.Loading.{memory_of, start_of}

@@ -1,7 +1,7 @@
 use Rattle.std.proofs.Common.{◌≡◌, ◌∙◌, ap, sym, refl, subst, ℕ, List, [], min, reverse}
 use Rattle.std.specs.Prelude.{IfOk}
 use Rattle.p8_access.specs.declared.kinds.Origin.TheVariants.{Pasm}
-use Rattle.p8_history.specs.Worlds.{World, level_at}
+use Rattle.p8_access.specs.Worlds.{World, level_at}
 use Rattle.p8_levels.specs.declared.change.Change.{Change}
 use Rattle.p8_levels.specs.Levels.{is_high, end_of}
 use Rattle.p8_levels.specs.Changes.{lines_of, RiseFrom, Tells}

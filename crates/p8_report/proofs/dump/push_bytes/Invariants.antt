@@ -1,8 +1,8 @@
 use Rattle.std.proofs.Common.{◌≡◌, ◌++◌, ◌∷◌, ◌+◌, ℕ, List}
 use Rattle.std.specs.List.{range_with_len, flat_map}
 use Rattle.p8_access.specs.declared.order.Turn.{Turn}
-use Rattle.p8_history.specs.Worlds.{World}
-use Rattle.p8_history.specs.Hub.{byte_at}
+use Rattle.p8_access.specs.Worlds.{World}
+use Rattle.p8_access.specs.Hub.{byte_at}
 use Rattle.p8_hub.specs.Standing.{IsHub}
 use Rattle.p8_disassembly.specs.Numerals.{hex}
 use Rattle.p8_report.proofs.dump.push_bytes.Given as goal

@@ -1,7 +1,7 @@
 use Rattle.std.proofs.Common.{◌++◌, List, ap, ◌∙◌, ℕ, reverse}
 use Rattle.std.specs.List.{flat_map}
 use Rattle.std.proofs.lemmas.List.{length-reverse}
-use Rattle.p8_history.specs.Hub.{cogs}
+use Rattle.p8_access.specs.Hub.{cogs}
 use Rattle.p8_report.specs.Text.{ended_text, locks_text, pins_text, cog_text, dump_text}
 use Rattle.p8_report.proofs.history_text.text.Goals as goal
 

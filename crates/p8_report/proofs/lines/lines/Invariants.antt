@@ -1,5 +1,5 @@
 use Rattle.std.proofs.Common.{◌≡◌, take, reverse}
-use Rattle.p8_history.specs.Worlds.{World}
+use Rattle.p8_access.specs.Worlds.{World}
 use Rattle.p8_report.specs.Origins.{AreOrigins}
 use Rattle.p8_report.specs.Text.{lines_of}
 use Rattle.p8_report.proofs.lines.lines.Given as goal

@@ -1,6 +1,6 @@
 use Rattle.std.proofs.Common.{◌≡◌, ◌++◌, ℕ, Bool, map, sym, ap, ◌∙◌, arith}
 use Rattle.std.specs.List.{range_with_len}
-use Rattle.p8_history.specs.Hub.{is_taken, is_set}
+use Rattle.p8_access.specs.Hub.{is_taken, is_set}
 use Rattle.p8_report.specs.Text.{lock_glyph}
 use Rattle.p8_report.proofs.Ranges.{map_step}
 use Rattle.p8_report.proofs.tail.push_lock_letters.Goals as goal

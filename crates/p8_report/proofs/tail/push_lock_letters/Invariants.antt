@@ -1,8 +1,8 @@
 use Rattle.std.proofs.Common.{◌≡◌, ◌++◌, ℕ, List, map}
 use Rattle.std.specs.List.{range_with_len}
 use Rattle.p8_access.specs.declared.order.Turn.{Turn}
-use Rattle.p8_history.specs.Worlds.{World}
-use Rattle.p8_history.specs.Hub.{is_taken, is_set}
+use Rattle.p8_access.specs.Worlds.{World}
+use Rattle.p8_access.specs.Hub.{is_taken, is_set}
 use Rattle.p8_hub.specs.Standing.{IsHub}
 use Rattle.p8_report.specs.Text.{lock_glyph}
 use Rattle.p8_report.proofs.tail.push_lock_letters.Given as goal

@@ -1,7 +1,7 @@
 use Rattle.std.proofs.Common.{◌++◌, List, ap, ◌∙◌, ℕ}
 use Rattle.std.specs.List.{flat_map}
 use Rattle.std.proofs.lemmas.Result.{on_ok_weaker}
-use Rattle.p8_history.specs.Hub.{cogs}
+use Rattle.p8_access.specs.Hub.{cogs}
 use Rattle.p8_report.specs.Text.{locks_text, pins_text, cog_text}
 use Rattle.p8_report.proofs.tail.push_tail.Goals as goal
 

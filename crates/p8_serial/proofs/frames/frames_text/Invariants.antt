@@ -1,5 +1,5 @@
 use Rattle.std.proofs.Common.{◌≡◌, ◌+◌, ◌≤◌, length}
-use Rattle.p8_history.specs.Worlds.{level_at}
+use Rattle.p8_access.specs.Worlds.{level_at}
 use Rattle.p8_levels.specs.Levels.{is_high}
 use Rattle.p8_levels.specs.Changes.{lines_of}
 use Rattle.p8_serial.specs.Receiving.{HasReceived}

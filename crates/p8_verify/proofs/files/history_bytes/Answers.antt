@@ -2,7 +2,7 @@ use Rattle.std.proofs.Common.{sym, subst, ℕ, ◌≤◌, List, length, reverse,
 use Rattle.std.specs.List.{All}
 use Rattle.std.proofs.lemmas.List.{length-reverse, reverse-reverse}
 use Rattle.p8_access.specs.declared.order.Turn.{Turn}
-use Rattle.p8_history.specs.Worlds.{World}
+use Rattle.p8_access.specs.Worlds.{World}
 use Rattle.p8_ledger.specs.Worlds.{world_of}
 use Rattle.p8_halts.specs.Halts.{NamesRegister}
 use Rattle.p8_verify.specs.Table.{IsWithin}

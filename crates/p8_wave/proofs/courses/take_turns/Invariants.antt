@@ -1,6 +1,6 @@
 use Rattle.std.proofs.Common.{◌≡◌, List, length}
 use Rattle.p8_access.specs.declared.order.Turn.{Turn}
-use Rattle.p8_history.specs.Worlds.{World}
+use Rattle.p8_access.specs.Worlds.{World}
 use Rattle.p8_wave.specs.Following.{AreSignals}
 use Rattle.p8_wave.specs.Walks.{left_by, IsTaking}
 use Rattle.p8_wave.proofs.courses.take_turns.Given as goal

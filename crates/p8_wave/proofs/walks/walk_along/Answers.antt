@@ -1,5 +1,5 @@
 use Rattle.std.proofs.Common.{◌≡◌, ◌∙◌, ap, sym, subst, ℕ, List, ◌++◌, arith}
-use Rattle.p8_history.specs.Worlds.{Line, level_at}
+use Rattle.p8_access.specs.Worlds.{Line, level_at}
 use Rattle.p8_pins.specs.Matches.{IsBefore}
 use Rattle.p8_wave.specs.declared.courses.Course.{Course}
 use Rattle.p8_wave.specs.Variables.{variables}

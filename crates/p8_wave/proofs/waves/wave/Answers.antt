@@ -1,5 +1,5 @@
 use Rattle.std.proofs.Common.{◌≡◌, ◌∙◌, ap, sym, reverse}
-use Rattle.p8_history.specs.Worlds.{World}
+use Rattle.p8_access.specs.Worlds.{World}
 use Rattle.p8_levels.specs.Levels.{end_of}
 use Rattle.p8_wave.specs.Scale.{period_of, ticks_in}
 use Rattle.p8_wave.specs.Walks.{IsSet}

@@ -1,7 +1,7 @@
 use Rattle.std.proofs.Common.{◌+◌, ◌++◌, ◌∷◌, [], refl, sym, ◌∙◌, arith}
 use Rattle.p8_access.specs.declared.kinds.Width.TheVariants.{Long}
 use Rattle.p8_access.specs.declared.kinds.Access.TheVariants.{Halt}
-use Rattle.p8_courses.specs.Replaying.{behind-later, behind-near}
+use Rattle.p8_access.specs.Replaying.{behind-later, behind-near}
 use Rattle.p8_bcog.specs.declared.stage.Stage.TheVariants.{Ready, Over}
 use Rattle.p8_bcog.specs.Accesses.{write_of}
 use Rattle.p8_bcog.proofs.OneMore.{sound_at}

@@ -1,5 +1,5 @@
 use Rattle.std.proofs.Common.{◌∙◌, ℕ, sym, ap, subst}
-use Rattle.p8_history.specs.Worlds.{World}
+use Rattle.p8_access.specs.Worlds.{World}
 use Rattle.p8_desk.specs.Passes.{PassValue, PassSteps}
 use Rattle.p8_desk.specs.Rules.{Hand}
 use Rattle.p8_desk.specs.Seats.{pass_in, or_new, Seated}

@@ -1,5 +1,5 @@
 use Rattle.std.proofs.Common.{◌≡◌, ◌∙◌, sym, ap, arith, refl}
-use Rattle.p8_history.specs.Worlds.{World}
+use Rattle.p8_access.specs.Worlds.{World}
 use Rattle.p8_desk.specs.Passes.{DeskValue}
 use Rattle.p8_desk.specs.Rules.{world_in}
 use Rattle.p8_desk.proofs.Trying.{forgets}

@@ -1,5 +1,5 @@
 use Rattle.std.proofs.Common.{refl, subst, Bool}
-use Rattle.p8_history.specs.Hub.{cog_state}
+use Rattle.p8_access.specs.Hub.{cog_state}
 use Rattle.p8_ledger.specs.Standing.{FitsState}
 use Rattle.p8_ledger.specs.Records.{turns}
 use Rattle.p8_desk.specs.Runners.{Comes}

@@ -1,6 +1,6 @@
 use Rattle.std.proofs.Common.{◌≡◌, drop}
 use Rattle.std.specs.List.{position_from}
-use Rattle.p8_history.specs.Hub.{is_stopped}
+use Rattle.p8_access.specs.Hub.{is_stopped}
 use Rattle.p8_hub.proofs.cog_states.Cogs.lowest_stopped.Given as goal
 
 abbrev pub invariant-loop-cog : goal.invariant-loop-cog

@@ -1,8 +1,8 @@
 use Rattle.std.proofs.Common.{◌∙◌, ap, sym, refl}
 use Rattle.p8_access.specs.declared.kinds.Access.{Access}
 use Rattle.p8_access.specs.declared.kinds.Answer.TheVariants.{Number, Value}
-use Rattle.p8_history.specs.Histories.{answer_to}
-use Rattle.p8_history.specs.Pins.{pins_with}
+use Rattle.p8_access.specs.Histories.{answer_to}
+use Rattle.p8_access.specs.Pins.{pins_with}
 use Rattle.p8_hub.specs.Standing.{HubValue}
 use Rattle.p8_hub.specs.Parts.{ors, driven}
 use Rattle.p8_hub.proofs.Answering.{told_start, told_dira, told_outputs}

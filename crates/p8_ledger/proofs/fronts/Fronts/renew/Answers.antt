@@ -1,7 +1,7 @@
 use Rattle.std.proofs.Common.{◌≡◌, sym, subst, ℕ, List}
 use Rattle.p8_access.specs.declared.lives.Next.{Next}
-use Rattle.p8_history.specs.declared.states.CogState.{CogState}
-use Rattle.p8_history.specs.Hub.{cog_state}
+use Rattle.p8_access.specs.declared.states.CogState.{CogState}
+use Rattle.p8_access.specs.Hub.{cog_state}
 use Rattle.p8_ledger.specs.Fronts.{IsFront}
 use Rattle.p8_ledger.proofs.Rows.{got-item}
 use Rattle.p8_ledger.proofs.fronts.Fronts.renew.Goals as goal

@@ -1,5 +1,5 @@
 use Rattle.std.proofs.Common.{◌∙◌, ◌≡◌, ap, subst, ◌^◌, ◌≤◌, List, arith}
-use Rattle.p8_history.specs.Worlds.{World, Line}
+use Rattle.p8_access.specs.Worlds.{World, Line}
 use Rattle.p8_ledger.specs.Waiting.{newest_key, IsSpanFrom}
 use Rattle.p8_ledger.specs.Records.{turns}
 use Rattle.p8_ledger.proofs.Choosing.{clock-plain, clock-silent, clock-woken}

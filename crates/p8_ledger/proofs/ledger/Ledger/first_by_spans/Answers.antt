@@ -1,5 +1,5 @@
 use Rattle.std.proofs.Common.{ap, subst, ℕ, List}
-use Rattle.p8_history.specs.Worlds.{World, Line}
+use Rattle.p8_access.specs.Worlds.{World, Line}
 use Rattle.p8_ledger.specs.Waiting.{IsDecided, IsSpanFrom}
 use Rattle.p8_ledger.proofs.Choosing.{first-decided}
 use Rattle.p8_ledger.specs.Records.{turns}

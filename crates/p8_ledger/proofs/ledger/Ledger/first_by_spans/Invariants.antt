@@ -1,5 +1,5 @@
 use Rattle.std.proofs.Common.{◌≡◌, ◌-◌, ◌<◌, ◌^◌}
-use Rattle.p8_history.specs.Worlds.{World}
+use Rattle.p8_access.specs.Worlds.{World}
 use Rattle.p8_ledger.specs.Coming.{WaitsFrom}
 use Rattle.p8_ledger.specs.Records.{Record}
 use Rattle.p8_ledger.specs.Ledgers.{Found}

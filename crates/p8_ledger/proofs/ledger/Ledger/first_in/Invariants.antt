@@ -1,5 +1,5 @@
 use Rattle.std.proofs.Common.{◌≡◌, ℕ, ◌<◌, slice_index, length}
-use Rattle.p8_history.specs.Worlds.{World}
+use Rattle.p8_access.specs.Worlds.{World}
 use Rattle.p8_ledger.specs.Coming.{WaitsFrom, IsClockIn}
 use Rattle.p8_ledger.specs.Waiting.{IsSpanFrom}
 use Rattle.p8_ledger.specs.Records.{Record}

@@ -1,6 +1,6 @@
 use Rattle.std.proofs.Common.{subst, Option}
 use Rattle.p8_access.specs.declared.kinds.Test.{Test}
-use Rattle.p8_history.specs.Hub.{cog_state}
+use Rattle.p8_access.specs.Hub.{cog_state}
 use Rattle.p8_ledger.specs.Fronts.{IsFront}
 use Rattle.p8_ledger.specs.Records.{turns, said}
 use Rattle.p8_ledger.proofs.Choosing.{fast-first}

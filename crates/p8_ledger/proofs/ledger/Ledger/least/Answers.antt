@@ -1,5 +1,5 @@
 use Rattle.std.proofs.Common.{◌≡◌, ap, ℕ, ◌<◌, length, arith, inr}
-use Rattle.p8_history.specs.Worlds.{World}
+use Rattle.p8_access.specs.Worlds.{World}
 use Rattle.p8_ledger.proofs.Least.{first-front, no-front}
 use Rattle.p8_ledger.proofs.Granting.{room-found}
 use Rattle.p8_ledger.proofs.ledger.Ledger.least.Goals as goal

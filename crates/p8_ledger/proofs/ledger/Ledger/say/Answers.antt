@@ -1,7 +1,7 @@
 use Rattle.std.proofs.Common.{◌≡◌, ap, sym, refl, ℕ, ◌∷◌}
 use Rattle.std.proofs.Math.ListN.{set}
-use Rattle.p8_history.specs.Worlds.{World}
-use Rattle.p8_history.specs.Hub.{cog_state}
+use Rattle.p8_access.specs.Worlds.{World}
+use Rattle.p8_access.specs.Hub.{cog_state}
 use Rattle.p8_ledger.specs.declared.steps.Step.TheVariants.{Said}
 use Rattle.p8_ledger.specs.Records.{turns, said}
 use Rattle.p8_ledger.proofs.Fronting.{renewed}

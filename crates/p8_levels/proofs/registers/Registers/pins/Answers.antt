@@ -1,5 +1,5 @@
 use Rattle.std.proofs.Common.{◌≡◌, ◌∙◌, ap, ℕ, arith, slice_index, bit_and}
-use Rattle.p8_history.specs.Pins.{pins_with, dira, outputs}
+use Rattle.p8_access.specs.Pins.{pins_with, dira, outputs}
 use Rattle.p8_levels.specs.Driving.{gathered}
 use Rattle.p8_levels.proofs.Eights.{told_dira, told_outputs}
 use Rattle.p8_levels.proofs.registers.Registers.pins.Goals as goal

@@ -1,5 +1,5 @@
 use Rattle.std.proofs.Common.{◌∙◌, ap, sym, subst, ℕ, ◌+◌, List, Option, arith}
-use Rattle.p8_history.specs.Worlds.{Line, level_at}
+use Rattle.p8_access.specs.Worlds.{Line, level_at}
 use Rattle.p8_levels.specs.Walks.{IsStill}
 use Rattle.p8_levels.proofs.Walking.{still, next-later}
 use Rattle.p8_levels.proofs.walk.Walk.next.Goals as goal

@@ -1,6 +1,6 @@
 use Rattle.std.proofs.Common.{◌≡◌, ◌∙◌, ap, ℕ, suc, ◌-◌, ◌<◌, ◌∷◌, Option, length, arith}
 use Rattle.p8_access.specs.declared.order.Turn.{Turn}
-use Rattle.p8_history.specs.Worlds.{World}
+use Rattle.p8_access.specs.Worlds.{World}
 use Rattle.p8_machine.specs.Machines.{world_in, past_in}
 use Rattle.p8_machine.specs.Standing.{past_with}
 use Rattle.p8_machine.proofs.run.Machine.run.Goals as goal

@@ -1,7 +1,7 @@
 -- The walk over the lines.
 use Rattle.std.proofs.Common.{◌≡◌, refl, subst, List, rules, arith}
 use Rattle.std.specs.List.Sorted.{IsStrictlyIncreasing}
-use Rattle.p8_history.specs.Worlds.{Line}
+use Rattle.p8_access.specs.Worlds.{Line}
 use Rattle.p8_pins.specs.Scripts.{clocks_of}
 use Rattle.p8_pins.specs.declared.line_text.Change.{Change}
 use Rattle.p8_pins.specs.Changes.{lines_of}

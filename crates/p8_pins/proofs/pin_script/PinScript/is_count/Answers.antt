@@ -1,7 +1,7 @@
 -- The clocks rise, so two lines tell of all.
 use Rattle.std.proofs.Common.{◌≡◌, ◌<◌, ◌≤◌, ◌+◌, subst, List, length, arith, MatchBool}
 use Rattle.std.specs.List.Sorted.{IsStrictlyIncreasing}
-use Rattle.p8_history.specs.Worlds.{Line}
+use Rattle.p8_access.specs.Worlds.{Line}
 use Rattle.p8_pins.specs.Scripts.{clocks_of}
 use Rattle.p8_pins.specs.Changes.{lines_of, clock_of as clock_in}
 use Rattle.p8_pins.specs.declared.line_text.Change.{Change}

@@ -1,5 +1,5 @@
 use Rattle.std.proofs.Common.{◌≡◌, sym, subst, ℕ, ◌≤◌, List}
-use Rattle.p8_history.specs.Worlds.{Line, level_at}
+use Rattle.p8_access.specs.Worlds.{Line, level_at}
 use Rattle.p8_pins.specs.Matches.{IsBefore}
 use Rattle.p8_wave.proofs.Picturing.{gone, before_end}
 use Rattle.p8_wave.proofs.Taking.{left_later}

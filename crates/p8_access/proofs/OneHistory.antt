@@ -4,9 +4,9 @@ use Rattle.p8_access.specs.declared.kinds.Access.{Access}
 use Rattle.p8_access.specs.declared.order.Key.{Key}
 use Rattle.p8_access.specs.declared.order.Turn.{Turn}
 use Rattle.p8_access.specs.Lives.{Begun}
-use Rattle.p8_history.specs.Worlds.{World}
-use Rattle.p8_history.specs.Histories.{Legal, IsNext, Extends, Ended, answer_to}
-use Rattle.p8_history.proofs.Nexts.{same_key, one-next}
+use Rattle.p8_access.specs.Worlds.{World}
+use Rattle.p8_access.specs.Histories.{Legal, IsNext, Extends, Ended, answer_to}
+use Rattle.p8_access.proofs.Nexts.{same_key, one-next}
 
 -- two numbers are one, or one is greater by some
 apart : (a b : ℕ) → (a ≡ b) ⊎ (((d : ℕ) × (b ≡ suc d + a)) ⊎ ((d : ℕ) × (a ≡ suc d + b)))

@@ -7,8 +7,8 @@ use Rattle.p8_access.specs.declared.kinds.Answer.{Answer}
 use Rattle.p8_access.specs.declared.kinds.Test.{Test}
 use Rattle.p8_access.specs.declared.kinds.Test.TheVariants.{Count, PinsEqual, PinsDiffer}
 use Rattle.p8_access.specs.declared.order.Turn.{Turn}
-use Rattle.p8_history.specs.Hub.{newest, is_number, cogs}
-use Rattle.p8_history.specs.Worlds.{World, level_at}
+use Rattle.p8_access.specs.Hub.{newest, is_number, cogs}
+use Rattle.p8_access.specs.Worlds.{World, level_at}
 
 -- a start, a stop or a halt of a cog clears its OUTA and DIRA
 abbrev pub clears_by : ℕ → (cog : ℕ) → Access → Answer → Option ℕ

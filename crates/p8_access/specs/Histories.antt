@@ -13,11 +13,11 @@ use Rattle.p8_access.specs.declared.order.Key.{Key}
 use Rattle.p8_access.specs.declared.order.Turn.{Turn}
 use Rattle.p8_access.specs.Windows.{window_of, Before}
 use Rattle.p8_access.specs.Lives.{Begun, PasmBegun, SpinBegun}
-use Rattle.p8_history.specs.declared.states.CogState.{CogState}
-use Rattle.p8_history.specs.declared.states.CogState.TheVariants.{Stopped, Starting, Running}
-use Rattle.p8_history.specs.Worlds.{World}
-use Rattle.p8_history.specs.Hub.{read_at, is_set, stopped_cog, free_lock, cog_state, origin_of}
-use Rattle.p8_history.specs.Pins.{pins_at, Holds}
+use Rattle.p8_access.specs.declared.states.CogState.{CogState}
+use Rattle.p8_access.specs.declared.states.CogState.TheVariants.{Stopped, Starting, Running}
+use Rattle.p8_access.specs.Worlds.{World}
+use Rattle.p8_access.specs.Hub.{read_at, is_set, stopped_cog, free_lock, cog_state, origin_of}
+use Rattle.p8_access.specs.Pins.{pins_at, Holds}
 
 -- the answer to an access after a past
 abbrev pub answer_to : World → List Turn → Key → Access → Answer

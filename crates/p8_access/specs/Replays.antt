@@ -2,8 +2,8 @@
 use Rattle.std.specs.Prelude.{ℕ, zero, suc, ◌+◌, ◌≡◌, List, [], map}
 use Rattle.p8_access.specs.declared.kinds.Answer.{Answer}
 use Rattle.p8_access.specs.declared.order.Turn.{Turn}
-use Rattle.p8_courses.specs.Courses.{Course, Told, Wants, Leaves, Closes, told}
-use Rattle.p8_courses.specs.Timing.{Outcome, Asks, Goes, Ends, played}
+use Rattle.p8_access.specs.Courses.{Course, Told, Wants, Leaves, Closes, told}
+use Rattle.p8_access.specs.Timing.{Outcome, Asks, Goes, Ends, played}
 
 -- the cog, the course that follows where the life stands, and the clocks before the first access of that
 pub record Engine (S : Type 0) : Type 0 where

@@ -1,5 +1,5 @@
 // What a cog is doing.
-use p8_access::Origin;
+use crate::kinds::Origin;
 
 /// The state of a cog after a history.
 #[derive(Clone, Copy, Debug, PartialEq, Eq)]

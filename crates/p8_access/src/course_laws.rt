@@ -1,8 +1,8 @@
 // A law of courses. The function does nothing: its contract is the law.
 ghost use Rattle.std.specs.Prelude.{ℕ, List, map};
 ghost use Rattle.p8_access.specs.declared.order.Turn.{Turn};
-ghost use Rattle.p8_courses.specs.Courses.{Course};
-ghost use Rattle.p8_courses.specs.Replays.{Engine, StandAlike, answer_of, replayed, retold};
+ghost use Rattle.p8_access.specs.Courses.{Course};
+ghost use Rattle.p8_access.specs.Replays.{Engine, StandAlike, answer_of, replayed, retold};
 
 /// The clocks change nothing of what is asked: whatever turns a life has had, the reading with clocks and
 /// the one that sees only their answers ask the same access next, or leave the same, or are both over. As

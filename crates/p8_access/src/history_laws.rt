@@ -1,10 +1,10 @@
 // Laws of histories. The functions do nothing: their contracts are the laws.
 ghost use Rattle.std.specs.Prelude.{◌≡◌, ◌++◌, List};
 ghost use Rattle.p8_access.specs.declared.order.Turn.{Turn};
-ghost use Rattle.p8_history.specs.Worlds.{World};
-ghost use Rattle.p8_history.specs.Histories.{Legal, Ended, Rises};
+ghost use Rattle.p8_access.specs.Worlds.{World};
+ghost use Rattle.p8_access.specs.Histories.{Legal, Ended, Rises};
 
-use p8_access::Life;
+use crate::lives::Life;
 
 /// A world has one ended history, whatever kind of life runs in its cogs.
 pub fn one_history<L: Life>()

@@ -4,9 +4,9 @@ use Rattle.p8_access.specs.declared.kinds.Access.{Access}
 use Rattle.p8_access.specs.declared.kinds.Answer.{Answer}
 use Rattle.p8_access.specs.declared.order.Turn.{Turn}
 use Rattle.p8_access.specs.Lives.{is_last}
-use Rattle.p8_courses.specs.Courses.{Course, Finish, Stop, Ask, Told, Wants, Leaves, Closes, told}
-use Rattle.p8_courses.specs.Timing.{Outcome, Asks, Goes, Ends, behind, played}
-use Rattle.p8_courses.specs.Replays.{Engine, step, after, replayed, told_step, told_after, retold, answer_of, StandAlike}
+use Rattle.p8_access.specs.Courses.{Course, Finish, Stop, Ask, Told, Wants, Leaves, Closes, told}
+use Rattle.p8_access.specs.Timing.{Outcome, Asks, Goes, Ends, behind, played}
+use Rattle.p8_access.specs.Replays.{Engine, step, after, replayed, told_step, told_after, retold, answer_of, StandAlike}
 
 if-alike : {S : Type 0} (b : Bool) (o : Outcome S) (t : Told S) (made : List Access) → StandAlike o t → StandAlike (if b then Ends else o) (if b then Closes made else t)
 if-alike true o t made alike = tt

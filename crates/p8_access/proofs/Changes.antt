@@ -6,9 +6,9 @@ use Rattle.p8_access.specs.declared.kinds.Access.{Access}
 use Rattle.p8_access.specs.declared.kinds.Access.TheVariants.{Begin, Load, Read, Write, CogId, CogInit, CogStop, LockNew, LockRet, LockSet, LockClr, ClkSet, PinsIn, OutSet, DirSet, Wait, Clock, Halt}
 use Rattle.p8_access.specs.declared.kinds.Answer.{Answer}
 use Rattle.p8_access.specs.declared.order.Turn.{Turn}
-use Rattle.p8_history.specs.Worlds.{World}
-use Rattle.p8_history.specs.Hub.{is_number, Change, Starts, Runs, change_by, cog_state, origin_of}
-use Rattle.p8_history.specs.Histories.{begins_life, is_begin, begun, begun_at, since_begin}
+use Rattle.p8_access.specs.Worlds.{World}
+use Rattle.p8_access.specs.Hub.{is_number, Change, Starts, Runs, change_by, cog_state, origin_of}
+use Rattle.p8_access.specs.Histories.{begins_life, is_begin, begun, begun_at, since_begin}
 
 -- a cog is another one, or the same
 pub decided : (a b : ℕ) → ((a == b) ≡ true) ⊎ ((a == b) ≡ false)

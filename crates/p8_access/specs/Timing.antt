@@ -6,7 +6,7 @@ use Rattle.p8_access.specs.declared.kinds.Access.TheVariants.{PinsIn, OutSet, Di
 use Rattle.p8_access.specs.declared.order.Turn.{Turn}
 use Rattle.p8_access.specs.Windows.{window_of}
 use Rattle.p8_access.specs.Lives.{is_last}
-use Rattle.p8_courses.specs.Courses.{Course, Finish, Stop, Ask}
+use Rattle.p8_access.specs.Courses.{Course, Finish, Stop, Ask}
 
 -- the earliest clock of an access that is asked at p: the pins and the counter are read 2 clocks later, OUTA
 -- and DIRA written 3 clocks later, a wait begins 4 clocks later, a halt comes at once, and each access of

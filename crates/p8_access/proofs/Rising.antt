@@ -8,14 +8,14 @@ use Rattle.p8_access.specs.declared.kinds.Answer.{Answer}
 use Rattle.p8_access.specs.declared.order.Turn.{Turn}
 use Rattle.p8_access.specs.Windows.{Before, window_of}
 use Rattle.p8_access.specs.Lives.{Begun, first_turn_of, IsTurnAt}
-use Rattle.p8_history.specs.declared.states.CogState.{CogState}
-use Rattle.p8_history.specs.declared.states.CogState.TheVariants.{Stopped, Starting, Running}
-use Rattle.p8_history.specs.Worlds.{World}
+use Rattle.p8_access.specs.declared.states.CogState.{CogState}
+use Rattle.p8_access.specs.declared.states.CogState.TheVariants.{Stopped, Starting, Running}
+use Rattle.p8_access.specs.Worlds.{World}
 use Rattle.p8_access.specs.declared.kinds.Reason.TheVariants.{Rom}
-use Rattle.p8_history.specs.Hub.{Change, Starts, Runs, Stops, change_by, change_of, changed, cog_state, origin_of}
-use Rattle.p8_history.specs.Histories.{Legal, IsNext, IsNextIn, IsNextRunning, Extends, IsDue, Rises, begun, begun_at, since_begin, first_access}
-use Rattle.p8_history.proofs.Nexts.{other_key, due-late, due-on_time, some-injective}
-use Rattle.p8_history.proofs.Changes.{decided, same-cog, differ-cog, starts-at, runs-begins, none-begins, not-picked, begun-same, begun-new, since_begin-new, since_begin-own, since_begin-other}
+use Rattle.p8_access.specs.Hub.{Change, Starts, Runs, Stops, change_by, change_of, changed, cog_state, origin_of}
+use Rattle.p8_access.specs.Histories.{Legal, IsNext, IsNextIn, IsNextRunning, Extends, IsDue, Rises, begun, begun_at, since_begin, first_access}
+use Rattle.p8_access.proofs.Nexts.{other_key, due-late, due-on_time, some-injective}
+use Rattle.p8_access.proofs.Changes.{decided, same-cog, differ-cog, starts-at, runs-begins, none-begins, not-picked, begun-same, begun-new, since_begin-new, since_begin-own, since_begin-other}
 
 loaded-changes : (n clock cog : ℕ) (fits : Bool) (answer : Answer) → (cog == n) ≡ true → change_by n clock cog (if fits then Load else Halt (Rom 32768)) answer ≡ None → ⊥
 loaded-changes n clock cog true answer own e = let f = not-picked (cog == n) _ e in cc

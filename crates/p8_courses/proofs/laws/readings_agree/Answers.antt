@@ -1,5 +1,0 @@
-use Rattle.p8_courses.specs.Agreeing.{readings-agree}
-use Rattle.p8_courses.proofs.laws.readings_agree.Goals as goal
-
-pub returns : goal.returns
-returns g c = λ e start count first turns. readings-agree e start count first turns
