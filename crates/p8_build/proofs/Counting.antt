@@ -6,7 +6,7 @@ use Rattle.std.proofs.lemmas.List.{replicate_more}
 use Rattle.std.proofs.lemmas.Slice.Eq.{bytes_eq-Decides}
 use Rattle.p8_tree.specs.declared.projects.ProjectFile.{ProjectFile}
 use Rattle.p8_tree.specs.Views.{named_source_of}
-use Rattle.p8_definitions.proofs.Listed.{rest_is}
+use Rattle.p8_constants.proofs.Listed.{rest_is}
 use Rattle.p8_build.specs.Parts.{number_of}
 
 -- ---- the number of a file

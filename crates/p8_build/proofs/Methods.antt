@@ -7,8 +7,8 @@ use Rattle.p8_tree.specs.Sources as trees
 use Rattle.p8_tree.specs.Sources.{MethodTree, BlockTree, Source}
 use Rattle.p8_tree.specs.Proper.{IsProperMethod, IsProperBlock, IsProperFile}
 use Rattle.p8_faults.specs.declared.faults.Fault.{Fault}
-use Rattle.p8_definitions.specs.Items.{Item, constant, variable, object, method, line, block_items, items}
-use Rattle.p8_definitions.specs.Rules.{has_public}
+use Rattle.p8_constants.specs.FileItems.{Item, constant, variable, object, method, line, block_items, items}
+use Rattle.p8_constants.specs.Rules.{has_public}
 use Rattle.p8_names.specs.Kinds.{public_in, private_in, methods, publics, privates, numbered}
 use Rattle.p8_names.specs.Faults.{InMethods}
 

@@ -8,8 +8,8 @@ use Rattle.p8_tree.specs.Sources.{MethodTree}
 use Rattle.p8_faults.specs.declared.faults.Fault.{Fault}
 use Rattle.p8_faults.specs.Faults.{fault, FaultBefore, IsFirstFault}
 use Rattle.p8_fold.specs.Verdicts.{first_of_two}
-use Rattle.p8_definitions.specs.Standing.{IsFirstOf}
-use Rattle.p8_definitions.proofs.FirstFaults.{IsSoFar, so_far_begin, so_far_same, so_far_then, so_far_end}
+use Rattle.p8_constants.specs.Standing.{IsFirstOf}
+use Rattle.p8_constants.proofs.FirstFaults.{IsSoFar, so_far_begin, so_far_same, so_far_then, so_far_end}
 use Rattle.p8_gen.specs.Names.{Names}
 use Rattle.p8_image.specs.declared.parts.MethodPart.{MethodPart}
 use Rattle.p8_stmt.specs.declared.code.MethodCode.{MethodCode}

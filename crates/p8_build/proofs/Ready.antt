@@ -8,8 +8,8 @@ use Rattle.p8_tree.specs.Proper.{IsProperFile}
 use Rattle.p8_tree.specs.Sources.{Declared, MethodTree, Source}
 use Rattle.p8_faults.specs.declared.faults.Fault.{Fault}
 use Rattle.p8_fold.specs.Meanings.{Setting}
-use Rattle.p8_definitions.specs.Items.{Item, constant, variable, object, method, line, items}
-use Rattle.p8_definitions.specs.Names.{name_of}
+use Rattle.p8_constants.specs.FileItems.{Item, constant, variable, object, method, line, items}
+use Rattle.p8_constants.specs.Names.{name_of}
 use Rattle.p8_kinds.specs.declared.children.Child.{Child}
 use Rattle.p8_kinds.specs.declared.children.ChildMethod.{ChildMethod}
 use Rattle.p8_kinds.specs.declared.children.Children.{Children}
@@ -25,7 +25,7 @@ use Rattle.p8_names.specs.Settings.{has_name, predefined_value}
 use Rattle.p8_names.specs.Kinds.{numbered, own_kind, own_kinds, method_setting, file_kind, kind_among, kind_or, item_kind, param_kinds, result_kind, local_kinds, kind_in_method}
 use Rattle.p8_names.specs.Faults.{in_method, IsMethodFault, IsNameFault, of_name, of_method}
 use Rattle.p8_names.specs.Resolution.{IsNamed}
-use Rattle.p8_definitions.specs.Rules.{count_in}
+use Rattle.p8_constants.specs.Rules.{count_in}
 use Rattle.p8_gen.specs.Expressions.{method_number}
 use Rattle.p8_gen.specs.Files.{kind_here, names_in}
 use Rattle.p8_gen.specs.Operations.{HasBytes, HaveBytes}

@@ -8,8 +8,8 @@ use Rattle.p8_faults.specs.declared.faults.Fault.{Fault}
 use Rattle.p8_faults.specs.Faults.{IsFirstFault}
 use Rattle.p8_fold.specs.Entries.{setting_of as setting_in}
 use Rattle.p8_fold.specs.Verdicts.{first_of_two}
-use Rattle.p8_definitions.specs.Items.{Item, items}
-use Rattle.p8_definitions.specs.Standing.{IsFirstOf}
+use Rattle.p8_constants.specs.FileItems.{Item, items}
+use Rattle.p8_constants.specs.Standing.{IsFirstOf}
 use Rattle.p8_kinds.specs.declared.children.Children.{Children}
 use Rattle.p8_kinds.specs.declared.kinds.Kinds.{Kinds}
 use Rattle.p8_kinds.specs.Kinds.{own}

@@ -12,8 +12,8 @@ use Rattle.p8_bytecode.specs.declared.op.Op.{Op}
 use Rattle.p8_bytecode.specs.Spelling.{spelled}
 use Rattle.p8_faults.specs.declared.faults.Fault.{Fault}
 use Rattle.p8_faults.specs.Faults.{fault, IsFirstFault, Refusal, IsFirstRefusal}
-use Rattle.p8_definitions.specs.Items.{items}
-use Rattle.p8_definitions.specs.Rules.{has_public}
+use Rattle.p8_constants.specs.FileItems.{items}
+use Rattle.p8_constants.specs.Rules.{has_public}
 use Rattle.p8_kinds.specs.declared.children.Children.{Children}
 use Rattle.p8_kinds.specs.declared.kinds.Kinds.{Kinds}
 use Rattle.p8_kinds.specs.declared.named.Named.{Named}

@@ -5,7 +5,7 @@ use Rattle.p8_tree.specs.Sources.{MethodTree}
 use Rattle.p8_faults.specs.declared.faults.Fault.{Fault}
 use Rattle.p8_faults.specs.Faults.{fault, IsFirstFault}
 use Rattle.p8_fold.specs.Verdicts.{first_of_two}
-use Rattle.p8_definitions.specs.Standing.{IsFirstOf}
+use Rattle.p8_constants.specs.Standing.{IsFirstOf}
 use Rattle.p8_gen.specs.Names.{Names}
 use Rattle.p8_gen.specs.Scopes.{names_from}
 use Rattle.p8_image.specs.declared.parts.MethodPart.{MethodPart}

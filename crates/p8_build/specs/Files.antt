@@ -5,7 +5,7 @@ use Rattle.p8_tree.specs.Projects.{NamedSource}
 use Rattle.p8_faults.specs.declared.faults.Fault.{Fault}
 use Rattle.p8_faults.specs.Faults.{fault}
 use Rattle.p8_fold.specs.Meanings.{Setting}
-use Rattle.p8_definitions.specs.Items.{items}
+use Rattle.p8_constants.specs.FileItems.{items}
 use Rattle.p8_kinds.specs.declared.children.Children.{Children}
 use Rattle.p8_kinds.specs.declared.kinds.Kinds.{Kinds}
 use Rattle.p8_kinds.specs.declared.name_kinds.Label.{Label}

@@ -11,8 +11,8 @@ use Rattle.p8_tree.specs.Sources.{Declared, MethodTree, Source}
 use Rattle.p8_tree.specs.Projects.{NamedSource}
 use Rattle.p8_faults.specs.Faults.{is_same_place}
 use Rattle.p8_fold.specs.Meanings.{Setting}
-use Rattle.p8_definitions.specs.Items.{Item, variable, items}
-use Rattle.p8_definitions.specs.Rules.{count_in}
+use Rattle.p8_constants.specs.FileItems.{Item, variable, items}
+use Rattle.p8_constants.specs.Rules.{count_in}
 use Rattle.p8_names.specs.Kinds.{numbered, objects, instances}
 use Rattle.p8_strings.specs.Strings.{strings_in}
 use Rattle.p8_image.specs.declared.parts.Variable.{Variable}

@@ -3,12 +3,12 @@ ghost use Rattle.std.specs.Prelude.{◌≡◌, ◌+◌, ◌*◌, ◌^◌, ◌<�
 ghost use Rattle.p8_tree.specs.Views.{method_of};
 ghost use Rattle.p8_fold.specs.Entries.{setting_of};
 ghost use Rattle.p8_stmt.specs.Methods.{AreResolved};
-ghost use Rattle.p8_definitions.specs.Standing.{IsFirstOf};
+ghost use Rattle.p8_constants.specs.Standing.{IsFirstOf};
 ghost use Rattle.p8_build.specs.Numbers.{number_by};
 ghost use Rattle.p8_build.specs.Coding.{part_by, parts_by, names_by, AreReady, IsOneTooMany, IsCoded, IsOneMore};
 
 use crate::texts::TextNumbers;
-use p8_definitions::first_of_two;
+use p8_constants::first_of_two;
 use p8_faults::Fault;
 use p8_gen::Tables;
 use p8_image::MethodPart;

@@ -4,8 +4,8 @@ use Rattle.std.proofs.lemmas.Option.{slice_get_within}
 use Rattle.p8_tree.specs.Projects.{NamedSource}
 use Rattle.p8_tree.specs.Sources.{Source}
 use Rattle.p8_faults.specs.Faults.{fault}
-use Rattle.p8_definitions.specs.Items.{items}
-use Rattle.p8_definitions.specs.Rules.{has_public}
+use Rattle.p8_constants.specs.FileItems.{items}
+use Rattle.p8_constants.specs.Rules.{has_public}
 use Rattle.p8_kinds.specs.declared.children.Children.{Children}
 use Rattle.p8_names.specs.Faults.{of_name, no_pub}
 use Rattle.p8_names.specs.Kinds.{numbered}

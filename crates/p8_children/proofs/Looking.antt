@@ -10,9 +10,9 @@ use Rattle.p8_tree.specs.Sources as trees
 use Rattle.p8_tree.specs.Projects.{NamedSource}
 use Rattle.p8_tree.specs.Views.{source_of, named_source_of}
 use Rattle.p8_tree.specs.declared.projects.ProjectFile.{ProjectFile}
-use Rattle.p8_components.specs.Graphs.{targets_of, IsEdge, Reaches}
-use Rattle.p8_components.specs.Orders.{ComesNoLater}
-use Rattle.p8_components.proofs.Numbers.{edge_within}
+use Rattle.p8_constants.specs.Graphs.{targets_of, IsEdge, Reaches}
+use Rattle.p8_constants.specs.Orders.{ComesNoLater}
+use Rattle.p8_constants.proofs.Numbers.{edge_within}
 use Rattle.p8_kinds.specs.declared.children.Child.{Child}
 use Rattle.p8_kinds.specs.declared.children.Children.{Children}
 use Rattle.p8_children.specs.Mentions.{mentions, HaveNoRing}

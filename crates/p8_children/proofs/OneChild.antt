@@ -9,8 +9,8 @@ use Rattle.p8_fold.specs.Meanings.{Setting}
 use Rattle.p8_constants.specs.Items as con
 use Rattle.p8_constants.specs.Constants.{scope_of}
 use Rattle.p8_constants.proofs.OneValue.{has_one}
-use Rattle.p8_definitions.specs.Items.{items}
-use Rattle.p8_definitions.specs.Names.{predefined_names}
+use Rattle.p8_constants.specs.FileItems.{items}
+use Rattle.p8_constants.specs.Names.{predefined_names}
 use Rattle.p8_kinds.specs.declared.children.Child.{Child}
 use Rattle.p8_kinds.specs.declared.children.ChildMethod.{ChildMethod}
 use Rattle.p8_kinds.specs.declared.children.ChildConst.{ChildConst}

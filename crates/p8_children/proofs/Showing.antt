@@ -9,8 +9,8 @@ use Rattle.std.proofs.lemmas.List.Elements.{filter_map-append}
 use Rattle.std.proofs.lemmas.Slice.Eq.{bytes_eq-Decides}
 use Rattle.p8_tree.specs.Sources as trees
 use Rattle.p8_fold.specs.Meanings.{Setting}
-use Rattle.p8_definitions.specs.declared.items.Item.{Item}
-use Rattle.p8_definitions.specs.Standing.{item_of, items_of}
+use Rattle.p8_constants.specs.declared.items.Item.{Item}
+use Rattle.p8_constants.specs.Standing.{item_of, items_of}
 use Rattle.p8_kinds.specs.declared.children.ChildMethod.{ChildMethod}
 use Rattle.p8_kinds.specs.declared.children.ChildConst.{ChildConst}
 use Rattle.p8_names.specs.Settings.{is_one_of}

@@ -8,8 +8,8 @@ use Rattle.p8_tree.specs.Sources.{Child}
 use Rattle.p8_tree.specs.Projects.{NamedSource}
 use Rattle.p8_tree.specs.Views.{source_of, named_source_of}
 use Rattle.p8_tree.specs.declared.projects.ProjectFile.{ProjectFile}
-use Rattle.p8_components.specs.Graphs.{targets_of, IsEdge, HasItsTargets, Reaches, itself, along}
-use Rattle.p8_components.proofs.Numbers.{edge_within}
+use Rattle.p8_constants.specs.Graphs.{targets_of, IsEdge, HasItsTargets, Reaches, itself, along}
+use Rattle.p8_constants.proofs.Numbers.{edge_within}
 use Rattle.p8_children.specs.Mentions.{mentions, IsNamed, Mentions, Leads, there, over, HaveMentioned}
 use Rattle.p8_children.specs.Finding.{HasNumbers, AreTargets, IsGraphOf}
 use Rattle.p8_children.proofs.Numbering.{given, named_within}

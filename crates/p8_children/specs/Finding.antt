@@ -4,7 +4,7 @@ use Rattle.std.specs.List.{filter_map}
 use Rattle.p8_tree.specs.Sources as trees
 use Rattle.p8_tree.specs.Sources.{Source}
 use Rattle.p8_tree.specs.Projects.{NamedSource}
-use Rattle.p8_components.specs.Graphs.{targets_of}
+use Rattle.p8_constants.specs.Graphs.{targets_of}
 use Rattle.p8_kinds.specs.declared.children.Child.{Child}
 use Rattle.p8_kinds.specs.declared.children.Children.{Children}
 use Rattle.p8_children.specs.Mentions.{IsNamed, mentions}

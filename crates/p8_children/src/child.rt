@@ -2,14 +2,14 @@
 ghost use Rattle.std.specs.Prelude.{◌≡◌, ℕ, List, ◌++◌, Some, IfOk, OnOk};
 ghost use Rattle.p8_tree.specs.Views.{method_of, source_of};
 ghost use Rattle.p8_fold.specs.Entries.{setting_of};
-ghost use Rattle.p8_definitions.specs.Items.{method as method_tree};
-ghost use Rattle.p8_definitions.specs.Names.{predefined_names};
-ghost use Rattle.p8_definitions.specs.Standing.{item_of, items_of, Holds};
+ghost use Rattle.p8_constants.specs.FileItems.{method as method_tree};
+ghost use Rattle.p8_constants.specs.Names.{predefined_names};
+ghost use Rattle.p8_constants.specs.Standing.{item_of, items_of, Holds};
 ghost use Rattle.p8_names.specs.Settings.{is_one_of};
 ghost use Rattle.p8_names.specs.Kinds.{value_in};
 ghost use Rattle.p8_children.specs.Children.{shown_name, method_at, methods_from, named_constant, constant_at, constants_from, behind, IsChildOf};
 
-use p8_definitions::{Item, NameSet, items_of, predefined_names};
+use p8_constants::{Item, NameSet, items_of, predefined_names};
 use p8_fold::{Consts, Meaning};
 use p8_kinds::{Child, ChildConst, ChildMethod, Children};
 use p8_names::constants_in;

@@ -8,7 +8,7 @@ ghost use Rattle.p8_children.specs.Finding.{AreDone, IsLookedAt, NoneLeadsOn};
 use crate::child::child_of;
 use crate::copies::children_at;
 use crate::graph::graph_of;
-use p8_components::{Graph, components, in_order};
+use p8_constants::{Graph, components, in_order};
 use p8_kinds::{Child, Children};
 use p8_tree::{List, Project, SourceFile};
 use p8_words::NoMemory;

@@ -4,14 +4,13 @@ ghost use Rattle.std.specs.Option.{option_to_list};
 ghost use Rattle.std.specs.List.{filter_map};
 ghost use Rattle.p8_tree.specs.Views.{named_sources_of, source_of};
 ghost use Rattle.p8_fold.specs.Entries.{at_bytes};
-ghost use Rattle.p8_definitions.specs.Standing.{item_of};
+ghost use Rattle.p8_constants.specs.Standing.{item_of};
 ghost use Rattle.p8_names.specs.Kinds.{object_in};
 ghost use Rattle.p8_children.specs.Mentions.{mentions, HaveMentioned};
 ghost use Rattle.p8_children.specs.Finding.{IsGraphOf};
 
 use crate::numbers::Numbers;
-use p8_components::Graph;
-use p8_definitions::{Item, items_of};
+use p8_constants::{Graph, Item, items_of};
 use p8_tree::{Project, SourceFile};
 use p8_words::NoMemory;
 use std::alloc::{AllocError, Global};

@@ -4,8 +4,8 @@ use Rattle.std.specs.Prelude.{Contains, MatchOption, if◌then◌else◌, option
 use Rattle.std.proofs.lemmas.Bool.{cases_Bool, cases_lt, cases_eq, ltb-true, ltb-false}
 use Rattle.std.proofs.lemmas.List.{length-set, get_or-set_same, get_or-set_other, get_or_default}
 use Rattle.std.proofs.Math.Logic.{⊎_elim}
-use Rattle.p8_components.specs.Graphs.{IsEdge}
-use Rattle.p8_components.proofs.Numbers.{edge_within}
+use Rattle.p8_constants.specs.Graphs.{IsEdge}
+use Rattle.p8_constants.proofs.Numbers.{edge_within}
 use Rattle.p8_tree.specs.Sources.{Source}
 use Rattle.p8_faults.specs.declared.faults.Fault.{Fault}
 use Rattle.p8_faults.specs.Faults.{IsFirstFault}

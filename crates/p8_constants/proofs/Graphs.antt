@@ -4,9 +4,9 @@ use Rattle.std.specs.Prelude.{Contains, if◌then◌else◌, is_some, option_map
 use Rattle.std.specs.List.{filter_map}
 use Rattle.std.proofs.lemmas.Bool.{cases_Bool}
 use Rattle.std.proofs.lemmas.List.Elements.{Contains-append_cases, Contains-append_left, Contains-push}
-use Rattle.p8_components.specs.Graphs.{targets_of, IsEdge, Reaches, itself, along}
-use Rattle.p8_components.proofs.Paths.{edge}
-use Rattle.p8_components.proofs.Numbers.{falls_along}
+use Rattle.p8_constants.specs.Graphs.{targets_of, IsEdge, Reaches, itself, along}
+use Rattle.p8_constants.proofs.Paths.{edge}
+use Rattle.p8_constants.proofs.Numbers.{falls_along}
 use Rattle.p8_tree.specs.Expressions.{Tree}
 use Rattle.p8_tree.specs.Sources.{Source}
 use Rattle.p8_fold.specs.declared.meanings.Meaning.{Meaning}

@@ -13,8 +13,8 @@ use Rattle.std.proofs.lemmas.List.Elements.{Contains-push_cases, filter_map-appe
 use Rattle.p8_tree.specs.Expressions.{Tree}
 use Rattle.p8_fold.specs.declared.meanings.Meaning.{Meaning}
 use Rattle.p8_fold.specs.Meanings.{Setting}
-use Rattle.p8_components.specs.Graphs.{HasItsTargets}
-use Rattle.p8_components.proofs.Numbers.{edge_within}
+use Rattle.p8_constants.specs.Graphs.{HasItsTargets}
+use Rattle.p8_constants.proofs.Numbers.{edge_within}
 use Rattle.p8_constants.specs.declared.rows.Move.{Move}
 use Rattle.p8_constants.specs.declared.rows.Move.TheVariants.{Sets, Stays, Counts, Steps}
 use Rattle.p8_constants.specs.Items.{zero_sum}

@@ -1,3 +1,11 @@
+pub mod Paths
+pub mod Totals
+pub mod Entering
+pub mod Following
+pub mod Finishing
+pub mod Closing
+pub mod Numbers
+pub mod Orders
 pub mod Agreeing
 pub mod OneValue
 pub mod Ordering
@@ -12,3 +20,9 @@ pub mod Growing
 pub mod Finding
 pub mod Stepping
 pub mod Examples
+pub mod Blocks
+pub mod Sets
+pub mod Listed
+pub mod FirstFaults
+pub mod Repeating
+pub mod Walking

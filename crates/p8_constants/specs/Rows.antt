@@ -6,8 +6,8 @@ use Rattle.p8_tree.specs.declared.sources.ConItem.{ConItem}
 use Rattle.p8_tree.specs.Views.{constant_of}
 use Rattle.p8_tree.specs.Expressions.{Tree}
 use Rattle.p8_tree.specs.Sources.{Constant, Source, Con}
-use Rattle.p8_components.specs.Graphs.{IsEdge, Reaches}
-use Rattle.p8_components.specs.Orders.{ComesNoLater}
+use Rattle.p8_constants.specs.Graphs.{IsEdge, Reaches}
+use Rattle.p8_constants.specs.Orders.{ComesNoLater}
 use Rattle.p8_faults.specs.declared.faults.Fault.{Fault}
 use Rattle.p8_faults.specs.Faults.{earlier, IsFirstFault}
 use Rattle.p8_fold.specs.declared.meanings.Meaning.{Meaning}

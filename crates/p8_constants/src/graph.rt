@@ -6,10 +6,10 @@ ghost use Rattle.p8_tree.specs.Views.{constant_of, tree_of};
 ghost use Rattle.p8_fold.specs.Entries.{at_bytes};
 ghost use Rattle.p8_constants.specs.Rows.{rows_from, nodes_by, nodes_behind, nodes_of_counter, IsGraphBy};
 
+use crate::directed_graph::Graph;
 use crate::index::Index;
 use crate::mentions::{Names, names_in};
 use crate::rows::{Move, Rows, move_of};
-use p8_components::Graph;
 use p8_tree::{ConItem, Expr};
 use p8_words::NoMemory;
 use std::alloc::{AllocError, Global};

@@ -6,8 +6,9 @@ ghost use Rattle.p8_constants.specs.Rows.{rows_from, rows_of, IsPlan};
 
 use crate::graph::graph_of;
 use crate::index::Index;
+use crate::node_order::in_order;
+use crate::numbering::components;
 use crate::rows::Rows;
-use p8_components::{components, in_order};
 use p8_fold::Consts;
 use p8_tree::SourceFile;
 use p8_words::NoMemory;

@@ -7,7 +7,7 @@ use Rattle.p8_tree.specs.declared.places.Place.{Place}
 use Rattle.p8_tree.specs.Sources as trees
 use Rattle.p8_tree.specs.Sources.{BlockTree, Child, Con, Var, Obj, Method, Dat, Source}
 use Rattle.p8_tree.specs.Projects.{NamedSource}
-use Rattle.p8_definitions.specs.Items.{block_items, items, constant, variable, object, line}
+use Rattle.p8_constants.specs.FileItems.{block_items, items, constant, variable, object, line}
 use Rattle.p8_names.specs.Kinds.{object_in, objects}
 use Rattle.p8_io.specs.Shelves.{Files}
 use Rattle.p8_objects.specs.Lists.{IsAt}

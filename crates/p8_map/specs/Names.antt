@@ -7,8 +7,8 @@ use Rattle.p8_tree.specs.Expressions.{Tree}
 use Rattle.p8_tree.specs.Sources.{Child, Declared, MethodTree}
 use Rattle.p8_tree.specs.Projects.{NamedSource}
 use Rattle.p8_fold.specs.Meanings.{Setting}
-use Rattle.p8_definitions.specs.Items.{Item, variable, items}
-use Rattle.p8_definitions.specs.Rules.{count_in}
+use Rattle.p8_constants.specs.FileItems.{Item, variable, items}
+use Rattle.p8_constants.specs.Rules.{count_in}
 use Rattle.p8_names.specs.Kinds.{numbered, objects}
 use Rattle.p8_kinds.specs.declared.name_kinds.Label.{Label}
 use Rattle.p8_map.specs.declared.names.LocalName.{LocalName}

@@ -6,9 +6,9 @@ use Rattle.std.specs.Prelude.{min, if◌then◌else◌, nat_lt, not}
 use Rattle.std.specs.List.{flat_map}
 use Rattle.p8_tree.specs.Sources.{Child}
 use Rattle.p8_fold.specs.Meanings.{Setting}
-use Rattle.p8_definitions.specs.declared.items.Item as code
-use Rattle.p8_definitions.specs.Items.{Item, constant, variable, object, method, line}
-use Rattle.p8_definitions.specs.Standing.{item_of, items_of}
+use Rattle.p8_constants.specs.declared.items.Item as code
+use Rattle.p8_constants.specs.FileItems.{Item, constant, variable, object, method, line}
+use Rattle.p8_constants.specs.Standing.{item_of, items_of}
 use Rattle.p8_names.specs.declared.next_kinds.Next.{Next}
 use Rattle.p8_names.specs.Kinds.{greatest_offset, greatest_number, bytes_in, room, offset_in, public_in, private_in, object_in, publics, privates, objects, instances, position_in}
 use Rattle.p8_names.specs.Counting.{IsNext, HasNoPart}

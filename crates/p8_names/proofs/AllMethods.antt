@@ -6,8 +6,8 @@ use Rattle.p8_faults.specs.declared.faults.Fault.{Fault}
 use Rattle.p8_fold.specs.Entries.{setting_of}
 use Rattle.p8_fold.specs.Meanings.{Setting}
 use Rattle.p8_fold.specs.Verdicts.{first_of_two}
-use Rattle.p8_definitions.specs.Items.{Item, constant, variable, object, method, line, items}
-use Rattle.p8_definitions.specs.Standing.{items_of, IsFirstOf}
+use Rattle.p8_constants.specs.FileItems.{Item, constant, variable, object, method, line, items}
+use Rattle.p8_constants.specs.Standing.{items_of, IsFirstOf}
 use Rattle.p8_kinds.specs.declared.children.Children.{Children}
 use Rattle.p8_kinds.specs.declared.kinds.Kinds.{Kinds}
 use Rattle.p8_kinds.specs.Kinds.{own}

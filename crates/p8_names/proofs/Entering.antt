@@ -7,11 +7,11 @@ use Rattle.std.specs.Prelude.{if◌then◌else◌}
 use Rattle.std.specs.Map.{lookup}
 use Rattle.std.specs.Str.{bytes_eq}
 use Rattle.p8_fold.specs.Meanings.{Setting}
-use Rattle.p8_definitions.specs.declared.items.Item as code
-use Rattle.p8_definitions.specs.declared.language.NamedConstant.{NamedConstant}
-use Rattle.p8_definitions.specs.Items.{Item}
-use Rattle.p8_definitions.specs.Names.{name_of, predefined}
-use Rattle.p8_definitions.specs.Standing.{item_of, items_of, valued}
+use Rattle.p8_constants.specs.declared.items.Item as code
+use Rattle.p8_constants.specs.declared.language.NamedConstant.{NamedConstant}
+use Rattle.p8_constants.specs.FileItems.{Item}
+use Rattle.p8_constants.specs.Names.{name_of, predefined}
+use Rattle.p8_constants.specs.Standing.{item_of, items_of, valued}
 use Rattle.p8_kinds.specs.declared.kinds.Kinds.{Kinds}
 use Rattle.p8_kinds.specs.declared.name_kinds.NameKind.{NameKind}
 use Rattle.p8_kinds.specs.declared.name_kinds.NameKind.TheVariants as kind

@@ -2,8 +2,8 @@
 use Rattle.std.proofs.Common.{◌≡◌, ℕ, Bool, true, false, ◌<◌, ◌≤◌, List, Option, Some, None, refl, ap, ◌∙◌, arith}
 use Rattle.std.specs.Prelude.{if◌then◌else◌, not}
 use Rattle.p8_fold.specs.Entries.{setting_of}
-use Rattle.p8_definitions.specs.Items.{Item}
-use Rattle.p8_definitions.specs.Names.{is_local}
+use Rattle.p8_constants.specs.FileItems.{Item}
+use Rattle.p8_constants.specs.Names.{is_local}
 use Rattle.p8_kinds.specs.declared.kinds.Kinds.{Kinds}
 use Rattle.p8_kinds.specs.declared.scope.Scope.{Scope}
 use Rattle.p8_kinds.specs.Environments.{environment_of}

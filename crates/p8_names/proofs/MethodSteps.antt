@@ -8,8 +8,8 @@ use Rattle.std.specs.Str.{bytes_eq}
 use Rattle.p8_tree.specs.Sources.{MethodTree}
 use Rattle.p8_faults.specs.declared.faults.Fault.{Fault}
 use Rattle.p8_fold.specs.Meanings.{Setting}
-use Rattle.p8_definitions.specs.Items.{Item}
-use Rattle.p8_definitions.specs.Standing.{IsFirstOf}
+use Rattle.p8_constants.specs.FileItems.{Item}
+use Rattle.p8_constants.specs.Standing.{IsFirstOf}
 use Rattle.p8_kinds.specs.declared.kinds.Kinds.{Kinds}
 use Rattle.p8_kinds.specs.Environments.{Environment}
 use Rattle.p8_kinds.specs.Kinds.{own, or_else}

@@ -10,11 +10,11 @@ use Rattle.std.specs.Str.{bytes_eq}
 use Rattle.p8_fold.specs.declared.meanings.Meaning.{Meaning}
 use Rattle.p8_fold.specs.declared.meanings.Meaning.TheVariants as meaning_case
 use Rattle.p8_fold.specs.Meanings.{Setting, outside_operands}
-use Rattle.p8_definitions.specs.declared.name_set.NameSet.{NameSet}
-use Rattle.p8_definitions.specs.Standing.{Holds, item_of, items_of}
-use Rattle.p8_definitions.specs.Items as items
-use Rattle.p8_definitions.specs.Names.{predefined}
-use Rattle.p8_definitions.specs.declared.items.Item as code
+use Rattle.p8_constants.specs.declared.name_set.NameSet.{NameSet}
+use Rattle.p8_constants.specs.Standing.{Holds, item_of, items_of}
+use Rattle.p8_constants.specs.FileItems as items
+use Rattle.p8_constants.specs.Names.{predefined}
+use Rattle.p8_constants.specs.declared.items.Item as code
 use Rattle.p8_kinds.specs.declared.children.Child.{Child}
 use Rattle.p8_names.specs.Settings.{constant_of_child, constants_of, constant_behind, definition, meaning_outside, outside_of, with_children, children_behind, object_with}
 use Rattle.p8_names.specs.Changes.{HasConstants, HasConstantsOf, HasObjects, HasNames, over, IsSameOutside, IsOutside}

@@ -9,12 +9,12 @@ use Rattle.std.specs.Str.{bytes_eq}
 use Rattle.p8_fold.specs.declared.meanings.Meaning.{Meaning}
 use Rattle.p8_fold.specs.declared.meanings.Meaning.TheVariants as meaning_case
 use Rattle.p8_fold.specs.Meanings.{Setting, entry}
-use Rattle.p8_definitions.specs.Items as items
-use Rattle.p8_definitions.specs.declared.items.Item as code
-use Rattle.p8_definitions.specs.declared.language.NamedConstant.{NamedConstant}
-use Rattle.p8_definitions.specs.Standing.{item_of, items_of, valued}
+use Rattle.p8_constants.specs.FileItems as items
+use Rattle.p8_constants.specs.declared.items.Item as code
+use Rattle.p8_constants.specs.declared.language.NamedConstant.{NamedConstant}
+use Rattle.p8_constants.specs.Standing.{item_of, items_of, valued}
 use Rattle.p8_kinds.specs.declared.children.ChildConst.{ChildConst}
-use Rattle.p8_definitions.specs.Names.{name_of}
+use Rattle.p8_constants.specs.Names.{name_of}
 use Rattle.p8_names.specs.Settings.{has_name, definition, meaning_of_item, meaning_outside}
 use Rattle.p8_names.specs.Changes.{IsPut, HasNames, over, HasConstants}
 

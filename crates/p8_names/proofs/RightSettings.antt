@@ -6,7 +6,7 @@ use Rattle.p8_fold.specs.declared.meanings.Meaning.TheVariants as meaning_case
 use Rattle.p8_fold.specs.Meanings.{Setting}
 use Rattle.p8_constants.specs.Items as con
 use Rattle.p8_constants.specs.Constants.{scope_of, IsConstant, Has}
-use Rattle.p8_definitions.specs.Items.{Item, items}
+use Rattle.p8_constants.specs.FileItems.{Item, items}
 use Rattle.p8_kinds.specs.declared.children.Child.{Child}
 use Rattle.p8_names.specs.Settings.{IsSetting, outside, outside_of}
 use Rattle.p8_names.specs.Changes.{IsOutside}

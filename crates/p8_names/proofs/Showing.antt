@@ -8,9 +8,9 @@ use Rattle.std.specs.Str.{bytes_eq}
 use Rattle.p8_fold.specs.declared.meanings.Meaning.{Meaning}
 use Rattle.p8_fold.specs.declared.meanings.Meaning.TheVariants.{Other}
 use Rattle.p8_fold.specs.Meanings.{Setting}
-use Rattle.p8_definitions.specs.declared.names.Defined.{Defined}
-use Rattle.p8_definitions.specs.Names.{spelled}
-use Rattle.p8_definitions.specs.Standing.{all_defined_of}
+use Rattle.p8_constants.specs.declared.names.Defined.{Defined}
+use Rattle.p8_constants.specs.Names.{spelled}
+use Rattle.p8_constants.specs.Standing.{all_defined_of}
 use Rattle.p8_names.specs.Settings.{is_one_of}
 use Rattle.p8_names.specs.Changes.{IsPut, HasNames}
 

@@ -15,8 +15,8 @@ use Rattle.p8_fold.specs.declared.meanings.Meaning.TheVariants as meaning_case
 use Rattle.p8_fold.specs.Meanings.{Setting, given, value_of_meaning}
 use Rattle.p8_constants.specs.Constants as constants
 use Rattle.p8_constants.specs.Items as con
-use Rattle.p8_definitions.specs.Items.{Item, constant, variable, object, method, line, block_items, items}
-use Rattle.p8_definitions.specs.Names.{name_of}
+use Rattle.p8_constants.specs.FileItems.{Item, constant, variable, object, method, line, block_items, items}
+use Rattle.p8_constants.specs.Names.{name_of}
 use Rattle.p8_kinds.specs.declared.children.Child.{Child}
 use Rattle.p8_kinds.specs.declared.kinds.Kinds.{Kinds}
 use Rattle.p8_kinds.specs.declared.name_kinds.NameKind.{NameKind}

@@ -3,9 +3,9 @@ use Rattle.std.specs.Prelude.{◌≡◌, ◌<◌, ℕ, List, None}
 use Rattle.p8_tree.specs.Sources.{Source}
 use Rattle.p8_fold.specs.Entries.{setting_of}
 use Rattle.p8_constants.specs.Constants.{IsConstantFault}
-use Rattle.p8_definitions.specs.Items.{items}
-use Rattle.p8_definitions.specs.Names.{predefined}
-use Rattle.p8_definitions.specs.Standing.{items_of, valued, IsFirstOf}
+use Rattle.p8_constants.specs.FileItems.{items}
+use Rattle.p8_constants.specs.Names.{predefined}
+use Rattle.p8_constants.specs.Standing.{items_of, valued, IsFirstOf}
 use Rattle.p8_kinds.specs.declared.children.Children.{Children}
 use Rattle.p8_kinds.specs.Kinds.{own}
 use Rattle.p8_kinds.specs.Publics.{public_of}

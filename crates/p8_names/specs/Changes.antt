@@ -2,8 +2,8 @@
 use Rattle.std.specs.Prelude.{◌≡◌, ℕ, List, map, Option, Some, None, if◌then◌else◌, option_map}
 use Rattle.std.specs.Map.{lookup}
 use Rattle.std.specs.Str.{bytes_eq}
-use Rattle.p8_definitions.specs.declared.name_set.NameSet.{NameSet}
-use Rattle.p8_definitions.specs.Standing.{Holds}
+use Rattle.p8_constants.specs.declared.name_set.NameSet.{NameSet}
+use Rattle.p8_constants.specs.Standing.{Holds}
 use Rattle.p8_kinds.specs.declared.children.Child.{Child}
 use Rattle.p8_fold.specs.declared.meanings.Meaning.{Meaning}
 use Rattle.p8_fold.specs.declared.meanings.Meaning.TheVariants as meaning_case

@@ -8,7 +8,7 @@ use Rattle.p8_kinds.specs.Kinds.{own, or_else}
 use Rattle.p8_names.specs.Settings.{has_name}
 use Rattle.p8_fold.specs.Meanings.{Setting}
 use Rattle.p8_tree.specs.Proper.{IsSize}
-use Rattle.p8_definitions.specs.Items.{Item, constant, variable, line}
+use Rattle.p8_constants.specs.FileItems.{Item, constant, variable, line}
 use Rattle.p8_names.specs.declared.next_kinds.Next.{Next}
 use Rattle.p8_names.specs.Kinds.{offset_in, kind_or, publics, privates, objects, position_in, greatest_number}
 

@@ -7,10 +7,10 @@ use Rattle.p8_tree.specs.Sources.{Contents, Datum, Declared, MethodTree, Source}
 use Rattle.p8_faults.specs.declared.faults.Fault.{Fault}
 use Rattle.p8_fold.specs.Meanings.{Setting}
 use Rattle.p8_constants.specs.Constants.{IsConstantFault}
-use Rattle.p8_definitions.specs.Items.{Item, line, items}
-use Rattle.p8_definitions.specs.Names.{file_names, is_local}
-use Rattle.p8_definitions.specs.Repeats.{NameRepeatIn, HasOwnRepeat, LabelRepeatIn, label_of}
-use Rattle.p8_definitions.specs.Rules.{InAny, HasTooManyParams, LacksPub, FaultInCount, HasFaultInCount, WrongInstancesIn}
+use Rattle.p8_constants.specs.FileItems.{Item, line, items}
+use Rattle.p8_constants.specs.Names.{file_names, is_local}
+use Rattle.p8_constants.specs.Repeats.{NameRepeatIn, HasOwnRepeat, LabelRepeatIn, label_of}
+use Rattle.p8_constants.specs.Rules.{InAny, HasTooManyParams, LacksPub, FaultInCount, HasFaultInCount, WrongInstancesIn}
 use Rattle.p8_kinds.specs.declared.children.Children.{Children}
 use Rattle.p8_kinds.specs.declared.name_kinds.NameKind.{NameKind}
 use Rattle.p8_kinds.specs.declared.name_kinds.NameKind.TheVariants as kind

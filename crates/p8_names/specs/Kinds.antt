@@ -14,9 +14,9 @@ use Rattle.p8_tree.specs.Sources as trees
 use Rattle.p8_tree.specs.Sources.{Contents, Datum, Declared, MethodTree}
 use Rattle.p8_fold.specs.Meanings.{Setting, meaning_of, given, value_of_meaning}
 use Rattle.p8_constants.specs.Constants.{counted}
-use Rattle.p8_definitions.specs.Items.{Item, constant, variable, object, method, line}
-use Rattle.p8_definitions.specs.Names.{name_of, own_names, spelled}
-use Rattle.p8_definitions.specs.Rules.{count_in}
+use Rattle.p8_constants.specs.FileItems.{Item, constant, variable, object, method, line}
+use Rattle.p8_constants.specs.Names.{name_of, own_names, spelled}
+use Rattle.p8_constants.specs.Rules.{count_in}
 use Rattle.p8_kinds.specs.declared.name_kinds.NameKind.{NameKind}
 use Rattle.p8_kinds.specs.declared.name_kinds.NameKind.TheVariants as kind
 use Rattle.p8_kinds.specs.Kinds.{or_else}

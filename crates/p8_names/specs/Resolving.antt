@@ -3,10 +3,10 @@ use Rattle.std.specs.Prelude.{◌≡◌, ◌⊎◌, ℕ, suc, ◌<◌, Bool, Lis
 use Rattle.p8_tree.specs.Sources.{MethodTree}
 use Rattle.p8_faults.specs.declared.faults.Fault.{Fault}
 use Rattle.p8_fold.specs.Meanings.{Setting}
-use Rattle.p8_definitions.specs.Items.{Item}
-use Rattle.p8_definitions.specs.Names.{file_names}
-use Rattle.p8_definitions.specs.Repeats.{NameRepeatIn, HasOwnRepeat, LabelRepeatIn}
-use Rattle.p8_definitions.specs.Rules.{InAny, HasTooManyParams, LacksPub, HasFaultInCount, WrongInstancesIn}
+use Rattle.p8_constants.specs.FileItems.{Item}
+use Rattle.p8_constants.specs.Names.{file_names}
+use Rattle.p8_constants.specs.Repeats.{NameRepeatIn, HasOwnRepeat, LabelRepeatIn}
+use Rattle.p8_constants.specs.Rules.{InAny, HasTooManyParams, LacksPub, HasFaultInCount, WrongInstancesIn}
 use Rattle.p8_kinds.specs.declared.kinds.Kinds.{Kinds}
 use Rattle.p8_kinds.specs.Kinds.{own}
 use Rattle.p8_names.specs.Kinds.{own_kind, numbered}

@@ -11,8 +11,8 @@ use Rattle.p8_fold.specs.declared.meanings.Meaning.TheVariants as meaning_case
 use Rattle.p8_fold.specs.Meanings.{Setting, outside_operands}
 use Rattle.p8_constants.specs.Items as con
 use Rattle.p8_constants.specs.Constants.{scope_of, IsConstant, Has}
-use Rattle.p8_definitions.specs.Items.{Item, constant, object, items}
-use Rattle.p8_definitions.specs.Names.{predefined, name_of}
+use Rattle.p8_constants.specs.FileItems.{Item, constant, object, items}
+use Rattle.p8_constants.specs.Names.{predefined, name_of}
 use Rattle.p8_kinds.specs.declared.children.Child.{Child}
 
 -- ---- the first definition of a name

@@ -4,7 +4,7 @@ ghost use Rattle.p8_tree.specs.Expressions.{Tree};
 ghost use Rattle.p8_tree.specs.Views.{tree_of, datum_of, instruction_of, contents_of};
 ghost use Rattle.p8_tree.specs.Sources.{Instr};
 ghost use Rattle.p8_fold.specs.Entries.{setting_of};
-ghost use Rattle.p8_definitions.specs.Standing.{item_of, items_of, IsFirstOf};
+ghost use Rattle.p8_constants.specs.Standing.{item_of, items_of, IsFirstOf};
 ghost use Rattle.p8_kinds.specs.declared.scope.Scope.{Scope as declared_scope};
 ghost use Rattle.p8_kinds.specs.Environments.{environment_of};
 ghost use Rattle.p8_kinds.specs.Kinds.{own};
@@ -13,7 +13,7 @@ ghost use Rattle.p8_names.specs.Regions.{environment_at, UnknownInDatum, is_end,
 
 use crate::next_kinds::one_more;
 use crate::own_kinds::enter;
-use p8_definitions::{Item, first_of_two, is_local};
+use p8_constants::{Item, first_of_two, is_local};
 use p8_faults::Fault;
 use p8_kinds::{Kinds, NameKind, Scope, first_unknown};
 use p8_tree::{DatBody, DatItem, Expr, ExprKind, InstrLine, Text};

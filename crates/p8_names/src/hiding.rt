@@ -2,15 +2,15 @@
 ghost use Rattle.std.specs.Prelude.{◌≡◌, ◌⊎◌, ℕ, List, Some, IsTrue, if◌then◌else◌, OnOk, option_map};
 ghost use Rattle.p8_fold.specs.Entries.{setting_of};
 ghost use Rattle.p8_fold.specs.declared.meanings.Meaning.TheVariants.{Other};
-ghost use Rattle.p8_definitions.specs.Names.{spelled};
-ghost use Rattle.p8_definitions.specs.Standing.{all_defined_of};
+ghost use Rattle.p8_constants.specs.Names.{spelled};
+ghost use Rattle.p8_constants.specs.Standing.{all_defined_of};
 ghost use Rattle.p8_kinds.specs.Kinds.{own};
 ghost use Rattle.p8_kinds.specs.FileSettings.{meaning_of_kind};
 ghost use Rattle.p8_names.specs.Settings.{is_one_of};
 ghost use Rattle.p8_names.specs.Changes.{HasNames};
 
 use crate::outside::put_meaning;
-use p8_definitions::Defined;
+use p8_constants::Defined;
 use p8_fold::{Consts, Meaning};
 use p8_kinds::{Kinds, NameKind};
 use p8_tree::Text;

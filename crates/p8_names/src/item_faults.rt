@@ -1,11 +1,11 @@
 // What is wrong with the items of a file, but for the uses of names.
 ghost use Rattle.std.specs.Prelude.{◌≡◌, IfOk};
 ghost use Rattle.p8_fold.specs.Entries.{setting_of};
-ghost use Rattle.p8_definitions.specs.Names.{predefined as table};
-ghost use Rattle.p8_definitions.specs.Standing.{items_of, valued, IsFirstOf};
+ghost use Rattle.p8_constants.specs.Names.{predefined as table};
+ghost use Rattle.p8_constants.specs.Standing.{items_of, valued, IsFirstOf};
 ghost use Rattle.p8_names.specs.Resolving.{RepeatInFile, BrokenByItems};
 
-use p8_definitions::{
+use p8_constants::{
     Item, NamedConstant, file_names, first_count_fault, first_instance_fault, first_label_repeat,
     first_of_two, first_own_repeat, first_params_fault, lacks_pub,
 };

@@ -2,10 +2,10 @@
 ghost use Rattle.std.specs.Prelude.{◌≡◌, ℕ, ◌<◌, length, slice_index, drop, map, IfOk};
 ghost use Rattle.p8_tree.specs.Views.{contents_of, datum_of};
 ghost use Rattle.p8_tree.specs.Sources.{Data};
-ghost use Rattle.p8_definitions.specs.Standing.{item_of, items_of};
+ghost use Rattle.p8_constants.specs.Standing.{item_of, items_of};
 ghost use Rattle.p8_names.specs.Kinds.{element_size, element_in, or_size, label_size};
 
-use p8_definitions::Item;
+use p8_constants::Item;
 use p8_tree::{DatBody, DatItem};
 use std::alloc::{AllocError, Global};
 

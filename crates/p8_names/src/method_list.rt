@@ -2,14 +2,14 @@
 ghost use Rattle.std.specs.Prelude.{◌≡◌, ◌+◌, ◌<◌, ℕ, List, None, IfOk, length, map};
 ghost use Rattle.p8_tree.specs.Views.{method_of};
 ghost use Rattle.p8_fold.specs.Entries.{setting_of};
-ghost use Rattle.p8_definitions.specs.Standing.{IsFirstOf};
+ghost use Rattle.p8_constants.specs.Standing.{IsFirstOf};
 ghost use Rattle.p8_kinds.specs.Kinds.{own};
 ghost use Rattle.p8_names.specs.Faults.{InMethods};
 ghost use Rattle.p8_names.specs.Looking.{IsShown, IsFaultIn};
 ghost use Rattle.p8_names.specs.Resolving.{HasMethods};
 
 use crate::method_faults::look_at;
-use p8_definitions::first_of_two;
+use p8_constants::first_of_two;
 use p8_faults::Fault;
 use p8_kinds::Scope;
 use p8_tree::Method;

@@ -3,13 +3,13 @@ ghost use Rattle.std.specs.Prelude.{◌≡◌, ℕ, ◌<◌, ◌≤◌, ◌*◌,
 ghost use Rattle.p8_tree.specs.Proper.{IsSize};
 ghost use Rattle.p8_tree.specs.Views.{tree_of, declared_of, child_of, method_of};
 ghost use Rattle.p8_fold.specs.Entries.{setting_of};
-ghost use Rattle.p8_definitions.specs.Items.{Item as item_tree, variable, object as object_tree, method as method_tree};
-ghost use Rattle.p8_definitions.specs.Rules.{count_in};
-ghost use Rattle.p8_definitions.specs.Standing.{item_of, items_of};
+ghost use Rattle.p8_constants.specs.FileItems.{Item as item_tree, variable, object as object_tree, method as method_tree};
+ghost use Rattle.p8_constants.specs.Rules.{count_in};
+ghost use Rattle.p8_constants.specs.Standing.{item_of, items_of};
 ghost use Rattle.p8_names.specs.Kinds.{greatest_offset, greatest_number, bytes_in, room, method_in, public_in, methods, publics};
 ghost use Rattle.p8_names.specs.Counting.{IsNext, HasSize, HasNoPart};
 
-use p8_definitions::{Item, count_value};
+use p8_constants::{Item, count_value};
 use p8_fold::{Consts, Meaning};
 use p8_kinds::NameKind;
 use p8_tree::{Expr, Method, ObjItem, Text, VarItem};

@@ -1,5 +1,5 @@
 // The components of a small graph.
-use p8_components::{Graph, components, in_order};
+use p8_constants::{Graph, components, in_order};
 use std::test::Fail;
 
 // 0 leads to 1, which makes a ring with 2, and 2 leads to 3.

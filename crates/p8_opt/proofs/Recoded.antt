@@ -8,7 +8,7 @@ use Rattle.p8_tree.specs.Projects.{NamedSource}
 use Rattle.p8_tree.specs.Proper.{IsProperFile}
 use Rattle.p8_tree.specs.Sources as trees
 use Rattle.p8_tree.specs.Sources.{MethodTree, BlockTree, Source}
-use Rattle.p8_definitions.specs.Items.{Item, constant, variable, object, method, line, block_items, items}
+use Rattle.p8_constants.specs.FileItems.{Item, constant, variable, object, method, line, block_items, items}
 use Rattle.p8_kinds.specs.declared.children.Children.{Children}
 use Rattle.p8_names.specs.Kinds.{public_in, private_in, publics, privates, numbered}
 use Rattle.p8_gen.specs.Names.{wide_in}

@@ -3,7 +3,7 @@
 use Rattle.std.specs.Prelude.{◌≡◌, ℕ, List, length, slice_get, Some}
 use Rattle.p8_tree.specs.Projects.{NamedSource}
 use Rattle.p8_tree.specs.Sources.{MethodTree, Source}
-use Rattle.p8_definitions.specs.Items.{items}
+use Rattle.p8_constants.specs.FileItems.{items}
 use Rattle.p8_kinds.specs.declared.children.Children.{Children}
 use Rattle.p8_names.specs.Kinds.{numbered}
 use Rattle.p8_children.specs.Children.{AreChildren}

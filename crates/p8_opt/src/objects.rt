@@ -6,8 +6,8 @@ ghost use Rattle.p8_opt.specs.Steps.{IsAcceptedFile, IsShortObject, AreAcceptedF
 
 use crate::coding::short_codes;
 use p8_build::object_of_codes;
+use p8_constants::items_of;
 use p8_dat::Dat;
-use p8_definitions::items_of;
 use p8_gen::Tables;
 use p8_image::ObjectPart;
 use p8_kinds::Named;

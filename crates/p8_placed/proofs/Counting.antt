@@ -15,8 +15,8 @@ use Rattle.p8_faults.specs.declared.faults.Fault.{Fault}
 use Rattle.p8_faults.specs.Faults.{fault}
 use Rattle.p8_fold.specs.Meanings.{Setting}
 use Rattle.p8_constants.specs.Constants.{counted}
-use Rattle.p8_definitions.specs.Items.{Item, constant, variable, object, method, line, items}
-use Rattle.p8_definitions.specs.Rules.{count_in, WrongInstancesIn, passes_limit, has_no_instance}
+use Rattle.p8_constants.specs.FileItems.{Item, constant, variable, object, method, line, items}
+use Rattle.p8_constants.specs.Rules.{count_in, WrongInstancesIn, passes_limit, has_no_instance}
 use Rattle.p8_kinds.specs.declared.children.Children.{Children}
 use Rattle.p8_names.specs.Kinds.{numbered, objects, instances}
 use Rattle.p8_names.specs.Faults.{of_name, instances as of_instances}

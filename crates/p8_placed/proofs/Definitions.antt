@@ -13,8 +13,8 @@ use Rattle.p8_fold.specs.declared.meanings.Meaning.TheVariants as meaning_case
 use Rattle.p8_fold.specs.Meanings.{Setting}
 use Rattle.p8_constants.specs.Items as con
 use Rattle.p8_constants.specs.Items.{Sum, named_from, with_name, sum_of, after, definitions_from, zero_sum}
-use Rattle.p8_definitions.specs.Items.{Item, constant, variable, object, method, line, items}
-use Rattle.p8_definitions.specs.Names.{name_of}
+use Rattle.p8_constants.specs.FileItems.{Item, constant, variable, object, method, line, items}
+use Rattle.p8_constants.specs.Names.{name_of}
 use Rattle.p8_kinds.specs.declared.children.Child.{Child}
 use Rattle.p8_kinds.specs.declared.children.ChildConst.{ChildConst}
 use Rattle.p8_kinds.specs.declared.name_kinds.NameKind.{NameKind}

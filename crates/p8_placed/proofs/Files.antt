@@ -8,7 +8,7 @@ use Rattle.std.proofs.lemmas.Option.{same_Some, none-some}
 use Rattle.p8_tree.specs.Sources as trees
 use Rattle.p8_tree.specs.Sources.{MethodTree, BlockTree, Source}
 use Rattle.p8_tree.specs.Projects.{NamedSource}
-use Rattle.p8_definitions.specs.Items.{Item, constant, variable, object, line, items}
+use Rattle.p8_constants.specs.FileItems.{Item, constant, variable, object, line, items}
 use Rattle.p8_kinds.specs.declared.children.Children.{Children}
 use Rattle.p8_names.specs.Kinds as names
 use Rattle.p8_names.specs.Kinds.{public_in, private_in, publics, privates}

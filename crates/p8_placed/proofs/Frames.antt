@@ -16,7 +16,7 @@ use Rattle.p8_bytecode.specs.Spelling.{spelled}
 use Rattle.p8_bytecode.specs.Table.{rows}
 use Rattle.p8_fold.specs.declared.meanings.Meaning.TheVariants as meaning_case
 use Rattle.p8_fold.specs.Meanings.{Setting}
-use Rattle.p8_definitions.specs.Items.{items}
+use Rattle.p8_constants.specs.FileItems.{items}
 use Rattle.p8_kinds.specs.declared.children.Child.{Child}
 use Rattle.p8_kinds.specs.declared.children.ChildConst.{ChildConst}
 use Rattle.p8_kinds.specs.declared.children.Children.{Children}

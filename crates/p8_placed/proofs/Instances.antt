@@ -8,8 +8,8 @@ use Rattle.std.proofs.lemmas.Option.{same_Some, none-some, slice_get_within, sli
 use Rattle.p8_tree.specs.Sources.{Child, Source}
 use Rattle.p8_tree.specs.Projects.{NamedSource}
 use Rattle.p8_fold.specs.Meanings.{Setting}
-use Rattle.p8_definitions.specs.Items.{items}
-use Rattle.p8_definitions.specs.Rules.{count_in}
+use Rattle.p8_constants.specs.FileItems.{items}
+use Rattle.p8_constants.specs.Rules.{count_in}
 use Rattle.p8_kinds.specs.declared.children.Children.{Children}
 use Rattle.p8_kinds.specs.declared.name_kinds.NameKind.TheVariants as kind
 use Rattle.p8_children.specs.Children.{AreChildren}

@@ -12,8 +12,8 @@ use Rattle.p8_fold.specs.Values.{constant_of}
 use Rattle.p8_constants.specs.Items as con
 use Rattle.p8_constants.specs.Items.{Sum}
 use Rattle.p8_constants.specs.Constants.{counted, scope_of, IsConstant}
-use Rattle.p8_definitions.specs.Items.{Item, constant, variable, object, method, line, items}
-use Rattle.p8_definitions.specs.Names.{name_of}
+use Rattle.p8_constants.specs.FileItems.{Item, constant, variable, object, method, line, items}
+use Rattle.p8_constants.specs.Names.{name_of}
 use Rattle.p8_kinds.specs.declared.children.Children.{Children}
 use Rattle.p8_kinds.specs.declared.kinds.Kinds.{Kinds}
 use Rattle.p8_kinds.specs.declared.name_kinds.NameKind.{NameKind}

@@ -17,9 +17,9 @@ use Rattle.p8_fold.specs.Meanings.{Setting}
 use Rattle.p8_fold.specs.Values.{value, is_zero}
 use Rattle.p8_fold.proofs.Judged.{one_outcome}
 use Rattle.p8_constants.specs.Constants.{counted}
-use Rattle.p8_definitions.specs.Items.{Item, constant, variable, object, method, line, block_items, items}
-use Rattle.p8_definitions.specs.Names.{name_of}
-use Rattle.p8_definitions.specs.Rules.{InAny, count_in, FaultInCount, HasFaultInCount, has_no_instance, passes_limit, WrongInstancesIn}
+use Rattle.p8_constants.specs.FileItems.{Item, constant, variable, object, method, line, block_items, items}
+use Rattle.p8_constants.specs.Names.{name_of}
+use Rattle.p8_constants.specs.Rules.{InAny, count_in, FaultInCount, HasFaultInCount, has_no_instance, passes_limit, WrongInstancesIn}
 use Rattle.p8_kinds.specs.declared.name_kinds.NameKind.{NameKind}
 use Rattle.p8_kinds.specs.declared.name_kinds.NameKind.TheVariants as kind
 use Rattle.p8_names.specs.Settings.{has_name}

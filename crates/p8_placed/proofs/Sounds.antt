@@ -11,8 +11,8 @@ use Rattle.p8_tree.specs.Projects.{NamedSource}
 use Rattle.p8_tree.specs.Proper.{IsProperFile}
 use Rattle.p8_operators.specs.Operators.{or_zero}
 use Rattle.p8_fold.specs.Meanings.{Setting}
-use Rattle.p8_definitions.specs.Items.{Item, constant, variable, object, method, line, items}
-use Rattle.p8_definitions.specs.Names.{name_of}
+use Rattle.p8_constants.specs.FileItems.{Item, constant, variable, object, method, line, items}
+use Rattle.p8_constants.specs.Names.{name_of}
 use Rattle.p8_kinds.specs.declared.children.Children.{Children}
 use Rattle.p8_kinds.specs.declared.name_kinds.NameKind.{NameKind}
 use Rattle.p8_kinds.specs.declared.name_kinds.NameKind.TheVariants as kind

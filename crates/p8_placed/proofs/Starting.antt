@@ -4,8 +4,8 @@ use Rattle.std.specs.Prelude.{IsTrue}
 use Rattle.std.proofs.lemmas.Option.{same_Some, none-some}
 use Rattle.p8_tree.specs.Sources.{MethodTree, Source}
 use Rattle.p8_faults.specs.Faults.{fault}
-use Rattle.p8_definitions.specs.Items.{Item, constant, variable, object, method, line, items}
-use Rattle.p8_definitions.specs.Rules.{has_public}
+use Rattle.p8_constants.specs.FileItems.{Item, constant, variable, object, method, line, items}
+use Rattle.p8_constants.specs.Rules.{has_public}
 use Rattle.p8_kinds.specs.declared.children.Children.{Children}
 use Rattle.p8_kinds.specs.declared.kinds.Kinds.{Kinds}
 use Rattle.p8_names.specs.Kinds.{publics, privates, numbered}

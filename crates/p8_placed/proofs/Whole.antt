@@ -10,7 +10,7 @@ use Rattle.p8_faults.specs.Faults.{fault}
 use Rattle.p8_access.specs.declared.kinds.Origin.{Origin}
 use Rattle.p8_access.specs.declared.kinds.Origin.TheVariants.{Spin}
 use Rattle.p8_access.specs.Worlds.{World}
-use Rattle.p8_definitions.specs.Items.{items}
+use Rattle.p8_constants.specs.FileItems.{items}
 use Rattle.p8_kinds.specs.declared.children.Children.{Children}
 use Rattle.p8_kinds.specs.declared.name_kinds.NameKind.{NameKind}
 use Rattle.p8_kinds.specs.declared.name_kinds.NameKind.TheVariants as kind

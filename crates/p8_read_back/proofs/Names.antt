@@ -6,7 +6,7 @@ use Rattle.p8_tree.specs.Sources.{Instruction, Instr, Line}
 use Rattle.p8_faults.specs.declared.faults.Fault.{Fault}
 use Rattle.p8_instr.specs.Instruction.{instr_of}
 use Rattle.p8_encoding.specs.Printed.{printed_line}
-use Rattle.p8_definitions.specs.Items.{items}
+use Rattle.p8_constants.specs.FileItems.{items}
 use Rattle.p8_kinds.specs.declared.children.Children.{Children}
 use Rattle.p8_kinds.specs.Environments.{Environment}
 use Rattle.p8_names.specs.Faults.{UnknownInContents, in_data, repeated, own_repeated, label_repeated, too_many_params, no_pub, count, instances, of_method, in_line, IsNameFault, of_constant, of_name}

@@ -3,7 +3,7 @@ use Rattle.std.proofs.Common.{◌≡◌, ℕ, suc, ◌+◌, Bool, true, false, i
 use Rattle.std.specs.Str.{bytes_eq}
 use Rattle.std.proofs.lemmas.Slice.Eq.{bytes_eq-Decides}
 use Rattle.p8_tree.specs.Sources.{MethodTree}
-use Rattle.p8_definitions.specs.Items.{Item, constant, variable, object, method, line}
+use Rattle.p8_constants.specs.FileItems.{Item, constant, variable, object, method, line}
 use Rattle.p8_names.specs.Kinds.{methods, publics, privates, numbered}
 
 pub same-bytes : (xs ys : List ℕ) → bytes_eq xs ys ≡ true → xs ≡ ys

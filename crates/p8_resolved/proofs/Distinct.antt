@@ -11,10 +11,10 @@ use Rattle.p8_tree.specs.Proper.{IsProperMethod, is_nothing}
 use Rattle.p8_faults.specs.declared.faults.Fault.{Fault}
 use Rattle.p8_faults.specs.Faults.{fault}
 use Rattle.p8_fold.specs.Meanings.{Setting}
-use Rattle.p8_definitions.specs.Items.{Item, constant, variable, object, method, line, items}
-use Rattle.p8_definitions.specs.Names.{Defined, name_of, place_of, names_of, defined_before, spelled, file_names, predefined, predefined_names, params_of, result_of, local_of, own_names}
-use Rattle.p8_definitions.specs.Repeats.{RepeatIn, HasOwnRepeat}
-use Rattle.p8_definitions.specs.Rules.{InAny, count_in}
+use Rattle.p8_constants.specs.FileItems.{Item, constant, variable, object, method, line, items}
+use Rattle.p8_constants.specs.Names.{Defined, name_of, place_of, names_of, defined_before, spelled, file_names, predefined, predefined_names, params_of, result_of, local_of, own_names}
+use Rattle.p8_constants.specs.Repeats.{RepeatIn, HasOwnRepeat}
+use Rattle.p8_constants.specs.Rules.{InAny, count_in}
 use Rattle.p8_kinds.specs.declared.children.Children.{Children}
 use Rattle.p8_kinds.specs.declared.kinds.Kinds.{Kinds}
 use Rattle.p8_kinds.specs.declared.name_kinds.NameKind.{NameKind}

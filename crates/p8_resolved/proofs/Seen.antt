@@ -4,8 +4,8 @@ use Rattle.std.specs.Prelude.{option_map}
 use Rattle.std.proofs.lemmas.Option.{same_Some, none-some}
 use Rattle.p8_tree.specs.Sources as trees
 use Rattle.p8_tree.specs.Projects.{NamedSource}
-use Rattle.p8_definitions.specs.Items.{items}
-use Rattle.p8_definitions.specs.Names.{predefined_names}
+use Rattle.p8_constants.specs.FileItems.{items}
+use Rattle.p8_constants.specs.Names.{predefined_names}
 use Rattle.p8_kinds.specs.declared.children.Child.{Child}
 use Rattle.p8_kinds.specs.declared.children.Children.{Children}
 use Rattle.p8_kinds.specs.declared.kinds.Kinds.{Kinds}

@@ -14,14 +14,14 @@ use Rattle.p8_fold.specs.Meanings.{Setting, value_of_meaning, given}
 use Rattle.p8_constants.specs.Items as con
 use Rattle.p8_constants.specs.Items.{Sum}
 use Rattle.p8_constants.specs.Constants.{counted, scope_of, IsConstant, Scope, Has, has}
-use Rattle.p8_definitions.specs.Items.{Item, constant, variable, object, method, line, items}
-use Rattle.p8_definitions.specs.Names.{predefined, truth_and_limits, internal_clocks, external_clocks, low_factors, high_factors}
+use Rattle.p8_constants.specs.FileItems.{Item, constant, variable, object, method, line, items}
+use Rattle.p8_constants.specs.Names.{predefined, truth_and_limits, internal_clocks, external_clocks, low_factors, high_factors}
 use Rattle.p8_kinds.specs.declared.children.Child.{Child}
 use Rattle.p8_kinds.specs.declared.children.ChildConst.{ChildConst}
 use Rattle.p8_kinds.specs.declared.name_kinds.NameKind.{NameKind}
 use Rattle.p8_kinds.specs.declared.name_kinds.NameKind.TheVariants as kind
 use Rattle.p8_kinds.specs.FileSettings.{constant_among}
-use Rattle.p8_definitions.specs.Names.{name_of}
+use Rattle.p8_constants.specs.Names.{name_of}
 use Rattle.p8_names.specs.Settings.{has_name, IsSetting, definition, outside, meaning_outside, predefined_value, is_one_of}
 use Rattle.p8_names.specs.Kinds.{item_kind, kind_among, kind_or, file_kind, value_in}
 use Rattle.p8_children.specs.Children.{named_constant, constants_from, behind}

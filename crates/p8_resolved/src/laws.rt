@@ -3,7 +3,7 @@ ghost use Rattle.std.specs.Prelude.{◌≡◌, ◌+◌, ℕ, Bool, List, slice_g
 ghost use Rattle.p8_tree.specs.Projects.{NamedSource};
 ghost use Rattle.p8_tree.specs.Proper.{IsProperMethod};
 ghost use Rattle.p8_tree.specs.Sources.{MethodTree, Source};
-ghost use Rattle.p8_definitions.specs.Items.{items};
+ghost use Rattle.p8_constants.specs.FileItems.{items};
 ghost use Rattle.p8_kinds.specs.declared.children.Children.{Children};
 ghost use Rattle.p8_kinds.specs.declared.kinds.Kinds.{Kinds};
 ghost use Rattle.p8_kinds.specs.declared.name_kinds.NameKind.{NameKind};

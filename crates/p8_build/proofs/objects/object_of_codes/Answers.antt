@@ -5,8 +5,8 @@ use Rattle.p8_tree.specs.declared.sources.Method.{Method}
 use Rattle.p8_tree.specs.Sources.{MethodTree}
 use Rattle.p8_tree.specs.Views.{source_of, named_source_of, method_of}
 use Rattle.p8_fold.specs.Entries.{setting_of as setting_in}
-use Rattle.p8_definitions.specs.Items.{items}
-use Rattle.p8_definitions.specs.Standing.{items_of}
+use Rattle.p8_constants.specs.FileItems.{items}
+use Rattle.p8_constants.specs.Standing.{items_of}
 use Rattle.p8_names.specs.Kinds.{numbered}
 use Rattle.p8_build.specs.Parts.{strings_in_method, strings_of}
 use Rattle.p8_build.specs.Numbers.{text_of, number_by}

@@ -1,8 +1,8 @@
 use Rattle.std.proofs.Common.{◌++◌, sym, ap, ◌∙◌, append-nil, arith}
 use Rattle.std.proofs.lemmas.List.{drop_all}
 use Rattle.p8_fold.specs.Entries.{setting_of}
-use Rattle.p8_definitions.specs.Names.{predefined_names}
-use Rattle.p8_definitions.specs.Standing.{item_of, items_of}
+use Rattle.p8_constants.specs.Names.{predefined_names}
+use Rattle.p8_constants.specs.Standing.{item_of, items_of}
 use Rattle.p8_children.specs.Children.{behind, methods_from, constants_from}
 use Rattle.p8_children.proofs.Showing.{methods_next, constants_next}
 use Rattle.p8_children.proofs.child.shown.Goals as goal

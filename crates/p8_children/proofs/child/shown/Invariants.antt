@@ -1,7 +1,7 @@
 use Rattle.std.proofs.Common.{◌≡◌, ℕ, List, ◌++◌, drop}
 use Rattle.p8_fold.specs.Entries.{setting_of}
-use Rattle.p8_definitions.specs.Names.{predefined_names}
-use Rattle.p8_definitions.specs.Standing.{items_of, Holds}
+use Rattle.p8_constants.specs.Names.{predefined_names}
+use Rattle.p8_constants.specs.Standing.{items_of, Holds}
 use Rattle.p8_children.specs.Children.{methods_from, constants_from}
 use Rattle.p8_children.proofs.child.shown.Given as goal
 

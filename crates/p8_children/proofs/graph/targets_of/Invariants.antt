@@ -1,6 +1,6 @@
 use Rattle.std.proofs.Common.{◌≡◌, take, filter_map}
 use Rattle.p8_fold.specs.Entries.{at_bytes}
-use Rattle.p8_definitions.specs.Standing.{items_of}
+use Rattle.p8_constants.specs.Standing.{items_of}
 use Rattle.p8_names.specs.Kinds.{objects}
 use Rattle.p8_children.proofs.graph.targets_of.Given as goal
 

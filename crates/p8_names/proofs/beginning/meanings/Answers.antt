@@ -3,7 +3,7 @@ use Rattle.p8_tree.specs.Views.{source_of}
 use Rattle.p8_fold.specs.Entries.{setting_of}
 use Rattle.p8_fold.specs.Meanings.{Setting}
 use Rattle.p8_constants.specs.Constants.{IsConstantFault}
-use Rattle.p8_definitions.specs.Standing.{items_of, IsFirstOf}
+use Rattle.p8_constants.specs.Standing.{items_of, IsFirstOf}
 use Rattle.p8_names.specs.Settings.{outside}
 use Rattle.p8_names.proofs.RightSettings.{outside_is, is_right}
 use Rattle.p8_names.proofs.beginning.meanings.Goals as goal

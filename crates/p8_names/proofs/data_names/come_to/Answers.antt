@@ -1,6 +1,6 @@
 use Rattle.std.proofs.Common.{sym, ◌∙◌, subst}
 use Rattle.std.specs.Prelude.{option_map}
-use Rattle.p8_definitions.specs.Standing.{items_of}
+use Rattle.p8_constants.specs.Standing.{items_of}
 use Rattle.p8_names.specs.Regions.{IsInRegion}
 use Rattle.p8_names.proofs.Putting.{on_ok}
 use Rattle.p8_names.proofs.LocalLabels.{at_end}

@@ -1,5 +1,5 @@
 use Rattle.std.proofs.Common.{drop}
-use Rattle.p8_definitions.specs.Standing.{items_of}
+use Rattle.p8_constants.specs.Standing.{items_of}
 use Rattle.p8_names.specs.Faults.{labels_ahead}
 use Rattle.p8_names.proofs.LocalLabels.{IsEntering}
 use Rattle.p8_names.proofs.data_names.enter_labels.Given as goal

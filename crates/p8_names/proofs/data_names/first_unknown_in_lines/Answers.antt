@@ -1,9 +1,9 @@
 use Rattle.std.proofs.Common.{◌+◌, List, ℕ, drop, subst}
 use Rattle.p8_fold.specs.Entries.{setting_of}
-use Rattle.p8_definitions.specs.Repeats.{label_of}
-use Rattle.p8_definitions.specs.Standing.{item_of, items_of, IsFirstOf}
-use Rattle.p8_definitions.proofs.FirstFaults.{IsSoFar, so_far_begin, so_far_then}
-use Rattle.p8_definitions.proofs.Walking.{rest_of}
+use Rattle.p8_constants.specs.Repeats.{label_of}
+use Rattle.p8_constants.specs.Standing.{item_of, items_of, IsFirstOf}
+use Rattle.p8_constants.proofs.FirstFaults.{IsSoFar, so_far_begin, so_far_then}
+use Rattle.p8_constants.proofs.Walking.{rest_of}
 use Rattle.p8_kinds.specs.Environments.{Environment}
 use Rattle.p8_names.specs.Faults.{labels_ahead, labels_at, HasUnknown, UnknownInLines}
 use Rattle.p8_names.specs.Regions.{environment_at, IsInRegion}

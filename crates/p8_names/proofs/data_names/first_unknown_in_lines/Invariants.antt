@@ -1,7 +1,7 @@
 use Rattle.std.proofs.Common.{ℕ, List, drop}
 use Rattle.p8_fold.specs.Entries.{setting_of}
-use Rattle.p8_definitions.specs.Standing.{items_of}
-use Rattle.p8_definitions.proofs.FirstFaults.{IsSoFar}
+use Rattle.p8_constants.specs.Standing.{items_of}
+use Rattle.p8_constants.proofs.FirstFaults.{IsSoFar}
 use Rattle.p8_names.specs.Faults.{labels_ahead, UnknownInLines}
 use Rattle.p8_names.specs.Regions.{environment_at, IsInRegion}
 use Rattle.p8_names.proofs.data_names.first_unknown_in_lines.Given as goal

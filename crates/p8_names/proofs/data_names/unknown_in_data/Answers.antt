@@ -1,8 +1,8 @@
 use Rattle.std.proofs.Common.{◌+◌, map, drop, subst, arith}
 use Rattle.p8_tree.specs.Views.{datum_of}
 use Rattle.p8_kinds.specs.Environments.{environment_of}
-use Rattle.p8_definitions.proofs.Listed.{rest_is, rest_is_empty}
-use Rattle.p8_definitions.proofs.FirstFaults.{IsSoFar, so_far_begin, so_far_then, so_far_end}
+use Rattle.p8_constants.proofs.Listed.{rest_is, rest_is_empty}
+use Rattle.p8_constants.proofs.FirstFaults.{IsSoFar, so_far_begin, so_far_then, so_far_end}
 use Rattle.p8_names.specs.Faults.{UnknownInData}
 use Rattle.p8_names.specs.Regions.{UnknownInDatum}
 use Rattle.p8_names.proofs.data_names.unknown_in_data.Goals as goal

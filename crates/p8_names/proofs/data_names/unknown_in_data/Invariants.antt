@@ -1,7 +1,7 @@
 use Rattle.std.proofs.Common.{map, drop}
 use Rattle.p8_tree.specs.Views.{datum_of}
 use Rattle.p8_kinds.specs.Environments.{environment_of}
-use Rattle.p8_definitions.proofs.FirstFaults.{IsSoFar}
+use Rattle.p8_constants.proofs.FirstFaults.{IsSoFar}
 use Rattle.p8_names.specs.Faults.{UnknownInData}
 use Rattle.p8_names.proofs.data_names.unknown_in_data.Given as goal
 

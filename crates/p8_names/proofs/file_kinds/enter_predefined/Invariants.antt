@@ -1,7 +1,7 @@
 use Rattle.std.proofs.Common.{◌≡◌, ℕ, ◌<◌, List, None, drop}
 use Rattle.std.specs.Map.{lookup}
 use Rattle.std.specs.Str.{bytes_eq}
-use Rattle.p8_definitions.specs.Standing.{valued}
+use Rattle.p8_constants.specs.Standing.{valued}
 use Rattle.p8_kinds.specs.Kinds.{own, or_else}
 use Rattle.p8_names.specs.Kinds.{kind_or}
 use Rattle.p8_names.proofs.file_kinds.enter_predefined.Given as goal

@@ -1,9 +1,9 @@
 use Rattle.std.proofs.Common.{◌≡◌, ◌+◌, ◌∷◌, take, drop, get_or, ap, ◌∙◌, subst, arith}
 use Rattle.std.proofs.lemmas.Grind.{common_steps}
 use Rattle.p8_fold.specs.Entries.{setting_of}
-use Rattle.p8_definitions.specs.Names.{name_of}
-use Rattle.p8_definitions.specs.Standing.{item_of, items_of}
-use Rattle.p8_definitions.proofs.Walking.{item_is, rest_of}
+use Rattle.p8_constants.specs.Names.{name_of}
+use Rattle.p8_constants.specs.Standing.{item_of, items_of}
+use Rattle.p8_constants.proofs.Walking.{item_is, rest_of}
 use Rattle.p8_names.specs.Kinds.{label_size, item_kind}
 use Rattle.p8_names.specs.Counting.{HasSize, IsEntered, IsNext}
 use Rattle.p8_names.proofs.Entering.{items_next, before_more}

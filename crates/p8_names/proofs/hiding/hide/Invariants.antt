@@ -1,7 +1,7 @@
 use Rattle.std.proofs.Common.{◌≡◌, ℕ, List, drop}
 use Rattle.p8_fold.specs.Entries.{setting_of}
-use Rattle.p8_definitions.specs.Names.{spelled}
-use Rattle.p8_definitions.specs.Standing.{all_defined_of}
+use Rattle.p8_constants.specs.Names.{spelled}
+use Rattle.p8_constants.specs.Standing.{all_defined_of}
 use Rattle.p8_names.proofs.Showing.{KeepsRest, hidden}
 use Rattle.p8_names.proofs.hiding.hide.Given as goal
 

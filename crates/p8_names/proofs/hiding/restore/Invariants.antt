@@ -1,8 +1,8 @@
 use Rattle.std.proofs.Common.{drop}
 use Rattle.std.specs.Prelude.{option_map}
 use Rattle.p8_fold.specs.Entries.{setting_of}
-use Rattle.p8_definitions.specs.Names.{spelled}
-use Rattle.p8_definitions.specs.Standing.{all_defined_of}
+use Rattle.p8_constants.specs.Names.{spelled}
+use Rattle.p8_constants.specs.Standing.{all_defined_of}
 use Rattle.p8_kinds.specs.Kinds.{own}
 use Rattle.p8_kinds.specs.FileSettings.{meaning_of_kind}
 use Rattle.p8_names.proofs.Showing.{KeepsRest, Shown}

@@ -1,7 +1,7 @@
 use Rattle.std.proofs.Common.{◌⊎◌}
 use Rattle.p8_fold.specs.Entries.{setting_of}
-use Rattle.p8_definitions.specs.Rules.{InAny, HasTooManyParams, LacksPub, HasFaultInCount, WrongInstancesIn}
-use Rattle.p8_definitions.specs.Standing.{items_of}
+use Rattle.p8_constants.specs.Rules.{InAny, HasTooManyParams, LacksPub, HasFaultInCount, WrongInstancesIn}
+use Rattle.p8_constants.specs.Standing.{items_of}
 use Rattle.p8_names.proofs.TwoFaults.{two_first}
 use Rattle.p8_names.proofs.item_faults.first_broken.Goals as goal
 

@@ -1,8 +1,8 @@
 use Rattle.std.proofs.Common.{◌⊎◌, []}
-use Rattle.p8_definitions.specs.Names.{file_names}
-use Rattle.p8_definitions.specs.Repeats.{NameRepeatIn, HasOwnRepeat, LabelRepeatIn}
-use Rattle.p8_definitions.specs.Rules.{InAny}
-use Rattle.p8_definitions.specs.Standing.{items_of}
+use Rattle.p8_constants.specs.Names.{file_names}
+use Rattle.p8_constants.specs.Repeats.{NameRepeatIn, HasOwnRepeat, LabelRepeatIn}
+use Rattle.p8_constants.specs.Rules.{InAny}
+use Rattle.p8_constants.specs.Standing.{items_of}
 use Rattle.p8_names.proofs.TwoFaults.{two_first}
 use Rattle.p8_names.proofs.item_faults.first_repeat.Goals as goal
 

@@ -1,5 +1,5 @@
 use Rattle.std.proofs.Common.{◌≡◌, ℕ, ◌<◌, ◌≤◌, length, drop, get_or}
-use Rattle.p8_definitions.specs.Standing.{items_of}
+use Rattle.p8_constants.specs.Standing.{items_of}
 use Rattle.p8_names.specs.Kinds.{label_size}
 use Rattle.p8_names.proofs.labels.label_sizes.Given as goal
 

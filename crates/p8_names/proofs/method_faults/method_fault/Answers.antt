@@ -3,7 +3,7 @@ use Rattle.p8_tree.specs.Views.{declared_of, statements_of}
 use Rattle.p8_fold.specs.Entries.{setting_of}
 use Rattle.p8_kinds.specs.Environments.{environment_of}
 use Rattle.p8_kinds.specs.Misuses.{MisuseInStatements}
-use Rattle.p8_definitions.specs.Standing.{IsFirstOf}
+use Rattle.p8_constants.specs.Standing.{IsFirstOf}
 use Rattle.p8_names.specs.Faults.{FaultInLocals}
 use Rattle.p8_names.proofs.TwoFaults.{two_first}
 use Rattle.p8_names.proofs.method_faults.method_fault.Goals as goal

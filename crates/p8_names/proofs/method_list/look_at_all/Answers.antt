@@ -6,8 +6,8 @@ use Rattle.p8_tree.specs.Sources.{MethodTree}
 use Rattle.p8_tree.specs.Views.{method_of}
 use Rattle.p8_fold.specs.Entries.{setting_of}
 use Rattle.p8_fold.specs.Meanings.{Setting}
-use Rattle.p8_definitions.proofs.Listed.{rest_is}
-use Rattle.p8_definitions.proofs.FirstFaults.{IsSoFar, so_far_then}
+use Rattle.p8_constants.proofs.Listed.{rest_is}
+use Rattle.p8_constants.proofs.FirstFaults.{IsSoFar, so_far_then}
 use Rattle.p8_kinds.specs.FileSettings.{meaning_of_kind}
 use Rattle.p8_names.specs.Faults.{InMethods}
 use Rattle.p8_names.specs.Looking.{IsFaultIn, HasOwnKinds}

@@ -2,7 +2,7 @@ use Rattle.std.proofs.Common.{◌+◌, ◌∙◌, ap, arith}
 use Rattle.std.specs.Prelude.{min}
 use Rattle.p8_tree.specs.Views.{method_of}
 use Rattle.p8_fold.specs.Entries.{setting_of}
-use Rattle.p8_definitions.specs.Items.{method}
+use Rattle.p8_constants.specs.FileItems.{method}
 use Rattle.p8_names.specs.Kinds.{greatest_offset, greatest_number}
 use Rattle.p8_names.proofs.Advancing.{next_more, same_number, one_where, one_unless}
 use Rattle.p8_names.proofs.next_kinds.behind_method.Goals as goal

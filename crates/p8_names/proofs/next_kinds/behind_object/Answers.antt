@@ -2,8 +2,8 @@ use Rattle.std.proofs.Common.{◌≡◌, ◌+◌, ◌∙◌, ap, arith}
 use Rattle.std.specs.Prelude.{min}
 use Rattle.p8_tree.specs.Views.{child_of}
 use Rattle.p8_fold.specs.Entries.{setting_of}
-use Rattle.p8_definitions.specs.Items.{object}
-use Rattle.p8_definitions.specs.Rules.{count_in}
+use Rattle.p8_constants.specs.FileItems.{object}
+use Rattle.p8_constants.specs.Rules.{count_in}
 use Rattle.p8_names.specs.Kinds.{greatest_offset, greatest_number}
 use Rattle.p8_names.proofs.Advancing.{next_more, same_number}
 use Rattle.p8_names.proofs.next_kinds.behind_object.Goals as goal

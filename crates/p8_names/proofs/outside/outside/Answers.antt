@@ -1,6 +1,6 @@
 use Rattle.std.proofs.Common.{Some, None, ◌∙◌}
 use Rattle.p8_fold.specs.Entries.{setting_of}
-use Rattle.p8_definitions.specs.Standing.{items_of, valued}
+use Rattle.p8_constants.specs.Standing.{items_of, valued}
 use Rattle.p8_names.proofs.Objects.{outside_is}
 use Rattle.p8_names.proofs.outside.outside.Goals as goal
 

@@ -1,6 +1,6 @@
 use Rattle.std.proofs.Common.{◌≡◌, ℕ, List, ◌++◌, drop}
 use Rattle.p8_fold.specs.Entries.{setting_of}
-use Rattle.p8_definitions.specs.Standing.{items_of}
+use Rattle.p8_constants.specs.Standing.{items_of}
 use Rattle.p8_kinds.specs.declared.children.Child.{Child}
 use Rattle.p8_names.specs.Settings.{with_children}
 use Rattle.p8_names.specs.Changes.{HasObjects, IsSameOutside}

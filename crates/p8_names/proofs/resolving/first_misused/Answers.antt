@@ -3,7 +3,7 @@ use Rattle.p8_tree.specs.declared.sources.Method.{Method}
 use Rattle.p8_tree.specs.Sources.{MethodTree}
 use Rattle.p8_tree.specs.Views.{method_of}
 use Rattle.p8_fold.specs.Entries.{setting_of}
-use Rattle.p8_definitions.specs.Standing.{items_of, IsFirstOf}
+use Rattle.p8_constants.specs.Standing.{items_of, IsFirstOf}
 use Rattle.p8_names.specs.Kinds.{numbered}
 use Rattle.p8_names.specs.Faults.{InMethods, UnknownInLines, labels_ahead}
 use Rattle.p8_names.specs.Looking.{IsFaultIn}

@@ -1,6 +1,6 @@
 use Rattle.std.proofs.Common.{subst}
 use Rattle.p8_tree.specs.Views.{source_of}
-use Rattle.p8_definitions.specs.Standing.{IsFirstOf}
+use Rattle.p8_constants.specs.Standing.{IsFirstOf}
 use Rattle.p8_names.specs.Faults.{IsNameFault}
 use Rattle.p8_names.proofs.AllMethods.{is_named, first_of_all}
 use Rattle.p8_names.proofs.resolving.resolve.Goals as goal

@@ -3,8 +3,8 @@ use Rattle.std.proofs.lemmas.List.{length-map}
 use Rattle.p8_tree.specs.declared.sources.Method.{Method}
 use Rattle.p8_tree.specs.Sources.{MethodTree}
 use Rattle.p8_tree.specs.Views.{source_of, named_source_of, method_of}
-use Rattle.p8_definitions.specs.Items.{items}
-use Rattle.p8_definitions.specs.Standing.{items_of}
+use Rattle.p8_constants.specs.FileItems.{items}
+use Rattle.p8_constants.specs.Standing.{items_of}
 use Rattle.p8_names.specs.Kinds.{numbered}
 use Rattle.p8_gen.specs.Files.{first_offset}
 use Rattle.p8_build.specs.Files.{object_of}

@@ -1,7 +1,7 @@
 use Rattle.std.proofs.Common.{◌+◌, map, drop, ap, sym, ◌∙◌, arith}
 use Rattle.std.specs.Option.{option_or}
 use Rattle.std.proofs.lemmas.List.{length-map}
-use Rattle.p8_definitions.proofs.Listed.{rest_is}
+use Rattle.p8_constants.proofs.Listed.{rest_is}
 use Rattle.p8_build.specs.Numbers.{text_of, at_place, number_in}
 use Rattle.p8_build.proofs.Numbering.{number_more, numbers_end}
 use Rattle.p8_build.proofs.texts.TextNumbers.of.Goals as goal

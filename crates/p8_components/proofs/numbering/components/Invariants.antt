@@ -1,7 +1,0 @@
-use Rattle.std.proofs.Common.{◌≡◌, ◌≢◌, ℕ, ◌<◌, []}
-use Rattle.p8_components.specs.declared.search.Mark.TheVariants.{New}
-use Rattle.p8_components.specs.Searches.{mark, IsState}
-use Rattle.p8_components.proofs.numbering.components.Given as goal
-
-abbrev pub invariant-loop-node : goal.invariant-loop-node
-invariant-loop-node l = record { state : IsState l.graph l.search; rest : l.search.boundaries ≡ []; found : (a : ℕ) → a < l.node → mark l.search.marks a ≢ New }

@@ -1,6 +1,0 @@
-use Rattle.std.proofs.Common.{take}
-use Rattle.p8_components.specs.Searches.{IsClosed}
-use Rattle.p8_components.proofs.search.close.Given as goal
-
-abbrev pub invariant-loop-node : goal.invariant-loop-node
-invariant-loop-node l = IsClosed l.initial.marks (take l.node-index l.nodes) l.number l.marks

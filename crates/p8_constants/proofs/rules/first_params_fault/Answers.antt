@@ -1,0 +1,14 @@
+use Rattle.std.proofs.Common.{arith}
+use Rattle.p8_constants.specs.Rules.{HasTooManyParams}
+use Rattle.p8_constants.proofs.FirstFaults.{so_far_begin}
+use Rattle.p8_constants.proofs.Walking.{any_more, any_end}
+use Rattle.p8_constants.proofs.rules.first_params_fault.Goals as goal
+
+pub loop-item-init : goal.loop-item-init
+loop-item-init c = so_far_begin _
+
+pub loop-item-preserved : goal.loop-item-preserved
+loop-item-preserved c = any_more HasTooManyParams c.args.items.now c.loop-item.item-index c.item-item.result c.loop-item.first c.params_fault.result (omega arith) c.item-item.is c.loop-item.invariant c.params_fault.ensures c.first_of_two-first.ensures
+
+pub returns : goal.returns
+returns c = any_end HasTooManyParams c.args.items.now c.loop-item.item-index c.loop-item.first (omega arith) c.loop-item.invariant

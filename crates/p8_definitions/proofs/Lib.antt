@@ -1,6 +1,0 @@
-pub mod Blocks
-pub mod Sets
-pub mod Listed
-pub mod FirstFaults
-pub mod Repeating
-pub mod Walking

@@ -1,8 +1,0 @@
-use Rattle.std.proofs.Common.{◌≡◌, ◌++◌, map, take}
-use Rattle.p8_tree.specs.Views.{constant_of}
-use Rattle.p8_definitions.specs.Items.{constant}
-use Rattle.p8_definitions.specs.Standing.{item_of}
-use Rattle.p8_definitions.proofs.items.put_constants.Given as goal
-
-abbrev pub invariant-loop-x : goal.invariant-loop-x
-invariant-loop-x l = map item_of l.items.items ≡ map item_of l.initial.items.items ++ map constant (map constant_of (take l.x-index l.x-items))

@@ -1,8 +1,0 @@
-use Rattle.std.proofs.Common.{◌≡◌, ◌++◌, map, take}
-use Rattle.p8_tree.specs.Views.{declared_of}
-use Rattle.p8_definitions.specs.Items.{variable}
-use Rattle.p8_definitions.specs.Standing.{item_of}
-use Rattle.p8_definitions.proofs.items.put_variables.Given as goal
-
-abbrev pub invariant-loop-x : goal.invariant-loop-x
-invariant-loop-x l = map item_of l.items.items ≡ map item_of l.initial.items.items ++ map variable (map declared_of (take l.x-index l.x-items))

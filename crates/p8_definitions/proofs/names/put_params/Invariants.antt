@@ -1,7 +1,0 @@
-use Rattle.std.proofs.Common.{◌≡◌, ◌++◌, drop}
-use Rattle.p8_definitions.specs.Names.{params_of}
-use Rattle.p8_definitions.specs.Standing.{all_defined_of}
-use Rattle.p8_definitions.proofs.names.put_params.Given as goal
-
-abbrev pub invariant-loop-index : goal.invariant-loop-index
-invariant-loop-index l = all_defined_of l.initial.names.items ++ params_of l.params l.places ≡ all_defined_of l.names.items ++ params_of (drop l.index l.params) (drop l.index l.places)
