@@ -11,8 +11,8 @@ use Rattle.p8_image.specs.declared.clocks.Clock.{Clock}
 use Rattle.p8_image.specs.declared.parts.ObjectPart.{ObjectPart}
 use Rattle.p8_image.specs.Layout.{header_by}
 use Rattle.p8_image.specs.Projects.{FitsHub}
-use Rattle.p8_children.specs.Mentions.{AreDistinct, HaveNoRing}
-use Rattle.p8_children.specs.Children.{AreChildren}
+use Rattle.p8_names.specs.Mentions.{AreDistinct, HaveNoRing}
+use Rattle.p8_names.specs.Children.{AreChildren}
 use Rattle.p8_build.specs.Parts.{data_start}
 use Rattle.p8_build.specs.Files.{CompiledFile}
 use Rattle.p8_build.specs.Builds.{IsFile, AreCompiled, objects_of, clock_by, IsRefusal, IsImageFault, too_large, no_clock, IsBuilt, IsRefusedWith}

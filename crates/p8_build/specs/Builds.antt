@@ -13,7 +13,7 @@ use Rattle.p8_kinds.specs.Kinds.{own}
 use Rattle.p8_names.specs.Resolution.{IsNamed}
 use Rattle.p8_names.specs.Faults.{IsNameFault}
 use Rattle.p8_dat.specs.Blocks.{IsDatFault}
-use Rattle.p8_children.specs.Children.{AreChildren}
+use Rattle.p8_names.specs.Children.{AreChildren}
 use Rattle.p8_image.specs.declared.clocks.Clock.{Clock}
 use Rattle.p8_image.specs.declared.parts.ObjectPart.{ObjectPart}
 use Rattle.p8_image.specs.Clocks.{clock_of}

@@ -1,7 +1,7 @@
 // Building a project.
 ghost use Rattle.std.specs.Prelude.{◌≡◌, ◌≤◌, ◌<◌, length, map, IfOk, IfErr};
 ghost use Rattle.p8_tree.specs.Views.{named_sources_of, named_source_of};
-ghost use Rattle.p8_children.specs.Mentions.{HaveMentioned, HaveNoRing};
+ghost use Rattle.p8_names.specs.Mentions.{HaveMentioned, HaveNoRing};
 ghost use Rattle.p8_build.specs.Parts.{AreProper, most_files};
 ghost use Rattle.p8_build.specs.Told.{IsBuiltTo, IsImageBuilt, IsRefusal};
 ghost use Rattle.p8_build.specs.Phases.{IsAccepted, IsBuiltBy, IfFirstRefused};
@@ -11,10 +11,10 @@ use crate::fault::{BuildFault, FileFault, in_file, told};
 use crate::finishing::finish;
 use crate::naming::resolve_all;
 use crate::objects::objects_of_all;
-use p8_children::children_of;
 use p8_dat::Dat;
 use p8_image::{Image, ObjectPart};
 use p8_kinds::{Children, Named};
+use p8_names::children_of;
 use p8_tree::{List, Project, ProjectFile};
 use p8_words::Fail;
 use std::alloc::Global;

@@ -2,7 +2,7 @@
 ghost use Rattle.std.specs.Prelude.{◌≡◌, ℕ, List};
 ghost use Rattle.p8_tree.specs.Projects.{NamedSource};
 ghost use Rattle.p8_faults.specs.declared.faults.Fault.{Fault};
-ghost use Rattle.p8_children.specs.Mentions.{AreDistinct, HaveNoRing};
+ghost use Rattle.p8_names.specs.Mentions.{AreDistinct, HaveNoRing};
 ghost use Rattle.p8_image.specs.declared.clocks.Clock.{Clock};
 ghost use Rattle.p8_image.specs.declared.parts.ObjectPart.{ObjectPart};
 ghost use Rattle.p8_build.specs.Builds.{IsBuilt, IsRefusedWith};
@@ -13,5 +13,5 @@ pub fn one_build()
     ensures refused { (files : List NamedSource) → AreDistinct files → HaveNoRing files → (n m : List ℕ) → (f g : Fault) → IsRefusedWith files n f → IsRefusedWith files m g → (n ≡ m) × (f ≡ g) }
     ensures never_both { (files : List NamedSource) → AreDistinct files → HaveNoRing files → (c : Clock) → (a : List ObjectPart) → (n : List ℕ) → (f : Fault) → IsBuilt files c a → ¬ IsRefusedWith files n f }
 {
-    p8_children::one_for_each_project();
+    p8_names::one_for_each_project();
 }

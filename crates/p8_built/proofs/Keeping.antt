@@ -2,8 +2,8 @@
 use Rattle.std.proofs.Common.{◌<◌, ℕ, sym, subst, List, length}
 use Rattle.p8_tree.specs.Projects.{NamedSource}
 use Rattle.p8_kinds.specs.declared.children.Children.{Children}
-use Rattle.p8_children.specs.Children.{AreChildren}
-use Rattle.p8_children.specs.Mentions.{AreDistinct, HaveMentioned, HaveNoRing}
+use Rattle.p8_names.specs.Children.{AreChildren}
+use Rattle.p8_names.specs.Mentions.{AreDistinct, HaveMentioned, HaveNoRing}
 use Rattle.p8_image.specs.declared.clocks.Clock.{Clock}
 use Rattle.p8_image.specs.declared.parts.ObjectPart.{ObjectPart}
 use Rattle.p8_image.specs.Layout.{header_by, image_of}

@@ -1,7 +1,7 @@
 // Laws of what building a project answers. The functions hold no code of their own: their contracts are the laws.
 ghost use Rattle.std.specs.Prelude.{◌<◌, length, List};
 ghost use Rattle.p8_tree.specs.Projects.{NamedSource};
-ghost use Rattle.p8_children.specs.Mentions.{AreDistinct, HaveMentioned, HaveNoRing};
+ghost use Rattle.p8_names.specs.Mentions.{AreDistinct, HaveMentioned, HaveNoRing};
 ghost use Rattle.p8_image.specs.Loading.{ImageValue, memory_of};
 ghost use Rattle.p8_build.specs.Parts.{AreProper};
 ghost use Rattle.p8_build.specs.Told.{IsImageBuilt};

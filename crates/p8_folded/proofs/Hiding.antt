@@ -19,7 +19,7 @@ use Rattle.p8_kinds.specs.Kinds.{own, or_else, kind_of}
 use Rattle.p8_names.specs.Kinds.{numbered}
 use Rattle.p8_meaning.specs.Programs as meaning
 use Rattle.p8_meaning.specs.Programs.{File, constant_named, object_constant}
-use Rattle.p8_resolved.specs.Own.{IsLocal}
+use Rattle.p8_names.specs.Own.{IsLocal}
 use Rattle.p8_short.specs.Constants.{constants_in, value_meant, value_behind}
 use Rattle.p8_short.specs.Projects.{constants_of}
 

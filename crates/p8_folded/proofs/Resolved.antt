@@ -15,8 +15,8 @@ use Rattle.p8_kinds.specs.FileSettings.{meaning_of_kind}
 use Rattle.p8_kinds.specs.Kinds.{own, or_else}
 use Rattle.p8_gen.specs.Files.{names_in}
 use Rattle.p8_short.specs.Constants.{constants_in, value_meant, value_behind}
-use Rattle.p8_resolved.specs.Words as resolved
-use Rattle.p8_resolved.specs.Words.{HasWords}
+use Rattle.p8_names.specs.Words as resolved
+use Rattle.p8_names.specs.Words.{HasWords}
 use Rattle.p8_folded.specs.Asked.{AreWords, HideNoConstant}
 use Rattle.p8_folded.proofs.Words.{IsWord}
 

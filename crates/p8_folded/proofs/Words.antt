@@ -6,7 +6,7 @@ use Rattle.p8_tree.specs.Proper.{IsProperTree}
 use Rattle.p8_operators.specs.Operators.{or_zero, unary_result, binary_result, unary_value, binary_value}
 use Rattle.p8_short.specs.Constants.{Constants, both, constant_value, number_length, code_length, within, shorter_number}
 use Rattle.p8_folded.specs.Asked.{AreWords}
-use Rattle.p8_resolved.proofs.Bounds.{unary-word, binary-word}
+use Rattle.p8_names.proofs.Bounds.{unary-word, binary-word}
 
 -- a number, where there is one, is a word
 abbrev pub IsWord : Option ℕ → Type 0

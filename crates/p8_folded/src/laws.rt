@@ -17,7 +17,7 @@ ghost use Rattle.p8_kinds.specs.Kinds.{kind_of};
 ghost use Rattle.p8_kinds.specs.Misuses.{MisuseInStatements};
 ghost use Rattle.p8_names.specs.Kinds.{numbered};
 ghost use Rattle.p8_names.specs.Resolution.{IsNamed};
-ghost use Rattle.p8_children.specs.Children.{AreChildren};
+ghost use Rattle.p8_names.specs.Children.{AreChildren};
 ghost use Rattle.p8_meaning.specs.Programs.{File};
 ghost use Rattle.p8_gen.specs.Depths.{held_in};
 ghost use Rattle.p8_gen.specs.Files.{names_in};
@@ -29,7 +29,7 @@ ghost use Rattle.p8_short.specs.Folding.{folded_body};
 ghost use Rattle.p8_short.specs.Projects.{HidesNone, constants_of};
 ghost use Rattle.p8_folded.specs.Asked.{AreWords, HideNoConstant};
 
-use p8_resolved::{own_names_are_apart, resolved_constants_are_words};
+use p8_names::{own_names_are_apart, resolved_constants_are_words};
 use p8_templates::code_ends_where_its_bytes_do;
 
 /// Law: a folded body could have been read, where the values of constants are words: its trees are proper, each NEXT

@@ -17,7 +17,7 @@ use Rattle.p8_objects.specs.Projects as by_name
 use Rattle.p8_objects.specs.Outcomes.{Outcome, project, refused, missing, failed, shelved, ComesTo, Gathers}
 use Rattle.p8_objects.specs.Outcomes as outcomes
 use Rattle.p8_objects.specs.Whole as whole
-use Rattle.p8_children.specs.Mentions as seen
+use Rattle.p8_names.specs.Mentions as seen
 use Rattle.p8_inputs.specs.Sources.{GathersTo}
 
 -- an outcome that doesn't depend on what the shelf counts

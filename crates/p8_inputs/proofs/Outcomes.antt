@@ -9,7 +9,7 @@ use Rattle.p8_image.specs.declared.parts.ObjectPart.{ObjectPart}
 use Rattle.p8_objects.specs.Outcomes.{Outcome, project, refused, missing, shelved, Gathers}
 use Rattle.p8_objects.specs.Whole.{IsOfFiles}
 use Rattle.p8_objects.proofs.Wholes.{whole_project}
-use Rattle.p8_children.specs.Mentions as seen
+use Rattle.p8_names.specs.Mentions as seen
 use Rattle.p8_build.specs.Builds.{IsBuilt, IsRefusedWith, objects_of}
 use Rattle.p8_opt.specs.Shorts.{IsShortBuilt}
 use Rattle.p8_inputs.specs.Sources.{GathersTo, IsBuiltBy, IsBuiltFrom, IsRefusedFrom, while_gathered, when_built, HasOneOutcome}

@@ -14,3 +14,16 @@ mod RightSettings
 mod AllFaults
 mod MethodSteps
 mod AllMethods
+mod Numbering
+mod Targets
+mod Looking
+mod Descending
+mod OneChild
+mod OneRow
+mod ShowingChildren
+pub mod Bounds
+pub mod Counts
+pub mod Words
+pub mod Seen
+pub mod Distinct
+pub mod Own

@@ -10,3 +10,11 @@ pub mod Looking
 pub mod Regions
 pub mod Resolving
 pub mod Beginning
+-- What each file of a project sees of the files of its objects.
+pub mod Mentions
+pub mod Children
+-- internal: what is known while it is found.
+pub mod Finding
+-- What resolved names are.
+pub mod Words
+pub mod Own

@@ -18,7 +18,7 @@ use Rattle.p8_build.proofs.Ready.{resolved}
 use Rattle.p8_short.specs.Constants.{Constants, constants_in}
 use Rattle.p8_short.specs.Folding.{folded_body}
 use Rattle.p8_folded.specs.Asked.{AreWords, HideNoConstant}
-use Rattle.p8_resolved.proofs.Own.{apart}
+use Rattle.p8_names.proofs.Own.{apart}
 use Rattle.p8_folded.proofs.Proper.{body-proper}
 use Rattle.p8_folded.proofs.Misuse.{body-misused}
 use Rattle.p8_folded.proofs.Resolved.{hide-none}

@@ -20,11 +20,11 @@ use Rattle.p8_build.specs.Files.{CompiledFile, IsCompiled, setting_of, method_na
 use Rattle.p8_build.specs.Builds.{AreCompiled}
 use Rattle.p8_build.proofs.Lists.{element}
 use Rattle.p8_build.proofs.Methods.{proper_method}
-use Rattle.p8_children.specs.Children.{AreChildren}
+use Rattle.p8_names.specs.Children.{AreChildren}
 use Rattle.p8_placed.specs.Recoding.{IsRecoded, HaveCodes, IsRecodedFile, AreRecoded}
 use Rattle.p8_placed.proofs.Counting.{instances-few, few-methods}
 use Rattle.p8_placed.proofs.Environments.{no-misuse}
-use Rattle.p8_resolved.proofs.Seen.{has-words}
+use Rattle.p8_names.proofs.Seen.{has-words}
 use Rattle.p8_folded.proofs.Resolved.{are-words}
 use Rattle.p8_short.specs.Constants.{Constants, constants_in}
 use Rattle.p8_short.specs.Folding.{folded_body}

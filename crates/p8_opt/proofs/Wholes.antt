@@ -35,7 +35,7 @@ use Rattle.p8_build.specs.Builds.{IsFile, AreCompiled, objects_from, objects_of,
 use Rattle.p8_build.specs.Phases.{compiled, IsFinished, clock_in}
 use Rattle.p8_build.proofs.Lists.{element, one_element, choose}
 use Rattle.p8_build.proofs.Wholes.{objects_are, is_main, main_first, has_methods, not_lacking, clock_is}
-use Rattle.p8_resolved.proofs.Seen.{has-words}
+use Rattle.p8_names.proofs.Seen.{has-words}
 use Rattle.p8_folded.proofs.Resolved.{are-words}
 use Rattle.p8_short.specs.Constants.{constants_in}
 use Rattle.p8_short.specs.Folding.{folded_body}

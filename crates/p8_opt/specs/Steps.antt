@@ -16,7 +16,7 @@ use Rattle.p8_gen.specs.declared.coder.Tables.{Tables}
 use Rattle.p8_image.specs.declared.parts.ObjectPart.{ObjectPart}
 use Rattle.p8_stmt.specs.declared.code.MethodCode.{MethodCode}
 use Rattle.p8_stmt.specs.Methods.{AreResolved, IsMethodFault, rebodied}
-use Rattle.p8_children.specs.Children.{AreChildren}
+use Rattle.p8_names.specs.Children.{AreChildren}
 use Rattle.p8_build.specs.declared.building.Accepted.{Accepted}
 use Rattle.p8_build.specs.Parts.{AreProper}
 use Rattle.p8_build.specs.Files.{IsCompiled, object_of, setting_of}

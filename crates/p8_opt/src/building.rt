@@ -1,8 +1,8 @@
 // Building a project with short code.
 ghost use Rattle.std.specs.Prelude.{◌≡◌, ◌≤◌, ◌<◌, length, map, IfOk, IfErr};
 ghost use Rattle.p8_tree.specs.Views.{named_sources_of, named_source_of};
-ghost use Rattle.p8_children.specs.Children.{AreChildren};
-ghost use Rattle.p8_children.specs.Mentions.{HaveMentioned, HaveNoRing};
+ghost use Rattle.p8_names.specs.Children.{AreChildren};
+ghost use Rattle.p8_names.specs.Mentions.{HaveMentioned, HaveNoRing};
 ghost use Rattle.p8_build.specs.Parts.{AreProper, most_files};
 ghost use Rattle.p8_build.specs.Phases.{IfFirstRefused};
 ghost use Rattle.p8_build.specs.Told.{IsRefusal};
@@ -11,9 +11,9 @@ ghost use Rattle.p8_opt.specs.Steps.{IsAcceptedProject};
 
 use crate::objects::short_objects;
 use p8_build::{Accepted, BuildFault, Built, FileFault, accept, finish, told};
-use p8_children::children_of;
 use p8_image::Image;
 use p8_kinds::Children;
+use p8_names::children_of;
 use p8_tree::{Project, ProjectFile};
 use p8_words::{Fail, NoMemory};
 use std::alloc::Global;

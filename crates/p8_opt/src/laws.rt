@@ -2,7 +2,7 @@
 ghost use Rattle.std.specs.Prelude.{◌≡◌, ◌<◌, ℕ, length, List};
 ghost use Rattle.p8_tree.specs.Projects.{NamedSource};
 ghost use Rattle.p8_access.specs.declared.order.Turn.{Turn};
-ghost use Rattle.p8_children.specs.Mentions.{AreDistinct, HaveMentioned, HaveNoRing};
+ghost use Rattle.p8_names.specs.Mentions.{AreDistinct, HaveMentioned, HaveNoRing};
 ghost use Rattle.p8_access.specs.Worlds.{World};
 ghost use Rattle.p8_access.specs.Histories.{Ended};
 ghost use Rattle.p8_image.specs.declared.clocks.Clock.{Clock};
@@ -17,7 +17,7 @@ ghost use Rattle.p8_placed.specs.Programs.{program_of, addresses_of};
 ghost use Rattle.p8_placed.specs.Meaning.{KeepsMeaning};
 ghost use Rattle.p8_opt.specs.Shorts.{IsShortBuilt};
 
-use p8_children::one_for_each_project;
+use p8_names::one_for_each_project;
 use p8_placed::{recoded_images_have_their_methods, recoded_images_keep_meaning};
 use p8_short::{folded_sources_have_folded_methods, folds_keep_meaning};
 use p8_told_lives::lives_are_told;

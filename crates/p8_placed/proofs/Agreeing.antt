@@ -27,7 +27,7 @@ use Rattle.p8_image.proofs.Memories.{Lies}
 use Rattle.p8_placed.proofs.Instances.{IsProject, compiled-at}
 use Rattle.p8_placed.proofs.Texts.{near-texts, text-is, kind-in-method}
 use Rattle.p8_placed.proofs.Results.{no-result}
-use Rattle.p8_resolved.proofs.Seen.{has-words}
+use Rattle.p8_names.proofs.Seen.{has-words}
 use Rattle.p8_placed.proofs.Publics.{public-method}
 use Rattle.p8_placed.proofs.Sounds.{sound-of}
 

@@ -9,8 +9,8 @@ use Rattle.p8_fold.specs.declared.meanings.Meaning.{Meaning}
 use Rattle.p8_fold.specs.declared.meanings.Meaning.TheVariants as meaning_case
 use Rattle.p8_fold.specs.Meanings.{Setting, meaning_of, value_of_meaning, address_of_meaning, given}
 use Rattle.p8_fold.specs.Values.{constant_of, before, between, value, value_of_form, value_of_variable, address_of, value_of_one}
-use Rattle.p8_resolved.specs.Words.{IsWord, HasWords}
-use Rattle.p8_resolved.proofs.Bounds.{unary-word, binary-word}
+use Rattle.p8_names.specs.Words.{IsWord, HasWords}
+use Rattle.p8_names.proofs.Bounds.{unary-word, binary-word}
 
 abbrev IsSmall : Option ℕ → Type 0
 IsSmall None = Unit {0}

@@ -32,7 +32,7 @@ use Rattle.p8_placed.proofs.Alike.{Alike}
 use Rattle.p8_placed.proofs.NamedSettings.{kind-is, named-alike, behind-same}
 use Rattle.p8_placed.proofs.OwnKinds.{object-of-file}
 use Rattle.p8_placed.proofs.OwnSettings.{own-so, number-so}
-use Rattle.p8_resolved.proofs.Distinct.{own-apart}
+use Rattle.p8_names.proofs.Distinct.{own-apart}
 use Rattle.p8_placed.proofs.Misused.{SaySame, in-statements}
 
 twice : (r : Bool) (w a b : Option NameKind) → a ≡ b → (if r then w else a) ≡ (if r then w else if r then w else b)

@@ -12,8 +12,8 @@ use Rattle.p8_constants.specs.FileItems.{items}
 use Rattle.p8_constants.specs.Rules.{count_in}
 use Rattle.p8_kinds.specs.declared.children.Children.{Children}
 use Rattle.p8_kinds.specs.declared.name_kinds.NameKind.TheVariants as kind
-use Rattle.p8_children.specs.Children.{AreChildren}
-use Rattle.p8_children.specs.Mentions.{IsNamed, AreDistinct, HaveMentioned}
+use Rattle.p8_names.specs.Children.{AreChildren}
+use Rattle.p8_names.specs.Mentions.{IsNamed, AreDistinct, HaveMentioned}
 use Rattle.p8_names.specs.Settings.{predefined_value}
 use Rattle.p8_names.specs.Kinds.{numbered, objects, instances, kind_among}
 use Rattle.p8_image.specs.declared.parts.ObjectPart.{ObjectPart}
@@ -27,7 +27,7 @@ use Rattle.p8_placed.proofs.NamedSettings.{named-alike, kind-is, among-object}
 use Rattle.p8_placed.proofs.Files.{IsThere}
 use Rattle.p8_placed.proofs.Counting.{count-alike, instances-alike, few, parts-length, instances-length, instance-at}
 use Rattle.p8_placed.proofs.Objects.{item-of}
-use Rattle.p8_resolved.proofs.Counts.{count-is}
+use Rattle.p8_names.proofs.Counts.{count-is}
 use Rattle.p8_placed.proofs.OwnKinds.{object-of-file}
 
 -- ---- numbers of files

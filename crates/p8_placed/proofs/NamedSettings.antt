@@ -26,7 +26,7 @@ use Rattle.p8_names.specs.Kinds.{file_kind, kind_among, kind_or, value_in}
 use Rattle.p8_names.specs.Resolution.{IsNamed}
 use Rattle.p8_placed.proofs.Alike.{Alike}
 use Rattle.p8_placed.proofs.Definitions.{item_meaning, kind-meaning, none-defined, some-defined, behind-is}
-use Rattle.p8_resolved.proofs.Counts.{same-bytes}
+use Rattle.p8_names.proofs.Counts.{same-bytes}
 
 -- the item found has the name
 has-it : (b : Bool) (x z : Item) (more : Option Item) (P : Item → Type 0) → (b ≡ true → P x) → (more ≡ Some z → P z) → (if b then Some x else more) ≡ Some z → P z

@@ -11,8 +11,8 @@ use Rattle.p8_kinds.specs.Kinds.{own, or_else, kind_of}
 use Rattle.p8_names.specs.Kinds.{methods, numbered}
 use Rattle.p8_names.specs.Resolution.{IsNamed}
 use Rattle.p8_placed.specs.Programs.{kind_by}
-use Rattle.p8_resolved.proofs.Counts.{count-is}
-use Rattle.p8_resolved.proofs.Own.{IsOwn, own-of}
+use Rattle.p8_names.proofs.Counts.{count-is}
+use Rattle.p8_names.proofs.Own.{IsOwn, own-of}
 
 -- in which kinds a name is looked for
 abbrev pub number_by : Source → ℕ → ℕ

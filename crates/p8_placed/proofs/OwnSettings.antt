@@ -26,11 +26,11 @@ use Rattle.p8_build.proofs.Methods.{proper_method}
 use Rattle.p8_placed.specs.Programs.{kind_by, file_of}
 use Rattle.p8_placed.proofs.Alike.{Alike}
 use Rattle.p8_placed.proofs.NamedSettings.{kind-is, object-kind}
-use Rattle.p8_resolved.proofs.Counts.{count-is}
-use Rattle.p8_resolved.proofs.Own.{IsOwn, own-of}
+use Rattle.p8_names.proofs.Counts.{count-is}
+use Rattle.p8_names.proofs.Own.{IsOwn, own-of}
 use Rattle.p8_placed.proofs.OwnKinds.{number-is, object-of-file}
 use Rattle.p8_placed.proofs.Frames.{behind-object}
-use Rattle.p8_resolved.proofs.Distinct.{own-apart, own-name}
+use Rattle.p8_names.proofs.Distinct.{own-apart, own-name}
 
 -- a name is no own one, or it is a local and none of the file
 abbrev IsApart : (a b : Option NameKind) → Type 0

@@ -23,8 +23,8 @@ use Rattle.p8_kinds.specs.Kinds.{or_else}
 use Rattle.p8_kinds.specs.Publics.{method_among, method_in}
 use Rattle.p8_names.specs.Kinds.{publics, privates, numbered, objects}
 use Rattle.p8_names.specs.Faults.{of_name, too_many_params}
-use Rattle.p8_children.specs.Mentions.{IsNamed, mentions}
-use Rattle.p8_children.specs.Children.{shown_method, methods_from, behind}
+use Rattle.p8_names.specs.Mentions.{IsNamed, mentions}
+use Rattle.p8_names.specs.Children.{shown_method, methods_from, behind}
 use Rattle.p8_meaning.specs.Programs.{Program, File, method_named, methods_in}
 use Rattle.p8_meaning.specs.Calls.{method_of}
 use Rattle.p8_keeps.specs.Standing.{Compiled, IsObjectMethod}
@@ -34,8 +34,8 @@ use Rattle.p8_placed.specs.Programs.{file_of, program_of, with_sources}
 use Rattle.p8_placed.proofs.Files.{IsThere, program-at, changed-at, method-there}
 use Rattle.p8_placed.proofs.Counting.{element, few, changed-method}
 use Rattle.p8_placed.proofs.Instances.{IsProject, compiled-at}
-use Rattle.p8_resolved.proofs.Seen.{seen-at}
-use Rattle.p8_resolved.proofs.Distinct.{of-numbered}
+use Rattle.p8_names.proofs.Seen.{seen-at}
+use Rattle.p8_names.proofs.Distinct.{of-numbered}
 
 -- ---- what is shown of a file
 

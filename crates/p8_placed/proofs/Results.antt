@@ -22,8 +22,8 @@ use Rattle.p8_names.specs.Kinds.{numbered, item_kind, kind_among, kind_or, file_
 use Rattle.p8_names.specs.Resolution.{IsNamed}
 use Rattle.p8_build.proofs.Methods.{proper_method}
 use Rattle.p8_placed.specs.Programs.{kind_by}
-use Rattle.p8_resolved.proofs.Counts.{same-bytes}
-use Rattle.p8_resolved.proofs.Counts.{count-is}
+use Rattle.p8_names.proofs.Counts.{same-bytes}
+use Rattle.p8_names.proofs.Counts.{count-is}
 use Rattle.p8_placed.proofs.OwnKinds.{number-is}
 
 word-reserved : is_reserved result_word ≡ true

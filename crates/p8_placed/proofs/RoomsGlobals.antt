@@ -16,7 +16,7 @@ use Rattle.p8_kinds.specs.declared.kinds.Kinds.{Kinds}
 use Rattle.p8_kinds.specs.declared.name_kinds.NameKind.{NameKind}
 use Rattle.p8_kinds.specs.declared.name_kinds.NameKind.TheVariants as kind
 use Rattle.p8_kinds.specs.Kinds.{own, or_else, kind_of}
-use Rattle.p8_children.specs.Mentions.{HaveNoRing}
+use Rattle.p8_names.specs.Mentions.{HaveNoRing}
 use Rattle.p8_names.specs.Settings.{has_name, predefined_value}
 use Rattle.p8_names.specs.Kinds.{bytes_in, room, numbered, item_kind, kind_among, kind_or}
 use Rattle.p8_names.specs.Resolution.{IsNamed}
@@ -35,8 +35,8 @@ use Rattle.p8_placed.proofs.Alike.{Alike}
 use Rattle.p8_placed.proofs.NamedSettings.{named-alike, kind-is}
 use Rattle.p8_placed.proofs.Files.{IsThere, object-at}
 use Rattle.p8_placed.proofs.Counting.{count-alike}
-use Rattle.p8_resolved.proofs.Counts.{count-is}
-use Rattle.p8_resolved.proofs.Own.{IsOwn, own-of}
+use Rattle.p8_names.proofs.Counts.{count-is}
+use Rattle.p8_names.proofs.Own.{IsOwn, own-of}
 use Rattle.p8_placed.proofs.Instances.{IsProject, compiled-at}
 use Rattle.p8_placed.proofs.RoomsWays.{own-fits}
 

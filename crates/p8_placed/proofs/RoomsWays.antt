@@ -10,7 +10,7 @@ use Rattle.p8_tree.specs.Projects.{NamedSource}
 use Rattle.p8_constants.specs.FileItems.{items}
 use Rattle.p8_kinds.specs.declared.children.Children.{Children}
 use Rattle.p8_names.specs.Kinds.{objects}
-use Rattle.p8_children.specs.Mentions.{mentions, IsNamed, Mentions, Leads, there, over, HaveNoRing}
+use Rattle.p8_names.specs.Mentions.{mentions, IsNamed, Mentions, Leads, there, over, HaveNoRing}
 use Rattle.p8_image.specs.declared.parts.ObjectPart.{ObjectPart}
 use Rattle.p8_image.specs.Layout.{total, own_variables, variables_within, variables_of}
 use Rattle.p8_meaning.specs.Programs.{Program, Addresses, File, Instance}

@@ -34,7 +34,7 @@ use Rattle.p8_placed.proofs.Files.{IsThere, method-there}
 use Rattle.p8_placed.proofs.Counting.{few, changed-method}
 use Rattle.p8_placed.proofs.NamedSettings.{kind-is}
 use Rattle.p8_placed.proofs.Objects.{IsItem, item-of}
-use Rattle.p8_resolved.proofs.Own.{IsOwn, own-of}
+use Rattle.p8_names.proofs.Own.{IsOwn, own-of}
 use Rattle.p8_placed.proofs.Frames.{coded}
 use Rattle.p8_placed.proofs.Environments.{hiding-alike}
 use Rattle.p8_placed.proofs.Rooms.{Within, within-where, among-within, within-frame, longs-same, sizes, instances-some}
@@ -42,8 +42,8 @@ use Rattle.p8_placed.proofs.OwnSettings.{own-so}
 use Rattle.p8_placed.proofs.Instances.{IsProject, at-length, compiled-at}
 use Rattle.p8_placed.proofs.Placing.{of-file}
 use Rattle.p8_placed.proofs.Publics.{at-front, few-params}
-use Rattle.p8_resolved.proofs.Words.{IsConstWord}
-use Rattle.p8_resolved.proofs.Seen.{file-const}
+use Rattle.p8_names.proofs.Words.{IsConstWord}
+use Rattle.p8_names.proofs.Seen.{file-const}
 
 -- ---- a kind that is no local
 

@@ -46,7 +46,7 @@ use Rattle.p8_placed.specs.Programs.{file_of, program_of, with_sources, addresse
 use Rattle.p8_placed.specs.Agreements.{names_of, HaveRoom, NamesHaveRoom}
 use Rattle.p8_placed.proofs.Holding.{within}
 use Rattle.p8_placed.proofs.Tables.{stands-fits}
-use Rattle.p8_resolved.proofs.Counts.{same-bytes}
+use Rattle.p8_names.proofs.Counts.{same-bytes}
 use Rattle.p8_placed.proofs.Files.{IsThere, file-of, program-at, changed-at, object-at, method-place, method-there}
 use Rattle.p8_placed.proofs.Counting.{element, part-at}
 use Rattle.p8_image.proofs.Memories.{Lies}

@@ -5,8 +5,8 @@ use Rattle.p8_access.specs.Worlds.{World}
 use Rattle.p8_access.specs.Histories.{Ended}
 use Rattle.p8_tree.specs.Projects.{NamedSource}
 use Rattle.p8_kinds.specs.declared.children.Children.{Children}
-use Rattle.p8_children.specs.Mentions as mentions
-use Rattle.p8_children.specs.Children.{AreChildren}
+use Rattle.p8_names.specs.Mentions as mentions
+use Rattle.p8_names.specs.Children.{AreChildren}
 use Rattle.p8_image.specs.declared.clocks.Clock.{Clock}
 use Rattle.p8_image.specs.declared.parts.ObjectPart.{ObjectPart}
 use Rattle.p8_image.specs.Headers.{header_of}

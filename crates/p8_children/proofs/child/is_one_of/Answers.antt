@@ -1,5 +1,0 @@
-use Rattle.p8_children.proofs.Showing.{told}
-use Rattle.p8_children.proofs.child.is_one_of.Goals as goal
-
-pub returns : goal.returns
-returns c = λ names h. told names c.as_slice.result.now c.args.name.now c.has.result c.as_slice.ensures (c.has.ensures names h)

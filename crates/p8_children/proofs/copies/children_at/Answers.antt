@@ -1,6 +1,0 @@
-use Rattle.std.proofs.Common.{slice_get, arith}
-use Rattle.p8_children.proofs.Showing.{look_ups_next}
-use Rattle.p8_children.proofs.copies.children_at.Goals as goal
-
-pub loop-target-preserved : goal.loop-target-preserved
-loop-target-preserved c = look_ups_next (slice_get c.args.seen.now) c.args.targets.now c.loop-target.target-index 0 c.loop-target.items c.put_copy.new.items (omega arith) c.loop-target.invariant c.in_ok-put_copy.ensures

@@ -1,5 +1,0 @@
-use Rattle.p8_children.proofs.OneRow.{one_row}
-use Rattle.p8_children.proofs.laws.one_for_each_project.Goals as goal
-
-pub returns : goal.returns
-returns c = λ files distinct no_ring a b left right. one_row files distinct a b left right no_ring

@@ -1,5 +1,0 @@
-use Rattle.p8_resolved.proofs.Seen.{has-words}
-use Rattle.p8_resolved.proofs.laws.resolved_constants_are_words.Goals as goal
-
-pub returns : goal.returns
-returns c = λ files all children i file seen stands beside top found named. has-words files all children i file seen top found stands beside named

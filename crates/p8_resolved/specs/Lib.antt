@@ -1,3 +1,0 @@
--- What resolved names are.
-pub mod Words
-pub mod Own
