@@ -1,3 +1,5 @@
+pub mod ToldOfLine
+pub mod Printing
 pub mod Settings
 pub mod Rows
 pub mod LocalLabels

@@ -11,9 +11,9 @@ use Rattle.p8_fold.specs.Values.{value, FaultIn}
 use Rattle.p8_fold.specs.Verdicts.{verdict, first_of_two}
 use Rattle.p8_fold.proofs.Judging.{Tells, fault_told, two_told, own_told}
 use Rattle.p8_fold.proofs.Judged.{judged}
-use Rattle.p8_encoding.specs.Encoding.{FaultInInstruction}
-use Rattle.p8_encoding.specs.First.{first_in_instruction}
-use Rattle.p8_encoding.proofs.Told.{instruction_told}
+use Rattle.p8_dat.specs.Encoding.{FaultInInstruction}
+use Rattle.p8_dat.specs.FirstOfLine.{first_in_instruction}
+use Rattle.p8_dat.proofs.ToldOfLine.{instruction_told}
 use Rattle.p8_dat.specs.declared.spots.Spot.{Spot}
 use Rattle.p8_dat.specs.Spots.{string, behind_item, Placed}
 use Rattle.p8_dat.specs.Names.{Region, names_in}

@@ -15,7 +15,7 @@ use Rattle.p8_fold.specs.declared.meanings.Meaning.{Meaning}
 use Rattle.p8_fold.specs.declared.meanings.Meaning.TheVariants as meaning_case
 use Rattle.p8_fold.specs.Meanings.{Setting, outside_operands}
 use Rattle.p8_fold.proofs.Judging.{Tells}
-use Rattle.p8_encoding.proofs.Told.{as_match}
+use Rattle.p8_dat.proofs.ToldOfLine.{as_match}
 use Rattle.p8_dat.specs.declared.spots.Spot.{Spot}
 use Rattle.p8_dat.specs.declared.placing.Placed as code
 use Rattle.p8_dat.specs.Spots.{Placed, placed, behind_lines}

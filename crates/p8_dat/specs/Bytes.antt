@@ -6,7 +6,7 @@ use Rattle.p8_tree.specs.Expressions.{Tree}
 use Rattle.p8_tree.specs.Sources.{Datum, Contents, Data, Instr}
 use Rattle.p8_fold.specs.Meanings.{Setting, outside_operands, in_operand}
 use Rattle.p8_fold.specs.Values.{value}
-use Rattle.p8_encoding.specs.Encoding.{long_of_line}
+use Rattle.p8_dat.specs.Encoding.{long_of_line}
 use Rattle.p8_dat.specs.declared.spots.Spot.{Spot}
 use Rattle.p8_dat.specs.Spots.{limit, advanced, number, string, size_of, behind_item, Placed}
 

@@ -8,7 +8,7 @@ use Rattle.p8_faults.specs.declared.faults.Fault.{Fault}
 use Rattle.p8_faults.specs.Faults.{fault}
 use Rattle.p8_fold.specs.Meanings.{Setting}
 use Rattle.p8_fold.specs.Values.{value, FaultIn, where_so}
-use Rattle.p8_encoding.specs.Encoding.{FaultInInstruction}
+use Rattle.p8_dat.specs.Encoding.{FaultInInstruction}
 use Rattle.p8_dat.specs.declared.spots.Spot.{Spot}
 use Rattle.p8_dat.specs.Spots.{number, string, behind_item, Placed}
 use Rattle.p8_dat.specs.Bytes.{in_data, in_instruction}

@@ -7,7 +7,7 @@ use Rattle.p8_tree.specs.Sources.{Datum, Contents, Nothing, Data, Org, Res, Fit,
 use Rattle.p8_faults.specs.declared.faults.Fault.{Fault}
 use Rattle.p8_fold.specs.Meanings.{Setting}
 use Rattle.p8_fold.specs.Verdicts.{verdict, first_of_two}
-use Rattle.p8_encoding.specs.First.{first_in_instruction}
+use Rattle.p8_dat.specs.FirstOfLine.{first_in_instruction}
 use Rattle.p8_dat.specs.declared.spots.Spot.{Spot}
 use Rattle.p8_dat.specs.Spots.{string, behind_item, Placed}
 use Rattle.p8_dat.specs.Names.{Region, names_in}

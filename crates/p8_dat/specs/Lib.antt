@@ -1,3 +1,8 @@
+-- What the public contracts cite.
+pub mod Encoding
+pub mod Printed
+-- What the code computes, the first fault at once: internal.
+pub mod FirstOfLine
 -- Where the lines of DAT stand, what bytes stand there, which labels a line sees, and what is wrong.
 pub mod Spots
 pub mod Names

@@ -14,7 +14,7 @@ use Rattle.p8_tree.specs.Proper.{IsSize, IfThere, IsProperFile, IsProperBlock, I
 use Rattle.p8_operators.specs.Operators.{or_zero}
 use Rattle.p8_fold.specs.Meanings.{Setting}
 use Rattle.p8_fold.specs.Values.{value}
-use Rattle.p8_encoding.specs.Encoding.{long_of_line}
+use Rattle.p8_dat.specs.Encoding.{long_of_line}
 use Rattle.p8_kinds.specs.declared.children.Children.{Children}
 use Rattle.p8_kinds.specs.declared.kinds.Kinds.{Kinds}
 use Rattle.p8_kinds.specs.declared.name_kinds.Label.{Label}

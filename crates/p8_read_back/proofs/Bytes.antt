@@ -8,9 +8,9 @@ use Rattle.p8_tree.specs.Sources.{Instruction, Instr, Line}
 use Rattle.p8_faults.specs.declared.faults.Fault.{Fault}
 use Rattle.p8_fold.specs.Meanings.{Setting}
 use Rattle.p8_instr.specs.Instruction.{instr_of}
-use Rattle.p8_encoding.specs.Encoding.{long_of_line, FaultInInstruction}
-use Rattle.p8_encoding.specs.Printed.{printed_line}
-use Rattle.p8_encoding.proofs.Printing.{printed_long, printed_good, nop_long}
+use Rattle.p8_dat.specs.Encoding.{long_of_line, FaultInInstruction}
+use Rattle.p8_dat.specs.Printed.{printed_line}
+use Rattle.p8_dat.proofs.Printing.{printed_long, printed_good, nop_long}
 use Rattle.p8_dat.specs.declared.spots.Spot.{Spot}
 use Rattle.p8_dat.specs.Spots.{begun}
 use Rattle.p8_dat.specs.Names.{names_in}

@@ -5,7 +5,7 @@ use Rattle.p8_tree.specs.declared.places.Place.{Place}
 use Rattle.p8_tree.specs.Sources.{Instruction, Instr, Line}
 use Rattle.p8_faults.specs.declared.faults.Fault.{Fault}
 use Rattle.p8_instr.specs.Instruction.{instr_of}
-use Rattle.p8_encoding.specs.Printed.{printed_line}
+use Rattle.p8_dat.specs.Printed.{printed_line}
 use Rattle.p8_constants.specs.FileItems.{items}
 use Rattle.p8_kinds.specs.declared.children.Children.{Children}
 use Rattle.p8_kinds.specs.Environments.{Environment}

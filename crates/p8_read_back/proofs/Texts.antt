@@ -19,7 +19,7 @@ use Rattle.p8_print.specs.Spelled.{Spelled, reserved}
 use Rattle.p8_print.specs.DataWords.{words_of_effects}
 use Rattle.p8_line_words.proofs.Made.{sixteen}
 use Rattle.p8_line_words.proofs.Going.{AreEnded}
-use Rattle.p8_encoding.specs.Printed.{effects_of}
+use Rattle.p8_dat.specs.Printed.{effects_of}
 use Rattle.p8_disassembly.specs.Numerals.{hex}
 use Rattle.p8_disassembly.specs.Instructions.{condition_text, word_text, operands_text, effects_text, instruction_text}
 use Rattle.p8_read_back.proofs.Words.{Lettered, lettered, has_class, instruction_lettered, condition_lettered, WordFor, opcode_word, is_condition_for, condition_word, condition_is}

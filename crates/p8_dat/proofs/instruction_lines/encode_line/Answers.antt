@@ -2,10 +2,10 @@ use Rattle.std.proofs.Common.{◌≡◌, rules, sym, subst}
 use Rattle.p8_tree.specs.Views.{instruction_of}
 use Rattle.p8_fold.specs.Entries.{setting_of}
 use Rattle.p8_fold.proofs.Judging.{Tells}
-use Rattle.p8_encoding.specs.Encoding.{FaultInInstruction}
-use Rattle.p8_encoding.specs.First.{first_in_instruction}
-use Rattle.p8_encoding.proofs.Told.{instruction_told, as_match}
-use Rattle.p8_encoding.proofs.lines.encode_line.Goals as goal
+use Rattle.p8_dat.specs.Encoding.{FaultInInstruction}
+use Rattle.p8_dat.specs.FirstOfLine.{first_in_instruction}
+use Rattle.p8_dat.proofs.ToldOfLine.{instruction_told, as_match}
+use Rattle.p8_dat.proofs.instruction_lines.encode_line.Goals as goal
 
 pub returns-in_ok-end-clause-fault : goal.returns-in_ok-end-clause-fault
 returns-in_ok-end-clause-fault c =

@@ -7,7 +7,7 @@ use Rattle.p8_tree.specs.Sources.{Instruction}
 use Rattle.p8_faults.specs.declared.faults.Fault.{Fault}
 use Rattle.p8_fold.specs.Meanings.{Setting}
 use Rattle.p8_fold.specs.Verdicts.{verdict, first_of_two}
-use Rattle.p8_encoding.specs.Encoding.{range_fault, call_fault}
+use Rattle.p8_dat.specs.Encoding.{range_fault, call_fault}
 
 abbrev pub first_in_operand : Setting → Option Tree → Place → Option Fault
 first_in_operand s None place = None

@@ -15,8 +15,8 @@ use Rattle.p8_fold.specs.Values.{where_so}
 use Rattle.p8_instr.specs.declared.instruction.Instr.{Instr}
 use Rattle.p8_instr.specs.Instruction.{instr_of, long_of, writes_result, is_immediate}
 use Rattle.p8_instr.specs.Mnemonics.{mnemonics, word_where, is_named_by, entry_of}
-use Rattle.p8_encoding.specs.Encoding.{is_address, field, label_field, return_meaning, return_fault, bit, writes, flags_of, instr_with, long_with, long_of_line, dest_of, field_of, FaultInOperand, FaultInInstruction}
-use Rattle.p8_encoding.specs.Printed.{effects_of, printed_line}
+use Rattle.p8_dat.specs.Encoding.{is_address, field, label_field, return_meaning, return_fault, bit, writes, flags_of, instr_with, long_with, long_of_line, dest_of, field_of, FaultInOperand, FaultInInstruction}
+use Rattle.p8_dat.specs.Printed.{effects_of, printed_line}
 
 -- ---- all numbers below a bound, by a test
 

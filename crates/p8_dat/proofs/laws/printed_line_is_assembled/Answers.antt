@@ -1,5 +1,5 @@
-use Rattle.p8_encoding.proofs.Printing.{printed_long, printed_good}
-use Rattle.p8_encoding.proofs.laws.printed_line_is_assembled.Goals as goal
+use Rattle.p8_dat.proofs.Printing.{printed_long, printed_good}
+use Rattle.p8_dat.proofs.laws.printed_line_is_assembled.Goals as goal
 
 pub returns-clause-long : goal.returns-clause-long
 returns-clause-long c = printed_long

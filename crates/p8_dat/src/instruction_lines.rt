@@ -7,8 +7,8 @@ ghost use Rattle.p8_faults.specs.Faults.{IsFirstFault};
 ghost use Rattle.p8_fold.specs.Entries.{setting_of};
 ghost use Rattle.p8_fold.specs.Verdicts.{first_of_two};
 ghost use Rattle.p8_instr.specs.Instruction.{FitsFields};
-ghost use Rattle.p8_encoding.specs.Encoding.{bit, flags_of, instr_with, long_of_fields, long_of_line, FaultInInstruction};
-ghost use Rattle.p8_encoding.specs.First.{first_in_instruction};
+ghost use Rattle.p8_dat.specs.Encoding.{bit, flags_of, instr_with, long_of_fields, long_of_line, FaultInInstruction};
+ghost use Rattle.p8_dat.specs.FirstOfLine.{first_in_instruction};
 
 use crate::calls::called;
 use crate::operands::operand_of;

@@ -4,8 +4,8 @@ ghost use Rattle.p8_tree.specs.Views.{tree_of, variable_of};
 ghost use Rattle.p8_fold.specs.Entries.{setting_of};
 ghost use Rattle.p8_fold.specs.Values.{where_so};
 ghost use Rattle.p8_faults.specs.Faults.{fault};
-ghost use Rattle.p8_encoding.specs.Encoding.{is_address, field, field_of, name_of, name_alone, is_off_long, is_label_off_long};
-ghost use Rattle.p8_encoding.specs.First.{first_in_operand};
+ghost use Rattle.p8_dat.specs.Encoding.{is_address, field, field_of, name_of, name_alone, is_off_long, is_label_off_long};
+ghost use Rattle.p8_dat.specs.FirstOfLine.{first_in_operand};
 
 use p8_faults::Fault;
 use p8_fold::{Consts, Meaning, value_of};

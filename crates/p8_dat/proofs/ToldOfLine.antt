@@ -12,8 +12,8 @@ use Rattle.p8_fold.specs.Values.{value, FaultIn}
 use Rattle.p8_fold.specs.Verdicts.{verdict, first_of_two}
 use Rattle.p8_fold.proofs.Judging.{Tells, fault_told, two_told, own_told}
 use Rattle.p8_fold.proofs.Judged.{judged}
-use Rattle.p8_encoding.specs.Encoding.{range_fault, FaultInOperand, FaultInInstruction, call_fault}
-use Rattle.p8_encoding.specs.First.{first_in_operand, first_in_instruction}
+use Rattle.p8_dat.specs.Encoding.{range_fault, FaultInOperand, FaultInInstruction, call_fault}
+use Rattle.p8_dat.specs.FirstOfLine.{first_in_operand, first_in_instruction}
 
 operand_told : (s : Setting) (o : Option Tree) (place : Place) → Tells (first_in_operand s o place) (FaultInOperand s o place)
 operand_told s None place = λ f b. b

@@ -5,8 +5,8 @@ use Rattle.p8_tree.specs.declared.expressions.ExprKind as kind
 use Rattle.p8_tree.specs.Expressions.{node}
 use Rattle.p8_tree.specs.Views.{form_of}
 use Rattle.p8_fold.proofs.Rows.{call_form}
-use Rattle.p8_encoding.specs.Encoding.{name_alone}
-use Rattle.p8_encoding.proofs.operands.name_alone.Goals as goal
+use Rattle.p8_dat.specs.Encoding.{name_alone}
+use Rattle.p8_dat.proofs.operands.name_alone.Goals as goal
 
 -- a call is no name alone
 call_unnamed : {x : call.Call} (place : Place) (k : kind.ExprKind) → k ≡ kind.Call x → None ≡ name_alone (node place (form_of k))

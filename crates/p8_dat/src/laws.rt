@@ -5,8 +5,8 @@ ghost use Rattle.p8_tree.specs.Sources.{Instruction};
 ghost use Rattle.p8_faults.specs.declared.faults.Fault.{Fault};
 ghost use Rattle.p8_fold.specs.Meanings.{Setting};
 ghost use Rattle.p8_instr.specs.Instruction.{instr_of};
-ghost use Rattle.p8_encoding.specs.Encoding.{long_of_line, FaultInInstruction};
-ghost use Rattle.p8_encoding.specs.Printed.{printed_line};
+ghost use Rattle.p8_dat.specs.Encoding.{long_of_line, FaultInInstruction};
+ghost use Rattle.p8_dat.specs.Printed.{printed_line};
 
 /// Law: the line that a listing prints for a long is assembled to this long, whatever names mean, and nothing is wrong with it.
 pub fn printed_line_is_assembled()

@@ -4,7 +4,7 @@ ghost use Rattle.p8_faults.specs.Faults.{fault};
 ghost use Rattle.p8_fold.specs.Values.{where_so};
 ghost use Rattle.p8_tree.specs.Views.{tree_of};
 ghost use Rattle.p8_fold.specs.Entries.{setting_of};
-ghost use Rattle.p8_encoding.specs.Encoding.{is_address, field, return_meaning, end_meaning, return_fault, label_field};
+ghost use Rattle.p8_dat.specs.Encoding.{is_address, field, return_meaning, end_meaning, return_fault, label_field};
 
 use crate::operands::{Operand, field, name_alone};
 use p8_faults::Fault;
