@@ -1,3 +1,4 @@
+mod Rows
 pub mod Lists
 mod Firsts
 pub mod Methods

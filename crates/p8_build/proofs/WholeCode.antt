@@ -27,7 +27,7 @@ use Rattle.p8_gen.specs.Scopes.{names_from}
 use Rattle.p8_gen.proofs.Tabled.{names_same}
 use Rattle.p8_image.specs.declared.parts.MethodPart.{MethodPart}
 use Rattle.p8_image.specs.declared.parts.ObjectPart.{ObjectPart}
-use Rattle.p8_strings.specs.declared.texts.StringText.{StringText}
+use Rattle.p8_build.specs.declared.string_texts.StringText.{StringText}
 use Rattle.p8_stmt.specs.Methods.{AreResolved}
 use Rattle.p8_build.specs.Parts.{text_number, strings_of}
 use Rattle.p8_build.specs.Numbers.{text_of, number_by, AreNumbers}

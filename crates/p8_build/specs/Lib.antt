@@ -1,3 +1,7 @@
+-- The texts of a method.
+pub mod Strings
+-- What the code's values stand for.
+pub mod Views
 -- What the public contracts cite.
 pub mod Parts
 pub mod Files

@@ -10,7 +10,7 @@ use Rattle.p8_image.specs.declared.parts.TextUse.{TextUse}
 use Rattle.p8_image.specs.declared.parts.MethodPart.{MethodPart}
 use Rattle.p8_gen.specs.declared.code.StringUse.{StringUse}
 use Rattle.p8_stmt.specs.declared.code.MethodCode.{MethodCode}
-use Rattle.p8_strings.specs.declared.texts.StringText.{StringText}
+use Rattle.p8_build.specs.declared.string_texts.StringText.{StringText}
 use Rattle.p8_build.specs.declared.texts.TextNumbers.{TextNumbers}
 
 -- a text with its place

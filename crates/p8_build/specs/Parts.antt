@@ -14,7 +14,7 @@ use Rattle.p8_fold.specs.Meanings.{Setting}
 use Rattle.p8_constants.specs.FileItems.{Item, variable, items}
 use Rattle.p8_constants.specs.Rules.{count_in}
 use Rattle.p8_names.specs.Kinds.{numbered, objects, instances}
-use Rattle.p8_strings.specs.Strings.{strings_in}
+use Rattle.p8_build.specs.Strings.{strings_in}
 use Rattle.p8_image.specs.declared.parts.Variable.{Variable}
 use Rattle.p8_image.specs.declared.parts.TextUse.{TextUse}
 use Rattle.p8_image.specs.declared.parts.MethodPart.{MethodPart}

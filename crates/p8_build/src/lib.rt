@@ -1,14 +1,19 @@
 //! From a gathered project to the parts of its image, its image, or its first refusal.
+//!
+//! The texts of a method's `STRING`s are listed on the way.
 #![tactic(auto)]
 
 mod assembling;
 mod building;
 mod coding;
+mod expressions;
 mod fault;
 mod finishing;
 mod laws;
 mod naming;
 mod objects;
+mod statements;
+mod string_texts;
 mod texts;
 
 pub use building::{Accepted, Built, accept, build, build_parts};
@@ -16,3 +21,5 @@ pub use fault::{BuildFault, FileFault, told};
 pub use finishing::finish;
 pub use laws::one_build;
 pub use objects::object_of_codes;
+pub use statements::strings_of;
+pub use string_texts::StringText;

@@ -16,6 +16,7 @@ ghost use Rattle.p8_build.specs.Phases.{AreNamed, seen_by, AreAssembled, AreObje
 use crate::assembling::instances;
 use crate::coding::{Coded, FileTables, code_of_all, first_too_many, parts_of};
 use crate::fault::{FileFault, in_file};
+use crate::string_texts::StringText;
 use crate::texts::{TextNumbers, copies_of, strings_of_all};
 use p8_constants::{Item, count_value, first_of_two, items_of};
 use p8_dat::Dat;
@@ -26,7 +27,6 @@ use p8_image::{MethodPart, ObjectPart, Variable};
 use p8_kinds::{Named, consts_of};
 use p8_names::numbered;
 use p8_stmt::MethodCode;
-use p8_strings::StringText;
 use p8_tree::{List, ProjectFile, Text};
 use p8_words::{Fail, NoMemory};
 use std::alloc::{AllocError, Global};

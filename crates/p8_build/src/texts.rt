@@ -8,9 +8,10 @@ ghost use Rattle.p8_faults.specs.Faults.{is_same_place};
 ghost use Rattle.p8_build.specs.Parts.{strings_in_method};
 ghost use Rattle.p8_build.specs.Numbers.{text_of, at_place, number_by, AreNumbers, use_by};
 
+use crate::statements::strings_of;
+use crate::string_texts::StringText;
 use p8_gen::StringUse;
 use p8_image::TextUse;
-use p8_strings::{StringText, strings_of};
 use p8_tree::{List, Method, Place, Text};
 use p8_words::NoMemory;
 use std::alloc::{AllocError, Global};

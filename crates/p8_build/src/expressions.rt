@@ -4,10 +4,10 @@ ghost use Rattle.p8_tree.specs.declared.places.Place.{Place};
 ghost use Rattle.p8_tree.specs.Views.{tree_of, variable_of, call_of, trees_of, items_of, item_of};
 ghost use Rattle.p8_tree.specs.Bridges.{boxed_index};
 ghost use Rattle.p8_fold.specs.Verdicts.{boxed_bits};
-ghost use Rattle.p8_strings.specs.Strings.{in_tree, in_form, in_variable, in_index, in_bits, in_item, in_trees, in_items, in_option};
-ghost use Rattle.p8_strings.specs.Views.{texts_of};
+ghost use Rattle.p8_build.specs.Strings.{in_tree, in_form, in_variable, in_index, in_bits, in_item, in_trees, in_items, in_option};
+ghost use Rattle.p8_build.specs.Views.{texts_of};
 
-use crate::texts::StringText;
+use crate::string_texts::StringText;
 use p8_tree::{Call, Expr, ExprKind, Item, Target};
 use std::alloc::AllocError;
 

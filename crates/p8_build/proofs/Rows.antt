@@ -12,7 +12,7 @@ use Rattle.p8_tree.specs.declared.statements.StmtKind.TheVariants as stmt_case
 use Rattle.p8_tree.specs.declared.statements.Loop as loop
 use Rattle.p8_tree.specs.Views.{tree_of, trees_of, item_of, items_of, course_of, action_of, statement_of, statements_of, arm_of, arms_of}
 use Rattle.p8_tree.specs.Bridges.{trees_of-push, items_of-push, statements_of-push, arms_of-push, other_body, arm_is, if_is, case_is, repeat_is}
-use Rattle.p8_strings.specs.Strings.{Texts, in_tree, in_item, in_trees, in_items, before_body, behind_body, strings_in, in_statement, in_action, in_arms, in_arm, in_otherwise}
+use Rattle.p8_build.specs.Strings.{Texts, in_tree, in_item, in_trees, in_items, before_body, behind_body, strings_in, in_statement, in_action, in_arms, in_arm, in_otherwise}
 
 pub trees_next : (xs : List expr.Expr) (i : ℕ) (d : expr.Expr) (a b : Texts) {c : Texts} → i < length xs → d ≡ get_or xs i d → b ≡ a ++ in_trees (trees_of (take i xs)) → c ≡ b ++ in_tree (tree_of d) → c ≡ a ++ in_trees (trees_of (take (i + 1) xs))
 trees_next xs i d a b lt at before now =

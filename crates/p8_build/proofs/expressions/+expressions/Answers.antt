@@ -3,10 +3,10 @@ use Rattle.std.proofs.lemmas.Grind.{common_steps}
 use Rattle.p8_tree.specs.Views.{form_of}
 use Rattle.p8_tree.specs.Bridges.{built_is, look_is}
 use Rattle.p8_fold.proofs.Rows.{call_form}
-use Rattle.p8_strings.specs.Strings.{in_form}
-use Rattle.p8_strings.specs.Views.{texts_of}
-use Rattle.p8_strings.proofs.Rows.{trees_next, items_next}
-use Rattle.p8_strings.proofs.expressions.+expressions.Goals as goal
+use Rattle.p8_build.specs.Strings.{in_form}
+use Rattle.p8_build.specs.Views.{texts_of}
+use Rattle.p8_build.proofs.Rows.{trees_next, items_next}
+use Rattle.p8_build.proofs.expressions.+expressions.Goals as goal
 
 pub put_call-returns : goal.put_call-returns
 put_call-returns t c = λ place.

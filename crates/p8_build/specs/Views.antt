@@ -1,7 +1,7 @@
 -- What the code's values stand for.
 use Rattle.std.specs.Prelude.{List, map}
-use Rattle.p8_strings.specs.declared.texts.StringText.{StringText}
-use Rattle.p8_strings.specs.Strings.{Texts}
+use Rattle.p8_build.specs.declared.string_texts.StringText.{StringText}
+use Rattle.p8_build.specs.Strings.{Texts}
 
 -- texts with their places
 abbrev pub texts_of : List StringText → Texts

@@ -1,11 +1,11 @@
 // The texts of statements. The calls go as deep as blocks stand in one another.
 ghost use Rattle.std.specs.Prelude.{◌≡◌, ◌++◌, OnOk, IfOk};
 ghost use Rattle.p8_tree.specs.Views.{course_of, method_of, statement_of, statements_of, arm_of, arms_of};
-ghost use Rattle.p8_strings.specs.Strings.{before_body, behind_body, strings_in, in_statement, in_arm, in_arms};
-ghost use Rattle.p8_strings.specs.Views.{texts_of};
+ghost use Rattle.p8_build.specs.Strings.{before_body, behind_body, strings_in, in_statement, in_arm, in_arms};
+ghost use Rattle.p8_build.specs.Views.{texts_of};
 
 use crate::expressions::{put_items, put_option, put_tree};
-use crate::texts::StringText;
+use crate::string_texts::StringText;
 use p8_tree::{Arm, Loop, Method, Stmt, StmtKind};
 use p8_words::NoMemory;
 use std::alloc::{AllocError, Global};

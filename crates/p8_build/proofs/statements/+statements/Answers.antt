@@ -1,10 +1,10 @@
 use Rattle.std.proofs.Common.{◌≡◌, ◌++◌, [], OnOk, sym, ap, ◌∙◌, subst, append_assoc, append-nil, arith}
 use Rattle.std.proofs.lemmas.Grind.{common_steps}
 use Rattle.p8_tree.specs.Views.{tree_of, arms_of}
-use Rattle.p8_strings.specs.Strings.{in_tree, in_arms}
-use Rattle.p8_strings.specs.Views.{texts_of}
-use Rattle.p8_strings.proofs.Rows.{statements_next, arms_next, no_other, some_other, if_texts, case_texts, repeat_texts, arm_texts}
-use Rattle.p8_strings.proofs.statements.+statements.Goals as goal
+use Rattle.p8_build.specs.Strings.{in_tree, in_arms}
+use Rattle.p8_build.specs.Views.{texts_of}
+use Rattle.p8_build.proofs.Rows.{statements_next, arms_next, no_other, some_other, if_texts, case_texts, repeat_texts, arm_texts}
+use Rattle.p8_build.proofs.statements.+statements.Goals as goal
 
 pub put_statements-loop-statement-preserved : goal.put_statements-loop-statement-preserved
 put_statements-loop-statement-preserved t c =

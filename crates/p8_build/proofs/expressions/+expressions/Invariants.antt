@@ -1,8 +1,8 @@
 use Rattle.std.proofs.Common.{◌≡◌, ◌++◌, take}
 use Rattle.p8_tree.specs.Views.{trees_of, items_of}
-use Rattle.p8_strings.specs.Strings.{in_trees, in_items}
-use Rattle.p8_strings.specs.Views.{texts_of}
-use Rattle.p8_strings.proofs.expressions.+expressions.Given as goal
+use Rattle.p8_build.specs.Strings.{in_trees, in_items}
+use Rattle.p8_build.specs.Views.{texts_of}
+use Rattle.p8_build.proofs.expressions.+expressions.Given as goal
 
 abbrev pub invariant-put_trees-loop-tree : goal.invariant-put_trees-loop-tree
 invariant-put_trees-loop-tree l = texts_of l.texts.items ≡ texts_of l.initial.texts.items ++ in_trees (trees_of (take l.tree-index l.trees))
