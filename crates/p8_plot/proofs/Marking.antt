@@ -2,9 +2,9 @@
 use Rattle.std.proofs.Common.{◌≡◌, ◌∙◌, ap, sym, subst, ℕ, ◌+◌, ◌<◌, ◌≤◌, Bool, List, ◌∷◌, ◌++◌, length, get_or, drop, flat_map, append_assoc}
 use Rattle.std.proofs.lemmas.List.{drop_more}
 use Rattle.p8_access.specs.Worlds.{level_at, levels_after}
-use Rattle.p8_levels.specs.declared.change.Change.{Change}
-use Rattle.p8_levels.specs.Levels.{is_high}
-use Rattle.p8_levels.specs.Changes.{lines_of, Ahead, RiseFrom}
+use Rattle.p8_pins.specs.declared.change.Change.{Change}
+use Rattle.p8_pins.specs.Levels.{is_high}
+use Rattle.p8_pins.specs.LevelChanges.{lines_of, Ahead, RiseFrom}
 use Rattle.p8_plot.specs.declared.grid.Column.{Column}
 use Rattle.p8_plot.specs.declared.mark.Mark.{Mark}
 use Rattle.p8_plot.specs.Plot.{mark_of, text_of_mark}

@@ -2,8 +2,8 @@
 use Rattle.std.proofs.Common.{◌≡◌, ◌∙◌, ap, ℕ, Bool, List, min}
 use Rattle.p8_access.specs.declared.order.Turn.{Turn}
 use Rattle.p8_access.specs.Worlds.{Line, World, level_at}
-use Rattle.p8_levels.specs.Levels.{is_high, high_at, end_of}
-use Rattle.p8_levels.specs.Changes.{Tells}
+use Rattle.p8_pins.specs.Levels.{is_high, high_at, end_of}
+use Rattle.p8_pins.specs.LevelChanges.{Tells}
 use Rattle.p8_plot.specs.declared.view.View.{View}
 use Rattle.p8_plot.specs.Plot.{columns_of, picture_of, plot_of}
 

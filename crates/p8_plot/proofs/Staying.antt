@@ -4,10 +4,10 @@ use Rattle.std.specs.List.{list_all, range_with_len}
 use Rattle.std.proofs.lemmas.Bool.{cases_lt, and_parts, and_cases, and_from, and_left, and_right, cond-true, cond-false}
 use Rattle.std.proofs.lemmas.Bool.Decides.{nat_tests}
 use Rattle.p8_access.specs.Worlds.{Line, levels_after}
-use Rattle.p8_levels.specs.declared.change.Change.{Change}
-use Rattle.p8_levels.specs.Levels.{is_high}
-use Rattle.p8_levels.specs.Changes.{line_of, lines_of, Ahead, RiseFrom, IsLater, HasPassed}
-use Rattle.p8_levels.proofs.Passing.{passes, waits, stays as settled, rise-later, passed-agrees, passed-rise}
+use Rattle.p8_pins.specs.declared.change.Change.{Change}
+use Rattle.p8_pins.specs.Levels.{is_high}
+use Rattle.p8_pins.specs.LevelChanges.{line_of, lines_of, Ahead, RiseFrom, IsLater, HasPassed}
+use Rattle.p8_pins.proofs.Passing.{passes, waits, stays as settled, rise-later, passed-agrees, passed-rise}
 use Rattle.p8_plot.specs.declared.grid.Column.{Column}
 use Rattle.p8_plot.specs.declared.mark.Mark.TheVariants.{Low, High, Changing}
 use Rattle.p8_plot.specs.Plot.{clocks_of, mark_of}

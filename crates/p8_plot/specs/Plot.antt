@@ -6,7 +6,7 @@ use Rattle.std.specs.Int.{div_ceil}
 use Rattle.std.specs.List.{list_all, range_with_len}
 use Rattle.p8_access.specs.declared.order.Turn.{Turn}
 use Rattle.p8_access.specs.Worlds.{World}
-use Rattle.p8_levels.specs.Levels.{is_high, high_at, end_of}
+use Rattle.p8_pins.specs.Levels.{is_high, high_at, end_of}
 use Rattle.p8_plot.specs.declared.grid.Column.{Column}
 use Rattle.p8_plot.specs.declared.mark.Mark.{Mark}
 use Rattle.p8_plot.specs.declared.mark.Mark.TheVariants.{Low, High, Changing}

@@ -2,8 +2,8 @@
 -- A pin along the changes of a run's pins.
 use Rattle.std.specs.Prelude.{ℕ, ◌≡◌, ◌<◌, ◌≤◌, ◌&&◌, nat_le, if◌then◌else◌, Bool, true, false, not, List, [], ◌∷◌}
 use Rattle.p8_access.specs.Worlds.{Line, level_at}
-use Rattle.p8_levels.specs.Levels.{is_high}
-use Rattle.p8_levels.specs.Changes.{Ahead, RiseFrom, pins_from}
+use Rattle.p8_pins.specs.Levels.{is_high}
+use Rattle.p8_pins.specs.LevelChanges.{Ahead, RiseFrom, pins_from}
 use Rattle.p8_plot.specs.Plot.{pin_line}
 use Rattle.p8_plot.specs.declared.grid.Column.{Column}
 use Rattle.p8_plot.specs.declared.view.View.{View}

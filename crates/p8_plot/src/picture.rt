@@ -2,8 +2,8 @@
 ghost use Rattle.std.specs.Prelude.{◌≡◌, ◌<◌, ◌++◌, ℕ, flat_map, reverse, IfOk, OnOk};
 ghost use Rattle.p8_access.specs.Worlds.{World, level_at};
 ghost use Rattle.p8_access.specs.Histories.{Rises};
-ghost use Rattle.p8_levels.specs.Levels.{is_high};
-ghost use Rattle.p8_levels.specs.Changes.{lines_of, RiseFrom};
+ghost use Rattle.p8_pins.specs.Levels.{is_high};
+ghost use Rattle.p8_pins.specs.LevelChanges.{lines_of, RiseFrom};
 ghost use Rattle.p8_plot.specs.Plot.{label_of, mark_of, text_of_mark, picture_of, plot_of};
 ghost use Rattle.p8_plot.specs.Tracing.{Follow, line_of_pin};
 
@@ -13,8 +13,7 @@ use crate::text::{push_decimal, push_text};
 use crate::trace::{Trace, is_set};
 use crate::view::View;
 use p8_access::Turn;
-use p8_levels::{Change, pin_changes, run_end};
-use p8_pins::PinScript;
+use p8_pins::{Change, PinScript, pin_changes, run_end};
 use p8_words::NoMemory;
 use std::alloc::Global;
 

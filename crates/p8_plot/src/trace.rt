@@ -1,17 +1,17 @@
 // A pin along the changes of a run.
 ghost use Rattle.std.specs.Prelude.{◌≡◌, ◌<◌, ◌≤◌, ℕ, Bool};
-ghost use Rattle.p8_levels.specs.Levels.{is_high};
-ghost use Rattle.p8_levels.specs.Changes.{lines_of, HasPassed, IsLater};
+ghost use Rattle.p8_pins.specs.Levels.{is_high};
+ghost use Rattle.p8_pins.specs.LevelChanges.{lines_of, HasPassed, IsLater};
 ghost use Rattle.p8_plot.specs.Plot.{mark_of};
 ghost use Rattle.p8_plot.specs.Tracing.{same, stays, IsFrom};
 
 use crate::grid::Column;
 use crate::mark::Mark;
-use p8_levels::Change;
+use p8_pins::Change;
 use std::marker::Model;
 
 /// Whether the bit of a pin is set, of 32.
-#[tactic(auto, unfolding(p8_levels::specs::Levels::is_high))]
+#[tactic(auto, unfolding(p8_pins::specs::Levels::is_high))]
 pub fn is_set(pins: u32, pin: u8) -> bool
     requires { pin < 32 }
     ensures { result ≡ is_high pin pins }
@@ -34,7 +34,7 @@ pub struct Trace<'a> {
 }
 
 impl<'a> Model for Trace<'a> {
-    ghost use Rattle.p8_levels.specs.Changes.{Ahead, lines_of};
+    ghost use Rattle.p8_pins.specs.LevelChanges.{Ahead, lines_of};
 
     ghost Value = { Ahead };
 

@@ -4,9 +4,9 @@ use Rattle.std.specs.List.{range_with_len}
 use Rattle.std.proofs.lemmas.Bool.{cases_lt}
 use Rattle.std.proofs.lemmas.Bool.Decides.{nat_tests}
 use Rattle.p8_access.specs.Worlds.{Line, levels_after}
-use Rattle.p8_levels.specs.Levels.{is_high}
-use Rattle.p8_levels.specs.Changes.{RiseFrom, Ahead}
-use Rattle.p8_levels.proofs.Passing.{passes, waits, rise-from}
+use Rattle.p8_pins.specs.Levels.{is_high}
+use Rattle.p8_pins.specs.LevelChanges.{RiseFrom, Ahead}
+use Rattle.p8_pins.proofs.Passing.{passes, waits, rise-from}
 use Rattle.p8_serial.specs.Serial.{stop_of, frames, falls_at, falling_edges}
 use Rattle.p8_serial.specs.Receiving.{falls, falls_in, IsReceiving}
 

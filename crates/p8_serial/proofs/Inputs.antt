@@ -6,7 +6,7 @@ use Rattle.p8_access.specs.declared.order.Turn.{Turn}
 use Rattle.p8_access.specs.Worlds.{World, level_at}
 use Rattle.p8_access.specs.Hub.{cogs}
 use Rattle.p8_access.specs.Pins.{or_all, outa_of, dira_of, dira, outputs, pins_with}
-use Rattle.p8_levels.specs.Levels.{by, is_high, high_at, pins_when}
+use Rattle.p8_pins.specs.Levels.{by, is_high, high_at, pins_when}
 
 -- where no direction has a bit, no driven output has it
 none-driven : (outa dira : ℕ → ℕ) (pin : ℕ) (ns : List ℕ) → bit_at (or_all dira ns) pin ≡ 0 → bit_at (or_all (λ n. bit_and (outa n) (dira n)) ns) pin ≡ 0

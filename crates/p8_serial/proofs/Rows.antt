@@ -5,9 +5,9 @@ use Rattle.std.specs.Int.{bit_at}
 use Rattle.std.proofs.lemmas.List.Concat.{flat_map-append}
 use Rattle.std.proofs.lemmas.Nat.Bits.{bit_at-zero, bit_at-pow_same}
 use Rattle.p8_access.specs.Worlds.{Line, levels_after}
-use Rattle.p8_levels.specs.Levels.{is_high}
-use Rattle.p8_levels.specs.Changes.{RiseFrom}
-use Rattle.p8_levels.proofs.Passing.{passes, waits, rise-from}
+use Rattle.p8_pins.specs.Levels.{is_high}
+use Rattle.p8_pins.specs.LevelChanges.{RiseFrom}
+use Rattle.p8_pins.proofs.Passing.{passes, waits, rise-from}
 use Rattle.p8_serial.specs.Typed.{has_bit, frame_of, line_at, line_text, lines_from}
 
 some-is : (a b : Bool) → Some a ≡ Some b → a ≡ b

@@ -15,8 +15,8 @@ use Rattle.std.proofs.lemmas.List.{length-map}
 use Rattle.p8_access.specs.Worlds.{Line}
 use Rattle.p8_pins.specs.Scripts.{is_skipped, Carries, clocks_of, most_lines, most_bytes, IsScript, IsReadAs}
 use Rattle.p8_disassembly.specs.Numerals.{glyph, hex}
-use Rattle.p8_levels.specs.Changes.{RiseFrom}
-use Rattle.p8_levels.proofs.Passing.{rise-from}
+use Rattle.p8_pins.specs.LevelChanges.{RiseFrom}
+use Rattle.p8_pins.proofs.Passing.{rise-from}
 use Rattle.p8_serial.specs.Typed.{frame_of, line_at, line_text, lines_from, sent, typed_text}
 use Rattle.p8_serial.specs.Laws.{CanBeSent}
 use Rattle.p8_serial.proofs.Rows.{row-rise}

@@ -2,9 +2,9 @@
 use Rattle.std.proofs.Common.{◌≡◌, ◌∙◌, ap, sym, refl, ℕ, ◌+◌, ◌*◌, ◌<◌, ◌≤◌, Bool, true, List, [], ◌∷◌, length, flat_map, arith}
 use Rattle.p8_access.specs.declared.order.Turn.{Turn}
 use Rattle.p8_access.specs.Worlds.{Line, World, level_at, levels_after}
-use Rattle.p8_levels.specs.Levels.{is_high, high_at, end_of}
-use Rattle.p8_levels.specs.Changes.{Ahead}
-use Rattle.p8_levels.proofs.Passing.{passes, rise-from}
+use Rattle.p8_pins.specs.Levels.{is_high, high_at, end_of}
+use Rattle.p8_pins.specs.LevelChanges.{Ahead}
+use Rattle.p8_pins.proofs.Passing.{passes, rise-from}
 use Rattle.p8_serial.specs.Serial.{frames, falling_edges, frames_text, serial_by, serial_of}
 use Rattle.p8_serial.specs.Typed.{frame_of, line_at, lines_from, sent}
 use Rattle.p8_serial.specs.Laws.{CanBeSent, Hears, received_text}

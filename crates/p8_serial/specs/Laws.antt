@@ -5,7 +5,7 @@ use Rattle.p8_access.specs.declared.order.Turn.{Turn}
 use Rattle.p8_access.specs.Worlds.{World}
 use Rattle.p8_access.specs.Pins.{dira}
 use Rattle.p8_disassembly.specs.Numerals.{hex}
-use Rattle.p8_levels.specs.Levels.{by, is_high, end_of}
+use Rattle.p8_pins.specs.Levels.{by, is_high, end_of}
 use Rattle.p8_serial.specs.Typed.{sent}
 
 -- the length of a bit, in clocks

@@ -9,9 +9,8 @@ ghost use Rattle.p8_serial.specs.Serial.{serial_of};
 use crate::frames::frames_text;
 use p8_access::keys_rise;
 use p8_ledger::History;
-use p8_levels::{pin_changes, run_end};
 use p8_lives::CogLife;
-use p8_pins::PinScript;
+use p8_pins::{PinScript, pin_changes, run_end};
 use p8_words::NoMemory;
 use std::alloc::Global;
 

@@ -1,15 +1,15 @@
 // The frames on a pin, along the changes of a run's pins.
 ghost use Rattle.std.specs.Prelude.{◌≡◌, ◌<◌, ◌≤◌, ◌+◌, ◌*◌, ◌/◌, ◌^◌, ◌&&◌, ◌∷◌, ◌++◌, not, ℕ, Bool, List, [], length, MatchOption, IfOk, IfSome, OnOk};
 ghost use Rattle.p8_access.specs.Worlds.{level_at};
-ghost use Rattle.p8_levels.specs.Levels.{is_high};
-ghost use Rattle.p8_levels.specs.Changes.{lines_of, RiseFrom, HasPassed, IsLater};
+ghost use Rattle.p8_pins.specs.Levels.{is_high};
+ghost use Rattle.p8_pins.specs.LevelChanges.{lines_of, RiseFrom, HasPassed, IsLater};
 ghost use Rattle.p8_serial.specs.Laws.{IsRate};
 ghost use Rattle.p8_serial.specs.Serial.{stop_of, byte_at, frames, serial_by};
 ghost use Rattle.p8_serial.specs.Receiving.{falls_in, level_in, IsPast, IsReceiving, IsNext, line_of_frame};
 
 use crate::numbers::push_decimal;
 use p8_disassembly::{byte_digits, push_text};
-use p8_levels::{Change, Cursor};
+use p8_pins::{Change, Cursor};
 use p8_words::NoMemory;
 use std::alloc::Global;
 

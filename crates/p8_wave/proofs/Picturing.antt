@@ -9,7 +9,7 @@ use Rattle.p8_access.specs.Histories.{Rises}
 use Rattle.p8_access.specs.Hub.{cogs, cog_state, is_set, is_taken}
 use Rattle.p8_access.specs.Pins.{outa_of, dira_of, pins_at, pins_with, dira, outputs}
 use Rattle.p8_pins.specs.Matches.{IsBefore}
-use Rattle.p8_levels.specs.Levels.{by, end_of}
+use Rattle.p8_pins.specs.Levels.{by, end_of}
 use Rattle.p8_wave.specs.declared.courses.Course.{Course}
 use Rattle.p8_pins.specs.declared.spans.Span.{Span}
 use Rattle.p8_wave.specs.declared.signals.Signals.{Signals}

@@ -8,7 +8,7 @@ use Rattle.p8_access.specs.declared.order.Turn.{Turn}
 use Rattle.p8_access.specs.Histories.{Rises}
 use Rattle.p8_access.specs.Worlds.{World}
 use Rattle.p8_wave.specs.declared.signals.Signals.{Signals}
-use Rattle.p8_levels.specs.Levels.{by}
+use Rattle.p8_pins.specs.Levels.{by}
 use Rattle.p8_wave.specs.Following.{AreSignals}
 use Rattle.p8_wave.specs.Walks.{taken_by, left_by, IsLater, IsTaking}
 

@@ -10,7 +10,7 @@ use Rattle.p8_access.specs.Worlds.{World}
 use Rattle.p8_access.specs.Histories.{Rises}
 use Rattle.p8_access.specs.Pins.{pins_with, dira, outputs}
 use Rattle.p8_pins.specs.Matches.{IsBefore}
-use Rattle.p8_levels.specs.Levels.{by, end_of}
+use Rattle.p8_pins.specs.Levels.{by, end_of}
 use Rattle.p8_wave.specs.declared.courses.Course.{Course}
 use Rattle.p8_wave.specs.declared.entries.Entry.{Entry}
 use Rattle.p8_wave.specs.declared.pictures.Picture.{Picture}

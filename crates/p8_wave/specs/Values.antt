@@ -10,7 +10,7 @@ use Rattle.p8_access.specs.declared.states.CogState.TheVariants.{Stopped, Starti
 use Rattle.p8_access.specs.Worlds.{World}
 use Rattle.p8_access.specs.Hub.{newest, cog_state, is_set, is_taken}
 use Rattle.p8_access.specs.Pins.{outa_of, dira_of, pins_at}
-use Rattle.p8_levels.specs.Levels.{by, end_of}
+use Rattle.p8_pins.specs.Levels.{by, end_of}
 use Rattle.p8_wave.specs.declared.variables.Selection.{Selection}
 use Rattle.p8_wave.specs.declared.variables.Variable.{Variable}
 use Rattle.p8_wave.specs.declared.variables.Variable.TheVariants.{Pin, Outa, Dira, State, Lock, Taken}

@@ -5,7 +5,7 @@ use Rattle.p8_access.specs.declared.order.Turn.{Turn}
 use Rattle.p8_access.specs.Worlds.{World, Line, level_at}
 use Rattle.p8_access.specs.Histories.{Rises}
 use Rattle.p8_pins.specs.Matches.{IsBefore}
-use Rattle.p8_levels.specs.Levels.{by, end_of}
+use Rattle.p8_pins.specs.Levels.{by, end_of}
 use Rattle.p8_wave.specs.declared.courses.Course.{Course}
 use Rattle.p8_wave.specs.declared.pictures.Picture.{Picture}
 use Rattle.p8_wave.specs.declared.signals.Signals.{Signals}

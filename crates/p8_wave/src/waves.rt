@@ -16,8 +16,7 @@ use crate::variables::Selection;
 use crate::walks::{Walk, walk_along};
 use p8_disassembly::push_text;
 use p8_ledger::History;
-use p8_levels::run_end;
-use p8_pins::PinScript;
+use p8_pins::{PinScript, run_end};
 use p8_words::NoMemory;
 use std::alloc::Global;
 

@@ -1,6 +1,6 @@
 use Rattle.std.proofs.Common.{◌≡◌, ◌∙◌, ap, sym, List, ℕ, ◌++◌, flat_map, arith}
 use Rattle.std.specs.List.{range_with_len}
-use Rattle.p8_levels.specs.Changes.{lines_of}
+use Rattle.p8_pins.specs.LevelChanges.{lines_of}
 use Rattle.p8_plot.specs.Plot.{picture_of, scale_of}
 use Rattle.p8_plot.specs.Tracing.{line_of_pin}
 use Rattle.p8_plot.proofs.Ranges.{flat_map-more}

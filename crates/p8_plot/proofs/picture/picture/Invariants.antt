@@ -1,6 +1,6 @@
 use Rattle.std.proofs.Common.{◌≡◌, flat_map}
 use Rattle.std.specs.List.{range_with_len}
-use Rattle.p8_levels.specs.Changes.{lines_of}
+use Rattle.p8_pins.specs.LevelChanges.{lines_of}
 use Rattle.p8_plot.specs.Tracing.{line_of_pin}
 use Rattle.p8_plot.proofs.picture.picture.Given as goal
 

@@ -2,9 +2,9 @@ use Rattle.std.proofs.Common.{◌≡◌, ◌∙◌, ap, sym, refl, subst, ℕ, L
 use Rattle.std.specs.Prelude.{IfOk}
 use Rattle.p8_access.specs.declared.kinds.Origin.TheVariants.{Pasm}
 use Rattle.p8_access.specs.Worlds.{World, level_at}
-use Rattle.p8_levels.specs.declared.change.Change.{Change}
-use Rattle.p8_levels.specs.Levels.{is_high, end_of}
-use Rattle.p8_levels.specs.Changes.{lines_of, RiseFrom, Tells}
+use Rattle.p8_pins.specs.declared.change.Change.{Change}
+use Rattle.p8_pins.specs.Levels.{is_high, end_of}
+use Rattle.p8_pins.specs.LevelChanges.{lines_of, RiseFrom, Tells}
 use Rattle.p8_plot.specs.declared.grid.Column.{Column}
 use Rattle.p8_plot.specs.Plot.{picture_of}
 use Rattle.p8_plot.proofs.Plotting.{told-plot}

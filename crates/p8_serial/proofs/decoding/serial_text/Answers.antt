@@ -2,9 +2,9 @@ use Rattle.std.proofs.Common.{◌≡◌, ◌∙◌, ap, sym, refl, subst, ℕ, L
 use Rattle.std.specs.Prelude.{IfOk}
 use Rattle.p8_access.specs.declared.order.Turn.{Turn}
 use Rattle.p8_ledger.specs.Worlds.{world_of}
-use Rattle.p8_levels.specs.declared.change.Change.{Change}
-use Rattle.p8_levels.specs.Levels.{end_of}
-use Rattle.p8_levels.specs.Changes.{lines_of, RiseFrom, Tells}
+use Rattle.p8_pins.specs.declared.change.Change.{Change}
+use Rattle.p8_pins.specs.Levels.{end_of}
+use Rattle.p8_pins.specs.LevelChanges.{lines_of, RiseFrom, Tells}
 use Rattle.p8_serial.proofs.Decoded.{told-serial}
 use Rattle.p8_serial.proofs.decoding.serial_text.Goals as goal
 

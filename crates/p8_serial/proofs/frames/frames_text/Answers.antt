@@ -1,7 +1,7 @@
 use Rattle.std.proofs.Common.{◌≡◌, ◌∙◌, ap, sym, ℕ, ◌+◌, Bool, arith, subst}
 use Rattle.p8_access.specs.Worlds.{level_at}
-use Rattle.p8_levels.specs.Levels.{is_high}
-use Rattle.p8_levels.specs.Changes.{lines_of}
+use Rattle.p8_pins.specs.Levels.{is_high}
+use Rattle.p8_pins.specs.LevelChanges.{lines_of}
 use Rattle.p8_serial.specs.Receiving.{HasReceived}
 use Rattle.p8_serial.proofs.Counting.{opened, opened-fewer, goes-on, ended, at-most-one}
 use Rattle.p8_serial.proofs.frames.frames_text.Goals as goal

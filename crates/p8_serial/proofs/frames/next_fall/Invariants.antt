@@ -1,6 +1,6 @@
 use Rattle.std.proofs.Common.{◌≡◌, ◌≤◌, ℕ, length}
-use Rattle.p8_levels.specs.Levels.{is_high}
-use Rattle.p8_levels.specs.Changes.{RiseFrom}
+use Rattle.p8_pins.specs.Levels.{is_high}
+use Rattle.p8_pins.specs.LevelChanges.{RiseFrom}
 use Rattle.p8_serial.specs.Receiving.{falls, falls_in, IsBehind}
 use Rattle.p8_serial.proofs.frames.next_fall.Given as goal
 

@@ -1,5 +1,5 @@
 use Rattle.std.proofs.Common.{◌≡◌, ◌+◌, ◌*◌, ◌/◌, ℕ}
-use Rattle.p8_levels.specs.Changes.{HasPassed}
+use Rattle.p8_pins.specs.LevelChanges.{HasPassed}
 use Rattle.p8_serial.specs.Serial.{number_at}
 use Rattle.p8_serial.specs.Receiving.{level_in}
 use Rattle.p8_serial.proofs.frames.receive_byte.Given as goal

@@ -3,7 +3,7 @@ use Rattle.p8_access.specs.Worlds.{Line, level_at}
 use Rattle.p8_pins.specs.Matches.{IsBefore}
 use Rattle.p8_wave.specs.declared.courses.Course.{Course}
 use Rattle.p8_wave.specs.Variables.{variables}
-use Rattle.p8_levels.specs.Levels.{by}
+use Rattle.p8_pins.specs.Levels.{by}
 use Rattle.p8_wave.specs.Wave.{changes_text}
 use Rattle.p8_wave.specs.Walks.{IsSet}
 use Rattle.p8_wave.proofs.Sectioning.{all_variables}

@@ -1,6 +1,6 @@
 use Rattle.std.proofs.Common.{◌≡◌, ◌∙◌, ap, sym, reverse}
 use Rattle.p8_access.specs.Worlds.{World}
-use Rattle.p8_levels.specs.Levels.{end_of}
+use Rattle.p8_pins.specs.Levels.{end_of}
 use Rattle.p8_wave.specs.Scale.{period_of, ticks_in}
 use Rattle.p8_wave.specs.Walks.{IsSet}
 use Rattle.p8_wave.proofs.waves.wave.Goals as goal

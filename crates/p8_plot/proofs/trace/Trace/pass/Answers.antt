@@ -1,5 +1,5 @@
 use Rattle.std.proofs.Common.{◌∙◌, ap, arith}
-use Rattle.p8_levels.proofs.Passing.{passes-change}
+use Rattle.p8_pins.proofs.Passing.{passes-change}
 use Rattle.p8_plot.specs.Tracing.{same}
 use Rattle.p8_plot.proofs.Staying.{goes-on}
 use Rattle.p8_plot.proofs.trace.Trace.pass.Goals as goal

@@ -1,5 +1,5 @@
 use Rattle.std.proofs.Common.{◌≡◌, ◌&&◌, length}
-use Rattle.p8_levels.specs.Changes.{HasPassed, lines_of}
+use Rattle.p8_pins.specs.LevelChanges.{HasPassed, lines_of}
 use Rattle.p8_plot.specs.Tracing.{stays}
 use Rattle.p8_plot.proofs.trace.Trace.pass.Given as goal
 
