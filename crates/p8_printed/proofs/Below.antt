@@ -24,12 +24,12 @@ use Rattle.p8_statements.specs.Statements.{kind_of_row}
 use Rattle.p8_rows.specs.Values.{begins_line}
 use Rattle.p8_print.specs.Spelled.{Spelled, IsReadable}
 use Rattle.p8_expr.specs.Sources.{AreLexemes}
-use Rattle.p8_rereading.specs.Written.{Written, IsSameRow}
-use Rattle.p8_rereading.specs.Rereading.{AreSpelled, AreOfSource, with_line_end, ReadsBack}
+use Rattle.p8_printed.specs.Written.{Written, IsSameRow}
+use Rattle.p8_printed.specs.Rereading.{AreSpelled, AreOfSource, with_line_end, ReadsBack}
 use Rattle.p8_print.specs.StatementWords.{words_of_kind}
 use Rattle.p8_print.specs.DeclarationWords.{words_of_constant, words_of_variable, words_of_child, words_of_head}
 use Rattle.p8_print.specs.DataWords.{words_of_line}
-use Rattle.p8_line_words.specs.Kinds.{kind_anywhere}
+use Rattle.p8_printed.specs.Kinds.{kind_anywhere}
 
 -- The tokens of a file are those that a source can have.
 abbrev pub Lexemes : Type 0

@@ -15,7 +15,7 @@ use Rattle.p8_blocks.specs.Trees.{IsShallow}
 use Rattle.p8_blocks.specs.Files.{IsFileWithinLimits}
 use Rattle.p8_lines.proofs.Texts.{text_end_other}
 use Rattle.p8_print.specs.Spelled.{text_of_lines}
-use Rattle.p8_rereading.proofs.SpelledLines.{read_back}
+use Rattle.p8_printed.proofs.SpelledLines.{read_back}
 use Rattle.p8_grammar.specs.Proper.{lexeme_in}
 use Rattle.p8_expr.specs.Sources.{IsLexeme}
 use Rattle.p8_print.specs.Layout.{lines_of}

@@ -9,7 +9,7 @@ use Rattle.p8_columns.specs.Lines.{Kind, Plain, ElseIf, Else, End, Case, Item, L
 use Rattle.p8_columns.specs.Blocks.{Bound, Anywhere, UpTo, Contents, body, choices}
 use Rattle.p8_columns.specs.Reader.{begun, chained, with_arm, ended, with_else, closing, tested, with_end, with_body, with_choices, with_item, closed}
 use Rattle.p8_columns.proofs.Made.{is_statement, is_case_line, is_else_kind, Joins, joins_statement, joins_case, joins_chain, joins_loop, fresh}
-use Rattle.p8_line_words.specs.Kinds.{kind_anywhere}
+use Rattle.p8_printed.specs.Kinds.{kind_anywhere}
 
 abbrev pub contents_anywhere : Contents → Contents
 contents_anywhere (body ss) = body (statements_anywhere ss)

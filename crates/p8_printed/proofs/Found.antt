@@ -1,7 +1,7 @@
 -- Printed lines as a reader finds them: each where it was printed, of the same kind but for places.
 use Rattle.std.proofs.Common.{◌≡◌, suc, List, [], ◌∷◌, ◌++◌, refl, ap}
 use Rattle.p8_columns.specs.Lines.{Line, column}
-use Rattle.p8_line_words.specs.Kinds.{kind_anywhere}
+use Rattle.p8_printed.specs.Kinds.{kind_anywhere}
 use Rattle.p8_print.specs.Layout.{Indented}
 
 pub record IsFound (x : Indented) (l : Line) : Type 0 where

@@ -14,8 +14,8 @@ use Rattle.p8_statements.specs.Rows.{value_in, word_in}
 use Rattle.p8_statements.specs.Actions.{action, named_action}
 use Rattle.p8_statements.specs.Statements.{is_item as is_item_row, maybe_value, course, test, unless_in_range, is_last_colon, tests_after, other_line, line, doing, statement, kind_of_row}
 use Rattle.p8_blocks.specs.Files.{is_item}
-use Rattle.p8_rereading.specs.Written.{ends_line}
-use Rattle.p8_line_words.specs.Kinds.{kind_anywhere}
+use Rattle.p8_printed.specs.Written.{ends_line}
+use Rattle.p8_printed.specs.Kinds.{kind_anywhere}
 use Rattle.p8_printed.proofs.Values.{Where, where_is, where_if, where_map, where_after, where_ending}
 
 item_kept : (k : Kind) → is_item (kind_anywhere k) ≡ is_item k

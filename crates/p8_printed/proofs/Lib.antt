@@ -1,3 +1,48 @@
+pub mod Forgetting
+pub mod ForgettingActions
+pub mod ForgettingLines
+pub mod MethodNames
+pub mod RoleWords
+pub mod WrittenRows
+pub mod WrittenVariables
+pub mod WrittenActions
+pub mod WrittenLines
+pub mod Readings
+pub mod PartSources
+pub mod Steps
+pub mod Constants
+pub mod Variables
+pub mod Objects
+pub mod Heads
+pub mod Made
+pub mod DataParts
+pub mod DataReading
+pub mod DataRows
+pub mod Going
+pub mod Effects
+pub mod DataNames
+pub mod Operands
+pub mod Items
+pub mod InstructionsRead
+pub mod DataLinesRead
+pub mod DataWordsAll
+pub mod DataBack
+pub mod SpelledWords
+pub mod WordCuts
+pub mod Runs
+pub mod SpelledLines
+pub mod TableWords
+pub mod Alike
+pub mod WordTokens
+pub mod OperandWords
+pub mod Heights
+pub mod Printed
+pub mod ReadWords
+pub mod Following
+pub mod Taken
+pub mod Tokens
+pub mod Names
+pub mod Again
 pub mod Elements
 pub mod Found
 pub mod Forgotten
@@ -11,3 +56,19 @@ pub mod Lines
 pub mod Printable
 pub mod Reread
 pub mod Files
+mod ProperNames
+mod Tables
+mod Rows
+mod Expressions
+mod Placeless
+mod PlacelessLines
+mod LineTokens
+mod ProperLines
+mod MethodLines
+mod ActionWords
+mod ActionVariables
+mod Actions
+mod ProperAgain
+mod AgainData
+mod AgainStatements
+mod ProperFiles

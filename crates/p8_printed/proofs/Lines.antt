@@ -16,10 +16,10 @@ use Rattle.p8_statements.specs.Statements.{kind_of_row}
 use Rattle.p8_rows.specs.Values.{begins_line}
 use Rattle.p8_blocks.specs.Files.{within_limits, begins_text, is_item, AreLines, a_blank, a_line}
 use Rattle.p8_print.specs.Spelled.{IsReadable}
-use Rattle.p8_rereading.specs.Written.{ends_line}
-use Rattle.p8_rereading.specs.Rereading.{AreSpelled, AreOfSource}
+use Rattle.p8_printed.specs.Written.{ends_line}
+use Rattle.p8_printed.specs.Rereading.{AreSpelled, AreOfSource}
 use Rattle.p8_print.specs.StatementWords.{words_of_kind}
-use Rattle.p8_line_words.specs.Kinds.{kind_anywhere}
+use Rattle.p8_printed.specs.Kinds.{kind_anywhere}
 use Rattle.p8_printed.proofs.Below.{Laws}
 use Rattle.p8_printed.proofs.Rebuilt.{is_line}
 use Rattle.p8_printed.proofs.Values.{row_is_line}

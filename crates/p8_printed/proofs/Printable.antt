@@ -27,7 +27,7 @@ use Rattle.p8_blocks.specs.Files.{within_limits, lines_of_row, Declare, AreLines
 use Rattle.p8_print.specs.Spelled.{Spelled, reserved, IsReadable, IsReadableLine}
 use Rattle.p8_grammar.specs.Proper.{lexeme_in}
 use Rattle.p8_expr.specs.Sources.{IsLexeme}
-use Rattle.p8_rereading.specs.Rereading.{AreSpelled, AreOfSource, ReadsBack}
+use Rattle.p8_printed.specs.Rereading.{AreSpelled, AreOfSource, ReadsBack}
 use Rattle.p8_print.specs.DeclarationWords.{words_of_constant, words_of_variable, words_of_child, words_of_head}
 use Rattle.p8_print.specs.DataWords.{words_of_line}
 use Rattle.p8_print.specs.Layout.{line, spelled_line, lines_of_statements, lines_of_block, lines_of}

@@ -30,7 +30,7 @@ use Rattle.p8_tree.specs.Nesting.{leave_loops}
 use Rattle.p8_blocks.specs.Trees.{IsShallowBlock, IsShallow}
 use Rattle.p8_blocks.specs.Files.{Heights, within_limits, lines_of_row, Declare, AreLines, IsHead, method_word, IsBlock, con, var, obj, dat, method, IsFile, first, one_more, no_line, a_blank, a_line, with_body}
 use Rattle.p8_print.specs.Spelled.{Spelled, reserved, SpelledLine}
-use Rattle.p8_rereading.specs.Rereading.{AreSpelled, ReadsBack}
+use Rattle.p8_printed.specs.Rereading.{AreSpelled, ReadsBack}
 use Rattle.p8_print.specs.DeclarationWords.{words_of_constant, words_of_variable, words_of_child, words_of_head}
 use Rattle.p8_print.specs.DataWords.{words_of_line}
 use Rattle.p8_print.specs.Layout.{Indented, line, spelled_line, lines_of_statements, lines_of_method, lines_of_block, lines_of}

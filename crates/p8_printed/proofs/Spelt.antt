@@ -4,8 +4,8 @@ use Rattle.p8_lexer.specs.declared.token.Token as lexer_token
 use Rattle.p8_lexer.specs.declared.word.Word.TheVariants as word_case
 use Rattle.p8_lines.specs.Tokens.{LineToken, word, line_token}
 use Rattle.p8_print.specs.Spelled.{Spelled, SpelledLine, spell}
-use Rattle.p8_rereading.specs.Reading.{column_behind, IsWord, AreWords, AreLines}
-use Rattle.p8_rereading.specs.Rereading.{IsSpelled, AreSpelled}
+use Rattle.p8_printed.specs.Reading.{column_behind, IsWord, AreWords, AreLines}
+use Rattle.p8_printed.specs.Rereading.{IsSpelled, AreSpelled}
 
 -- the first of these tokens, if there is one, stands at a column
 abbrev pub BeginsAt : ℕ → List LineToken → Type 0

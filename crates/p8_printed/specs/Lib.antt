@@ -1,2 +1,7 @@
 -- What public contracts cite.
+pub mod Kinds
+pub mod Reading
+pub mod Lexemes
+pub mod Written
+pub mod Rereading
 pub mod Trees

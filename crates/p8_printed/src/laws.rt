@@ -27,12 +27,12 @@ pub fn printed_reads_back()
     ensures { (s : Source) → IsOfFile s
         → (tokens : List token.Token) × (s' : Source) × AreTokens (text_of_lines (lines_of s)) tokens × IsFileWithinLimits s' (all_tokens (text_of_lines (lines_of s)) tokens) × IsSameSource s' s }
 {
-    p8_rereading::rows_read_back();
-    p8_line_words::lines_are_written();
-    p8_line_words::places_do_not_matter();
-    p8_line_words::constants_read_back();
-    p8_line_words::variables_read_back();
-    p8_line_words::objects_read_back();
-    p8_line_words::heads_read_back();
-    p8_line_words::data_read_back();
+    crate::piece_rows::rows_read_back();
+    crate::methods::lines_are_written();
+    crate::methods::places_do_not_matter();
+    crate::declarations::constants_read_back();
+    crate::declarations::variables_read_back();
+    crate::declarations::objects_read_back();
+    crate::declarations::heads_read_back();
+    crate::assembly::data_read_back();
 }

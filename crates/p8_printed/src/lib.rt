@@ -1,9 +1,30 @@
-//! What is printed is read back.
+//! What is printed is read back. The functions of this crate do nothing: their contracts are its laws.
 //!
-//! A law says of each tree that a file has that its text, as [`print_tree`](p8_print::print_tree) writes it, is read as
-//! the same tree, but for places.
+//! A printer writes words, and what it wrote is read as it was: lines of words as tokens, the words of an expression as the
+//! same expression, the words of a row of pieces as the same row, and those of each line of a source as the same line, but for
+//! places. So the text of each tree that a file has, as [`print_tree`](p8_print::print_tree) writes it, is read as the same tree.
+//!
+//! A tree of a source is proper where its numbers, names, operators, operands, heights and depths are such as a source has. This
+//! is enough: what is printed of any proper tree is read as the same tree. So a proper tree may be made in any way, and need
+//! not have been read.
 #![tactic(auto)]
 
+mod assembly;
+mod declarations;
+mod expression_words;
 mod laws;
+mod methods;
+mod piece_rows;
+mod proper_laws;
+mod reading;
 
+pub use assembly::data_read_back;
+pub use declarations::{
+    constants_read_back, heads_read_back, objects_read_back, variables_read_back,
+};
+pub use expression_words::{expression_reads_back, word_is_lexeme};
 pub use laws::{printed_reads_back, trees_are_of_files};
+pub use methods::{lines_are_written, places_do_not_matter};
+pub use piece_rows::rows_read_back;
+pub use proper_laws::{expressions_are_spelled, places_are_not_printed, proper_reads_back};
+pub use reading::{plain_columns, reads_back};

@@ -22,9 +22,9 @@ use Rattle.p8_data.specs.Parts.{Part, part_of_word, place_of, before_end, parts}
 use Rattle.p8_data.specs.Lines.{filled, blank, maybe_line}
 use Rattle.p8_blocks.specs.Files.{within_limits, Declare, no_line, a_blank, a_line, lines_in, lines_of_row, IsBlock, dat, IsFile, first, one_more, IsFileWithinLimits}
 use Rattle.p8_blocks.specs.Trees.{IsShallowBlock}
-use Rattle.p8_line_words.proofs.DataParts.{plain_part}
-use Rattle.p8_line_words.proofs.Going.{Going}
-use Rattle.p8_line_words.proofs.Going.{so as going_so}
+use Rattle.p8_printed.proofs.DataParts.{plain_part}
+use Rattle.p8_printed.proofs.Going.{Going}
+use Rattle.p8_printed.proofs.Going.{so as going_so}
 use Rattle.p8_instr.specs.Instruction.{instr_of, FitsFields}
 use Rattle.p8_dat.specs.Printed.{printed_line}
 use Rattle.p8_disassembly.specs.Instructions.{instruction_text}

@@ -27,13 +27,13 @@ use Rattle.p8_lines.proofs.Matching.{target}
 use Rattle.p8_data.specs.Parts.{Part, tree, comma, hash, condition, other, part_of_word, part_of_piece, parts}
 use Rattle.p8_data.specs.Lines.{bare, operands, source, behind_hash, behind_destination, filled, instruction, body, blank, maybe_line}
 use Rattle.p8_print.specs.DataWords.{words_of_effects}
-use Rattle.p8_line_words.proofs.Made.{made, condition_number, IsEffects, some_effects, IsFlags, some_flags, sixteen}
-use Rattle.p8_line_words.proofs.DataParts.{plain_part}
-use Rattle.p8_line_words.proofs.DataReading.{two_part, memory_part, condition_part}
-use Rattle.p8_line_words.proofs.Going.{AreEnded, Leading, Going, by_arrow, on, at_end, so}
-use Rattle.p8_line_words.proofs.Effects.{HasEffects, behind_operands, behind_memory, effects_read, flags_read}
-use Rattle.p8_line_words.proofs.Operands.{hash_part, comma_part, ReadsEffects}
-use Rattle.p8_line_words.proofs.InstructionsRead.{Starts, line_starts, conditioned_starts}
+use Rattle.p8_printed.proofs.Made.{made, condition_number, IsEffects, some_effects, IsFlags, some_flags, sixteen}
+use Rattle.p8_printed.proofs.DataParts.{plain_part}
+use Rattle.p8_printed.proofs.DataReading.{two_part, memory_part, condition_part}
+use Rattle.p8_printed.proofs.Going.{AreEnded, Leading, Going, by_arrow, on, at_end, so}
+use Rattle.p8_printed.proofs.Effects.{HasEffects, behind_operands, behind_memory, effects_read, flags_read}
+use Rattle.p8_printed.proofs.Operands.{hash_part, comma_part, ReadsEffects}
+use Rattle.p8_printed.proofs.InstructionsRead.{Starts, line_starts, conditioned_starts}
 use Rattle.p8_instr.specs.declared.instruction.Instr as instr
 use Rattle.p8_instr.specs.Instruction.{writes_z, writes_c, writes_result, is_immediate}
 use Rattle.p8_dat.specs.Printed.{effects_of, printed_line}

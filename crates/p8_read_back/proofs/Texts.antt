@@ -17,8 +17,8 @@ use Rattle.p8_instr.specs.Mnemonics.{word_where}
 use Rattle.p8_instr.specs.Instruction.{writes_z, writes_c, writes_result, is_immediate, FitsFields}
 use Rattle.p8_print.specs.Spelled.{Spelled, reserved}
 use Rattle.p8_print.specs.DataWords.{words_of_effects}
-use Rattle.p8_line_words.proofs.Made.{sixteen}
-use Rattle.p8_line_words.proofs.Going.{AreEnded}
+use Rattle.p8_printed.proofs.Made.{sixteen}
+use Rattle.p8_printed.proofs.Going.{AreEnded}
 use Rattle.p8_dat.specs.Printed.{effects_of}
 use Rattle.p8_disassembly.specs.Numerals.{hex}
 use Rattle.p8_disassembly.specs.Instructions.{condition_text, word_text, operands_text, effects_text, instruction_text}

@@ -15,8 +15,8 @@ use Rattle.p8_data.specs.Parts.{part_of_word}
 use Rattle.p8_instr.specs.Conditions.{conditions}
 use Rattle.p8_instr.specs.Mnemonics.{mnemonics, word_where, is_named_by}
 use Rattle.p8_print.specs.Spelled.{is_free}
-use Rattle.p8_rereading.proofs.SpelledWords.{both, all_at, reserved_is}
-use Rattle.p8_line_words.proofs.Made.{condition_number}
+use Rattle.p8_printed.proofs.SpelledWords.{both, all_at, reserved_is}
+use Rattle.p8_printed.proofs.Made.{condition_number}
 
 -- ---- words of letters
 

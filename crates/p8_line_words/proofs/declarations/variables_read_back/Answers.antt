@@ -1,8 +1,0 @@
-use Rattle.p8_line_words.proofs.Variables.{from_head, from_line}
-use Rattle.p8_line_words.proofs.declarations.variables_read_back.Goals as goal
-
-pub returns-clause-head : goal.returns-clause-head
-returns-clause-head c = from_head
-
-pub returns-clause-line : goal.returns-clause-line
-returns-clause-line c = from_line

@@ -1,5 +1,0 @@
-use Rattle.p8_line_words.proofs.WrittenLines.{lines_are_written}
-use Rattle.p8_line_words.proofs.methods.lines_are_written.Goals as goal
-
-pub returns : goal.returns
-returns c q us row k begins leads good is = lines_are_written k leads good is

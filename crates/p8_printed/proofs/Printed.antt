@@ -1,0 +1,402 @@
+-- What is printed of a tree is read as this tree, but for places.
+use Rattle.std.proofs.Common.{◌≡◌, ℕ, suc, ◌+◌, ◌*◌, ◌<◌, ◌≤◌, ◌^◌, Bool, true, false, List, [], ◌∷◌, ◌++◌, map, Option, Some, None, refl, sym, ap, ap₂, ◌∙◌, subst, append-nil, append_assoc, arith}
+use Rattle.std.specs.Prelude.{if◌then◌else◌, IsTrue, All}
+use Rattle.std.proofs.lemmas.List.Elements.{All-nil, All-cons, All-head, All-tail, All-append}
+use Rattle.p8_lexer.specs.declared.word.Word.TheVariants as word_case
+use Rattle.p8_tree.specs.declared.places.Place.{Place}
+use Rattle.p8_tree.specs.Expressions.{Tree, node, Number, Unary, Binary, Assign, ObjectAddress, Variable, no_trees, ◌▷◌}
+use Rattle.p8_tree.specs.Forgetting.{anywhere, IsSameTree}
+use Rattle.p8_grammar.specs.Lexemes.{Setting, in_method, in_declaration, in_dat, in_data_item, allows_index, is_dat, inside, Access, is_written, left_parenthesis, right_parenthesis, equal, Lexeme, number, string, mark, infix_word, assigns, changes, Token, token}
+use Rattle.p8_grammar.specs.Grammar.{word, upto, Row, begin, ◌▹◌, Variables, Forms, a_number, a_character, the_place, parentheses, variable, changed_before, changed_after, address_of, plain_call, bare_call, full_call, object_constant, a_value, a_string, a_constant, look_value, look_range, Prefix, at_object, unary, rank, with_prefix, prefix_of, infix_of, is_boolean, Reads, operand, before, between, assigned, assigned_by_word, Spells, nothing, a_word, an_expression}
+use Rattle.p8_grammar.specs.Heights.{height}
+use Rattle.p8_print.specs.Spelled as spelled
+use Rattle.p8_print.specs.Spelled.{Spelled, reserved}
+use Rattle.p8_print.specs.Tables.{operator_word, change_word, built_ins, built_word}
+use Rattle.p8_print.specs.Wording.{is_number, operand_with, change_with, words_of_assignment, words_of, words_of_variable, choices_before, wrapped}
+use Rattle.p8_grammar.specs.Proper.{lexeme_in}
+use Rattle.p8_expr.specs.Sources.{IsLexeme, AreLexemes}
+use Rattle.p8_printed.specs.Lexemes.{lexeme_of_spelled, AreWords}
+use Rattle.p8_printed.proofs.TableWords.{IsPrinted, mark_word, spelled_of, Prints, mark_prints, prints, infix_prints, prefix_operator, prefix_prints, boolean_prints, boolean_number, no_boolean, assignment_word, assignment_prints, change_parts, change_word_same}
+use Rattle.p8_printed.proofs.Alike.{Alike, alike_begin, alike_word, alike_upto, Fits, VariablesAs, variables_as, forms_as}
+use Rattle.p8_printed.proofs.WordTokens.{none_left, first_word, split_words, last_word, all_left, all_right, all_same}
+use Rattle.p8_printed.proofs.Heights.{same_height}
+use Rattle.p8_printed.proofs.OperandWords.{words_of_row, words_from, row_words, Good, good_begin, good_word, good_upto, Adds, variables_words, heads_words, arguments_words, choices_words}
+
+-- settings
+
+inside_dat : (s : Setting) → is_dat (inside s) ≡ is_dat s
+inside_dat in_method = refl
+inside_dat in_declaration = refl
+inside_dat in_dat = refl
+inside_dat in_data_item = refl
+
+inside_indexes : (s : Setting) → IsTrue (allows_index (inside s))
+inside_indexes in_method = refl
+inside_indexes in_declaration = refl
+inside_indexes in_dat = refl
+inside_indexes in_data_item = refl
+
+pub fits_itself : (s : Setting) → Fits s (inside s)
+fits_itself s = record { dat = inside_dat s; indexes = inside_indexes s }
+
+fits_inside : {s s' : Setting} → Fits s s' → Fits s (inside s')
+fits_inside {s' = s'} f = record { dat = inside_dat s' ∙ f.dat; indexes = inside_indexes s' }
+
+fits_within : {s s' : Setting} → Fits s s' → Fits (inside s) s'
+fits_within {s = s} f = record { dat = f.dat ∙ sym (inside_dat s); indexes = f.indexes }
+
+-- printed words that are read back
+pub record Back (s : Setting) (e : Tree) (us : List Token) : Type 0 where
+  pub other : Tree
+  pub reads : Reads s 22 other us
+  pub same : IsSameTree other e
+
+-- a tree that can be printed
+pub record Printed (s : Setting) (e : Tree) : Type 0 where
+  pub words : All IsPrinted (words_of e)
+  pub back : (s' : Setting) (us : List Token) → Fits s s' → AreWords us (words_of e) → Back s' e us
+
+abbrev GoodRow : Setting → Row → Type 0
+GoodRow s row = Good (Printed (inside s)) row
+
+-- printed words
+
+one_printed : (w : Spelled) → IsPrinted w → All IsPrinted (w ∷ [])
+one_printed w h = All-cons IsPrinted w [] h (All-nil IsPrinted)
+
+row_printed : (s : Setting) {row : Row} → GoodRow s row → All IsPrinted (words_of_row row)
+row_printed s good_begin = All-nil IsPrinted
+row_printed s (good_word {row = row} {x = x} g h) = All-append IsPrinted (words_of_row row) (spelled_of x ∷ []) (row_printed s g) (one_printed (spelled_of x) (prints x h).printed)
+row_printed s (good_upto {row = row} {e = e} {m = m} g pr) =
+    All-append IsPrinted (words_of_row row) (words_of e ++ reserved (mark_word m) ∷ []) (row_printed s g)
+    (All-append IsPrinted (words_of e) (reserved (mark_word m) ∷ []) pr.words (one_printed (reserved (mark_word m)) (mark_prints m).printed))
+
+enclosed_printed : (ws : List Spelled) → All IsPrinted ws → All IsPrinted (reserved word_case.LeftParenthesis ∷ (ws ++ reserved word_case.RightParenthesis ∷ []))
+enclosed_printed ws h =
+    All-cons IsPrinted (reserved word_case.LeftParenthesis) (ws ++ reserved word_case.RightParenthesis ∷ []) (mark_prints left_parenthesis).printed
+    (All-append IsPrinted ws (reserved word_case.RightParenthesis ∷ []) h (one_printed (reserved word_case.RightParenthesis) (mark_prints right_parenthesis).printed))
+
+operand_printed : (b : Bool) (ws : List Spelled) → All IsPrinted ws → All IsPrinted (operand_with b ws)
+operand_printed true ws h = h
+operand_printed false ws h = enclosed_printed ws h
+
+-- rows
+
+record RowBack (s : Setting) (row : Row) (us : List Token) : Type 0 where
+  other : Row
+  alike : Alike row other
+  spells : Spells s other us
+
+row_back : {s : Setting} {row : Row} → GoodRow s row → (s' : Setting) (us : List Token) → Fits s s' → AreWords us (words_of_row row) → RowBack s' row us
+row_back good_begin s' us f h = record { other = begin; alike = alike_begin; spells = subst (λ us. Spells s' begin us) (sym (none_left us h)) nothing }
+row_back (good_word {row = row} {x = x} g k) s' us f h =
+    let l = last_word us (words_of_row row) (spelled_of x) x (prints x k) h in
+    let r = row_back g s' l.left f l.words in
+    record { other = r.other ▹ word l.place x; alike = alike_word r.alike; spells = subst (λ us. Spells s' (r.other ▹ word l.place x) us) (sym l.is) (a_word r.spells) }
+row_back (good_upto {row = row} {e = e} {m = m} g pr) s' us f h =
+    let y = split_words us (words_of_row row) (words_of e ++ reserved (mark_word m) ∷ []) h in
+    let l = last_word y.right (words_of e) (reserved (mark_word m)) (mark m) (mark_prints m) y.words_right in
+    let r = row_back g s' y.left f y.words_left in
+    let b = pr.back (inside s') l.left (fits_within (fits_inside f)) l.words in
+    record {
+      other = r.other ▹ upto b.other m;
+      alike = alike_upto r.alike b.same;
+      spells = subst (λ us. Spells s' (r.other ▹ upto b.other m) us) (sym (y.is ∙ ap (λ ts. y.left ++ ts) l.is)) (an_expression l.place r.spells b.reads);
+    }
+
+-- forms
+
+-- one whose words are those of its row
+plainly : {s : Setting} {e : Tree} {row : Row} → Forms s e row → GoodRow s row → words_of e ≡ words_from row [] → Printed s e
+plainly {s = s} {e = e} {row = row} form g eq = record {
+  words = all_same IsPrinted is (row_printed s g);
+  back = λ s' us f h.
+      let r = row_back g s' us f (h ∙ ap (λ ws. map lexeme_of_spelled ws) is) in
+      let t = forms_as f form r.alike in
+      record { other = t.other; reads = operand t.forms r.spells; same = t.same };
+}
+  where
+    is : words_of e ≡ words_of_row row
+    is = eq ∙ sym (row_words row)
+
+printed_inside : {s : Setting} {e : Tree} → Printed (inside s) e → Printed s e
+printed_inside pr = record { words = pr.words; back = λ s' us f h. pr.back s' us (fits_within f) h }
+
+-- a number, which has 32 bits
+one_number : (s : Setting) (l n : ℕ) (us : List Token) → n < 2 ^ 32 → AreWords us (spelled.number n ∷ []) → (q : Place) × Reads s l (node q (Number n)) us
+one_number s l n us small h =
+    let t = first_word us (spelled.number n) (number n) [] (prints (number n) small) h in
+    (t.place, subst (λ us. Reads s l (node t.place (Number n)) us) (sym (t.is ∙ ap (λ ts. token t.place (number n) ∷ ts) (none_left t.others t.words))) (operand a_number (a_word nothing)))
+
+number_printed : (s : Setting) (p : Place) (n : ℕ) → n < 2 ^ 32 → Printed s (node p (Number n))
+number_printed s p n small = record {
+  words = one_printed (spelled.number n) (prints (number n) small).printed;
+  back = λ s' us f h. let r = one_number s' 22 n us small h in record { other = node r.0 (Number n); reads = r.1; same = refl };
+}
+
+variable_words : {I : Tree → Type 0} {row : Row} (v : Variable) → Adds I begin (words_of_variable v) row → words_of_variable v ≡ words_from row []
+variable_words v r = sym (r.from [] ∙ append-nil (words_of_variable v))
+
+behind_words : (b a : ℕ) → IsLexeme (changes b a) → (ws : List Spelled) → change_with a ws ≡ ws ++ reserved (change_word b) ∷ []
+behind_words b a h ws =
+    ap (λ x. if x then ws ++ reserved (change_word a) ∷ [] else reserved (change_word a) ∷ ws) (change_parts b a h).1
+    ∙ ap (λ w. ws ++ reserved w ∷ []) (change_word_same b a h)
+
+before_words : (b a : ℕ) → IsLexeme (changes b a) → (ws : List Spelled) → change_with b ws ≡ reserved (change_word b) ∷ ws
+before_words b a h ws = ap (λ x. if x then ws ++ reserved (change_word b) ∷ [] else reserved (change_word b) ∷ ws) (change_parts b a h).0
+
+good_first : {I : Tree → Type 0} {p : Place} {x : Lexeme} → Good I (begin ▹ word p x) → IsLexeme x
+good_first (good_word g h) = h
+
+small_character : (c : ℕ) → IsLexeme (string (c ∷ [])) → c < 2 ^ 32
+small_character c h = let small : c < 256 = h.1 0 (omega arith) in omega arith
+
+changed_before_words : {I : Tree → Type 0} {p : Place} {row : Row} (b a : ℕ) (v : Variable) → Adds I (begin ▹ word p (changes b a)) (words_of_variable v) row → change_with b (words_of_variable v) ≡ words_from row []
+changed_before_words b a v r = before_words b a (good_first r.good) (words_of_variable v) ∙ ap (λ ws. reserved (change_word b) ∷ ws) (sym (append-nil (words_of_variable v))) ∙ sym (r.from [])
+
+changed_after_words : {I : Tree → Type 0} {row : Row} (b a : ℕ) (v : Variable) → IsLexeme (changes b a) → Adds I begin (words_of_variable v) row → change_with a (words_of_variable v) ≡ words_from row (reserved (change_word b) ∷ [])
+changed_after_words b a v h r = behind_words b a h (words_of_variable v) ∙ sym (r.from (reserved (change_word b) ∷ []))
+
+address_words : {I : Tree → Type 0} {p : Place} {x : Lexeme} {row : Row} (v : Variable) → Adds I (begin ▹ word p x) (words_of_variable v) row → spelled_of x ∷ words_of_variable v ≡ words_from row []
+address_words {x = x} v r = ap (λ ws. spelled_of x ∷ ws) (sym (append-nil (words_of_variable v))) ∙ sym (r.from [])
+
+abbrev look_words : ℕ → Tree → List Spelled → List Spelled
+look_words k x ws = reserved (built_word k) ∷ reserved word_case.LeftParenthesis ∷ (words_of x ++ reserved word_case.Colon ∷ ws)
+
+pub form_printed : {s : Setting} {e : Tree} {row : Row} → Forms s e row → GoodRow s row → Printed s e
+unfolding built_ins
+form_printed a_number g = plainly a_number g refl
+form_printed {s = s} (a_character {c = c} {p = p}) (good_word g h) = number_printed s p c (small_character c h)
+form_printed (the_place d) g = plainly (the_place d) g refl
+form_printed parentheses (good_upto g pr) = printed_inside pr
+form_printed (variable {v = v} y) g = plainly (variable y) g (variable_words v (variables_words y g))
+form_printed (changed_before {v = v} {b = b} {a = a} w y) g = plainly (changed_before {b = b} {a = a} w y) g (changed_before_words b a v (variables_words y g))
+form_printed (changed_after {v = v} {b = b} {a = a} w y) (good_word g h) = plainly (changed_after {b = b} {a = a} w y) (good_word g h) (changed_after_words b a v h (variables_words y g))
+form_printed (address_of {v = v} y) g = plainly (address_of y) g (address_words v (variables_words y g))
+form_printed (plain_call {es = es} {e = e} a) g = plainly (plain_call a) g (sym (arguments_words a (words_of e ++ reserved word_case.RightParenthesis ∷ [])))
+form_printed (bare_call y) g = plainly (bare_call y) g (heads_words y no_trees)
+form_printed (full_call {q = q} {es = es} {e = e} {row = row} y a) g =
+    plainly (full_call y a) g (heads_words y (es ▷ e) ∙ sym (arguments_words a (words_of e ++ reserved word_case.RightParenthesis ∷ [])))
+form_printed object_constant g = plainly object_constant g refl
+form_printed a_value g = plainly a_value g refl
+form_printed a_string g = plainly a_string g refl
+form_printed a_constant g = plainly a_constant g refl
+form_printed (look_value {x = x} {e = e} c) g = plainly (look_value c) g (sym (choices_words c (words_of e ++ reserved word_case.RightParenthesis ∷ [])))
+form_printed (look_range {k = k} {x = x} {low = low} {high = high} {xs = xs} c) g =
+    plainly (look_range c) g (
+    ap (λ ws. look_words k x (choices_before xs ++ ws)) (append_assoc (words_of low) (reserved word_case.DotDot ∷ words_of high) (reserved word_case.RightParenthesis ∷ []))
+    ∙ sym (choices_words c (words_of low ++ reserved word_case.DotDot ∷ (words_of high ++ reserved word_case.RightParenthesis ∷ []))))
+
+-- operands of operators, which may stand at any level
+
+abbrev operand_words : Tree → List Spelled
+operand_words e = operand_with (is_number e) (words_of e)
+
+record OperandBack (s : Setting) (e : Tree) (us : List Token) : Type 0 where
+  other : Tree
+  reads : (l : ℕ) → Reads s l other us
+  same : IsSameTree other e
+
+-- in parentheses
+enclosed_back : {s s' : Setting} {e : Tree} (us : List Token) → Printed s e → Fits s (inside s') → AreWords us (reserved word_case.LeftParenthesis ∷ (words_of e ++ reserved word_case.RightParenthesis ∷ [])) → OperandBack s' e us
+enclosed_back {s' = s'} {e = e} us pr f h =
+    let t = first_word us (reserved word_case.LeftParenthesis) (mark left_parenthesis) (words_of e ++ reserved word_case.RightParenthesis ∷ []) (mark_prints left_parenthesis) h in
+    let l = last_word t.others (words_of e) (reserved word_case.RightParenthesis) (mark right_parenthesis) (mark_prints right_parenthesis) t.words in
+    let b = pr.back (inside s') l.left f l.words in
+    record {
+      other = b.other;
+      reads = λ level. subst (λ us. Reads s' level b.other us) (sym (t.is ∙ ap (λ ts. token t.place (mark left_parenthesis) ∷ ts) l.is))
+          (operand (parentheses {q = t.place}) (an_expression l.place (a_word nothing) b.reads));
+      same = b.same;
+    }
+
+number_back : {s : Setting} (e : Tree) (us : List Token) → is_number e ≡ true → All IsPrinted (words_of e) → AreWords us (words_of e) → OperandBack s e us
+number_back {s = s} (node p (Number n)) us is r h =
+    let t = first_word us (spelled.number n) (number n) [] (prints (number n) (All-head IsPrinted (spelled.number n) [] r).0) h in
+    record {
+      other = node t.place (Number n);
+      reads = λ l. subst (λ us. Reads s l (node t.place (Number n)) us) (sym (t.is ∙ ap (λ ts. token t.place (number n) ∷ ts) (none_left t.others t.words))) (operand a_number (a_word nothing));
+      same = refl;
+    }
+number_back e us is r h = absurd cc
+
+operand_back : {s s' : Setting} {e : Tree} (us : List Token) → Printed s e → Fits s s' → AreWords us (operand_with (is_number e) (words_of e)) → OperandBack s' e us
+operand_back {s = s} {s' = s'} {e = e} us pr f h = go (is_number e) refl h
+  where
+    go : (b : Bool) → is_number e ≡ b → AreWords us (operand_with b (words_of e)) → OperandBack s' e us
+    go true is h = number_back e us is pr.words h
+    go false is h = enclosed_back us pr (fits_inside f) h
+
+-- operators
+
+prefix_words : (p : Place) (o : Prefix) (e : Tree) → words_of (node p (with_prefix o e)) ≡ reserved (prefix_operator o) ∷ operand_with (is_number e) (words_of e)
+prefix_words p at_object e = refl
+prefix_words p (unary r k) e = refl
+
+same_prefix : (p q : Place) (o : Prefix) (e e' : Tree) → IsSameTree e' e → IsSameTree (node q (with_prefix o e')) (node p (with_prefix o e))
+same_prefix p q at_object e e' h = ap (λ t. node anywhere (ObjectAddress t)) h
+same_prefix p q (unary r k) e e' h = ap (λ t. node anywhere (Unary k t)) h
+
+before_printed : (s : Setting) (p : Place) (x : Lexeme) (o : Prefix) (e : Tree) → IsLexeme x → prefix_of x ≡ Some o → 2 * rank o + 1 ≤ 22 → Printed s e → Printed s (node p (with_prefix o e))
+before_printed s p x o e k is le pr = record {
+  words = all_same IsPrinted (prefix_words p o e) (All-cons IsPrinted (reserved (prefix_operator o)) (operand_words e) print.printed (operand_printed (is_number e) (words_of e) pr.words));
+  back = λ s' us f h.
+      let t = first_word us (reserved (prefix_operator o)) x (operand_words e) print (h ∙ ap (λ ws. map lexeme_of_spelled ws) (prefix_words p o e)) in
+      let b = operand_back t.others pr f t.words in
+      record {
+        other = node t.place (with_prefix o b.other);
+        reads = subst (λ us. Reads s' 22 (node t.place (with_prefix o b.other)) us) (sym t.is) (before is le (b.reads (2 * rank o + 1)));
+        same = same_prefix p t.place o e b.other b.same;
+      };
+}
+  where
+    print : Prints (reserved (prefix_operator o)) x
+    print = prefix_prints x o k is
+
+between_printed : (s : Setting) (p : Place) (x : Lexeme) (r k : ℕ) (a b : Tree) → IsLexeme x → infix_of x ≡ Some (suc r, k) → 2 * suc r ≤ 22 → Printed s a → Printed s b → Printed s (node p (Binary k a b))
+between_printed s p x r k a b good is le pa pb = record {
+  words = All-append IsPrinted (operand_words a) (reserved (operator_word k) ∷ (operand_words b)) (operand_printed (is_number a) (words_of a) pa.words)
+      (All-cons IsPrinted (reserved (operator_word k)) (operand_words b) print.printed (operand_printed (is_number b) (words_of b) pb.words));
+  back = λ s' us f h.
+      let y = split_words us (operand_words a) (reserved (operator_word k) ∷ (operand_words b)) h in
+      let t = first_word y.right (reserved (operator_word k)) x (operand_words b) print y.words_right in
+      let first = operand_back y.left pa f y.words_left in
+      let last = operand_back t.others pb f t.words in
+      record {
+        other = node t.place (Binary k first.other last.other);
+        reads = subst (λ us. Reads s' 22 (node t.place (Binary k first.other last.other)) us) (sym (y.is ∙ ap (λ ts. y.left ++ ts) t.is))
+            (between x is le (first.reads (2 * suc r)) (last.reads (2 * r + 1)));
+        same = ap₂ (λ t u. node anywhere (Binary k t u)) first.same last.same;
+      };
+}
+  where
+    print : Prints (reserved (operator_word k)) x
+    print = infix_prints x (suc r) k good is
+
+-- assignments
+
+-- what stands after an operator's words
+record Operated (s : Setting) (o : Option ℕ) (x : Access) (us : List Token) (rest : List Spelled) : Type 0 where
+  others : List Token
+  words : AreWords others rest
+  place : Place
+  reads : {v : Variable} {e : Tree} {row : Row} {ts : List Token} → Variables s begin x v row → Spells s row ts → Reads s 21 e others → Reads s 22 (node place (Assign v o e)) (ts ++ us)
+
+-- the operator of an assignment, which is read back
+record Operator (o : Option ℕ) : Type 0 where
+  words : All IsPrinted (words_of_assignment o)
+  back : (s : Setting) (x : Access) (us : List Token) (rest : List Spelled) → IsTrue (is_written x) → AreWords us (words_of_assignment o ++ rest) → Operated s o x us rest
+
+-- in one word
+one_word : (o : Option ℕ) → IsLexeme (assigns o) → words_of_assignment o ≡ reserved (assignment_word o) ∷ []
+one_word None h = refl
+one_word (Some k) h = ap (λ b. if b then reserved (operator_word k) ∷ reserved word_case.EqualSign ∷ [] else reserved (assignment_word (Some k)) ∷ []) (no_boolean k h)
+
+operates : (o : Option ℕ) → IsLexeme (assigns o) → Operator o
+operates o good = record {
+  words = all_same IsPrinted (one_word o good) (one_printed (reserved (assignment_word o)) print.printed);
+  back = λ s x us rest w h.
+      let t = first_word us (reserved (assignment_word o)) (assigns o) rest print (h ∙ ap (λ ws. map lexeme_of_spelled (ws ++ rest)) (one_word o good)) in
+      record {
+        others = t.others;
+        words = t.words;
+        place = t.place;
+        reads = λ {v} {e} {row} {ts} y sp r. subst (λ us. Reads s 22 (node t.place (Assign v o e)) (ts ++ us)) (sym t.is) (assigned x (omega arith) w y sp r);
+      };
+}
+  where
+    print : Prints (reserved (assignment_word o)) (assigns o)
+    print = assignment_prints o good
+
+-- in two words
+two_words : (r k : ℕ) → IsLexeme (infix_word r k) → IsTrue (is_boolean r) → words_of_assignment (Some k) ≡ reserved (operator_word k) ∷ reserved word_case.EqualSign ∷ []
+two_words r k h b = ap (λ b. if b then reserved (operator_word k) ∷ reserved word_case.EqualSign ∷ [] else reserved (assignment_word (Some k)) ∷ []) (boolean_number r k h b)
+
+operates_by_word : (r k : ℕ) → IsLexeme (infix_word r k) → IsTrue (is_boolean r) → Operator (Some k)
+operates_by_word r k good boolean = record {
+  words = all_same IsPrinted (two_words r k good boolean)
+      (All-cons IsPrinted (reserved (operator_word k)) (reserved word_case.EqualSign ∷ []) print.printed (one_printed (reserved word_case.EqualSign) (mark_prints equal).printed));
+  back = λ s x us rest w h.
+      let t = first_word us (reserved (operator_word k)) (infix_word r k) (reserved word_case.EqualSign ∷ rest) print (h ∙ ap (λ ws. map lexeme_of_spelled (ws ++ rest)) (two_words r k good boolean)) in
+      let z = first_word t.others (reserved word_case.EqualSign) (mark equal) rest (mark_prints equal) t.words in
+      record {
+        others = z.others;
+        words = z.words;
+        place = t.place;
+        reads = λ {v} {e} {row} {ts} y sp q. subst (λ us. Reads s 22 (node t.place (Assign v (Some k) e)) (ts ++ us)) (sym (t.is ∙ ap (λ us. token t.place (infix_word r k) ∷ us) z.is))
+            (assigned_by_word x r z.place (omega arith) w boolean y sp q);
+      };
+}
+  where
+    print : Prints (reserved (operator_word k)) (infix_word r k)
+    print = boolean_prints r k good
+
+assigned_printed : (s : Setting) (p : Place) (o : Option ℕ) (v : Variable) (e : Tree) (x : Access) (row : Row) → Operator o → IsTrue (is_written x) → Variables s begin x v row → GoodRow s row → Printed s e → Printed s (node p (Assign v o e))
+assigned_printed s p o v e x row op w y g pr = record {
+  words = All-append IsPrinted (words_of_variable v) (words_of_assignment o ++ operand_words e) (all_same IsPrinted is (row_printed s g))
+      (All-append IsPrinted (words_of_assignment o) (operand_words e) op.words (operand_printed (is_number e) (words_of e) pr.words));
+  back = λ s' us f h.
+      let z = split_words us (words_of_variable v) (words_of_assignment o ++ operand_words e) h in
+      let t = op.back s' x z.right (operand_words e) w z.words_right in
+      let r = row_back g s' z.left f (z.words_left ∙ ap (λ ws. map lexeme_of_spelled ws) is) in
+      let last = operand_back t.others pr f t.words in
+      put s' us z.left z.right z.is r (variables_as f y r.alike) t last;
+}
+  where
+    is : words_of_variable v ≡ words_of_row row
+    is = variable_words v (variables_words y g) ∙ sym (row_words row)
+
+    put : (s' : Setting) (us left right : List Token) → us ≡ left ++ right → (r : RowBack s' row left) → VariablesAs s' begin x v r.other → (t : Operated s' o x right (operand_words e)) → OperandBack s' e t.others → Back s' (node p (Assign v o e)) us
+    put s' us left right is r a t last = go a.base a.alike a.variables
+      where
+        go : (base : Row) → Alike begin base → Variables s' base x a.other r.other → Back s' (node p (Assign v o e)) us
+        go (_ ▹ _) k y = elim k [ ]
+        go begin alike_begin y = record {
+          other = node t.place (Assign a.other o last.other);
+          reads = subst (λ us. Reads s' 22 (node t.place (Assign a.other o last.other)) us) (sym is) (t.reads y r.spells (last.reads 21));
+          same = ap₂ (λ u t. node anywhere (Assign u o t)) a.same last.same;
+        }
+
+-- what a source can have is printed
+
+abbrev Has : Token → Type 0
+Has t = IsLexeme (lexeme_in t)
+
+mutual
+  pub printed : {s : Setting} {l : ℕ} {e : Tree} {ts : List Token} → Reads s l e ts → l ≤ 22 → AreLexemes ts → Printed s e
+  printed (operand form sp) small h = form_printed form (good sp h)
+  printed {s = s} (before {x = x} {o = o} {p = p} {e = e} {ts = ts} is le r) small h =
+      before_printed s p x o e (All-head Has (token p x) ts h) is (omega arith) (printed r (omega arith) (All-tail Has (token p x) ts h))
+  printed {s = s} (between {r = r} {k = k} {p = p} {a = a} {b = b} {ts = ts} {us = us} x is le ra rb) small h =
+      let behind = all_right Has ts (token p x ∷ us) h in
+      between_printed s p x r k a b (All-head Has (token p x) us behind) is (omega arith) (printed ra (omega arith) (all_left Has ts (token p x ∷ us) h)) (printed rb (omega arith) (All-tail Has (token p x) us behind))
+  printed {s = s} (assigned {o = o} {p = p} {v = v} {e = e} {row = row} {ts = ts} {us = us} x le w y sp r) small h =
+      let behind = all_right Has ts (token p (assigns o) ∷ us) h in
+      assigned_printed s p o v e x row (operates o (All-head Has (token p (assigns o)) us behind)) w y (good sp (all_left Has ts (token p (assigns o) ∷ us) h)) (printed r (omega arith) (All-tail Has (token p (assigns o)) us behind))
+  printed {s = s} (assigned_by_word {k = k} {p = p} {v = v} {e = e} {row = row} {ts = ts} {us = us} x r q le w b y sp z) small h =
+      let behind = all_right Has ts (token p (infix_word r k) ∷ token q (mark equal) ∷ us) h in
+      let last = All-tail Has (token p (infix_word r k)) (token q (mark equal) ∷ us) behind in
+      assigned_printed s p (Some k) v e x row (operates_by_word r k (All-head Has (token p (infix_word r k)) (token q (mark equal) ∷ us) behind) b) w y (good sp (all_left Has ts (token p (infix_word r k) ∷ token q (mark equal) ∷ us) h))
+      (printed z (omega arith) (All-tail Has (token q (mark equal)) us last))
+
+  good : {s : Setting} {row : Row} {ts : List Token} → Spells s row ts → AreLexemes ts → GoodRow s row
+  good nothing h = good_begin
+  good (a_word {p = p} {x = x} {ts = ts} sp) h = good_word (good sp (all_left Has ts (token p x ∷ []) h)) (All-head Has (token p x) [] (all_right Has ts (token p x ∷ []) h))
+  good (an_expression {m = m} {ts = ts} {us = us} p sp r) h =
+      let behind = all_right Has ts (us ++ token p (mark m) ∷ []) h in
+      good_upto (good sp (all_left Has ts (us ++ token p (mark m) ∷ []) h)) (printed r (omega arith) (all_left Has us (token p (mark m) ∷ []) behind))
+
+-- a whole expression
+
+pub wrapped_printed : {s : Setting} {e : Tree} {ts : List Token} → Reads s 22 e ts → AreLexemes ts → All IsPrinted (wrapped e)
+wrapped_printed {e = e} r h = enclosed_printed (words_of e) (printed r (omega arith) h).words
+
+pub wrapped_back : {s : Setting} {e : Tree} {ts us : List Token} → Reads s 22 e ts → AreLexemes ts → AreWords us (wrapped e) → (e' : Tree) × Reads s 22 e' us × IsSameTree e' e × (height e' ≡ height e)
+wrapped_back {s = s} {e = e} {us = us} r h is =
+    let b = enclosed_back us (printed r (omega arith) h) (fits_itself s) is in
+    (b.other, b.reads 22, b.same, same_height b.other e b.same)
+
+pub bare_back : {s : Setting} {e : Tree} {ts us : List Token} → IsTrue (allows_index s) → Reads s 22 e ts → AreLexemes ts → AreWords us (words_of e) → (e' : Tree) × Reads s 22 e' us × IsSameTree e' e × (height e' ≡ height e)
+bare_back {s = s} {e = e} {us = us} i r h is =
+    let b = (printed r (omega arith) h).back s us (record { dat = refl; indexes = i }) is in
+    (b.other, b.reads, b.same, same_height b.other e b.same)

@@ -1,0 +1,74 @@
+-- Tokens that a source can have, as the grammar of expressions has them, for rows and expressions.
+use Rattle.std.proofs.Common.{◌≡◌, List, [], ◌∷◌, ◌++◌, sym, subst}
+use Rattle.std.specs.Prelude.{IsTrue}
+use Rattle.std.proofs.lemmas.List.Elements.{All-nil, All-cons, All-append}
+use Rattle.p8_tree.specs.Expressions.{Tree}
+use Rattle.p8_tree.specs.Forgetting.{anywhere, tree_anywhere}
+use Rattle.p8_grammar.specs.Lexemes.{Setting, allows_index, inside, Mark, left_parenthesis, right_parenthesis, Lexeme, mark, Token, token}
+use Rattle.p8_grammar.specs.Grammar.{word, upto, Row, begin, ◌▹◌, Forms, parentheses, Reads, operand, Spells, nothing, a_word, an_expression}
+use Rattle.p8_grammar.specs.Proper.{lexeme_in}
+use Rattle.p8_expr.specs.Sources.{IsLexeme, AreLexemes}
+use Rattle.p8_printed.proofs.TableWords.{mark_word, mark_is}
+
+abbrev Good : Token → Type 0
+Good t = IsLexeme (lexeme_in t)
+
+pub mark_lexeme : (m : Mark) → IsLexeme (mark m)
+mark_lexeme left_parenthesis = (mark_word left_parenthesis, (mark_is left_parenthesis).is)
+mark_lexeme m = (mark_word m, (mark_is m).is)
+
+-- An expression, but for its places, is spelled by tokens of a source, at a place that takes a tree of at most this level.
+pub record SpelledAt (s : Setting) (l : _) (e : Tree) : Type 0 where
+  pub tree : Tree
+  pub tokens : List Token
+  pub reads : Reads s l tree tokens
+  pub lexemes : AreLexemes tokens
+  pub same : tree_anywhere tree ≡ tree_anywhere e
+
+abbrev pub IsSpelled : Setting → Tree → Type 0
+IsSpelled s e = SpelledAt s 22 e
+
+-- a row is spelled by tokens of a source
+pub record RowSpelled (s : Setting) (row : Row) : Type 0 where
+  pub tokens : List Token
+  pub spells : Spells s row tokens
+  pub lexemes : AreLexemes tokens
+
+pub lexeme_first : (x : Lexeme) (ts : List Token) → IsLexeme x → AreLexemes ts → AreLexemes (token anywhere x ∷ ts)
+lexeme_first x ts h all = All-cons Good (token anywhere x) ts h all
+
+pub lexemes_joined : (ts us : List Token) → AreLexemes ts → AreLexemes us → AreLexemes (ts ++ us)
+lexemes_joined ts us h k = All-append Good ts us h k
+
+-- A setting is that inside parentheses, where it allows an index.
+pub record IsInner (s : Setting) : Type 0 where
+  pub same : inside s ≡ s
+  pub allows : IsTrue (allows_index s)
+
+module _ {s : Setting} where
+  pub start : RowSpelled s begin
+  start = record { tokens = []; spells = nothing; lexemes = All-nil Good }
+
+  pub add : {row : Row} (x : Lexeme) → RowSpelled s row → IsLexeme x → RowSpelled s (row ▹ word anywhere x)
+  add x r h = record { tokens = r.tokens ++ token anywhere x ∷ []; spells = a_word r.spells; lexemes = lexemes_joined r.tokens (token anywhere x ∷ []) r.lexemes (lexeme_first x [] h (All-nil Good)) }
+
+  pub add_mark : {row : Row} (m : Mark) → RowSpelled s row → RowSpelled s (row ▹ word anywhere (mark m))
+  add_mark m r = add (mark m) r (mark_lexeme m)
+
+  pub put : {row : Row} {e : Tree} (m : Mark) → RowSpelled s row → (x : IsSpelled (inside s) e) → RowSpelled s (row ▹ upto x.tree m)
+  put m r x = record {
+    tokens = r.tokens ++ (x.tokens ++ token anywhere (mark m) ∷ []);
+    spells = an_expression anywhere r.spells x.reads;
+    lexemes = lexemes_joined r.tokens (x.tokens ++ token anywhere (mark m) ∷ []) r.lexemes (lexemes_joined x.tokens (token anywhere (mark m) ∷ []) x.lexemes (lexeme_first (mark m) [] (mark_lexeme m) (All-nil Good)));
+  }
+
+  -- a form that is an expression
+  pub form : {l : _} {e e' : Tree} {row : Row} → Forms s e' row → RowSpelled s row → tree_anywhere e' ≡ tree_anywhere e → SpelledAt s l e
+  form {e' = e'} f r same = record { tree = e'; tokens = r.tokens; reads = operand f r.spells; lexemes = r.lexemes; same = same }
+
+  -- in parentheses an expression is an operand
+  pub enclosed : {l : _} {e : Tree} → IsSpelled (inside s) e → SpelledAt s l e
+  enclosed x = form parentheses (put right_parenthesis (add_mark left_parenthesis start) x) x.same
+
+pub inside_of : {s : Setting} {e : Tree} → IsInner s → IsSpelled s e → IsSpelled (inside s) e
+inside_of {e = e} i x = subst (λ s. IsSpelled s e) (sym i.same) x

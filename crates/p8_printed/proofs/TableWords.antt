@@ -1,0 +1,230 @@
+-- Each word of a table is what its number came from.
+use Rattle.std.proofs.Common.{◌≡◌, ℕ, Bool, true, false, Option, Some, None, refl, sym, ap, ◌∙◌, subst}
+use Rattle.std.specs.Prelude.{◌&&◌, not, IsTrue}
+use Rattle.p8_lexer.specs.declared.word.Word.{Word}
+use Rattle.p8_lexer.specs.declared.word.Word.TheVariants as word
+use Rattle.p8_grammar.specs.Lexemes.{Mark, left_parenthesis, right_parenthesis, left_bracket, right_bracket, comma, colon, dot, dot_dot, hash, backslash, equal, Lexeme, number, name, method_result, string, mark, prefix_word, infix_word, sign, assigns, changes, address, object_address, size, register, here, string_word, constant_word, look, value, built_in}
+use Rattle.p8_grammar.specs.Grammar as grammar
+use Rattle.p8_grammar.specs.Grammar.{Prefix, at_object, unary, prefix_of, infix_of}
+use Rattle.p8_expr.specs.Words.{lexeme_of_word}
+use Rattle.p8_print.specs.Spelled as spelled
+use Rattle.p8_print.specs.Spelled.{Spelled, IsReadable, is_free}
+use Rattle.p8_print.specs.Tables.{beside, operators, assignments, changes_of, sizes, registers, built_ins, operator_word, is_boolean, change_word, is_behind, size_word, register_word, built_word}
+use Rattle.p8_expr.specs.Sources.{IsLexeme}
+use Rattle.p8_printed.specs.Lexemes.{lexeme_of_spelled, IsInCapitals}
+
+abbrev pub mark_word : Mark → Word
+mark_word left_parenthesis = word.LeftParenthesis
+mark_word right_parenthesis = word.RightParenthesis
+mark_word left_bracket = word.LeftBracket
+mark_word right_bracket = word.RightBracket
+mark_word comma = word.Comma
+mark_word colon = word.Colon
+mark_word dot = word.Dot
+mark_word dot_dot = word.DotDot
+mark_word hash = word.Hash
+mark_word backslash = word.Backslash
+mark_word equal = word.EqualSign
+
+-- the word of an assignment that has only one
+abbrev pub assignment_word : Option ℕ → Word
+assignment_word None = word.Assign
+assignment_word (Some k) = beside k assignments
+
+-- the word that a lexeme comes from, by its first number
+abbrev pub word_of_lexeme : Lexeme → Word
+word_of_lexeme (mark m) = mark_word m
+word_of_lexeme method_result = word.Result
+word_of_lexeme (prefix_word r k) = operator_word k
+word_of_lexeme (infix_word r k) = operator_word k
+word_of_lexeme (sign k j) = operator_word k
+word_of_lexeme (assigns o) = assignment_word o
+word_of_lexeme (changes b a) = change_word b
+word_of_lexeme address = word.At
+word_of_lexeme object_address = word.AtAt
+word_of_lexeme (size z) = size_word z
+word_of_lexeme (register a x) = register_word a
+word_of_lexeme here = word.Dollar
+word_of_lexeme string_word = word.String
+word_of_lexeme constant_word = word.Constant
+word_of_lexeme (look k) = built_word k
+word_of_lexeme (value k) = built_word k
+word_of_lexeme (built_in k) = built_word k
+word_of_lexeme _ = word.Pub
+
+-- and by its second number, if it has one
+abbrev pub word_behind : Lexeme → Word
+word_behind (sign k j) = operator_word j
+word_behind (changes b a) = change_word a
+word_behind x = word_of_lexeme x
+
+abbrev pub parts_changes : Lexeme → Bool
+parts_changes (changes b a) = not (is_behind b) && is_behind a
+parts_changes _ = true
+
+-- AND and OR are told by their ranks and by their numbers
+abbrev pub by_rank : Lexeme → Bool
+by_rank (infix_word r k) = grammar.is_boolean r
+by_rank _ = true
+
+abbrev pub by_number : Lexeme → Bool
+by_number (infix_word r k) = is_boolean k
+by_number _ = true
+
+-- and no assignment of one word is by them
+abbrev pub by_neither : Lexeme → Bool
+by_neither (assigns (Some k)) = not (is_boolean k)
+by_neither _ = true
+
+-- a word that can be printed for a lexeme
+pub record IsFor (w : Word) (x : Lexeme) : Type 0 where
+  pub reserved : is_free w ≡ false
+  pub is : lexeme_of_word w ≡ x
+
+-- for all words
+
+back : (w : Word) → lexeme_of_word (word_of_lexeme (lexeme_of_word w)) ≡ lexeme_of_word w
+unfolding lexeme_of_word operators assignments changes_of sizes registers built_ins
+back word.PlusPlus = refl
+back _ = refl
+
+reserved_back : (w : Word) → is_free (word_of_lexeme (lexeme_of_word w)) ≡ false
+unfolding lexeme_of_word operators assignments changes_of sizes registers built_ins
+reserved_back word.PlusPlus = refl
+reserved_back _ = refl
+
+same_words : (w : Word) → word_behind (lexeme_of_word w) ≡ word_of_lexeme (lexeme_of_word w)
+unfolding lexeme_of_word operators assignments changes_of sizes registers built_ins
+same_words word.PlusPlus = refl
+same_words _ = refl
+
+changes_parted : (w : Word) → parts_changes (lexeme_of_word w) ≡ true
+unfolding lexeme_of_word
+changes_parted word.PlusPlus = refl
+changes_parted _ = refl
+
+booleans_same : (w : Word) → by_rank (lexeme_of_word w) ≡ by_number (lexeme_of_word w)
+unfolding lexeme_of_word
+booleans_same word.PlusPlus = refl
+booleans_same _ = refl
+
+booleans_neither : (w : Word) → by_neither (lexeme_of_word w) ≡ true
+unfolding lexeme_of_word
+booleans_neither word.PlusPlus = refl
+booleans_neither _ = refl
+
+-- for all lexemes that come from a word
+
+pub is_for : (x : Lexeme) (w : Word) → lexeme_of_word w ≡ x → IsFor (word_of_lexeme x) x
+is_for x w h = subst (λ x. IsFor (word_of_lexeme x) x) h (record { reserved = reserved_back w; is = back w })
+
+words_same : (x : Lexeme) (w : Word) → lexeme_of_word w ≡ x → word_behind x ≡ word_of_lexeme x
+words_same x w h = subst (λ x. word_behind x ≡ word_of_lexeme x) h (same_words w)
+
+is_for_behind : (x : Lexeme) (w : Word) → lexeme_of_word w ≡ x → IsFor (word_behind x) x
+is_for_behind x w h = subst (λ v. IsFor v x) (sym (words_same x w h)) (is_for x w h)
+
+pub mark_is : (m : Mark) → IsFor (mark_word m) (mark m)
+unfolding lexeme_of_word
+mark_is left_parenthesis = record { reserved = refl; is = refl }
+mark_is right_parenthesis = record { reserved = refl; is = refl }
+mark_is left_bracket = record { reserved = refl; is = refl }
+mark_is right_bracket = record { reserved = refl; is = refl }
+mark_is comma = record { reserved = refl; is = refl }
+mark_is colon = record { reserved = refl; is = refl }
+mark_is dot = record { reserved = refl; is = refl }
+mark_is dot_dot = record { reserved = refl; is = refl }
+mark_is hash = record { reserved = refl; is = refl }
+mark_is backslash = record { reserved = refl; is = refl }
+mark_is equal = record { reserved = refl; is = refl }
+
+both : (a b : Bool) → a && b ≡ true → (a ≡ true) × (b ≡ true)
+both true b h = (refl, h)
+both false b h = absurd cc
+
+negated : (b : Bool) → not b ≡ true → b ≡ false
+negated true h = absurd cc
+negated false h = refl
+
+-- which of its two places a change has
+pub change_parts : (b a : ℕ) → IsLexeme (changes b a) → (is_behind b ≡ false) × (is_behind a ≡ true)
+change_parts b a h =
+    let p = both (not (is_behind b)) (is_behind a) (subst (λ x. parts_changes x ≡ true) h.1 (changes_parted h.0)) in
+    (negated (is_behind b) p.0, p.1)
+
+-- what is printed for a lexeme
+abbrev pub spelled_of : Lexeme → Spelled
+spelled_of (number n) = spelled.number n
+spelled_of (name n) = spelled.name n
+spelled_of (string s) = spelled.string s
+spelled_of x = spelled.reserved (word_of_lexeme x)
+
+-- a word can be read back, and a name is in capitals
+abbrev pub IsPrinted : Spelled → Type 0
+IsPrinted w = IsReadable w × IsInCapitals w
+
+-- a printed word that is this lexeme
+pub record Prints (w : Spelled) (x : Lexeme) : Type 0 where
+  pub printed : IsPrinted w
+  pub is : lexeme_of_spelled w ≡ x
+
+reserved_prints : (w : Word) (x : Lexeme) → IsFor w x → Prints (spelled.reserved w) x
+reserved_prints w x h = record { printed = (h.reserved, tt); is = h.is }
+
+pub mark_prints : (m : Mark) → Prints (spelled.reserved (mark_word m)) (mark m)
+mark_prints m = reserved_prints (mark_word m) (mark m) (mark_is m)
+
+pub prints : (x : Lexeme) → IsLexeme x → Prints (spelled_of x) x
+prints (number n) h = record { printed = (h, tt); is = refl }
+prints (name n) h = record { printed = h; is = refl }
+prints (string s) h = record { printed = (h, tt); is = refl }
+prints x h = reserved_prints (word_of_lexeme x) x (is_for x h.0 h.1)
+
+-- operators and assignments by the numbers that trees have
+
+abbrev second : Option (ℕ × ℕ) → ℕ
+second None = 0
+second (Some q) = q.1
+
+pub infix_prints : (x : Lexeme) (r k : ℕ) → IsLexeme x → infix_of x ≡ Some (r, k) → Prints (spelled.reserved (operator_word k)) x
+infix_prints (infix_word r' k') r k h e =
+    let same : k' ≡ k = ap second e in
+    subst (λ k. Prints (spelled.reserved (operator_word k)) (infix_word r' k')) same (reserved_prints (operator_word k') (infix_word r' k') (is_for (infix_word r' k') h.0 h.1))
+infix_prints (sign c j) r k h e =
+    let same : j ≡ k = ap second e in
+    subst (λ k. Prints (spelled.reserved (operator_word k)) (sign c j)) same (reserved_prints (operator_word j) (sign c j) (is_for_behind (sign c j) h.0 h.1))
+infix_prints x r k h e = absurd cc
+
+-- the word of an operator before its operand
+abbrev pub prefix_operator : Prefix → Word
+prefix_operator at_object = word.AtAt
+prefix_operator (unary r k) = operator_word k
+
+pub prefix_prints : (x : Lexeme) (o : Prefix) → IsLexeme x → prefix_of x ≡ Some o → Prints (spelled.reserved (prefix_operator o)) x
+prefix_prints object_address o h e =
+    let same : at_object ≡ o = cc in
+    subst (λ o. Prints (spelled.reserved (prefix_operator o)) object_address) same (reserved_prints word.AtAt object_address (is_for object_address h.0 h.1))
+prefix_prints (prefix_word r k) o h e =
+    let same : unary r k ≡ o = cc in
+    subst (λ o. Prints (spelled.reserved (prefix_operator o)) (prefix_word r k)) same (reserved_prints (operator_word k) (prefix_word r k) (is_for (prefix_word r k) h.0 h.1))
+prefix_prints (sign k j) o h e =
+    let same : unary 1 k ≡ o = cc in
+    subst (λ o. Prints (spelled.reserved (prefix_operator o)) (sign k j)) same (reserved_prints (operator_word k) (sign k j) (is_for (sign k j) h.0 h.1))
+prefix_prints x o h e = absurd cc
+
+-- AND or OR, before the `=` of its assignment
+pub boolean_prints : (r k : ℕ) → IsLexeme (infix_word r k) → Prints (spelled.reserved (operator_word k)) (infix_word r k)
+boolean_prints r k h = reserved_prints (operator_word k) (infix_word r k) (is_for (infix_word r k) h.0 h.1)
+
+pub boolean_number : (r k : ℕ) → IsLexeme (infix_word r k) → IsTrue (grammar.is_boolean r) → is_boolean k ≡ true
+boolean_number r k h b = sym (subst (λ x. by_rank x ≡ by_number x) h.1 (booleans_same h.0)) ∙ b
+
+pub no_boolean : (k : ℕ) → IsLexeme (assigns (Some k)) → is_boolean k ≡ false
+no_boolean k h = negated (is_boolean k) (subst (λ x. by_neither x ≡ true) h.1 (booleans_neither h.0))
+
+pub assignment_prints : (o : Option ℕ) → IsLexeme (assigns o) → Prints (spelled.reserved (assignment_word o)) (assigns o)
+assignment_prints o h = reserved_prints (assignment_word o) (assigns o) (is_for (assigns o) h.0 h.1)
+
+-- the word of a change that stands after its variable is the word of the change before it
+pub change_word_same : (b a : ℕ) → IsLexeme (changes b a) → change_word a ≡ change_word b
+change_word_same b a h = words_same (changes b a) h.0 h.1

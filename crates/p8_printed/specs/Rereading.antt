@@ -1,0 +1,39 @@
+-- What is read of a line of words.
+use Rattle.std.specs.Prelude.{◌≡◌, List, [], ◌∷◌, ◌++◌, if◌then◌else◌, Option, Some, All}
+use Rattle.p8_lexer.specs.declared.word.Word.TheVariants as word_case
+use Rattle.p8_pieces.specs.Pieces.{Piece}
+use Rattle.p8_lines.specs.declared.state.State.{State}
+use Rattle.p8_lines.specs.declared.state.State.TheVariants as state
+use Rattle.p8_lines.specs.Tokens.{LineToken, word, terms}
+use Rattle.p8_lines.specs.Lines.{Leads}
+use Rattle.p8_print.specs.Spelled.{Spelled, IsReadable, spell}
+use Rattle.p8_printed.specs.Reading.{IsKind, word_read}
+use Rattle.p8_expr.specs.Sources.{AreLexemes}
+use Rattle.p8_printed.specs.Lexemes.{IsInCapitals}
+use Rattle.p8_printed.specs.Written.{ends_line}
+
+-- a token is this word
+pub record IsSpelled (w : Spelled) (t : LineToken) : Type 0 where
+  pub kind : IsKind w t.kind
+  pub word : word t ≡ word_read w
+  pub text : t.text ≡ spell w
+
+-- tokens are these words
+abbrev pub AreSpelled : List Spelled → List LineToken → Type 0
+AreSpelled [] [] = Unit {0}
+AreSpelled (w ∷ ws) (t ∷ ts) = IsSpelled w t × AreSpelled ws ts
+AreSpelled _ _ = ⊥
+
+-- tokens that a source can have
+abbrev pub AreOfSource : List LineToken → Type 0
+AreOfSource ts = AreLexemes (terms ts)
+
+-- the tokens of a row, of which these are the words, with the token of its line's end, if it has one
+abbrev pub with_line_end : List Piece → List LineToken → LineToken → List LineToken
+with_line_end row ts t = if ends_line row then ts ++ t ∷ [] else ts
+
+-- Words are read back from a state on, as a line with this value; `anywhere` forgets the places of values.
+pub record ReadsBack {V : Type 0} (value : List Piece → Option V) (anywhere : V → V) (q : State) (words : List Spelled) (v : V) : Type 0 where
+  pub readable : All IsReadable words
+  pub capitals : All IsInCapitals words
+  pub read : (ts : List LineToken) (t : LineToken) → AreSpelled words ts → word t ≡ word_case.LineEnd → (row : List Piece) × (v' : V) × Leads q (ts ++ t ∷ []) row state.End × (value row ≡ Some v') × (anywhere v' ≡ anywhere v)

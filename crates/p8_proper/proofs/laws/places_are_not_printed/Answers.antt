@@ -1,5 +1,0 @@
-use Rattle.p8_proper.proofs.PlacelessLines.{same_lines}
-use Rattle.p8_proper.proofs.laws.places_are_not_printed.Goals as goal
-
-pub returns : goal.returns
-returns c = same_lines

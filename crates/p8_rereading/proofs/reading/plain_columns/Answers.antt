@@ -1,5 +1,0 @@
-use Rattle.p8_rereading.proofs.Runs.{plain_column}
-use Rattle.p8_rereading.proofs.reading.plain_columns.Goals as goal
-
-pub returns : goal.returns
-returns c = λ column cs plain. plain_column column cs plain
