@@ -29,8 +29,8 @@ ghost use Rattle.p8_short.specs.Folding.{folded_body};
 ghost use Rattle.p8_short.specs.Projects.{HidesNone, constants_of};
 ghost use Rattle.p8_folded.specs.Asked.{AreWords, HideNoConstant};
 
+use p8_compiled::code_ends_where_its_bytes_do;
 use p8_names::{own_names_are_apart, resolved_constants_are_words};
-use p8_templates::code_ends_where_its_bytes_do;
 
 /// Law: a folded body could have been read, where the values of constants are words: its trees are proper, each NEXT
 /// and each QUIT stands in a loop, and its blocks stand no deeper in one another than they did.

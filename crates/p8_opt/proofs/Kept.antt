@@ -26,8 +26,8 @@ use Rattle.p8_access.specs.Replays.{answer_of}
 use Rattle.p8_access.specs.declared.order.Turn.{Turn}
 use Rattle.p8_access.specs.declared.kinds.Origin.TheVariants.{Spin}
 use Rattle.p8_access.specs.Worlds.{World}
-use Rattle.p8_keeps.specs.Keeps.{bytes}
-use Rattle.p8_told_lives.specs.Told.{SpinIsTold}
+use Rattle.p8_compiled.specs.Keeps.{bytes}
+use Rattle.p8_compiled.specs.Told.{SpinIsTold}
 use Rattle.p8_build.specs.Parts.{AreProper}
 use Rattle.p8_build.specs.Files.{CompiledFile, IsCompiled, setting_of}
 use Rattle.p8_build.specs.Builds.{AreCompiled, objects_of}

@@ -14,7 +14,7 @@ use Rattle.p8_names.specs.Kinds.{public_in, private_in, publics, privates, numbe
 use Rattle.p8_gen.specs.Names.{wide_in}
 use Rattle.p8_stmt.specs.declared.code.MethodCode.{MethodCode}
 use Rattle.p8_stmt.specs.Methods.{rebodied}
-use Rattle.p8_templates.specs.Agreeing.{environment}
+use Rattle.p8_compiled.specs.Agreeing.{environment}
 use Rattle.p8_build.specs.Parts.{AreProper}
 use Rattle.p8_build.specs.Files.{CompiledFile, IsCompiled, setting_of, method_names}
 use Rattle.p8_build.specs.Builds.{AreCompiled}

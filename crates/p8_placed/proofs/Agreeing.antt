@@ -12,8 +12,8 @@ use Rattle.p8_image.specs.Loading.{memory_of}
 use Rattle.p8_image.specs.Places.{AllPartsStand}
 use Rattle.p8_meaning.specs.Programs as meaning
 use Rattle.p8_meaning.specs.Programs.{Instance}
-use Rattle.p8_keeps.specs.Keeps.{compiled}
-use Rattle.p8_templates.specs.Agreeing.{Agrees}
+use Rattle.p8_compiled.specs.Keeps.{compiled}
+use Rattle.p8_compiled.specs.Agreeing.{Agrees}
 use Rattle.p8_build.specs.Parts.{AreProper, strings_of, text_number}
 use Rattle.p8_build.specs.Files.{CompiledFile, setting_of, object_of}
 use Rattle.p8_build.specs.Builds.{objects_of}

@@ -16,8 +16,8 @@ use Rattle.p8_gen.specs.Methods.{bytes_of, method_code}
 use Rattle.p8_gen.specs.Uses.{use_of}
 use Rattle.p8_stmt.specs.declared.code.MethodCode.{MethodCode}
 use Rattle.p8_stmt.specs.Methods.{IsCodeOf, IsMethodFault, jump_too_far, use_in}
-use Rattle.p8_templates.specs.Placing.{HasCode}
-use Rattle.p8_templates.proofs.Lengths.{method-measured}
+use Rattle.p8_compiled.specs.Placing.{HasCode}
+use Rattle.p8_compiled.proofs.Lengths.{method-measured}
 use Rattle.p8_build.specs.Parts.{text_number, use_of_text}
 use Rattle.p8_placed.proofs.Linking.{zeros, same, twins}
 use Rattle.p8_placed.proofs.Linked.{linked-is, used}

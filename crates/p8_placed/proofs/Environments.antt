@@ -26,7 +26,7 @@ use Rattle.p8_names.specs.Kinds.{numbered, own_kind, kind_in_method, method_sett
 use Rattle.p8_names.specs.Faults.{in_method, IsMethodFault, of_name, of_method}
 use Rattle.p8_build.specs.Files.{CompiledFile, setting_of}
 use Rattle.p8_build.proofs.Methods.{in_methods}
-use Rattle.p8_templates.specs.Agreeing.{environment}
+use Rattle.p8_compiled.specs.Agreeing.{environment}
 use Rattle.p8_placed.specs.Agreements.{names_of}
 use Rattle.p8_placed.proofs.Alike.{Alike}
 use Rattle.p8_placed.proofs.NamedSettings.{kind-is, named-alike, behind-same}

@@ -27,7 +27,7 @@ use Rattle.p8_kinds.specs.Kinds.{own, or_else, kind_of}
 use Rattle.p8_kinds.specs.FileSettings.{meaning_of_kind, constant_among, constant_in, constant_behind}
 use Rattle.p8_names.specs.Kinds.{numbered}
 use Rattle.p8_names.proofs.Equal.{settings_equal}
-use Rattle.p8_templates.proofs.Lengths.{method-measured}
+use Rattle.p8_compiled.proofs.Lengths.{method-measured}
 use Rattle.p8_meaning.specs.Programs as meaning
 use Rattle.p8_meaning.specs.Programs.{File, longs_of, locals_size, object_constant}
 use Rattle.p8_stmt.specs.declared.code.MethodCode.{MethodCode}

@@ -12,7 +12,7 @@ use Rattle.p8_tree.specs.Nesting as nesting
 use Rattle.p8_gen.specs.Names.{Names}
 use Rattle.p8_gen.specs.Expressions.{count_of, starts_method, is_method}
 use Rattle.p8_gen.specs.Depths.{over, arguments_of, held, held_by_naming, held_by_index, held_by_bits, held_by_trees, held_by_items, held_by_built, held_by_arguments, held_alone, held_if, held_by_test, held_by_tests, held_by_pass, held_in_loop, held_in, held_in_action, held_in_arms, held_in_cases, held_in_other}
-use Rattle.p8_keeps.specs.Depths as law
+use Rattle.p8_compiled.specs.Depths as law
 
 -- ---- numbers
 

@@ -14,7 +14,7 @@ use Rattle.p8_image.specs.Loading.{memory_of}
 use Rattle.p8_image.specs.Places.{AllPartsStand, base_of}
 use Rattle.p8_meaning.specs.Programs.{Program, Addresses, File, Instance, instance_at}
 use Rattle.p8_meaning.specs.Lives.{IsInstance, top_instance, inner_instance}
-use Rattle.p8_keeps.specs.Keeps.{ObjectPlaced}
+use Rattle.p8_compiled.specs.Keeps.{ObjectPlaced}
 use Rattle.p8_build.specs.Files.{CompiledFile, object_of}
 use Rattle.p8_build.specs.Builds.{objects_of}
 use Rattle.p8_placed.specs.Programs.{file_of, program_of, with_sources, addresses_of, instance_number, inner_base}

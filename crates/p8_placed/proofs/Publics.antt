@@ -27,7 +27,7 @@ use Rattle.p8_names.specs.Mentions.{IsNamed, mentions}
 use Rattle.p8_names.specs.Children.{shown_method, methods_from, behind}
 use Rattle.p8_meaning.specs.Programs.{Program, File, method_named, methods_in}
 use Rattle.p8_meaning.specs.Calls.{method_of}
-use Rattle.p8_keeps.specs.Standing.{Compiled, IsObjectMethod}
+use Rattle.p8_compiled.specs.Standing.{Compiled, IsObjectMethod}
 use Rattle.p8_build.specs.Parts.{number_of}
 use Rattle.p8_build.specs.Files.{CompiledFile}
 use Rattle.p8_placed.specs.Programs.{file_of, program_of, with_sources}

@@ -23,9 +23,9 @@ use Rattle.p8_names.specs.Faults.{of_name, count as of_counts, instances as of_i
 use Rattle.p8_gen.specs.Files.{kind_here, first_offset}
 use Rattle.p8_meaning.specs.Programs.{File, Instance}
 use Rattle.p8_meaning.specs.Calls.{method_of}
-use Rattle.p8_keeps.specs.Standing.{Compiled, Fits}
-use Rattle.p8_keeps.specs.Keeps.{compiled}
-use Rattle.p8_templates.specs.Agreeing.{IsSound}
+use Rattle.p8_compiled.specs.Standing.{Compiled, Fits}
+use Rattle.p8_compiled.specs.Keeps.{compiled}
+use Rattle.p8_compiled.specs.Agreeing.{IsSound}
 use Rattle.p8_build.specs.Files.{CompiledFile, setting_of}
 use Rattle.p8_build.specs.Builds.{objects_of}
 use Rattle.p8_placed.specs.Programs.{file_of, program_of, with_sources, addresses_of}

@@ -32,12 +32,12 @@ use Rattle.p8_gen.specs.Depths.{held_in}
 use Rattle.p8_meaning.specs.Programs.{Program, Addresses, File, Instance, Target, frame_size}
 use Rattle.p8_meaning.specs.Calls.{method_of}
 use Rattle.p8_meaning.specs.Lives.{IsInstance, top_instance, IsMethodOrigin}
-use Rattle.p8_keeps.specs.Standing.{Compiled, names_method, is_method_kind}
-use Rattle.p8_keeps.specs.Bodies.{MethodAt}
-use Rattle.p8_keeps.specs.Keeps.{Placed, MethodPlaced, compiled}
-use Rattle.p8_templates.specs.Agreeing.{Agrees}
-use Rattle.p8_templates.proofs.Methods.{method-stands}
-use Rattle.p8_told_lives.specs.Told.{FramesFit, IsWorldOf}
+use Rattle.p8_compiled.specs.Standing.{Compiled, names_method, is_method_kind}
+use Rattle.p8_compiled.specs.Bodies.{MethodAt}
+use Rattle.p8_compiled.specs.Keeps.{Placed, MethodPlaced, compiled}
+use Rattle.p8_compiled.specs.Agreeing.{Agrees}
+use Rattle.p8_compiled.proofs.TemplateMethods.{method-stands}
+use Rattle.p8_compiled.specs.Told.{FramesFit, IsWorldOf}
 use Rattle.p8_stmt.specs.Methods.{holds_too_much, rebodied}
 use Rattle.p8_build.specs.Parts.{AreProper, strings_of, method_part}
 use Rattle.p8_build.specs.Files.{CompiledFile, method_names, object_of}

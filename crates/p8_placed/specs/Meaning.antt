@@ -6,7 +6,7 @@ use Rattle.p8_meaning.specs.Programs.{Program, Addresses, Target}
 use Rattle.p8_meaning.specs.Lives.{IsMethodOrigin, says}
 use Rattle.p8_meaning.specs.Bounds.{made_of, IsSettled, IsBeginning}
 use Rattle.p8_meaning.specs.Halts.{AreSourceAccesses}
-use Rattle.p8_keeps.specs.Keeps.{bytes}
+use Rattle.p8_compiled.specs.Keeps.{bytes}
 
 -- Whichever method of a project a cog begins with, in whichever frame, and whatever answers its accesses get: what the source says up to a bound, some number
 -- of bytecodes does, no lesser than the bound; what a number of bytecodes does up to a next access or the life's end, the source says with that bound; at

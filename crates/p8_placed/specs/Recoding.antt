@@ -14,7 +14,7 @@ use Rattle.p8_names.specs.Resolution.{IsNamed}
 use Rattle.p8_gen.specs.Names.{Names, widened}
 use Rattle.p8_stmt.specs.declared.code.MethodCode.{MethodCode}
 use Rattle.p8_stmt.specs.Methods.{rebodied, IsCodeOf, IsMethodFault}
-use Rattle.p8_templates.specs.Agreeing.{environment}
+use Rattle.p8_compiled.specs.Agreeing.{environment}
 use Rattle.p8_build.specs.Files.{CompiledFile, setting_of, IsData, method_names, are_too_many}
 use Rattle.p8_build.specs.Builds.{IsFile}
 

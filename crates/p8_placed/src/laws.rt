@@ -14,13 +14,13 @@ ghost use Rattle.p8_image.specs.Projects.{FitsHub};
 ghost use Rattle.p8_build.specs.Parts.{AreProper};
 ghost use Rattle.p8_build.specs.Files.{CompiledFile};
 ghost use Rattle.p8_build.specs.Builds.{AreCompiled, objects_of};
-ghost use Rattle.p8_told_lives.specs.Told.{IsWorldOf};
+ghost use Rattle.p8_compiled.specs.Told.{IsWorldOf};
 ghost use Rattle.p8_placed.specs.Programs.{program_of, with_sources, addresses_of};
 ghost use Rattle.p8_placed.specs.Recoding.{AreRecoded};
 ghost use Rattle.p8_placed.specs.Meaning.{KeepsMeaning};
 
+use p8_compiled::code_keeps_meaning;
 use p8_image::{image_loads, parts_stand};
-use p8_keeps::code_keeps_meaning;
 
 /// Law: the memory that the image of an accepted project starts with has the methods of a changed source, where its codes are those of the
 /// changed bodies, each with such jumps wide that every offset fits; and what cog 0 starts with is the first method of the top file.

@@ -1,6 +1,6 @@
 use Rattle.std.proofs.Common.{subst}
 use Rattle.p8_build.specs.Builds.{objects_of}
-use Rattle.p8_told_lives.specs.Told.{IsWorldOf}
+use Rattle.p8_compiled.specs.Told.{IsWorldOf}
 use Rattle.p8_placed.specs.Programs.{own_sources, addresses_of}
 use Rattle.p8_placed.proofs.Files.{own-program}
 use Rattle.p8_placed.proofs.Own.{own-recoded}

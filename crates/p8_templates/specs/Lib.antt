@@ -1,4 +1,0 @@
--- What the public contracts cite.
-pub mod Placing
-pub mod Agreeing
-pub mod Moving
