@@ -32,12 +32,12 @@ use Rattle.p8_build.specs.Parts.{AreProper}
 use Rattle.p8_build.specs.Files.{CompiledFile, IsCompiled, setting_of}
 use Rattle.p8_build.specs.Builds.{AreCompiled, objects_of}
 use Rattle.p8_build.proofs.Methods.{proper_method}
-use Rattle.p8_placed.specs.Programs.{kind_by, file_of, program_from, program_of, with_sources, addresses_of}
-use Rattle.p8_placed.specs.Meaning.{KeepsMeaning}
-use Rattle.p8_placed.proofs.Frames.{setting-outside}
+use Rattle.p8_opt.specs.Programs.{kind_by, file_of, program_from, program_of, with_sources, addresses_of}
+use Rattle.p8_opt.specs.Meaning.{KeepsMeaning}
+use Rattle.p8_opt.proofs.Frames.{setting-outside}
 use Rattle.p8_names.specs.Own.{IsLocal}
 use Rattle.p8_names.proofs.Own.{apart, local}
-use Rattle.p8_folded.proofs.Hiding.{constants-same}
+use Rattle.p8_opt.proofs.Hiding.{constants-same}
 use Rattle.p8_short.specs.Constants.{Constants, constants_in}
 use Rattle.p8_short.specs.Projects.{folded_method, folded_source, constants_of, IsFolded, AreFolded, folded_file, folded_program, HidesNone}
 use Rattle.p8_opt.specs.Shorts.{IsShort, AreShort, IsShortBuilt}

@@ -1,3 +1,51 @@
+mod Constants
+mod Holding
+mod Linking
+mod Linked
+mod Tables
+mod Alike
+mod Definitions
+mod NamedSettings
+pub mod Files
+pub mod Counting
+mod PlacedObjects
+mod Images
+mod Codes
+mod OwnKinds
+mod Instances
+mod Placing
+pub mod Frames
+mod FirstMethods
+mod Texts
+mod Results
+mod OwnSettings
+mod Misused
+pub mod Environments
+mod Publics
+mod Rooms
+mod Sounds
+mod RoomsWays
+mod RoomsGlobals
+mod Agreeing
+mod Whole
+mod Labelled
+mod Own
+mod Words
+pub mod Proper
+pub mod Nesting
+pub mod Misuse
+mod Starting
+mod Depth
+mod Fixed
+mod Growing
+mod Closer
+mod Steady
+mod Length
+mod Expressions
+mod Statements
+pub mod Methods
+pub mod Resolved
+pub mod Hiding
 pub mod Ready
 pub mod Sizes
 pub mod Wholes
@@ -5,3 +53,5 @@ pub mod Recoded
 pub mod Kept
 pub mod OneByOne
 pub mod Once
+mod Keeping
+mod Mains

@@ -17,12 +17,12 @@ use Rattle.p8_build.proofs.Methods.{proper_method}
 use Rattle.p8_build.proofs.Ready.{resolved}
 use Rattle.p8_short.specs.Constants.{Constants, constants_in}
 use Rattle.p8_short.specs.Folding.{folded_body}
-use Rattle.p8_folded.specs.Asked.{AreWords, HideNoConstant}
+use Rattle.p8_opt.specs.Asked.{AreWords, HideNoConstant}
 use Rattle.p8_names.proofs.Own.{apart}
-use Rattle.p8_folded.proofs.Proper.{body-proper}
-use Rattle.p8_folded.proofs.Misuse.{body-misused}
-use Rattle.p8_folded.proofs.Resolved.{hide-none}
-use Rattle.p8_folded.proofs.Methods.{method-short, method-faultless}
+use Rattle.p8_opt.proofs.Proper.{body-proper}
+use Rattle.p8_opt.proofs.Misuse.{body-misused}
+use Rattle.p8_opt.proofs.Resolved.{hide-none}
+use Rattle.p8_opt.proofs.Methods.{method-short, method-faultless}
 use Rattle.p8_jumps.specs.Jumps.{IsShortCode}
 use Rattle.p8_jumps.proofs.Choices.{method-ends, method-measured}
 use Rattle.p8_opt.specs.Steps.{CanBeFolded}

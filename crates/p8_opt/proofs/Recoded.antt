@@ -21,18 +21,18 @@ use Rattle.p8_build.specs.Builds.{AreCompiled}
 use Rattle.p8_build.proofs.Lists.{element}
 use Rattle.p8_build.proofs.Methods.{proper_method}
 use Rattle.p8_names.specs.Children.{AreChildren}
-use Rattle.p8_placed.specs.Recoding.{IsRecoded, HaveCodes, IsRecodedFile, AreRecoded}
-use Rattle.p8_placed.proofs.Counting.{instances-few, few-methods}
-use Rattle.p8_placed.proofs.Environments.{no-misuse}
+use Rattle.p8_opt.specs.Recoding.{IsRecoded, HaveCodes, IsRecodedFile, AreRecoded}
+use Rattle.p8_opt.proofs.Counting.{instances-few, few-methods}
+use Rattle.p8_opt.proofs.Environments.{no-misuse}
 use Rattle.p8_names.proofs.Seen.{has-words}
-use Rattle.p8_folded.proofs.Resolved.{are-words}
+use Rattle.p8_opt.proofs.Resolved.{are-words}
 use Rattle.p8_short.specs.Constants.{Constants, constants_in}
 use Rattle.p8_short.specs.Folding.{folded_body}
 use Rattle.p8_short.specs.Projects.{folded_method, folded_block, folded_source}
-use Rattle.p8_folded.specs.Asked.{AreWords}
-use Rattle.p8_folded.proofs.Proper.{body-proper}
-use Rattle.p8_folded.proofs.Nesting.{body-leaves, body-shallow}
-use Rattle.p8_folded.proofs.Misuse.{body-misused}
+use Rattle.p8_opt.specs.Asked.{AreWords}
+use Rattle.p8_opt.proofs.Proper.{body-proper}
+use Rattle.p8_opt.proofs.Nesting.{body-leaves, body-shallow}
+use Rattle.p8_opt.proofs.Misuse.{body-misused}
 use Rattle.p8_jumps.proofs.Least.{no-fault}
 use Rattle.p8_opt.specs.Shorts.{IsShort, AreShort}
 use Rattle.p8_opt.proofs.Ready.{foldable}

@@ -13,13 +13,13 @@ ghost use Rattle.p8_image.specs.Loading.{memory_of, start_of};
 ghost use Rattle.p8_lives.specs.Lives.{asks};
 ghost use Rattle.p8_build.specs.Parts.{AreProper};
 ghost use Rattle.p8_compiled.specs.Told.{SpinIsTold};
-ghost use Rattle.p8_placed.specs.Programs.{program_of, addresses_of};
-ghost use Rattle.p8_placed.specs.Meaning.{KeepsMeaning};
+ghost use Rattle.p8_opt.specs.Programs.{program_of, addresses_of};
+ghost use Rattle.p8_opt.specs.Meaning.{KeepsMeaning};
 ghost use Rattle.p8_opt.specs.Shorts.{IsShortBuilt};
 
+use crate::placed_laws::{recoded_images_have_their_methods, recoded_images_keep_meaning};
 use p8_compiled::lives_are_told;
 use p8_names::one_for_each_project;
-use p8_placed::{recoded_images_have_their_methods, recoded_images_keep_meaning};
 use p8_short::{folded_sources_have_folded_methods, folds_keep_meaning};
 
 /// Law: with short code a project is built to one thing alone.

@@ -21,8 +21,8 @@ use Rattle.p8_lives.specs.Lives.{asks}
 use Rattle.p8_meaning.specs.Programs.{Program, Addresses}
 use Rattle.p8_objects.proofs.Wholes.{whole_project}
 use Rattle.p8_compiled.specs.Told.{IsWorldOf, SpinIsTold}
-use Rattle.p8_placed.specs.Programs.{program_of, addresses_of}
-use Rattle.p8_placed.specs.Meaning.{KeepsMeaning}
+use Rattle.p8_opt.specs.Programs.{program_of, addresses_of}
+use Rattle.p8_opt.specs.Meaning.{KeepsMeaning}
 use Rattle.p8_inputs.specs.declared.program.Format.{Format}
 use Rattle.p8_inputs.specs.declared.program.Format.TheVariants.{Memory, Image, Eeprom, Source}
 use Rattle.p8_inputs.specs.Programs.{memory_by, first_by}

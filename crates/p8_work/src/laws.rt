@@ -12,8 +12,9 @@ ghost use Rattle.p8_inputs.specs.declared.program.Format.TheVariants.{Source};
 ghost use Rattle.p8_work.specs.Headline.{IsToldBySource, IsBuild};
 
 use p8_compiled::lives_are_told;
-use p8_opt::{short_images_keep_meaning, short_lives_are_told};
-use p8_placed::{images_have_their_methods, images_keep_meaning};
+use p8_opt::{
+    images_have_their_methods, images_keep_meaning, short_images_keep_meaning, short_lives_are_told,
+};
 
 /// Law: in the ended history of a world that begins with the image of a source, each life of Spin is told by the source.
 pub fn runs_are_told()

@@ -1,5 +1,0 @@
-use Rattle.p8_built.proofs.Mains.{built-loads}
-use Rattle.p8_built.proofs.laws.built_images_load.Goals as goal
-
-pub returns : goal.returns
-returns c files some image is = built-loads files some c.image_loads.ensures.image c.image_loads.ensures.header image is

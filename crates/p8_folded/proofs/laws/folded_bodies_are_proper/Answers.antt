@@ -1,6 +1,0 @@
-use Rattle.p8_folded.proofs.Proper.{body-proper}
-use Rattle.p8_folded.proofs.Nesting.{body-leaves, body-shallow}
-use Rattle.p8_folded.proofs.laws.folded_bodies_are_proper.Goals as goal
-
-pub returns : goal.returns
-returns c = record { proper = body-proper; loops = body-leaves; shallow = body-shallow }
