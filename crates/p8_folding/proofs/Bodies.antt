@@ -20,8 +20,8 @@ use Rattle.p8_tree.specs.Expressions.{Tree, node, Item, Items, no_items, ◌▸�
 use Rattle.p8_tree.specs.Statements.{Course, statement, If, Case, Arm, arm, Arms, no_arms, ◌⊳◌, Otherwise, nothing_else, otherwise, Statements, no_statements, ◌▹◌}
 use Rattle.p8_tree.specs.Views.{tree_of, form_of, item_of, items_of, items_after, course_of, action_of, arm_of, arms_of, arms_after, statement_of, statements_of, statements_after}
 use Rattle.p8_tree.specs.Bridges.{other_body, arm_is, if_is, case_is, repeat_is, stmt_is, statements_of-push, arms_of-push}
-use Rattle.p8_short.specs.Constants.{Constants}
-use Rattle.p8_short.specs.Folding.{number_in, NoTest, Going, Ended, Known, Condition, Chain, condition, with_arm, whole_chain, chain, one, loop, kept, joined, folded, folded_items, folded_course, folded_statement, folded_action, folded_body, folded_chain, folded_arms, folded_other}
+use Rattle.p8_folding.specs.Constants.{Constants}
+use Rattle.p8_folding.specs.Folding.{number_in, NoTest, Going, Ended, Known, Condition, Chain, condition, with_arm, whole_chain, chain, one, loop, kept, joined, folded, folded_items, folded_course, folded_statement, folded_action, folded_body, folded_chain, folded_arms, folded_other}
 use Rattle.p8_folding.specs.Copies.{folded_arm}
 
 -- ---- numbers and conditions

@@ -1,7 +1,7 @@
 -- A tree in which no expression becomes a number is the same.
 use Rattle.std.proofs.Common.{◌≡◌, refl, ap, ap₂, ℕ, ◌==◌, Bool, true, false, if◌then◌else◌, Option, None}
 use Rattle.p8_tree.specs.Expressions.{Tree, node, Form, Number, Str, Here, Var, Call, Unary, Binary, Assign, Change, Address, ObjectAddress, ObjConst, Built, Look, Variable, Named, Part, Memory, Register, Index, no_index, index, Bits, whole, bits, Item, single, range, Trees, no_trees, ◌▷◌, Items, no_items, ◌▸◌}
-use Rattle.p8_short.specs.Folding.{tree_with, form_with, variable_with, index_with, bits_with, item_with, trees_with, arguments_with, items_with}
+use Rattle.p8_folding.specs.Folding.{tree_with, form_with, variable_with, index_with, bits_with, item_with, trees_with, arguments_with, items_with}
 
 abbrev none : Tree → Option ℕ
 none = λ e. None

@@ -4,7 +4,7 @@ use Rattle.std.proofs.Common.{◌≡◌, refl, ap, ap₂, ◌∙◌, ℕ, ◌+�
 use Rattle.std.specs.Prelude.{min}
 use Rattle.p8_tree.specs.Expressions.{Tree, node, Number, Str, Here, Var, Call, Unary, Binary, Assign, Change, Address, ObjectAddress, ObjConst, Built, Look}
 use Rattle.p8_operators.specs.Operators.{unary_value, binary_value, or_zero}
-use Rattle.p8_short.specs.Constants.{Constants, value_of_name, both, constant_value, number_length, unary_length, code_length, within}
+use Rattle.p8_folding.specs.Constants.{Constants, value_of_name, both, constant_value, number_length, unary_length, code_length, within}
 use Rattle.p8_folding.specs.declared.known.Numbers.{Numbers}
 use Rattle.p8_folding.specs.declared.known.Numbers.TheVariants.{Shorter, Kept}
 use Rattle.p8_folding.specs.declared.known.Known.{Known}

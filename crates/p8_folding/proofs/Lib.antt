@@ -1,3 +1,8 @@
+mod Scopes
+mod ShortExpressions
+mod ShortStatements
+mod Meanings
+mod Examples
 mod Keeping
 mod Lengths
 mod Trees

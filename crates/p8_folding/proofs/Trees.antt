@@ -16,8 +16,8 @@ use Rattle.p8_tree.specs.Expressions.{Tree, node, Form, Call, Built, Look, Trees
 use Rattle.p8_tree.specs.Views.{tree_of, form_of, trees_of, trees_after, items_of, item_of, call_of}
 use Rattle.p8_tree.specs.Bridges.{boxed_index, call_is, built_is, look_is, trees_of-push, items_of-push}
 use Rattle.p8_fold.proofs.Rows.{call_form}
-use Rattle.p8_short.specs.Constants.{Constants}
-use Rattle.p8_short.specs.Folding.{tree_with, form_with, trees_with, items_with, item_with, index_with, arguments_with}
+use Rattle.p8_folding.specs.Constants.{Constants}
+use Rattle.p8_folding.specs.Folding.{tree_with, form_with, trees_with, items_with, item_with, index_with, arguments_with}
 use Rattle.p8_folding.specs.declared.building.Copied.{Copied}
 use Rattle.p8_folding.specs.declared.known.Numbers.{Numbers}
 use Rattle.p8_folding.specs.declared.known.Known.{Known}

@@ -6,8 +6,8 @@ use Rattle.p8_tree.specs.Expressions.{Tree, node}
 use Rattle.p8_tree.specs.Statements.{Arm, arm, Arms}
 use Rattle.p8_tree.specs.Views.{arms_of, statements_of}
 use Rattle.p8_fold.specs.Entries.{setting_of}
-use Rattle.p8_short.specs.Constants.{Constants, constants_in}
-use Rattle.p8_short.specs.Folding.{number_or, Chain, Going, Ended, Condition, Known, Unknown, NoTest, folded_items, folded_body}
+use Rattle.p8_folding.specs.Constants.{Constants, constants_in}
+use Rattle.p8_folding.specs.Folding.{number_or, Chain, Going, Ended, Condition, Known, Unknown, NoTest, folded_items, folded_body}
 use Rattle.p8_folding.specs.declared.folder.Folder.{Folder}
 use Rattle.p8_folding.specs.declared.chains.Condition as code_condition
 use Rattle.p8_folding.specs.declared.chains.Condition.TheVariants as condition_case

@@ -2,7 +2,7 @@
 use Rattle.std.specs.Prelude.{ℕ, ◌+◌, ◌==◌, ◌&&◌, min, Option, Some, None, if◌then◌else◌}
 use Rattle.p8_tree.specs.Expressions.{Tree, node, Number, Var, Unary, Binary, ObjConst}
 use Rattle.p8_operators.specs.Operators.{unary_value, binary_value}
-use Rattle.p8_short.specs.Constants.{Constants, value_of_name, number_length, unary_length, within, shorter_number}
+use Rattle.p8_folding.specs.Constants.{Constants, value_of_name, number_length, unary_length, within, shorter_number}
 use Rattle.p8_folding.specs.declared.known.Numbers.{Numbers}
 use Rattle.p8_folding.specs.declared.known.Numbers.TheVariants.{Shorter, Kept}
 use Rattle.p8_folding.specs.declared.known.Known.{Known}

@@ -4,8 +4,8 @@ ghost use Rattle.p8_tree.specs.Expressions.{no_items, ◌▸◌};
 ghost use Rattle.p8_tree.specs.Statements.{no_arms, ◌⊳◌};
 ghost use Rattle.p8_tree.specs.Views.{items_of, item_of, arm_of, arms_of, statements_of};
 ghost use Rattle.p8_fold.specs.Entries.{setting_of};
-ghost use Rattle.p8_short.specs.Constants.{constants_in};
-ghost use Rattle.p8_short.specs.Folding.{Going, Ended, known, condition, with_arm};
+ghost use Rattle.p8_folding.specs.Constants.{constants_in};
+ghost use Rattle.p8_folding.specs.Folding.{Going, Ended, known, condition, with_arm};
 ghost use Rattle.p8_folding.specs.Copies.{condition_of, chain_of};
 
 use crate::known::constant_value;

@@ -1,7 +1,7 @@
 // How loops go on, with folded expressions.
 ghost use Rattle.std.specs.Prelude.{◌≡◌, IfOk, option_map};
 ghost use Rattle.p8_tree.specs.Views.{tree_of, course_of};
-ghost use Rattle.p8_short.specs.Folding.{folded, folded_course, holds, number_in, kept_count, kept_before, kept};
+ghost use Rattle.p8_folding.specs.Folding.{folded, folded_course, holds, number_in, kept_count, kept_before, kept};
 ghost use Rattle.p8_folding.specs.Copies.{constants_of};
 
 use crate::folder::Folder;

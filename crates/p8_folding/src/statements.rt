@@ -4,8 +4,8 @@ ghost use Rattle.p8_tree.specs.Statements.{statement, ◌▹◌, Do, Case, Retur
 ghost use Rattle.p8_tree.specs.Views.{tree_of, course_of, action_of, arm_of, arms_of, statement_of, statements_of};
 ghost use Rattle.p8_tree.specs.Bridges.{other_body};
 ghost use Rattle.p8_fold.specs.Entries.{setting_of};
-ghost use Rattle.p8_short.specs.Constants.{constants_in};
-ghost use Rattle.p8_short.specs.Folding.{folded, folded_inside, folded_course, kept, loop, whole_chain, chain, joined, folded_statement, folded_body, folded_chain, folded_arms};
+ghost use Rattle.p8_folding.specs.Constants.{constants_in};
+ghost use Rattle.p8_folding.specs.Folding.{folded, folded_inside, folded_course, kept, loop, whole_chain, chain, joined, folded_statement, folded_body, folded_chain, folded_arms};
 ghost use Rattle.p8_folding.specs.Copies.{constants_of, chain_of, folded_arm};
 
 use crate::chains::{Chain, condition_of_arm};

@@ -2,7 +2,7 @@
 ghost use Rattle.std.specs.Prelude.{◌≡◌, ◌+◌, length, map, IfOk};
 ghost use Rattle.p8_tree.specs.Views.{method_of};
 ghost use Rattle.p8_jumps.specs.Jumps.{IsShortCode};
-ghost use Rattle.p8_short.specs.Folding.{folded_body};
+ghost use Rattle.p8_folding.specs.Folding.{folded_body};
 ghost use Rattle.p8_opt.specs.Steps.{names_by, constants_by, CanBeFolded, AreFoldable, AreShortCodes};
 
 use p8_folding::folded_body;

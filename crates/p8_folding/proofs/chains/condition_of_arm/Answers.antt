@@ -1,6 +1,6 @@
 use Rattle.std.proofs.Common.{arith}
 use Rattle.p8_fold.specs.Entries.{setting_of}
-use Rattle.p8_short.specs.Constants.{constants_in}
+use Rattle.p8_folding.specs.Constants.{constants_in}
 use Rattle.p8_folding.proofs.Bodies.{no-test}
 use Rattle.p8_folding.proofs.chains.condition_of_arm.Goals as goal
 

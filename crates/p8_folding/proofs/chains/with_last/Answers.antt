@@ -1,5 +1,5 @@
 use Rattle.std.proofs.Common.{ap}
-use Rattle.p8_short.specs.Folding.{Going}
+use Rattle.p8_folding.specs.Folding.{Going}
 use Rattle.p8_folding.proofs.Bodies.{arms-pushed}
 use Rattle.p8_folding.proofs.chains.with_last.Goals as goal
 

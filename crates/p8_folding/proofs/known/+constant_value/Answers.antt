@@ -3,7 +3,7 @@ use Rattle.p8_tree.specs.Expressions.{node}
 use Rattle.p8_tree.specs.Views.{form_of}
 use Rattle.p8_fold.specs.Entries.{setting_of}
 use Rattle.p8_fold.proofs.Rows.{call_form}
-use Rattle.p8_short.specs.Constants.{constants_in, constant_value}
+use Rattle.p8_folding.specs.Constants.{constants_in, constant_value}
 use Rattle.p8_folding.proofs.known.+constant_value.Goals as goal
 
 pub returns-in-Call : goal.returns-in-Call

@@ -1,6 +1,6 @@
 use Rattle.std.proofs.Common.{◌≡◌, rules, ap, ap₂, ◌∙◌}
 use Rattle.p8_tree.specs.Views.{tree_of, items_of, item_of, form_of}
-use Rattle.p8_short.specs.Folding.{tree_with, item_with, items_with}
+use Rattle.p8_folding.specs.Folding.{tree_with, item_with, items_with}
 use Rattle.p8_folding.specs.Known.{number_by, shorter_known}
 use Rattle.p8_folding.specs.Copies.{constants_of, with_number}
 use Rattle.p8_folding.proofs.Trees.{reduced-is, trees-next, items-next, call-is, copied-as, known-as, built-form, look-form, call-known}

@@ -1,6 +1,6 @@
 use Rattle.std.proofs.Common.{◌≡◌, take}
 use Rattle.p8_tree.specs.Views.{trees_of, items_of}
-use Rattle.p8_short.specs.Folding.{trees_with, items_with}
+use Rattle.p8_folding.specs.Folding.{trees_with, items_with}
 use Rattle.p8_folding.specs.Known.{number_by}
 use Rattle.p8_folding.specs.Copies.{constants_of}
 use Rattle.p8_folding.proofs.folder.Folder.+expressions.Given as goal

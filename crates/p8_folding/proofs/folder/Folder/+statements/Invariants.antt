@@ -1,6 +1,6 @@
 use Rattle.std.proofs.Common.{◌≡◌, take}
 use Rattle.p8_tree.specs.Views.{statements_of, arms_of}
-use Rattle.p8_short.specs.Folding.{folded_body, folded_chain, folded_arms}
+use Rattle.p8_folding.specs.Folding.{folded_body, folded_chain, folded_arms}
 use Rattle.p8_folding.specs.Copies.{constants_of, chain_of}
 use Rattle.p8_folding.proofs.folder.Folder.+statements.Given as goal
 

@@ -1,6 +1,6 @@
 use Rattle.std.proofs.Common.{◌≡◌, rules}
 use Rattle.p8_tree.specs.Views.{tree_of, statements_of}
-use Rattle.p8_short.specs.Folding.{folded}
+use Rattle.p8_folding.specs.Folding.{folded}
 use Rattle.p8_folding.specs.Copies.{constants_of}
 use Rattle.p8_folding.proofs.Bodies.{case-put, done-as}
 use Rattle.p8_folding.proofs.folder.Folder.put_case.Goals as goal

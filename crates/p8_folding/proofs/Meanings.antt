@@ -10,10 +10,10 @@ use Rattle.p8_meaning.specs.Programs.{Program, File, Addresses, Target, public_m
 use Rattle.p8_meaning.specs.Doing.{Rest, untold, given, writes_longs}
 use Rattle.p8_meaning.specs.Calls.{Callee, Returned, Result, method_of}
 use Rattle.p8_meaning.specs.Lives.{meaning, begins, scope_with}
-use Rattle.p8_short.specs.Constants.{Constants}
-use Rattle.p8_short.specs.Projects.{folded_method, folded_block, folded_source, folded_file, folded_program, constants_of, IsFolded, AreFolded, HidesNone}
-use Rattle.p8_short.proofs.Scopes.{Folds, given-mapped}
-use Rattle.p8_short.proofs.Statements.{body-same}
+use Rattle.p8_folding.specs.Constants.{Constants}
+use Rattle.p8_folding.specs.Projects.{folded_method, folded_block, folded_source, folded_file, folded_program, constants_of, IsFolded, AreFolded, HidesNone}
+use Rattle.p8_folding.proofs.Scopes.{Folds, given-mapped}
+use Rattle.p8_folding.proofs.ShortStatements.{body-same}
 
 -- ---- files
 

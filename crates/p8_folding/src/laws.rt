@@ -3,7 +3,7 @@ ghost use Rattle.std.specs.Prelude.{◌≡◌, ℕ, List, All};
 ghost use Rattle.p8_access.specs.declared.kinds.Answer.{Answer};
 ghost use Rattle.p8_meaning.specs.Programs.{Program, Addresses, Target};
 ghost use Rattle.p8_meaning.specs.Lives.{says};
-ghost use Rattle.p8_short.specs.Projects.{AreFolded, HidesNone, folded_program};
+ghost use Rattle.p8_folding.specs.Projects.{AreFolded, HidesNone, folded_program};
 
 /// Law: what the source of a project says, it says with its methods folded: the same accesses of the same answers, with the same bound, in each
 /// method, frame and cog.

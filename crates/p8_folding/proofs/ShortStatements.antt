@@ -13,11 +13,11 @@ use Rattle.p8_meaning.specs.Calls.{Returned, Value, Callee}
 use Rattle.p8_meaning.specs.Loops.{passes, counted}
 use Rattle.p8_meaning.specs.Statements as statements
 use Rattle.p8_meaning.specs.Statements.{Body}
-use Rattle.p8_short.specs.Constants.{constant_value, shorter_number}
-use Rattle.p8_short.specs.Folding.{folded, folded_items, item_with, folded_course, holds, number_in, kept_count, kept_before, kept, loop, Chain, Going, Ended, Known, known, with_arm, whole_chain, chain, joined, folded_statement, folded_body, folded_other, folded_chain, folded_arms}
-use Rattle.p8_short.specs.Projects.{constants_of}
-use Rattle.p8_short.proofs.Scopes.{moved, Folds, named-same, fetches-same}
-use Rattle.p8_short.proofs.Expressions.{Worth, worth, evaluates-same, acts-same}
+use Rattle.p8_folding.specs.Constants.{constant_value, shorter_number}
+use Rattle.p8_folding.specs.Folding.{folded, folded_items, item_with, folded_course, holds, number_in, kept_count, kept_before, kept, loop, Chain, Going, Ended, Known, known, with_arm, whole_chain, chain, joined, folded_statement, folded_body, folded_other, folded_chain, folded_arms}
+use Rattle.p8_folding.specs.Projects.{constants_of}
+use Rattle.p8_folding.proofs.Scopes.{moved, Folds, named-same, fetches-same}
+use Rattle.p8_folding.proofs.ShortExpressions.{Worth, worth, evaluates-same, acts-same}
 
 module _ (most : ℕ) (callee : Callee) (s : Scope) (return abort : Returned → Rest) (program : Program) (source : Source) (folds : Folds s.file source) where
   value-same : (e : Tree) (go : ℕ → Rest) → statements.value_of (suc most) callee (moved program source s) return abort (folded (constants_of s.file s.method) e) go ≡ statements.value_of (suc most) callee s return abort e go

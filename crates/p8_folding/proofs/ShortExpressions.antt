@@ -17,10 +17,10 @@ use Rattle.p8_meaning.specs.Variables.{Location, Pins, element, address_at}
 use Rattle.p8_meaning.specs.Builtins.{new_cog, does_one, does_two, does_three}
 use Rattle.p8_meaning.specs.Calls.{Returned, uses, Callee}
 use Rattle.p8_meaning.specs.Expressions as expressions
-use Rattle.p8_short.specs.Constants.{value_meant, value_behind, both, constant_value, number_length, code_length, within, shorter_number}
-use Rattle.p8_short.specs.Folding.{number_or, folded, form_with, variable_with, index_with, bits_with, item_with, trees_with, arguments_with, items_with, folded_inside}
-use Rattle.p8_short.specs.Projects.{constants_of}
-use Rattle.p8_short.proofs.Scopes.{moved, Folds, named-same, part-same, fetches-same, assigns-same, changes-same, changes_alone-same, calls_own-same, calls_of_object-same, value_of_name-same, begins_method-same, begins_pasm-same, begins_name-same}
+use Rattle.p8_folding.specs.Constants.{value_meant, value_behind, both, constant_value, number_length, code_length, within, shorter_number}
+use Rattle.p8_folding.specs.Folding.{number_or, folded, form_with, variable_with, index_with, bits_with, item_with, trees_with, arguments_with, items_with, folded_inside}
+use Rattle.p8_folding.specs.Projects.{constants_of}
+use Rattle.p8_folding.proofs.Scopes.{moved, Folds, named-same, part-same, fetches-same, assigns-same, changes-same, changes_alone-same, calls_own-same, calls_of_object-same, value_of_name-same, begins_method-same, begins_pasm-same, begins_name-same}
 
 -- ---- constants
 

@@ -15,7 +15,7 @@ use Rattle.p8_meaning.specs.Doing.{Rest, Gives, given, asks, writes_longs}
 use Rattle.p8_meaning.specs.Variables.{Location, Hub, Pins, element, size_of, address_of_kind, address_of, named, part, fetches, stores, reduced, assigns, replaces, changes, changes_alone}
 use Rattle.p8_meaning.specs.Calls.{Returned, uses, Callee, calls, starts_method, method_of}
 use Rattle.p8_meaning.specs.Expressions as expressions
-use Rattle.p8_short.specs.Projects.{folded_method, constants_of}
+use Rattle.p8_folding.specs.Projects.{folded_method, constants_of}
 
 -- the same scope in another program, where the file has another source
 abbrev pub moved : Program → Source → Scope → Scope

@@ -1,8 +1,8 @@
 use Rattle.std.proofs.Common.{[], suc}
 use Rattle.p8_access.specs.Courses.{told}
 use Rattle.p8_meaning.specs.Lives.{says, stops, cleared}
-use Rattle.p8_short.proofs.Meanings.{meaning-same}
-use Rattle.p8_short.proofs.laws.folds_keep_meaning.Goals as goal
+use Rattle.p8_folding.proofs.Meanings.{meaning-same}
+use Rattle.p8_folding.proofs.laws.folds_keep_meaning.Goals as goal
 
 pub returns : goal.returns
 unfolding says

@@ -3,8 +3,8 @@ use Rattle.std.specs.Prelude.{◌≡◌, ℕ, [], ◌∷◌, map, option_map}
 use Rattle.p8_tree.specs.Sources.{MethodTree, BlockTree, Method, Source}
 use Rattle.p8_meaning.specs.Programs.{Program, File, setting_of}
 use Rattle.p8_meaning.specs.Calls.{method_of}
-use Rattle.p8_short.specs.Constants.{Constants, constants_in}
-use Rattle.p8_short.specs.Folding.{folded_body}
+use Rattle.p8_folding.specs.Constants.{Constants, constants_in}
+use Rattle.p8_folding.specs.Folding.{folded_body}
 
 abbrev pub folded_method : Constants → MethodTree → MethodTree
 folded_method c m = record m { body = folded_body c m.body }

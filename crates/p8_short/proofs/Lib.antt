@@ -1,5 +1,0 @@
-mod Scopes
-mod Expressions
-mod Statements
-mod Meanings
-mod Examples

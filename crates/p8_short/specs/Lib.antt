@@ -1,4 +1,0 @@
--- What shorter code is made of: the trees of a method after constant trees have become numbers and what never runs is gone.
-pub mod Constants
-pub mod Folding
-pub mod Projects
