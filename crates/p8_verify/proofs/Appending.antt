@@ -5,7 +5,7 @@ use Rattle.std.proofs.lemmas.List.{take_more, reverse-append}
 use Rattle.std.proofs.lemmas.List.Elements.{All-nil, All-cons, All-append, All-head, All-tail}
 use Rattle.p8_access.specs.declared.order.Turn.{Turn}
 use Rattle.p8_ledger.specs.Turns.{IsProperTurn, AreProper}
-use Rattle.p8_halts.specs.Halts.{NamesRegister}
+use Rattle.p8_verify.specs.Halts.{NamesRegister}
 use Rattle.p8_verify.specs.Table.{turn_bytes, IsWithin}
 use Rattle.p8_verify.specs.Fitting.{Fits}
 use Rattle.p8_verify.specs.Files.{records}

@@ -1,3 +1,8 @@
+mod Named
+mod Assembly
+mod Courses
+mod Bytecodes
+mod Histories
 pub mod Back
 pub mod Forms
 pub mod Judging

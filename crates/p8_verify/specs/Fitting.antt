@@ -1,7 +1,7 @@
 -- internal
 -- Which turns are known to have a record.
 use Rattle.p8_access.specs.declared.order.Turn.{Turn}
-use Rattle.p8_halts.specs.Halts.{NamesRegister}
+use Rattle.p8_verify.specs.Halts.{NamesRegister}
 use Rattle.p8_ledger.specs.Turns.{IsProperTurn}
 use Rattle.p8_verify.specs.Table.{IsWithin}
 

@@ -1,4 +1,5 @@
 -- What public contracts cite.
+pub mod Halts
 pub mod Table
 pub mod Files
 pub mod Verdicts

@@ -10,10 +10,10 @@ ghost use Rattle.p8_verify.specs.Table.{turn_bytes};
 ghost use Rattle.p8_verify.specs.Fitting.{Fits};
 ghost use Rattle.p8_verify.specs.Files.{records, file_of, IsFile};
 
+use crate::halt_laws::halts_name_registers;
 use crate::head::{HEAD, Head};
 use crate::records::{RECORD, turn_bytes};
 use p8_access::Turn;
-use p8_halts::halts_name_registers;
 use p8_ledger::History;
 use p8_words::NoMemory;
 use std::alloc::Global;

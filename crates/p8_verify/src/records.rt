@@ -5,7 +5,7 @@ ghost use Rattle.p8_access.specs.declared.order.Turn.{Turn};
 ghost use Rattle.p8_access.specs.Proper.{IsNumber};
 ghost use Rattle.p8_verify.specs.Table.{turn_bytes, IsAccessWithin, IsReasonWithin, IsAnswerWithin, IsWithin, IsRecord, NoRecord};
 ghost use Rattle.p8_ledger.specs.Turns.{IsProperTurn};
-ghost use Rattle.p8_halts.specs.Halts.{NamesRegister};
+ghost use Rattle.p8_verify.specs.Halts.{NamesRegister};
 
 use crate::reading::turn_by;
 use crate::table::{AccessFields, AnswerFields};

@@ -1,7 +1,7 @@
 // The record of a turn: which numbers stand for its access and its answer.
 ghost use Rattle.std.specs.Prelude.{◌≡◌};
 ghost use Rattle.p8_access.specs.Proper.{IsProper};
-ghost use Rattle.p8_halts.specs.Halts.{IsProperReason, IsProperHalt};
+ghost use Rattle.p8_verify.specs.Halts.{IsProperReason, IsProperHalt};
 ghost use Rattle.p8_ledger.specs.Turns.{HasNumber};
 ghost use Rattle.p8_verify.specs.Table.{IsOriginWithin, IsTestWithin, IsReasonWithin, IsAccessWithin, IsAnswerWithin, fields, width_number, target_number, pair, start_fields, test_fields, reason_fields, access_fields, answer_fields};
 

@@ -4,7 +4,7 @@ use Rattle.std.proofs.lemmas.List.{length-reverse, reverse-reverse}
 use Rattle.p8_access.specs.declared.order.Turn.{Turn}
 use Rattle.p8_access.specs.Worlds.{World}
 use Rattle.p8_ledger.specs.Worlds.{world_of}
-use Rattle.p8_halts.specs.Halts.{NamesRegister}
+use Rattle.p8_verify.specs.Halts.{NamesRegister}
 use Rattle.p8_verify.specs.Table.{IsWithin}
 use Rattle.p8_verify.proofs.Appending.{all-within, all-reversed}
 use Rattle.p8_verify.proofs.Clocks.{no-more}

@@ -8,7 +8,7 @@ use Rattle.p8_access.specs.Lives.{is_last}
 use Rattle.p8_access.specs.Courses.{Course, Finish, Stop, Ask}
 use Rattle.p8_access.specs.Timing.{Outcome, Asks, Goes, Ends, behind, played}
 use Rattle.p8_access.specs.Replays.{Engine, step, after, replayed}
-use Rattle.p8_halts.specs.Halts.{IsProperReason, IsProperHalt}
+use Rattle.p8_verify.specs.Halts.{IsProperReason, IsProperHalt}
 
 -- each access that a course may ask, whatever is answered
 abbrev pub AllNamed : {S : Type 0} → Course S → Type 0

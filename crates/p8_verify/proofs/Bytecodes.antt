@@ -38,10 +38,10 @@ use Rattle.p8_bcog.specs.Code.{fetched}
 use Rattle.p8_bcog.specs.Bytecodes.{call_row, test_row, look_row, wait_row, move_row, cog_row, constant_row}
 use Rattle.p8_bcog.specs.Bytecodes.{return_row, operator_row, row, does_found, bytecode}
 use Rattle.p8_bcog.specs.Replay.{enters_at, engine_of, first_of, entry_of, lived}
-use Rattle.p8_halts.specs.Halts.{IsProperHalt}
-use Rattle.p8_halts.proofs.Named.{OptionNamed, none-named, if-option}
-use Rattle.p8_halts.proofs.Courses as so
-use Rattle.p8_halts.proofs.Courses.{Names, finishes, asks, either, course-named}
+use Rattle.p8_verify.specs.Halts.{IsProperHalt}
+use Rattle.p8_verify.proofs.Named.{OptionNamed, none-named, if-option}
+use Rattle.p8_verify.proofs.Courses as so
+use Rattle.p8_verify.proofs.Courses.{Names, finishes, asks, either, course-named}
 
 -- ---- tests and accesses
 

@@ -1,7 +1,7 @@
 -- Accesses whose halts name registers of a cog, wrapped so that they are found.
 use Rattle.std.proofs.Common.{Bool, true, false, if◌then◌else◌, Option, Some, None}
 use Rattle.p8_access.specs.declared.kinds.Access.{Access}
-use Rattle.p8_halts.specs.Halts.{IsProperHalt}
+use Rattle.p8_verify.specs.Halts.{IsProperHalt}
 
 pub record Named (access : Access) : Type 0 where
   pub halts : IsProperHalt access

@@ -25,8 +25,8 @@ use Rattle.p8_cog.specs.Replay.{Course, Ask, Go, End, ask, halt, at_hand, next_o
 use Rattle.p8_cog.specs.Replay.{source_value, sourced_by, register_access, result_access, written_by, write, ends_after, effect, computed, compute}
 use Rattle.p8_cog.specs.Replay.{read_access, move_request, operation_request, hub_request, answered, use_hub, is_port_wait, wait, wait_effect, does}
 use Rattle.p8_cog.specs.Replay.{instruction, Outcome, Asks, Goes, Ends, played, step, after, loading, replayed, loaded_by}
-use Rattle.p8_halts.specs.Halts.{IsProperReason, IsProperHalt}
-use Rattle.p8_halts.proofs.Named.{Named, if-named, OptionNamed, none-named, if-option}
+use Rattle.p8_verify.specs.Halts.{IsProperReason, IsProperHalt}
+use Rattle.p8_verify.proofs.Named.{Named, if-named, OptionNamed, none-named, if-option}
 
 -- each access that a course may ask
 abbrev AllNamed : Course → Type 0

@@ -4,7 +4,7 @@ ghost use Rattle.p8_access.specs.declared.order.Turn.{Turn};
 ghost use Rattle.p8_access.specs.Worlds.{World};
 ghost use Rattle.p8_access.specs.Histories.{Legal};
 ghost use Rattle.p8_lives.specs.Lives.{asks};
-ghost use Rattle.p8_halts.specs.Halts.{NamesRegister};
+ghost use Rattle.p8_verify.specs.Halts.{NamesRegister};
 
 /// Law: in the history of any world, a halt by a register names one of a cog's 512.
 ///

@@ -13,10 +13,10 @@ use Rattle.p8_access.specs.Worlds.{World}
 use Rattle.p8_access.specs.Hub.{cog_state}
 use Rattle.p8_access.specs.Histories.{first_access, since_begin, IsNextIn, Legal}
 use Rattle.p8_lives.specs.Lives.{asks}
-use Rattle.p8_halts.specs.Halts.{IsProperHalt, NamesRegister}
-use Rattle.p8_halts.proofs.Named.{Named, if-named}
-use Rattle.p8_halts.proofs.Assembly.{assembly-named}
-use Rattle.p8_halts.proofs.Bytecodes.{bytecodes-named}
+use Rattle.p8_verify.specs.Halts.{IsProperHalt, NamesRegister}
+use Rattle.p8_verify.proofs.Named.{Named, if-named}
+use Rattle.p8_verify.proofs.Assembly.{assembly-named}
+use Rattle.p8_verify.proofs.Bytecodes.{bytecodes-named}
 
 -- what a life asks
 asked-named : (life : Begun) (turns : List Turn) (clock : ℕ) (access : Access) → asks life turns clock access → IsProperHalt access

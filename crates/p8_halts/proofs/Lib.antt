@@ -1,5 +1,0 @@
-mod Named
-mod Assembly
-mod Courses
-mod Bytecodes
-mod Histories
