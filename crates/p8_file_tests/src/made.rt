@@ -1,5 +1,5 @@
 // The image of one seed.
-use p8_made::made_image;
+use p8_finish::made_image;
 use std::test::Fail;
 
 /// The first instruction of seed 1 is XOR $1E9, $1E5, after the eight longs of cog 0's program.

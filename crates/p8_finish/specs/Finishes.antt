@@ -3,7 +3,7 @@ use Rattle.std.specs.Prelude.{ℕ, ◌+◌, ◌<◌, ◌≤◌, List}
 use Rattle.std.specs.Option.{ForSome}
 use Rattle.p8_access.specs.declared.order.Turn.{Turn}
 use Rattle.p8_access.specs.Worlds.{World}
-use Rattle.p8_made.specs.Summary.{summary_of}
+use Rattle.p8_finish.specs.Summary.{summary_of}
 use Rattle.p8_plot.specs.Plot.{plot_of}
 use Rattle.p8_report.specs.Text.{text_of}
 use Rattle.p8_serial.specs.Laws.{IsRate}

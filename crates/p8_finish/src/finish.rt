@@ -7,8 +7,8 @@ ghost use Rattle.p8_lives.specs.Lives.{asks};
 ghost use Rattle.p8_plot.specs.Plot.{plot_of};
 ghost use Rattle.p8_finish.specs.Finishes.{told_by, CanBeTold};
 
+use crate::summary_text::summary;
 use p8_ledger::{Ended, History};
-use p8_made::summary;
 use p8_pins::PinScript;
 use p8_plot::{View, plot};
 use p8_report::trace;

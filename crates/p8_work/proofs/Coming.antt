@@ -11,7 +11,7 @@ use Rattle.p8_io.specs.Shelves.{Files, IsRead}
 use Rattle.p8_lives.specs.Lives.{asks}
 use Rattle.p8_lives.specs.Laws.{one-asked, asked-first, asked-later}
 use Rattle.p8_ledger.specs.Worlds as machine
-use Rattle.p8_made.specs.Summary.{made_world}
+use Rattle.p8_finish.specs.Summary.{made_world}
 use Rattle.p8_verify.specs.declared.verdicts.Verdict as checking
 use Rattle.p8_verify.specs.declared.verdicts.Verdict.TheVariants as verdict
 use Rattle.p8_verify.specs.declared.verdicts.Verdict.TheVariants.{Good}

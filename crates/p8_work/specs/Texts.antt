@@ -6,7 +6,7 @@ use Rattle.p8_access.specs.Worlds.{World}
 use Rattle.p8_access.specs.Histories.{Ended}
 use Rattle.p8_lives.specs.Lives.{asks}
 use Rattle.p8_io.specs.Shelves.{Files}
-use Rattle.p8_made.specs.Summary.{made_world}
+use Rattle.p8_finish.specs.Summary.{made_world}
 use Rattle.p8_verify.specs.declared.verdicts.Cause.{Cause}
 use Rattle.p8_verify.specs.declared.verdicts.Verdict as checked
 use Rattle.p8_verify.specs.declared.verdicts.Verdict.TheVariants.{Good, Bad}

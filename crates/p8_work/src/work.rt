@@ -7,8 +7,8 @@ ghost use Rattle.p8_verify.specs.Answers.{Tells};
 ghost use Rattle.p8_access.specs.Boots.{ram_of};
 ghost use Rattle.p8_access.specs.Proper.{IsProperOrigin};
 ghost use Rattle.p8_access.specs.declared.kinds.Origin.TheVariants.{Pasm};
-ghost use Rattle.p8_made.specs.Made.{made_bytes};
-ghost use Rattle.p8_made.specs.Summary.{made_world};
+ghost use Rattle.p8_finish.specs.Made.{made_bytes};
+ghost use Rattle.p8_finish.specs.Summary.{made_world};
 ghost use Rattle.p8_io.specs.Shelves.{Files};
 ghost use Rattle.p8_finish.specs.Finishes.{CanBeTold};
 ghost use Rattle.p8_inputs.specs.Asks.{Stops, program as program_ask, run_asks};
@@ -26,14 +26,13 @@ ghost use Rattle.p8_work.specs.Works.{IsCheckedBy, IsRunWork, IsWork, world_in};
 use crate::laws::{builds_keep_meaning, runs_are_told};
 use p8_access::Boot;
 use p8_commands::{Command, ImageKind, Run, Subcommand, help_page};
-use p8_finish::{Finish, good_line};
+use p8_finish::{Finish, good_line, made_image};
 use p8_inputs::{
     Format, Program, Recorded, Stop, image_of_source, listing_of_source, other_image, read_inputs,
     read_message, read_recorded,
 };
 use p8_io::Shelf;
 use p8_ledger::{Limits, Start};
-use p8_made::made_image;
 use p8_pins::PinScript;
 use p8_plot::View;
 use p8_serial::typed;
