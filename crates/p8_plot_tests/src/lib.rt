@@ -1,5 +1,0 @@
-//! Tests of pictures of pins.
-#![tactic(auto)]
-
-#[cfg(test)]
-mod pictures;

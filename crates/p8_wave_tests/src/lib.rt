@@ -1,5 +1,0 @@
-//! Tests of waves: worked histories and their texts.
-#![tactic(auto)]
-
-#[cfg(test)]
-mod waves;
