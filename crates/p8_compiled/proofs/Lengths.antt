@@ -12,7 +12,7 @@ use Rattle.p8_operators.specs.Operators.{or_zero}
 use Rattle.p8_fold.specs.Values as constants
 use Rattle.p8_gen.specs.Names.{Names}
 use Rattle.p8_bytecode.specs.Reading.{bare}
-use Rattle.p8_gen.specs.Pieces.{Written, empty, Piece, nothing, one, ◌⨾◌, from_start, up_to_end, up_to_jumps, byte, text, offset, jump, end_of_jump, jumping, end_of_jumping}
+use Rattle.p8_gen.specs.Pieces.{Written, empty, Piece, nothing, one, ◌⨾◌, from_start, up_to_end, up_to_jumps, of_statement, byte, text, offset, jump, end_of_jump, jumping, end_of_jumping}
 use Rattle.p8_gen.specs.Variables.{number, Home, Operation, plain_op, home_of, Pop, assigned}
 use Rattle.p8_gen.specs.Expressions.{pasm, started, built_without, own_method, method_in, callee, name_alone, counts_from, looks_down, dropped, built_value, built, starts, starts_method, value, value_of_form, operate, in_home, values, index_value, call_of_built, arguments, looks, alone}
 use Rattle.p8_gen.specs.Statements.{Loop, inside, goes_on, leaves, with_value, test_of, tests, step_of, step_effect, plain_name, zero_jump, code, code_of, body, chain, other_body, all_tests, case_bodies}
@@ -62,6 +62,9 @@ steps wide s to op = record {
 
 both : {a b : Piece} → Measured a → Measured b → Measured (a ⨾ b)
 both {a} {b} x y = record { by = λ w is. y.by (a w) (x.by w is) }
+
+of : {a : Piece} (s : Place) → Measured a → Measured (of_statement s a)
+of s x = record { by = λ w is. x.by (record w { statement = s }) is }
 
 ups : {p : ℕ → Piece} → ((x : ℕ) → Measured (p x)) → Measured (up_to_end p)
 ups {p} all = record { by = λ w. (all (p 0 w).end).by w }
@@ -272,7 +275,7 @@ module _ (n : Names) where
 
 mutual
   code-measured : (n : Names) (l : Option Loop) (x : Statement) → Measured (code n l x)
-  code-measured n l (statement place action) = action-measured (record n { statement = place }) l action
+  code-measured n l (statement place action) = of place (action-measured (record n { statement = place }) l action)
 
   action-measured : (n : Names) (l : Option Loop) (x : Action) → Measured (code_of n l x)
   action-measured n l (Do e) = alone-measured n e
@@ -321,4 +324,4 @@ mutual
 
 -- the code of a method
 pub method-measured : (n : Names) (ss : Statements) → (method_code n ss).end ≡ length (bytes_of (method_code n ss))
-method-measured n ss = (both (body-measured n None ss) (bytes 0x32)).by empty refl
+method-measured n ss = (both (body-measured n None ss) (of n.statement (bytes 0x32))).by empty refl

@@ -17,7 +17,7 @@ use Rattle.p8_operators.specs.Operators.{or_zero}
 use Rattle.p8_fold.specs.Values as constants
 use Rattle.p8_gen.specs.Names.{Names, widened}
 use Rattle.p8_gen.specs.Methods.{method_code}
-use Rattle.p8_gen.specs.Pieces.{Written, Piece, empty, from_place, nothing, one, ◌⨾◌, from_start, up_to_end, up_to_jumps, byte, text, jump, end_of_jump, jumping, end_of_jumping}
+use Rattle.p8_gen.specs.Pieces.{Written, Piece, empty, from_place, nothing, one, ◌⨾◌, from_start, up_to_end, up_to_jumps, byte, text, jump, end_of_jump, jumping, end_of_jumping, of_statement}
 use Rattle.p8_gen.specs.Variables.{number, Base, Pushed, OfObject, OfVariables, OfFrame, Home, home_at, Operation, plain_op, memory_op, short_bits, short_or_long, is_short, base_bits, home_of, Pop, Using, assigned}
 use Rattle.p8_gen.specs.Expressions.{pasm, started, built_without, own_method, method_in, callee, name_alone, counts_from, looks_down, dropped, built_value, built, starts, starts_method, value, value_of_form, operate, in_home, values, index_value, call_of_built, arguments, looks, alone}
 use Rattle.p8_gen.specs.Statements.{Loop, inside, goes_on, leaves, with_value, test_of, tests, step_of, step_effect, plain_name, zero_jump, code, code_of, body, chain, other_body, all_tests, case_bodies}
@@ -167,6 +167,16 @@ module _ (f g : ℕ → Bool) where
 
   nothings : Moves nothing nothing
   nothings = record { ends = λ v w h. h; ways = λ v w h k. k }
+
+  of : {a b : Piece} (s : Place) → Moves a b → Moves (of_statement s a) (of_statement s b)
+  of {a} {b} s x =
+      let begun : (v w : Written) → Ends v w → Ends (record v { statement = s }) (record w { statement = s }) = λ v w h. record { bytes = h.bytes; one = h.one; other = h.other; same = h.same } in
+      record {
+        ends = λ v w h. let k = x.ends (record v { statement = s }) (record w { statement = s }) (begun v w h) in record { bytes = k.bytes; one = k.one; other = k.other; same = k.same };
+        ways = λ v w h k.
+            let m = x.ways (record v { statement = s }) (record w { statement = s }) (begun v w h) (record { counted = k.counted; are = k.are }) in
+            record { counted = m.counted; are = m.are };
+      }
 
   further : (end bytes offsets size : ℕ) → end ≡ bytes + offsets → end + size ≡ (bytes + size) + offsets
   further end bytes offsets size is = omega (arith, is)
@@ -449,7 +459,7 @@ module _ (f g : ℕ → Bool) where
 
   mutual
     code-moves : (n : Names) (l k : Option Loop) → SameLoops l k → (x : Statement) → Moves (code (widened n f) l x) (code (widened n g) k x)
-    code-moves n l k like (statement place action) = action-moves (record n { statement = place }) l k like action
+    code-moves n l k like (statement place action) = of place (action-moves (record n { statement = place }) l k like action)
 
     action-moves : (n : Names) (l k : Option Loop) → SameLoops l k → (x : Action) → Moves (code_of (widened n f) l x) (code_of (widened n g) k x)
     action-moves n l k like (Do e) = alone-moves n e
@@ -515,5 +525,5 @@ module _ (f g : ℕ → Bool) where
   -- the ways of a method's code
   pub method-moves : (n : Names) (ss : Statements) → AreSameWays f g (method_code (widened n f) ss).ways (method_code (widened n g) ss).ways
   method-moves n ss =
-      ((both (body-moves n None None tt ss) (bytes 0x32)).ways empty empty (record { bytes = 0; one = refl; other = refl; same = refl })
+      ((both (body-moves n None None tt ss) (of n.statement (bytes 0x32))).ways empty empty (record { bytes = 0; one = refl; other = refl; same = refl })
       (record { counted = refl; are = record { count = refl; each = λ k v w at there. absurd (none-some v at) } })).are

@@ -11,7 +11,7 @@ use Rattle.p8_bytecode.specs.Reading.{bare}
 use Rattle.p8_bytecode.specs.Spelling.{spelled, operand_bytes, has_long_place, FitsOperands, IsOp}
 use Rattle.p8_bcog.specs.declared.state.State.{State}
 use Rattle.p8_bcog.specs.Bytecodes.{row}
-use Rattle.p8_gen.specs.Pieces.{Written, Piece, nothing, one, ◌⨾◌, from_start, up_to_end, up_to_jumps, text, offset, told, jump, jump_size, end_of_jump}
+use Rattle.p8_gen.specs.Pieces.{Written, Piece, nothing, one, ◌⨾◌, from_start, up_to_end, up_to_jumps, of_statement, text, offset, told, jump, jump_size, end_of_jump}
 use Rattle.p8_gen.proofs.Widths.{Alike}
 use Rattle.p8_compiled.specs.Courses.{Does}
 use Rattle.std.proofs.lemmas.List.Elements.{All-append}
@@ -70,6 +70,17 @@ module _ {memory : List ℕ} {base : ℕ} where
         let u = (three x y z).by w v.0 in
         (u.0, (u.1.0, u.1.1, base + (c (b (a w))).end, u.1.2, u.1.3, u.1.4, v.1));
     exist = (both (both (both x y) z) s).exist;
+  }
+
+  -- the piece of a statement stands for the same
+  pub of : {a : Piece} {R : (p q : ℕ) → Type 0} (s : Place) → Stand memory base a R → Stand memory base (of_statement s a) R
+  of s x = record {
+    by = λ w h.
+        let v = x.by (record w { statement = s }) (record { begins = h.begins; rest = h.rest; bytes = h.bytes; ends = h.ends; near = h.near }) in
+        (record { begins = v.0.begins; rest = v.0.rest; bytes = v.0.bytes; ends = v.0.ends; near = v.0.near }, v.1);
+    exist = λ w near.
+        let v = x.exist (record w { statement = s }) (record { low = near.low; near = near.near }) in
+        (record { low = v.0.low; near = v.0.near }, v.1);
   }
 
   -- the same piece for what follows from it

@@ -20,7 +20,7 @@ use Rattle.p8_compiled.specs.Courses.{takes_one, takes_value, drops}
 use Rattle.p8_compiled.specs.Standing.{Compiled, At, ValueAt, writes}
 use Rattle.p8_compiled.specs.Bodies.{jumps, jumps_unless, jumps_where, begins_loop, ends_loop, Inner, outside, plain, with_count, NextAt, QuitAt, EndAt, ActAt, FitsAt, PassEndAt, StatementAt, BodyAt, OtherAt, ArmsAt, ChoicesAt}
 use Rattle.p8_compiled.specs.Agreeing.{Agrees, environment}
-use Rattle.p8_compiled.proofs.Standing.{Stand, Counted, nothings, both, three, four, so, up, up-jumps, meet, from}
+use Rattle.p8_compiled.proofs.Standing.{Stand, Counted, nothings, both, three, four, so, up, up-jumps, meet, from, of}
 use Rattle.p8_compiled.proofs.Bytecodes.{mark-stand, return-result-stand, return-value-stand, abort-result-stand, abort-value-stand, drop-stand, drop-case-stand, goes-stand, unless-stand, where-stand, loop-begins-stand, loop-ends-stand}
 use Rattle.p8_compiled.proofs.Tests.{value-test-stand, range-test-stand}
 use Rattle.p8_compiled.proofs.Effects.{all_changes}
@@ -259,7 +259,7 @@ module _ (t : Compiled) (base : ℕ) where
 
   mutual
     pub code-stand : (n : Names) (a : Agrees n t) (l : Option Loop) (x : Statement) → IsProperStatement x → leaves_loop (in_loop l) x ≡ true → ((f : Fault) → MisuseInStatement (environment n) x f → ⊥) → S (code n l x) (StatementAt t x (inner_of l))
-    code-stand n a l (statement p action) is loops clean = action-stand (record n { statement = p }) (in-statement n t p a) l p action is loops clean
+    code-stand n a l (statement p action) is loops clean = of p (action-stand (record n { statement = p }) (in-statement n t p a) l p action is loops clean)
 
     action-stand : (n : Names) (a : Agrees n t) (l : Option Loop) (p : Place) (x : Action) → IsProperAction x → action_leaves (in_loop l) x ≡ true → ((f : Fault) → MisuseInAction (environment n) x f → ⊥) → S (code_of n l x) (StatementAt t (statement p x) (inner_of l))
     action-stand n a l p (Do e) is loops clean = alone-stand n a e is clean

@@ -12,7 +12,7 @@ use Rattle.p8_compiled.specs.Bodies.{MethodAt}
 use Rattle.p8_gen.specs.Methods.{method_code}
 use Rattle.p8_compiled.specs.Placing.{HasCode, IsNear, AreOps}
 use Rattle.p8_compiled.specs.Agreeing.{Agrees, environment}
-use Rattle.p8_compiled.proofs.Standing.{both}
+use Rattle.p8_compiled.proofs.Standing.{both, of}
 use Rattle.p8_compiled.proofs.Bytecodes.{return-result-stand}
 use Rattle.p8_compiled.proofs.Statements.{body-stand}
 
@@ -21,7 +21,7 @@ first-place base = omega arith
 
 pub method-stands : (n : Names) (t : Compiled) (base : ℕ) → Agrees n t → (ss : Statements) → AreProperStatements ss → IsTrue (leave_loops false ss) → ((f : Fault) → MisuseInStatements (environment n) ss f → ⊥) → HasCode t.memory base (method_code n ss) → MethodAt t ss base
 method-stands n t base a ss is loops clean has =
-    let m = (both (body-stand t base n a None ss is loops clean) (return-result-stand t.memory t.cog base)).by empty has in
+    let m = (both (body-stand t base n a None ss is loops clean) (of n.statement (return-result-stand t.memory t.cog base))).by empty has in
     subst (MethodAt t ss) (first-place base) (m.1.0, _, m.1.1, m.1.2)
 
 no-ops : AreOps []
@@ -29,4 +29,4 @@ no-ops k d lt = absurd (omega (arith, lt))
 
 pub operations-exist : (n : Names) (t : Compiled) → Agrees n t → (ss : Statements) → AreProperStatements ss → IsTrue (leave_loops false ss) → ((f : Fault) → MisuseInStatements (environment n) ss f → ⊥) → IsNear (method_code n ss) → AreOps (method_code n ss).ops
 operations-exist n t a ss is loops clean near =
-    ((both (body-stand t 16 n a None ss is loops clean) (return-result-stand t.memory t.cog 16)).exist empty near).1 no-ops
+    ((both (body-stand t 16 n a None ss is loops clean) (of n.statement (return-result-stand t.memory t.cog 16))).exist empty near).1 no-ops

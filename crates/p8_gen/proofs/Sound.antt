@@ -11,7 +11,7 @@ use Rattle.p8_bytecode.specs.Table.{rows, operands_of, is_effect, is_step, is_re
 use Rattle.p8_bytecode.specs.Reading.{bare, changes_register}
 use Rattle.p8_bytecode.specs.Spelling.{FitsOperands, IsOffset, IsPlace, IsStep, IsChange}
 use Rattle.p8_tree.specs.Proper as proper
-use Rattle.p8_gen.specs.Pieces.{Written, Piece, nothing, one, ◌⨾◌, up_to_end, up_to_jumps, byte, with_number, text, jump, end_of_jump, jumping, end_of_jumping, offset, is_near}
+use Rattle.p8_gen.specs.Pieces.{Written, Piece, nothing, one, ◌⨾◌, up_to_end, up_to_jumps, of_statement, byte, with_number, text, jump, end_of_jump, jumping, end_of_jumping, offset, is_near}
 use Rattle.p8_gen.specs.Variables.{number, Base, Pushed, OfObject, OfVariables, OfFrame, Home, home_at, Operation, Push, Pop, Using, Reference, action_of, effect_of, size_bits, base_bits, memory_op, short_bits, is_short, short_or_long, plain_op, register, operation_bits}
 use Rattle.p8_gen.specs.Operations.{IsWhole, AreWhole}
 use Rattle.p8_gen.proofs.ByteTables.{both_true, one_of, is_good, row_from, short_row_from, equal, registers, push_registers, pop_registers, change_registers}
@@ -24,6 +24,9 @@ nothings = record { keeps = λ w h. h }
 
 pub both : {a b : Piece} → Sound a → Sound b → Sound (a ⨾ b)
 both {a} {b} x y = record { keeps = λ w h. y.keeps (a w) (x.keeps w h) }
+
+pub of : {a : Piece} (s : Place) → Sound a → Sound (of_statement s a)
+of s x = record { keeps = λ w h. record { each = (x.keeps (record w { statement = s }) (record { each = h.each })).each } }
 
 pub ups : {p : ℕ → Piece} → ((to : ℕ) → Sound (p to)) → Sound (up_to_end p)
 ups {p} each = record { keeps = λ w h. (each (p 0 w).end).keeps w h }

@@ -52,6 +52,9 @@ module _ (n : Names) where
   pub looked_jumps : (down : Bool) (xs : Items) (x y : ℕ) (w : Written) → (looked n down xs x w).jumps ≡ (looked n down xs y w).jumps
   looked_jumps down xs x y w = (both (looks-alike n n.text n.statement down x y xs) (bytes 0x0F)).counts w w refl
 
+  pub looked_keeps : (down : Bool) (xs : Items) (x : ℕ) (w : Written) → w.statement ≡ (looked n down xs x w).statement
+  looked_keeps down xs x w = sym ((both (looks-alike n n.text n.statement down x x xs) (bytes 0x0F)).keeps w)
+
   -- a variable in memory, with or without an index
   pub memory_is : (size : ℕ) (b : Box expr.Expr Global) (i : Option (Box expr.Expr Global)) (q : Place) (o : Operation) (w : Written) → in_home n (pushed_home size) (boxed_index i) o (value n (tree_of b.value) w) ≡ operate n (variable_of (target_case.Memory size b i q)) o w
   memory_is size b None q o w = refl

@@ -1,5 +1,6 @@
 -- How long a piece is, and how many jumps it has, doesn't depend on where it stands, where its jumps go, or where texts stand.
-use Rattle.std.proofs.Common.{◌≡◌, ℕ, subst, ap, ◌+◌, ◌-◌, ◌^◌, ◌==◌, ◌&&◌, ◌||◌, nat_le, nat_lt, Bool, true, false, not, if◌then◌else◌, List, Option, Some, None, refl, arith, length}
+use Rattle.std.proofs.Common.{◌≡◌, ℕ, subst, ap, ◌+◌, ◌-◌, ◌^◌, ◌==◌, ◌&&◌, ◌||◌, nat_le, nat_lt, Bool, true, false, not, if◌then◌else◌, List, [], ◌∷◌, ◌++◌, Option, Some, None, refl, ◌∙◌, arith, length}
+use Rattle.std.proofs.lemmas.List.{length-append}
 use Rattle.p8_tree.specs.declared.places.Place.{Place}
 use Rattle.p8_tree.specs.Expressions.{Tree, node, Form, Number, Str, Here, Var, Call, Unary, Binary, Assign, Change, Address, ObjectAddress, ObjConst, Built, Look, Variable, Named, Part, Memory, Register, Index, no_index, index, whole, bits, single, range, Trees, no_trees, ◌▷◌, Items, no_items, ◌▸◌}
 use Rattle.p8_tree.specs.Statements.{Forever, Count, Before, After, From, Statement, statement, Action, Do, If, Case, Repeat, Next, Quit, Return, Abort, arm, Otherwise, nothing_else, otherwise, Statements, no_statements, ◌▹◌, Arms, no_arms, ◌⊳◌}
@@ -11,21 +12,29 @@ use Rattle.p8_kinds.specs.declared.name_kinds.NameKind.TheVariants as kinds
 use Rattle.p8_operators.specs.Operators.{or_zero}
 use Rattle.p8_fold.specs.Values as constants
 use Rattle.p8_gen.specs.Names.{Names, moved}
-use Rattle.p8_gen.specs.Pieces.{Written, Piece, nothing, one, ◌⨾◌, from_start, up_to_end, up_to_jumps, byte, text, jump, jumping, jump_size}
+use Rattle.p8_gen.specs.Pieces.{Written, Piece, empty, nothing, one, ◌⨾◌, from_start, up_to_end, up_to_jumps, of_statement, byte, text, jump, jumping, jump_size}
 use Rattle.p8_gen.specs.Variables.{number, Home, Operation, plain_op, home_of, Pop, assigned}
 use Rattle.p8_gen.specs.Expressions.{pasm, started, built_without, own_method, method_in, callee, name_alone, counts_from, looks_down, dropped, built_value, built, starts, starts_method, value, value_of_form, operate, in_home, values, index_value, call_of_built, arguments, looks, alone}
+use Rattle.p8_gen.specs.Methods.{method_code}
 use Rattle.p8_gen.specs.Statements.{Loop, SameLoop, inside, goes_on, leaves, with_value, test_of, tests, step_of, step_effect, plain_name, zero_jump, code, code_of, body, chain, other_body, all_tests, case_bodies}
+
+one-more : {A B : Type 0} (xs : List A) (ys : List B) (x : A) (y : B) → length xs ≡ length ys → length (xs ++ x ∷ []) ≡ length (ys ++ y ∷ [])
+one-more xs ys x y is = let first = length-append xs (x ∷ []) in let second = length-append ys (y ∷ []) in omega (arith, is, first, second)
 
 -- two pieces are as long as each other and have as many jumps, wherever each begins with the same number of jumps before it
 pub record Alike (a b : Piece) : Type 0 where
   pub ends : (v w : Written) → v.jumps ≡ w.jumps → (a v).end + w.end ≡ (b w).end + v.end
   pub counts : (v w : Written) → v.jumps ≡ w.jumps → (a v).jumps ≡ (b w).jumps
+  -- after the first one the same statement goes on as before
+  pub keeps : (w : Written) → (a w).statement ≡ w.statement
+  -- it has a line for each of its bytecodes
+  pub levels : (w : Written) → length w.lines ≡ length w.ops → length (a w).lines ≡ length (a w).ops
 
 pub nothings : Alike nothing nothing
-nothings = record { ends = λ v w is. omega arith; counts = λ v w is. is }
+nothings = record { ends = λ v w is. omega arith; counts = λ v w is. is; keeps = λ w. refl; levels = λ w is. is }
 
 pub ones : (o p : Op) → length (spelled o) ≡ length (spelled p) → Alike (one o) (one p)
-ones o p same = record { ends = λ v w is. omega (arith, same); counts = λ v w is. is }
+ones o p same = record { ends = λ v w is. omega (arith, same); counts = λ v w is. is; keeps = λ w. refl; levels = λ w is. one-more w.lines w.ops _ _ is }
 
 pub same-one : (o : Op) → Alike (one o) (one o)
 same-one o = ones o o refl
@@ -41,34 +50,52 @@ pub jumps : (wide : ℕ → Bool) (s t : Place) (c x y : ℕ) → Alike (jump wi
 jumps wide s t c x y = record {
   ends = λ v w is. rounds v.end w.end (jump_size (wide v.jumps)) (jump_size (wide w.jumps)) (ap (λ k. jump_size (wide k)) is);
   counts = λ v w is. ap (λ k. k + 1) is;
+  keeps = λ w. refl;
+  levels = λ w is. one-more w.lines w.ops _ _ is;
 }
 
 pub steps : (wide : ℕ → Bool) (s t : Place) (x y : ℕ) (o : Op) → Alike (jumping wide s x o) (jumping wide t y o)
 steps wide s t x y o = record {
   ends = λ v w is. rounds v.end w.end _ _ (ap (λ k. length (spelled (record o { long_form = wide k }))) is);
   counts = λ v w is. ap (λ k. k + 1) is;
+  keeps = λ w. refl;
+  levels = λ w is. one-more w.lines w.ops _ _ is;
 }
 
 pub both : {a b c d : Piece} → Alike a c → Alike b d → Alike (a ⨾ b) (c ⨾ d)
 both {a} {b} {c} {d} x y = record {
   ends = λ v w is. let first = x.ends v w is in let second = y.ends (a v) (c w) (x.counts v w is) in omega (arith, first, second);
   counts = λ v w is. y.counts (a v) (c w) (x.counts v w is);
+  keeps = λ w. y.keeps (a w) ∙ x.keeps w;
+  levels = λ w is. y.levels (a w) (x.levels w is);
+}
+
+pub of : {a b : Piece} (s t : Place) → Alike a b → Alike (of_statement s a) (of_statement t b)
+of s t x = record {
+  ends = λ v w is. x.ends (record v { statement = s }) (record w { statement = t }) is;
+  counts = λ v w is. x.counts (record v { statement = s }) (record w { statement = t }) is;
+  keeps = λ w. refl;
+  levels = λ w is. x.levels (record w { statement = s }) is;
 }
 
 pub ups : {p q : ℕ → Piece} → ((x y : ℕ) → Alike (p x) (q y)) → Alike (up_to_end p) (up_to_end q)
 ups {p} {q} same = record {
   ends = λ v w is. (same (p 0 v).end (q 0 w).end).ends v w is;
   counts = λ v w is. (same (p 0 v).end (q 0 w).end).counts v w is;
+  keeps = λ w. (same (p 0 w).end 0).keeps w;
+  levels = λ w is. (same (p 0 w).end 0).levels w is;
 }
 
 pub up-jumps : {p q : ℕ → ℕ → Piece} → ((x y i j : ℕ) → Alike (p x i) (q y j)) → Alike (up_to_jumps p) (up_to_jumps q)
 up-jumps {p} {q} same = record {
   ends = λ v w is. (same (p 0 0 v).end (q 0 0 w).end (p 0 0 v).jumps (q 0 0 w).jumps).ends v w is;
   counts = λ v w is. (same (p 0 0 v).end (q 0 0 w).end (p 0 0 v).jumps (q 0 0 w).jumps).counts v w is;
+  keeps = λ w. (same (p 0 0 w).end 0 (p 0 0 w).jumps 0).keeps w;
+  levels = λ w is. (same (p 0 0 w).end 0 (p 0 0 w).jumps 0).levels w is;
 }
 
 pub froms : {p q : ℕ → Piece} → ((x y : ℕ) → Alike (p x) (q y)) → Alike (from_start p) (from_start q)
-froms same = record { ends = λ v w is. (same v.end w.end).ends v w is; counts = λ v w is. (same v.end w.end).counts v w is }
+froms same = record { ends = λ v w is. (same v.end w.end).ends v w is; counts = λ v w is. (same v.end w.end).counts v w is; keeps = λ w. (same w.end 0).keeps w; levels = λ w is. (same w.end 0).levels w is }
 
 pub either : {a b c d : Piece} (t : Bool) → Alike a c → Alike b d → Alike (if t then a else b) (if t then c else d)
 either true x y = x
@@ -79,7 +106,7 @@ either false x y = y
 -- the offset of a text has two bytes
 text-alike : (s : Place) (p q : ℕ) → Alike (text s p) (text s q)
 unfolding rows
-text-alike s p q = record { ends = λ v w is. omega arith; counts = λ v w is. is }
+text-alike s p q = record { ends = λ v w is. omega arith; counts = λ v w is. is; keeps = λ w. refl; levels = λ w is. one-more w.lines w.ops _ _ is }
 
 number-alike : (v : ℕ) → Alike (number v) (number v)
 number-alike v =
@@ -254,7 +281,7 @@ leaves-alike n t s (Some l) (Some k) like = both (either-of l.counted k.counted 
 
 mutual
   pub code-alike : (n : Names) (t : Place → ℕ) (s : Place) (l k : Option Loop) → SameLoop l k → (x : Statement) → Alike (code n l x) (code (moved n t s) k x)
-  code-alike n t s l k like (statement place action) = action-alike (record n { statement = place }) t place l k like action
+  code-alike n t s l k like (statement place action) = of place place (action-alike (record n { statement = place }) t place l k like action)
 
   pub action-alike : (n : Names) (t : Place → ℕ) (s : Place) (l k : Option Loop) → SameLoop l k → (x : Action) → Alike (code_of n l x) (code_of (moved n t s) k x)
   action-alike n t s l k like (Do e) = alone-alike n t s e
@@ -314,3 +341,6 @@ mutual
   bodies-alike n t s l k like i j no_arms = nothings
   bodies-alike n t s l k like i j (arms ⊳ arm items negated ss) =
       both (both (both (bodies-alike n t s l k like i j arms) (bytes _)) (body-alike n t s l k like ss)) (jumps n.wide n.statement s _ i j)
+
+pub method-level : (n : Names) (ss : Statements) → length (method_code n ss).lines ≡ length (method_code n ss).ops
+method-level n ss = (both (body-alike n n.text n.statement None None tt ss) (of n.statement n.statement (bytes 0x32))).levels empty refl

@@ -5,7 +5,7 @@
 -- order in which they are written, and which of them are wide is a function of the number. So how long a piece is depends on the
 -- number of its first jump, but neither on where it stands nor on where its jumps go.
 -- Source: the public Spin bytecode listing of the Propeller P8X32A; the choice of widths is this project's profile.
-use Rattle.std.specs.Prelude.{ℕ, ◌+◌, ◌-◌, ◌%◌, ◌^◌, Bool, true, nat_le, nat_lt, ◌&&◌, if◌then◌else◌, List, [], ◌∷◌, ◌++◌, length}
+use Rattle.std.specs.Prelude.{ℕ, ◌+◌, ◌-◌, ◌%◌, ◌^◌, Bool, nat_le, nat_lt, ◌&&◌, if◌then◌else◌, List, [], ◌∷◌, ◌++◌, length}
 use Rattle.p8_tree.specs.declared.places.Place.{Place}
 use Rattle.p8_bytecode.specs.declared.op.Op.{Op}
 use Rattle.p8_bytecode.specs.Reading.{bare, offset_size}
@@ -25,9 +25,17 @@ pub record Written : Type 0 where
   pub jumps : ℕ
   -- the ways of its jumps: for each the place after it, and the place that it jumps to
   pub ways : List (ℕ × ℕ)
+  -- the statement from which the next bytecode is made
+  pub statement : Place
+  -- its lines: for each bytecode the place where it begins, and the statement that it is made from
+  pub lines : List (ℕ × Place)
+
+-- a place before every source
+abbrev pub nowhere : Place
+nowhere = record { line = 0; column = 0 }
 
 abbrev pub empty : Written
-empty = record { ops = []; end = 0; texts = []; too_far = []; jumps = 0; ways = [] }
+empty = record { ops = []; end = 0; texts = []; too_far = []; jumps = 0; ways = []; statement = nowhere; lines = [] }
 
 -- code of which nothing is known but where it ends and how many jumps it has
 abbrev pub from_place : (end jumps : ℕ) → Written
@@ -57,10 +65,15 @@ up_to_end piece w = piece (piece 0 w).end w
 abbrev pub up_to_jumps : (ℕ → ℕ → Piece) → Piece
 up_to_jumps piece w = piece (piece 0 0 w).end (piece 0 0 w).jumps w
 
+-- the piece of a statement: its bytecodes are made from this statement, but for those of statements inside it, and after it the one
+-- around it goes on
+abbrev pub of_statement : Place → Piece → Piece
+of_statement place piece w = record (piece (record w { statement = place })) { statement = w.statement }
+
 -- ---- bytecodes
 
 abbrev pub one : Op → Piece
-one op w = record w { ops = w.ops ++ op ∷ []; end = w.end + length (spelled op) }
+one op w = record w { ops = w.ops ++ op ∷ []; end = w.end + length (spelled op); lines = w.lines ++ (w.end, w.statement) ∷ [] }
 
 -- one with its byte alone
 abbrev pub byte : ℕ → Piece
@@ -99,6 +112,7 @@ jump_by wide statement op end to w = record w {
   too_far = w.too_far ++ told wide statement end to;
   jumps = w.jumps + 1;
   ways = w.ways ++ (end, to) ∷ [];
+  lines = w.lines ++ (w.end, w.statement) ∷ [];
 }
 
 -- how many bytes a jump has

@@ -6,7 +6,7 @@ use Rattle.p8_tree.specs.Expressions.{Tree, Items, no_items, ◌▸◌, single, 
 use Rattle.p8_tree.specs.Statements.{Forever, Count, Before, After, From, Statement, statement, Action, Do, If, Case, Repeat, Next, Quit, Return, Abort, arm, Otherwise, nothing_else, otherwise, Statements, no_statements, ◌▹◌, Arms, no_arms, ◌⊳◌}
 use Rattle.p8_bytecode.specs.declared.op.Op.{Op}
 use Rattle.p8_gen.specs.Names.{Names}
-use Rattle.p8_gen.specs.Pieces.{Piece, from_place, nothing, one, ◌⨾◌, from_start, up_to_end, up_to_jumps, byte, jump, jumping}
+use Rattle.p8_gen.specs.Pieces.{Piece, from_place, nothing, one, ◌⨾◌, from_start, up_to_end, up_to_jumps, of_statement, byte, jump, jumping}
 use Rattle.p8_gen.specs.Variables.{home_of, plain_op, Pop, Using}
 use Rattle.p8_gen.specs.Expressions.{value, alone}
 
@@ -69,7 +69,7 @@ plain_name names name effect = plain_op (home_of names name) (Using effect)
 
 abbrev mutual
   pub code : Names → Option Loop → Statement → Piece
-  code names loop (statement place action) = code_of (record names { statement = place }) loop action
+  code names loop (statement place action) = of_statement place (code_of (record names { statement = place }) loop action)
 
   pub code_of : Names → Option Loop → Action → Piece
   code_of names loop (Do e) = alone names e

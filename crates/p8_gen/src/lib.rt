@@ -15,6 +15,6 @@ pub use code::{Code, StringUse, expr_code};
 pub use coder::{Coder, Tables};
 pub use expressions::{BuiltForm, form_of_built};
 pub use labels::Labels;
-pub use laws::{bytecodes_are_whole, places_change_no_length};
+pub use laws::{bytecodes_are_whole, each_bytecode_has_a_line, places_change_no_length};
 pub use variables::{Base, Home, Operation};
-pub use writer::{Kept, Way, Writer};
+pub use writer::{Kept, Line, Way, Writer};

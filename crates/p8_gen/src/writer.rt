@@ -3,7 +3,7 @@ ghost use Rattle.std.specs.Prelude.{◌≡◌, ◌≤◌, ◌+◌, ℕ, OnOk, So
 ghost use Rattle.std.specs.Bool.{OnTrue, OnFalse};
 ghost use Rattle.p8_bytecode.specs.Spelling.{spelled};
 ghost use Rattle.p8_gen.specs.Names.{wide_in};
-ghost use Rattle.p8_gen.specs.Pieces.{Written, empty, from_place, one, byte, with_number, text, jump_by, jump, jumping, jump_size, offset, told, reach, is_near};
+ghost use Rattle.p8_gen.specs.Pieces.{Written, empty, nowhere, from_place, one, byte, with_number, text, jump_by, jump, jumping, jump_size, offset, told, reach, is_near};
 ghost use Rattle.p8_gen.specs.Uses.{way_of};
 ghost use Rattle.p8_gen.specs.Writing.{Stands};
 
@@ -12,6 +12,7 @@ use crate::sizes::size_of;
 use p8_bytecode::Op;
 use p8_tree::Place;
 use std::alloc::{AllocError, Global};
+use std::mem;
 
 /// The way of a jump, in bytes from the first byte of its method. Its offset is counted from one place to the other.
 #[derive(Clone, Copy, Debug, PartialEq, Eq)]
@@ -20,6 +21,15 @@ pub struct Way {
     pub from: u32,
     /// The place that it jumps to.
     pub to: u32,
+}
+
+/// A line of a method's code: one bytecode.
+#[derive(Clone, Copy, Debug, PartialEq, Eq)]
+pub struct Line {
+    /// Where the bytecode begins, in bytes from the first byte of the method.
+    pub offset: u32,
+    /// The place of the statement that it is made from; of the `RETURN` at the end of a method, the place of the method's name.
+    pub statement: Place,
 }
 
 /// What is written of a method's code.
@@ -31,6 +41,8 @@ pub struct Kept {
     pub too_far: Vec<Place>,
     /// The ways of its jumps.
     pub ways: Vec<Way>,
+    /// For each bytecode where it begins and which statement it is made from.
+    pub lines: Vec<Line>,
 }
 
 /// A writer of code: it counts the bytes and the jumps, and keeps the code unless it only counts.
@@ -40,6 +52,8 @@ pub struct Writer {
     pub end: u32,
     /// How many jumps are, which is the number of the next one.
     pub jumps: u32,
+    /// The place of the statement from which the next bytecode is made.
+    pub statement: Place,
     /// What is written, where it is kept.
     pub kept: Option<Kept>,
 }
@@ -56,6 +70,13 @@ pub(crate) fn bare(code: u8) -> Op
         effect: 0,
         long_form: false,
     }
+}
+
+/// A place before every source, at which code is that was made from no statement yet.
+fn nowhere() -> Place
+    ensures { result ≡ nowhere }
+{
+    Place { line: 0, column: 0 }
 }
 
 /// The offset from one place to another, as a word in two's complement.
@@ -107,11 +128,13 @@ impl Writer {
         Writer {
             end: 0,
             jumps: 0,
+            statement: nowhere(),
             kept: Some(Kept {
                 ops: Vec::new(alloc),
                 strings: Vec::new(alloc),
                 too_far: Vec::new(alloc),
                 ways: Vec::new(alloc),
+                lines: Vec::new(alloc),
             }),
         }
     }
@@ -123,6 +146,7 @@ impl Writer {
         Writer {
             end,
             jumps,
+            statement: nowhere(),
             kept: None,
         }
     }
@@ -141,13 +165,14 @@ impl Writer {
         Writer {
             end: self.end,
             jumps: self.jumps,
+            statement: self.statement,
             kept: None,
         }
     }
 
     /// Ends at a place with so many jumps before it, where this writer only counts; says whether it does.
     pub fn counts(&mut self, end: u32, jumps: u32) -> bool
-        ensures counts { OnTrue result ((w : Written) → end ≡ w.end → jumps ≡ w.jumps → Stands self.new w) }
+        ensures counts { OnTrue result ((w : Written) → end ≡ w.end → jumps ≡ w.jumps → self.old.statement ≡ w.statement → Stands self.new w) }
         ensures writes { OnFalse result (self.new ≡ self.old) }
     {
         if self.kept.is_none() {
@@ -159,15 +184,28 @@ impl Writer {
         }
     }
 
-    // Keeps a bytecode, with which the code ends at a place.
-    fn put(&mut self, op: Op, end: u32) -> Result<(), AllocError>
-        ensures { (w : Written) → Stands self.old w → OnOk result (Stands self.new (record w { ops = w.ops ++ op ∷ []; end = end })) }
+    /// The bytecodes that follow are made from the statement at a place. Answers the place of the statement before.
+    pub fn at_statement(&mut self, place: Place) -> Place
+        ensures before { result ≡ self.old.statement }
+        ensures stands { (w : Written) → Stands self.old w → Stands self.new (record w { statement = place }) }
     {
+        mem::replace(&mut self.statement, place)
+    }
+
+    // Keeps a bytecode, with which the code ends at a place, and the statement that it is made from.
+    fn put(&mut self, op: Op, end: u32) -> Result<(), AllocError>
+        ensures { (w : Written) → Stands self.old w → OnOk result (Stands self.new (record w { ops = w.ops ++ op ∷ []; end = end; lines = w.lines ++ (w.end, w.statement) ∷ [] })) }
+    {
+        let line = Line {
+            offset: self.end,
+            statement: self.statement,
+        };
         self.end = end;
         match &mut self.kept {
             None => Ok(()),
             Some(kept) => {
                 kept.ops.push(op)?;
+                kept.lines.push(line)?;
                 Ok(())
             }
         }

@@ -19,7 +19,7 @@ use Rattle.p8_operators.specs.Operators.{or_zero}
 use Rattle.p8_fold.specs.Values as constants
 use Rattle.p8_gen.specs.Names.{Names, widened}
 use Rattle.p8_gen.specs.Methods.{bytes_of, method_code}
-use Rattle.p8_gen.specs.Pieces.{Written, Piece, empty, from_place, nothing, one, ◌⨾◌, from_start, up_to_end, up_to_jumps, byte, text, told, is_near, offset, jump_by, jump, end_of_jump, jumping, end_of_jumping}
+use Rattle.p8_gen.specs.Pieces.{Written, Piece, empty, from_place, nothing, one, ◌⨾◌, from_start, up_to_end, up_to_jumps, of_statement, byte, text, told, is_near, offset, jump_by, jump, end_of_jump, jumping, end_of_jumping}
 use Rattle.p8_gen.specs.Variables.{number, Home, Operation, plain_op, home_of, Pop, assigned}
 use Rattle.p8_gen.specs.Expressions.{pasm, started, built_without, own_method, method_in, callee, name_alone, counts_from, looks_down, dropped, built_value, built, starts, starts_method, value, value_of_form, operate, in_home, values, index_value, call_of_built, arguments, looks, alone}
 use Rattle.p8_gen.specs.Statements.{Loop, inside, goes_on, leaves, with_value, test_of, tests, step_of, step_effect, plain_name, zero_jump, code, code_of, body, chain, other_body, all_tests, case_bodies}
@@ -344,6 +344,21 @@ module _ (f g : ℕ → Bool) (more : (k : ℕ) → f k ≡ true → g k ≡ tru
     measures = λ v h. y.measures (a v) (x.measures v h);
   }
 
+  -- a statement's piece
+  of : {ts : List Told} {a b : Piece} (s t : Place) → Related ts a b → Related ts (of_statement s a) (of_statement t b)
+  of {ts} {a} {b} s t x = record {
+    counts = λ v w is. x.counts (record v { statement = s }) (record w { statement = t }) is;
+    no_fewer = λ v. x.no_fewer (record v { statement = s });
+    ends = λ v. x.ends (record v { statement = s });
+    other_ends = λ w. x.other_ends (record w { statement = t });
+    exact = λ v w is. x.exact (record v { statement = s }) (record w { statement = t }) is;
+    ways = λ v w is are go. x.ways (record v { statement = s }) (record w { statement = t }) is are go;
+    tells = λ v h.
+        let k = x.tells (record v { statement = s }) (record { counted = h.counted; fit = h.fit; near = h.near }) in
+        record { counted = k.counted; fit = k.fit; near = k.near };
+    measures = λ v h. x.measures (record v { statement = s }) h;
+  }
+
   -- how long a piece is doesn't depend on what it is told
   same-end : {rs ts : List Told} {a b c : Piece} → Related rs a c → Related ts b c → (v w : Written) → v.jumps ≡ w.jumps → (a v).end ≡ (b v).end
   same-end {rs} {ts} {a} {b} {c} x y v w is =
@@ -631,7 +646,7 @@ module _ (f g : ℕ → Bool) (more : (k : ℕ) → f k ≡ true → g k ≡ tru
 
   mutual
     code-related : (ts : List Told) (n : Names) (l k : Option Loop) → AreLoops ts l k → (x : Statement) → Related ts (code (widened n f) l x) (code (widened n g) k x)
-    code-related ts n l k like (statement place action) = action-related ts (record n { statement = place }) l k like action
+    code-related ts n l k like (statement place action) = of place place (action-related ts (record n { statement = place }) l k like action)
 
     action-related : (ts : List Told) (n : Names) (l k : Option Loop) → AreLoops ts l k → (x : Action) → Related ts (code_of (widened n f) l x) (code_of (widened n g) k x)
     action-related ts n l k like (Do e) = plain (alone-related n e)
@@ -727,8 +742,8 @@ module _ (f g : ℕ → Bool) (more : (k : ℕ) → f k ≡ true → g k ≡ tru
         both (both (both (bodies-related ts n l k like i j out arms) (bytes _)) (body-related ts n l k like ss)) (plain-jumps n.statement i j out)
 
   -- the code of a method
-  method-related : (n : Names) (ss : Statements) → Related [] (body (widened n f) None ss ⨾ byte 0x32) (body (widened n g) None ss ⨾ byte 0x32)
-  method-related n ss = both (body-related [] n None None tt ss) (bytes 0x32)
+  method-related : (n : Names) (ss : Statements) → Related [] (body (widened n f) None ss ⨾ of_statement n.statement (byte 0x32)) (body (widened n g) None ss ⨾ of_statement n.statement (byte 0x32))
+  method-related n ss = both (body-related [] n None None tt ss) (of n.statement n.statement (bytes 0x32))
 
   pub method-ways : (n : Names) (ss : Statements) → GoNoFarther (method_code (widened n f) ss).ways (method_code (widened n g) ss).ways
   method-ways n ss =

@@ -4,17 +4,18 @@ ghost use Rattle.p8_tree.specs.Sources.{MethodTree};
 ghost use Rattle.p8_tree.specs.Statements.{Statements};
 ghost use Rattle.p8_faults.specs.declared.faults.Fault.{Fault};
 ghost use Rattle.p8_gen.specs.Names.{Names, widened, all_wide, wide_in};
-ghost use Rattle.p8_gen.specs.Uses.{use_of};
+ghost use Rattle.p8_gen.specs.Uses.{line_of, use_of};
 ghost use Rattle.p8_stmt.specs.Methods.{IsCodeOf, IsMethodFault, rebodied};
 ghost use Rattle.p8_stmt.specs.declared.code.MethodCode.{MethodCode};
 ghost use Rattle.p8_jumps.specs.Jumps.{IsShortCode};
 
-/// Law: a method with a body has one short code: its bytes, its locals, the depth of its stack and its uses of texts.
+/// Law: a method with a body has one short code: its bytes, its locals, the depth of its stack, its uses of texts and its lines.
 pub fn one_short_code()
     ensures bytes { (names : Names) → (m : MethodTree) → (ss : Statements) → (a b : MethodCode) → IsShortCode names m ss a → IsShortCode names m ss b → a.bytes ≡ b.bytes }
     ensures locals { (names : Names) → (m : MethodTree) → (ss : Statements) → (a b : MethodCode) → IsShortCode names m ss a → IsShortCode names m ss b → a.locals ≡ b.locals }
     ensures depth { (names : Names) → (m : MethodTree) → (ss : Statements) → (a b : MethodCode) → IsShortCode names m ss a → IsShortCode names m ss b → a.depth ≡ b.depth }
     ensures strings { (names : Names) → (m : MethodTree) → (ss : Statements) → (a b : MethodCode) → IsShortCode names m ss a → IsShortCode names m ss b → map use_of a.strings ≡ map use_of b.strings }
+    ensures lines { (names : Names) → (m : MethodTree) → (ss : Statements) → (a b : MethodCode) → IsShortCode names m ss a → IsShortCode names m ss b → map line_of a.lines ≡ map line_of b.lines }
 {}
 
 /// Law: a method that compiles with some choice of wide jumps has no fault by the choice of its short code either.

@@ -5,7 +5,7 @@ use Rattle.p8_tree.specs.declared.places.Place.{Place}
 use Rattle.p8_bytecode.specs.declared.op.Op.{Op}
 use Rattle.p8_bytecode.specs.Spelling.{spelled}
 use Rattle.p8_gen.specs.Names.{all_wide}
-use Rattle.p8_gen.specs.Pieces.{Written, Piece, nothing, one, ◌⨾◌, from_start, up_to_end, up_to_jumps, byte, jump, jumping, is_near, told}
+use Rattle.p8_gen.specs.Pieces.{Written, Piece, nothing, one, ◌⨾◌, from_start, up_to_end, up_to_jumps, of_statement, byte, jump, jumping, is_near, told}
 use Rattle.p8_gen.proofs.Widths.{Alike}
 use Rattle.p8_opt.proofs.Fixed.{Fixed}
 use Rattle.p8_opt.proofs.Growing as growing
@@ -110,6 +110,23 @@ nothings = record { left = growing.nothings; right = growing.nothings; short = �
 -- nothing in place of a piece
 pub gone : {ts : Targets} {b : Piece} → Grows b → Closer ts nothing b
 gone x = record { left = growing.nothings; right = x; short = λ v w. let more = x.ends w in omega (arith, more); near = λ v w around clear far. clear }
+
+-- the piece of a statement, on either side
+pub of-left : {ts : Targets} {a b : Piece} (s : Place) → Closer ts a b → Closer ts (of_statement s a) b
+of-left s x = record {
+  left = growing.of s x.left;
+  right = x.right;
+  short = λ v w. x.short (record v { statement = s }) w;
+  near = λ v w around clear far. x.near (record v { statement = s }) w around clear far;
+}
+
+pub of-right : {ts : Targets} {a b : Piece} (s : Place) → Closer ts a b → Closer ts a (of_statement s b)
+of-right s x = record {
+  left = x.left;
+  right = growing.of s x.right;
+  short = λ v w. x.short v (record w { statement = s });
+  near = λ v w around clear far. x.near v (record w { statement = s }) around clear far;
+}
 
 pub either : {ts : Targets} {a b c d : Piece} (t : Bool) → Closer ts a c → Closer ts b d → Closer ts (if t then a else b) (if t then c else d)
 either true x y = x

@@ -8,7 +8,7 @@ use Rattle.p8_bytecode.specs.declared.op.Op.{Op}
 use Rattle.p8_operators.specs.Operators.{or_zero}
 use Rattle.p8_fold.specs.Values as constants
 use Rattle.p8_gen.specs.Names.{Names}
-use Rattle.p8_gen.specs.Pieces.{Written, Piece, nothing, one, ◌⨾◌, from_start, up_to_end, up_to_jumps, byte, text, jump, jumping}
+use Rattle.p8_gen.specs.Pieces.{Written, Piece, nothing, one, ◌⨾◌, from_start, up_to_end, up_to_jumps, byte, text, jump, jumping, of_statement}
 use Rattle.p8_gen.specs.Variables.{Home, Operation, plain_op, home_of, Pop, assigned}
 use Rattle.p8_gen.specs.Expressions.{looks_down, starts_method, value, value_of_form, operate, in_home, values, index_value, call_of_built, arguments, looks, alone}
 use Rattle.p8_gen.specs.Statements.{Loop, inside, goes_on, leaves, with_value, test_of, tests, step_of, step_effect, plain_name, zero_jump, code, code_of, body, chain, other_body, all_tests, case_bodies}
@@ -48,6 +48,9 @@ both {a} {b} x y = record {
   ends = λ w. let first = x.ends w in let second = y.ends (a w) in omega (arith, first, second);
   near = λ w is. x.near w (y.near (a w) is);
 }
+
+pub of : {a : Piece} (s : Place) → Grows a → Grows (of_statement s a)
+of s x = record { ends = λ w. x.ends (record w { statement = s }); near = λ w is. x.near (record w { statement = s }) is }
 
 pub ups : {p : ℕ → Piece} → ((x : ℕ) → Grows (p x)) → Grows (up_to_end p)
 ups {p} all = record { ends = λ w. (all (p 0 w).end).ends w; near = λ w. (all (p 0 w).end).near w }
@@ -172,7 +175,7 @@ module _ (n : Names) where
 
 mutual
   pub code-grows : (n : Names) (l : Option Loop) (x : Statement) → Grows (code n l x)
-  code-grows n l (statement place action) = action-grows (record n { statement = place }) l action
+  code-grows n l (statement place action) = of place (action-grows (record n { statement = place }) l action)
 
   pub action-grows : (n : Names) (l : Option Loop) (x : Action) → Grows (code_of n l x)
   action-grows n l (Do e) = alone-grows n e

@@ -11,7 +11,7 @@ use Rattle.p8_kinds.specs.declared.name_kinds.NameKind.TheVariants as kinds
 use Rattle.p8_operators.specs.Operators.{or_zero}
 use Rattle.p8_fold.specs.Values as constants
 use Rattle.p8_gen.specs.Names.{Names, moved}
-use Rattle.p8_gen.specs.Pieces.{Written, Piece, empty, from_place, nothing, one, ◌⨾◌, from_start, up_to_end, up_to_jumps, byte, text, told, jump, end_of_jump, jumping, end_of_jumping}
+use Rattle.p8_gen.specs.Pieces.{Written, Piece, empty, from_place, nothing, one, ◌⨾◌, from_start, up_to_end, up_to_jumps, of_statement, byte, text, told, jump, end_of_jump, jumping, end_of_jumping}
 use Rattle.p8_gen.specs.Variables.{number, Home, Operation, plain_op, home_of, Pop, assigned}
 use Rattle.p8_gen.specs.Expressions.{pasm, started, built_without, own_method, method_in, callee, name_alone, counts_from, looks_down, dropped, built_value, built, starts, starts_method, value, value_of_form, operate, in_home, values, index_value, call_of_built, arguments, looks, alone}
 use Rattle.p8_gen.specs.Statements.{Loop, inside, goes_on, leaves, with_value, test_of, tests, step_of, step_effect, plain_name, zero_jump, code, code_of, body, chain, other_body, all_tests, case_bodies}
@@ -78,6 +78,13 @@ module _ {t : Place → ℕ} where
 
   both : {a b c d : Piece} → Joined t a c → Joined t b d → Joined t (a ⨾ b) (c ⨾ d)
   both {a} {b} {c} {d} x y = record { by = λ v w h. y.by (a v) (c w) (x.by v w h) }
+
+  of : {a b : Piece} (s u : Place) → Joined t a b → Joined t (of_statement s a) (of_statement u b)
+  of s u x = record {
+    by = λ v w h.
+        let k = x.by (record v { statement = s }) (record w { statement = u }) (record { ends = h.ends; jumps = h.jumps; ops = h.ops; far = h.far }) in
+        record { ends = k.ends; jumps = k.jumps; ops = k.ops; far = k.far };
+  }
 
   ups : {p q : ℕ → Piece} → ((x : ℕ) → Joined t (p x) (q x)) → Joined t (up_to_end p) (up_to_end q)
   ups {p} {q} alike = record { by = λ v w h. subst (λ k. Twins t (p (p 0 v).end v) (q k w)) ((alike 0).by v w h).ends ((alike (p 0 v).end).by v w h) }
@@ -266,7 +273,7 @@ module _ {t : Place → ℕ} where
 
   mutual
     pub code-joined : (n : Names) (s : Place) (l : Option Loop) → (x : Statement) → Joined t (code (moved n zeros s) l x) (code (moved n t s) l x)
-    code-joined n s l (statement place action) = action-joined n place l action
+    code-joined n s l (statement place action) = of place place (action-joined n place l action)
 
     pub action-joined : (n : Names) (s : Place) (l : Option Loop) → (x : Action) → Joined t (code_of (moved n zeros s) l x) (code_of (moved n t s) l x)
     action-joined n s l (Do e) = alone-joined n s e

@@ -5,7 +5,7 @@ use Rattle.p8_tree.specs.Expressions.{Tree, node, single, range, Items, no_items
 use Rattle.p8_tree.specs.Statements.{Course, Forever, Count, Before, After, From, statement, Action, Do, If, Case, Repeat, Next, Quit, Return, Abort, arm, Otherwise, nothing_else, otherwise, Statements, no_statements, ◌▹◌, Arms, no_arms, ◌⊳◌}
 use Rattle.p8_tree.specs.Proper.{IsCondition, IsProperStatement, AreProperArms, AreProperChoices, IsProperOtherwise, AreProperStatements}
 use Rattle.p8_gen.specs.Names.{Names, all_wide}
-use Rattle.p8_gen.specs.Pieces.{Piece, from_place, nothing, ◌⨾◌, up_to_end, byte, jump, jumping}
+use Rattle.p8_gen.specs.Pieces.{Piece, from_place, nothing, ◌⨾◌, up_to_end, of_statement, byte, jump, jumping}
 use Rattle.p8_gen.specs.Variables.{plain_op, home_of, Pop}
 use Rattle.p8_gen.specs.Expressions.{value, alone}
 use Rattle.p8_gen.specs.Statements as statements
@@ -20,7 +20,7 @@ use Rattle.p8_opt.proofs.Growing as growing
 use Rattle.p8_opt.proofs.Growing.{Grows, value-grows, test-grows, action-grows, body-grows}
 use Rattle.p8_opt.proofs.Steady.{same-body, arm-steady, chain-steady, chain-other-steady, choices-steady, case-steady, inner-steady, forever-steady, count-steady, before-steady, after-steady, from-steady, goes-alike}
 use Rattle.p8_opt.proofs.Length.{suits-of}
-use Rattle.p8_opt.proofs.Closer.{Targets, nowhere, ahead, back, AreAround, Within, after, way, is_ahead, IsTarget, first-ahead, first-back, under-ahead, under-back, Steady, Closer, both, ones, bytes, nothings, gone, either_by, jumps, steps, ups, up-jumps, froms}
+use Rattle.p8_opt.proofs.Closer.{Targets, nowhere, ahead, back, AreAround, Within, after, way, is_ahead, IsTarget, first-ahead, first-back, under-ahead, under-back, Steady, Closer, both, ones, bytes, nothings, gone, of-left, of-right, either_by, jumps, steps, ups, up-jumps, froms}
 use Rattle.p8_opt.proofs.Expressions.{tree-closer, inside-closer}
 
 -- ---- targets
@@ -54,7 +54,7 @@ ready-in n place ready = record { wide = ready.wide; hides = record { named = re
 -- statements tell their own places
 body-anywhere : (n : Names) (place : Place) (l : Option Loop) (ss : Statements) → body (record n { statement = place }) l ss ≡ body n l ss
 body-anywhere n place l no_statements = refl
-body-anywhere n place l (ss ▹ statement at action) = ap (λ (p : Piece). p ⨾ code_of (record n { statement = at }) l action) (body-anywhere n place l ss)
+body-anywhere n place l (ss ▹ statement at action) = ap (λ (p : Piece). p ⨾ of_statement at (code_of (record n { statement = at }) l action)) (body-anywhere n place l ss)
 
 joined-code : (n : Names) (l : Option Loop) (first second : Statements) → body n l (joined first second) ≡ body n l first ⨾ body n l second
 joined-code n l first no_statements = refl
@@ -249,20 +249,21 @@ module _ (n : Names) (ready : Ready n) (l k : Option Loop) (ts : Targets) (loops
     arm-step (Ended before last_body) arms (Known t) test f a g b ends first last = both first (gone (arm-grows b ends.closer.right tests negated original))
 
 -- the code of what is left of a chain, without an ELSE
-left-code : (n : Names) (place : Place) (l : Option Loop) (left : Chain)
-    → body n l (folding.chain place left nothing_else) ≡ up_to_end (λ end. chain_code (record n { statement = place }) l (jump n.wide place 0x04 end) nothing left)
-left-code n place l (Going no_arms) = refl
-left-code n place l (Going (arms ⊳ x)) = refl
-left-code n place l (Ended no_arms ss) = sym (body-anywhere n place l ss)
-left-code n place l (Ended (arms ⊳ x) ss) = refl
+left-closer : (n : Names) (place : Place) (l : Option Loop) (left : Chain) {ts : Targets} {b : Piece}
+    → Closer ts (up_to_end (λ end. chain_code (record n { statement = place }) l (jump n.wide place 0x04 end) nothing left)) b → Closer ts (body n l (folding.chain place left nothing_else)) b
+left-closer n place l (Going no_arms) x = x
+left-closer n place l (Going (arms ⊳ y)) x = of-left place x
+left-closer n place l (Ended no_arms ss) {ts} {b} x = subst (λ (p : Piece). Closer ts p b) (body-anywhere n place l ss) x
+left-closer n place l (Ended (arms ⊳ y) ss) x = of-left place x
 
 -- with one
-left-other-code : (n : Names) (place : Place) (l : Option Loop) (left : Chain) (ss : Statements)
-    → body n l (folding.chain place left (otherwise ss)) ≡ up_to_end (λ end. chain_code (record n { statement = place }) l (jump n.wide place 0x04 end) (jump n.wide place 0x04 end) left ⨾ rest_code (record n { statement = place }) l left ss)
-left-other-code n place l (Going no_arms) ss = sym (body-anywhere n place l ss)
-left-other-code n place l (Going (arms ⊳ x)) ss = refl
-left-other-code n place l (Ended no_arms last) ss = sym (body-anywhere n place l last)
-left-other-code n place l (Ended (arms ⊳ x) last) ss = refl
+left-other-closer : (n : Names) (place : Place) (l : Option Loop) (left : Chain) (ss : Statements) {ts : Targets} {b : Piece}
+    → Closer ts (up_to_end (λ end. chain_code (record n { statement = place }) l (jump n.wide place 0x04 end) (jump n.wide place 0x04 end) left ⨾ rest_code (record n { statement = place }) l left ss)) b
+    → Closer ts (body n l (folding.chain place left (otherwise ss))) b
+left-other-closer n place l (Going no_arms) ss {ts} {b} x = subst (λ (p : Piece). Closer ts p b) (body-anywhere n place l ss) x
+left-other-closer n place l (Going (arms ⊳ y)) ss x = of-left place x
+left-other-closer n place l (Ended no_arms last) ss {ts} {b} x = subst (λ (p : Piece). Closer ts p b) (body-anywhere n place l last) x
+left-other-closer n place l (Ended (arms ⊳ y) last) ss x = of-left place x
 
 left-steady : (n : Names) (l : Option Loop) (left : Chain) → Steady (λ x. chain_code n l (jump n.wide n.statement 0x04 x) nothing left)
 left-steady n l (Going arms) = chain-steady n l arms
@@ -281,7 +282,7 @@ loop-closer : (n : Names) (ready : Ready n) (place : Place) (ss original : State
     → (ts : Targets) (o : Option Course) (course : Course) → IsCloser (record n { statement = place }) (ready-in n place ready) ss original l k around ts o course
     → Closer ts (body n l (loop place o ss)) (code_of (record n { statement = place }) k (Repeat course original))
 loop-closer n ready place ss original l k around ts None course h = gone (action-grows (record n { statement = place }) k (Repeat course original))
-loop-closer n ready place ss original l k around ts (Some left) course h = h
+loop-closer n ready place ss original l k around ts (Some left) course h = of-left place h
 
 -- a place from which on bodies of arms stand lies ahead
 record IsFirst (ts : Targets) (t u : ℕ) : Type 0 where
@@ -290,11 +291,11 @@ record IsFirst (ts : Targets) (t u : ℕ) : Type 0 where
 mutual
   statement-closer : (n : Names) (ready : Ready n) (ts : Targets) (l k : Option Loop) → AreLoops ts l k → (place : Place) (action : Action) → IsProperStatement (statement place action)
       → Closer ts (body n l (folded_statement (constants_in n.constants) (statement place action))) (code_of (record n { statement = place }) k action)
-  statement-closer n ready ts l k loops place (Do e) proper = done-closer (record n { statement = place }) (ready-in n place ready) ts e
+  statement-closer n ready ts l k loops place (Do e) proper = of-left place (done-closer (record n { statement = place }) (ready-in n place ready) ts e)
   statement-closer n ready ts l k loops place (If arms nothing_else) proper =
       let m : Names = record n { statement = place } in
       let left : Chain = folded_chain (constants_in n.constants) arms in
-      subst (λ (p : Piece). Closer ts p (code_of m k (If arms nothing_else))) (sym (left-code n place l left))
+      left-closer n place l left
       (ups (left-steady m l left) (chain-steady m k arms) (λ x y.
       chain-closer m (ready-in n place ready) (ahead x y ts) l k (loops-ahead x y ts l k loops) (jump n.wide place 0x04 x) nothing (jump n.wide place 0x04 y) nothing
       (record { closer = goes m (ready-in n place ready) 0x04 x y (first-ahead x y ts); left = goes-alike m x; right = goes-alike m y })
@@ -304,7 +305,7 @@ mutual
   statement-closer n ready ts l k loops place (If arms (otherwise ss)) proper =
       let m : Names = record n { statement = place } in
       let left : Chain = folded_chain (constants_in n.constants) arms in
-      subst (λ (p : Piece). Closer ts p (code_of m k (If arms (otherwise ss)))) (sym (left-other-code n place l left (folded_body (constants_in n.constants) ss)))
+      left-other-closer n place l left (folded_body (constants_in n.constants) ss)
       (ups (left-other-steady m l left (folded_body (constants_in n.constants) ss)) (λ x y. widths.both (chain-other-steady m k arms x y) (same-body m k ss)) (λ x y.
       let ends : Ends (ahead x y ts) (jump n.wide place 0x04 x) (jump n.wide place 0x04 y) = record { closer = goes m (ready-in n place ready) 0x04 x y (first-ahead x y ts); left = goes-alike m x; right = goes-alike m y } in
       both
@@ -313,29 +314,29 @@ mutual
   statement-closer n ready ts l k loops place (Case e arms other) proper =
       let m : Names = record n { statement = place } in
       let c : Constants = constants_in n.constants in
-      ups (case-steady m l (folded c e) (folded_arms c arms) (folded_other c other)) (case-steady m k e arms other) (λ x y.
+      of-left place (ups (case-steady m l (folded c e) (folded_arms c arms) (folded_other c other)) (case-steady m k e arms other) (λ x y.
       both
       (up-jumps (choices-steady m l x (folded c e) (folded_arms c arms) (folded_other c other)) (choices-steady m k y e arms other) (λ i j a b.
       both (both (both (both (expression-closer m (ready-in n place ready) (ahead i j (ahead x y ts)) e)
       (all-tests-closer m (ready-in n place ready) (ahead i j (ahead x y ts)) l k (loops-ahead i j (ahead x y ts) l k (loops-ahead x y ts l k loops)) i j a b (record { by = λ p q v w around. around.0 }) arms proper.1)) (bytes 0x0C))
       (other-closer m (ready-in n place ready) (ahead i j (ahead x y ts)) l k (loops-ahead i j (ahead x y ts) l k (loops-ahead x y ts l k loops)) other proper.2))
       (goes m (ready-in n place ready) 0x04 x y (under-ahead i j (first-ahead x y ts)))))
-      (bodies-closer m (ready-in n place ready) (ahead x y ts) l k (loops-ahead x y ts l k loops) x y (first-ahead x y ts) arms proper.1))
+      (bodies-closer m (ready-in n place ready) (ahead x y ts) l k (loops-ahead x y ts l k loops) x y (first-ahead x y ts) arms proper.1)))
   statement-closer n ready ts l k loops place (Repeat course ss) proper =
       let m : Names = record n { statement = place } in
       let c : Constants = constants_in n.constants in
       loop-closer n ready place (folded_body c ss) ss l k (λ us i j h. body-closer m (ready-in n place ready) us i j h ss proper.1) ts (kept (folded_course c course)) course
       (kept-closer m (ready-in n place ready) (folded_body c ss) ss l k (λ us i j h. body-closer m (ready-in n place ready) us i j h ss proper.1) ts course)
-  statement-closer n ready ts l k loops place Next proper = goes-on-closer (record n { statement = place }) (ready-in n place ready) ts l k loops
-  statement-closer n ready ts l k loops place Quit proper = leaves-closer (record n { statement = place }) (ready-in n place ready) ts l k loops
-  statement-closer n ready ts l k loops place (Return e) proper = with-value-closer (record n { statement = place }) (ready-in n place ready) ts e 0x32 0x33
-  statement-closer n ready ts l k loops place (Abort e) proper = with-value-closer (record n { statement = place }) (ready-in n place ready) ts e 0x30 0x31
+  statement-closer n ready ts l k loops place Next proper = of-left place (goes-on-closer (record n { statement = place }) (ready-in n place ready) ts l k loops)
+  statement-closer n ready ts l k loops place Quit proper = of-left place (leaves-closer (record n { statement = place }) (ready-in n place ready) ts l k loops)
+  statement-closer n ready ts l k loops place (Return e) proper = of-left place (with-value-closer (record n { statement = place }) (ready-in n place ready) ts e 0x32 0x33)
+  statement-closer n ready ts l k loops place (Abort e) proper = of-left place (with-value-closer (record n { statement = place }) (ready-in n place ready) ts e 0x30 0x31)
 
   pub body-closer : (n : Names) (ready : Ready n) (ts : Targets) (l k : Option Loop) → AreLoops ts l k → (ss : Statements) → AreProperStatements ss → Closer ts (body n l (folded_body (constants_in n.constants) ss)) (body n k ss)
   body-closer n ready ts l k loops no_statements proper = nothings
   body-closer n ready ts l k loops (ss ▹ statement place action) proper =
       subst (λ (p : Piece). Closer ts p (body n k (ss ▹ statement place action))) (sym (joined-code n l (folded_body (constants_in n.constants) ss) (folded_statement (constants_in n.constants) (statement place action))))
-      (both (body-closer n ready ts l k loops ss proper.0) (statement-closer n ready ts l k loops place action proper.1))
+      (both (body-closer n ready ts l k loops ss proper.0) (of-right place (statement-closer n ready ts l k loops place action proper.1)))
 
   other-closer : (n : Names) (ready : Ready n) (ts : Targets) (l k : Option Loop) → AreLoops ts l k → (other : Otherwise) → IsProperOtherwise other → Closer ts (other_body n l (folded_other (constants_in n.constants) other)) (other_body n k other)
   other-closer n ready ts l k loops nothing_else proper = nothings
@@ -366,5 +367,5 @@ mutual
 
 -- ---- methods
 
-pub method-closer : (n : Names) → Ready n → (ss : Statements) → AreProperStatements ss → Closer nowhere (body n None (folded_body (constants_in n.constants) ss) ⨾ byte 0x32) (body n None ss ⨾ byte 0x32)
-method-closer n ready ss proper = both (body-closer n ready nowhere None None tt ss proper) (bytes 0x32)
+pub method-closer : (n : Names) → Ready n → (ss : Statements) → AreProperStatements ss → Closer nowhere (body n None (folded_body (constants_in n.constants) ss) ⨾ of_statement n.statement (byte 0x32)) (body n None ss ⨾ of_statement n.statement (byte 0x32))
+method-closer n ready ss proper = both (body-closer n ready nowhere None None tt ss proper) (of-left n.statement (of-right n.statement (bytes 0x32)))

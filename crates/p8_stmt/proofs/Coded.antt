@@ -17,7 +17,7 @@ use Rattle.p8_stmt.specs.Cutting.{cut, cut_longs}
 use Rattle.p8_stmt.specs.Methods.{longs_in, most_longs, most_held, AreResolved, IsMethodFault, IsCodeOf}
 use Rattle.p8_stmt.specs.declared.code.MethodCode.{MethodCode}
 use Rattle.p8_stmt.specs.Spelled.{placed}
-use Rattle.p8_gen.specs.Uses.{use_of}
+use Rattle.p8_gen.specs.Uses.{line_of, use_of}
 use Rattle.p8_bytecode.specs.Spelling.{spelled}
 use Rattle.p8_stmt.specs.Telling.{faults_of}
 use Rattle.p8_stmt.proofs.Telling.{to_fault, from_fault}
@@ -116,10 +116,12 @@ module _ (n : Names) (m : MethodTree) {longs held : ℕ} {large : Bool} {far : L
     ops_whole os resolved = subst (All IsWhole) (sym os) ((method_whole n m.body resolved).each (sym far_is ∙ no_places far m.place large clean))
 
     pub is_code : {ops : List Op} {texts : List (ℕ × Place)} (code : MethodCode) → ops ≡ (method_code n m.body).ops → texts ≡ (method_code n m.body).texts →
-        code.bytes ≡ flat_map spelled ops → map use_of code.strings ≡ map (placed ops) texts → code.locals ≡ 4 * longs → code.depth ≡ held → IsCodeOf n m code
-    is_code code os ts b u l d = record {
+        code.bytes ≡ flat_map spelled ops → map use_of code.strings ≡ map (placed ops) texts → code.locals ≡ 4 * longs → code.depth ≡ held
+        → map line_of code.lines ≡ (method_code n m.body).lines → IsCodeOf n m code
+    is_code code os ts b u l d lines = record {
       bytes = b ∙ ap (flat_map spelled) os;
       locals = l ∙ ap (λ k. 4 * k) longs_are;
       depth = d ∙ held_is;
       strings = u ∙ ap₂ (λ os ts. map (placed os) ts) os ts;
+      lines = lines;
     }

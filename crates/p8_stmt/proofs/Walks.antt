@@ -40,6 +40,10 @@ up_ends {p} alike w e is = is ∙ same_end (alike 0 (p 0 w).end) w
 pub up_counts : {p : ℕ → Piece} → ((x y : ℕ) → Alike (p x) (p y)) → (w : Written) (j : ℕ) → j ≡ (p 0 w).jumps → j ≡ (up_to_end p w).jumps
 up_counts {p} alike w j is = is ∙ same_jumps (alike 0 (p 0 w).end) w
 
+-- after a piece that is told its end the same statement goes on
+pub up_keeps : {p : ℕ → Piece} → ((x y : ℕ) → Alike (p x) (p y)) → (w : Written) → w.statement ≡ (up_to_end p w).statement
+up_keeps {p} alike w = sym ((alike (p 0 w).end 0).keeps w)
+
 same_loop : (l : Option Loop) → SameLoop l l
 same_loop None = tt
 same_loop (Some l) = refl
@@ -66,7 +70,7 @@ module _ (n : Names) where
     arm_same t end (arm items negated ss) x y =
         both (both (both (test-alike n n.text n.statement items) (jumps n.wide n.statement n.statement _ x y)) (body_same l l (same_loop l) ss)) (leap_same t end end)
 
-    tests_same : (first last i j : ℕ) (arms : Arms) → Alike (all_tests n l first i arms) (all_tests n l last j arms)
+    pub tests_same : (first last i j : ℕ) (arms : Arms) → Alike (all_tests n l first i arms) (all_tests n l last j arms)
     tests_same first last i j arms = all-tests-alike n n.text n.statement l l (same_loop l) first last i j arms
 
     choices_same : (a : Action) (first last i j x y : ℕ) → Alike (choices n l a first i x) (choices n l a last j y)
@@ -114,6 +118,9 @@ module _ (n : Names) where
       pub case_jumps : (jumps : ℕ) → jumps ≡ (bodies n l a 0 counted).jumps → jumps ≡ (case_piece n l a w).jumps
       case_jumps jumps is =
           up_counts {p = λ end. up_to_jumps (λ first before. choices n l a first before end) ⨾ bodies n l a end} case_same w jumps (is ∙ same_jumps placed_same w)
+
+      pub case_keeps : w.statement ≡ (case_piece n l a w).statement
+      case_keeps = up_keeps {p = λ end. up_to_jumps (λ first before. choices n l a first before end) ⨾ bodies n l a end} case_same w
 
     -- the tests alone are as long as the tests with their places
     pub tests_alone : (first before : ℕ) (arms : Arms) → Alike (tests_of_arms n arms) (all_tests n l first before arms)

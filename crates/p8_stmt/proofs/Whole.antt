@@ -16,7 +16,7 @@ use Rattle.p8_gen.specs.Operations.{HaveBytes, AreWhole}
 use Rattle.p8_gen.specs.Methods.{method_code}
 use Rattle.p8_gen.specs.Statements.{Loop, inside, goes_on, leaves, with_value, test_of, tests, zero_jump, step_of, step_effect, code, code_of, body, chain, other_body, all_tests, case_bodies}
 use Rattle.p8_stmt.specs.Methods.{AreResolved}
-use Rattle.p8_gen.proofs.Sound.{Sound, nothings, both, ups, up-jumps, either, bares, jumps, plain, plain_jumping, IsStepEffect}
+use Rattle.p8_gen.proofs.Sound.{Sound, nothings, both, of, ups, up-jumps, either, bares, jumps, plain, plain_jumping, IsStepEffect}
 use Rattle.p8_gen.proofs.Spelled.{value_sound, alone_whole, home_placed}
 
 froms : {p : ℕ → Piece} → ((to : ℕ) → Sound (p to)) → Sound (from_start p)
@@ -130,7 +130,7 @@ module _ (env : Environment) where
     body_sound n k l (ss ▹ s) proper clean = both (body_sound n k l ss proper.0 (λ f x. clean f (inl x))) (code_sound n k l s proper.1 (λ f x. clean f (inr x)))
 
     code_sound : (n : Names) → Known n → (l : Option Loop) (s : Statement) → IsProperStatement s → ((f : Fault) → ¬ MisuseInStatement env s f) → Sound (code n l s)
-    code_sound n k l (statement place action) proper clean = action_sound (record n { statement = place }) (at place k) l action proper clean
+    code_sound n k l (statement place action) proper clean = of place (action_sound (record n { statement = place }) (at place k) l action proper clean)
 
     action_sound : (n : Names) → Known n → (l : Option Loop) (a : Action) → IsProperAction a → ((f : Fault) → ¬ MisuseInAction env a f) → Sound (code_of n l a)
     action_sound n k l (Do e) proper clean = alone_whole n k.few env k.same e proper clean
@@ -185,4 +185,4 @@ none_whole : AreWhole empty
 none_whole = record { each = λ near k d lt. absurd (omega arith) }
 
 pub method_whole : (n : Names) (ss : Statements) → AreResolved n ss → AreWhole (method_code n ss)
-method_whole n ss is = (both (body_sound is.environment n (record { few = is.bytes; same = is.kinds }) None ss is.proper is.clean) return_alone).keeps empty none_whole
+method_whole n ss is = (both (body_sound is.environment n (record { few = is.bytes; same = is.kinds }) None ss is.proper is.clean) (of n.statement return_alone)).keeps empty none_whole

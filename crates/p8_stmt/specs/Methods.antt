@@ -21,7 +21,7 @@ use Rattle.p8_gen.specs.Operations.{HaveBytes}
 use Rattle.p8_gen.specs.Pieces.{Written}
 use Rattle.p8_gen.specs.Methods.{bytes_of, method_code}
 use Rattle.p8_gen.specs.Depths.{held_in}
-use Rattle.p8_gen.specs.Uses.{use_of}
+use Rattle.p8_gen.specs.Uses.{line_of, use_of}
 use Rattle.p8_stmt.specs.declared.code.MethodCode.{MethodCode}
 
 -- ---- what is compiled
@@ -57,12 +57,13 @@ abbrev pub use_in : Written → ℕ × Place → ℕ × Place
 use_in w u = (length (flat_map spelled (take u.0 w.ops)) + 1, u.1)
 
 -- The code of a method: its bytes, with 0 for the offset of each text; the bytes of its locals; how many longs it holds at once
--- on the operand stack; and its uses of texts.
+-- on the operand stack; its uses of texts; and its lines.
 pub record IsCodeOf (names : Names) (m : MethodTree) (code : MethodCode) : Type 0 where
   pub bytes : code.bytes ≡ bytes_of (method_code names m.body)
   pub locals : code.locals ≡ 4 * longs_in names.constants m.locals
   pub depth : code.depth ≡ held_in names m.body
   pub strings : map use_of code.strings ≡ map (use_in (method_code names m.body)) (method_code names m.body).texts
+  pub lines : map line_of code.lines ≡ (method_code names m.body).lines
 
 -- ---- refusals
 

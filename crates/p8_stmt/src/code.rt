@@ -8,7 +8,7 @@ ghost use Rattle.p8_gen.specs.Methods as methods;
 ghost use Rattle.p8_gen.specs.Operations.{IsWhole};
 ghost use Rattle.p8_gen.specs.Scopes.{names_from, names_of};
 ghost use Rattle.p8_gen.specs.Names.{widened, wide_in};
-ghost use Rattle.p8_gen.specs.Uses.{use_of, way_of};
+ghost use Rattle.p8_gen.specs.Uses.{line_of, use_of, way_of};
 ghost use Rattle.p8_stmt.specs.Methods.{AreResolved, IsCodeOf, IsMethodFault, IfRefused, most_longs, rebodied};
 ghost use Rattle.p8_stmt.specs.Spelled.{placed};
 
@@ -18,7 +18,7 @@ use crate::frames::{is_too_large, longs_in};
 use crate::spelling::{place_uses, put_ops};
 use crate::statement_depths::held_in;
 use p8_faults::Fault;
-use p8_gen::{Coder, Kept, StringUse, Tables, Way, Writer};
+use p8_gen::{Coder, Kept, Line, StringUse, Tables, Way, Writer};
 use p8_kinds::Kinds;
 use p8_tree::{List, Method, Stmt, Text};
 use p8_words::{Fail, NoMemory};
@@ -35,6 +35,8 @@ pub struct MethodCode {
     pub depth: u16,
     /// Where in the bytes the two bytes of a text's offset stand, and where the text stands in the source.
     pub strings: List<StringUse>,
+    /// Its line table: for each bytecode, in their order, where it begins and which statement it is made from.
+    pub lines: List<Line>,
 }
 
 /// Why a method can't be compiled: 25 at a statement with a jump that goes too far for its width, or 26 at the method's name, where its
@@ -102,7 +104,7 @@ pub fn method_code_with(
     let too_large = is_too_large(method.params.len(), longs, depth);
     match first_fault(alloc, kept.too_far.as_slice(), method.place, too_large)? {
         Some(fault) => Err(Fail::Refused(fault)),
-        None => Ok(coded(alloc, &kept, longs, depth)?),
+        None => Ok(coded(alloc, kept, longs, depth)?),
     }
 }
 
@@ -136,6 +138,7 @@ fn written(alloc: Global, coder: &Coder<'_>, body: &[Stmt]) -> Result<Kept, Allo
     ensures texts { IfOk result (λ kept. map use_of kept.strings.items ≡ (methods.method_code (names_of coder.now) (statements_of body.now)).texts) }
     ensures too_far { IfOk result (λ kept. kept.too_far.items ≡ (methods.method_code (names_of coder.now) (statements_of body.now)).too_far) }
     ensures ways { IfOk result (λ kept. map way_of kept.ways.items ≡ (methods.method_code (names_of coder.now) (statements_of body.now)).ways) }
+    ensures lines { IfOk result (λ kept. map line_of kept.lines.items ≡ (methods.method_code (names_of coder.now) (statements_of body.now)).lines) }
 {
     let context = Context {
         coder: *coder,
@@ -143,16 +146,18 @@ fn written(alloc: Global, coder: &Coder<'_>, body: &[Stmt]) -> Result<Kept, Allo
     };
     let mut out = Writer::new(alloc);
     context.body(body, &mut out)?;
+    out.at_statement(coder.statement);
     out.byte(0x32)?;
     out.into_kept()
 }
 
 // The code of a method whose bytecodes are ones that there are.
-fn coded(alloc: Global, kept: &Kept, longs: u32, depth: u16) -> Result<MethodCode, NoMemory>
-    requires ops { All IsWhole kept.now.ops.items }
+fn coded(alloc: Global, kept: Kept, longs: u32, depth: u16) -> Result<MethodCode, NoMemory>
+    requires ops { All IsWhole kept.ops.items }
     requires frame { longs < most_longs }
-    ensures bytes { IfOk result (λ code. code.bytes ≡ flat_map spelled kept.now.ops.items) }
-    ensures strings { IfOk result (λ code. map use_of code.strings ≡ map (placed kept.now.ops.items) (map use_of kept.now.strings.items)) }
+    ensures bytes { IfOk result (λ code. code.bytes ≡ flat_map spelled kept.ops.items) }
+    ensures strings { IfOk result (λ code. map use_of code.strings ≡ map (placed kept.ops.items) (map use_of kept.strings.items)) }
+    ensures lines { IfOk result (λ code. code.lines ≡ kept.lines.items) }
     ensures locals { IfOk result (λ code. code.locals ≡ 4 * longs) }
     ensures depth { IfOk result (λ code. code.depth ≡ depth) }
 {
@@ -163,5 +168,6 @@ fn coded(alloc: Global, kept: &Kept, longs: u32, depth: u16) -> Result<MethodCod
         locals: (4 * longs) as u16,
         depth,
         strings,
+        lines: List::from_vec(kept.lines),
     })
 }

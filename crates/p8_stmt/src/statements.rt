@@ -2,7 +2,7 @@
 ghost use Rattle.std.specs.Prelude.{◌≡◌, OnOk};
 ghost use Rattle.p8_tree.specs.Views.{course_of, action_of, arm_of, arms_of, statement_of, statements_of};
 ghost use Rattle.p8_gen.specs.Pieces.{Written, up_to_end, jump};
-ghost use Rattle.p8_gen.specs.Statements.{inside, code, body, chain, all_tests, case_bodies};
+ghost use Rattle.p8_gen.specs.Statements.{inside, code, code_of, body, chain, all_tests, case_bodies};
 ghost use Rattle.p8_gen.specs.Writing.{Stands};
 ghost use Rattle.p8_stmt.specs.Walking.{names_at, loop_at, leap, arm_piece, branches, choices, bodies, case_piece, case_body, up_to_next, looped, loop_piece};
 
@@ -34,15 +34,26 @@ impl Context<'_> {
             ..self.coder
         };
         let here = Context { coder, ..*self };
+        let outer = out.at_statement(statement.place);
+        here.action(statement, out)?;
+        out.at_statement(outer);
+        Ok(())
+    }
+
+    // Appends the code of the statement that the context is at.
+    #[cycle(statements)]
+    fn action(&self, statement: &Stmt, out: &mut Writer) -> Result<(), AllocError>
+        ensures { (w : Written) → Stands out.old w → OnOk result (Stands out.new (code_of (names_at self.now) (loop_at self.now) (action_of statement.now.kind) w)) }
+    {
         match &statement.kind {
-            StmtKind::Do(expr) => here.coder.alone(expr, out),
-            StmtKind::If(..) => here.chain(statement, out),
-            StmtKind::Case(..) => here.case(statement, out),
-            StmtKind::Repeat(course, body) => here.repeat(course, body, out),
-            StmtKind::Next => here.next(out),
-            StmtKind::Quit => here.quit(out),
-            StmtKind::Return(value) => here.with_value(value, 0x32, 0x33, out),
-            StmtKind::Abort(value) => here.with_value(value, 0x30, 0x31, out),
+            StmtKind::Do(expr) => self.coder.alone(expr, out),
+            StmtKind::If(..) => self.chain(statement, out),
+            StmtKind::Case(..) => self.case(statement, out),
+            StmtKind::Repeat(course, body) => self.repeat(course, body, out),
+            StmtKind::Next => self.next(out),
+            StmtKind::Quit => self.quit(out),
+            StmtKind::Return(value) => self.with_value(value, 0x32, 0x33, out),
+            StmtKind::Abort(value) => self.with_value(value, 0x30, 0x31, out),
         }
     }
 

@@ -17,3 +17,7 @@ returns-clause-depth c = λ n m ss a b x y.
 pub returns-clause-strings : goal.returns-clause-strings
 returns-clause-strings c = λ n m ss a b x y.
     x.code_is.strings ∙ ap (λ ws. map (use_in (method_code (widened n (wide_in ws)) ss)) (method_code (widened n (wide_in ws)) ss).texts) (one-choice n m ss a b x y) ∙ sym y.code_is.strings
+
+pub returns-clause-lines : goal.returns-clause-lines
+returns-clause-lines c = λ n m ss a b x y.
+    x.code_is.lines ∙ ap (λ ws. (method_code (widened n (wide_in ws)) ss).lines) (one-choice n m ss a b x y) ∙ sym y.code_is.lines

@@ -12,7 +12,7 @@ use Rattle.p8_gen.specs.Scopes.{names_of}
 use Rattle.p8_gen.specs.Views.{operation_of}
 use Rattle.p8_gen.specs.Walking.{call_piece, looked}
 use Rattle.p8_gen.specs.Writing.{Stands}
-use Rattle.p8_gen.proofs.Walks.{Runs, values_next, items_next, looked_end, looked_jumps, memory_is, register_is, variable_moved, named_is, built_new_cog, built_told_cog, built_plain, value_of_call, arguments_of_call, value_of_built, value_of_look}
+use Rattle.p8_gen.proofs.Walks.{Runs, values_next, items_next, looked_end, looked_jumps, looked_keeps, memory_is, register_is, variable_moved, named_is, built_new_cog, built_told_cog, built_plain, value_of_call, arguments_of_call, value_of_built, value_of_look}
 use Rattle.p8_gen.proofs.coder.Coder.+expressions.Goals as goal
 
 pub arguments-returns-in-Call : goal.arguments-returns-in-Call
@@ -53,7 +53,7 @@ look-returns-then-counts t c = λ w stands.
     let xs = items_of c.args.items.now in
     let counted : Stands c.looked.new.out (looked n c.args.down xs 0 w) = c.in_ok-looked.ensures w (c.counter-counter.ensures w stands) in
     let end = (looked n c.args.down xs 0 w).end in
-    c.if-counts.ensures.counts (up_to_end (looked n c.args.down xs) w) (counted.ends ∙ looked_end n c.args.down xs 0 end w) (counted.jumps ∙ looked_jumps n c.args.down xs 0 end w)
+    c.if-counts.ensures.counts (up_to_end (looked n c.args.down xs) w) (counted.ends ∙ looked_end n c.args.down xs 0 end w) (counted.jumps ∙ looked_jumps n c.args.down xs 0 end w) (stands.statement ∙ looked_keeps n c.args.down xs end w)
 
 pub looked-loop-item-preserved : goal.looked-loop-item-preserved
 looked-loop-item-preserved t c = λ w stands.

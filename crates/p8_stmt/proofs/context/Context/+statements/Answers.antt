@@ -3,11 +3,11 @@ use Rattle.p8_tree.specs.Views.{tree_of, course_of, action_of, arm_of, arms_of, 
 use Rattle.p8_tree.specs.declared.statements.Arm.{out-Arm}
 use Rattle.p8_gen.specs.Pieces.{Piece, from_place, up_to_end, byte, jump}
 use Rattle.p8_gen.specs.Expressions.{value}
-use Rattle.p8_gen.specs.Statements.{inside, code, body, chain, all_tests, case_bodies}
+use Rattle.p8_gen.specs.Statements.{inside, code, code_of, body, chain, all_tests, case_bodies}
 use Rattle.p8_gen.specs.Writing.{Stands}
 use Rattle.p8_gen.proofs.Widths.{Alike}
 use Rattle.p8_stmt.specs.Walking.{names_at, loop_at, leap, arm_piece, branches, choices, bodies, case_piece, case_body, tests_of_arms, up_to_next, loop_piece}
-use Rattle.p8_stmt.proofs.Walks.{Runs, up_ends, up_counts, same_end, same_jumps, branches_same, arm_same, case_ends, case_jumps, case_written, tests_alone, loop_same, next_same, statements_next, arms_next, bodies_next, all_tests_next, arm_to_is, case_body_is, if_form, branch_none, branch_some, case_form, choice_none, choice_some, bodies_form, repeat_form}
+use Rattle.p8_stmt.proofs.Walks.{Runs, up_ends, up_counts, up_keeps, same_end, same_jumps, branches_same, arm_same, case_ends, case_jumps, case_keeps, case_written, tests_alone, tests_same, loop_same, next_same, statements_next, arms_next, bodies_next, all_tests_next, arm_to_is, case_body_is, if_form, branch_none, branch_some, case_form, choice_none, choice_some, bodies_form, repeat_form}
 use Rattle.p8_stmt.proofs.context.Context.+statements.Goals as goal
 
 pub chain-returns-then-counts : goal.chain-returns-then-counts
@@ -17,6 +17,7 @@ chain-returns-then-counts t c = λ w stands.
     let p = branches n l (action_of c.args.statement.now.kind) in
     let counted : Stands c.branches.new.out (p 0 w) = c.in_ok-branches.ensures w (c.counter-counter.ensures w stands) in
     c.if-counts.ensures.counts (up_to_end p w) (up_ends {p = p} (branches_same n l (action_of c.args.statement.now.kind)) w _ counted.ends) (up_counts {p = p} (branches_same n l (action_of c.args.statement.now.kind)) w _ counted.jumps)
+    (stands.statement ∙ up_keeps {p = p} (branches_same n l (action_of c.args.statement.now.kind)) w)
 
 pub arm-returns-then-counts : goal.arm-returns-then-counts
 arm-returns-then-counts t c = λ w stands.
@@ -25,7 +26,7 @@ arm-returns-then-counts t c = λ w stands.
     let p = arm_piece n l (leap n c.args.jumps c.args.end) (arm_of c.args.arm.now) in
     let counted : Stands c.arm_to.new.out (p 0 w) = c.in_ok-arm_to.ensures w (c.counter-counter.ensures w stands) in
     let same = arm_same n l c.args.jumps c.args.end (arm_of c.args.arm.now) in
-    c.if-counts.ensures.counts (up_to_end p w) (up_ends {p = p} same w _ counted.ends) (up_counts {p = p} same w _ counted.jumps)
+    c.if-counts.ensures.counts (up_to_end p w) (up_ends {p = p} same w _ counted.ends) (up_counts {p = p} same w _ counted.jumps) (stands.statement ∙ up_keeps {p = p} same w)
 
 pub repeat-returns-then-counts : goal.repeat-returns-then-counts
 repeat-returns-then-counts t c = λ w stands.
@@ -33,7 +34,7 @@ repeat-returns-then-counts t c = λ w stands.
     let p = loop_piece n (course_of c.args.course.now) (statements_of c.args.body.now) in
     let counted : Stands c.repeat_to.new.out (p 0 w) = c.in_ok-repeat_to.ensures w (c.counter-counter.ensures w stands) in
     let same = loop_same n (course_of c.args.course.now) (statements_of c.args.body.now) in
-    c.if-counts.ensures.counts (up_to_end p w) (up_ends {p = p} same w _ counted.ends) (up_counts {p = p} same w _ counted.jumps)
+    c.if-counts.ensures.counts (up_to_end p w) (up_ends {p = p} same w _ counted.ends) (up_counts {p = p} same w _ counted.jumps) (stands.statement ∙ up_keeps {p = p} same w)
 
 pub up_to_next-returns-then-counts : goal.up_to_next-returns-then-counts
 up_to_next-returns-then-counts t c = λ w stands.
@@ -42,7 +43,7 @@ up_to_next-returns-then-counts t c = λ w stands.
     let counted : Stands c.body_inside.new.out (body n (inside 0 c.args.quit c.args.counted) ss w) = c.in_ok-body_inside.ensures w (c.counter-counter.ensures w stands) in
     let p : ℕ → Piece = λ next. body n (inside next c.args.quit c.args.counted) ss in
     let same : (x y : ℕ) → Alike (p x) (p y) = λ x y. next_same n c.args.quit c.args.quit c.args.counted ss x y in
-    c.if-counts.ensures.counts (up_to_next n c.args.quit c.args.counted ss w) (up_ends {p = p} same w _ counted.ends) (up_counts {p = p} same w _ counted.jumps)
+    c.if-counts.ensures.counts (up_to_next n c.args.quit c.args.counted ss w) (up_ends {p = p} same w _ counted.ends) (up_counts {p = p} same w _ counted.jumps) (stands.statement ∙ up_keeps {p = p} same w)
 
 pub all_tests-returns-then-counts : goal.all_tests-returns-then-counts
 all_tests-returns-then-counts t c = λ w stands.
@@ -51,7 +52,7 @@ all_tests-returns-then-counts t c = λ w stands.
     let arms = arms_of c.args.arms.now in
     let counted : Stands c.tests_of_arms.new.out (tests_of_arms n arms w) = c.in_ok-tests_of_arms.ensures w (c.counter-counter.ensures w stands) in
     let same = tests_alone n l c.args.first c.args.before arms in
-    c.if-counts.ensures.counts (all_tests n l c.args.first c.args.before arms w) (counted.ends ∙ same_end same w) (counted.jumps ∙ same_jumps same w)
+    c.if-counts.ensures.counts (all_tests n l c.args.first c.args.before arms w) (counted.ends ∙ same_end same w) (counted.jumps ∙ same_jumps same w) (stands.statement ∙ sym ((tests_same n l c.args.first c.args.first c.args.before c.args.before arms).keeps w))
 
 pub case-returns-then-counts : goal.case-returns-then-counts
 case-returns-then-counts t c = λ w stands.
@@ -59,7 +60,7 @@ case-returns-then-counts t c = λ w stands.
     let l = loop_at c.args.self.now in
     let a = action_of c.args.statement.now.kind in
     let counted : Stands c.bodies.new.out (bodies n l a 0 (choices n l a 0 0 0 w)) = c.in_ok-bodies.ensures _ (c.in_ok-choices.ensures w (c.counter-counter.ensures w stands)) in
-    c.if-counts.ensures.counts (case_piece n l a w) (case_ends n l a w _ counted.ends) (case_jumps n l a w _ counted.jumps)
+    c.if-counts.ensures.counts (case_piece n l a w) (case_ends n l a w _ counted.ends) (case_jumps n l a w _ counted.jumps) (stands.statement ∙ case_keeps n l a w)
 
 pub case-returns : goal.case-returns
 case-returns t c = λ w stands.
@@ -89,23 +90,32 @@ case_bodies-loop-arm-preserved t c = λ w stands.
     subst (Stands c.case_body.new.out) (bodies_next n l c.args.end xs c.loop-arm.arm-index c.arm-item.result w c.loop-arm-test.true)
     (subst (λ x. Stands c.case_body.new.out (case_body n l c.args.end (arm_of x) before)) c.arm-item.is (c.in_ok-case_body.ensures before (c.loop-arm.invariant w stands)))
 
-pub statement-returns-in-Repeat : goal.statement-returns-in-Repeat
-statement-returns-in-Repeat t c =
+pub statement-returns : goal.statement-returns
+statement-returns t c = λ w stands.
     let n = record (names_at c.args.self.now) { statement = c.args.statement.now.place } in
+    let piece = code_of n (loop_at c.args.self.now) (action_of c.args.statement.now.kind) in
+    let inside = record w { statement = c.args.statement.now.place } in
+    let outer = c.at_statement-outer.ensures.before ∙ stands.statement in
+    let done = c.in_ok-action.ensures inside (c.at_statement-outer.ensures.stands w stands) in
+    subst (λ p. Stands c.at_statement.new.self (record (piece inside) { statement = p })) outer (c.at_statement.ensures.stands (piece inside) done)
+
+pub action-returns-in-Repeat : goal.action-returns-in-Repeat
+action-returns-in-Repeat t c =
+    let n = names_at c.args.self.now in
     let l = loop_at c.args.self.now in
     subst (Runs c.args.out.now c.repeat.result c.repeat.new.out)
     (ap (λ ss. up_to_end (loop_piece n (course_of c.in-Repeat.course) (statements_of ss))) c.deref.ensures.value ∙ repeat_form n l c.args.statement.now.kind c.in-Repeat.course c.in-Repeat.body c.in-Repeat.is)
     c.repeat.ensures
 
-pub statement-returns-in-If : goal.statement-returns-in-If
-statement-returns-in-If t c =
-    let n = record (names_at c.args.self.now) { statement = c.args.statement.now.place } in
+pub action-returns-in-If : goal.action-returns-in-If
+action-returns-in-If t c =
+    let n = names_at c.args.self.now in
     let l = loop_at c.args.self.now in
     subst (Runs c.args.out.now c.chain.result c.chain.new.out) (if_form n l c.args.statement.now.kind c.in-If.field-0 c.in-If.field-1 c.in-If.is) c.chain.ensures
 
-pub statement-returns-in-Case : goal.statement-returns-in-Case
-statement-returns-in-Case t c =
-    let n = record (names_at c.args.self.now) { statement = c.args.statement.now.place } in
+pub action-returns-in-Case : goal.action-returns-in-Case
+action-returns-in-Case t c =
+    let n = names_at c.args.self.now in
     let l = loop_at c.args.self.now in
     subst (Runs c.args.out.now c.case.result c.case.new.out) (case_form n l c.args.statement.now.kind c.in-Case.field-0 c.in-Case.field-1 c.in-Case.field-2 c.in-Case.is) c.case.ensures
 
