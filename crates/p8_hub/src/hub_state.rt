@@ -61,6 +61,7 @@ impl Hub {
     /// A number in memory stands with its lowest byte first. A read at $8000 and above gives 0, and a
     /// write there changes nothing. A start that names no cog takes the lowest stopped one, and a start
     /// or a stop of a cog clears its OUTA and DIRA.
+    #[inline(always)]
     pub fn answer(&mut self, key: Key, access: &Access, levels: u32) -> Answer
         requires cog { key.cog < 8 }
         requires proper { IsProper access.now }
@@ -91,6 +92,7 @@ impl Hub {
     }
 
     /// Does what an access asks for that is answered by nothing but `Done`.
+    #[inline(always)]
     fn carry_out(&mut self, key: Key, access: &Access)
         requires cog { key.cog < 8 }
         requires proper { IsProper access.now }

@@ -28,6 +28,7 @@ impl Model for Memory {
 }
 
 /// Puts the bytes of a number at an aligned address, the lowest first.
+#[inline(always)]
 fn put(bytes: &mut [u8], width: Width, address: u16, value: u32)
     requires aligned { IsAligned width address }
     requires reduced { IsReduced width value }
@@ -60,6 +61,7 @@ impl Memory {
     }
 
     /// The number at an aligned address: 0 in ROM.
+    #[inline(always)]
     pub fn read(&self, width: Width, address: u16) -> u32
         requires { IsAligned width address }
         ensures value { result ≡ (if nat_lt address 32768 then number_in self.now width address else 0) }
@@ -77,6 +79,7 @@ impl Memory {
     }
 
     /// Writes a number at an aligned address: a write to ROM changes nothing.
+    #[inline(always)]
     pub fn write(&mut self, width: Width, address: u16, value: u32)
         requires aligned { IsAligned width address }
         requires reduced { IsReduced width value }

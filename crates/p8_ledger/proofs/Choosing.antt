@@ -1,7 +1,6 @@
 -- The fronts of the cogs, and which comes first.
 use Rattle.std.proofs.Common.{◌≡◌, ◌∙◌, sym, subst, refl, ℕ, ◌+◌, ◌^◌, ◌<◌, ◌≤◌, List, Option, Some, None, slice_index, arith, inl, inr}
 use Rattle.p8_access.specs.declared.kinds.Test.{Test}
-use Rattle.p8_access.specs.declared.kinds.Access.{Access}
 use Rattle.p8_access.specs.declared.lives.Next.{Next}
 use Rattle.p8_access.specs.declared.lives.Next.TheVariants.{At, Quiet, More}
 use Rattle.p8_access.specs.declared.order.Key.{Key}

@@ -1,5 +1,5 @@
 -- Lists of eight by their places.
-use Rattle.std.proofs.Common.{◌≡◌, ◌∙◌, ap, sym, refl, ℕ, zero, suc, ◌<◌, get_or, List, [], ◌∷◌, Some, None, slice_get, length, arith}
+use Rattle.std.proofs.Common.{◌≡◌, ◌∙◌, ap, sym, refl, ℕ, zero, suc, ◌<◌, get_or, List, [], ◌∷◌, ◌++◌, slice_index_or, Some, None, slice_get, length, arith}
 use Rattle.std.proofs.Math.ListN.{set}
 use Rattle.std.proofs.lemmas.Option.{slice_get_read}
 
@@ -28,6 +28,16 @@ module _ {A : Type 0} where
       let there : slice_get xs k ≡ Some x = slice_get_read xs (length xs) k x refl below is in
       let e : Some y ≡ Some x = sym at ∙ there in
       cc
+
+-- a list that ends with its last item
+pub ends-last : {A : Type 0} → (d : A) (xs : List A) (k : ℕ) → length xs ≡ suc k → (before : List A) × (xs ≡ before ++ slice_index_or xs k d ∷ [])
+ends-last d [] k is = absurd (omega arith)
+ends-last d (x ∷ []) zero is = ([], refl)
+ends-last d (x ∷ []) (suc k) is = absurd (omega arith)
+ends-last d (x ∷ y ∷ xs) zero is = absurd (omega arith)
+ends-last d (x ∷ y ∷ xs) (suc k) is =
+    let rest = ends-last d (y ∷ xs) k (omega arith) in
+    (x ∷ rest.0, ap (λ l. x ∷ l) rest.1)
 
 -- an item of a list that was set
 pub set-same : {A : Type 0} → (xs : List A) (k : ℕ) (x : A) → k < length xs → slice_get (set xs k x) k ≡ Some x

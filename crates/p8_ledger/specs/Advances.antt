@@ -1,5 +1,5 @@
 -- What the calls of a ledger do to it, whether or not it stands for a record.
-use Rattle.std.specs.Prelude.{ℕ, ◌+◌, ◌≡◌, ◌<◌, ◌^◌, true, Bool, List, [], ◌∷◌, ◌++◌, Some, length, slice_get, slice_set}
+use Rattle.std.specs.Prelude.{ℕ, ◌+◌, ◌≡◌, ◌<◌, ◌^◌, true, Bool, [], ◌∷◌, ◌++◌, Some, length, slice_get, slice_set}
 use Rattle.p8_access.specs.declared.lives.Next.{Next}
 use Rattle.p8_access.specs.declared.lives.Next.TheVariants.{More}
 use Rattle.p8_access.specs.declared.order.Turn.{Turn}

@@ -1,6 +1,6 @@
 -- internal
 -- What stands at the least front: a turn, which is made, or a promise.
-use Rattle.std.specs.Prelude.{ℕ, ◌≡◌, true, ◌∷◌, Option, Some, None}
+use Rattle.std.specs.Prelude.{◌≡◌, true, ◌∷◌, Option, Some, None}
 use Rattle.p8_access.specs.declared.kinds.Origin.{Origin}
 use Rattle.p8_access.specs.declared.lives.Next.TheVariants.{More}
 use Rattle.p8_access.specs.declared.order.Key.{Key}

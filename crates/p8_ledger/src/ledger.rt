@@ -1,5 +1,5 @@
 // The value that keeps where a record stands, and makes its turns.
-ghost use Rattle.std.specs.Prelude.{◌≡◌, ◌<◌, ◌≤◌, ◌+◌, ◌^◌, ◌⊎◌, ◌∷◌, [], ℕ, List, Some, None, true, Option, length, reverse, slice_get, slice_index, IfOk, IfSome, MatchOption, IsTrue, ◌↔◌};
+ghost use Rattle.std.specs.Prelude.{Bool, ◌≡◌, ◌<◌, ◌≤◌, ◌+◌, ◌^◌, ◌⊎◌, ◌∷◌, ◌++◌, [], ℕ, List, Some, None, true, Option, length, reverse, slice_get, slice_index, IfOk, IfSome, MatchOption, IsTrue, ◌↔◌};
 ghost use Rattle.p8_access.specs.declared.kinds.Access.TheVariants.{PinsIn};
 ghost use Rattle.p8_access.specs.declared.kinds.Test.{Test};
 ghost use Rattle.p8_access.specs.declared.lives.Next.TheVariants.{More};
@@ -92,6 +92,14 @@ struct Made {
     running: bool,
 }
 
+/// The least key of all that may come.
+#[derive(Clone, Copy)]
+struct Least {
+    key: Key,
+    /// The span of the script in which it was found, where a wait had to be looked at.
+    searched: Option<Span>,
+}
+
 impl Ledger {
     ghost use Rattle.p8_ledger.specs.Ledgers.{Found, Decides, taken_by, CanBeTaken, DecidesFirst, after_first};
     ghost use Rattle.p8_ledger.specs.Advances.{HasMade, Advances, HasSaid};
@@ -148,6 +156,16 @@ impl Ledger {
         ensures { (w : World) (r : Record) → Found w self.now r → result.now ≡ w.memory }
     {
         &self.boot.ram
+    }
+
+    /// The last turn that was made, where it stands in the log.
+    #[inline(always)]
+    pub fn newest(&self) -> &Turn
+        requires { 0 < length self.now.turns.list }
+        ensures { (before : List Turn) × (self.now.turns.list ≡ before ++ result.now ∷ []) }
+    {
+        let turns = self.turns.as_slice();
+        &turns[turns.len() - 1]
     }
 
     /// The clock up to which turns come.
@@ -259,16 +277,33 @@ impl Ledger {
         }
     }
 
+    /// The least front of all where the cog that has it waits.
+    #[inline(never)]
+    fn first_waiting(&self, script: &PinScript) -> Least
+        ensures near { result.key.cog < 8 }
+        ensures first { (w : World) (r : Record) → script.now ≡ w.script → Found w self.now r → IsFirstKey w r None result.key }
+    {
+        let mut span = self.span;
+        let key = self.first_by_spans(script, &mut span);
+        Least {
+            key,
+            searched: Some(span),
+        }
+    }
+
     /// The least front of all, where it is below the limit; else no cog has one.
-    #[inline]
-    fn first_key(&self, script: &PinScript, span: &mut Span) -> Key
-        ensures near { result.cog < 8 }
-        ensures first { (w : World) (r : Record) → script.now ≡ w.script → Found w self.now r → IsFirstKey w r None result }
+    #[inline(always)]
+    fn first_key(&self, script: &PinScript) -> Least
+        ensures near { result.key.cog < 8 }
+        ensures first { (w : World) (r : Record) → script.now ≡ w.script → Found w self.now r → IsFirstKey w r None result.key }
     {
         let key = first_front(&self.fronts.clocks);
         match self.front(key.cog).test {
-            None => key,
-            Some(_) => self.first_by_spans(script, span),
+            None => Least {
+                key,
+                searched: None,
+            },
+            Some(_) => self.first_waiting(script),
         }
     }
 
@@ -290,25 +325,23 @@ impl Ledger {
     ghost use Rattle.p8_ledger.specs.Granted.{IsGranted, granted_by};
 
     /// The least front, where a turn may come: where there is room for one, and that front is below the limit.
-    ///
-    /// `span` is where the search began and where it ended.
-    #[inline]
-    fn least(&self, script: &PinScript, span: &mut Span) -> Option<Key>
-        ensures least { (w : World) (r : Record) → script.now ≡ w.script → Found w self.now r → MatchOption result ((length (turns r) ≡ w.turns) ⊎ NoFront w r) (λ key. (length (turns r) < w.turns) × IsLeastFront w r key) }
-        ensures suits { IfSome result (λ key. (key.cog < 8) × (key.clock < 2 ^ 61) × (length self.now.turns.list < self.now.turns.room)) }
+    #[inline(always)]
+    fn least(&self, script: &PinScript) -> Option<Least>
+        ensures least { (w : World) (r : Record) → script.now ≡ w.script → Found w self.now r → MatchOption result ((length (turns r) ≡ w.turns) ⊎ NoFront w r) (λ least. (length (turns r) < w.turns) × IsLeastFront w r least.key) }
+        ensures suits { IfSome result (λ least. (least.key.cog < 8) × (least.key.clock < 2 ^ 61) × (length self.now.turns.list < self.now.turns.room)) }
     {
         if self.turns.len() as u64 >= self.limits.turns {
             return None;
         }
-        let key = self.first_key(script, span);
-        if key.clock >= self.limits.clocks {
+        let least = self.first_key(script);
+        if least.key.clock >= self.limits.clocks {
             return None;
         }
-        Some(key)
+        Some(least)
     }
 
     /// What stands at the front of a cog, which is at this clock: an access, or None for a promise.
-    #[inline]
+    #[inline(always)]
     fn due_at(&self, cog: u8, clock: u64) -> Option<Due>
         requires { cog < 8 }
         ensures due { (w : World) (r : Record) → Found w self.now r → HasFront w r cog clock → IsDueAt w r cog clock result }
@@ -330,9 +363,9 @@ impl Ledger {
         }
     }
 
-    /// Makes a turn. It was found in this span of the script.
-    #[inline]
-    fn make(&mut self, script: &PinScript, key: Key, due: Due, span: Span) -> Turn
+    /// Makes a turn.
+    #[inline(always)]
+    fn make(&mut self, script: &PinScript, key: Key, due: Due) -> Turn
         requires cog { key.cog < 8 }
         requires clock { key.clock < 2 ^ 61 }
         requires suits { Suits self.old.sayings key.cog key.clock due }
@@ -343,7 +376,7 @@ impl Ledger {
         ensures made { HasMade self.old self.new result due.running }
         ensures found { (w : World) (r : Record) → Found w self.old r → Extends asks w (turns r) result → FitsState due.running (cog_state w (turns r) key.cog) → Found w self.new (Took result ∷ r) }
     {
-        let levels = levels(script, &due.access, key.clock, &span);
+        let levels = levels(script, &due.access, key.clock, &self.span);
         let answer = self.hub.answer(key, &due.access, levels);
         let turn = Turn {
             key,
@@ -358,16 +391,26 @@ impl Ledger {
         match self.turns.push(turn) {
             Ok(()) => {
                 self.last = Some(key);
-                self.span = span;
                 turn
             }
             Err(_) => unreachable!(),
         }
     }
 
+    /// Notes in which span of the script the last turn was found, where that was looked for.
+    #[inline(always)]
+    fn note(&mut self, searched: Option<Span>)
+        ensures found { (w : World) (r : Record) → Found w self.old r → Found w self.new r }
+        ensures made { (old : Ledger) (turn : Turn) (running : Bool) → HasMade old self.old turn running → HasMade old self.new turn running }
+    {
+        if let Some(span) = searched {
+            self.span = span;
+        }
+    }
+
     /// Makes the turn at the least front, or None where that is a promise.
-    #[inline]
-    fn grant(&mut self, script: &PinScript, key: Key, span: Span) -> Option<Made>
+    #[inline(always)]
+    fn grant(&mut self, script: &PinScript, key: Key) -> Option<Made>
         requires cog { key.cog < 8 }
         requires clock { key.clock < 2 ^ 61 }
         requires room { length self.old.turns.list < self.old.turns.room }
@@ -378,7 +421,7 @@ impl Ledger {
         match self.due_at(key.cog, key.clock) {
             None => None,
             Some(due) => {
-                let turn = self.make(script, key, due, span);
+                let turn = self.make(script, key, due);
                 Some(Made {
                     turn,
                     running: due.running,
@@ -395,22 +438,24 @@ impl Ledger {
         ensures found { (w : World) (r : Record) → script.now ≡ w.script → Found w self.old r → Found w self.new (taken_by result r) }
         ensures takes { CanBeTaken result }
     {
-        let mut span = self.span;
-        match self.least(script, &mut span) {
+        match self.least(script) {
             None => Taken::Over,
-            Some(key) => {
+            Some(Least { key, searched }) => {
                 if key.cog != cog {
                     return Taken::After {
                         cog: key.cog,
                         bound: key.clock,
                     };
                 }
-                match self.grant(script, key, span) {
+                match self.grant(script, key) {
                     None => Taken::Ahead { bound: key.clock },
-                    Some(made) => Taken::Done {
-                        turn: made.turn,
-                        running: made.running,
-                    },
+                    Some(made) => {
+                        self.note(searched);
+                        Taken::Done {
+                            turn: made.turn,
+                            running: made.running,
+                        }
+                    }
                 }
             }
         }
@@ -418,24 +463,26 @@ impl Ledger {
 
     /// Makes the turn of the cog with the least front, whichever it is. `script` is that of the run. It waits for
     /// nobody and takes no memory.
-    #[inline]
+    #[inline(always)]
     pub fn take_first(&mut self, script: &PinScript) -> First
         ensures decides { (w : World) (r : Record) → script.now ≡ w.script → Found w self.old r → DecidesFirst w r result }
         ensures found { (w : World) (r : Record) → script.now ≡ w.script → Found w self.old r → Found w self.new (after_first result r) }
         ensures advances { Advances self.old self.new result }
     {
-        let mut span = self.span;
-        match self.least(script, &mut span) {
+        match self.least(script) {
             None => First::Over,
-            Some(key) => match self.grant(script, key, span) {
+            Some(Least { key, searched }) => match self.grant(script, key) {
                 None => First::Ahead {
                     cog: key.cog,
                     bound: key.clock,
                 },
-                Some(made) => First::Done {
-                    turn: made.turn,
-                    running: made.running,
-                },
+                Some(made) => {
+                    self.note(searched);
+                    First::Done {
+                        turn: made.turn,
+                        running: made.running,
+                    }
+                }
             },
         }
     }

@@ -1,5 +1,6 @@
 -- What is said is what the lives have announced.
-use Rattle.std.proofs.Common.{◌≡◌, ◌∙◌, ap, sym, subst, refl, ℕ, ◌+◌, ◌<◌, Bool, true, List, Option, Some, None, slice_get, slice_set, length, inl, inr, arith}
+use Rattle.std.proofs.Common.{◌≡◌, ◌∙◌, ap, sym, subst, refl, ℕ, suc, ◌+◌, ◌<◌, Bool, true, List, [], ◌∷◌, ◌++◌, reverse, Option, Some, None, slice_get, slice_set, length, inl, inr, arith}
+use Rattle.std.proofs.lemmas.List.{length-reverse}
 use Rattle.std.proofs.lemmas.Option.{slice_get_within}
 use Rattle.p8_access.specs.declared.kinds.Access.{Access}
 use Rattle.p8_access.specs.declared.kinds.Origin.{Origin}
@@ -20,9 +21,10 @@ use Rattle.p8_ledger.specs.declared.ledger.First.TheVariants.{Done, Ahead, Over}
 use Rattle.p8_ledger.specs.Advances.{HasMade, Advances, HasSaid}
 use Rattle.p8_ledger.specs.Seats.{Sits, SitsIn}
 use Rattle.p8_ledger.specs.Records.{Record, turns, said}
+use Rattle.p8_ledger.proofs.Stepping.{reverse-push}
 use Rattle.p8_ledger.proofs.Rows.{some-at, set-there, set-else}
 use Rattle.p8_machine.specs.Places.{announced_in, IsSpoken, SameBut, HasAnnounced, AreAnnounced}
-use Rattle.p8_machine.specs.Standing.{has_spoken, Stands}
+use Rattle.p8_machine.specs.Standing.{has_spoken, Stands, Comes}
 
 none-some : {A : Type 0} → (asked : ℕ × Access) → None ≡ Some asked → A
 none-some asked e = absurd cc
@@ -58,6 +60,32 @@ said-announced old new cog next before after has_said same own announced n life 
           (let differ = differ-cog n cog other in
           announced n life saying (same n life differ at) (set-else old.sayings cog n next saying differ sayings) asked is)
     ]
+
+-- the last turn of the log is the newest of the past
+pub newest-past : (log before : List Turn) (newest turn : Turn) (past : List Turn) → log ≡ before ++ newest ∷ [] → reverse log ≡ turn ∷ past → newest ≡ turn
+newest-past log before newest turn past is past_is =
+    let same : newest ∷ reverse before ≡ turn ∷ past = sym (reverse-push before newest) ∙ sym (ap reverse is) ∙ past_is in
+    cc
+
+pub same-turn : (a b : Turn) (past : List Turn) → a ∷ past ≡ b ∷ past → a ≡ b
+same-turn a b past e = cc
+
+pub some-past : (log : List Turn) (turn : Turn) (past : List Turn) → reverse log ≡ turn ∷ past → 0 < length log
+some-past log turn past is =
+    let many : length log ≡ suc (length past) = sym (length-reverse log) ∙ ap length is in
+    omega arith
+
+pub made-past : (old new : Ledger) (turn : Turn) (running : Bool) → HasMade old new turn running → reverse new.turns.list ≡ turn ∷ reverse old.turns.list
+made-past old new turn running made = ap reverse made.log ∙ reverse-push old.turns.list turn
+
+-- the turn that was made is the last of the log
+pub newest-made : (old new : Ledger) (turn newest : Turn) (running : Bool) (before : List Turn) → HasMade old new turn running → new.turns.list ≡ before ++ newest ∷ [] → HasMade old new newest running
+newest-made old new turn newest running before made is =
+    subst (λ (t : Turn). HasMade old new t running) (sym (newest-past new.turns.list before newest turn (reverse old.turns.list) is (made-past old new turn running made))) made
+
+pub newest-comes : (w : World) (r : Record) (ledger : Ledger) (lives : List CogLife) (turn newest : Turn) (running : Bool) (before : List Turn) → ledger.turns.list ≡ before ++ newest ∷ [] → Comes w r ledger lives turn running → Comes w r ledger lives newest running
+newest-comes w r ledger lives turn newest running before is comes =
+    subst (λ (t : Turn). Comes w r ledger lives t running) (sym (newest-past ledger.turns.list before newest turn (turns r) is comes.found.log)) comes
 
 -- a turn that was made is one that its cog's life has announced
 pub is-announced : (old new : Ledger) (turn : Turn) (running : Bool) (lives : List CogLife) → HasMade old new turn running → AreAnnounced old.sayings lives → (life : CogLife) → running ≡ true → slice_get lives turn.key.cog ≡ Some life → IsAnnounced (announced_in life) turn

@@ -1,5 +1,5 @@
 -- Lives in a row, each of the cog of its place.
-use Rattle.std.proofs.Common.{◌≡◌, ◌∙◌, ap, sym, subst, inl, inr, ℕ, zero, suc, ◌+◌, List, [], ◌∷◌, ◌++◌, Option, Some, None, slice_get, length, arith}
+use Rattle.std.proofs.Common.{◌≡◌, ◌∙◌, ap, sym, subst, inl, inr, ℕ, zero, suc, ◌+◌, List, [], ◌∷◌, ◌++◌, Some, None, slice_get, length, arith}
 use Rattle.std.proofs.Math.ListN.{set}
 use Rattle.p8_access.proofs.Changes.{decided, same-cog, differ-cog}
 use Rattle.p8_lives.specs.declared.cog_life.CogLife.{CogLife}

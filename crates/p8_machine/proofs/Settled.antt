@@ -1,5 +1,5 @@
 -- The lives after the turn that comes next.
-use Rattle.std.proofs.Common.{◌≡◌, ◌∙◌, ap, sym, subst, refl, ℕ, ◌+◌, ◌<◌, ◌==◌, Bool, true, false, List, [], ◌∷◌, Some, slice_get, inl, inr, arith}
+use Rattle.std.proofs.Common.{◌≡◌, ◌∙◌, sym, subst, refl, ℕ, ◌+◌, ◌<◌, Bool, true, false, List, [], ◌∷◌, Some, slice_get, inl, inr, arith}
 use Rattle.p8_access.specs.declared.kinds.Origin.{Origin}
 use Rattle.p8_access.specs.declared.kinds.Origin.TheVariants.{Pasm, Spin}
 use Rattle.p8_access.specs.declared.lives.Next.{Next}

@@ -1,8 +1,8 @@
 -- How a machine's ledger and its lives stand for a record.
-use Rattle.std.specs.Prelude.{ℕ, ◌≡◌, Bool, List, ◌∷◌, Option, Some, None, slice_get}
+use Rattle.std.specs.Prelude.{ℕ, ◌≡◌, Bool, true, false, List, ◌∷◌, Option, Some, None, slice_get}
 use Rattle.p8_access.specs.declared.order.Turn.{Turn}
 use Rattle.p8_access.specs.declared.lives.Next.{Next}
-use Rattle.p8_access.specs.Lives.{Begun, IsMade}
+use Rattle.p8_access.specs.Lives.{Begun}
 use Rattle.p8_access.specs.Proper.{IsProperOrigin}
 use Rattle.p8_access.specs.Worlds.{World}
 use Rattle.p8_access.specs.Hub.{cog_state, origin_of}
@@ -43,3 +43,8 @@ pub record Comes (w : World) (r : Record) (ledger : Ledger) (lives : List CogLif
 abbrev pub past_with : List Turn → Option Turn → List Turn
 past_with past None = past
 past_with past (Some turn) = turn ∷ past
+
+-- whether a past has gone on by one turn
+abbrev pub HasAdvanced : Bool → (old new : List Turn) → Type 0
+HasAdvanced true old new = (turn : Turn) × (new ≡ turn ∷ old)
+HasAdvanced false old new = new ≡ old

@@ -1,17 +1,16 @@
 // The machine's one step, and a whole run.
-ghost use Rattle.std.specs.Prelude.{◌≡◌, ◌<◌, ◌≤◌, ◌^◌, ◌∷◌, ◌++◌, [], ℕ, List, true, Some, IsNone, ◌↔◌, length, reverse, slice_get, IfOk, IfSome};
+ghost use Rattle.std.specs.Prelude.{◌≡◌, ◌<◌, ◌≤◌, ◌∷◌, ◌++◌, [], List, true, false, IsNone, ◌↔◌, length, reverse, IfOk, IfSome};
 ghost use Rattle.p8_access.specs.declared.order.Turn.{Turn};
-ghost use Rattle.p8_access.specs.Lives.{IsAnnounced, IsMade};
-ghost use Rattle.p8_access.specs.Proper.{IsProperOrigin, Fits};
+ghost use Rattle.p8_access.specs.Proper.{IsProperOrigin};
 ghost use Rattle.p8_access.specs.Worlds.{World};
 ghost use Rattle.p8_access.specs.Histories.{Extends, IsOver, Ended as HasEnded, Rises, Legal};
 ghost use Rattle.p8_hub.specs.Standing.{IsHub};
-ghost use Rattle.p8_lives.specs.declared.cog_life.CogLife.{CogLife};
 ghost use Rattle.p8_lives.specs.Lives.{asks};
+ghost use Rattle.p8_ledger.specs.Advances.{HasMade};
 ghost use Rattle.p8_ledger.specs.Records.{Record};
 ghost use Rattle.p8_ledger.specs.Worlds.{world_of};
-ghost use Rattle.p8_machine.specs.Places.{announced_in, AreAnnounced};
-ghost use Rattle.p8_machine.specs.Standing.{Stands, Comes, past_with};
+ghost use Rattle.p8_machine.specs.Places.{AreAnnounced};
+ghost use Rattle.p8_machine.specs.Standing.{Stands, Comes, past_with, HasAdvanced};
 
 use crate::seats::Seats;
 use p8_access::{Boot, CogState, Turn};
@@ -61,19 +60,16 @@ impl Machine {
         })
     }
 
-    /// The life of a turn's cog takes it, or begins with it, where that cog runs after the turn. What the life tells
-    /// of its next access the cog says at once.
-    #[inline]
-    fn settle(&mut self, turn: &Turn, running: bool)
-        requires cog { turn.now.key.cog < 8 }
-        requires clock { turn.now.key.clock < 2 ^ 61 }
-        requires fits { Fits turn.now.access turn.now.answer }
-        requires made { running ≡ true → IsMade turn.now.access }
-        requires announced { (life : CogLife) → running ≡ true → slice_get self.old.seats.lives.items turn.now.key.cog ≡ Some life → IsAnnounced (announced_in life) turn.now }
-        ensures stands { (r : Record) → Comes (world_in self.old) r self.old.ledger self.old.seats.lives.items turn.now running → IsStanding self.new }
+    /// The life of the last turn's cog takes that turn where it stands in the log, or begins with it, where that cog
+    /// runs after the turn. What the life tells of its next access the cog says at once.
+    #[inline(always)]
+    fn settle(&mut self, running: bool)
+        requires { (old : Ledger) × (turn : Turn) × HasMade old self.old.ledger turn running × AreAnnounced old.sayings self.old.seats.lives.items }
+        ensures stands { (turn : Turn) (r : Record) → Comes (world_in self.old) r self.old.ledger self.old.seats.lives.items turn running → IsStanding self.new }
         ensures past { past_in self.new ≡ past_in self.old }
         ensures world { world_in self.new ≡ world_in self.old }
     {
+        let turn = self.ledger.newest();
         let cog = turn.key.cog;
         if let CogState::Running { origin } = self.ledger.state(cog) {
             let until = self.ledger.limit();
@@ -84,8 +80,28 @@ impl Machine {
         }
     }
 
+    /// Makes the turn with the least key; false exactly where the history has ended.
+    ///
+    /// Not inlined, since two call it: so all that a turn calls has one caller, and is inlined here.
+    #[inline(never)]
+    fn advance(&mut self) -> bool
+        ensures extends { IsStanding self.old → result ≡ true → (turn : Turn) → past_in self.new ≡ turn ∷ past_in self.old → Extends asks (world_in self.old) (past_in self.old) turn }
+        ensures over { IsStanding self.old → (result ≡ false) ↔ IsOver asks (world_in self.old) (past_in self.old) }
+        ensures room { result ≡ true → length (past_in self.old) < (world_in self.old).turns }
+        ensures past { HasAdvanced result (past_in self.old) (past_in self.new) }
+        ensures world { world_in self.new ≡ world_in self.old }
+        ensures stands { IsStanding self.old → IsStanding self.new }
+    {
+        match self.ledger.take_first(&self.script) {
+            First::Done { running, .. } => {
+                self.settle(running);
+                true
+            }
+            First::Ahead { .. } | First::Over => false,
+        }
+    }
+
     /// Makes the turn with the least key, or None exactly where the history has ended.
-    #[inline(always)]
     pub fn step(&mut self) -> Option<Turn>
         ensures extends { IsStanding self.old → IfSome result (Extends asks (world_in self.old) (past_in self.old)) }
         ensures over { IsStanding self.old → IsNone result ↔ IsOver asks (world_in self.old) (past_in self.old) }
@@ -94,12 +110,10 @@ impl Machine {
         ensures world { world_in self.new ≡ world_in self.old }
         ensures stands { IsStanding self.old → IsStanding self.new }
     {
-        match self.ledger.take_first(&self.script) {
-            First::Done { turn, running } => {
-                self.settle(&turn, running);
-                Some(turn)
-            }
-            First::Ahead { .. } | First::Over => None,
+        if self.advance() {
+            Some(*self.ledger.newest())
+        } else {
+            None
         }
     }
 
@@ -125,12 +139,7 @@ impl Machine {
         ensures stands { IsStanding self.old → IsStanding self.new }
         ensures world { world_in self.new ≡ world_in self.old }
     {
-        'steps: loop {
-            match self.step() {
-                None => return,
-                Some(_) => {}
-            }
-        }
+        'steps: while self.advance() {}
     }
 }
 

@@ -68,9 +68,9 @@ fn next_of<L: Life>(life: &mut L, until: u64) -> Next
     ensures cog { L.cog life.new ≡ L.cog life.old }
 {
     'asks: loop {
-        match life.run_to_access(until, u32::MAX) {
-            Next::At { clock, access } => return Next::At { clock, access },
-            Next::Quiet => return Next::Quiet,
+        let next = life.run_to_access(until, u32::MAX);
+        match next {
+            Next::At { .. } | Next::Quiet => return next,
             Next::More { .. } => {}
         }
     }
@@ -108,7 +108,7 @@ impl Seats {
     }
 
     /// The life of the turn's cog takes it, and tells its next access below the clock `until`.
-    #[inline]
+    #[inline(always)]
     fn take(&mut self, turn: &Turn, until: u64) -> Next
         requires cog { turn.now.key.cog < 8 }
         requires next { (life : CogLife) → slice_get self.old.lives.items turn.now.key.cog ≡ Some life → IsAnnounced (announced_in life) turn.now }
@@ -128,7 +128,7 @@ impl Seats {
     /// The life of the turn's cog, which runs after it, takes the turn; or where the cog was starting a life begins
     /// with it and this origin. It tells its next access below the clock `until`. The code of Spin stands in `memory`,
     /// the boot's.
-    #[inline]
+    #[inline(always)]
     pub fn settle(
         &mut self,
         memory: &Ram,

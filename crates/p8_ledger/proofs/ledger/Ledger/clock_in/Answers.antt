@@ -1,6 +1,6 @@
-use Rattle.std.proofs.Common.{◌∙◌, ◌≡◌, ap, subst, ◌^◌, ◌≤◌, List, arith}
-use Rattle.p8_access.specs.Worlds.{World, Line}
-use Rattle.p8_ledger.specs.Waiting.{newest_key, IsSpanFrom}
+use Rattle.std.proofs.Common.{◌∙◌, ◌≡◌, ap, ◌^◌, ◌≤◌, arith}
+use Rattle.p8_access.specs.Worlds.{World}
+use Rattle.p8_ledger.specs.Waiting.{newest_key}
 use Rattle.p8_ledger.specs.Records.{turns}
 use Rattle.p8_ledger.proofs.Choosing.{clock-plain, clock-silent, clock-woken}
 use Rattle.p8_ledger.proofs.ledger.Ledger.clock_in.Goals as goal

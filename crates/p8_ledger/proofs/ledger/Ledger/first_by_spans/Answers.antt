@@ -2,7 +2,6 @@ use Rattle.std.proofs.Common.{ap, subst, ℕ, List}
 use Rattle.p8_access.specs.Worlds.{World, Line}
 use Rattle.p8_ledger.specs.Waiting.{IsDecided, IsSpanFrom}
 use Rattle.p8_ledger.proofs.Choosing.{first-decided}
-use Rattle.p8_ledger.specs.Records.{turns}
 use Rattle.p8_ledger.proofs.ledger.Ledger.first_by_spans.Goals as goal
 
 pub returns-in-None-clause-first : goal.returns-in-None-clause-first

@@ -3,7 +3,6 @@ use Rattle.std.proofs.lemmas.List.{length-set}
 use Rattle.p8_ledger.specs.Coming.{IsClockIn}
 use Rattle.p8_ledger.proofs.Firsts.{one-more}
 use Rattle.p8_ledger.proofs.Choosing.{first-in}
-use Rattle.p8_ledger.specs.Records.{turns}
 use Rattle.p8_ledger.proofs.ledger.Ledger.first_in.Goals as goal
 
 pub loop-cog-preserved : goal.loop-cog-preserved

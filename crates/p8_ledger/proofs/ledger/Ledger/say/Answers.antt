@@ -1,4 +1,4 @@
-use Rattle.std.proofs.Common.{◌≡◌, ap, sym, refl, ℕ, ◌∷◌}
+use Rattle.std.proofs.Common.{◌≡◌, ap, sym, refl, ◌∷◌}
 use Rattle.std.proofs.Math.ListN.{set}
 use Rattle.p8_access.specs.Worlds.{World}
 use Rattle.p8_access.specs.Hub.{cog_state}

@@ -1,7 +1,7 @@
-use Rattle.std.proofs.Common.{◌≡◌, ◌∙◌, ap, sym, subst, refl, List, reverse, inl, inr}
+use Rattle.std.proofs.Common.{◌≡◌, ◌∙◌, ap, sym, subst, refl, true, false, List, ◌∷◌, reverse, inl, inr}
 use Rattle.p8_access.specs.declared.order.Turn.{Turn}
 use Rattle.p8_access.specs.Worlds.{World}
-use Rattle.p8_access.specs.Histories.{IsOver}
+use Rattle.p8_access.specs.Histories.{Extends, IsOver}
 use Rattle.p8_lives.specs.Lives.{asks}
 use Rattle.p8_ledger.specs.declared.ledger.Ledger.{Ledger}
 use Rattle.p8_ledger.specs.declared.ledger.First.{First}
@@ -12,17 +12,25 @@ use Rattle.p8_ledger.specs.Worlds.{world_of}
 use Rattle.p8_ledger.proofs.Telling.{none-over}
 use Rattle.p8_machine.specs.Machines.{world_in, past_in, IsStanding}
 use Rattle.p8_machine.specs.Standing.{Stands, Comes}
-use Rattle.p8_machine.proofs.Announced.{kept-announced, is-announced, no-promise}
-use Rattle.p8_machine.proofs.run.Machine.step.Goals as goal
+use Rattle.p8_machine.proofs.Announced.{kept-announced, no-promise, made-past, same-turn}
+use Rattle.p8_machine.proofs.run.Machine.advance.Goals as goal
 
 pub invariant_of-self : goal.invariant_of-self
 invariant_of-self c = record {
   announced = kept-announced c.args.self.now.ledger c.take_first.new.self c.take_first.result c.args.self.now.seats.lives.items c.take_first.ensures.advances c.args.self.now.announced;
 }
 
-pub settle-requires-clause-announced : goal.settle-requires-clause-announced
-settle-requires-clause-announced c =
-    is-announced c.args.self.now.ledger c.take_first.new.self c.in-Done.turn c.in-Done.running c.args.self.now.seats.lives.items c.in-Done.ensures.advances c.args.self.now.announced
+pub settle-requires : goal.settle-requires
+settle-requires c = (c.args.self.now.ledger, c.in-Done.turn, c.in-Done.ensures.advances, c.args.self.now.announced)
+
+pub returns-in-Done-clause-extends : goal.returns-in-Done-clause-extends
+returns-in-Done-clause-extends c = λ stands goes_on turn past.
+    let w : World = world_in c.args.self.now in
+    let made = made-past c.args.self.now.ledger c.take_first.new.self c.in-Done.turn c.in-Done.running c.in-Done.ensures.advances in
+    let log : past_in c.settle.new.self ≡ c.in-Done.turn ∷ past_in c.args.self.now = c.settle.ensures.past ∙ made in
+    let same = same-turn turn c.in-Done.turn (past_in c.args.self.now) (sym past ∙ log) in
+    subst (λ (t : Turn). Extends asks w (past_in c.args.self.now) t) (sym same)
+    (subst (λ (l : List Turn). Extends asks w l c.in-Done.turn) (sym stands.1.found.log) (c.in-Done.ensures.decides w stands.0 refl stands.1.found).0)
 
 pub returns-in-Done-clause-stands : goal.returns-in-Done-clause-stands
 returns-in-Done-clause-stands c = λ stands.
@@ -37,7 +45,7 @@ returns-in-Done-clause-stands c = λ stands.
       origins = stands.1.found.origins;
     } in
     let world : world_of c.take_first.new.self.boot c.args.self.now.script c.take_first.new.self.limits ≡ w = λ i. world_of (made.boot i) c.args.self.now.script (made.limits i) in
-    c.settle.ensures.stands stands.0 (subst (λ (v : World). Comes v stands.0 c.take_first.new.self c.args.self.now.seats.lives.items c.in-Done.turn c.in-Done.running) (sym world) comes)
+    c.settle.ensures.stands c.in-Done.turn stands.0 (subst (λ (v : World). Comes v stands.0 c.take_first.new.self c.args.self.now.seats.lives.items c.in-Done.turn c.in-Done.running) (sym world) comes)
 
 -- where no turn is made the ledger stays as it was, and the history is over
 same : (c : goal.In-Ahead) → c.take_first.new.self ≡ c.args.self.now.ledger
@@ -63,9 +71,9 @@ over c stands =
 
 pub returns-in-Ahead : goal.returns-in-Ahead
 returns-in-Ahead c = record {
-  extends = λ stands. tt;
+  extends = λ stands goes_on. absurd (let e : false ≡ true = goes_on in cc);
   over = λ stands. (λ none. over c stands, λ is. refl);
-  room = tt;
+  room = λ goes_on. absurd (let e : false ≡ true = goes_on in cc);
   past = ap (λ (ledger : Ledger). reverse ledger.turns.list) (same c);
   world = ap (λ (ledger : Ledger). world_of ledger.boot c.args.self.now.script ledger.limits) (same c);
   stands = λ stands.
