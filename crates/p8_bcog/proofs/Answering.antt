@@ -20,7 +20,7 @@ use Rattle.p8_bcog.specs.declared.state.State.{State}
 use Rattle.p8_bcog.specs.Accesses.{word_in, ends, write_of}
 use Rattle.p8_bcog.specs.Laters.{asking-is, later_on, comes}
 use Rattle.p8_bcog.specs.Replay.{enters_at, entry_of, engine_of, first_of, lived}
-use Rattle.p8_bcog.specs.Standing.{standing, come_to, is_under, StandsIn, StandsFor}
+use Rattle.p8_bcog.specs.Standing.{standing, come_to, is_under, is_amid, StandsIn, StandsFor}
 use Rattle.p8_bcog.specs.Stops.{stage_of, done_by, Announces}
 use Rattle.p8_bcog.proofs.OneMore.{none_done, stage_plays, never_entering, never_over}
 
@@ -83,7 +83,7 @@ ended-behind cog (first ∷ ts) turn is =
 
 -- ---- what stands for a turn more
 
-over-in : (memory : List ℕ) (done cog : ℕ) (now : Stage) (s new : State) (clock later : ℕ) (e : Entered) (ts : List Turn) (turn : Turn) → StandsIn memory done cog now s clock e ts → come_to now done ≡ done + 1 → ((rest : List Turn) → standing cog now s clock (turn ∷ rest) ≡ Ends) → is_last cog turn.access ≡ true → StandsIn memory (done + 1) cog Over new later e (ts ++ turn ∷ [])
+over-in : {counter : ℕ} (memory : List ℕ) (done cog : ℕ) (now : Stage) (s new : State) (clock later : ℕ) (e : Entered) (ts : List Turn) (turn : Turn) → StandsIn counter memory done cog now s clock e ts → come_to now done ≡ done + 1 → ((rest : List Turn) → standing cog now s clock (turn ∷ rest) ≡ Ends) → is_last cog turn.access ≡ true → StandsIn counter memory (done + 1) cog Over new later e (ts ++ turn ∷ [])
 over-in memory done cog now s new clock later e ts turn stands count over last = record {
   own = stands.own;
   code = stands.code;
@@ -97,23 +97,23 @@ over-in memory done cog now s new clock later e ts turn stands count over last =
 }
 
 -- with the turn of a last access it is over
-pub asked_over : (memory : List ℕ) (done cog : ℕ) (now : Stage) (s new : State) (clock later_clock : ℕ) (access : Access) (later : Later) (turn : Turn) → now ≡ Asked access later → is_last cog access ≡ true → turn.access ≡ access → (b : Begun) (ts : List Turn) → StandsFor memory done cog now s clock b ts → StandsFor memory (done + 1) cog Over new later_clock b (ts ++ turn ∷ [])
-asked_over memory done cog now s new clock later_clock access later turn is last what (SpinBegun e) ts stands =
+pub asked_over : (counter : ℕ) (memory : List ℕ) (done cog : ℕ) (now : Stage) (s new : State) (clock later_clock : ℕ) (access : Access) (later : Later) (turn : Turn) → now ≡ Asked access later → is_last cog access ≡ true → turn.access ≡ access → (b : Begun) (ts : List Turn) → StandsFor counter memory done cog now s clock b ts → StandsFor counter memory (done + 1) cog Over new later_clock b (ts ++ turn ∷ [])
+asked_over counter memory done cog now s new clock later_clock access later turn is last what (SpinBegun e) ts stands =
     over-in memory done cog now s new clock later_clock e ts turn stands
     (ap (λ (st : Stage). come_to st done) is)
     (λ rest. ap (λ (st : Stage). standing cog st s clock (turn ∷ rest)) is
     ∙ ap (λ (c : Course State). played cog clock c (turn ∷ rest)) (asking-is access later s)
     ∙ ap (λ (b : Bool). if b then Ends else played cog (behind clock access turn.key.clock) (later_on later s (word_in turn.answer)) rest) last)
     (ap (is_last cog) what ∙ last)
-asked_over memory done cog now s new clock later_clock access later turn is last what (PasmBegun loaded) ts stands = absurd stands
+asked_over counter memory done cog now s new clock later_clock access later turn is last what (PasmBegun loaded) ts stands = absurd stands
 
-pub halted_over : (memory : List ℕ) (done cog : ℕ) (now : Stage) (s new : State) (clock later_clock : ℕ) (reason : Reason) (turn : Turn) → now ≡ Halted reason → turn.access ≡ Halt reason → (b : Begun) (ts : List Turn) → StandsFor memory done cog now s clock b ts → StandsFor memory (done + 1) cog Over new later_clock b (ts ++ turn ∷ [])
-halted_over memory done cog now s new clock later_clock reason turn is what (SpinBegun e) ts stands =
+pub halted_over : (counter : ℕ) (memory : List ℕ) (done cog : ℕ) (now : Stage) (s new : State) (clock later_clock : ℕ) (reason : Reason) (turn : Turn) → now ≡ Halted reason → turn.access ≡ Halt reason → (b : Begun) (ts : List Turn) → StandsFor counter memory done cog now s clock b ts → StandsFor counter memory (done + 1) cog Over new later_clock b (ts ++ turn ∷ [])
+halted_over counter memory done cog now s new clock later_clock reason turn is what (SpinBegun e) ts stands =
     over-in memory done cog now s new clock later_clock e ts turn stands
     (ap (λ (st : Stage). come_to st done) is)
     (λ rest. ap (λ (st : Stage). standing cog st s clock (turn ∷ rest)) is)
     (ap (is_last cog) what)
-halted_over memory done cog now s new clock later_clock reason turn is what (PasmBegun loaded) ts stands = absurd stands
+halted_over counter memory done cog now s new clock later_clock reason turn is what (PasmBegun loaded) ts stands = absurd stands
 
 -- ---- a turn that isn't the last
 
@@ -122,7 +122,7 @@ counted-in done (Ok Done) = refl
 counted-in done (Ok (Asking access later)) = omega arith
 counted-in done (Err reason) = omega arith
 
-goes-in : (memory : List ℕ) (done cog : ℕ) (now : Stage) (s new : State) (clock : ℕ) (access : Access) (later : Later) (r : Result Step Reason) (e : Entered) (ts : List Turn) (turn : Turn) → now ≡ Asked access later → StandsIn memory done cog now s clock e ts → is_last cog access ≡ false → comes r new ≡ later_on later s (word_in turn.answer) → (rest : List Turn) → lived (done + 1) e ((ts ++ turn ∷ []) ++ rest) ≡ standing cog (stage_of r) new (behind clock access turn.key.clock) rest
+goes-in : {counter : ℕ} (memory : List ℕ) (done cog : ℕ) (now : Stage) (s new : State) (clock : ℕ) (access : Access) (later : Later) (r : Result Step Reason) (e : Entered) (ts : List Turn) (turn : Turn) → now ≡ Asked access later → StandsIn counter memory done cog now s clock e ts → is_last cog access ≡ false → comes r new ≡ later_on later s (word_in turn.answer) → (rest : List Turn) → lived (done + 1) e ((ts ++ turn ∷ []) ++ rest) ≡ standing cog (stage_of r) new (behind clock access turn.key.clock) rest
 goes-in memory done cog now s new clock access later r e ts turn is stands last does rest =
     ap (λ (st : Stage). lived (come_to st done) e ((ts ++ turn ∷ []) ++ rest)) (sym is)
     ∙ ap (λ (xs : List Turn). lived (come_to now done) e xs) (append_assoc ts (turn ∷ []) rest)
@@ -133,19 +133,19 @@ goes-in memory done cog now s new clock access later r e ts turn is stands last 
     ∙ ap (λ (c : Course State). played cog (behind clock access turn.key.clock) c rest) (sym does)
     ∙ stage_plays cog (behind clock access turn.key.clock) r new rest
 
-began-in : (memory : List ℕ) (done cog : ℕ) (now : Stage) (s new : State) (clock p : ℕ) (access : Access) (later : Later) (r : Result Step Reason) (e : Entered) (ts : List Turn) (turn : Turn) → now ≡ Asked access later → StandsIn memory done cog now s clock e ts → ((rest : List Turn) → lived (done + 1) e ((ts ++ turn ∷ []) ++ rest) ≡ standing cog (stage_of r) new p rest) → (t : State) × (begin : ℕ) × (left : List Turn) × (lived (done + done_by (stage_of r)) e (ts ++ turn ∷ []) ≡ Goes t begin left)
+began-in : {counter : ℕ} (memory : List ℕ) (done cog : ℕ) (now : Stage) (s new : State) (clock p : ℕ) (access : Access) (later : Later) (r : Result Step Reason) (e : Entered) (ts : List Turn) (turn : Turn) → now ≡ Asked access later → StandsIn counter memory done cog now s clock e ts → ((rest : List Turn) → lived (done + 1) e ((ts ++ turn ∷ []) ++ rest) ≡ standing cog (stage_of r) new p rest) → (t : State) × (begin : ℕ) × (left : List Turn) × (lived (done + done_by (stage_of r)) e (ts ++ turn ∷ []) ≡ Goes t begin left) × (is_amid (stage_of r) ≡ true → t.at ≡ counter)
 began-in memory done cog now s new clock p access later (Ok Done) e ts turn is stands goes =
-    (new, p, [], ap (λ (xs : List Turn). lived (done + 1) e xs) (sym (append-nil (ts ++ turn ∷ []))) ∙ goes [])
+    (new, p, [], ap (λ (xs : List Turn). lived (done + 1) e xs) (sym (append-nil (ts ++ turn ∷ []))) ∙ goes [], λ amid. absurd (let x : false ≡ true = amid in cc))
 began-in memory done cog now s new clock p access later (Ok (Asking a l)) e ts turn is stands goes =
     let had = stands.began (ap is_under is) in
     let none : done + 0 ≡ done = omega arith in
-    (had.0, had.1, had.2 ++ turn ∷ [], ap (λ (k : ℕ). lived k e (ts ++ turn ∷ [])) none ∙ turn-kept (engine_of e.memory e.cog) (e.begin + 8192) (entry_of e) done ts turn had.0 had.1 had.2 had.3)
+    (had.0, had.1, had.2 ++ turn ∷ [], ap (λ (k : ℕ). lived k e (ts ++ turn ∷ [])) none ∙ turn-kept (engine_of e.memory e.cog) (e.begin + 8192) (entry_of e) done ts turn had.0 had.1 had.2 had.3, λ amid. had.4 (ap is_amid is))
 began-in memory done cog now s new clock p access later (Err reason) e ts turn is stands goes =
     let had = stands.began (ap is_under is) in
     let none : done + 0 ≡ done = omega arith in
-    (had.0, had.1, had.2 ++ turn ∷ [], ap (λ (k : ℕ). lived k e (ts ++ turn ∷ [])) none ∙ turn-kept (engine_of e.memory e.cog) (e.begin + 8192) (entry_of e) done ts turn had.0 had.1 had.2 had.3)
+    (had.0, had.1, had.2 ++ turn ∷ [], ap (λ (k : ℕ). lived k e (ts ++ turn ∷ [])) none ∙ turn-kept (engine_of e.memory e.cog) (e.begin + 8192) (entry_of e) done ts turn had.0 had.1 had.2 had.3, λ amid. had.4 (ap is_amid is))
 
-taken-in : (memory : List ℕ) (done cog : ℕ) (now : Stage) (s new : State) (clock : ℕ) (access : Access) (later : Later) (r : Result Step Reason) (e : Entered) (ts : List Turn) (turn : Turn) → now ≡ Asked access later → StandsIn memory done cog now s clock e ts → is_last cog access ≡ false → comes r new ≡ later_on later s (word_in turn.answer) → StandsIn memory (done + done_by (stage_of r)) cog (stage_of r) new (behind clock access turn.key.clock) e (ts ++ turn ∷ [])
+taken-in : {counter : ℕ} (memory : List ℕ) (done cog : ℕ) (now : Stage) (s new : State) (clock : ℕ) (access : Access) (later : Later) (r : Result Step Reason) (e : Entered) (ts : List Turn) (turn : Turn) → now ≡ Asked access later → StandsIn counter memory done cog now s clock e ts → is_last cog access ≡ false → comes r new ≡ later_on later s (word_in turn.answer) → StandsIn counter memory (done + done_by (stage_of r)) cog (stage_of r) new (behind clock access turn.key.clock) e (ts ++ turn ∷ [])
 taken-in memory done cog now s new clock access later r e ts turn is stands last does = record {
   own = stands.own;
   code = stands.code;
@@ -158,13 +158,13 @@ taken-in memory done cog now s new clock access later r e ts turn is stands last
 }
 
 -- with any other turn the bytecode goes on; the new stage and clock are known by equations
-pub asked_stands : (memory : List ℕ) (done more cog : ℕ) (now stage : Stage) (s new : State) (clock p word : ℕ) (access : Access) (later : Later) (r : Result Step Reason) (turn : Turn) → now ≡ Asked access later → is_last cog access ≡ false → stage ≡ stage_of r → more ≡ done_by stage → p ≡ behind clock access turn.key.clock → word ≡ word_in turn.answer → comes r new ≡ later_on later s word → (b : Begun) (ts : List Turn) → StandsFor memory done cog now s clock b ts → StandsFor memory (done + more) cog stage new p b (ts ++ turn ∷ [])
-asked_stands memory done more cog now stage s new clock p word access later r turn is last staged counted at read does (SpinBegun e) ts stands =
+pub asked_stands : (counter : ℕ) (memory : List ℕ) (done more cog : ℕ) (now stage : Stage) (s new : State) (clock p word : ℕ) (access : Access) (later : Later) (r : Result Step Reason) (turn : Turn) → now ≡ Asked access later → is_last cog access ≡ false → stage ≡ stage_of r → more ≡ done_by stage → p ≡ behind clock access turn.key.clock → word ≡ word_in turn.answer → comes r new ≡ later_on later s word → (b : Begun) (ts : List Turn) → StandsFor counter memory done cog now s clock b ts → StandsFor counter memory (done + more) cog stage new p b (ts ++ turn ∷ [])
+asked_stands counter memory done more cog now stage s new clock p word access later r turn is last staged counted at read does (SpinBegun e) ts stands =
     let core = taken-in memory done cog now s new clock access later r e ts turn is stands last (does ∙ ap (later_on later s) read) in
-    subst (λ (k : ℕ). StandsIn memory (done + k) cog stage new p e (ts ++ turn ∷ [])) (sym counted)
-    (subst (λ (q : ℕ). StandsIn memory (done + done_by stage) cog stage new q e (ts ++ turn ∷ [])) (sym at)
-    (subst (λ (st : Stage). StandsIn memory (done + done_by st) cog st new (behind clock access turn.key.clock) e (ts ++ turn ∷ [])) (sym staged) core))
-asked_stands memory done more cog now stage s new clock p word access later r turn is last staged counted at read does (PasmBegun loaded) ts stands = absurd stands
+    subst (λ (k : ℕ). StandsIn counter memory (done + k) cog stage new p e (ts ++ turn ∷ [])) (sym counted)
+    (subst (λ (q : ℕ). StandsIn counter memory (done + done_by stage) cog stage new q e (ts ++ turn ∷ [])) (sym at)
+    (subst (λ (st : Stage). StandsIn counter memory (done + done_by st) cog st new (behind clock access turn.key.clock) e (ts ++ turn ∷ [])) (sym staged) core))
+asked_stands counter memory done more cog now stage s new clock p word access later r turn is last staged counted at read does (PasmBegun loaded) ts stands = absurd stands
 
 -- ---- the entry
 
@@ -172,8 +172,8 @@ entering-goes : (cog : ℕ) (s : State) (clock : ℕ) (turn : Turn) (rest : List
 unfolding ends
 entering-goes cog s clock turn rest = refl
 
-pub entering_stands : (memory : List ℕ) (done cog : ℕ) (now : Stage) (s : State) (clock : ℕ) (turn : Turn) → now ≡ Entering → (b : Begun) (ts : List Turn) → StandsFor memory done cog now s clock b ts → StandsFor memory done cog Ready s (turn.key.clock + 7) b (ts ++ turn ∷ [])
-entering_stands memory done cog now s clock turn is (SpinBegun e) ts stands =
+pub entering_stands : (counter : ℕ) (memory : List ℕ) (done cog : ℕ) (now : Stage) (s : State) (clock : ℕ) (turn : Turn) → now ≡ Entering → (b : Begun) (ts : List Turn) → StandsFor counter memory done cog now s clock b ts → StandsFor counter memory done cog Ready s (turn.key.clock + 7) b (ts ++ turn ∷ [])
+entering_stands counter memory done cog now s clock turn is (SpinBegun e) ts stands =
     let goes : (rest : List Turn) → lived done e ((ts ++ turn ∷ []) ++ rest) ≡ Goes s (turn.key.clock + 7) rest =
     λ rest. ap (λ (st : Stage). lived (come_to st done) e ((ts ++ turn ∷ []) ++ rest)) (sym is)
     ∙ ap (λ (xs : List Turn). lived (come_to now done) e xs) (append_assoc ts (turn ∷ []) rest)
@@ -184,14 +184,14 @@ entering_stands memory done cog now s clock turn is (SpinBegun e) ts stands =
       own = stands.own;
       code = stands.code;
       goes_on = goes;
-      began = λ under. (s, turn.key.clock + 7, [], ap (λ (xs : List Turn). lived done e xs) (sym (append-nil (ts ++ turn ∷ []))) ∙ goes []);
+      began = λ under. (s, turn.key.clock + 7, [], ap (λ (xs : List Turn). lived done e xs) (sym (append-nil (ts ++ turn ∷ []))) ∙ goes [], λ amid. absurd (let x : false ≡ true = amid in cc));
       fresh = λ st. absurd (let x : Ready ≡ Entering = st in cc);
       ended = λ st. absurd (let x : Ready ≡ Over = st in cc);
     }
-entering_stands memory done cog now s clock turn is (PasmBegun loaded) ts stands = absurd stands
+entering_stands counter memory done cog now s clock turn is (PasmBegun loaded) ts stands = absurd stands
 
 -- what a start gives stands for no turns
-pub started_stands : (memory : List ℕ) (cog begin : ℕ) (origin : Origin) (s : State) → s ≡ first_of origin → StandsFor memory 0 cog Entering s (begin + 8192) (SpinBegun (record { memory = memory; origin = origin; cog = cog; begin = begin })) []
+pub started_stands : {counter : ℕ} (memory : List ℕ) (cog begin : ℕ) (origin : Origin) (s : State) → s ≡ first_of origin → StandsFor counter memory 0 cog Entering s (begin + 8192) (SpinBegun (record { memory = memory; origin = origin; cog = cog; begin = begin })) []
 started_stands memory cog begin origin s is = record {
   own = refl;
   code = refl;

@@ -53,7 +53,7 @@ lived-on e ts m n here is le =
     ∙ ap (after (engine_of e.memory e.cog) (n - m)) is
 
 -- where the replay is, with no turn more
-here-is : (memory : List ℕ) (done cog : ℕ) (stage : Stage) (s : State) (clock : ℕ) (e : Entered) (ts : List Turn) → StandsIn memory done cog stage s clock e ts → lived (come_to stage done) e ts ≡ standing cog stage s clock []
+pub here-is : {counter : ℕ} (memory : List ℕ) (done cog : ℕ) (stage : Stage) (s : State) (clock : ℕ) (e : Entered) (ts : List Turn) → StandsIn counter memory done cog stage s clock e ts → lived (come_to stage done) e ts ≡ standing cog stage s clock []
 here-is memory done cog stage s clock e ts stands =
     ap (λ (xs : List Turn). lived (come_to stage done) e xs) (sym (append-nil ts)) ∙ stands.goes_on []
 
@@ -112,37 +112,37 @@ thorough-in m done e here reached ts until (More bound) le ready is stops =
 
 -- ---- what a cog tells that stands for these turns
 
-pub stops_tells : (memory : List ℕ) (done cog : ℕ) (stage : Stage) (s : State) (clock reached until : ℕ) (next : Next) → Stops (standing cog stage s clock []) reached until next → (b : Begun) (ts : List Turn) → StandsFor memory done cog stage s clock b ts → Tells (IsAsked b ts) until next
-stops_tells memory done cog stage s clock reached until next stops (SpinBegun e) ts stands =
+pub stops_tells : (counter : ℕ) (memory : List ℕ) (done cog : ℕ) (stage : Stage) (s : State) (clock reached until : ℕ) (next : Next) → Stops (standing cog stage s clock []) reached until next → (b : Begun) (ts : List Turn) → StandsFor counter memory done cog stage s clock b ts → Tells (IsAsked b ts) until next
+stops_tells counter memory done cog stage s clock reached until next stops (SpinBegun e) ts stands =
     tells-in (come_to stage done) e _ reached ts until next (here-is memory done cog stage s clock e ts stands) stops
-stops_tells memory done cog stage s clock reached until next stops (PasmBegun loaded) ts stands = absurd stands
+stops_tells counter memory done cog stage s clock reached until next stops (PasmBegun loaded) ts stands = absurd stands
 
-pub stops_thorough : (memory : List ℕ) (done cog : ℕ) (stage : Stage) (s : State) (clock reached until : ℕ) (next : Next) → Stops (standing cog stage s clock []) reached until next → (b : Begun) (ts : List Turn) → StandsFor memory done cog stage s clock b ts → IsThorough (Begins b ts) done until next
-stops_thorough memory done cog stage s clock reached until next stops (SpinBegun e) ts stands =
+pub stops_thorough : (counter : ℕ) (memory : List ℕ) (done cog : ℕ) (stage : Stage) (s : State) (clock reached until : ℕ) (next : Next) → Stops (standing cog stage s clock []) reached until next → (b : Begun) (ts : List Turn) → StandsFor counter memory done cog stage s clock b ts → IsThorough (Begins b ts) done until next
+stops_thorough counter memory done cog stage s clock reached until next stops (SpinBegun e) ts stands =
     thorough-in (come_to stage done) done e _ reached ts until next (come_most stage done) (λ t bound goes. ready-only cog stage s t clock bound done goes) (here-is memory done cog stage s clock e ts stands) stops
-stops_thorough memory done cog stage s clock reached until next stops (PasmBegun loaded) ts stands = absurd stands
+stops_thorough counter memory done cog stage s clock reached until next stops (PasmBegun loaded) ts stands = absurd stands
 
-placed-in : (memory : List ℕ) (done cog : ℕ) (stage : Stage) (s : State) (clock : ℕ) (e : Entered) (ts : List Turn) → StandsIn memory done cog stage s clock e ts → is_under stage ≡ true → (begin : ℕ) × Begins (SpinBegun e) ts done begin
+placed-in : {counter : ℕ} (memory : List ℕ) (done cog : ℕ) (stage : Stage) (s : State) (clock : ℕ) (e : Entered) (ts : List Turn) → StandsIn counter memory done cog stage s clock e ts → is_under stage ≡ true → (begin : ℕ) × Begins (SpinBegun e) ts done begin
 placed-in memory done cog stage s clock e ts stands under =
     let began = stands.began under in
     (began.1, inl (subst (BeginsAt began.1) (sym began.3) refl))
 
 -- its place is the place in the replay
-pub placed : (memory : List ℕ) (done cog : ℕ) (stage : Stage) (s : State) (clock : ℕ) (b : Begun) (ts : List Turn) → StandsFor memory done cog stage s clock b ts → has_ended cog ts ≡ false → (begin : ℕ) × Begins b ts done begin
+pub placed : (counter : ℕ) (memory : List ℕ) (done cog : ℕ) (stage : Stage) (s : State) (clock : ℕ) (b : Begun) (ts : List Turn) → StandsFor counter memory done cog stage s clock b ts → has_ended cog ts ≡ false → (begin : ℕ) × Begins b ts done begin
 unfolding ends
-placed memory done cog Entering s clock (SpinBegun e) ts stands live =
+placed counter memory done cog Entering s clock (SpinBegun e) ts stands live =
     let none : done ≡ 0 = stands.fresh refl in
     let asks : lived 0 e ts ≡ Asks (earliest cog clock (write_of Long s.frame 0)) (write_of Long s.frame 0) = ap (λ (k : ℕ). lived k e ts) (sym none) ∙ here-is memory done cog Entering s clock e ts stands in
     (first_begin e, inr ((_, _, asks), none, refl))
-placed memory done cog Ready s clock (SpinBegun e) ts stands live = placed-in memory done cog Ready s clock e ts stands refl
-placed memory done cog (Asked access later) s clock (SpinBegun e) ts stands live = placed-in memory done cog (Asked access later) s clock e ts stands refl
-placed memory done cog (Halted reason) s clock (SpinBegun e) ts stands live = placed-in memory done cog (Halted reason) s clock e ts stands refl
-placed memory done cog Over s clock (SpinBegun e) ts stands live = absurd (let x : true ≡ false = sym (stands.ended refl) ∙ live in cc)
-placed memory done cog stage s clock (PasmBegun loaded) ts stands live = absurd stands
+placed counter memory done cog Ready s clock (SpinBegun e) ts stands live = placed-in memory done cog Ready s clock e ts stands refl
+placed counter memory done cog (Asked access later) s clock (SpinBegun e) ts stands live = placed-in memory done cog (Asked access later) s clock e ts stands refl
+placed counter memory done cog (Halted reason) s clock (SpinBegun e) ts stands live = placed-in memory done cog (Halted reason) s clock e ts stands refl
+placed counter memory done cog Over s clock (SpinBegun e) ts stands live = absurd (let x : true ≡ false = sym (stands.ended refl) ∙ live in cc)
+placed counter memory done cog stage s clock (PasmBegun loaded) ts stands live = absurd stands
 
-pub over_ended : (memory : List ℕ) (done cog : ℕ) (stage : Stage) (s : State) (clock : ℕ) → stage ≡ Over → (b : Begun) (ts : List Turn) → StandsFor memory done cog stage s clock b ts → has_ended cog ts ≡ true
-over_ended memory done cog stage s clock is (SpinBegun e) ts stands = stands.ended is
-over_ended memory done cog stage s clock is (PasmBegun loaded) ts stands = absurd stands
+pub over_ended : (counter : ℕ) (memory : List ℕ) (done cog : ℕ) (stage : Stage) (s : State) (clock : ℕ) → stage ≡ Over → (b : Begun) (ts : List Turn) → StandsFor counter memory done cog stage s clock b ts → has_ended cog ts ≡ true
+over_ended counter memory done cog stage s clock is (SpinBegun e) ts stands = stands.ended is
+over_ended counter memory done cog stage s clock is (PasmBegun loaded) ts stands = absurd stands
 
 pub stops_near : (here : Outcome State) (reached until : ℕ) (next : Next) → Stops here reached until next → IsNear 560 reached next
 stops_near here reached until (At clock access) stops = stops.3
@@ -202,8 +202,8 @@ never_over_asks cog stage s clock when access is asks =
 -- ---- a run
 
 -- after a run it stands for the same turns
-pub led_on : (memory : List ℕ) (done more cog : ℕ) (old : State) (begin : ℕ) (stage now : Stage) (s new : State) (clock budget begun until : ℕ) → now ≡ Ready → Leads memory cog more old begin stage new clock → (t : State) × Led memory cog more old begin t begun → IsBehind more budget begun clock until stage → (b : Begun) (ts : List Turn) → StandsFor memory done cog now old begin b ts → StandsFor memory (done + more) cog stage new clock b ts
-led_on memory done more cog old begin stage now s new clock budget begun until is leads began behind_ (SpinBegun e) ts stands =
+pub led_on : (counter fresh : ℕ) (memory : List ℕ) (done more cog : ℕ) (old : State) (begin : ℕ) (stage now : Stage) (s new : State) (clock budget begun until : ℕ) → now ≡ Ready → Leads memory cog more old begin stage new clock → (t : State) × Led memory cog more old begin t begun × (t.at ≡ fresh) → IsBehind more budget begun clock until stage → (b : Begun) (ts : List Turn) → StandsFor counter memory done cog now old begin b ts → StandsFor fresh memory (done + more) cog stage new clock b ts
+led_on counter fresh memory done more cog old begin stage now s new clock budget begun until is leads began behind_ (SpinBegun e) ts stands =
     let own : e.cog ≡ cog = stands.own in
     let code : e.memory ≡ memory = stands.code in
     let before : (rest : List Turn) → lived done e (ts ++ rest) ≡ Goes old begin rest =
@@ -227,6 +227,7 @@ led_on memory done more cog old begin stage now s new clock budget begun until i
             ∙ ap (after (engine_of e.memory e.cog) more) (ap (λ (xs : List Turn). lived done e xs) (sym (append-nil ts)) ∙ before [])
             ∙ ap (λ (g : Engine State). after g more (Goes old begin [])) engine
             ∙ began.1 [],
+        λ amid. began.2,
       );
       fresh = λ st. absurd (not-entering stage more budget begun clock until behind_ st);
       ended = λ st. absurd (not-over stage more budget begun clock until behind_ st);
@@ -248,15 +249,15 @@ led_on memory done more cog old begin stage now s new clock budget begun until i
     not-over (Asked access later) d b g c u at e = let x : Asked access later ≡ Over = e in cc
     not-over (Halted reason) d b g c u at e = let x : Halted reason ≡ Over = e in cc
     not-over Over d b g c u at e = at
-led_on memory done more cog old begin stage now s new clock budget begun until is leads began behind_ (PasmBegun loaded) ts stands = absurd stands
+led_on counter fresh memory done more cog old begin stage now s new clock budget begun until is leads began behind_ (PasmBegun loaded) ts stands = absurd stands
 
 -- what was read of the memory is the memory
-pub ran_stands : (memory seen : List ℕ) (done more from cog : ℕ) (old : State) (begin : ℕ) (stage now : Stage) (new : State) (clock budget begun until : ℕ) → seen ≡ memory → from ≡ more → now ≡ Ready → Leads seen cog more old begin stage new clock → (t : State) × Led seen cog more old begin t begun → IsBehind more budget begun clock until stage → (b : Begun) (ts : List Turn) → StandsFor memory done cog now old begin b ts → StandsFor memory (done + from) cog stage new clock b ts
-ran_stands memory seen done more from cog old begin stage now new clock budget begun until same counted is leads began at b ts stands =
-    subst (λ (k : ℕ). StandsFor memory (done + k) cog stage new clock b ts) (sym counted)
-    (led_on memory done more cog old begin stage now old new clock budget begun until is
+pub ran_stands : (counter fresh : ℕ) (memory seen : List ℕ) (done more from cog : ℕ) (old : State) (begin : ℕ) (stage now : Stage) (new : State) (clock budget begun until : ℕ) → seen ≡ memory → from ≡ more → now ≡ Ready → Leads seen cog more old begin stage new clock → (t : State) × Led seen cog more old begin t begun × (t.at ≡ fresh) → IsBehind more budget begun clock until stage → (b : Begun) (ts : List Turn) → StandsFor counter memory done cog now old begin b ts → StandsFor fresh memory (done + from) cog stage new clock b ts
+ran_stands counter fresh memory seen done more from cog old begin stage now new clock budget begun until same counted is leads began at b ts stands =
+    subst (λ (k : ℕ). StandsFor fresh memory (done + k) cog stage new clock b ts) (sym counted)
+    (led_on counter fresh memory done more cog old begin stage now old new clock budget begun until is
     (subst (λ (m : List ℕ). Leads m cog more old begin stage new clock) same leads)
-    (began.0, subst (λ (m : List ℕ). Led m cog more old begin began.0 begun) same began.1)
+    (began.0, subst (λ (m : List ℕ). Led m cog more old begin began.0 begun) same began.1, began.2)
     at b ts stands)
 
 pub behind_early : (done budget begun clock until : ℕ) (stage : Stage) → IsBehind done budget begun clock until stage → begun ≤ clock

@@ -5,3 +5,4 @@ pub mod Returning
 pub mod OneMore
 pub mod FirstBytes
 pub mod Taken
+mod Counting

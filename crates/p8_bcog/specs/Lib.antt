@@ -13,6 +13,7 @@ pub mod Cogs
 pub mod Bytecodes
 pub mod Origins
 pub mod Replay
+pub mod Counters
 pub mod Laters
 pub mod Standing
 pub mod Whole

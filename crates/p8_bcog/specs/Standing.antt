@@ -34,16 +34,27 @@ is_under (Asked access later) = true
 is_under (Halted reason) = true
 is_under Over = false
 
--- the replay of this life with these turns has come here after so many bytecodes
-pub record StandsIn (memory : List ℕ) (done cog : ℕ) (stage : Stage) (state : State) (clock : ℕ) (entered : Entered) (turns : List Turn) : Type 0 where
+-- a bytecode is under way
+abbrev pub is_amid : Stage → Bool
+is_amid Entering = false
+is_amid Ready = false
+is_amid (Asked access later) = true
+is_amid (Halted reason) = true
+is_amid Over = false
+
+-- the replay of this life with these turns has come here after so many bytecodes, and the bytecode that is under way stands
+-- at `counter`
+pub record StandsIn (counter : ℕ) (memory : List ℕ) (done cog : ℕ) (stage : Stage) (state : State) (clock : ℕ) (entered : Entered)
+    (turns : List Turn) : Type 0 where
   pub own : entered.cog ≡ cog
   pub code : entered.memory ≡ memory
   pub goes_on : (more : List Turn) → lived (come_to stage done) entered (turns ++ more) ≡ standing cog stage state clock more
   pub began : is_under stage ≡ true → (s : State) × (begin : ℕ) × (left : List Turn) × (lived done entered turns ≡ Goes s begin left)
+      × (is_amid stage ≡ true → s.at ≡ counter)
   pub fresh : stage ≡ Entering → done ≡ 0
   pub ended : stage ≡ Over → has_ended cog turns ≡ true
 
 -- a cog that has done so many bytecodes stands for a life and its turns
-abbrev pub StandsFor : (memory : List ℕ) (done cog : ℕ) → Stage → State → (clock : ℕ) → Begun → List Turn → Type 0
-StandsFor memory done cog stage state clock (SpinBegun entered) turns = StandsIn memory done cog stage state clock entered turns
-StandsFor memory done cog stage state clock (PasmBegun loaded) turns = ⊥
+abbrev pub StandsFor : (counter : ℕ) (memory : List ℕ) (done cog : ℕ) → Stage → State → (clock : ℕ) → Begun → List Turn → Type 0
+StandsFor counter memory done cog stage state clock (SpinBegun entered) turns = StandsIn counter memory done cog stage state clock entered turns
+StandsFor counter memory done cog stage state clock (PasmBegun loaded) turns = ⊥

@@ -7,7 +7,7 @@ use Rattle.p8_bcog.specs.Standing.{StandsFor}
 
 -- it began with this and has had these turns
 abbrev pub stands_for : SpinCog → Begun → List Turn → Type 0
-stands_for life began turns = StandsFor life.code life.done life.cog life.stage life.state life.clock began turns
+stands_for life began turns = StandsFor life.counter life.code life.done life.cog life.stage life.state life.clock began turns
 
 -- its own number, and the memory that its code stands in
 abbrev pub cog_of : SpinCog → ℕ

@@ -20,6 +20,8 @@ pub struct Ran {
     pub begun: u64,
     /// The clock from which its access counts.
     pub clock: u64,
+    /// The address at which it stands.
+    pub counter: u16,
 }
 
 /// How far a life is after a bytecode.
@@ -107,7 +109,7 @@ pub fn run(
     requires until { until < 2 ^ 62 }
     ensures budget { result.done ≤ budget }
     ensures leads { Leads memory.now cog result.done state.old begin stage.new state.new result.clock }
-    ensures began { (s : State) × Led memory.now cog result.done state.old begin s result.begun }
+    ensures began { (s : State) × Led memory.now cog result.done state.old begin s result.begun × (s.at ≡ result.counter) }
     ensures sound { IsSound stage.new state.new }
     ensures is_behind { IsBehind result.done budget result.begun result.clock until stage.new }
     ensures least { begin + 32 * result.done ≤ result.begun }
@@ -121,8 +123,10 @@ pub fn run(
                 done,
                 begun: clock,
                 clock,
+                counter: state.at,
             };
         }
+        let counter = state.at;
         let cost = state.bytecode(memory, code, cog, stage);
         if is_ready(stage) {
             clock += cost;
@@ -131,6 +135,7 @@ pub fn run(
                 done,
                 begun: clock,
                 clock: clock + cost,
+                counter,
             };
         }
     }
@@ -138,5 +143,6 @@ pub fn run(
         done: budget,
         begun: clock,
         clock,
+        counter: state.at,
     }
 }

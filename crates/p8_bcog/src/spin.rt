@@ -1,10 +1,12 @@
 // A Spin cog as a life.
-ghost use Rattle.std.specs.Prelude.{ℕ, ◌≡◌, ◌⊎◌, ◌<◌, ◌≤◌, ◌+◌, ◌^◌, [], None, IfOk};
+ghost use Rattle.std.specs.Prelude.{ℕ, List, ◌≡◌, ◌⊎◌, ◌<◌, ◌≤◌, ◌+◌, ◌^◌, [], None, IfOk};
 ghost use Rattle.p8_access.specs.declared.lives.Next.TheVariants.{Quiet};
-ghost use Rattle.p8_access.specs.Lives.{SpinBegun, announced_by, IsMade, IsMadeNext, is_last};
+ghost use Rattle.p8_access.specs.declared.order.Turn.{Turn};
+ghost use Rattle.p8_access.specs.Lives.{Begun, SpinBegun, announced_by, IsMade, IsMadeNext, is_last};
 ghost use Rattle.p8_access.specs.Timing.{Asks, earliest};
 ghost use Rattle.p8_bcog.specs.declared.stage.Stage.TheVariants.{Ready, Over};
 ghost use Rattle.p8_bcog.specs.Origins.{IsSpin};
+ghost use Rattle.p8_bcog.specs.Counters.{IsAnnouncing, IsCounter};
 ghost use Rattle.p8_bcog.specs.Replay.{IsAsked, Begins};
 ghost use Rattle.p8_bcog.specs.Standing.{standing, StandsFor};
 ghost use Rattle.p8_bcog.specs.Stops.{IsSound, Stops, Announces};
@@ -41,6 +43,8 @@ pub struct SpinCog {
     /// How many bytecodes it has done since its start.
     done: u64,
     announced: Option<(u64, Access)>,
+    /// The hub address of the bytecode that is under way.
+    counter: u16,
     ghost cog_below: { cog < 8 },
     ghost early: { reached ≤ clock },
     ghost late: { clock ≤ reached + 544 },
@@ -185,6 +189,7 @@ impl SpinCog {
             reached: begin + 8192,
             done: 0,
             announced: None,
+            counter: 0,
         })
     }
 
@@ -213,10 +218,26 @@ impl SpinCog {
         self.reached = begin + 8192;
         self.done = 0;
     }
+
+    /// The program counter of the access that is announced: the hub address, in bytes, of the first byte of the
+    /// bytecode that asks it. `None` where nothing is announced, and for the write with which a life enters its
+    /// method, which no bytecode asks.
+    pub fn counter(&self) -> Option<u16>
+        ensures counts { (b : Begun) (ts : List Turn) → ⟦<SpinCog as Life>⟧.stands self.now b ts → IsAnnouncing (⟦<SpinCog as Life>⟧.announced self.now) → IsCounter b ts result }
+        ensures none { ⟦<SpinCog as Life>⟧.announced self.now ≡ None → result ≡ None }
+    {
+        if self.announced.is_none() {
+            return None;
+        }
+        match self.stage {
+            Stage::Asked { .. } | Stage::Halted { .. } => Some(self.counter),
+            Stage::Entering | Stage::Ready | Stage::Over => None,
+        }
+    }
 }
 
 impl Life for SpinCog {
-    ghost stands = { λ life began turns. StandsFor life.code life.done life.cog life.stage life.state life.clock began turns };
+    ghost stands = { λ life began turns. StandsFor life.counter life.code life.done life.cog life.stage life.state life.clock began turns };
 
     ghost asked = { IsAsked };
 
@@ -256,6 +277,7 @@ impl Life for SpinCog {
             self.done += u64::from(ran.done);
             self.reached = ran.begun;
             self.clock = ran.clock;
+            self.counter = ran.counter;
             let next = told(&self.stage, &self.state, self.cog, ran.clock, until);
             self.announced = announced_in(next);
             next

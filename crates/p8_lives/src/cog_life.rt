@@ -1,6 +1,9 @@
 // The life of a cog, of whatever kind.
-ghost use Rattle.std.specs.Prelude.{◌≡◌, ◌<◌, ◌≤◌, ◌+◌, ◌^◌, [], None, IfOk};
+ghost use Rattle.std.specs.Prelude.{List, ◌≡◌, ◌<◌, ◌≤◌, ◌+◌, ◌^◌, [], None, IfOk};
+ghost use Rattle.p8_access.specs.declared.order.Turn.{Turn};
+ghost use Rattle.p8_access.specs.Lives.{Begun};
 ghost use Rattle.p8_access.specs.Windows.{IsWindow};
+ghost use Rattle.p8_bcog.specs.Counters.{IsAnnouncing, IsCounter};
 ghost use Rattle.p8_lives.specs.Lives.{asks, begins, begun_by, IsStartable};
 ghost use Rattle.p8_lives.specs.Kinds.{number_of, access_of, fact_of};
 ghost use Rattle.p8_lives.specs.Laws.{one-asked, asked-first, asked-later, paced};
@@ -76,6 +79,19 @@ impl CogLife {
                 self.kind = Kind::Spin;
                 self.spin.restart(memory.share(), origin, cog, first);
             }
+        }
+    }
+
+    /// The program counter of the access that is announced: for Spin the hub address, in bytes, of the first byte of
+    /// the bytecode that asks it. `None` where nothing is announced, for the write with which Spin enters its
+    /// method, which no bytecode asks, and for PASM.
+    pub fn counter(&self) -> Option<u16>
+        ensures counts { (b : Begun) (ts : List Turn) → ⟦<CogLife as Life>⟧.stands self.now b ts → IsAnnouncing (⟦<CogLife as Life>⟧.announced self.now) → IsCounter b ts result }
+        ensures none { ⟦<CogLife as Life>⟧.announced self.now ≡ None → result ≡ None }
+    {
+        match self.kind {
+            Kind::Pasm => None,
+            Kind::Spin => self.spin.counter(),
         }
     }
 }

@@ -1,4 +1,4 @@
-use Rattle.std.proofs.Common.{sym, ◌∙◌, ◌+◌, arith}
+use Rattle.std.proofs.Common.{refl, sym, ◌∙◌, ◌+◌, arith}
 use Rattle.p8_bcog.proofs.OneMore.{none_done, asks_leads, asks_behind, becomes_ready, done_leads}
 use Rattle.p8_bcog.proofs.running.run.Goals as goal
 
@@ -21,7 +21,7 @@ loop-done-preserved c = record {
 }
 
 pub returns-then-clock-until-clause-began : goal.returns-then-clock-until-clause-began
-returns-then-clock-until-clause-began c = (c.loop-done.state, c.loop-done.invariant.leads)
+returns-then-clock-until-clause-began c = (c.loop-done.state, c.loop-done.invariant.leads, refl)
 
 pub returns-else-is_ready-clause-leads : goal.returns-else-is_ready-clause-leads
 returns-else-is_ready-clause-leads c = asks_leads c.args.memory.now c.args.cog c.loop-done.done c.args.state.now c.args.begin c.loop-done.state c.loop-done.clock c.bytecode-cost.result c.bytecode-cost.new.stage c.bytecode-cost.new.self c.loop-done.invariant.leads c.bytecode-cost.ensures.clocks c.bytecode-cost.ensures.does c.bytecode-cost.ensures.under (sym c.is_ready.ensures ∙ c.if-is_ready.false)
@@ -30,4 +30,4 @@ pub returns-else-is_ready-clause-is_behind : goal.returns-else-is_ready-clause-i
 returns-else-is_ready-clause-is_behind c = asks_behind c.loop-done.done c.args.budget c.loop-done.clock (c.loop-done.clock + c.bytecode-cost.result) c.args.until c.bytecode-cost.new.stage c.bytecode-cost.ensures.under (sym c.is_ready.ensures ∙ c.if-is_ready.false) c.if-clock-until.false (omega arith) (omega (arith, c.bytecode-cost.ensures.most)) (omega arith)
 
 pub returns-else-is_ready-clause-began : goal.returns-else-is_ready-clause-began
-returns-else-is_ready-clause-began c = (c.loop-done.state, c.loop-done.invariant.leads)
+returns-else-is_ready-clause-began c = (c.loop-done.state, c.loop-done.invariant.leads, refl)

@@ -17,21 +17,21 @@ invariant_of-self c = record {
 }
 
 pub returns-then-is_ready-clause-keeps : goal.returns-then-is_ready-clause-keeps
-returns-then-is_ready-clause-keeps c = ran_stands c.args.self.now.code c.bytes-memory.result.now c.args.self.now.done c.run-ran.result.done c.from.result c.args.self.now.cog c.args.self.now.state c.args.self.now.clock c.run-ran.new.stage c.args.self.now.stage c.run-ran.new.state c.run-ran.result.clock c.args.budget c.run-ran.result.begun c.args.until c.bytes-memory.ensures.bytes c.from.ensures (ready_by c.args.self.now.stage (sym c.is_ready.ensures ∙ c.if-is_ready.true)) c.run-ran.ensures.leads c.run-ran.ensures.began c.run-ran.ensures.is_behind
+returns-then-is_ready-clause-keeps c = ran_stands c.args.self.now.counter c.run-ran.result.counter c.args.self.now.code c.bytes-memory.result.now c.args.self.now.done c.run-ran.result.done c.from.result c.args.self.now.cog c.args.self.now.state c.args.self.now.clock c.run-ran.new.stage c.args.self.now.stage c.run-ran.new.state c.run-ran.result.clock c.args.budget c.run-ran.result.begun c.args.until c.bytes-memory.ensures.bytes c.from.ensures (ready_by c.args.self.now.stage (sym c.is_ready.ensures ∙ c.if-is_ready.true)) c.run-ran.ensures.leads c.run-ran.ensures.began c.run-ran.ensures.is_behind
 
 pub returns-then-is_ready-clause-tells : goal.returns-then-is_ready-clause-tells
 returns-then-is_ready-clause-tells c = λ b ts stands.
-    stops_tells c.args.self.now.code (c.args.self.now.done + c.from.result) c.args.self.now.cog c.run-ran.new.stage c.run-ran.new.state c.run-ran.result.clock c.run-ran.result.begun c.args.until c.told-next.result (c.told-next.ensures.stops c.run-ran.result.begun (behind_early c.run-ran.result.done c.args.budget c.run-ran.result.begun c.run-ran.result.clock c.args.until c.run-ran.new.stage c.run-ran.ensures.is_behind) (behind_late c.run-ran.result.done c.args.budget c.run-ran.result.begun c.run-ran.result.clock c.args.until c.run-ran.new.stage c.run-ran.ensures.is_behind) (behind_ready c.run-ran.result.done c.args.budget c.run-ran.result.begun c.run-ran.result.clock c.args.until c.run-ran.new.stage c.run-ran.ensures.is_behind)) b ts
-    (ran_stands c.args.self.now.code c.bytes-memory.result.now c.args.self.now.done c.run-ran.result.done c.from.result c.args.self.now.cog c.args.self.now.state c.args.self.now.clock c.run-ran.new.stage c.args.self.now.stage c.run-ran.new.state c.run-ran.result.clock c.args.budget c.run-ran.result.begun c.args.until c.bytes-memory.ensures.bytes c.from.ensures (ready_by c.args.self.now.stage (sym c.is_ready.ensures ∙ c.if-is_ready.true)) c.run-ran.ensures.leads c.run-ran.ensures.began c.run-ran.ensures.is_behind b ts stands)
+    stops_tells c.run-ran.result.counter c.args.self.now.code (c.args.self.now.done + c.from.result) c.args.self.now.cog c.run-ran.new.stage c.run-ran.new.state c.run-ran.result.clock c.run-ran.result.begun c.args.until c.told-next.result (c.told-next.ensures.stops c.run-ran.result.begun (behind_early c.run-ran.result.done c.args.budget c.run-ran.result.begun c.run-ran.result.clock c.args.until c.run-ran.new.stage c.run-ran.ensures.is_behind) (behind_late c.run-ran.result.done c.args.budget c.run-ran.result.begun c.run-ran.result.clock c.args.until c.run-ran.new.stage c.run-ran.ensures.is_behind) (behind_ready c.run-ran.result.done c.args.budget c.run-ran.result.begun c.run-ran.result.clock c.args.until c.run-ran.new.stage c.run-ran.ensures.is_behind)) b ts
+    (ran_stands c.args.self.now.counter c.run-ran.result.counter c.args.self.now.code c.bytes-memory.result.now c.args.self.now.done c.run-ran.result.done c.from.result c.args.self.now.cog c.args.self.now.state c.args.self.now.clock c.run-ran.new.stage c.args.self.now.stage c.run-ran.new.state c.run-ran.result.clock c.args.budget c.run-ran.result.begun c.args.until c.bytes-memory.ensures.bytes c.from.ensures (ready_by c.args.self.now.stage (sym c.is_ready.ensures ∙ c.if-is_ready.true)) c.run-ran.ensures.leads c.run-ran.ensures.began c.run-ran.ensures.is_behind b ts stands)
 
 pub returns-then-is_ready-clause-placed : goal.returns-then-is_ready-clause-placed
 returns-then-is_ready-clause-placed c = λ b ts stands live.
-    placed c.args.self.now.code (c.args.self.now.done + c.from.result) c.args.self.now.cog c.run-ran.new.stage c.run-ran.new.state c.run-ran.result.clock b ts (ran_stands c.args.self.now.code c.bytes-memory.result.now c.args.self.now.done c.run-ran.result.done c.from.result c.args.self.now.cog c.args.self.now.state c.args.self.now.clock c.run-ran.new.stage c.args.self.now.stage c.run-ran.new.state c.run-ran.result.clock c.args.budget c.run-ran.result.begun c.args.until c.bytes-memory.ensures.bytes c.from.ensures (ready_by c.args.self.now.stage (sym c.is_ready.ensures ∙ c.if-is_ready.true)) c.run-ran.ensures.leads c.run-ran.ensures.began c.run-ran.ensures.is_behind b ts stands) live
+    placed c.run-ran.result.counter c.args.self.now.code (c.args.self.now.done + c.from.result) c.args.self.now.cog c.run-ran.new.stage c.run-ran.new.state c.run-ran.result.clock b ts (ran_stands c.args.self.now.counter c.run-ran.result.counter c.args.self.now.code c.bytes-memory.result.now c.args.self.now.done c.run-ran.result.done c.from.result c.args.self.now.cog c.args.self.now.state c.args.self.now.clock c.run-ran.new.stage c.args.self.now.stage c.run-ran.new.state c.run-ran.result.clock c.args.budget c.run-ran.result.begun c.args.until c.bytes-memory.ensures.bytes c.from.ensures (ready_by c.args.self.now.stage (sym c.is_ready.ensures ∙ c.if-is_ready.true)) c.run-ran.ensures.leads c.run-ran.ensures.began c.run-ran.ensures.is_behind b ts stands) live
 
 pub returns-then-is_ready-clause-thorough : goal.returns-then-is_ready-clause-thorough
 returns-then-is_ready-clause-thorough c = λ b ts stands.
-    stops_thorough c.args.self.now.code (c.args.self.now.done + c.from.result) c.args.self.now.cog c.run-ran.new.stage c.run-ran.new.state c.run-ran.result.clock c.run-ran.result.begun c.args.until c.told-next.result (c.told-next.ensures.stops c.run-ran.result.begun (behind_early c.run-ran.result.done c.args.budget c.run-ran.result.begun c.run-ran.result.clock c.args.until c.run-ran.new.stage c.run-ran.ensures.is_behind) (behind_late c.run-ran.result.done c.args.budget c.run-ran.result.begun c.run-ran.result.clock c.args.until c.run-ran.new.stage c.run-ran.ensures.is_behind) (behind_ready c.run-ran.result.done c.args.budget c.run-ran.result.begun c.run-ran.result.clock c.args.until c.run-ran.new.stage c.run-ran.ensures.is_behind)) b ts
-    (ran_stands c.args.self.now.code c.bytes-memory.result.now c.args.self.now.done c.run-ran.result.done c.from.result c.args.self.now.cog c.args.self.now.state c.args.self.now.clock c.run-ran.new.stage c.args.self.now.stage c.run-ran.new.state c.run-ran.result.clock c.args.budget c.run-ran.result.begun c.args.until c.bytes-memory.ensures.bytes c.from.ensures (ready_by c.args.self.now.stage (sym c.is_ready.ensures ∙ c.if-is_ready.true)) c.run-ran.ensures.leads c.run-ran.ensures.began c.run-ran.ensures.is_behind b ts stands)
+    stops_thorough c.run-ran.result.counter c.args.self.now.code (c.args.self.now.done + c.from.result) c.args.self.now.cog c.run-ran.new.stage c.run-ran.new.state c.run-ran.result.clock c.run-ran.result.begun c.args.until c.told-next.result (c.told-next.ensures.stops c.run-ran.result.begun (behind_early c.run-ran.result.done c.args.budget c.run-ran.result.begun c.run-ran.result.clock c.args.until c.run-ran.new.stage c.run-ran.ensures.is_behind) (behind_late c.run-ran.result.done c.args.budget c.run-ran.result.begun c.run-ran.result.clock c.args.until c.run-ran.new.stage c.run-ran.ensures.is_behind) (behind_ready c.run-ran.result.done c.args.budget c.run-ran.result.begun c.run-ran.result.clock c.args.until c.run-ran.new.stage c.run-ran.ensures.is_behind)) b ts
+    (ran_stands c.args.self.now.counter c.run-ran.result.counter c.args.self.now.code c.bytes-memory.result.now c.args.self.now.done c.run-ran.result.done c.from.result c.args.self.now.cog c.args.self.now.state c.args.self.now.clock c.run-ran.new.stage c.args.self.now.stage c.run-ran.new.state c.run-ran.result.clock c.args.budget c.run-ran.result.begun c.args.until c.bytes-memory.ensures.bytes c.from.ensures (ready_by c.args.self.now.stage (sym c.is_ready.ensures ∙ c.if-is_ready.true)) c.run-ran.ensures.leads c.run-ran.ensures.began c.run-ran.ensures.is_behind b ts stands)
 
 pub returns-then-is_ready-clause-spends : goal.returns-then-is_ready-clause-spends
 returns-then-is_ready-clause-spends c =
@@ -54,14 +54,14 @@ invariant_of-self-else-is_ready c = record {
 
 pub returns-else-is_ready-clause-tells : goal.returns-else-is_ready-clause-tells
 returns-else-is_ready-clause-tells c = λ b ts stands.
-    stops_tells c.args.self.now.code c.args.self.now.done c.args.self.now.cog c.args.self.now.stage c.args.self.now.state c.args.self.now.clock c.args.self.now.reached c.args.until c.told-next-else-is_ready.result (c.told-next-else-is_ready.ensures.stops c.args.self.now.reached c.args.self.now.early c.args.self.now.late c.args.self.now.ready) b ts stands
+    stops_tells c.args.self.now.counter c.args.self.now.code c.args.self.now.done c.args.self.now.cog c.args.self.now.stage c.args.self.now.state c.args.self.now.clock c.args.self.now.reached c.args.until c.told-next-else-is_ready.result (c.told-next-else-is_ready.ensures.stops c.args.self.now.reached c.args.self.now.early c.args.self.now.late c.args.self.now.ready) b ts stands
 
 pub returns-else-is_ready-clause-placed : goal.returns-else-is_ready-clause-placed
-returns-else-is_ready-clause-placed c = λ b ts stands live. placed c.args.self.now.code c.args.self.now.done c.args.self.now.cog c.args.self.now.stage c.args.self.now.state c.args.self.now.clock b ts stands live
+returns-else-is_ready-clause-placed c = λ b ts stands live. placed c.args.self.now.counter c.args.self.now.code c.args.self.now.done c.args.self.now.cog c.args.self.now.stage c.args.self.now.state c.args.self.now.clock b ts stands live
 
 pub returns-else-is_ready-clause-thorough : goal.returns-else-is_ready-clause-thorough
 returns-else-is_ready-clause-thorough c = λ b ts stands.
-    stops_thorough c.args.self.now.code c.args.self.now.done c.args.self.now.cog c.args.self.now.stage c.args.self.now.state c.args.self.now.clock c.args.self.now.reached c.args.until c.told-next-else-is_ready.result (c.told-next-else-is_ready.ensures.stops c.args.self.now.reached c.args.self.now.early c.args.self.now.late c.args.self.now.ready) b ts stands
+    stops_thorough c.args.self.now.counter c.args.self.now.code c.args.self.now.done c.args.self.now.cog c.args.self.now.stage c.args.self.now.state c.args.self.now.clock c.args.self.now.reached c.args.until c.told-next-else-is_ready.result (c.told-next-else-is_ready.ensures.stops c.args.self.now.reached c.args.self.now.early c.args.self.now.late c.args.self.now.ready) b ts stands
 
 pub returns-else-is_ready-clause-again : goal.returns-else-is_ready-clause-again
 returns-else-is_ready-clause-again c = λ clock access announced below.
@@ -82,7 +82,7 @@ returns-then-is_ready-clause-far c = λ b ts stands live.
 pub returns-else-is_ready-clause-far : goal.returns-else-is_ready-clause-far
 returns-else-is_ready-clause-far c = λ b ts stands live.
     rest_far c.args.self.now.cog c.args.budget c.args.self.now.reached c.args.self.now.clock c.args.until c.args.self.now.stage c.args.self.now.state c.told-next-else-is_ready.result c.requires.budget
-    (λ over. let e : false ≡ true = sym live ∙ over_ended c.args.self.now.code c.args.self.now.done c.args.self.now.cog c.args.self.now.stage c.args.self.now.state c.args.self.now.clock over b ts stands in cc)
+    (λ over. let e : false ≡ true = sym live ∙ over_ended c.args.self.now.counter c.args.self.now.code c.args.self.now.done c.args.self.now.cog c.args.self.now.stage c.args.self.now.state c.args.self.now.clock over b ts stands in cc)
     c.args.self.now.late (c.told-next-else-is_ready.ensures.stops c.args.self.now.reached c.args.self.now.early c.args.self.now.late c.args.self.now.ready) c.told-next-else-is_ready.ensures.near
 
 pub run-ran-requires-clause-ready : goal.run-ran-requires-clause-ready

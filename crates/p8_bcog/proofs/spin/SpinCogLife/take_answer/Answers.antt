@@ -73,28 +73,28 @@ invariant_of-self-in-Halted c =
     }
 
 pub returns-in-Entering-clause-stands : goal.returns-in-Entering-clause-stands
-returns-in-Entering-clause-stands c = entering_stands c.args.self.now.code c.args.self.now.done c.args.self.now.cog c.args.self.now.stage c.args.self.now.state c.args.self.now.clock c.args.turn.now c.in-Entering.is
+returns-in-Entering-clause-stands c = entering_stands c.args.self.now.counter c.args.self.now.code c.args.self.now.done c.args.self.now.cog c.args.self.now.stage c.args.self.now.state c.args.self.now.clock c.args.turn.now c.in-Entering.is
 
 pub returns-in-Entering-clause-placed : goal.returns-in-Entering-clause-placed
 returns-in-Entering-clause-placed c = λ b ts stands live.
-    placed c.args.self.now.code c.args.self.now.done c.args.self.now.cog Ready c.args.self.now.state (c.args.turn.now.key.clock + 7) b (ts ++ c.args.turn.now ∷ []) (returns-in-Entering-clause-stands c b ts stands) live
+    placed c.args.self.now.counter c.args.self.now.code c.args.self.now.done c.args.self.now.cog Ready c.args.self.now.state (c.args.turn.now.key.clock + 7) b (ts ++ c.args.turn.now ∷ []) (returns-in-Entering-clause-stands c b ts stands) live
 
 pub returns-then-is_last-clause-stands : goal.returns-then-is_last-clause-stands
 returns-then-is_last-clause-stands c =
     let h = came c.args.self.now.cog c.args.self.now.stage c.args.self.now.state c.args.self.now.clock c.args.self.now.reached c.args.self.now.announced c.args.turn.now c.in-Asked.access (asked_here c.args.self.now.cog c.args.self.now.stage c.args.self.now.state c.args.self.now.clock c.in-Asked.access c.in-Asked.later c.in-Asked.is) c.args.self.now.announces c.requires.announced in
-    asked_over c.args.self.now.code c.args.self.now.done c.args.self.now.cog c.args.self.now.stage c.args.self.now.state c.args.self.now.state c.args.self.now.clock c.behind-clock.result c.in-Asked.access c.in-Asked.later c.args.turn.now c.in-Asked.is (sym c.is_last.ensures ∙ c.if-is_last.true) h.0
+    asked_over c.args.self.now.counter c.args.self.now.code c.args.self.now.done c.args.self.now.cog c.args.self.now.stage c.args.self.now.state c.args.self.now.state c.args.self.now.clock c.behind-clock.result c.in-Asked.access c.in-Asked.later c.args.turn.now c.in-Asked.is (sym c.is_last.ensures ∙ c.if-is_last.true) h.0
 
 pub returns-then-is_last-clause-placed : goal.returns-then-is_last-clause-placed
 returns-then-is_last-clause-placed c = λ b ts stands live.
-    placed c.args.self.now.code (c.args.self.now.done + 1) c.args.self.now.cog Over c.args.self.now.state c.behind-clock.result b (ts ++ c.args.turn.now ∷ []) (returns-then-is_last-clause-stands c b ts stands) live
+    placed c.args.self.now.counter c.args.self.now.code (c.args.self.now.done + 1) c.args.self.now.cog Over c.args.self.now.state c.behind-clock.result b (ts ++ c.args.turn.now ∷ []) (returns-then-is_last-clause-stands c b ts stands) live
 
 pub returns-else-is_last-clause-stands : goal.returns-else-is_last-clause-stands
 returns-else-is_last-clause-stands c =
-    asked_stands c.args.self.now.code c.args.self.now.done c.done_by.result c.args.self.now.cog c.args.self.now.stage c.stage_of-self.result c.args.self.now.state c.go_on.new.self c.args.self.now.clock c.behind-clock.result c.word_in.result c.in-Asked.access c.in-Asked.later c.go_on.result c.args.turn.now c.in-Asked.is (sym c.is_last.ensures ∙ c.if-is_last.false) c.stage_of-self.ensures c.done_by.ensures.done c.behind-clock.ensures c.word_in.ensures c.go_on.ensures.does
+    asked_stands c.args.self.now.counter c.args.self.now.code c.args.self.now.done c.done_by.result c.args.self.now.cog c.args.self.now.stage c.stage_of-self.result c.args.self.now.state c.go_on.new.self c.args.self.now.clock c.behind-clock.result c.word_in.result c.in-Asked.access c.in-Asked.later c.go_on.result c.args.turn.now c.in-Asked.is (sym c.is_last.ensures ∙ c.if-is_last.false) c.stage_of-self.ensures c.done_by.ensures.done c.behind-clock.ensures c.word_in.ensures c.go_on.ensures.does
 
 pub returns-else-is_last-clause-placed : goal.returns-else-is_last-clause-placed
 returns-else-is_last-clause-placed c = λ b ts stands live.
-    placed c.args.self.now.code (c.args.self.now.done + c.done_by.result) c.args.self.now.cog c.stage_of-self.result c.go_on.new.self c.behind-clock.result b (ts ++ c.args.turn.now ∷ []) (returns-else-is_last-clause-stands c b ts stands) live
+    placed c.args.self.now.counter c.args.self.now.code (c.args.self.now.done + c.done_by.result) c.args.self.now.cog c.stage_of-self.result c.go_on.new.self c.behind-clock.result b (ts ++ c.args.turn.now ∷ []) (returns-else-is_last-clause-stands c b ts stands) live
 
 pub returns-else-is_last-clause-reached : goal.returns-else-is_last-clause-reached
 returns-else-is_last-clause-reached c =
@@ -109,8 +109,8 @@ returns-else-is_last-clause-lead c =
 pub returns-in-Halted-clause-stands : goal.returns-in-Halted-clause-stands
 returns-in-Halted-clause-stands c =
     let h = came c.args.self.now.cog c.args.self.now.stage c.args.self.now.state c.args.self.now.clock c.args.self.now.reached c.args.self.now.announced c.args.turn.now (Halt c.in-Halted.reason) (halted_here c.args.self.now.cog c.args.self.now.stage c.args.self.now.state c.args.self.now.clock c.in-Halted.reason c.in-Halted.is) c.args.self.now.announces c.requires.announced in
-    halted_over c.args.self.now.code c.args.self.now.done c.args.self.now.cog c.args.self.now.stage c.args.self.now.state c.args.self.now.state c.args.self.now.clock (c.args.turn.now.key.clock + 1) c.in-Halted.reason c.args.turn.now c.in-Halted.is h.0
+    halted_over c.args.self.now.counter c.args.self.now.code c.args.self.now.done c.args.self.now.cog c.args.self.now.stage c.args.self.now.state c.args.self.now.state c.args.self.now.clock (c.args.turn.now.key.clock + 1) c.in-Halted.reason c.args.turn.now c.in-Halted.is h.0
 
 pub returns-in-Halted-clause-placed : goal.returns-in-Halted-clause-placed
 returns-in-Halted-clause-placed c = λ b ts stands live.
-    placed c.args.self.now.code (c.args.self.now.done + 1) c.args.self.now.cog Over c.args.self.now.state (c.args.turn.now.key.clock + 1) b (ts ++ c.args.turn.now ∷ []) (returns-in-Halted-clause-stands c b ts stands) live
+    placed c.args.self.now.counter c.args.self.now.code (c.args.self.now.done + 1) c.args.self.now.cog Over c.args.self.now.state (c.args.turn.now.key.clock + 1) b (ts ++ c.args.turn.now ∷ []) (returns-in-Halted-clause-stands c b ts stands) live
