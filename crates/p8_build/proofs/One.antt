@@ -31,7 +31,8 @@ use Rattle.p8_dat.specs.Labels.{size_of_kind, label_of, with_label_of, labels_of
 use Rattle.p8_gen.specs.declared.code.StringUse.{StringUse}
 use Rattle.p8_gen.specs.Names.{Names, all_wide}
 use Rattle.p8_gen.specs.Files.{kind_here, first_offset, names_in}
-use Rattle.p8_gen.specs.Uses.{use_of}
+use Rattle.p8_gen.specs.Uses.{line_of, use_of}
+use Rattle.p8_gen.specs.declared.writer.Line.{Line}
 use Rattle.p8_stmt.specs.declared.code.MethodCode.{MethodCode}
 use Rattle.p8_stmt.specs.Methods.{IsCodeOf, IsMethodFault}
 use Rattle.p8_build.specs.Parts.{data_start, object_part}
@@ -120,6 +121,15 @@ uses_same (x ∷ xs) (y ∷ ys) e =
     let rest : map use_of xs ≡ map use_of ys = cc in
     ap (λ (u : ℕ × Place). record { at = u.0; place = u.1 } ∷ xs) here ∙ ap (λ zs. y ∷ zs) (uses_same xs ys rest)
 
+lines_same : (xs ys : List Line) → map line_of xs ≡ map line_of ys → xs ≡ ys
+lines_same [] [] e = refl
+lines_same [] (y ∷ ys) e = absurd cc
+lines_same (x ∷ xs) [] e = absurd cc
+lines_same (x ∷ xs) (y ∷ ys) e =
+    let here : line_of x ≡ line_of y = cc in
+    let rest : map line_of xs ≡ map line_of ys = cc in
+    ap (λ (u : ℕ × Place). record { offset = u.0; statement = u.1 } ∷ xs) here ∙ ap (λ zs. y ∷ zs) (lines_same xs ys rest)
+
 -- a method has one code
 pub one_code : (names : Names) (m : MethodTree) (c d : MethodCode) → IsCodeOf names m c → IsCodeOf names m d → c ≡ d
 one_code names m c d a b = λ i. record {
@@ -127,6 +137,7 @@ one_code names m c d a b = λ i. record {
   locals = (a.locals ∙ sym b.locals) i;
   depth = (a.depth ∙ sym b.depth) i;
   strings = uses_same c.strings d.strings (a.strings ∙ sym b.strings) i;
+  lines = lines_same c.lines d.lines (a.lines ∙ sym b.lines) i;
 }
 
 pub same_codes : (source : Source) (children : Children) (x y : CompiledFile) → AreAlike source x.kinds y.kinds → x.labels ≡ y.labels → IsCode source children x → IsCode source children y → x.codes ≡ y.codes
