@@ -71,15 +71,12 @@ pub struct Ledger {
     sayings: [Next; 8],
     /// The front of each cog, by its state and by what it has said.
     fronts: Fronts,
-    /// The key of the last turn.
-    last: Option<Key>,
-    /// The span of the script in which that turn was found. It only saves searching: none of what is
-    /// proved rests on it.
+    /// The span of the script in which a turn was found, where that was looked for last. It only saves searching: none
+    /// of what is proved rests on it.
     span: Span,
     ghost clocks: { limits.clocks ≤ 100000000 },
     ghost room: { turns.room ≡ limits.turns },
-    ghost newest: { last ≡ newest_key (reverse turns.list) },
-    ghost small: { IfSome last (λ key. key.clock < 2 ^ 61) } by { Prim.hlevel props },
+    ghost small: { IfSome (newest_key (reverse turns.list)) (λ key. key.clock < 2 ^ 61) } by { Prim.hlevel props },
     ghost eight: { length sayings ≡ 8 },
     ghost made: { AllMade sayings } by { is_prop-AllMade sayings },
     ghost proper: { AreProper turns.list } by { is_prop-AreProper turns.list },
@@ -131,7 +128,6 @@ impl Ledger {
             turns: log,
             sayings,
             fronts,
-            last: None,
             span,
         })
     }
@@ -235,7 +231,7 @@ impl Ledger {
         match front.test {
             None => front.clock,
             Some(test) => {
-                match wake_clock(&self.hub, self.last, cog, &test, front.clock, from, span) {
+                match wake_clock(&self.hub, self.last(), cog, &test, front.clock, from, span) {
                     None => NEVER,
                     Some(clock) => clock,
                 }
@@ -312,9 +308,21 @@ impl Ledger {
         ensures from { (w : World) (r : Record) → Found w self.now r → WaitsFrom w r result }
         ensures small { result < 2 ^ 61 }
     {
-        match self.last {
+        match self.last() {
             None => 0,
             Some(key) => key.clock,
+        }
+    }
+
+    /// The key of the last turn.
+    fn last(&self) -> Option<Key>
+        ensures key { result ≡ newest_key (reverse self.now.turns.list) }
+        ensures small { IfSome result (λ key. key.clock < 2 ^ 61) }
+    {
+        if self.turns.is_empty() {
+            None
+        } else {
+            Some(self.newest().key)
         }
     }
 }
@@ -388,13 +396,8 @@ impl Ledger {
         };
         self.fronts
             .settle(&self.hub, &self.sayings, &turn, self.limits.clocks);
-        match self.turns.push(turn) {
-            Ok(()) => {
-                self.last = Some(key);
-                turn
-            }
-            Err(_) => unreachable!(),
-        }
+        add(&mut self.turns, turn);
+        turn
     }
 
     /// Notes in which span of the script the last turn was found, where that was looked for.
@@ -504,7 +507,6 @@ impl Ledger {
             turns,
             sayings: _,
             fronts: _,
-            last: _,
             span: _,
         } = self;
         Ended {
@@ -516,6 +518,18 @@ impl Ledger {
             hub,
             crew,
         }
+    }
+}
+
+/// Adds a turn to a log that has room for it.
+#[inline(always)]
+fn add(log: &mut Strip<Turn>, turn: Turn)
+    requires { length log.old.list < log.old.room }
+    ensures { log.new ≡ record log.old { list = log.old.list ++ turn ∷ [] } }
+{
+    match log.push(turn) {
+        Ok(()) => {}
+        Err(_) => unreachable!(),
     }
 }
 

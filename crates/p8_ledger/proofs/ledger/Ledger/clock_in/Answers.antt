@@ -15,9 +15,9 @@ returns-in-None-wake_clock c = λ w r found spans late.
     let far : w.clocks ≤ 18446744073709551615 = omega (arith, c.args.self.now.clocks) in
     let small : w.clocks ≤ 2 ^ 62 = omega (arith, c.args.self.now.clocks) in
     clock-silent w r c.args.cog c.front-front.result.clock c.front-front.result.test (c.front-front.ensures w r found) c.args.span.now.end c.in-Some.test c.in-Some.is c.args.from late _ far small
-    (c.in-None-wake_clock.ensures.first w (turns r) found.hub (c.args.self.now.newest ∙ ap newest_key found.log) spans)
+    (c.in-None-wake_clock.ensures.first w (turns r) found.hub (c.last.ensures.key ∙ ap newest_key found.log) spans)
 
 pub returns-in-Some-wake_clock : goal.returns-in-Some-wake_clock
 returns-in-Some-wake_clock c = λ w r found spans late.
     clock-woken w r c.args.cog c.front-front.result.clock c.front-front.result.test (c.front-front.ensures w r found) c.args.span.now.end c.in-Some.test c.in-Some.is c.args.from late c.in-Some-wake_clock.clock
-    (c.in-Some-wake_clock.ensures.first w (turns r) found.hub (c.args.self.now.newest ∙ ap newest_key found.log) spans)
+    (c.in-Some-wake_clock.ensures.first w (turns r) found.hub (c.last.ensures.key ∙ ap newest_key found.log) spans)

@@ -1,4 +1,4 @@
-use Rattle.std.proofs.Common.{◌≡◌, ◌∙◌, ap, sym, subst, refl, ℕ, ◌<◌, List, ◌∷◌, length, reverse}
+use Rattle.std.proofs.Common.{IfSome, ◌^◌, ◌≡◌, ◌∙◌, ap, sym, subst, refl, ℕ, ◌<◌, List, ◌∷◌, length, reverse}
 use Rattle.std.proofs.lemmas.List.{length-set}
 use Rattle.p8_access.specs.declared.lives.Next.TheVariants.{More}
 use Rattle.p8_access.specs.declared.order.Turn.{Turn}
@@ -20,12 +20,11 @@ use Rattle.p8_ledger.proofs.ledger.Ledger.make.Goals as goal
 pub invariant_of-self : goal.invariant_of-self
 invariant_of-self c = record {
   clocks = c.args.self.now.clocks;
-  room = ap (λ (t : Bounded Turn). t.room) c.in-Ok.ensures.ok ∙ c.args.self.now.room;
-  newest = sym (ap (λ (t : Bounded Turn). newest_key (reverse t.list)) c.in-Ok.ensures.ok ∙ ap newest_key (reverse-push c.args.self.now.turns.list (record { key = c.args.key; access = c.args.due.access; answer = c.answer-answer.result })));
-  small = c.requires.clock;
+  room = ap (λ (t : Bounded Turn). t.room) c.add.ensures ∙ c.args.self.now.room;
+  small = subst (λ (l : List Turn). IfSome (newest_key l) (λ key. key.clock < 2 ^ 61)) (sym (ap (λ (t : Bounded Turn). reverse t.list) c.add.ensures ∙ reverse-push c.args.self.now.turns.list (record { key = c.args.key; access = c.args.due.access; answer = c.answer-answer.result }))) c.requires.clock;
   eight = length-set c.args.self.now.sayings c.args.key.cog (More _) ∙ c.args.self.now.eight;
   made = made-after c.args.self.now.sayings c.args.key.cog (More _) c.args.self.now.made tt;
-  proper = subst AreProper (sym (ap (λ (t : Bounded Turn). t.list) c.in-Ok.ensures.ok)) (one-more c.args.self.now.turns.list (record { key = c.args.key; access = c.args.due.access; answer = c.answer-answer.result }) c.args.self.now.proper (c.requires.cog, c.requires.suits.proper, has-number c.args.due.access c.answer-answer.result c.requires.suits.proper c.answer-answer.ensures.fits));
+  proper = subst AreProper (sym (ap (λ (t : Bounded Turn). t.list) c.add.ensures)) (one-more c.args.self.now.turns.list (record { key = c.args.key; access = c.args.due.access; answer = c.answer-answer.result }) c.args.self.now.proper (c.requires.cog, c.requires.suits.proper, has-number c.args.due.access c.answer-answer.result c.requires.suits.proper c.answer-answer.ensures.fits));
 }
 
 pub returns-clause-made : goal.returns-clause-made
@@ -36,7 +35,7 @@ returns-clause-made c = record {
   made = c.requires.suits.made;
   announced = λ saying running at. next-announced (announced_by saying) c.args.key.clock c.args.key.cog c.args.due.access c.answer-answer.result (c.requires.suits.next saying running at);
   room = subst (λ (m : ℕ). length c.args.self.now.turns.list < m) c.args.self.now.room c.requires.room;
-  log = ap (λ (t : Bounded Turn). t.list) c.in-Ok.ensures.ok;
+  log = ap (λ (t : Bounded Turn). t.list) c.add.ensures;
   sayings = refl;
   boot = refl;
   limits = refl;
@@ -51,7 +50,7 @@ returns-clause-found c = λ w r found extends fits.
     let limit : c.args.self.now.limits.clocks ≡ w.clocks = ap (λ (w : World). w.clocks) found.world in
     record {
       world = found.world;
-      log = ap (λ (t : Bounded Turn). reverse t.list) c.in-Ok.ensures.ok ∙ reverse-push c.args.self.now.turns.list turn ∙ ap (λ (l : List Turn). turn ∷ l) found.log;
+      log = ap (λ (t : Bounded Turn). reverse t.list) c.add.ensures ∙ reverse-push c.args.self.now.turns.list turn ∙ ap (λ (l : List Turn). turn ∷ l) found.log;
       hub = hub;
       sayings = sayings;
       truth = take-truth w r turn found.truth extends (λ origin state. c.requires.suits.made (running-is c.args.due.running (cog_state w (turns r) c.args.key.cog) origin fits state));
