@@ -1,4 +1,4 @@
--- What a refusal says to a person: where it is, the line with a mark under the place, what is wrong and what often mends it. Places are
+-- What a refusal says to a person: where it is, the line with a mark under the place, what stands there, what is wrong and what often mends it. Places are
 -- those of refusals: a line ends at LF, CR LF or CR, and a tab goes to the next column of the form 8k + 1.
 use Rattle.std.specs.Prelude.{ℕ, ◌-◌, ◌==◌, nat_le, List, [], ◌∷◌, ◌++◌, take, drop, replicate, codes, Option, Some, None, if◌then◌else◌}
 use Rattle.std.specs.Fmt.{decimal}
@@ -10,6 +10,8 @@ use Rattle.p8_lexer.specs.Lexing.{is_between, is_line_end, longest_file}
 use Rattle.p8_lexer.specs.Places.{start, behind, next_tab}
 use Rattle.p8_lexer.specs.Refusals.{name_of}
 use Rattle.p8_explain.specs.Entries.{says, example, mends}
+use Rattle.p8_explain.specs.Causes.{seen, token_at}
+use Rattle.p8_explain.specs.Standing.{of_byte, of_name}
 
 -- ---- refusals by their numbers
 
@@ -104,9 +106,20 @@ position place = decimal place.line ++ codes ":" ++ decimal place.column ++ code
 abbrev pub place_text : (file : List ℕ) → Place → List ℕ
 place_text file place = file ++ codes ":" ++ position place
 
+-- what stands at a place of a file that is refused so, where more can be said of it: of a character that begins no token, of a token that can't
+-- stand there, and of a name that is defined again
+abbrev pub found : Option Refusal → (bytes line : List ℕ) → Place → List ℕ
+found (Some refusal.BadByte) bytes line place = of_byte bytes place
+found (Some refusal.Unexpected) bytes line place = seen line (place.column - 1)
+found (Some refusal.Duplicate) bytes line place = of_name bytes (token_at (drop (place.column - 1) line)) place
+found _ bytes line place = []
+
 abbrev pub explanation_of : (file bytes : List ℕ) → (number : ℕ) → Place → List ℕ
 explanation_of file bytes number place =
-    place_text file place ++ title number ++ marked (line_of bytes place.line) place.column ++ advice (numbered number)
+    place_text file place ++ title number ++ shown_with (line_of bytes place.line) ++ advice (numbered number)
+  where
+    shown_with : (line : List ℕ) → List ℕ
+    shown_with line = marked line place.column ++ found (numbered number) bytes line place
 
 abbrev pub entry_of : (number : ℕ) → List ℕ
 entry_of number = title number ++ advice (numbered number) ++ sample (numbered number)

@@ -9,27 +9,27 @@ pub(crate) fn says(refusal: Refusal) -> &'static str
     ensures { result.now ≡ says refusal }
 {
     match refusal {
-        Refusal::BadByte => "No token begins with this character.",
+        Refusal::BadByte => "No token begins with this character, or the file is UTF-16 and ends in half a unit.",
         Refusal::BadNumber =>
             "This isn't a number: it has no digit of its base, is above 4,294,967,295, or a letter or a digit stands right after it.",
         Refusal::OpenComment => "This comment isn't closed.",
         Refusal::OpenString => "This string isn't closed on its line.",
         Refusal::NameTooLong => "This name has more than 30 characters.",
-        Refusal::Unexpected => "This can't stand here: no line begins or goes on so.",
+        Refusal::Unexpected => "No line begins or goes on so, or the file ends here and more must follow.",
         Refusal::BadIndent => "Nothing at this column goes on with this word.",
         Refusal::TooNested =>
-            "This is nested too deeply: an expression may be 64 high, and 64 blocks may be open.",
+            "This is nested too deeply: an expression may be 64 high, 63 in an action, and 64 blocks may be open, the method among them.",
         Refusal::Float => "Floating point isn't computed.",
         Refusal::Unsupported => "This word or form is known, and left out here.",
         Refusal::LoopWord => "NEXT and QUIT stand only in a REPEAT.",
         Refusal::NotConstant =>
             "A constant is needed here, and this isn't one, or it is defined by itself.",
-        Refusal::ZeroDivisor => "This constant is divided by 0.",
-        Refusal::Duplicate => "This name is defined already. Letters in either case are the same.",
-        Refusal::Unknown => "This name has no definition.",
+        Refusal::ZeroDivisor => "The right side of this operator is 0.",
+        Refusal::Duplicate => "This name has another definition. Letters in either case are the same.",
+        Refusal::Unknown => "This name has no definition that is seen here.",
         Refusal::WrongKind => "This name is defined, and can't be used so.",
         Refusal::WrongArity =>
-            "The number of arguments isn't that of the method's parameters, or a method has more than 15.",
+            "The number of arguments isn't that of the method or built-in, or a method has more than 15 parameters.",
         Refusal::NoPub => "The top file has no PUB, so nothing would run.",
         Refusal::Cycle => "This object leads back to a file that uses it.",
         Refusal::TooManyObjects =>
@@ -40,11 +40,11 @@ pub(crate) fn says(refusal: Refusal) -> &'static str
         Refusal::NoRetLabel => "CALL #x needs a label x_RET at the end of the routine.",
         Refusal::JumpTooFar => "A jump of this statement would go too far.",
         Refusal::FrameTooLarge =>
-            "The method's parameters and locals are more than 2,048 longs, or an expression holds more than 128 values.",
+            "The method's result, parameters and locals are more than 2,048 longs, or it holds more than 128 values at once.",
         Refusal::TooManyMethods =>
             "The file has more than 254 methods, or more than 255 methods and objects together.",
-        Refusal::ImageTooLarge => "The program and its variables don't fit into 32,768 bytes.",
-        Refusal::BadClock => "The clock's constants don't agree.",
+        Refusal::ImageTooLarge => "The program, its variables and the first method's frame don't fit into 32,768 bytes.",
+        Refusal::BadClock => "_clkmode is no mode, or an outer clock has no frequency, or two that differ.",
         Refusal::FileTooLong => "The file has more than 1,048,576 bytes.",
     }
 }
@@ -101,7 +101,7 @@ pub(crate) fn mends(refusal: Refusal) -> &'static str
         Refusal::OpenString => "Write a second \" at its end.",
         Refusal::NameTooLong => "Shorten the name.",
         Refusal::Unexpected =>
-            "Look at what stands before it: a missing operator, bracket or comma is told at the token after it. := assigns, and = defines constants in CON.",
+            "Look at what stands before it: a missing operator, bracket, comma or colon is told at the token after it.",
         Refusal::BadIndent =>
             "Give an ELSE kind the column of its IF, and WHILE or UNTIL that of its REPEAT.",
         Refusal::TooNested => "Split the expression, or move inner blocks to a method.",
@@ -111,9 +111,9 @@ pub(crate) fn mends(refusal: Refusal) -> &'static str
         Refusal::LoopWord => "Use RETURN to leave a method, or check the indentation.",
         Refusal::NotConstant => "Use numbers, constants and operators alone.",
         Refusal::ZeroDivisor => "Check the constants of the divisor.",
-        Refusal::Duplicate => "Choose another name.",
+        Refusal::Duplicate => "Choose another name. TRUE, XTAL1 and the language's other constants are names of every file.",
         Refusal::Unknown =>
-            "Check its spelling. A name of another file stands after the object's name, as object.method or object#CONSTANT.",
+            "Check its spelling. Of another file PUBs and constants are seen, after the object's name, as object.method or object#CONSTANT.",
         Refusal::WrongKind =>
             "A constant and a method can't be assigned, and a variable can't be called.",
         Refusal::WrongArity => "Compare the call with the method's first line.",

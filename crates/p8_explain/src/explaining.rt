@@ -1,9 +1,11 @@
 // What a refusal says to a person.
 ghost use Rattle.std.specs.Prelude.{◌≡◌, ◌++◌, OnOk, IfOk};
-ghost use Rattle.p8_explain.specs.Explaining.{numbered, name, advice, sample, title, position, place_text, explanation_of, entry_of};
+ghost use Rattle.p8_explain.specs.Explaining.{numbered, name, advice, found, sample, title, position, place_text, explanation_of, entry_of};
 
+use crate::causes::{push_seen, token_at};
 use crate::entries::{example, mends, says};
-use crate::lines::push_marked;
+use crate::lines::{line_of, push_marked, rest_of};
+use crate::standing::{push_of_byte, push_of_name};
 use crate::texts::{push_decimal, push_text};
 use p8_lexer::Refusal;
 use p8_tree::{Place, Text};
@@ -75,6 +77,25 @@ fn push_advice(out: &mut Vec<u8>, refusal: Option<Refusal>) -> Result<(), NoMemo
     }
 }
 
+// Appends what stands at a place of a file, where more can be said of it.
+fn push_found(
+    out: &mut Vec<u8>,
+    refusal: Option<Refusal>,
+    bytes: &[u8],
+    line: &[u8],
+    place: Place,
+) -> Result<(), NoMemory>
+    ensures { OnOk result (out.new.items ≡ out.old.items ++ found refusal bytes.now line.now place) }
+{
+    let at = (place.column as usize).saturating_sub(1);
+    match refusal {
+        Some(Refusal::BadByte) => push_of_byte(out, bytes, place),
+        Some(Refusal::Unexpected) => push_seen(out, line, at),
+        Some(Refusal::Duplicate) => push_of_name(out, bytes, token_at(rest_of(line, at)), place),
+        _ => Ok(()),
+    }
+}
+
 // Appends a line that is refused so.
 fn push_sample(out: &mut Vec<u8>, refusal: Option<Refusal>) -> Result<(), NoMemory>
     ensures { OnOk result (out.new.items ≡ out.old.items ++ sample refusal) }
@@ -135,9 +156,11 @@ pub fn explanation(
     ensures { IfOk result (λ text. text.items ≡ explanation_of name.now bytes.now number place) }
 {
     let mut out = Vec::new(alloc);
+    let line = line_of(alloc, bytes, place.line)?;
     push_place(&mut out, name, place)?;
     push_title(&mut out, number)?;
-    push_marked(&mut out, alloc, bytes, place)?;
+    push_marked(&mut out, line.as_slice(), place.column)?;
+    push_found(&mut out, numbered(number), bytes, line.as_slice(), place)?;
     push_advice(&mut out, numbered(number))?;
     Ok(out)
 }

@@ -12,8 +12,11 @@ use std::alloc::Global;
 
 const LONGEST: usize = 1_048_576;
 
-// The place after a character that stands at a place, after another character.
-fn behind(before: u8, place: Place, c: u8) -> Place
+/// Where a text begins.
+pub(crate) const START: Place = Place { line: 1, column: 1 };
+
+/// The place after a character that stands at a place, after another character.
+pub(crate) fn behind(before: u8, place: Place, c: u8) -> Place
     requires line { place.line < 2 ^ 31 }
     requires counted { 1 ≤ place.column }
     requires column { place.column < 2 ^ 31 }
@@ -80,7 +83,7 @@ fn line_from(alloc: Global, line: u32, text: &Characters) -> Result<Vec<u8>, NoM
     ensures { IfOk result (λ v. v.items ≡ line_from line 0 start text.now) }
 {
     let mut out = Vec::new(alloc);
-    let mut place = Place { line: 1, column: 1 };
+    let mut place = START;
     let mut before = 0;
     for i in 0..text.len() {
         let c = text.at(i);
@@ -91,8 +94,8 @@ fn line_from(alloc: Global, line: u32, text: &Characters) -> Result<Vec<u8>, NoM
     Ok(out)
 }
 
-// A text up to the length that a file may have.
-fn front<'a>(text: &Characters<'a>) -> Characters<'a>
+/// A text up to the length that a file may have.
+pub(crate) fn front<'a>(text: &Characters<'a>) -> Characters<'a>
     ensures front { result ≡ take longest_file text.now }
     ensures short { length result ≤ 2 ^ 20 }
 {
@@ -103,8 +106,8 @@ fn front<'a>(text: &Characters<'a>) -> Characters<'a>
     }
 }
 
-// What a line of a file shows.
-fn line_of(alloc: Global, bytes: &[u8], line: u32) -> Result<Vec<u8>, NoMemory>
+/// What a line of a file shows.
+pub(crate) fn line_of(alloc: Global, bytes: &[u8], line: u32) -> Result<Vec<u8>, NoMemory>
     ensures { IfOk result (λ v. v.items ≡ line_of bytes.now line) }
 {
     let text = front(&Characters::of_file(bytes));
@@ -122,8 +125,8 @@ fn left_of(column: u32) -> usize
     }
 }
 
-// A line from a column on, counted from 0.
-fn rest_of(line: &[u8], left: usize) -> &[u8]
+/// A line from a column on, counted from 0.
+pub(crate) fn rest_of(line: &[u8], left: usize) -> &[u8]
     ensures { result.now ≡ drop left line.now }
 {
     if left < line.len() {
@@ -133,31 +136,27 @@ fn rest_of(line: &[u8], left: usize) -> &[u8]
     }
 }
 
-// At most 100 columns.
-fn first_of(line: &[u8]) -> &[u8]
-    ensures { result.now ≡ take 100 line.now }
+/// At most so many columns of a line.
+pub(crate) fn first_of(line: &[u8], count: usize) -> &[u8]
+    ensures { result.now ≡ take count line.now }
 {
-    if line.len() < 100 { line } else { &line[..100] }
+    if line.len() < count {
+        line
+    } else {
+        &line[..count]
+    }
 }
 
-/// Appends the line of a place, and a mark under the place.
-pub(crate) fn push_marked(
-    out: &mut Vec<u8>,
-    alloc: Global,
-    bytes: &[u8],
-    place: Place,
-) -> Result<(), NoMemory>
-    ensures { OnOk result (out.new.items ≡ out.old.items ++ marked (line_of bytes.now place.line) place.column) }
+/// Appends a line, and a mark under one of its columns.
+pub(crate) fn push_marked(out: &mut Vec<u8>, line: &[u8], column: u32) -> Result<(), NoMemory>
+    ensures { OnOk result (out.new.items ≡ out.old.items ++ marked line.now column) }
 {
-    let line = line_of(alloc, bytes, place.line)?;
-    let left = left_of(place.column);
-    push_text(out, first_of(rest_of(line.as_slice(), left)))?;
+    let left = left_of(column);
+    push_text(out, first_of(rest_of(line, left), 100))?;
     push_text(out, b"\n")?;
     push_spaces(
         out,
-        (place.column as usize)
-            .saturating_sub(1)
-            .saturating_sub(left),
+        (column as usize).saturating_sub(1).saturating_sub(left),
     )?;
     push_text(out, b"^\n")?;
     Ok(())
