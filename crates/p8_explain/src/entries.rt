@@ -9,13 +9,15 @@ pub(crate) fn says(refusal: Refusal) -> &'static str
     ensures { result.now ≡ says refusal }
 {
     match refusal {
-        Refusal::BadByte => "No token begins with this character, or the file is UTF-16 and ends in half a unit.",
+        Refusal::BadByte =>
+            "No token begins with this character, or the file is UTF-16 and ends in half a unit.",
         Refusal::BadNumber =>
             "This isn't a number: it has no digit of its base, is above 4,294,967,295, or a letter or a digit stands right after it.",
         Refusal::OpenComment => "This comment isn't closed.",
         Refusal::OpenString => "This string isn't closed on its line.",
         Refusal::NameTooLong => "This name has more than 30 characters.",
-        Refusal::Unexpected => "No line begins or goes on so, or the file ends here and more must follow.",
+        Refusal::Unexpected =>
+            "No line begins or goes on so, or the file ends here and more must follow.",
         Refusal::BadIndent => "Nothing at this column goes on with this word.",
         Refusal::TooNested =>
             "This is nested too deeply: an expression may be 64 high, 63 in an action, and 64 blocks may be open, the method among them.",
@@ -25,7 +27,8 @@ pub(crate) fn says(refusal: Refusal) -> &'static str
         Refusal::NotConstant =>
             "A constant is needed here, and this isn't one, or it is defined by itself.",
         Refusal::ZeroDivisor => "The right side of this operator is 0.",
-        Refusal::Duplicate => "This name has another definition. Letters in either case are the same.",
+        Refusal::Duplicate =>
+            "This name has another definition. Letters in either case are the same.",
         Refusal::Unknown => "This name has no definition that is seen here.",
         Refusal::WrongKind => "This name is defined, and can't be used so.",
         Refusal::WrongArity =>
@@ -43,8 +46,10 @@ pub(crate) fn says(refusal: Refusal) -> &'static str
             "The method's result, parameters and locals are more than 2,048 longs, or it holds more than 128 values at once.",
         Refusal::TooManyMethods =>
             "The file has more than 254 methods, or more than 255 methods and objects together.",
-        Refusal::ImageTooLarge => "The program, its variables and the first method's frame don't fit into 32,768 bytes.",
-        Refusal::BadClock => "_clkmode is no mode, or an outer clock has no frequency, or two that differ.",
+        Refusal::ImageTooLarge =>
+            "The program, its variables and the first method's frame don't fit into 32,768 bytes.",
+        Refusal::BadClock =>
+            "_clkmode is no mode, or an outer clock has no frequency, or two that differ.",
         Refusal::FileTooLong => "The file has more than 1,048,576 bytes.",
     }
 }
@@ -111,7 +116,8 @@ pub(crate) fn mends(refusal: Refusal) -> &'static str
         Refusal::LoopWord => "Use RETURN to leave a method, or check the indentation.",
         Refusal::NotConstant => "Use numbers, constants and operators alone.",
         Refusal::ZeroDivisor => "Check the constants of the divisor.",
-        Refusal::Duplicate => "Choose another name. TRUE, XTAL1 and the language's other constants are names of every file.",
+        Refusal::Duplicate =>
+            "Choose another name. TRUE, XTAL1 and the language's other constants are names of every file.",
         Refusal::Unknown =>
             "Check its spelling. Of another file PUBs and constants are seen, after the object's name, as object.method or object#CONSTANT.",
         Refusal::WrongKind =>

@@ -6,6 +6,8 @@ mod entries;
 mod explaining;
 mod lines;
 mod standing;
+#[cfg(test)]
+mod tests;
 mod texts;
 
 pub use explaining::{entry, explanation};

@@ -50,12 +50,7 @@ fn has_mark(bytes: &[u8]) -> bool
 }
 
 // Appends a number between two texts.
-fn push_between(
-    out: &mut Vec<u8>,
-    before: &[u8],
-    number: u64,
-    after: &[u8],
-) -> Result<(), NoMemory>
+fn push_between(out: &mut Vec<u8>, before: &[u8], number: u64, after: &[u8]) -> Result<(), NoMemory>
     ensures { OnOk result (out.new.items ≡ out.old.items ++ between before.now number after.now) }
 {
     push_text(out, before)?;
@@ -75,7 +70,10 @@ fn push_of_character(out: &mut Vec<u8>, character: Option<u8>) -> Result<(), NoM
     ensures { OnOk result (out.new.items ≡ out.old.items ++ of_character character) }
 {
     match character {
-        None => push_text(out, b"Half a unit of UTF-16 stands here, at the end of the file.\n"),
+        None => push_text(
+            out,
+            b"Half a unit of UTF-16 stands here, at the end of the file.\n",
+        ),
         Some(c) => {
             if c == 26 {
                 push_text(

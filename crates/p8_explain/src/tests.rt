@@ -1,0 +1,238 @@
+// Whole explanations, of sources with their refusals.
+use crate::{entry, explanation};
+use p8_tree::{Place, Text};
+use p8_words::NoMemory;
+use std::alloc::Global;
+use std::test::Fail;
+
+/// The explanation of a file `m.spin`.
+fn explained(
+    alloc: Global,
+    bytes: &[u8],
+    number: u8,
+    line: u32,
+    column: u32,
+) -> Result<Vec<u8>, NoMemory> {
+    let name = Text::copy_of(alloc, b"m.spin")?;
+    explanation(alloc, &name, bytes, number, Place { line, column })
+}
+
+/// A token that can't stand where it does, told apart by what its line shows: after a tab, in UTF-16, with CR LF, in a long line.
+#[test]
+fn unexpected(rt: HostRuntime) -> Result<(), Fail> {
+    let cases: [(&[u8], u32, u32, &[u8]); 4] = [
+        (
+            b"PUB main\n\ta := next\n",
+            2,
+            14,
+            b"m.spin:2:14: 6 Unexpected\n\
+                \x20       a := next\n\
+                \x20            ^\n\
+                `next` is a reserved word, and can't be a name.\n\
+                No line begins or goes on so, or the file ends here and more must follow.\n\
+                Look at what stands before it: a missing operator, bracket, comma or colon is told at the token after it.\n",
+        ),
+        (
+            b"\xff\xfeP\0U\0B\0 \0m\0a\0i\0n\0\r\0\n\0 \0a\0 \0=\0 \01\0\r\0\n\0",
+            2,
+            4,
+            b"m.spin:2:4: 6 Unexpected\n\
+                \x20a = 1\n\
+                \x20  ^\n\
+                `:=` assigns; `=` alone defines constants in CON.\n\
+                No line begins or goes on so, or the file ends here and more must follow.\n\
+                Look at what stands before it: a missing operator, bracket, comma or colon is told at the token after it.\n",
+        ),
+        (
+            b"PUB main\r\n  a := \r\n  b := 1\r\n",
+            2,
+            8,
+            b"m.spin:2:8: 6 Unexpected\n\
+                \x20 a := \n\
+                \x20      ^\n\
+                The line ends here, where more must follow, as a name, a value, a closing bracket or the : of a CASE item.\n\
+                No line begins or goes on so, or the file ends here and more must follow.\n\
+                Look at what stands before it: a missing operator, bracket, comma or colon is told at the token after it.\n",
+        ),
+        (
+            b"CON\nx = 1 + 1 + 1 + 1 + 1 + 1 + 1 + 1 + 1 + 1 + 1 + 1 + 1 + 1 + 1 + 1 + 1 + 1 + 1\
+                \x20+ 1 + 1 + 1 + 1 + 1 + next\n",
+            2,
+            101,
+            b"m.spin:2:101: 6 Unexpected\n\
+                \x201 + 1 + 1 + 1 + 1 + 1 + 1 + 1 + 1 + 1 + 1 + 1 + next\n\
+                \x20                                                ^\n\
+                `next` is a reserved word, and can't be a name.\n\
+                No line begins or goes on so, or the file ends here and more must follow.\n\
+                Look at what stands before it: a missing operator, bracket, comma or colon is told at the token after it.\n",
+        ),
+    ];
+    for (bytes, line, column, expected) in cases {
+        let text = explained(rt.alloc(), bytes, 6, line, column)?;
+        assert_eq!(rt; text.as_slice(), expected);
+    }
+    Ok(())
+}
+
+/// A token that can't stand where it does, by what stands before it.
+#[test]
+fn told_apart(rt: HostRuntime) -> Result<(), Fail> {
+    let cases: [(&[u8], u32, u32, &[u8]); 4] = [
+        (
+            b"PUB main\n  m()\n",
+            2,
+            5,
+            b"m.spin:2:5: 6 Unexpected\n\
+                \x20 m()\n\
+                \x20   ^\n\
+                Nothing stands in these parentheses: leave them out, or write what belongs in them.\n\
+                No line begins or goes on so, or the file ends here and more must follow.\n\
+                Look at what stands before it: a missing operator, bracket, comma or colon is told at the token after it.\n",
+        ),
+        (
+            b"PUB main\n  a := 1 2\n",
+            2,
+            10,
+            b"m.spin:2:10: 6 Unexpected\n\
+                \x20 a := 1 2\n\
+                \x20        ^\n\
+                `2` follows another word or value, with no operator, comma, bracket or colon between them.\n\
+                No line begins or goes on so, or the file ends here and more must follow.\n\
+                Look at what stands before it: a missing operator, bracket, comma or colon is told at the token after it.\n",
+        ),
+        (
+            b"PUB main\n  + 1\n",
+            2,
+            3,
+            b"m.spin:2:3: 6 Unexpected\n\
+                \x20 + 1\n\
+                \x20 ^\n\
+                The line begins with `+`.\n\
+                No line begins or goes on so, or the file ends here and more must follow.\n\
+                Look at what stands before it: a missing operator, bracket, comma or colon is told at the token after it.\n",
+        ),
+        (
+            b"CON\n  x = *2\n",
+            2,
+            7,
+            b"m.spin:2:7: 6 Unexpected\n\
+                \x20 x = *2\n\
+                \x20     ^\n\
+                The line can be read up to `*`.\n\
+                No line begins or goes on so, or the file ends here and more must follow.\n\
+                Look at what stands before it: a missing operator, bracket, comma or colon is told at the token after it.\n",
+        ),
+    ];
+    for (bytes, line, column, expected) in cases {
+        let text = explained(rt.alloc(), bytes, 6, line, column)?;
+        assert_eq!(rt; text.as_slice(), expected);
+    }
+    Ok(())
+}
+
+/// A mark of UTF-8, a last Ctrl-Z, half a unit, and a character above 127.
+#[test]
+fn bad_characters(rt: HostRuntime) -> Result<(), Fail> {
+    let cases: [(&[u8], u32, u32, &[u8]); 4] = [
+        (
+            b"\xef\xbb\xbfPUB main\n",
+            1,
+            1,
+            b"m.spin:1:1: 1 BadByte\n\
+                ???PUB main\n\
+                ^\n\
+                The file begins with the mark of UTF-8, the bytes EF BB BF: store it without that mark.\n\
+                No token begins with this character, or the file is UTF-16 and ends in half a unit.\n\
+                Take the character away, or type it again: a copied text may hold one that only looks like another.\n",
+        ),
+        (
+            b"PUB main\r\n\x1a",
+            2,
+            1,
+            b"m.spin:2:1: 1 BadByte\n\
+                ?\n\
+                ^\n\
+                This is Ctrl-Z, character 26, which some editors put at the end of a file.\n\
+                No token begins with this character, or the file is UTF-16 and ends in half a unit.\n\
+                Take the character away, or type it again: a copied text may hold one that only looks like another.\n",
+        ),
+        (
+            b"\xff\xfeP\0U",
+            1,
+            2,
+            b"m.spin:1:2: 1 BadByte\n\
+                P\n\
+                \x20^\n\
+                Half a unit of UTF-16 stands here, at the end of the file.\n\
+                No token begins with this character, or the file is UTF-16 and ends in half a unit.\n\
+                Take the character away, or type it again: a copied text may hold one that only looks like another.\n",
+        ),
+        (
+            b"PUB main\n\x84\n",
+            2,
+            1,
+            b"m.spin:2:1: 1 BadByte\n\
+                ?\n\
+                ^\n\
+                This is character 132.\n\
+                No token begins with this character, or the file is UTF-16 and ends in half a unit.\n\
+                Take the character away, or type it again: a copied text may hold one that only looks like another.\n",
+        ),
+    ];
+    for (bytes, line, column, expected) in cases {
+        let text = explained(rt.alloc(), bytes, 1, line, column)?;
+        assert_eq!(rt; text.as_slice(), expected);
+    }
+    Ok(())
+}
+
+/// A name that is defined twice, and one that the language has; another name that holds the letters doesn't count.
+#[test]
+fn duplicates(rt: HostRuntime) -> Result<(), Fail> {
+    let cases: [(&[u8], u32, u32, &[u8]); 2] = [
+        (
+            b"PRI domain\nPUB main\nPUB Main\n",
+            3,
+            5,
+            b"m.spin:3:5: 14 Duplicate\n\
+                PUB Main\n\
+                \x20   ^\n\
+                `Main` stands first at 2:5, where comments and strings count.\n\
+                This name has another definition. Letters in either case are the same.\n\
+                Choose another name. TRUE, XTAL1 and the language's other constants are names of every file.\n",
+        ),
+        (
+            b"PUB main\nCON true = 1\n",
+            2,
+            5,
+            b"m.spin:2:5: 14 Duplicate\n\
+                CON true = 1\n\
+                \x20   ^\n\
+                `true` stands nowhere before this: it is a constant of the language, or this file defines it further down.\n\
+                This name has another definition. Letters in either case are the same.\n\
+                Choose another name. TRUE, XTAL1 and the language's other constants are names of every file.\n",
+        ),
+    ];
+    for (bytes, line, column, expected) in cases {
+        let text = explained(rt.alloc(), bytes, 14, line, column)?;
+        assert_eq!(rt; text.as_slice(), expected);
+    }
+    Ok(())
+}
+
+/// A refusal by its number.
+#[test]
+fn entries(rt: HostRuntime) -> Result<(), Fail> {
+    let text = entry(rt.alloc(), 26)?;
+    let expected = b"26 FrameTooLarge\n\
+        The method's result, parameters and locals are more than 2,048 longs, or it holds more than 128 values at once.\n\
+        Put large arrays into VAR.\n\
+        Example: PUB main | a[2048]\n";
+    assert_eq!(rt; text.as_slice(), expected.as_slice());
+    let text = entry(rt.alloc(), 31)?;
+    assert_eq!(rt;
+        text.as_slice(),
+        b"31 \nNo refusal has this number.\n".as_slice()
+    );
+    Ok(())
+}
