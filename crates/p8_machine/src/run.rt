@@ -81,9 +81,7 @@ impl Machine {
     }
 
     /// Makes the turn with the least key; false exactly where the history has ended.
-    ///
-    /// Not inlined, since two call it: so all that a turn calls has one caller, and is inlined here.
-    #[inline(never)]
+    #[inline(always)]
     fn advance(&mut self) -> bool
         ensures extends { IsStanding self.old → result ≡ true → (turn : Turn) → past_in self.new ≡ turn ∷ past_in self.old → Extends asks (world_in self.old) (past_in self.old) turn }
         ensures over { IsStanding self.old → (result ≡ false) ↔ IsOver asks (world_in self.old) (past_in self.old) }
