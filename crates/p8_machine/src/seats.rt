@@ -90,6 +90,7 @@ impl Seats {
 
     /// A life begins in a cog with its first turn, where one can begin with this origin, and tells its first access
     /// below the clock `until`.
+    #[inline(always)]
     fn begin(&mut self, memory: &Ram, origin: Origin, key: Key, until: u64) -> Next
         requires cog { key.cog < 8 }
         requires clock { key.clock < 2 ^ 62 }
