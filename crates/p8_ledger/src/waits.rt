@@ -25,9 +25,12 @@ pub fn test_of(access: Access) -> Option<Test>
 pub fn is_timely(access: Access, earliest: u64, clock: u64) -> bool
     ensures { IsTrue result ↔ IsTimely (test_in access) earliest clock }
 {
+    if earliest == clock {
+        return true;
+    }
     match test_of(access) {
-        None => earliest == clock,
-        Some(_) => earliest <= clock,
+        None => false,
+        Some(_) => earliest < clock,
     }
 }
 
