@@ -1,3 +1,4 @@
-mod LineText
+mod Decimals
+mod LongText
 mod Ranges
 mod LineEnds

@@ -2,6 +2,7 @@
 #![tactic(auto)]
 
 mod accesses;
+mod clocks;
 mod dump;
 mod history_text;
 mod line;

@@ -1,46 +1,82 @@
 // The lines of turns.
-ghost use Rattle.std.specs.Prelude.{◌≡◌, ◌≤◌, ◌++◌, ◌∷◌, [], List, codes, take, reverse, OnOk, IfOk};
+ghost use Rattle.std.specs.Prelude.{◌≡◌, ◌≤◌, ◌+◌, ◌++◌, ◌∷◌, [], List, codes, take, reverse, OnOk, IfOk};
 ghost use Rattle.std.specs.Fmt.{decimal};
 ghost use Rattle.p8_access.specs.declared.order.Turn.{Turn};
 ghost use Rattle.p8_access.specs.Worlds.{World};
 ghost use Rattle.p8_access.specs.Hub.{cog_state, origin_of};
+ghost use Rattle.p8_report.specs.Origins.{AreOrigins};
 ghost use Rattle.p8_report.specs.Text.{access_text, line_of, lines_of};
 
 use crate::accesses::write_access;
-use crate::line::{LINE, write_number, write_text};
+use crate::clocks::Front;
+use crate::line::{LINE, PAGE, write_number, write_text};
 use crate::origins::Origins;
-use itoa::write_digits;
 use p8_access::{Origin, Turn};
 use p8_words::NoMemory;
 use std::alloc::Global;
 
-/// Where a clock ends in a line. The greatest has so many digits.
-const CLOCK: usize = 20;
-
-/// Writes the line of a turn after the clock; `own` is what its cog was started with.
+/// Writes the line of a turn after its clock.
 #[inline(always)]
-fn write_turn(line: &mut [u8; LINE], own: &Origin, turn: &Turn) -> usize
-    ensures end { result ≤ 64 }
-    ensures begin { 20 ≤ result }
-    ensures text { take result line.new ≡ take 20 line.old ++ (codes " " ++ decimal turn.now.key.cog ++ codes " " ++ access_text own.now turn.now.access turn.now.answer ++ 10 ∷ []) }
+fn write_turn(page: &mut [u8; PAGE], at: usize, origins: &Origins, turn: &Turn) -> usize
+    requires { at + 44 ≤ 4096 }
+    ensures end { result ≤ at + 44 }
+    ensures text { (w : World) (past : List Turn) → AreOrigins w past origins.now → take result page.new ≡ take at page.old ++ (codes " " ++ decimal turn.now.key.cog ++ codes " " ++ access_text (origin_of (cog_state w past turn.now.key.cog)) turn.now.access turn.now.answer ++ 10 ∷ []) }
 {
-    let at = write_text(line, CLOCK, b" ");
-    let at = write_number(line, at, turn.key.cog);
-    let at = write_text(line, at, b" ");
-    let at = write_access(line, at, own, &turn.access, turn.answer);
-    write_text(line, at, b"\n")
+    let at = write_text(page, at, b" ");
+    let at = write_number(page, at, turn.key.cog);
+    let at = write_text(page, at, b" ");
+    let at = write_access(page, at, origins, turn.key.cog, &turn.access, &turn.answer);
+    write_text(page, at, b"\n")
 }
 
-/// Appends the line of a turn; `own` is what its cog was started with.
+/// Writes the line of a turn.
 #[inline(always)]
-fn push_line(out: &mut Vec<u8>, own: &Origin, turn: &Turn) -> Result<(), NoMemory>
-    ensures { OnOk result ((w : World) (past : List Turn) → own.now ≡ origin_of (cog_state w past turn.now.key.cog) → out.new.items ≡ out.old.items ++ line_of w past turn.now) }
+fn write_line(
+    page: &mut [u8; PAGE],
+    at: usize,
+    front: &mut Front,
+    origins: &Origins,
+    turn: &Turn,
+) -> usize
+    requires { at + 64 ≤ 4096 }
+    ensures end { result ≤ at + 64 }
+    ensures text { (w : World) (past : List Turn) → AreOrigins w past origins.now → take result page.new ≡ take at page.old ++ line_of w past turn.now }
 {
-    let mut line = [0; LINE];
-    let start = write_digits(turn.key.clock, &mut line, CLOCK);
-    let end = write_turn(&mut line, own, turn);
-    out.extend_from_slice(&line[start..end])?;
-    Ok(())
+    let at = front.write_clock(page, at, turn.key.clock);
+    write_turn(page, at, origins, turn)
+}
+
+/// Appends what is on the page up to `at` where a line might not have room after it, and tells where the
+/// next line begins.
+#[inline(always)]
+fn turned(out: &mut Vec<u8>, page: &[u8; PAGE], at: usize) -> Result<usize, NoMemory>
+    requires { at ≤ 4096 }
+    ensures room { IfOk result (λ begin. begin + 64 ≤ 4096) }
+    ensures text { IfOk result (λ begin. out.new.items ++ take begin page.now ≡ out.old.items ++ take at page.now) }
+{
+    if at <= PAGE - LINE {
+        return Ok(at);
+    }
+    out.extend_from_slice(&page[..at])?;
+    Ok(0)
+}
+
+/// Adds the line of a turn to a text of which the end is on the page, and tells where it ends there.
+#[inline(always)]
+fn add_line(
+    out: &mut Vec<u8>,
+    page: &mut [u8; PAGE],
+    at: usize,
+    front: &mut Front,
+    origins: &Origins,
+    turn: &Turn,
+) -> Result<usize, NoMemory>
+    requires { at ≤ 4096 }
+    ensures room { IfOk result (λ end. end ≤ 4096) }
+    ensures text { (w : World) (past : List Turn) → AreOrigins w past origins.now → IfOk result (λ end. out.new.items ++ take end page.new ≡ (out.old.items ++ take at page.old) ++ line_of w past turn.now) }
+{
+    let begin = turned(out, page, at)?;
+    Ok(write_line(page, begin, front, origins, turn))
 }
 
 /// How many bytes the line of a turn takes at most, where the clock has eight digits and the cog and the lock one.
@@ -52,9 +88,13 @@ pub fn lines(alloc: Global, first: Origin, turns: &[Turn]) -> Result<Vec<u8>, No
 {
     let mut out = Vec::with_capacity(alloc, turns.len().saturating_mul(USUAL_LINE))?;
     let mut origins = Origins::new(alloc, first)?;
+    let mut front = Front::new();
+    let mut page = [0; PAGE];
+    let mut at = 0;
     for turn in turns {
-        push_line(&mut out, origins.of_cog(turn.key.cog), turn)?;
+        at = add_line(&mut out, &mut page, at, &mut front, &origins, turn)?;
         origins.note(turn);
     }
+    out.extend_from_slice(&page[..at])?;
     Ok(out)
 }
