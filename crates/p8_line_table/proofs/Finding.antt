@@ -1,0 +1,75 @@
+-- The row of an address among rows that hold no address twice.
+use Rattle.std.proofs.Common.{◌≡◌, inl, inr, ℕ, ◌-◌, ◌<◌, ◌≤◌, nat_le, true, false, List, length, slice_get, get_or, Some, ap, sym, ◌∙◌, subst, arith}
+use Rattle.std.specs.List.Sorted.{IsPartitionPoint, IsNonDecreasingBy}
+use Rattle.std.proofs.lemmas.Bool.{cases_lt}
+use Rattle.std.proofs.lemmas.Bool.Decides.{nat_tests}
+use Rattle.std.proofs.lemmas.Option.{slice_get_within, same_Some, get_or_from_slice_get}
+use Rattle.p8_build.proofs.Lists.{element}
+use Rattle.p8_line_table.specs.declared.table.Row.{Row}
+use Rattle.p8_line_table.specs.Rows.{AreApart, IsRowAt}
+use Rattle.p8_line_table.specs.Steps.{Splits}
+
+module _ (rows : List Row) (apart : AreApart rows) where
+  later : (i j : ℕ) (a b : Row) → i ≤ j → slice_get rows i ≡ Some a → slice_get rows j ≡ Some b → a.address ≤ b.address
+  later i j a b le at_a at_b = elim (cases_lt i j) [
+    | inl lt ↦ let some = apart.some i a at_a in let behind = apart.behind i j a b lt at_a at_b in omega (arith, some, behind)
+    | inr past ↦
+        let same : i ≡ j = omega (arith, le, past) in
+        let one : a ≡ b = same_Some a b (sym at_a ∙ ap (slice_get rows) same ∙ at_b) in
+        subst (λ (z : Row). a.address ≤ z.address) one (omega arith)
+  ]
+
+  -- the addresses rise
+  pub rising : IsNonDecreasingBy (λ (row : Row). row.address) rows
+  rising i j d le lt =
+      let a = element rows i (omega (arith, le, lt)) in
+      let b = element rows j lt in
+      subst (λ (z : Row). z.address ≤ (get_or rows j d).address) (sym (get_or_from_slice_get rows i a.0 d a.1))
+      (subst (λ (z : Row). a.0.address ≤ z.address) (sym (get_or_from_slice_get rows j b.0 d b.1)) (later i j a.0 b.0 le a.1 b.1))
+
+  module _ (address count : ℕ) (splits : Splits rows address count) where
+    pub none-begun : count ≡ 0 → (row : Row) → ¬ IsRowAt rows address row
+    none-begun none row is =
+        let after = splits.after is.number row (omega (arith, none)) is.stands in
+        let begins = is.begins in
+        absurd (omega (arith, after, begins))
+
+    module _ (row : Row) (some : 0 < count) (at : slice_get rows (count - 1) ≡ Some row) where
+      pub found : address < row.end → IsRowAt rows address row
+      found ends = record { number = count - 1; stands = at; begins = splits.before (count - 1) row (omega (arith, some)) at; ends = ends }
+
+      pub ended : row.end ≤ address → (other : Row) → ¬ IsRowAt rows address other
+      ended past other is = elim (cases_lt is.number count) [
+        | inl before ↦
+            let ends = is.ends in
+            elim (cases_lt is.number (count - 1)) [
+              | inl lt ↦
+                  let behind = apart.behind is.number (count - 1) other row lt is.stands at in
+                  let begun = splits.before (count - 1) row (omega (arith, some)) at in
+                  absurd (omega (arith, behind, begun, ends))
+              | inr last ↦
+                  let here : is.number ≡ count - 1 = omega (arith, before, last, some) in
+                  let same : other ≡ row = same_Some other row (sym is.stands ∙ ap (slice_get rows) here ∙ at) in
+                  let all : other.end ≡ row.end = ap (λ (z : Row). z.end) same in
+                  absurd (omega (arith, all, ends, past))
+            ]
+        | inr behind ↦
+            let after = splits.after is.number other behind is.stands in
+            let begins = is.begins in
+            absurd (omega (arith, after, begins))
+      ]
+
+-- where the rows are parted
+less : (a b : ℕ) → nat_le a b ≡ true → a ≤ b
+less a b h = grind (arith, nat_tests)
+
+more : (a b : ℕ) → nat_le a b ≡ false → b < a
+more a b h = grind (arith, nat_tests)
+
+pub splits-at : (rows : List Row) (address count : ℕ) → count ≤ length rows → IsPartitionPoint (λ (row : Row). nat_le row.address address ≡ true) (λ (row : Row). nat_le row.address address ≡ false) rows count → Splits rows address count
+splits-at rows address count within parts = record {
+  before = λ k row lt at.
+      less row.address address (subst (λ (z : Row). nat_le z.address address ≡ true) (get_or_from_slice_get rows k row row at) (parts.0 k row (omega arith) lt));
+  after = λ k row le at.
+      more row.address address (subst (λ (z : Row). nat_le z.address address ≡ false) (get_or_from_slice_get rows k row row at) (parts.1 k row le (slice_get_within rows k row at)));
+}

@@ -1,0 +1,4 @@
+mod Further
+mod OneByOne
+mod Wholes
+mod Finding

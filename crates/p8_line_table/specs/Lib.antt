@@ -1,0 +1,4 @@
+-- What public contracts cite.
+pub mod Rows
+-- How the code goes: internal.
+pub mod Steps

@@ -1,0 +1,10 @@
+//! The line table of a project: for each bytecode of its image the statement that it is made from.
+#![tactic(auto)]
+
+mod codes;
+mod project;
+mod rows;
+mod table;
+
+pub use project::line_table;
+pub use table::{LineTable, Row};
