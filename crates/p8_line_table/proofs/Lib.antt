@@ -2,3 +2,4 @@ mod Further
 mod OneByOne
 mod Wholes
 mod Finding
+mod Examples
