@@ -1,3 +1,4 @@
 pub mod Settled
 pub mod Rows
 pub mod Announced
+pub mod Counting

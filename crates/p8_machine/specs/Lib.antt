@@ -1,5 +1,6 @@
 -- What public contracts cite.
 pub mod Machines
+pub mod Counters
 -- How a machine stands for its history, which the contract of its step cites.
 pub mod Places
 pub mod Standing

@@ -4,11 +4,13 @@ ghost use Rattle.p8_access.specs.declared.order.Turn.{Turn};
 ghost use Rattle.p8_access.specs.Proper.{IsProperOrigin};
 ghost use Rattle.p8_access.specs.Worlds.{World};
 ghost use Rattle.p8_access.specs.Histories.{Extends, IsOver, Ended as HasEnded, Rises, Legal};
+ghost use Rattle.p8_access.specs.Hub.{cog_state};
 ghost use Rattle.p8_hub.specs.Standing.{IsHub};
 ghost use Rattle.p8_lives.specs.Lives.{asks};
 ghost use Rattle.p8_ledger.specs.Advances.{HasMade};
 ghost use Rattle.p8_ledger.specs.Records.{Record};
 ghost use Rattle.p8_ledger.specs.Worlds.{world_of};
+ghost use Rattle.p8_machine.specs.Counters.{IsNextCounter};
 ghost use Rattle.p8_machine.specs.Places.{AreAnnounced};
 ghost use Rattle.p8_machine.specs.Standing.{Stands, Comes, past_with, HasAdvanced};
 
@@ -112,6 +114,19 @@ impl Machine {
             Some(*self.ledger.newest())
         } else {
             None
+        }
+    }
+
+    /// The program counter of the access that a cog asks next below the limit of clocks: for Spin the hub address, in
+    /// bytes, of the first byte of the bytecode that asks it. `None` where the cog doesn't run, for the write with which
+    /// Spin enters its method, which no bytecode asks, and for PASM.
+    pub fn counter(&self, cog: u8) -> Option<u16>
+        requires { cog < 8 }
+        ensures { IsStanding self.now → IsNextCounter (world_in self.now) (past_in self.now) cog (cog_state (world_in self.now) (past_in self.now) cog) result }
+    {
+        match self.ledger.state(cog) {
+            CogState::Running { .. } => self.seats.lives[usize::from(cog)].counter(),
+            CogState::Starting { .. } | CogState::Stopped => None,
         }
     }
 
