@@ -1,12 +1,12 @@
 -- The row of an address among rows that hold no address twice.
-use Rattle.std.proofs.Common.{◌≡◌, inl, inr, ℕ, ◌-◌, ◌<◌, ◌≤◌, nat_le, true, false, List, length, slice_get, get_or, Some, ap, sym, ◌∙◌, subst, arith}
+use Rattle.std.proofs.Common.{◌≡◌, inl, inr, ℕ, ◌<◌, ◌≤◌, nat_le, true, false, List, length, slice_get, get_or, Some, ap, sym, ◌∙◌, subst, arith}
 use Rattle.std.specs.List.Sorted.{IsPartitionPoint, IsNonDecreasingBy}
 use Rattle.std.proofs.lemmas.Bool.{cases_lt}
 use Rattle.std.proofs.lemmas.Bool.Decides.{nat_tests}
 use Rattle.std.proofs.lemmas.Option.{slice_get_within, same_Some, get_or_from_slice_get}
 use Rattle.p8_build.proofs.Lists.{element}
 use Rattle.p8_line_table.specs.declared.table.Row.{Row}
-use Rattle.p8_line_table.specs.Rows.{AreApart, IsRowAt}
+use Rattle.p8_line_table.specs.Rows.{AreApart}
 use Rattle.p8_line_table.specs.Steps.{Splits}
 
 module _ (rows : List Row) (apart : AreApart rows) where
@@ -26,38 +26,6 @@ module _ (rows : List Row) (apart : AreApart rows) where
       let b = element rows j lt in
       subst (λ (z : Row). z.address ≤ (get_or rows j d).address) (sym (get_or_from_slice_get rows i a.0 d a.1))
       (subst (λ (z : Row). a.0.address ≤ z.address) (sym (get_or_from_slice_get rows j b.0 d b.1)) (later i j a.0 b.0 le a.1 b.1))
-
-  module _ (address count : ℕ) (splits : Splits rows address count) where
-    pub none-begun : count ≡ 0 → (row : Row) → ¬ IsRowAt rows address row
-    none-begun none row is =
-        let after = splits.after is.number row (omega (arith, none)) is.stands in
-        let begins = is.begins in
-        absurd (omega (arith, after, begins))
-
-    module _ (row : Row) (some : 0 < count) (at : slice_get rows (count - 1) ≡ Some row) where
-      pub found : address < row.end → IsRowAt rows address row
-      found ends = record { number = count - 1; stands = at; begins = splits.before (count - 1) row (omega (arith, some)) at; ends = ends }
-
-      pub ended : row.end ≤ address → (other : Row) → ¬ IsRowAt rows address other
-      ended past other is = elim (cases_lt is.number count) [
-        | inl before ↦
-            let ends = is.ends in
-            elim (cases_lt is.number (count - 1)) [
-              | inl lt ↦
-                  let behind = apart.behind is.number (count - 1) other row lt is.stands at in
-                  let begun = splits.before (count - 1) row (omega (arith, some)) at in
-                  absurd (omega (arith, behind, begun, ends))
-              | inr last ↦
-                  let here : is.number ≡ count - 1 = omega (arith, before, last, some) in
-                  let same : other ≡ row = same_Some other row (sym is.stands ∙ ap (slice_get rows) here ∙ at) in
-                  let all : other.end ≡ row.end = ap (λ (z : Row). z.end) same in
-                  absurd (omega (arith, all, ends, past))
-            ]
-        | inr behind ↦
-            let after = splits.after is.number other behind is.stands in
-            let begins = is.begins in
-            absurd (omega (arith, after, begins))
-      ]
 
 -- where the rows are parted
 less : (a b : ℕ) → nat_le a b ≡ true → a ≤ b
