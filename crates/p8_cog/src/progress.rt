@@ -65,6 +65,7 @@ fn below(clock: u64, access: Access, until: u64) -> Next
 }
 
 /// Tells the first access below a clock of an instruction that asks where it begins.
+#[inline(never)]
 fn other_below(state: &mut State, cog: u8, until: u64) -> Next
     requires at { state.old.at < 512 }
     requires cog { cog < 8 }
@@ -82,7 +83,7 @@ fn other_below(state: &mut State, cog: u8, until: u64) -> Next
 }
 
 /// The same, and the result that is known by then.
-#[inline(never)]
+#[inline(always)]
 fn first_below(state: &mut State, cog: u8, until: u64) -> Told
     requires at { state.old.at < 512 }
     requires cog { cog < 8 }
@@ -106,9 +107,36 @@ fn first_below(state: &mut State, cog: u8, until: u64) -> Told
     }
 }
 
-/// Does instructions up to one that asks, within a budget and below a clock.
+/// Does instructions up to one that asks, within a budget and below a clock, and tells how many.
 ///
-/// This loop is where a cog that computes spends its time.
+/// This loop is where a cog that computes spends its time. It is never inlined, so that no value of its caller
+/// takes a register of the processor from it.
+#[inline(never)]
+fn compute_below(state: &mut State, until: u64, budget: u32) -> u32
+    requires at { state.old.at < 512 }
+    requires clock { state.old.clock < 2 ^ 62 + 2 ^ 10 }
+    requires until { until < 2 ^ 62 }
+    ensures budget { result ≤ budget }
+    ensures leads { (cog : ℕ) → Leads cog result (Goes state.old []) (Goes state.new []) }
+    ensures asks { result < budget → state.new.clock < until → (cog : ℕ) → is_asking (played (instruction cog state.new) []) ≡ true }
+    ensures counts { state.old.clock + 4 * result ≤ state.new.clock }
+    ensures stride { state.new.clock ≤ state.old.clock + 8 * result }
+    ensures at { state.new.at < 512 }
+    ensures clock { state.new.clock < 2 ^ 62 + 2 ^ 10 }
+{
+    for done in 0..budget {
+        if state.clock >= until {
+            return done;
+        }
+        if !state.run_apart() {
+            return done;
+        }
+    }
+    budget
+}
+
+/// Does instructions up to one that asks, within a budget and below a clock, and tells why it stopped.
+#[inline(always)]
 fn run(state: &mut State, cog: u8, until: u64, budget: u32) -> Ran
     requires at { state.old.at < 512 }
     requires cog { cog < 8 }
@@ -125,24 +153,19 @@ fn run(state: &mut State, cog: u8, until: u64, budget: u32) -> Ran
     ensures at { state.new.at < 512 }
     ensures clock { state.new.clock < 2 ^ 62 + 2 ^ 10 }
 {
-    for done in 0..budget {
-        if state.clock >= until {
-            let next = Next::Quiet;
-            let kept = None;
-            return Ran { done, next, kept };
-        }
-        if !state.run_apart() {
-            let Told { next, kept } = first_below(state, cog, until);
-            return Ran { done, next, kept };
-        }
+    let done = compute_below(state, until, budget);
+    if state.clock >= until {
+        let next = Next::Quiet;
+        let kept = None;
+        return Ran { done, next, kept };
+    }
+    if done < budget {
+        let Told { next, kept } = first_below(state, cog, until);
+        return Ran { done, next, kept };
     }
     Ran {
-        done: budget,
-        next: if state.clock < until {
-            Next::More { bound: state.clock }
-        } else {
-            Next::Quiet
-        },
+        done,
+        next: Next::More { bound: state.clock },
         kept: None,
     }
 }
