@@ -1,0 +1,26 @@
+-- The program counter of each turn of a history.
+use Rattle.std.specs.Prelude.{ℕ, ◌≡◌, List, [], ◌∷◌, Option, Some, None}
+use Rattle.p8_access.specs.declared.order.Turn.{Turn}
+use Rattle.p8_access.specs.declared.states.CogState.{CogState}
+use Rattle.p8_access.specs.declared.states.CogState.TheVariants.{Stopped, Starting, Running}
+use Rattle.p8_access.specs.Lives.{Begun}
+use Rattle.p8_access.specs.Worlds.{World}
+use Rattle.p8_access.specs.Hub.{cog_state}
+use Rattle.p8_access.specs.Histories.{begun, since_begin}
+use Rattle.p8_bcog.specs.Counters.{IsCounter}
+
+-- a running cog asks its next access from the counter of its life, after the turns that this life has had; the turn with which
+-- a life begins has no counter
+abbrev pub IsCounterIn : World → (past : List Turn) → (n : ℕ) → CogState → Option ℕ → Type 0
+IsCounterIn w past n Stopped counter = counter ≡ None
+IsCounterIn w past n (Starting since origin) counter = counter ≡ None
+IsCounterIn w past n (Running origin) counter =
+    (life : Begun) × (begun w past n ≡ Some life) × IsCounter life (since_begin past n) counter
+
+-- one for each turn of a past, the newest first, by the turns before it
+abbrev pub AreCounters : World → (past : List Turn) → List (Option ℕ) → Type 0
+AreCounters w [] [] = Unit {0}
+AreCounters w [] (counter ∷ counters) = ⊥
+AreCounters w (turn ∷ past) [] = ⊥
+AreCounters w (turn ∷ past) (counter ∷ counters) =
+    IsCounterIn w past turn.key.cog (cog_state w past turn.key.cog) counter × AreCounters w past counters

@@ -1,0 +1,96 @@
+// A run that keeps the counter of each turn.
+ghost use Rattle.std.specs.Prelude.{◌≡◌, ◌<◌, ◌≤◌, [], ℕ, List, Option, Some, length, reverse, slice_get, IfOk};
+ghost use Rattle.p8_access.specs.Proper.{IsProperOrigin};
+ghost use Rattle.p8_access.specs.Hub.{cog_state};
+ghost use Rattle.p8_access.specs.Histories.{IsOver, Ended as HasEnded};
+ghost use Rattle.p8_hub.specs.Standing.{IsHub};
+ghost use Rattle.p8_lives.specs.Lives.{asks};
+ghost use Rattle.p8_ledger.specs.Worlds.{world_of};
+ghost use Rattle.p8_machine.specs.Counters.{IsNextCounter};
+ghost use Rattle.p8_machine.specs.Machines.{world_in, past_in, IsStanding};
+ghost use Rattle.p8_counters.specs.Counted.{AreCounters};
+
+use p8_access::Boot;
+use p8_ledger::{Ended, Limits};
+use p8_machine::Machine;
+use p8_pins::PinScript;
+use p8_words::NoMemory;
+use std::alloc::Global;
+
+/// A history that has ended, with the program counter of each turn.
+#[derive(Drop)]
+pub struct Counted {
+    pub ended: Ended,
+    /// For each turn, the oldest first: the hub address, in bytes, of the first byte of the bytecode that asks its
+    /// access. `None` for PASM, for the turn with which a life begins, and for the write with which Spin enters its
+    /// method.
+    pub counters: Vec<Option<u16>>,
+}
+
+/// The counters of the accesses that the eight cogs ask next, in the order of their numbers.
+fn next_counters(machine: &Machine) -> [Option<u16>; 8]
+    ensures length { length result ≡ 8 }
+    ensures each { IsStanding machine.now → (n : ℕ) (counter : Option ℕ) → slice_get result n ≡ Some counter → IsNextCounter (world_in machine.now) (past_in machine.now) n (cog_state (world_in machine.now) (past_in machine.now) n) counter }
+{
+    [
+        machine.counter(0),
+        machine.counter(1),
+        machine.counter(2),
+        machine.counter(3),
+        machine.counter(4),
+        machine.counter(5),
+        machine.counter(6),
+        machine.counter(7),
+    ]
+}
+
+/// Makes turns until the history has ended, and keeps the counter of each.
+fn count_turns(alloc: Global, machine: &mut Machine) -> Result<Vec<Option<u16>>, NoMemory>
+    requires stands { IsStanding machine.old }
+    requires begin { past_in machine.old ≡ [] }
+    ensures over { IfOk result (λ _. IsOver asks (world_in machine.new) (past_in machine.new)) }
+    ensures counters { IfOk result (λ counters. AreCounters (world_in machine.new) (past_in machine.new) (reverse counters.items)) }
+    ensures stands { IsStanding machine.new }
+    ensures world { world_in machine.new ≡ world_in machine.old }
+{
+    let mut counters = Vec::new(alloc);
+    'steps: loop {
+        let next = next_counters(machine);
+        let Some(turn) = machine.step() else {
+            return Ok(counters);
+        };
+        match counters.push(next[usize::from(turn.key.cog)]) {
+            Ok(()) => {}
+            Err(_) => return Err(NoMemory),
+        }
+    }
+}
+
+/// The whole history of a boot up to the limits, on one thread, with the counter of each turn. It is the history that
+/// `p8_machine::run_alone` gives.
+///
+/// # Errors
+///
+/// `NoMemory` where there is no memory for the run or for the counters.
+pub fn run_counted(
+    alloc: Global,
+    boot: Boot,
+    script: PinScript,
+    limits: Limits,
+) -> Result<Counted, NoMemory>
+    requires clocks { limits.clocks ≤ 100000000 }
+    requires turns { limits.turns ≤ 1000000 }
+    requires first { IsProperOrigin boot.first }
+    ensures world { IfOk result (λ counted. world_of counted.ended.history.boot script counted.ended.history.limits ≡ world_of boot script limits) }
+    ensures ended { IfOk result (λ counted. HasEnded asks (world_of boot script limits) (reverse counted.ended.history.turns.list)) }
+    ensures hub { IfOk result (λ counted. IsHub (world_of boot script limits) (reverse counted.ended.history.turns.list) counted.ended.hub) }
+    ensures counters { IfOk result (λ counted. AreCounters (world_of boot script limits) (reverse counted.ended.history.turns.list) (reverse counted.counters.items)) }
+    ensures crew { IfOk result (λ counted. counted.ended.crew ≡ 1) }
+{
+    let mut machine = Machine::open(alloc, boot, script, limits)?;
+    let counters = count_turns(alloc, &mut machine)?;
+    Ok(Counted {
+        ended: machine.end(),
+        counters,
+    })
+}
