@@ -1,5 +1,5 @@
 -- A turn has the counter of the access that its cog asked next.
-use Rattle.std.proofs.Common.{◌≡◌, ◌∙◌, ap, sym, subst, refl, ℕ, ◌<◌, ◌≤◌, Bool, true, false, nat_lt, List, [], ◌∷◌, ◌++◌, reverse, Option, Some, None, arith}
+use Rattle.std.proofs.Common.{◌≡◌, ◌∙◌, ap, sym, subst, refl, ℕ, ◌<◌, ◌≤◌, Bool, true, false, nat_lt, List, [], ◌∷◌, ◌++◌, reverse, Option, arith}
 use Rattle.std.proofs.lemmas.Bool.{ltb-true, ltb-false}
 use Rattle.std.proofs.lemmas.List.{reverse-append}
 use Rattle.p8_access.specs.declared.kinds.Access.{Access}
@@ -15,8 +15,6 @@ use Rattle.p8_ledger.specs.declared.ledger.Ledger.{Ledger}
 use Rattle.p8_ledger.specs.Ledgers.{Found}
 use Rattle.p8_ledger.specs.Records.{Record, turns}
 use Rattle.p8_machine.specs.Counters.{IsNextCounter}
-use Rattle.p8_machine.specs.Machines.{world_in, past_in, IsStanding}
-use Rattle.p8_machine.specs.declared.run.Machine.{Machine}
 use Rattle.p8_counters.specs.Counted.{IsCounterIn, AreCounters}
 
 counter-in : (w : World) (past : List Turn) (n : ℕ) (state : CogState) (clock : ℕ) (access : Access) (counter : Option ℕ) → IsNextIn asks w past n state clock access → clock < w.clocks → IsNextCounter w past n state counter → IsCounterIn w past n state counter

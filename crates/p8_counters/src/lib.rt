@@ -3,5 +3,7 @@
 #![tactic(auto)]
 
 mod counted;
+#[cfg(test)]
+mod worked;
 
 pub use counted::{Counted, run_counted};

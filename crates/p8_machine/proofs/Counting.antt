@@ -1,5 +1,5 @@
 -- The counter of the access that a cog asks next is that of its life.
-use Rattle.std.proofs.Common.{◌≡◌, ◌∙◌, ap, sym, subst, refl, ℕ, ◌<◌, List, Option, Some, slice_get, arith}
+use Rattle.std.proofs.Common.{◌≡◌, ◌∙◌, sym, subst, refl, ℕ, ◌<◌, List, Option, Some, slice_get, arith}
 use Rattle.p8_access.specs.declared.kinds.Access.{Access}
 use Rattle.p8_access.specs.declared.kinds.Origin.{Origin}
 use Rattle.p8_access.specs.declared.lives.Next.{Next}
@@ -10,7 +10,7 @@ use Rattle.p8_access.specs.declared.states.CogState.TheVariants.{Running}
 use Rattle.p8_access.specs.Lives.{Begun, Tells, announced_by}
 use Rattle.p8_access.specs.Worlds.{World}
 use Rattle.p8_access.specs.Hub.{cog_state}
-use Rattle.p8_access.specs.Histories.{begun, since_begin}
+use Rattle.p8_access.specs.Histories.{since_begin}
 use Rattle.p8_bcog.specs.Counters.{IsAnnouncing, IsCounter}
 use Rattle.p8_lives.specs.declared.cog_life.CogLife.{CogLife}
 use Rattle.p8_lives.specs.Lives.{asks}
