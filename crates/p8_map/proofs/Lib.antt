@@ -3,3 +3,4 @@ mod Ending
 mod Places
 mod Inside
 mod Examples
+mod AcceptedFiles

@@ -1,3 +1,6 @@
 -- What public contracts cite.
 pub mod Names
 pub mod Map
+pub mod Projects
+-- Machinery that only proofs need.
+pub mod Accepting

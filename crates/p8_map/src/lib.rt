@@ -1,15 +1,18 @@
 //! The map of a project: where everything of it stands in the hub, with the names of its sources.
 #![tactic(auto)]
 
+mod accepted;
 mod header;
 mod instances;
+mod mapping;
 mod methods;
 mod names;
 mod objects;
 mod plan;
-mod project_map;
+mod project;
 mod text;
 mod variables;
 
+pub use mapping::map_text;
 pub use names::{FileNames, LocalName, MethodNames};
-pub use project_map::map_text;
+pub use project::project_map;

@@ -1,0 +1,110 @@
+-- The names that were found are those of the compiled files.
+use Rattle.std.proofs.Common.{◌≡◌, ◌∙◌, ℕ, suc, List, [], ◌∷◌, length, slice_get, Some, refl, ap, sym, subst, arith}
+use Rattle.std.proofs.lemmas.Option.{slice_get_within}
+use Rattle.p8_tree.specs.Projects.{NamedSource}
+use Rattle.p8_kinds.specs.declared.children.Children.{Children}
+use Rattle.p8_kinds.specs.declared.kinds.Kinds.{Kinds}
+use Rattle.p8_kinds.specs.declared.name_kinds.Label.{Label}
+use Rattle.p8_kinds.specs.declared.named.Named.{Named}
+use Rattle.p8_kinds.specs.FileSettings.{file_setting}
+use Rattle.p8_dat.specs.declared.assembling.Dat.{Dat}
+use Rattle.p8_dat.specs.Blocks.{placed_lines}
+use Rattle.p8_dat.specs.Labels.{labels_of}
+use Rattle.p8_image.specs.declared.parts.ObjectPart.{ObjectPart}
+use Rattle.p8_image.specs.Layout.{header_by, image_of}
+use Rattle.p8_image.specs.Loading.{ImageValue}
+use Rattle.p8_image.specs.Projects.{FitsHub}
+use Rattle.p8_map.specs.declared.names.FileNames.{FileNames}
+use Rattle.p8_map.specs.Map.{map_of}
+use Rattle.p8_map.specs.Names.{file_names}
+use Rattle.p8_build.specs.declared.building.Accepted.{Accepted}
+use Rattle.p8_build.specs.Parts.{data_start}
+use Rattle.p8_build.specs.Files.{CompiledFile, setting_of}
+use Rattle.p8_build.specs.Builds.{IsFile, objects_of}
+use Rattle.p8_build.specs.Phases.{IsAccepted}
+use Rattle.p8_build.proofs.Lists.{element, one_element}
+use Rattle.p8_map.specs.Projects.{names_of, IsMapOf}
+use Rattle.p8_map.specs.Accepting.{names_by, AreNamesAt, AreNamesBy, IsAcceptedProject}
+
+-- the names of the file at a place
+pub names-here : (files : List NamedSource) (named : List Named) (dats : List Dat) (i : ℕ) (f : NamedSource) (m : Named) (d : Dat) (names : FileNames) → slice_get files i ≡ Some f → slice_get named i ≡ Some m → slice_get dats i ≡ Some d
+    → names ≡ names_by f m d → AreNamesAt files named dats i names
+names-here files named dats i f m d names at_f at_m at_d are g n e at_g at_n at_e =
+    are
+    ∙ ap (λ (x : NamedSource). names_by x m d) (one_element files i at_f at_g)
+    ∙ ap (λ (x : Named). names_by g x d) (one_element named i at_m at_n)
+    ∙ ap (λ (x : Dat). names_by g n x) (one_element dats i at_d at_e)
+
+names-are : (fs : List NamedSource) (cs : List Children) (xs : List CompiledFile) (ns : List FileNames) → length cs ≡ length fs → length xs ≡ length fs → length ns ≡ length fs
+    → ((i : ℕ) (f : NamedSource) (c : Children) (x : CompiledFile) (n : FileNames) → slice_get fs i ≡ Some f → slice_get cs i ≡ Some c → slice_get xs i ≡ Some x → slice_get ns i ≡ Some n → n ≡ file_names f (setting_of c x) x.labels)
+    → ns ≡ names_of fs cs xs
+names-are [] cs xs [] a b d each = refl
+names-are [] cs xs (n ∷ ns) a b d each = absurd (omega arith)
+names-are (f ∷ fs) [] xs ns a b d each = absurd (omega arith)
+names-are (f ∷ fs) (c ∷ cs) [] ns a b d each = absurd (omega arith)
+names-are (f ∷ fs) (c ∷ cs) (x ∷ xs) [] a b d each = absurd (omega arith)
+names-are (f ∷ fs) (c ∷ cs) (x ∷ xs) (n ∷ ns) a b d each =
+    ap (λ y. y ∷ ns) (each 0 f c x n refl refl refl refl)
+    ∙ ap (λ ys. file_names f (setting_of c x) x.labels ∷ ys) (names-are fs cs xs ns (omega arith) (omega arith) (omega arith) (λ i. each (suc i)))
+
+-- the labels of a file's DAT, by the kinds of its names
+abbrev labels-by : NamedSource → Children → Kinds → List Label
+labels-by f c kinds = labels_of kinds (placed_lines (file_setting kinds c) (data_start (file_setting kinds c) f.tree) f.tree)
+
+one-file : (files : List NamedSource) (children : List Children) (a : Accepted) (h : IsAccepted files children a) (i : ℕ) (f : NamedSource) (c : Children) (m : Named) (d : Dat) (x : CompiledFile)
+    → slice_get files i ≡ Some f → slice_get children i ≡ Some c → slice_get a.named i ≡ Some m → slice_get a.assembled i ≡ Some d → slice_get h.objects.xs i ≡ Some x
+    → names_by f m d ≡ file_names f (setting_of c x) x.labels
+one-file files children a h i f c m d x at_f at_c at_m at_d at_x =
+    let is : IsFile files children i f c = record { stands = at_f; beside = at_c } in
+    let kinds : m.kinds ≡ x.kinds = sym (h.objects.kinds i m x at_m at_x) in
+    let children_are : m.children.now ≡ c = (h.named.each i m at_m f c is).children_are in
+    let found : d.labels ≡ labels-by f c m.kinds = (h.assembled.each i d at_d f c m is at_m).labels in
+    let compiled : x.labels ≡ labels-by f c x.kinds = (h.objects.compiled.each i f c x is at_x).dat.labels in
+    let labels : d.labels ≡ x.labels = found ∙ ap (labels-by f c) kinds ∙ sym compiled in
+    ap (λ (k : Kinds). file_names f (file_setting k m.children.now) d.labels) kinds
+    ∙ ap (λ (s : Children). file_names f (file_setting x.kinds s) d.labels) children_are
+    ∙ ap (λ (ls : List Label). file_names f (file_setting x.kinds c) ls) labels
+
+all-files : (files : List NamedSource) (children : List Children) (a : Accepted) (h : IsAccepted files children a) (names : List FileNames) → length children ≡ length files
+    → AreNamesBy files a.named a.assembled names → names ≡ names_of files children h.objects.xs
+all-files files children a h names beside by =
+    names-are files children h.objects.xs names beside h.objects.compiled.count by.count (λ i f c x n at_f at_c at_x at_n.
+    let within = slice_get_within files i f at_f in
+    let m = element a.named i (omega (arith, h.named.count)) in
+    let d = element a.assembled i (omega (arith, h.assembled.count)) in
+    by.each i n at_n f m.0 d.0 at_f m.1 d.1 ∙ one-file files children a h i f c m.0 d.0 x at_f at_c m.1 d.1 at_x)
+
+-- the map of what an accepted project is built to
+map-is : (files : List NamedSource) (a : Accepted) → IsAcceptedProject files a → (names : List FileNames) → AreNamesBy files a.named a.assembled names
+    → (text : List ℕ) → text ≡ map_of a.built.image.file names a.built.objects → IsMapOf files text
+map-is files a project names by text told =
+    let h = project.is in
+    let objects : List ObjectPart = objects_of files project.children h.objects.xs in
+    let objects_are : a.built.objects ≡ objects = h.objects.are in
+    let named : names ≡ names_of files project.children h.objects.xs = all-files files project.children a h names project.seen.one_each by in
+    record {
+      children = project.children;
+      seen = project.seen;
+      compiled = h.objects.xs;
+      each = h.objects.compiled;
+      clock = h.finished.clock;
+      clock_is = h.finished.is;
+      fits = subst (λ (os : List ObjectPart). FitsHub (header_by os)) objects_are h.finished.fits;
+      is = told
+          ∙ ap (λ (image : ImageValue). map_of image.file names a.built.objects) h.finished.image
+          ∙ ap (λ (os : List ObjectPart). map_of (image_of h.finished.clock os) names os) objects_are
+          ∙ ap (λ (ns : List FileNames). map_of (image_of h.finished.clock objects) ns objects) named;
+    }
+
+-- the same, of lists that are those of the project
+pub map-told : (files : List NamedSource) (a : Accepted) → IsAcceptedProject files a → (named : List Named) → named ≡ a.named → (dats : List Dat) → dats ≡ a.assembled
+    → (names shown : List FileNames) → AreNamesBy files named dats names → shown ≡ names → (image : List ℕ) → image ≡ a.built.image.file → (objects : List ObjectPart) → objects ≡ a.built.objects
+    → (text : List ℕ) → text ≡ map_of image shown objects → IsMapOf files text
+map-told files a project named named_is dats dats_are names shown by shown_are image image_is objects objects_are text told =
+    map-is files a project names
+    (subst (λ (ns : List Named). AreNamesBy files ns a.assembled names) named_is (subst (λ (ds : List Dat). AreNamesBy files named ds names) dats_are by))
+    text
+    (told
+    ∙ ap (λ (i : List ℕ). map_of i shown objects) image_is
+    ∙ ap (λ (ns : List FileNames). map_of a.built.image.file ns objects) shown_are
+    ∙ ap (λ (os : List ObjectPart). map_of a.built.image.file names os) objects_are)

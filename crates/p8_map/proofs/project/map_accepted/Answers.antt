@@ -1,0 +1,18 @@
+use Rattle.std.proofs.Common.{◌≡◌, map}
+use Rattle.std.proofs.lemmas.Result.{IfOk-weaker}
+use Rattle.p8_tree.specs.Views.{named_source_of}
+use Rattle.p8_map.specs.Map.{map_of}
+use Rattle.p8_map.specs.Projects.{IsMapOf}
+use Rattle.p8_map.proofs.AcceptedFiles.{map-told}
+use Rattle.p8_map.proofs.project.map_accepted.Goals as goal
+
+pub returns : goal.returns
+returns c =
+    let files = map named_source_of c.args.files.now in
+    let image = c.bytes.result.now in
+    let shown = c.as_slice-2.result.now in
+    let objects = c.as_slice-3.result.now in
+    IfOk-weaker c.map_text.result (λ text. text.items ≡ map_of image shown objects) (λ text. IsMapOf files text.items)
+    (λ text told. map-told files c.args.accepted.now c.requires c.as_slice-named.result.now c.as_slice-named.ensures c.as_slice.result.now c.as_slice.ensures
+    c.in_ok-names.names shown c.in_ok-names.ensures c.as_slice-2.ensures image c.bytes.ensures.bytes objects c.as_slice-3.ensures text.items told)
+    c.map_text.ensures
