@@ -4,7 +4,7 @@ use Rattle.std.proofs.lemmas.List.{append-nil}
 use Rattle.p8_image.specs.declared.parts.ObjectPart.{ObjectPart}
 use Rattle.p8_image.specs.Layout.{own_variables}
 use Rattle.p8_map.specs.declared.names.FileNames.{FileNames}
-use Rattle.p8_map.specs.Map.{further, inner_lines, instance_line, instance_lines, object_instance_lines, variable_lines}
+use Rattle.p8_map.specs.Map.{further, inner_lines, instance_lines, object_instance_lines, owner_line, variable_lines}
 
 one-deeper : (files : List FileNames) (objects : List ObjectPart) (bases sizes : List ℕ) (depth : ℕ) (prefix : List ℕ) (f place : ℕ) → 1 ≤ depth
     → instance_lines files objects bases sizes depth prefix f place
@@ -52,7 +52,7 @@ no_object files objects bases sizes depth prefix f place out some none =
 pub whole_instance : (files : List FileNames) (objects : List ObjectPart) (bases sizes : List ℕ) (depth : ℕ) (prefix : List ℕ) (f place : ℕ) (names : FileNames) (object : ObjectPart)
     (out own : List ℕ) (base inside : ℕ) → 1 ≤ depth → slice_get files f ≡ Some names → slice_get objects f ≡ Some object
     → base ≡ slice_index bases f → inside ≡ further place (own_variables object)
-    → own ≡ out ++ (instance_line place prefix names.file base ++ variable_lines place prefix names.variables object.variables)
+    → own ≡ out ++ (owner_line place prefix names.file base object.variables ++ variable_lines place prefix names.variables object.variables)
     → own ++ inner_lines (instance_lines files objects bases sizes (depth - 1)) sizes inside prefix names.instances object.instances
     ≡ out ++ instance_lines files objects bases sizes depth prefix f place
 whole_instance files objects bases sizes depth prefix f place names object out own base inside some has_names has_object base_is inside_is own_is =
@@ -62,7 +62,7 @@ whole_instance files objects bases sizes depth prefix f place names object out o
     ∙ ap₂ (λ (n : Option FileNames) (o : Option ObjectPart). object_instance_lines lines sizes (slice_index bases f) place prefix n o) has_names has_object in
     let placed : object_instance_lines lines sizes base place prefix (Some names) (Some object) ≡ object_instance_lines lines sizes (slice_index bases f) place prefix (Some names) (Some object) =
     ap (λ (b : ℕ). object_instance_lines lines sizes b place prefix (Some names) (Some object)) base_is in
-    let begun : List ℕ = instance_line place prefix names.file base ++ variable_lines place prefix names.variables object.variables in
+    let begun : List ℕ = owner_line place prefix names.file base object.variables ++ variable_lines place prefix names.variables object.variables in
     ap₂ (λ (first : List ℕ) (p : ℕ). first ++ inner_lines lines sizes p prefix names.instances object.instances) own_is inside_is
     ∙ append_assoc out begun (inner_lines lines sizes (further place (own_variables object)) prefix names.instances object.instances)
     ∙ ap (λ (more : List ℕ). out ++ more) (placed ∙ sym opened)

@@ -154,6 +154,11 @@ instance_file file base = codes "* " ++ file ++ codes " " ++ hex 4 base ++ 10 �
 abbrev pub instance_line : (place : ℕ) → (prefix file : List ℕ) → (base : ℕ) → List ℕ
 instance_line place prefix file base = hex 4 place ++ codes " instance " ++ prefix ++ instance_file file base
 
+-- such a line, where the instance has variables of its own; one that only holds others has none
+abbrev pub owner_line : (place : ℕ) → (prefix file : List ℕ) → (base : ℕ) → List Variable → List ℕ
+owner_line place prefix file base [] = []
+owner_line place prefix file base (v ∷ variables) = instance_line place prefix file base
+
 -- the size of a variable's elements, and how many there are
 abbrev pub elements : Variable → List ℕ
 elements v = codes " " ++ size_word v.size ++ codes " " ++ decimal v.count ++ 10 ∷ []
@@ -187,7 +192,8 @@ variable_lines place prefix names variables =
     ++ sized_lines 2 (after_size 4 place variables) prefix names variables
     ++ sized_lines 1 (after_size 2 (after_size 4 place variables) variables) prefix names variables
 
--- the instances inside one, after its own variables, as `lines` tells each. One that has no variables, nor any inside it, isn't told.
+-- the instances inside one, after its own variables, as `lines` tells each. Where there are no bytes of variables in one, nor in any inside
+-- it, nothing is told.
 abbrev pub inner_line : (lines : (prefix : List ℕ) → (f place : ℕ) → List ℕ) → (size place : ℕ) → (prefix name : List ℕ) → (f : ℕ) → List ℕ
 inner_line lines size place prefix name f = if size == 0 then [] else lines (prefix ++ name ++ codes ".") f place
 
@@ -201,7 +207,7 @@ inner_lines lines sizes place prefix _ _ = []
 abbrev pub object_instance_lines : (lines : (prefix : List ℕ) → (f place : ℕ) → List ℕ) → (sizes : List ℕ) → (base place : ℕ)
     → (prefix : List ℕ) → Option FileNames → Option ObjectPart → List ℕ
 object_instance_lines lines sizes base place prefix (Some names) (Some object) =
-    instance_line place prefix names.file base
+    owner_line place prefix names.file base object.variables
     ++ variable_lines place prefix names.variables object.variables
     ++ inner_lines lines sizes (further place (own_variables object)) prefix names.instances object.instances
 object_instance_lines lines sizes base place prefix _ _ = []

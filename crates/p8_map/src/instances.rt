@@ -1,14 +1,14 @@
 // The lines of the instances of objects.
 ghost use Rattle.std.specs.Prelude.{◌≡◌, ◌++◌, codes, slice_get, slice_index, Some, None, MatchOption, OnOk, IfOk};
 ghost use Rattle.p8_image.specs.Layout.{own_variables as own_variables_of};
-ghost use Rattle.p8_map.specs.Map.{further as further_by, inner_line, inner_lines, instance_file, instance_line, instance_lines, variable_lines};
+ghost use Rattle.p8_map.specs.Map.{further as further_by, inner_line, inner_lines, instance_file, instance_line, instance_lines, owner_line, variable_lines};
 
 use crate::names::FileNames;
 use crate::plan::{number_at, own_variables};
 use crate::text::{further, push_place};
 use crate::variables::push_variables;
 use p8_disassembly::push_text;
-use p8_image::ObjectPart;
+use p8_image::{ObjectPart, Variable};
 use p8_tree::Text;
 use p8_words::NoMemory;
 use std::alloc::Global;
@@ -50,6 +50,23 @@ fn push_instance_line(
     push_file(out, file, base)
 }
 
+/// Appends the line of an instance that has variables of its own, and nothing for one that only holds others.
+fn push_owner(
+    out: &mut Vec<u8>,
+    place: u16,
+    prefix: &[u8],
+    file: &[u8],
+    base: u16,
+    variables: &[Variable],
+) -> Result<(), NoMemory>
+    ensures { OnOk result (out.new.items ≡ out.old.items ++ owner_line place prefix.now file.now base variables.now) }
+{
+    match variables {
+        [] => Ok(()),
+        [_, ..] => push_instance_line(out, place, prefix, file, base),
+    }
+}
+
 /// Appends the lines of an instance and of its own variables.
 fn push_own(
     out: &mut Vec<u8>,
@@ -59,16 +76,11 @@ fn push_own(
     names: &FileNames,
     object: &ObjectPart,
 ) -> Result<(), NoMemory>
-    ensures { OnOk result (out.new.items ≡ out.old.items ++ (instance_line place prefix.now names.now.file base ++ variable_lines place prefix.now names.now.variables object.now.variables)) }
+    ensures { OnOk result (out.new.items ≡ out.old.items ++ (owner_line place prefix.now names.now.file base object.now.variables ++ variable_lines place prefix.now names.now.variables object.now.variables)) }
 {
-    push_instance_line(out, place, prefix, names.file.as_slice(), base)?;
-    push_variables(
-        out,
-        place,
-        prefix,
-        names.variables.as_slice(),
-        object.variables.as_slice(),
-    )
+    let variables = object.variables.as_slice();
+    push_owner(out, place, prefix, names.file.as_slice(), base, variables)?;
+    push_variables(out, place, prefix, names.variables.as_slice(), variables)
 }
 
 /// The names of the file of this number.

@@ -25,8 +25,11 @@ const DCURR: u16 = 14;
 ///
 /// Lines stand in the order of addresses. They tell the fields of the image's header; each object once, with the objects inside it,
 /// its labels with their hub address and their address in a cog in longs, its methods with their number, entry and frame, and its
-/// texts; each instance with its variables, but those that have none, nor any inside them; the stack, and the free memory with its
-/// bytes. Addresses are told mod 65,536, which is exact in an image that fits the hub. The only error is want of memory.
+/// texts; each instance that has variables of its own, with these; the stack, and the free memory with its bytes. Addresses are told
+/// mod 65,536, which is exact in an image that fits the hub. The only error is want of memory.
+///
+/// Instances without variables inside aren't walked into. So each depth of objects inside each other has at most as many instances
+/// to be walked as there are longs of variables, however many instances the objects could make.
 pub fn map_text(
     alloc: Global,
     image: &[u8],
