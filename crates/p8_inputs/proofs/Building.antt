@@ -15,10 +15,11 @@ use Rattle.p8_image.specs.declared.parts.ObjectPart.{ObjectPart}
 use Rattle.p8_image.specs.Loading.{ImageValue}
 use Rattle.p8_build.specs.declared.building.Built.{Built}
 use Rattle.p8_build.specs.Told.{IsImageBuilt, IsBuiltTo}
+use Rattle.p8_map.specs.Projects.{IsMapOf}
 use Rattle.p8_opt.specs.Shorts.{IsShortImageBuilt, IsShortBuiltTo}
 use Rattle.p8_inputs.specs.Gathered.{StopsAtBuilding, IsImageBuiltBy, AreBuiltBy, IsListingOf}
 use Rattle.p8_inputs.specs.Runs.{HasProperTrees}
-use Rattle.p8_inputs.specs.Sources.{GathersTo, IsImageFrom, IsListingFrom, when_built}
+use Rattle.p8_inputs.specs.Sources.{GathersTo, IsImageFrom, IsListingFrom, IsMapFrom, when_built}
 use Rattle.p8_inputs.specs.Asks.{StopsAtProgram}
 
 -- what is built is built by the choice
@@ -41,6 +42,9 @@ module _ (files : Files) (short : Bool) (top : List ℕ) (sources : List NamedSo
 
   pub listing-from : (text : List ℕ) → IsListingOf short sources text → IsListingFrom files short top text
   listing-from text is = (sources, is.0, is.1, record { gathered = gathered; built = is.2 }, is.3)
+
+  pub map-from : (text : List ℕ) → IsMapOf sources text → IsMapFrom files top text
+  map-from text is = (sources, gathered, is)
 
   pub building-stops : (before now : ℕ) (stop : Stop) → StopsAtBuilding sources stop → StopsAtProgram files before now (Source short) top stop
   building-stops before now (Refused name number place) stops = when_built sources gathered stops

@@ -1,5 +1,5 @@
 -- Where the shelf tells its files, asks come to one thing alone: what they are given, or one reason that stops them.
-use Rattle.std.proofs.Common.{◌≡◌, ◌<◌, ◌≤◌, ◌∙◌, ap, ap₂, sym, subst, arith, ℕ, Bool, inl, inr, refl, List, [], ◌∷◌, length, Option, Some, None}
+use Rattle.std.proofs.Common.{◌≡◌, ◌<◌, ◌≤◌, ◌∙◌, ap, ap₂, sym, subst, arith, ℕ, Bool, false, inl, inr, refl, List, [], ◌∷◌, length, Option, Some, None}
 use Rattle.p8_access.specs.Worlds.{Line}
 use Rattle.p8_tree.specs.declared.places.Place.{Place}
 use Rattle.p8_tree.specs.Projects.{NamedSource}
@@ -13,6 +13,8 @@ use Rattle.p8_objects.specs.Outcomes.{Outcome, failed, shelved, ComesTo}
 use Rattle.p8_objects.specs.Outcomes as outcomes
 use Rattle.p8_pins.specs.Scripts.{IsReadAs, IsFault}
 use Rattle.p8_pins.proofs.Scripting.{read-same, read-not_bad, fault-one}
+use Rattle.p8_build.specs.Builds.{objects_of}
+use Rattle.p8_map.specs.Projects.{IsMapOf}
 use Rattle.p8_texts.specs.Listing.{listing_of}
 use Rattle.std.specs.Prelude.{map}
 use Rattle.p8_inputs.specs.declared.program.Format.{Format}
@@ -20,9 +22,10 @@ use Rattle.p8_inputs.specs.declared.program.Format.TheVariants.{Memory, Image, E
 use Rattle.p8_inputs.specs.declared.stop.Stop.{Stop}
 use Rattle.p8_inputs.specs.declared.stop.Stop.TheVariants.{Unread, Missing, NoMemory, Refused, BadProgram, BadScript}
 use Rattle.p8_inputs.specs.Programs.{fault_of}
-use Rattle.p8_inputs.specs.Sources.{HasOneOutcome, IsListingFrom}
+use Rattle.p8_inputs.specs.Sources.{HasOneOutcome, IsBuiltFrom, IsListingFrom, IsMapFrom}
 use Rattle.p8_inputs.specs.Inputs.{IsProgram, IsScriptFor, IsProgramUnread, HasFault}
-use Rattle.p8_inputs.specs.Asks.{most_sent, Ask, program, listing, script, history, message, Given, bytes, lines, Gives, Give, StopsAtFile, StopsAtMessage, StopsAtProgram, StopsAtScript, StopsAt, StopsFirst, Stops, IsOfFiles, HasOneReading}
+use Rattle.p8_inputs.specs.Asks.{most_sent, Ask, program, listing, mapping, script, history, message, Given, bytes, lines, Gives, Give, StopsAtFile, StopsAtMessage, StopsAtProgram, StopsAtScript, StopsAt, StopsFirst, Stops, IsOfFiles, HasOneReading}
+use Rattle.p8_inputs.proofs.Mapping.{map-built}
 use Rattle.p8_inputs.proofs.Stopping.{first-or_memory}
 
 start-one : (file : Option (List ℕ)) (a b : List ℕ) → AreStartOf file a → AreStartOf file b → a ≡ b
@@ -171,6 +174,13 @@ module _ (files : List ℕ → Option (List ℕ)) where
         let same = one.one_image short file p.0 q.0 p.1 q.1 p.2 q.2 p.3 q.3 in
         p.4 ∙ ap₂ (λ (sources : List NamedSource) (objects : List ObjectPart). listing_of (map (λ source. source.name) sources) objects) same.0 same.2 ∙ sym q.4
 
+    -- what has a map has an image
+    image-of_map : (file text : List ℕ) → IsMapFrom (Some files) file text → (image : List ℕ) × IsProgram (Some files) (Source false) file image
+    image-of_map file text is =
+        let map : IsMapOf is.0 text = is.2 in
+        let objects : List ObjectPart = objects_of is.0 map.children map.compiled in
+        (image_of map.clock objects, (is.0, map.clock, objects, record { gathered = is.1; built = map-built is.0 text map }, refl))
+
     program-stop-one : (before now : ℕ) (format : Format) (file : List ℕ) (a b : Stop) → IsOfFiles a → IsOfFiles b → StopsAtProgram (Some files) before now format file a → StopsAtProgram (Some files) before now format file b → a ≡ b
     program-stop-one before now (Source short) file (Missing a) (Missing b) s t p q = ap Missing (one.one_missing before now file a b p q)
     program-stop-one before now (Source short) file (Missing a) (Refused b n y) s t p q = absurd (one.missing_or_refused before now file a b n y p q)
@@ -225,6 +235,7 @@ module _ (files : List ℕ → Option (List ℕ)) where
     gives-one : (ask : Ask) (a b : Given) → Gives (Some files) ask a → Gives (Some files) ask b → a ≡ b
     gives-one (program format file) (bytes xs) (bytes ys) p q = ap bytes (program-one format file xs ys p q)
     gives-one (listing short file) (bytes xs) (bytes ys) p q = ap bytes (listing-one short file xs ys p q)
+    gives-one (mapping file) (bytes xs) (bytes ys) p q = ap bytes (one.one_map file xs ys p q)
     gives-one (script file) (lines xs) (lines ys) p q = ap lines (script-one file xs ys p q)
     gives-one (history file) (bytes xs) (bytes ys) p q = ap bytes (read-one file xs ys p q)
     gives-one (message file) (bytes xs) (bytes ys) p q = ap bytes (read-one file xs ys p.0 q.0)
@@ -236,12 +247,15 @@ module _ (files : List ℕ → Option (List ℕ)) where
     gives-one (program format file) (bytes xs) (lines ys) p q = absurd q
     gives-one (listing short file) (lines xs) b p q = absurd p
     gives-one (listing short file) (bytes xs) (lines ys) p q = absurd q
+    gives-one (mapping file) (lines xs) b p q = absurd p
+    gives-one (mapping file) (bytes xs) (lines ys) p q = absurd q
     gives-one (script file) (bytes xs) b p q = absurd p
     gives-one (script file) (lines xs) (bytes ys) p q = absurd q
 
     stop-one : (before now : ℕ) (ask : Ask) (a b : Stop) → IsOfFiles a → IsOfFiles b → StopsAt (Some files) before now ask a → StopsAt (Some files) before now ask b → a ≡ b
     stop-one before now (program format file) a b s t p q = program-stop-one before now format file a b s t p q
     stop-one before now (listing short file) a b s t p q = program-stop-one before now (Source short) file a b s t p q
+    stop-one before now (mapping file) a b s t p q = program-stop-one before now (Source false) file a b s t p q
     stop-one before now (script file) a b s t p q = script-stop-one before now file a b s t p q
     stop-one before now (history file) a b s t p q = file-stop-one before now file a b s t p q
     stop-one before now (message file) a b s t p q = message-stop-one before now file a b s t p q
@@ -249,6 +263,10 @@ module _ (files : List ℕ → Option (List ℕ)) where
     never-both : (before now : ℕ) (ask : Ask) (given : Given) (stop : Stop) → IsOfFiles stop → Gives (Some files) ask given → StopsAt (Some files) before now ask stop → ⊥
     never-both before now (program format file) (bytes xs) stop s is stops = program-never_both before now format file xs stop s is stops
     never-both before now (listing short file) (bytes xs) stop s is stops = program-never_both before now (Source short) file (image_of is.1 is.2) stop s (is.0, is.1, is.2, is.3, refl) stops
+    never-both before now (mapping file) (bytes xs) stop s is stops =
+        let built = image-of_map file xs is in
+        program-never_both before now (Source false) file built.0 stop s built.1 stops
+    never-both before now (mapping file) (lines xs) stop s is stops = is
     never-both before now (script file) (lines xs) stop s is stops = script-never_both before now file xs stop s is stops
     never-both before now (program format file) (lines xs) stop s is stops = is
     never-both before now (listing short file) (lines xs) stop s is stops = is
@@ -322,6 +340,7 @@ program-unread-rose files before now Eeprom file name unread = unread.1
 ask-unread-rose : (files : Files) (before now : ℕ) (ask : Ask) (name : List ℕ) → StopsAt files before now ask (Unread name) → Rose before now
 ask-unread-rose files before now (program format file) name unread = program-unread-rose files before now format file name unread
 ask-unread-rose files before now (listing short file) name unread = program-unread-rose files before now (Source short) file name unread
+ask-unread-rose files before now (mapping file) name unread = program-unread-rose files before now (Source false) file name unread
 ask-unread-rose files before now (script file) name unread = unread.1
 ask-unread-rose files before now (history file) name unread = unread.1
 ask-unread-rose files before now (message file) name unread = unread.1

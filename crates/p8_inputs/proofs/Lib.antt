@@ -6,3 +6,4 @@ mod Building
 pub mod Stopping
 mod Refusals
 mod Outcomes
+mod Mapping

@@ -4,6 +4,8 @@ use Rattle.p8_tree.specs.declared.places.Place.{Place}
 use Rattle.p8_tree.specs.Projects.{NamedSource}
 use Rattle.p8_faults.specs.declared.faults.Fault.{Fault}
 use Rattle.p8_faults.specs.Faults.{fault}
+use Rattle.p8_kinds.specs.declared.children.Children.{Children}
+use Rattle.p8_names.specs.Children.{AreChildren}
 use Rattle.p8_image.specs.declared.clocks.Clock.{Clock}
 use Rattle.p8_image.specs.declared.parts.ObjectPart.{ObjectPart}
 use Rattle.p8_objects.specs.Outcomes.{Outcome, project, refused, missing, shelved, Gathers}
@@ -11,9 +13,11 @@ use Rattle.p8_objects.specs.Whole.{IsOfFiles}
 use Rattle.p8_objects.proofs.Wholes.{whole_project}
 use Rattle.p8_names.specs.Mentions as seen
 use Rattle.p8_build.specs.Builds.{IsBuilt, IsRefusedWith, objects_of}
+use Rattle.p8_map.specs.Projects.{IsMapOf}
 use Rattle.p8_opt.specs.Shorts.{IsShortBuilt}
-use Rattle.p8_inputs.specs.Sources.{GathersTo, IsBuiltBy, IsBuiltFrom, IsRefusedFrom, while_gathered, when_built, HasOneOutcome}
+use Rattle.p8_inputs.specs.Sources.{GathersTo, IsBuiltBy, IsBuiltFrom, IsMapFrom, IsRefusedFrom, while_gathered, when_built, HasOneOutcome}
 use Rattle.p8_inputs.proofs.Gathering.{distinct, no_ring}
+use Rattle.p8_inputs.proofs.Mapping.{map-one}
 
 same-project : {a b : List NamedSource} → project a ≡ project b → a ≡ b
 same-project e = cc
@@ -52,10 +56,14 @@ BuiltOrRefused = (files : List NamedSource) → seen.AreDistinct files → seen.
 abbrev pub OneShortBuilt : Type 0
 OneShortBuilt = (files : List NamedSource) → seen.AreDistinct files → seen.HaveNoRing files → (c d : Clock) (a b : List ObjectPart) → IsShortBuilt files c a → IsShortBuilt files d b → (c ≡ d) × (a ≡ b)
 
+-- what the files of a project see is one thing
+abbrev pub OneView : Type 0
+OneView = (files : List NamedSource) → seen.AreDistinct files → seen.HaveNoRing files → (a b : List Children) → AreChildren files a → AreChildren files b → a ≡ b
+
 abbrev pub OneRefused : Type 0
 OneRefused = (files : List NamedSource) → seen.AreDistinct files → seen.HaveNoRing files → (a b : List ℕ) (f g : Fault) → IsRefusedWith files a f → IsRefusedWith files b g → (a ≡ b) × (f ≡ g)
 
-module _ (one : OneGathered) (same : OneBuilt) (refusal : OneRefused) (either : BuiltOrRefused) (short_same : OneShortBuilt) (files : List ℕ → Option (List ℕ)) where
+module _ (one : OneGathered) (same : OneBuilt) (refusal : OneRefused) (either : BuiltOrRefused) (short_same : OneShortBuilt) (views : OneView) (files : List ℕ → Option (List ℕ)) where
   -- what building by a choice comes to is one thing
   built-one : (short : Bool) (sources : List NamedSource) → seen.AreDistinct sources → seen.HaveNoRing sources → (c d : Clock) (a b : List ObjectPart) → IsBuiltBy short sources c a → IsBuiltBy short sources d b → (c ≡ d) × (a ≡ b)
   built-one false sources different none c d a b p q = same sources different none c d a b p q
@@ -74,6 +82,12 @@ module _ (one : OneGathered) (same : OneBuilt) (refusal : OneRefused) (either : 
       let whole = whole_project (h.gathered 0 0) in
       let is = built-one short others (distinct others whole.distinct) (no_ring others whole.no_ring) clock other objects parts (subst (λ s. IsBuiltBy short s clock objects) e g.built) h.built in
       (e, is.0, is.1)
+
+  one-map : (top a b : List ℕ) → IsMapFrom (Some files) top a → IsMapFrom (Some files) top b → a ≡ b
+  one-map top a b p q =
+      let e : p.0 ≡ q.0 = one-project top p.0 q.0 p.1 q.1 in
+      let whole = whole_project (q.1 0 0) in
+      map-one q.0 (views q.0 (distinct q.0 whole.distinct) (no_ring q.0 whole.no_ring)) a b (subst (λ s. IsMapOf s a) e p.2) q.2
 
   not-refused : (short : Bool) (top name : List ℕ) (number : ℕ) (place : Place) (sources : List NamedSource) (clock : Clock) (objects : List ObjectPart) → IsBuiltFrom (Some files) short top sources clock objects → IsRefusedFrom (Some files) top name number place → ⊥
   not-refused short top name number place sources clock objects g (while_gathered h) =
@@ -105,6 +119,7 @@ module _ (one : OneGathered) (same : OneBuilt) (refusal : OneRefused) (either : 
   pub one-outcome : HasOneOutcome files
   one-outcome = record {
     one_image = one-image;
+    one_map = one-map;
     not_missing = λ before now short top name sources clock objects g h. project-not_missing (one files before now top (project sources) (missing name) (g.gathered before now) h tt tt);
     not_refused = not-refused;
     missing_or_refused = missing-or-refused;

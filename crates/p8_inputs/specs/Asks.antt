@@ -1,5 +1,5 @@
 -- What a command reads of a shelf: a list of asks, one after the other, and the first of them that stops it (this project's profile).
-use Rattle.std.specs.Prelude.{ℕ, ◌≡◌, ◌<◌, ◌≤◌, ◌⊎◌, Bool, List, [], ◌∷◌, ◌++◌, length, Option, Some, None}
+use Rattle.std.specs.Prelude.{ℕ, ◌≡◌, ◌<◌, ◌≤◌, ◌⊎◌, Bool, false, List, [], ◌∷◌, ◌++◌, length, Option, Some, None}
 use Rattle.p8_access.specs.Worlds.{Line}
 use Rattle.p8_pins.specs.Scripts.{IsFault}
 use Rattle.p8_image.specs.declared.faults.LoadFault.TheVariants.{BadLength}
@@ -10,18 +10,20 @@ use Rattle.p8_inputs.specs.declared.program.Format.TheVariants.{Source}
 use Rattle.p8_inputs.specs.declared.stop.Stop.{Stop}
 use Rattle.p8_inputs.specs.declared.stop.Stop.TheVariants.{Unread, Missing, NoMemory, Refused, BadProgram, BadScript}
 use Rattle.p8_inputs.specs.Inputs.{IsProgram, IsScriptFor, IsProgramMissing, IsProgramUnread, HasRefusal, HasFault}
-use Rattle.p8_inputs.specs.Sources.{IsListingFrom}
+use Rattle.p8_inputs.specs.Sources.{IsListingFrom, IsMapFrom}
 
--- an ask: for the program of a file, by what the file is taken for; for the listing of a source, with its short code where it is short; for the pin script of a file; for the bytes of a
--- history file, whatever they are; or for the bytes of a message, which is to be sent and has at most 5,000
+-- an ask: for the program of a file, by what the file is taken for; for the listing of a source, with its short code where it is short; for the map of a
+-- source; for the pin script of a file; for the bytes of a history file, whatever they are; or for the bytes of a message, which is to be sent and has at
+-- most 5,000
 pub data Ask : Type 0 where
   program : Format → (file : List ℕ) → Ask
   listing : (short : Bool) (file : List ℕ) → Ask
+  mapping : (file : List ℕ) → Ask
   script : (file : List ℕ) → Ask
   history : (file : List ℕ) → Ask
   message : (file : List ℕ) → Ask
 
--- what an ask is given: the bytes of a program, of a listing, of a history file or of a message, or the lines of a pin script
+-- what an ask is given: the bytes of a program, of a listing, of a map, of a history file or of a message, or the lines of a pin script
 pub data Given : Type 0 where
   bytes : List ℕ → Given
   lines : List Line → Given
@@ -49,11 +51,13 @@ check_asks format file named recorded = run_asks format file named ++ history re
 abbrev pub Gives : Files → Ask → Given → Type 0
 Gives files (program format file) (bytes xs) = IsProgram files format file xs
 Gives files (listing short file) (bytes xs) = IsListingFrom files short file xs
+Gives files (mapping file) (bytes xs) = IsMapFrom files file xs
 Gives files (script file) (lines xs) = IsScriptFor files (Some file) xs
 Gives files (history file) (bytes xs) = IsRead files file xs
 Gives files (message file) (bytes xs) = IsRead files file xs × (length xs ≤ most_sent)
 Gives files (program format file) (lines xs) = ⊥
 Gives files (listing short file) (lines xs) = ⊥
+Gives files (mapping file) (lines xs) = ⊥
 Gives files (script file) (bytes xs) = ⊥
 Gives files (history file) (lines xs) = ⊥
 Gives files (message file) (lines xs) = ⊥
@@ -125,6 +129,7 @@ StopsAtScript files before now file (BadScript name line) =
 abbrev pub StopsAt : Files → (before now : ℕ) → Ask → Stop → Type 0
 StopsAt files before now (program format file) stop = StopsAtProgram files before now format file stop
 StopsAt files before now (listing short file) stop = StopsAtProgram files before now (Source short) file stop
+StopsAt files before now (mapping file) stop = StopsAtProgram files before now (Source false) file stop
 StopsAt files before now (script file) stop = StopsAtScript files before now file stop
 StopsAt files before now (history file) stop = StopsAtFile files before now file stop
 StopsAt files before now (message file) stop = StopsAtMessage files before now file stop

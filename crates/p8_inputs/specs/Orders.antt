@@ -6,7 +6,7 @@ use Rattle.p8_objects.specs.Outcomes.{project}
 use Rattle.p8_objects.specs.Orders.{AreAllRead as FilesAreRead, ReadsInOrder}
 use Rattle.p8_inputs.specs.declared.program.Format.{Format}
 use Rattle.p8_inputs.specs.declared.program.Format.TheVariants.{Source}
-use Rattle.p8_inputs.specs.Asks.{Ask, program, listing, script, history, message, Given, Gives}
+use Rattle.p8_inputs.specs.Asks.{Ask, program, listing, mapping, script, history, message, Given, Gives}
 use Rattle.p8_inputs.specs.Sources.{GathersTo}
 
 -- the files of the project of a top file were read, each once, in their order
@@ -18,6 +18,7 @@ abbrev pub IsAllRead : Files → Ask → (before now : Log) → Type 0
 IsAllRead files (program (Source short) file) before now = IsProjectRead files file before now
 IsAllRead files (program format file) before now = WereRead before now (file ∷ [])
 IsAllRead files (listing short file) before now = IsProjectRead files file before now
+IsAllRead files (mapping file) before now = IsProjectRead files file before now
 IsAllRead files (script file) before now = WereRead before now (file ∷ [])
 IsAllRead files (history file) before now = WereRead before now (file ∷ [])
 IsAllRead files (message file) before now = WereRead before now (file ∷ [])
@@ -31,6 +32,7 @@ abbrev pub IsReadSoFar : Files → Ask → (before now : Log) → Type 0
 IsReadSoFar files (program (Source short) file) before now = ReadsInOrder files file before now
 IsReadSoFar files (program format file) before now = MayBeRead file before now
 IsReadSoFar files (listing short file) before now = ReadsInOrder files file before now
+IsReadSoFar files (mapping file) before now = ReadsInOrder files file before now
 IsReadSoFar files (script file) before now = MayBeRead file before now
 IsReadSoFar files (history file) before now = MayBeRead file before now
 IsReadSoFar files (message file) before now = MayBeRead file before now

@@ -9,6 +9,7 @@ use Rattle.p8_image.specs.Layout.{image_of}
 use Rattle.p8_io.specs.Shelves.{Files}
 use Rattle.p8_objects.specs.Outcomes.{Outcome, project, refused, missing, shelved, Gathers}
 use Rattle.p8_build.specs.Builds.{IsBuilt, IsRefusedWith}
+use Rattle.p8_map.specs.Projects.{IsMapOf}
 use Rattle.p8_opt.specs.Shorts.{IsShortBuilt}
 use Rattle.p8_texts.specs.Listing.{listing_of}
 
@@ -38,6 +39,10 @@ IsListingFrom files short top text =
     (sources : List NamedSource) × (clock : Clock) × (objects : List ObjectPart)
     × IsBuiltFrom files short top sources clock objects × (text ≡ listing_of (map (λ source. source.name) sources) objects)
 
+-- this text is the map of the project of a top file
+abbrev pub IsMapFrom : Files → (top text : List ℕ) → Type 0
+IsMapFrom files top text = (sources : List NamedSource) × GathersTo files top (project sources) × IsMapOf sources text
+
 -- the project of a top file is refused: this file of it, with this number, at this place; while it is gathered, or else when it is built
 pub data IsRefusedFrom (files : Files) (top name : List ℕ) (number : ℕ) (place : Place) : Type 0 where
   while_gathered : GathersTo files top (refused name number place) → IsRefusedFrom files top name number place
@@ -49,6 +54,7 @@ pub record HasOneOutcome (files : List ℕ → Option (List ℕ)) : Type 0 where
   pub one_image : (short : Bool) (top : List ℕ) (some others : List NamedSource) (clock other : Clock) (objects parts : List ObjectPart)
       → IsBuiltFrom (Some files) short top some clock objects → IsBuiltFrom (Some files) short top others other parts
       → (some ≡ others) × (clock ≡ other) × (objects ≡ parts)
+  pub one_map : (top a b : List ℕ) → IsMapFrom (Some files) top a → IsMapFrom (Some files) top b → a ≡ b
   pub not_missing : (before now : ℕ) (short : Bool) (top name : List ℕ) (sources : List NamedSource) (clock : Clock) (objects : List ObjectPart)
       → IsBuiltFrom (Some files) short top sources clock objects → ¬ Gathers (shelved (Some files) before now) top (missing name)
   pub not_refused : (short : Bool) (top name : List ℕ) (number : ℕ) (place : Place) (sources : List NamedSource) (clock : Clock) (objects : List ObjectPart)

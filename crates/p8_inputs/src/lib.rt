@@ -15,5 +15,6 @@ pub use convert::other_image;
 pub use inputs::{Inputs, Recorded, read_inputs, read_message, read_recorded};
 pub use laws::{one_reading, one_source};
 pub use program::{Format, Program};
-pub use sources::{image_of_source, listing_of_source};
+pub use sources::{image_of_source, listing_of_source, map_of_source};
 pub use stop::Stop;
+pub use telling::tell_refused;

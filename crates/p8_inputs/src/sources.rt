@@ -1,5 +1,5 @@
 // What a source is built to.
-ghost use Rattle.std.specs.Prelude.{◌≡◌, ◌≤◌, ◌∷◌, [], ℕ, Bool, List, Err, map, IfOk, IfErr};
+ghost use Rattle.std.specs.Prelude.{◌≡◌, ◌≤◌, ◌∷◌, [], ℕ, Bool, false, List, Err, map, IfOk, IfErr};
 ghost use Rattle.p8_tree.specs.Projects.{NamedSource};
 ghost use Rattle.p8_tree.specs.Views.{named_sources_of};
 ghost use Rattle.p8_io.specs.Shelves.{Files};
@@ -7,17 +7,19 @@ ghost use Rattle.p8_objects.specs.Orders.{AreAllRead as FilesAreRead, ReadsInOrd
 ghost use Rattle.p8_objects.specs.Outcomes.{shelved, Answers};
 ghost use Rattle.p8_build.specs.Told.{IsRefusal};
 ghost use Rattle.p8_image.specs.Loading.{image_in as image_of_file};
-ghost use Rattle.p8_inputs.specs.Asks.{StopsAtProgram, Stops, program as program_ask, listing as listing_ask};
+ghost use Rattle.p8_map.specs.Projects.{IsMapOf};
+ghost use Rattle.p8_inputs.specs.Asks.{StopsAtProgram, Stops, program as program_ask, listing as listing_ask, mapping as mapping_ask};
 ghost use Rattle.p8_inputs.specs.Gathered.{IsProject, IsWhole, IsImageBuiltBy, AreBuiltBy, IsListingOf, StopsAtBuilding};
 ghost use Rattle.p8_inputs.specs.Orders.{IsProjectRead, AreAllRead, AreReadSoFar};
 ghost use Rattle.p8_inputs.specs.Runs.{HasProperTrees};
-ghost use Rattle.p8_inputs.specs.Sources.{IsImageFrom, IsListingFrom};
+ghost use Rattle.p8_inputs.specs.Sources.{IsImageFrom, IsListingFrom, IsMapFrom};
 ghost use Rattle.p8_inputs.specs.declared.program.Format.TheVariants.{Source};
 
 use crate::stop::Stop;
 use p8_build::{BuildFault, Built, build, build_parts};
 use p8_image::Image;
 use p8_io::Shelf;
+use p8_map::project_map;
 use p8_objects::{GatherFault, discard, gather};
 use p8_opt::{build_short, build_short_parts};
 use p8_texts::listing;
@@ -142,6 +144,18 @@ fn listing_of_project(alloc: Global, short: bool, project: &Project) -> Result<V
     Ok(text)
 }
 
+/// The map of a project.
+fn map_of_project(alloc: Global, project: &Project) -> Result<Vec<u8>, Stop>
+    requires { IsWhole (named_sources_of project.now) }
+    ensures text { IfOk result (λ text. IsMapOf (named_sources_of project.now) text.items) }
+    ensures stopped { IfErr result (StopsAtBuilding (named_sources_of project.now)) }
+{
+    match project_map(alloc, project) {
+        Ok(text) => Ok(text),
+        Err(fault) => Err(stop_of_building(fault)),
+    }
+}
+
 /// The image of the project of a top file.
 pub(crate) fn image_in<S: Shelf>(
     alloc: Global,
@@ -179,6 +193,21 @@ fn listing_in<S: Shelf>(
 {
     let project = project_in(alloc, file, shelf)?;
     let text = listing_of_project(alloc, short, &project);
+    discard(project);
+    text
+}
+
+/// The map of the project of a top file.
+fn map_in<S: Shelf>(alloc: Global, file: &str, shelf: &mut S) -> Result<Vec<u8>, Stop>
+    ensures text { IfOk result (λ text. IsMapFrom (S.files shelf.old) file.now text.items) }
+    ensures stopped { IfErr result (StopsAtProgram (S.files shelf.old) (S.faults shelf.old) (S.faults shelf.new) (Source false) file.now) }
+    ensures all_read { IfOk result (λ _. IsProjectRead (S.files shelf.old) file.now (S.log shelf.old) (S.log shelf.new)) }
+    ensures in_order { ReadsInOrder (S.files shelf.old) file.now (S.log shelf.old) (S.log shelf.new) }
+    ensures later { S.faults shelf.old ≤ S.faults shelf.new }
+    ensures kept { S.files shelf.new ≡ S.files shelf.old }
+{
+    let project = project_in(alloc, file, shelf)?;
+    let text = map_of_project(alloc, &project);
     discard(project);
     text
 }
@@ -227,4 +256,20 @@ pub fn listing_of_source<S: Shelf>(
     ensures kept { S.files shelf.new ≡ S.files shelf.old }
 {
     listing_in(alloc, short, file, shelf)
+}
+
+/// The map of the project of sources whose top file has this name: see [`project_map`](p8_map::project_map).
+///
+/// # Errors
+///
+/// Those of [`image_of_source`].
+pub fn map_of_source<S: Shelf>(alloc: Global, file: &str, shelf: &mut S) -> Result<Vec<u8>, Stop>
+    ensures text { IfOk result (λ text. IsMapFrom (S.files shelf.old) file.now text.items) }
+    ensures stopped { IfErr result (Stops (S.files shelf.old) (S.faults shelf.old) (S.faults shelf.new) (mapping_ask file.now ∷ [])) }
+    ensures all_read { IfOk result (λ _. AreAllRead (S.files shelf.old) (mapping_ask file.now ∷ []) (S.log shelf.old) (S.log shelf.new)) }
+    ensures so_far { AreReadSoFar (S.files shelf.old) (mapping_ask file.now ∷ []) (S.log shelf.old) (S.log shelf.new) }
+    ensures later { S.faults shelf.old ≤ S.faults shelf.new }
+    ensures kept { S.files shelf.new ≡ S.files shelf.old }
+{
+    map_in(alloc, file, shelf)
 }
