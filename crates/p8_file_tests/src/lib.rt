@@ -1,4 +1,4 @@
-//! Tests of files: of shelves and sinks, of what a run begins with, of images and of listings.
+//! Tests of files: of shelves and sinks, of what a run begins with, of images, of listings and of maps.
 //!
 //! They stand apart from the crates that they test, because a crate with tests is proved twice.
 #![tactic(auto)]
@@ -15,3 +15,5 @@ mod layouts;
 mod listings;
 #[cfg(test)]
 mod made;
+#[cfg(test)]
+mod maps;
