@@ -1,0 +1,2 @@
+-- What a code's lines say of it.
+pub mod Lines

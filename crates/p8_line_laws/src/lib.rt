@@ -1,0 +1,6 @@
+//! What the line table of a project says of its bytecodes. The definitions stand in specs/.
+#![tactic(auto)]
+
+mod code_laws;
+
+pub use code_laws::{lines_are_of_their_statements, lines_begin_where_bytecodes_do};
