@@ -2,5 +2,7 @@
 #![tactic(auto)]
 
 mod code_laws;
+mod table_laws;
 
 pub use code_laws::{lines_are_of_their_statements, lines_begin_where_bytecodes_do};
+pub use table_laws::table_tells_each_address_once;
