@@ -1,2 +1,3 @@
 pub mod Lined
 mod Apart
+mod Asked

@@ -1,2 +1,4 @@
 -- What a code's lines say of it.
 pub mod Lines
+-- Which bytecode asks an access.
+pub mod Asking

@@ -2,7 +2,9 @@
 #![tactic(auto)]
 
 mod code_laws;
+mod life_laws;
 mod table_laws;
 
 pub use code_laws::{lines_are_of_their_statements, lines_begin_where_bytecodes_do};
+pub use life_laws::{accesses_are_asked_by_their_lines, bytecodes_stand_at_their_lines};
 pub use table_laws::table_tells_each_address_once;
