@@ -1,6 +1,7 @@
 -- The words of the command line (this project's profile), by what the library `clap` states of the words that a
 -- command takes. Each word is a list of bytes.
-use Rattle.std.specs.Prelude.{ℕ, Bool, true, false, List, [], ◌∷◌, Option, Some, None, option_map, option_and_then, codes}
+use Rattle.std.specs.Prelude.{ℕ, Bool, true, false, if◌then◌else◌, List, [], ◌∷◌, Option, Some, None, option_map, option_and_then, codes}
+use Rattle.std.specs.List.{list_all}
 use Rattle.std.specs.Str.{bytes_eq}
 use Rattle.clap.specs.Kinds.{Kinds}
 use Rattle.clap.specs.Faults.{fault_of}
@@ -10,7 +11,7 @@ use Rattle.p8_commands.specs.declared.table.Subcommand.{Subcommand}
 use Rattle.p8_commands.specs.declared.table.Subcommand.TheVariants as named
 use Rattle.p8_commands.specs.declared.kind.ImageKind.{ImageKind}
 use Rattle.p8_commands.specs.Kinds.{kind_named}
-use Rattle.p8_commands.specs.Numbers.{number_of, number_from, range_of, most_clocks, most_turns, usual_turns, most_saved_turns, last_pin, least_bits, most_bits, most_seed}
+use Rattle.p8_commands.specs.Numbers.{is_digit, number_of, number_from, range_of, refusal_of, most_clocks, most_turns, usual_turns, most_saved_turns, last_pin, least_bits, most_bits, most_seed}
 use Rattle.p8_commands.specs.Pins.{mask_of, span_of}
 use Rattle.p8_commands.specs.Table.{entry_of, app_for, subcommand_named}
 
@@ -23,15 +24,19 @@ pub record Running : Type 0 where
   pub turns : ℕ
   pub dump : Option (ℕ × ℕ)
 
--- A command: to write the image of a source or its listing; to run hub memory, or an image or a source; to save the history of a run, or to check
--- one; to read the bytes that stand on a pin of a run, with so many clocks a bit, or to write a pin script that sends the bytes of a file from a clock
--- on; to write the wave of a run, of all that it has or of what changes, or of its pins and locks alone; to draw some pins of a run, by their mask, from one clock on and before
--- another; to write an image as the other kind of file; to run the made program of a seed; or to tell a command or all of them. A run is made by one
--- thread alone, or by a crew of eight. Where it says whether it is raw, what is run is hub memory where it is, and else an image or a source. Where it
--- says whether it is short, a source has its short code where it is.
+-- A command: to write the image of a source, its listing or its map; to explain why a source is refused, or a refusal by its number; to run hub
+-- memory, or an image or a source; to save the history of a run, or to check one; to read the bytes that stand on a pin of a run, with so many clocks a
+-- bit, or to write a pin script that sends the bytes of a file from a clock on; to write the wave of a run, of all that it has or of what changes, or of
+-- its pins and locks alone; to draw some pins of a run, by their mask, from one clock on and before another; to write an image as the other kind of
+-- file; to run the made program of a seed; or to tell a command or all of them. A run is made by one thread alone, or by a crew of eight. Where it says
+-- whether it is raw, what is run is hub memory where it is, and else an image or a source. Where it says whether it is short, a source has its short
+-- code where it is.
 pub data Command : Type 0 where
   BuildSource : (short : Bool) (file : List ℕ) → Command
   ListSource : (short : Bool) (file : List ℕ) → Command
+  MapSource : (file : List ℕ) → Command
+  ExplainFile : (file : List ℕ) → Command
+  ExplainNumber : (number : ℕ) → Command
   RunMemory : (run : Running) → Command
   RunProgram : (alone short : Bool) (run : Running) → Command
   Save : (raw : Bool) (run : Running) → Command
@@ -51,6 +56,11 @@ alone_of (Some (Wave false raw all pins_only run)) = None
 alone_of (Some (Plot false raw ascii run pins from to)) = None
 alone_of (Some (Make false seed)) = None
 alone_of command = command
+
+-- the command explains why a source is refused
+abbrev pub explains : Command → Bool
+explains (ExplainFile file) = true
+explains command = false
 
 -- ---- the meaning of each entry, by the value of each argument that has one
 
@@ -139,6 +149,10 @@ plot_of value =
     plot_by (has_flag (codes "alone") value) (has_flag (codes "raw") value) (has_flag (codes "ascii") value)
     (told_of value) (option_and_then mask_of (value (codes "PINS"))) (value (codes "FROM:TO"))
 
+-- what is to be explained: a word of digits alone is the number of a refusal, and never a file
+abbrev pub explain_of : Text → Option Command
+explain_of word = if list_all is_digit word then option_map ExplainNumber (refusal_of word) else Some (ExplainFile word)
+
 abbrev pub seed_of : (Text → Option Text) → Option ℕ
 seed_of value = option_and_then (number_of most_seed) (value (codes "SEED"))
 
@@ -154,6 +168,8 @@ convert_of file = option_map (λ kind. Convert kind file) (kind_named file)
 abbrev pub meaning_of : Subcommand → (Text → Option Text) → Option Command
 meaning_of named.Build value = option_map (BuildSource (has_flag (codes "short") value)) (value (codes "FILE"))
 meaning_of named.List value = option_map (ListSource (has_flag (codes "short") value)) (value (codes "FILE"))
+meaning_of named.Map value = option_map MapSource (value (codes "FILE"))
+meaning_of named.Explain value = option_and_then explain_of (value (codes "WORD"))
 meaning_of named.Raw value = option_map RunMemory (traced_of value)
 meaning_of named.Run value = option_and_then (program_of (has_flag (codes "alone") value) (has_flag (codes "short") value)) (traced_of value)
 meaning_of named.Save value = option_map (Save (has_flag (codes "raw") value)) (saved_of value)

@@ -2,6 +2,10 @@
 use Rattle.std.specs.Prelude.{ℕ, ◌+◌, ◌-◌, ◌*◌, nat_le, if◌then◌else◌, ◌&&◌, ◌||◌, ◌==◌, Bool, List, [], ◌∷◌, Option, Some, None, option_and_then, length}
 use Rattle.std.specs.List.{list_all}
 
+-- the number of the last refusal of a source
+abbrev pub last_refusal : ℕ
+last_refusal = 30
+
 -- a decimal digit
 abbrev pub is_digit : ℕ → Bool
 is_digit code = nat_le 48 code && nat_le code 57
@@ -24,6 +28,10 @@ number_of limit text =
 -- such a number that is also at least another one
 abbrev pub number_from : (least limit : ℕ) → List ℕ → Option ℕ
 number_from least limit text = option_and_then (λ number. if nat_le least number then Some number else None) (number_of limit text)
+
+-- the number of a refusal, of one or two decimal digits
+abbrev pub refusal_of : List ℕ → Option ℕ
+refusal_of text = if nat_le (length text) 2 then number_from 1 last_refusal text else None
 
 -- a hexadecimal digit, in capitals or small letters
 abbrev pub is_hexadecimal : ℕ → Bool

@@ -6,10 +6,10 @@ use Rattle.p8_commands.specs.declared.table.Row.{Row}
 use Rattle.p8_commands.specs.declared.command.Command.{Command as CommandRead}
 use Rattle.p8_commands.specs.declared.command.Command.TheVariants as read
 use Rattle.p8_commands.specs.declared.command.Run.{Run as RunRead}
-use Rattle.p8_commands.specs.Commands.{Command, Running, BuildSource, ListSource, RunMemory, RunProgram, Save, Check, Serial, TypeFile, Wave, Plot, Convert, Make, Help}
+use Rattle.p8_commands.specs.Commands.{Command, Running, BuildSource, ListSource, MapSource, ExplainFile, ExplainNumber, RunMemory, RunProgram, Save, Check, Serial, TypeFile, Wave, Plot, Convert, Make, Help}
 use Rattle.p8_commands.specs.Table.{Argument, Entry}
 use Rattle.p8_commands.specs.Naming.{name_of}
-use Rattle.p8_commands.specs.Numbers.{most_clocks, most_turns, most_saved_turns, last_pin, least_bits, most_bits}
+use Rattle.p8_commands.specs.Numbers.{most_clocks, most_turns, most_saved_turns, last_pin, last_refusal, least_bits, most_bits}
 use Rattle.p8_commands.specs.Ranges.{IsInRam}
 
 abbrev pub argument_of : ArgumentHeld → Argument
@@ -24,6 +24,9 @@ running run = record { file = run.file.now; clocks = run.clocks; script = name_o
 abbrev pub command_read : CommandRead → Command
 command_read (read.Build short file) = BuildSource short file.now
 command_read (read.List short file) = ListSource short file.now
+command_read (read.Map file) = MapSource file.now
+command_read (read.ExplainFile file) = ExplainFile file.now
+command_read (read.ExplainNumber number) = ExplainNumber number
 command_read (read.Raw run) = RunMemory (running run)
 command_read (read.Run alone short run) = RunProgram alone short (running run)
 command_read (read.Save raw run) = Save raw (running run)
@@ -58,5 +61,6 @@ HasLimits (read.Save raw run) = IsWithin run × (run.turns ≤ most_saved_turns)
 HasLimits (read.Serial raw run pin bits) = IsWithin run × IsOnPin pin bits
 HasLimits (read.Wave alone raw all pins_only run) = IsWithin run
 HasLimits (read.Plot alone raw ascii run pins from to) = IsWithin run
+HasLimits (read.ExplainNumber number) = (1 ≤ number) × (number ≤ last_refusal)
 HasLimits (read.TypeFile file pin bits start) = IsOnPin pin bits × (1 ≤ start) × (start ≤ most_clocks)
 HasLimits _ = Unit {0}

@@ -84,6 +84,9 @@ shown_clocks =
     optional (codes "FROM:TO")
     (codes "the clocks to draw, from FROM on and before TO: each 1 to 10 digits, FROM at most TO, and TO at most CLOCKS; else all")
 
+abbrev pub explained : Argument
+explained = operand (codes "WORD") (codes "the top file of a project, a source in Spin; or the number of a refusal, 1 or 2 digits, from 1 to 30")
+
 abbrev pub pins_only : Argument
 pins_only = flag (codes "pins-only") (codes "shows the pins and the locks alone, for readers that take no variable of more than one bit")
 
@@ -105,6 +108,18 @@ entry_of named.List = record {
   arguments = source_file ∷ short ∷ [];
   about = codes "Writes the listing of a source: its objects, their methods, and the code of each.";
   example = codes "prop list blink.spin";
+}
+entry_of named.Map = record {
+  word = codes "map";
+  arguments = source_file ∷ [];
+  about = codes "Writes the map of a source: where in the hub each variable, label, method and text of its objects stands.";
+  example = codes "prop map blink.spin";
+}
+entry_of named.Explain = record {
+  word = codes "explain";
+  arguments = explained ∷ [];
+  about = codes "Tells why a source is refused, with the line that is and what mends it; or tells a refusal by its number.";
+  example = codes "prop explain blink.spin";
 }
 entry_of named.Raw = record {
   word = codes "raw";
@@ -178,7 +193,7 @@ entry_of named.Help = record {
 -- all commands, in the order in which they are told
 abbrev pub subcommands : List Subcommand
 subcommands =
-    named.Build ∷ named.List ∷ named.Raw ∷ named.Run ∷ named.Save ∷ named.Check ∷ named.Serial ∷ named.TypeFile ∷ named.Wave
+    named.Build ∷ named.List ∷ named.Map ∷ named.Explain ∷ named.Raw ∷ named.Run ∷ named.Save ∷ named.Check ∷ named.Serial ∷ named.TypeFile ∷ named.Wave
     ∷ named.Plot ∷ named.Convert ∷ named.Make ∷ named.Help ∷ []
 
 -- the command that a word names

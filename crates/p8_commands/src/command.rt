@@ -1,6 +1,6 @@
 // What the words of the command line ask for.
 ghost use Rattle.std.specs.Prelude.{◌≡◌, if◌then◌else◌, Some, None};
-ghost use Rattle.p8_commands.specs.Commands.{alone_of};
+ghost use Rattle.p8_commands.specs.Commands.{alone_of, explains as explains_of};
 ghost use Rattle.p8_commands.specs.Seen.{command_read};
 
 use crate::kind::ImageKind;
@@ -32,6 +32,19 @@ pub enum Command<'a> {
     List {
         short: bool,
         file: &'a str,
+    },
+    /// Writes the map of a source.
+    Map {
+        file: &'a str,
+    },
+    /// Tells why a source is refused.
+    ExplainFile {
+        file: &'a str,
+    },
+    /// Tells a refusal.
+    ExplainNumber {
+        /// Its number, 1 to 30.
+        number: u8,
     },
     /// Writes the trace of a run of hub memory, by one thread.
     Raw {
@@ -118,12 +131,31 @@ pub enum Command<'a> {
 }
 
 impl Command<'_> {
+    /// Whether it explains why a source is refused.
+    pub fn explains(self) -> bool
+        ensures { result ≡ explains_of (command_read self.entry) }
+    {
+        match self {
+            Command::ExplainFile { .. } => true,
+            Command::Build { .. } | Command::List { .. } => false,
+            Command::Map { .. } | Command::ExplainNumber { .. } => false,
+            Command::Raw { .. } | Command::Run { .. } => false,
+            Command::Save { .. } | Command::Check { .. } => false,
+            Command::Serial { .. } | Command::TypeFile { .. } => false,
+            Command::Wave { .. } | Command::Plot { .. } => false,
+            Command::Convert { .. } | Command::Make { .. } => false,
+            Command::Help { .. } => false,
+        }
+    }
+
     /// Whether one thread alone carries it out.
     pub fn is_alone(self) -> bool
         ensures { (if result then Some (command_read self.entry) else None) ≡ alone_of (Some (command_read self.entry)) }
     {
         match self {
             Command::Build { .. } | Command::List { .. } => true,
+            Command::Map { .. } => true,
+            Command::ExplainFile { .. } | Command::ExplainNumber { .. } => true,
             Command::Raw { .. } | Command::Save { .. } => true,
             Command::Check { .. } | Command::Convert { .. } => true,
             Command::Serial { .. } | Command::TypeFile { .. } => true,

@@ -1,9 +1,13 @@
 // Numbers and ranges in the words of the command line.
 ghost use Rattle.std.specs.Prelude.{◌≡◌, ◌<◌, ◌≤◌, Some, None, ℕ, length, IfSome};
+ghost use Rattle.std.specs.List.{list_all};
 ghost use Rattle.std.specs.Option.{ForSome};
-ghost use Rattle.p8_commands.specs.Numbers.{number_of, number_from as number_from_of, count_of, range_of, range_by};
-ghost use Rattle.p8_commands.specs.Numbers.{address_by, hexadecimal_digit as hexadecimal_digit_of, value_within, most_seed};
+ghost use Rattle.p8_commands.specs.Numbers.{number_of, number_from as number_from_of, count_of, range_of, range_by, refusal_of};
+ghost use Rattle.p8_commands.specs.Numbers.{address_by, hexadecimal_digit as hexadecimal_digit_of, is_digit, value_within, last_refusal, most_seed};
 ghost use Rattle.p8_commands.specs.Ranges.{IsInRam};
+
+/// The number of the last refusal of a source.
+const LAST_REFUSAL: u64 = 30;
 
 /// The number of some decimal digits, or None where it is above a limit or another byte is among them.
 fn value_of(digits: &[u8], limit: u64) -> Option<u64>
@@ -45,6 +49,26 @@ pub fn number_from(text: &[u8], least: u64, limit: u64) -> Option<u64>
 {
     let number = number_in(text, limit)?;
     if number < least { None } else { Some(number) }
+}
+
+/// Whether the text is of decimal digits alone.
+pub fn is_of_digits(text: &[u8]) -> bool
+    ensures { result ≡ list_all is_digit text.now }
+{
+    text.iter().all(|code| *code >= b'0' && *code <= b'9')
+}
+
+/// The number of a refusal of sources, which has one or two decimal digits, or None for any other text.
+pub fn refusal_in(text: &[u8]) -> Option<u8>
+    ensures number { result ≡ refusal_of text.now }
+    ensures least { ForSome result (λ number. 1 ≤ number) }
+    ensures within { ForSome result (λ number. number ≤ last_refusal) }
+{
+    if text.len() > 2 {
+        return None;
+    }
+    let number = number_from(text, 1, LAST_REFUSAL)?;
+    Some(number as u8)
 }
 
 /// The value of a hexadecimal digit of either case, or None for any other byte.

@@ -46,6 +46,10 @@ pub enum Subcommand {
     Build,
     /// Writes the listing of a source.
     List,
+    /// Writes the map of a source.
+    Map,
+    /// Tells why a source is refused, or tells a refusal.
+    Explain,
     /// Runs hub memory.
     Raw,
     /// Runs an image or a source.
@@ -217,6 +221,13 @@ const PINS_ONLY: Argument = Argument {
     about: "shows the pins and the locks alone, for readers that take no variable of more than one bit",
 };
 
+const EXPLAINED: Argument = Argument {
+    kind: ArgumentKind::Operand,
+    name: "WORD",
+    value: "",
+    about: "the top file of a project, a source in Spin; or the number of a refusal, 1 or 2 digits, from 1 to 30",
+};
+
 const MESSAGE_FILE: Argument = Argument {
     kind: ArgumentKind::Operand,
     name: "FILE",
@@ -253,6 +264,8 @@ impl Subcommand {
         &[
             Subcommand::Build,
             Subcommand::List,
+            Subcommand::Map,
+            Subcommand::Explain,
             Subcommand::Raw,
             Subcommand::Run,
             Subcommand::Save,
@@ -283,6 +296,18 @@ impl Subcommand {
                 arguments: &[SOURCE_FILE, SHORT],
                 about: "Writes the listing of a source: its objects, their methods, and the code of each.",
                 example: "prop list blink.spin",
+            },
+            Subcommand::Map => Row {
+                word: "map",
+                arguments: &[SOURCE_FILE],
+                about: "Writes the map of a source: where in the hub each variable, label, method and text of its objects stands.",
+                example: "prop map blink.spin",
+            },
+            Subcommand::Explain => Row {
+                word: "explain",
+                arguments: &[EXPLAINED],
+                about: "Tells why a source is refused, with the line that is and what mends it; or tells a refusal by its number.",
+                example: "prop explain blink.spin",
             },
             Subcommand::Raw => Row {
                 word: "raw",

@@ -3,7 +3,7 @@ ghost use Rattle.std.specs.Prelude.{◌≡◌, ◌≤◌, Some, None, codes, map
 ghost use Rattle.std.specs.Option.{ForSome};
 ghost use Rattle.clap.specs.Matches.{first_value, found_of};
 ghost use Rattle.p8_commands.specs.Commands.{command_of, said_to, meaning_of, run_of, traced_of, saved_of, turns_by};
-ghost use Rattle.p8_commands.specs.Commands.{dump_by, is_given as is_given_by, has_flag as has_flag_by, check_of, told_of, pin_of, bits_of, serial_of, type_of, program_of, plot_of, seed_of, topic_of, convert_of};
+ghost use Rattle.p8_commands.specs.Commands.{dump_by, is_given as is_given_by, has_flag as has_flag_by, check_of, told_of, pin_of, bits_of, serial_of, type_of, program_of, plot_of, explain_of, seed_of, topic_of, convert_of};
 ghost use Rattle.p8_commands.specs.Naming.{name_of};
 ghost use Rattle.p8_commands.specs.Numbers.{most_turns, most_saved_turns, last_pin, least_bits, most_bits};
 ghost use Rattle.p8_commands.specs.Ranges.{IsInRam};
@@ -12,7 +12,7 @@ ghost use Rattle.p8_commands.specs.Seen.{command_if_any, run_if_any, running, Is
 use crate::arguments::{command_for, matches_in};
 use crate::command::{Command, Run};
 use crate::kind::ImageKind;
-use crate::numbers::{number_from, number_in, range_in};
+use crate::numbers::{is_of_digits, number_from, number_in, range_in, refusal_in};
 use crate::pins::{LAST_PIN, mask_in, span_in};
 use crate::table::Subcommand;
 use clap::ArgMatches;
@@ -221,6 +221,19 @@ fn plot_in<'a>(matches: &ArgMatches<'a>) -> Option<Command<'a>>
     })
 }
 
+/// The command to explain what a word names, or None where it is of digits and not the number of a refusal.
+fn explain_in(word: &str) -> Option<Command<'_>>
+    ensures seen { command_if_any result ≡ explain_of word.now }
+    ensures within { IfSome result HasLimits }
+{
+    if is_of_digits(word.as_bytes()) {
+        return Some(Command::ExplainNumber {
+            number: refusal_in(word.as_bytes())?,
+        });
+    }
+    Some(Command::ExplainFile { file: word })
+}
+
 /// The seed of a made program.
 fn seed_in(matches: &ArgMatches<'_>) -> Option<u32>
     ensures { result ≡ seed_of (first_value (found_of matches.now)) }
@@ -264,6 +277,10 @@ fn meaning_in<'a>(command: Subcommand, matches: &ArgMatches<'a>) -> Option<Comma
             short: has_flag(matches, "short"),
             file: matches.get_str("FILE")?,
         }),
+        Subcommand::Map => Some(Command::Map {
+            file: matches.get_str("FILE")?,
+        }),
+        Subcommand::Explain => explain_in(matches.get_str("WORD")?),
         Subcommand::Raw => Some(Command::Raw {
             run: traced_in(matches)?,
         }),

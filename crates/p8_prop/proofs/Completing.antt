@@ -6,6 +6,7 @@ use Rattle.p8_access.specs.Worlds.{Line, World}
 use Rattle.p8_access.proofs.OneHistory.{one-history}
 use Rattle.p8_lives.specs.Lives.{asks}
 use Rattle.p8_lives.specs.Laws.{one-asked}
+use Rattle.p8_tree.specs.declared.places.Place.{Place}
 use Rattle.p8_verify.specs.declared.verdicts.Cause.{Cause}
 use Rattle.p8_verify.specs.declared.verdicts.Cause.TheVariants.{Form}
 use Rattle.p8_verify.specs.declared.verdicts.Verdict as checking
@@ -16,14 +17,14 @@ use Rattle.p8_finish.specs.declared.finish.Finish.TheVariants.{Trace, Summary, S
 use Rattle.p8_finish.specs.Finishes.{told_by}
 use Rattle.p8_finish.specs.Checks.{good_line}
 use Rattle.p8_io.specs.Counts.{Rose}
-use Rattle.p8_io.specs.Shelves.{Files}
+use Rattle.p8_io.specs.Shelves.{Files, IsRead as IsFileRead, AreStartOf}
 use Rattle.p8_inputs.specs.declared.stop.Stop.{Stop}
 use Rattle.p8_inputs.specs.declared.stop.Stop.TheVariants as stop
-use Rattle.p8_inputs.specs.Asks.{Given, HasOneReading}
+use Rattle.p8_inputs.specs.Asks.{Given, HasOneReading, IsOfFiles}
 use Rattle.p8_inputs.proofs.Deciding.{unread-rose}
-use Rattle.p8_commands.specs.Commands.{Command, BuildSource, ListSource, RunMemory, RunProgram, Save, Check, Serial as ReadPin, TypeFile, Wave as ShowWave, Plot as DrawPins, Convert, Make, Help}
+use Rattle.p8_commands.specs.Commands.{Command, BuildSource, ListSource, MapSource, ExplainFile, ExplainNumber, RunMemory, RunProgram, Save, Check, Serial as ReadPin, TypeFile, Wave as ShowWave, Plot as DrawPins, Convert, Make, Help}
 use Rattle.p8_work.specs.Texts.{selection_of, view_of, asks_of, IsToldOf, IsTextOf, IsAskedFor, IsBadBy, IsBadHistory}
-use Rattle.p8_prop.specs.Verdicts.{Outside, Verdict, unsaid, stopped, bad, written, unwritten, StopsCommand, IsVerdict, IsCertain, status_of, HasOneVerdict, IsComplete}
+use Rattle.p8_prop.specs.Verdicts.{Outside, Verdict, unsaid, stopped, explained, bad, written, unwritten, Explains, StopsCommand, IsReadAgain, HasExplanation, IsVerdict, IsCertain, IsUnexplained, status_of, HasOneVerdict, IsComplete}
 
 some-not_none : {A : Type 0} {a : A} → Some a ≡ None → ⊥
 some-not_none e = cc
@@ -56,6 +57,9 @@ module _ (one_check : HasOneCheck) where
   text-one : (command : Command) (given : List Given) (a b : List ℕ) → IsTextOf command given a → IsTextOf command given b → a ≡ b
   text-one (BuildSource short file) given a b p q = p ∙ sym q
   text-one (ListSource short file) given a b p q = p ∙ sym q
+  text-one (MapSource file) given a b p q = p ∙ sym q
+  text-one (ExplainFile file) given a b p q = p ∙ sym q
+  text-one (ExplainNumber number) given a b p q = p ∙ sym q
   text-one (RunMemory run) given a b p q = told-one _ (Trace run.dump) a b p q
   text-one (RunProgram alone short run) given a b p q = told-one _ (Trace run.dump) a b p q
   text-one (Save raw run) given a b p q = told-one _ Saved a b p q
@@ -83,6 +87,26 @@ module _ (one_check : HasOneCheck) where
       good-not_bad (one_check _ _ _ (Good p.0) (Bad turn cause) p.1 q.1)
   bad-or_text _ given text name turn cause p q = q
 
+-- ---- one explanation
+
+start-one : (file : Option (List ℕ)) (a b : List ℕ) → AreStartOf file a → AreStartOf file b → a ≡ b
+start-one None a b p q = absurd p
+start-one (Some file) a b p q = p ∙ sym q
+
+abbrev file-of : (otherwise : List ℕ) → Stop → List ℕ
+file-of otherwise (stop.Refused file number place) = file
+file-of otherwise _ = otherwise
+
+-- the verdict on a refused source without an explanation
+abbrev unexplained-of : Stop → Verdict
+unexplained-of (stop.Refused file number place) = explained file number place None
+unexplained-of reason = stopped reason
+
+-- the verdict on a refused source that is explained by these bytes
+abbrev explained-of : Stop → (bytes : List ℕ) → Verdict
+explained-of (stop.Refused file number place) bytes = explained file number place (Some bytes)
+explained-of reason bytes = stopped reason
+
 -- ---- one verdict
 
 -- the call, where its shelf has these files
@@ -105,20 +129,45 @@ module _ (one_check : HasOneCheck) (files : List ℕ → Option (List ℕ)) (one
       let same : p.0 ≡ q.0 = one.one_given (asks_of command) p.0 q.0 p.1 q.1 in
       bad-or_text one_check command q.0 text name turn cause (subst (λ (given : List Given). IsTextOf command given text) same p.2) q.2
 
+  -- one refusal is explained by one file
+  explanation-one : (a b : List ℕ) (m n : ℕ) (x y : Place) (xs ys : List ℕ) → stop.Refused a m x ≡ stop.Refused b n y → IsFileRead (Some files) a xs → IsFileRead (Some files) b ys
+      → explained a m x (Some xs) ≡ explained b n y (Some ys)
+  explanation-one a b m n x y xs ys same p q =
+      let name : a ≡ b = ap (file-of a) same in
+      let bytes : xs ≡ ys = start-one (files b) xs ys (subst (λ (file : List ℕ). AreStartOf (files file) xs) name p) q in
+      ap (λ (reason : Stop). explained-of reason xs) same ∙ ap (λ (zs : List ℕ). explained b n y (Some zs)) bytes
+
+  -- what stops a command isn't what it explains
+  explained-or_stopped : (o : Outside) (command : Command) (reason : Stop) (file : List ℕ) (number : ℕ) (place : Place) (bytes : Option (List ℕ)) → IsOfFiles reason
+      → StopsCommand (with_files o (Some files)) (Some command) reason → HasExplanation (with_files o (Some files)) (Some command) file number place bytes → ⊥
+  explained-or_stopped o command reason file number place bytes certain p q =
+      let same : reason ≡ stop.Refused file number place = one.one_stop o.shelf.before o.shelf.now (asks_of command) reason (stop.Refused file number place) certain tt p.0 q.1 in
+      subst (λ (x : Stop). ¬ Explains command x) same p.1 q.0
+
   verdict-one : (o : Outside) (command : Command) (a b : Verdict) → IsCertain a → IsCertain b → IsVerdict (with_files o (Some files)) (Some command) a → IsVerdict (with_files o (Some files)) (Some command) b → a ≡ b
-  verdict-one o command (stopped x) (stopped y) s t p q = ap stopped (one.one_stop o.shelf.before o.shelf.now (asks_of command) x y s t p q)
-  verdict-one o command (stopped x) (bad b n y) s t p q = absurd (one.never_both o.shelf.before o.shelf.now (asks_of command) q.0 x s q.1 p)
-  verdict-one o command (stopped x) (written y) s t p q = absurd (one.never_both o.shelf.before o.shelf.now (asks_of command) q.0 x s q.1 p)
-  verdict-one o command (bad a m x) (stopped y) s t p q = absurd (one.never_both o.shelf.before o.shelf.now (asks_of command) p.0 y t p.1 q)
+  verdict-one o command (stopped x) (stopped y) s t p q = ap stopped (one.one_stop o.shelf.before o.shelf.now (asks_of command) x y s t p.0 q.0)
+  verdict-one o command (stopped x) (explained b n y (Some ys)) s t p q = absurd (explained-or_stopped o command x b n y (Some ys) s p q)
+  verdict-one o command (explained a m x (Some xs)) (stopped y) s t p q = absurd (explained-or_stopped o command y a m x (Some xs) t q p)
+  verdict-one o command (explained a m x (Some xs)) (explained b n y (Some ys)) s t p q =
+      explanation-one a b m n x y xs ys (one.one_stop o.shelf.before o.shelf.now (asks_of command) (stop.Refused a m x) (stop.Refused b n y) tt tt p.1 q.1) p.2 q.2
+  verdict-one o command (explained a m x (Some xs)) (bad b n y) s t p q = absurd (one.never_both o.shelf.before o.shelf.now (asks_of command) q.0 (stop.Refused a m x) tt q.1 p.1)
+  verdict-one o command (explained a m x (Some xs)) (written y) s t p q = absurd (one.never_both o.shelf.before o.shelf.now (asks_of command) q.0 (stop.Refused a m x) tt q.1 p.1)
+  verdict-one o command (bad a m x) (explained b n y (Some ys)) s t p q = absurd (one.never_both o.shelf.before o.shelf.now (asks_of command) p.0 (stop.Refused b n y) tt p.1 q.1)
+  verdict-one o command (written x) (explained b n y (Some ys)) s t p q = absurd (one.never_both o.shelf.before o.shelf.now (asks_of command) p.0 (stop.Refused b n y) tt p.1 q.1)
+  verdict-one o command (stopped x) (bad b n y) s t p q = absurd (one.never_both o.shelf.before o.shelf.now (asks_of command) q.0 x s q.1 p.0)
+  verdict-one o command (stopped x) (written y) s t p q = absurd (one.never_both o.shelf.before o.shelf.now (asks_of command) q.0 x s q.1 p.0)
+  verdict-one o command (bad a m x) (stopped y) s t p q = absurd (one.never_both o.shelf.before o.shelf.now (asks_of command) p.0 y t p.1 q.0)
   verdict-one o command (bad a m x) (bad b n y) s t p q = history-one command a b m n x y p q
   verdict-one o command (bad a m x) (written y) s t p q = absurd (history-or_text command y a m x q p)
-  verdict-one o command (written x) (stopped y) s t p q = absurd (one.never_both o.shelf.before o.shelf.now (asks_of command) p.0 y t p.1 q)
+  verdict-one o command (written x) (stopped y) s t p q = absurd (one.never_both o.shelf.before o.shelf.now (asks_of command) p.0 y t p.1 q.0)
   verdict-one o command (written x) (bad b n y) s t p q = absurd (history-or_text command x b n y p q)
   verdict-one o command (written x) (written y) s t p q = ap written (asked-one command x y p q)
   verdict-one o command unsaid b s t p q = absurd (some-not_none p)
   verdict-one o command (unwritten x) b s t p q = absurd s
+  verdict-one o command (explained a m x None) b s t p q = absurd s
   verdict-one o command a unsaid s t p q = absurd (some-not_none q)
   verdict-one o command a (unwritten y) s t p q = absurd t
+  verdict-one o command a (explained b n y None) s t p q = absurd t
 
 -- no words but those of a command are stopped by what lies in files
 none-stopped : (o : Outside) (reason : Stop) → IsCertain (stopped reason) → StopsCommand o None reason → ⊥
@@ -132,6 +181,7 @@ none-stopped o (stop.BadScript name line) s p = p
 none-one : (o : Outside) (a : Verdict) → IsCertain a → IsVerdict o None a → a ≡ unsaid
 none-one o unsaid s p = refl
 none-one o (stopped reason) s p = absurd (none-stopped o reason s p)
+none-one o (explained file number place bytes) s p = absurd p
 none-one o (bad history turn cause) s p = absurd p
 none-one o (written text) s p = absurd p
 none-one o (unwritten text) s p = absurd s
@@ -146,7 +196,27 @@ module _ (one_check : HasOneCheck) (one : (files : List ℕ → Option (List ℕ
   -- a file that could not be read is one that the shelf has counted
   unread-risen : (o : Outside) (command : Option Command) (name : List ℕ) → IsVerdict o command (stopped (stop.Unread name)) → Rose o.shelf.before o.shelf.now
   unread-risen o None name p = absurd p
-  unread-risen o (Some command) name p = unread-rose o.shelf.files o.shelf.before o.shelf.now (asks_of command) name p
+  unread-risen o (Some command) name p = unread-rose o.shelf.files o.shelf.before o.shelf.now (asks_of command) name p.0
+
+  -- where a refusal is told without its explanation, that is due
+  with-explanation : (files : List ℕ → Option (List ℕ)) (o : Outside) (command : Command) (file : List ℕ) (number : ℕ) (place : Place) (due : Verdict) → IsCertain due
+      → HasExplanation (with_files o (Some files)) (Some command) file number place None → IsVerdict (with_files o (Some files)) (Some command) due → IsUnexplained due (explained file number place None)
+  with-explanation files o command file number place (explained b n y (Some ys)) certain p is =
+      let same = (one files).one_stop o.shelf.before o.shelf.now (asks_of command) (stop.Refused file number place) (stop.Refused b n y) tt tt p.1 is.1 in
+      ap unexplained-of same
+  with-explanation files o command file number place (stopped reason) certain p is = absurd (explained-or_stopped one_check files (one files) o command reason file number place None certain is p)
+  with-explanation files o command file number place (bad b n y) certain p is = absurd ((one files).never_both o.shelf.before o.shelf.now (asks_of command) is.0 (stop.Refused file number place) tt is.1 p.1)
+  with-explanation files o command file number place (written y) certain p is = absurd ((one files).never_both o.shelf.before o.shelf.now (asks_of command) is.0 (stop.Refused file number place) tt is.1 p.1)
+  with-explanation files o command file number place unsaid certain p is = absurd (some-not_none is)
+  with-explanation files o command file number place (explained b n y None) certain p is = absurd certain
+  with-explanation files o command file number place (unwritten y) certain p is = absurd certain
+
+  unexplained : (o : Outside) (command : Option Command) (files : List ℕ → Option (List ℕ)) (file : List ℕ) (number : ℕ) (place : Place) (due : Verdict) → o.shelf.files ≡ Some files → IsCertain due
+      → HasExplanation o command file number place None → IsVerdict o command due → IsUnexplained due (explained file number place None)
+  unexplained o None files file number place due told certain p is = absurd p
+  unexplained o (Some command) files file number place due told certain p is =
+      subst (λ (f : Files). HasExplanation (with_files o f) (Some command) file number place None → IsVerdict (with_files o f) (Some command) due → IsUnexplained due (explained file number place None)) (sym told)
+      (with-explanation files o command file number place due certain) p is
 
   -- what comes is due, or a count rose, or there was no memory
   pub complete : (o : Outside) (command : Option Command) (verdict : Verdict) → IsVerdict o command verdict → IsComplete o command verdict
@@ -156,9 +226,11 @@ module _ (one_check : HasOneCheck) (one : (files : List ℕ → Option (List ℕ
   complete o command (unwritten text) p files due told certain is quiet out_quiet =
       let same : written text ≡ due = one-verdict o command files (written text) due told tt certain p.0 is in
       absurd (out_quiet (ap status_of (sym same)) p.1)
+  complete o command (explained file number place (Some bytes)) p files due told certain is quiet out_quiet = inl (one-verdict o command files (explained file number place (Some bytes)) due told tt certain p is)
+  complete o command (explained file number place None) p files due told certain is quiet out_quiet = inr (inr (unexplained o command files file number place due told certain p is))
   complete o command (stopped (stop.Unread name)) p files due told certain is quiet out_quiet = absurd (quiet (unread-risen o command name p))
   complete o command (stopped (stop.Missing name)) p files due told certain is quiet out_quiet = inl (one-verdict o command files (stopped (stop.Missing name)) due told tt certain p is)
-  complete o command (stopped stop.NoMemory) p files due told certain is quiet out_quiet = inr refl
+  complete o command (stopped stop.NoMemory) p files due told certain is quiet out_quiet = inr (inl refl)
   complete o command (stopped (stop.Refused name number place)) p files due told certain is quiet out_quiet = inl (one-verdict o command files (stopped (stop.Refused name number place)) due told tt certain p is)
   complete o command (stopped (stop.BadProgram name fault)) p files due told certain is quiet out_quiet = inl (one-verdict o command files (stopped (stop.BadProgram name fault)) due told tt certain p is)
   complete o command (stopped (stop.BadScript name line)) p files due told certain is quiet out_quiet = inl (one-verdict o command files (stopped (stop.BadScript name line)) due told tt certain p is)

@@ -1,8 +1,16 @@
 -- internal
 -- What is made of the work of a command, and what is answered of it.
-use Rattle.std.specs.Prelude.{ℕ, ◌≡◌, Result, Ok, Err}
+use Rattle.std.specs.Prelude.{ℕ, ◌≡◌, true, List, [], ◌∷◌, Option, Some, None, Result, Ok, Err}
 use Rattle.p8_io.specs.Counts.{Rose}
+use Rattle.std.specs.declared.vec.Vec.{Vec}
+use Rattle.std.specs.declared.alloc.Global.{Global}
+use Rattle.p8_tree.specs.declared.places.Place.{Place}
+use Rattle.p8_io.specs.Shelves.{Files, Log, WereRead, IsRead as IsFileRead}
+use Rattle.p8_inputs.specs.Orders.{MayBeRead}
+use Rattle.p8_inputs.specs.Stops.{refusal_line}
 use Rattle.p8_inputs.specs.declared.stop.Stop.{Stop}
+use Rattle.p8_inputs.specs.declared.stop.Stop.TheVariants as stop
+use Rattle.p8_commands.specs.Commands.{Command, explains}
 use Rattle.p8_work.specs.declared.work.Answer.{Answer}
 use Rattle.p8_work.specs.declared.work.Answer.TheVariants.{Text, Bad}
 use Rattle.p8_work.specs.declared.work.Work.{Work}
@@ -10,7 +18,7 @@ use Rattle.p8_work.specs.declared.work.Work.TheVariants.{Done, Run}
 use Rattle.p8_work.specs.Texts.{IsToldOf}
 use Rattle.p8_work.specs.Works.{IsRunnable, world_in}
 use Rattle.p8_prop.specs.declared.status.Status.{Status}
-use Rattle.p8_prop.specs.Verdicts.{SinkSeen, Verdict, stopped, bad, written, unwritten, status_of, IsOut, IsTold}
+use Rattle.p8_prop.specs.Verdicts.{ShelfSeen, SinkSeen, Verdict, stopped, explained, bad, written, unwritten, status_of, explanation, Explains, IsReadAgain, IsOnceMore, IsOut, IsTold}
 
 -- the work can be done
 abbrev pub CanBeDone : Work → Type 0
@@ -38,12 +46,33 @@ pub record IsGiven (answer : Answer) (out faults : SinkSeen) (status : Status) :
   pub told : IsTold faults verdict
   pub written_out : IsOut out verdict
 
-pub record IsStopped (reason : Stop) (out faults : SinkSeen) (status : Status) : Type 0 where
-  pub answered : status ≡ status_of (stopped reason)
-  pub told : IsTold faults (stopped reason)
-  pub written_out : IsOut out (stopped reason)
+-- the explanation of a refused file, which was read once more for it; where there is none the file may have been read
+abbrev pub IsExplanation : ShelfSeen → (file : List ℕ) (number : ℕ) → Place → Option (Vec ℕ Global) → Type 0
+IsExplanation shelf file number place None = MayBeRead file shelf.log shelf.log_now
+IsExplanation shelf file number place (Some text) =
+    ((bytes : List ℕ) × IsFileRead shelf.files file bytes × (text.items ≡ explanation file bytes number place)) × WereRead shelf.log shelf.log_now (file ∷ [])
+
+-- what is told of a refusal, with its explanation where there is one
+abbrev pub told_with : (file : List ℕ) (number : ℕ) → Place → Option (Vec ℕ Global) → List ℕ
+told_with file number place None = refusal_line file number place
+told_with file number place (Some text) = text.items
+
+-- the verdict on why nothing came of a command: it is stopped, or explains that, for which a file is read once more
+abbrev pub IsFor : ShelfSeen → Command → Stop → Verdict → Type 0
+IsFor shelf command reason (stopped other) = (other ≡ reason) × (¬ Explains command reason) × (shelf.log_now ≡ shelf.log) × (shelf.now ≡ shelf.before)
+IsFor shelf command reason (explained file number place bytes) =
+    (explains command ≡ true) × (reason ≡ stop.Refused file number place) × IsReadAgain shelf.files file bytes
+    × IsOnceMore file bytes shelf.log shelf.log_now
+IsFor shelf command reason _ = ⊥
+
+-- what is answered of why nothing came of a command, and what was told and read
+pub record IsEnded (shelf : ShelfSeen) (command : Command) (reason : Stop) (faults : SinkSeen) (status : Status) : Type 0 where
+  pub verdict : Verdict
+  pub from : IsFor shelf command reason verdict
+  pub answered : status ≡ status_of verdict
+  pub told : IsTold faults verdict
 
 -- what is answered, where anything came of a command, and else of why nothing did
-abbrev pub IsAnswer : Result Answer Stop → (out faults : SinkSeen) → Status → Type 0
-IsAnswer (Ok answer) out faults status = IsGiven answer out faults status
-IsAnswer (Err reason) out faults status = IsStopped reason out faults status
+abbrev pub IsAnswer : ShelfSeen → Command → Result Answer Stop → (out faults : SinkSeen) → Status → Type 0
+IsAnswer shelf command (Ok answer) out faults status = IsGiven answer out faults status × (shelf.log_now ≡ shelf.log)
+IsAnswer shelf command (Err reason) out faults status = IsEnded shelf command reason faults status × (out.taken_now ≡ out.taken)

@@ -1,19 +1,27 @@
 // Writes what came of a command, and tells how it ended.
-ghost use Rattle.std.specs.Prelude.{◌≡◌, ◌≤◌, ◌++◌, ◌∷◌, [], codes};
+ghost use Rattle.std.specs.Prelude.{◌≡◌, ◌≤◌, ◌++◌, ◌∷◌, [], codes, true};
+ghost use Rattle.p8_commands.specs.Commands.{Command as CommandSaid, explains};
 ghost use Rattle.p8_commands.specs.Pages.{usage_line};
+ghost use Rattle.p8_commands.specs.Seen.{command_read};
 ghost use Rattle.p8_finish.specs.Checks.{bad_line};
 ghost use Rattle.p8_inputs.specs.Stops.{line_of as stop_line};
+ghost use Rattle.p8_inputs.specs.declared.stop.Stop.TheVariants.{Refused as Refusal};
 ghost use Rattle.p8_io.specs.Sinks.{Wrote};
 ghost use Rattle.p8_prop.specs.Verdicts.{stop_status};
-ghost use Rattle.p8_prop.specs.Answers.{IsAnswer, IsGiven};
+ghost use Rattle.p8_prop.specs.Answers.{told_with, IsAnswer, IsEnded, IsExplanation, IsGiven};
 ghost use Rattle.p8_prop.specs.declared.status.Status.TheVariants.{Usage, SinkFault, BadHistory};
 
 use crate::status::Status;
+use p8_commands::Command;
+use p8_explain::explanation;
 use p8_finish::tell_bad_history;
-use p8_inputs::Stop;
-use p8_io::{Sink, write_pieces};
+use p8_inputs::{Stop, tell_refused};
+use p8_io::{Shelf, Sink, write_pieces};
+use p8_tree::{Place, Text};
 use p8_verify::Cause;
 use p8_work::Answer;
+use std::alloc::Global;
+use std::str;
 
 /// The line of words that are no command.
 const USAGE: &[u8] =
@@ -105,13 +113,151 @@ fn given<K: Sink, E: Sink>(answer: &Answer, out: &mut K, faults: &mut E) -> Stat
     }
 }
 
-/// Writes what came of a command, where anything did, and tells how that ended.
-pub fn answered<K: Sink, E: Sink>(
+/// The explanation of the refusal of a file, which is read once more, or None where it can't be read or there is no memory.
+#[tactic(auto, unfolding(crate::specs::Verdicts::explanation))]
+fn explanation_in<S: Shelf>(
+    alloc: Global,
+    file: &Text,
+    number: u8,
+    place: Place,
+    shelf: &mut S,
+) -> Option<Vec<u8>>
+    ensures explanation { IsExplanation
+        (record {
+          files = S.files shelf.old;
+          files_now = S.files shelf.new;
+          log = S.log shelf.old;
+          log_now = S.log shelf.new;
+          before = S.faults shelf.old;
+          now = S.faults shelf.new;
+        })
+        file.now number place result }
+    ensures later { S.faults shelf.old ≤ S.faults shelf.new }
+    ensures kept { S.files shelf.new ≡ S.files shelf.old }
+{
+    let Ok(name) = str::from_utf8(file.as_slice()) else {
+        return None;
+    };
+    let Ok(bytes) = shelf.read(alloc, name) else {
+        return None;
+    };
+    match explanation(alloc, file, &bytes, number, place) {
+        Ok(text) => Some(text),
+        Err(_) => None,
+    }
+}
+
+/// Tells a refusal by its explanation, or by its line where there is none.
+fn tell_with<E: Sink>(file: &Text, number: u8, place: Place, text: &Option<Vec<u8>>, faults: &mut E)
+    ensures wrote { Wrote (E.faults faults.old) (E.faults faults.new) (E.taken faults.old) (E.taken faults.new) (told_with file.now number place text.now) }
+    ensures later { E.faults faults.old ≤ E.faults faults.new }
+{
+    match text {
+        Some(text) => {
+            let _ = write_pieces(faults, &[text.as_slice()]);
+        }
+        None => tell_refused(file.as_slice(), number, place, faults),
+    }
+}
+
+/// Explains the refusal of a file, which is read once more for that.
+fn explained<S: Shelf, E: Sink>(
+    alloc: Global,
+    file: &Text,
+    number: u8,
+    place: Place,
+    shelf: &mut S,
+    faults: &mut E,
+) -> Status
+    ensures ended { (command : CommandSaid) → explains command ≡ true → IsEnded
+        (record {
+          files = S.files shelf.old;
+          files_now = S.files shelf.new;
+          log = S.log shelf.old;
+          log_now = S.log shelf.new;
+          before = S.faults shelf.old;
+          now = S.faults shelf.new;
+        })
+        command (Refusal file.now number place)
+        (record {
+          before = E.faults faults.old;
+          now = E.faults faults.new;
+          taken = E.taken faults.old;
+          taken_now = E.taken faults.new;
+        })
+        result }
+    ensures later { S.faults shelf.old ≤ S.faults shelf.new }
+    ensures kept { S.files shelf.new ≡ S.files shelf.old }
+    ensures faults_later { E.faults faults.old ≤ E.faults faults.new }
+{
+    let text = explanation_in(alloc, file, number, place, shelf);
+    tell_with(file, number, place, &text, faults);
+    Status::Refused
+}
+
+/// Tells why there is no text of a command; the refusal of a source is explained where the command asks for that.
+fn ended<S: Shelf, E: Sink>(
+    alloc: Global,
+    command: Command<'_>,
+    stop: &Stop,
+    shelf: &mut S,
+    faults: &mut E,
+) -> Status
+    ensures ended { IsEnded
+        (record {
+          files = S.files shelf.old;
+          files_now = S.files shelf.new;
+          log = S.log shelf.old;
+          log_now = S.log shelf.new;
+          before = S.faults shelf.old;
+          now = S.faults shelf.new;
+        })
+        (command_read command.entry) stop.now
+        (record {
+          before = E.faults faults.old;
+          now = E.faults faults.new;
+          taken = E.taken faults.old;
+          taken_now = E.taken faults.new;
+        })
+        result }
+    ensures later { S.faults shelf.old ≤ S.faults shelf.new }
+    ensures kept { S.files shelf.new ≡ S.files shelf.old }
+    ensures faults_later { E.faults faults.old ≤ E.faults faults.new }
+{
+    if command.explains() {
+        match stop {
+            Stop::Refused {
+                file,
+                number,
+                place,
+            } => explained(alloc, file, *number, *place, shelf, faults),
+            _ => stopped(stop, faults),
+        }
+    } else {
+        stopped(stop, faults)
+    }
+}
+
+/// Writes what came of a command, where anything did, and tells how that ended. A source that is refused is read once more where the command explains
+/// that.
+pub fn answered<S: Shelf, K: Sink, E: Sink>(
+    alloc: Global,
+    command: Command<'_>,
     answer: Result<Answer, Stop>,
+    shelf: &mut S,
     out: &mut K,
     faults: &mut E,
 ) -> Status
-    ensures answer { IsAnswer answer
+    ensures answer { IsAnswer
+        (record {
+          files = S.files shelf.old;
+          files_now = S.files shelf.new;
+          log = S.log shelf.old;
+          log_now = S.log shelf.new;
+          before = S.faults shelf.old;
+          now = S.faults shelf.new;
+        })
+        (command_read command.entry) answer
         (record {
           before = K.faults out.old;
           now = K.faults out.new;
@@ -125,11 +271,13 @@ pub fn answered<K: Sink, E: Sink>(
           taken_now = E.taken faults.new;
         })
         result }
+    ensures later { S.faults shelf.old ≤ S.faults shelf.new }
+    ensures kept { S.files shelf.new ≡ S.files shelf.old }
     ensures out_later { K.faults out.old ≤ K.faults out.new }
     ensures faults_later { E.faults faults.old ≤ E.faults faults.new }
 {
     match answer {
         Ok(answer) => given(&answer, out, faults),
-        Err(stop) => stopped(&stop, faults),
+        Err(stop) => ended(alloc, command, &stop, shelf, faults),
     }
 }

@@ -20,7 +20,9 @@ use std::thread::Threads;
 /// Does what the words say, and writes its text to `out`. [`help_page`](p8_commands::help_page) tells each command with its arguments and their
 /// limits, and `help` and `help COMMAND` write that page.
 ///
-/// - `build` and `list` write the image and the listing of a source, with `--short` with shorter code of the same meaning;
+/// - `build` and `list` write the image and the listing of a source, with `--short` with shorter code of the same meaning, and `map` writes where
+///   everything of it stands in the hub;
+/// - `explain` tells why a source is refused, or a refusal by its number;
 /// - `raw` and `run` write the trace of a run, `save` its history as a file, and `check` how many turns a history file has that is the one of
 ///   a run;
 /// - `serial` writes the bytes that stand on a pin of a run, and `type` a pin script that sends the bytes of a file;
@@ -36,13 +38,14 @@ use std::thread::Threads;
 /// this call may wait for its threads, and what it promises it promises where it returns.
 ///
 /// The words are looked at first, then the file with its project, then the pin script, then the history file; then the run is made, and then its
-/// text is written. Each of these files is read once, in this order, and none after one that stops the command. The shelf's files stay as they
-/// were, and no count of faults falls. Every status but `Ok` is told by one line on `faults`, and
-/// before the text is written nothing goes to `out`:
+/// text is written. Each of these files is read once, in this order, and none after one that stops the command, but that `explain` reads a refused
+/// file once more in the end. The shelf's files stay as they were, and no count of faults falls. Every status but `Ok` is told by one line on `faults`,
+/// or by the explanation of a refusal, and before the text is written nothing goes to `out`:
 ///
 /// - `Usage` exactly where the words are no command;
 /// - `Refused` exactly where the project of a source is refused, with the first refusal: of a file while the project is gathered
-///   ([`gather`](p8_objects::gather)), or else when it is built ([`build`](p8_build::build));
+///   ([`gather`](p8_objects::gather)), or else when it is built ([`build`](p8_build::build)); `explain` tells it by its explanation
+///   ([`explanation`](p8_explain::explanation)), or by the line where the refused file can't be read once more or there is no memory for that;
 /// - `ShelfFault` only where the shelf has counted a fault;
 /// - `Missing` where the shelf has no file of that name, which the words or the project ask for;
 /// - `BadImage` exactly where the file is no image, with its first fault: of its length, of the sum of its bytes, of the places in its header; for
@@ -94,11 +97,8 @@ pub fn prop<
     one_verdict();
     match command_in(alloc, words) {
         Ok(Some(command)) => {
-            answered(
-                answer_by_crew(rt, alloc, starter, command, shelf),
-                out,
-                faults,
-            )
+            let answer = answer_by_crew(rt, alloc, starter, command, shelf);
+            answered(alloc, command, answer, shelf, out, faults)
         }
         Ok(None) => unsaid(faults),
         Err(NoMemory) => stopped(&Stop::NoMemory, faults),
@@ -140,7 +140,10 @@ pub fn prop_alone<S: Shelf, K: Sink, E: Sink>(
     one_reading();
     one_verdict();
     match command_alone_in(alloc, words) {
-        Ok(Some(command)) => answered(answer_alone(alloc, command, shelf), out, faults),
+        Ok(Some(command)) => {
+            let answer = answer_alone(alloc, command, shelf);
+            answered(alloc, command, answer, shelf, out, faults)
+        }
         Ok(None) => unsaid(faults),
         Err(NoMemory) => stopped(&Stop::NoMemory, faults),
     }

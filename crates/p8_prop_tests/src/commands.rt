@@ -37,6 +37,27 @@ const LISTING: &[u8] = b"object main.spin 0010\nmethod 1 0018\n0018 32\n";
 /// The summary of the made program of seed 1.
 const MADE: &[u8] = b"made 1\nturns 36299\nlast 99998 7\nwords 319AD0F5\n";
 
+/// The explanation of a method that assigns a reserved word, after a tab.
+const EXPLANATION: &[u8] = b"next.spin:2:14: 6 Unexpected\n\
+    \x20       a := next\n\
+    \x20            ^\n\
+    `next` is a reserved word, and can't be a name.\n\
+    No line begins or goes on so, or the file ends here and more must follow.\n\
+    Look at what stands before it: a missing operator, bracket, comma or colon is told at the token after it.\n";
+
+/// What is told of the refusal 26.
+const ENTRY: &[u8] = b"26 FrameTooLarge\n\
+    The method's result, parameters and locals are more than 2,048 longs, or it holds more than 128 values at once.\n\
+    Put large arrays into VAR.\n\
+    Example: PUB main | a[2048]\n";
+
+/// The map of `PUB main`.
+const MAP: &[u8] =
+    b"0000 header clkfreq 00B71B00\n0004 header clkmode 00\n0005 header checksum 6A\n0006 header pbase 0010\n\
+    0008 header vbase 001C\n000A header dbase 0024\n000C header pcurr 0018\n000E header dcurr 0028\n\
+    0010 object main.spin\n0018 method 1 MAIN\n+0000 result RESULT 1\n\
+    001C instance * main.spin 0010\n0024 stack\n0028 free 32728\n";
+
 /// The page of `make`.
 const PAGE: &[u8] =
     b"prop make SEED [--alone]\nRuns a made program for eight cogs, and writes a summary.\n\
@@ -84,8 +105,8 @@ fn words_of(alloc: Global, words: &[&str]) -> Result<Vec<String>, NoMemory> {
     Ok(line)
 }
 
-/// Makes a call of these words, where the shelf has an image, an empty file, a bad pin script, two good sources and a bad one, two history
-/// files, a message and the script that sends it.
+/// Makes a call of these words, where the shelf has an image, an empty file, a bad pin script, two good sources, two bad ones and one that mentions
+/// a bad one, two history files, a message and the script that sends it.
 fn left_by(alloc: Global, words: &[&str], failing: Failing) -> Result<Left, NoMemory> {
     let mut shelf = MemShelf::new(alloc);
     shelf.add("a.binary", IMAGE)?;
@@ -94,6 +115,8 @@ fn left_by(alloc: Global, words: &[&str], failing: Failing) -> Result<Left, NoMe
     shelf.add("main.spin", b"PUB main\n")?;
     shelf.add("bad.spin", b"CON\n  a = 1\n")?;
     shelf.add("loop.spin", b"PUB main\n  repeat\n")?;
+    shelf.add("next.spin", b"PUB main\n\ta := next\n")?;
+    shelf.add("outer.spin", b"OBJ\n  n : \"next\"\nPUB main\n")?;
     shelf.add("a.txt", b"A")?;
     shelf.add("sent.pins", SENT)?;
     shelf.add("a.history", HISTORY)?;
@@ -150,6 +173,45 @@ fn builds_lists_and_runs_a_source(rt: HostRuntime) -> Result<(), Fail> {
     }
     let words = ["build", "bad.spin"];
     let line = "prop: bad.spin:1:1: 18 NoPub\n";
+    assert!(rt; refused(rt.alloc(), &words, NOTHING, Status::Refused, line)?);
+    Ok(())
+}
+
+// The refused file stands below the top file, and is the one that is read once more. Where that read fails the refusal's line is told.
+#[test]
+fn explains_a_refusal(rt: HostRuntime) -> Result<(), Fail> {
+    let left = left_by(rt.alloc(), &["explain", "outer.spin"], NOTHING)?;
+    assert_eq!(rt; left.status, Status::Refused);
+    assert!(rt; left.faults.bytes() == EXPLANATION);
+    assert!(rt; left.out.bytes().is_empty());
+    let failing = Failing { read: 3, write: 0 };
+    let words = ["explain", "outer.spin"];
+    let line = "prop: next.spin:2:14: 6 Unexpected\n";
+    assert!(rt; refused(rt.alloc(), &words, failing, Status::Refused, line)?);
+    let words = ["explain", "none.spin"];
+    let line = "prop: none.spin is missing\n";
+    assert!(rt; refused(rt.alloc(), &words, NOTHING, Status::Missing, line)?);
+    Ok(())
+}
+
+#[test]
+fn writes_what_explains_and_maps(rt: HostRuntime) -> Result<(), Fail> {
+    let rows: [(&[&str], &[u8]); 3] = [
+        (
+            &["explain", "main.spin"],
+            b"main.spin: nothing is refused\n",
+        ),
+        (&["explain", "26"], ENTRY),
+        (&["map", "main.spin"], MAP),
+    ];
+    for (words, text) in rows {
+        let left = left_by(rt.alloc(), words, NOTHING)?;
+        assert_eq!(rt; left.status, Status::Ok);
+        assert!(rt; left.out.bytes() == text);
+        assert!(rt; left.faults.bytes().is_empty());
+    }
+    let words = ["map", "next.spin"];
+    let line = "prop: next.spin:2:14: 6 Unexpected\n";
     assert!(rt; refused(rt.alloc(), &words, NOTHING, Status::Refused, line)?);
     Ok(())
 }
@@ -300,10 +362,10 @@ fn tells_a_command(rt: HostRuntime) -> Result<(), Fail> {
 }
 
 // No words, too many clocks, too great a seed, a call for help as an option, help on another word, short code of an image, pins and clocks
-// that there aren't. A run by a crew is no command for one thread.
+// that there aren't, numbers of digits alone that are none of a refusal. A run by a crew is no command for one thread.
 #[test]
 fn refuses_other_words(rt: HostRuntime) -> Result<(), Fail> {
-    let rows: [&[&str]; 13] = [
+    let rows: [&[&str]; 19] = [
         &["--help"],
         &["run", "--help"],
         &["help", "halt"],
@@ -317,6 +379,12 @@ fn refuses_other_words(rt: HostRuntime) -> Result<(), Fail> {
         &["plot", "a.binary", "8", "0,3-1", "--alone"],
         &["plot", "a.binary", "8", "32", "--alone"],
         &["plot", "a.binary", "8", "0", "5:9", "--alone"],
+        &["explain"],
+        &["explain", "0"],
+        &["explain", "31"],
+        &["explain", "026"],
+        &["explain", "main.spin", "--short"],
+        &["map", "main.spin", "20000"],
     ];
     for words in rows {
         assert!(rt; refused(rt.alloc(), words, NOTHING, Status::Usage, USAGE)?);

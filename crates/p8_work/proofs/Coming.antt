@@ -1,5 +1,5 @@
 -- What a command comes to is what comes of it.
-use Rattle.std.proofs.Common.{◌≡◌, ◌∙◌, sym, ap, subst, refl, Bool, ℕ, List, [], ◌∷◌, ◌++◌, length, ◌≤◌, Option, Some, None}
+use Rattle.std.proofs.Common.{◌≡◌, ◌∙◌, sym, ap, subst, refl, Bool, false, ℕ, List, [], ◌∷◌, ◌++◌, length, ◌≤◌, Option, Some, None}
 use Rattle.std.specs.Borrow.{Bor}
 use Rattle.p8_access.specs.declared.memory.Boot.{Boot}
 use Rattle.p8_access.specs.declared.order.Turn.{Turn}
@@ -28,16 +28,16 @@ use Rattle.p8_inputs.specs.Inputs.{IsProgram, IsScriptFor}
 use Rattle.p8_inputs.specs.Naming as inputs
 use Rattle.p8_inputs.specs.Programs.{format_for, world_of, memory_by, first_by, boot_by, format_of, other_file}
 use Rattle.p8_inputs.specs.Runs.{Begins, HasProperTrees}
-use Rattle.p8_inputs.specs.Sources.{IsImageFrom, IsListingFrom}
+use Rattle.p8_inputs.specs.Sources.{IsImageFrom, IsListingFrom, IsMapFrom}
 use Rattle.p8_commands.specs.declared.kind.ImageKind.{ImageKind}
-use Rattle.p8_commands.specs.Commands.{Command, Running, BuildSource, ListSource, Check, TypeFile, Convert, Make}
+use Rattle.p8_commands.specs.Commands.{Command, Running, BuildSource, ListSource, MapSource, ExplainFile, Check, TypeFile, Convert, Make}
 use Rattle.p8_commands.specs.Naming as commands
 use Rattle.p8_work.specs.declared.work.Answer.{Answer}
 use Rattle.p8_work.specs.declared.work.Answer.TheVariants.{Text, Bad}
 use Rattle.p8_work.specs.declared.work.Work.{Work}
 use Rattle.p8_work.specs.declared.work.Work.TheVariants.{Done, Run}
 use Rattle.p8_work.specs.Headline.{IsToldBySource, IsBuild}
-use Rattle.p8_work.specs.Texts.{HasVerdict}
+use Rattle.p8_work.specs.Texts.{accepted_line, HasVerdict}
 use Rattle.p8_work.specs.Works.{IsAnswerTo, IsCheckedBy, IsRunWork, IsText, IsTextOfRun, IsWork}
 
 -- a borrowed name is the same, wherever it is read
@@ -51,6 +51,14 @@ built files short file text is keeps = ((bytes text ∷ [], (is, tt), refl), kee
 
 pub listed : (files : Files) (short : Bool) (file text : List ℕ) → IsListingFrom files short file text → IsText files (ListSource short file) text
 listed files short file text is = ((bytes text ∷ [], (is, tt), refl), tt)
+
+-- so is a map
+pub mapped : (files : Files) (file text : List ℕ) → IsMapFrom files file text → IsText files (MapSource file) text
+mapped files file text is = ((bytes text ∷ [], (is, tt), refl), tt)
+
+-- a source with an image is accepted
+pub accepted : (files : Files) (file image text : List ℕ) → IsImageFrom files false file image → text ≡ accepted_line file → IsText files (ExplainFile file) text
+accepted files file image text is same = ((bytes image ∷ [], (is, tt), same), tt)
 
 -- so is an image as the other kind of file
 pub converted : (files : Files) (kind : ImageKind) (file text : List ℕ) → ((xs : List ℕ) × IsProgram files (format_of kind) file xs × (text ≡ other_file kind xs)) → IsText files (Convert kind file) text

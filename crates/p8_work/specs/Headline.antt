@@ -20,7 +20,7 @@ use Rattle.p8_inputs.specs.declared.program.Format.TheVariants.{Memory, Source}
 use Rattle.p8_inputs.specs.Inputs.{IsProgram, IsScriptFor}
 use Rattle.p8_inputs.specs.Programs.{format_for, format_named, world_of}
 use Rattle.p8_inputs.specs.Sources.{IsBuiltBy, IsBuiltFrom}
-use Rattle.p8_commands.specs.Commands.{Command, Running, BuildSource, ListSource, RunMemory, RunProgram, Save, Check, Serial as ReadPin, TypeFile, Wave as ShowWave, Plot as DrawPins, Convert, Make, Help}
+use Rattle.p8_commands.specs.Commands.{Command, Running, BuildSource, ListSource, MapSource, ExplainFile, ExplainNumber, RunMemory, RunProgram, Save, Check, Serial as ReadPin, TypeFile, Wave as ShowWave, Plot as DrawPins, Convert, Make, Help}
 use Rattle.p8_finish.specs.declared.finish.Finish.{Finish}
 use Rattle.p8_finish.specs.declared.finish.Finish.TheVariants.{Trace, Saved, Serial, Wave, Plot}
 use Rattle.p8_finish.specs.Finishes.{told_by}
@@ -75,6 +75,9 @@ pub record IsBuild (files : Files) (short : Bool) (file text : List ℕ) : Type 
 abbrev pub IsHeadline : Files → Command → (text : List ℕ) → Type 0
 IsHeadline files (BuildSource short file) text = IsBuild files short file text
 IsHeadline files (ListSource short file) text = Unit {0}
+IsHeadline files (MapSource file) text = Unit {0}
+IsHeadline files (ExplainFile file) text = Unit {0}
+IsHeadline files (ExplainNumber number) text = Unit {0}
 IsHeadline files (RunMemory run) text = IsRun files Memory run (Trace run.dump) text
 IsHeadline files (RunProgram alone short run) text = IsRun files (format_named short run.file) run (Trace run.dump) text
 IsHeadline files (Save raw run) text = IsRun files (format_for raw run.file) run Saved text

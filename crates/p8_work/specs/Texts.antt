@@ -1,5 +1,5 @@
 -- What each command reads, and the text that it asks for (this project's profile).
-use Rattle.std.specs.Prelude.{ℕ, ◌≡◌, Bool, List, [], ◌∷◌}
+use Rattle.std.specs.Prelude.{ℕ, ◌≡◌, Bool, false, List, [], ◌∷◌, ◌++◌, codes}
 use Rattle.p8_access.specs.declared.memory.Boot.{Boot}
 use Rattle.p8_access.specs.declared.order.Turn.{Turn}
 use Rattle.p8_access.specs.Worlds.{World}
@@ -15,14 +15,15 @@ use Rattle.p8_finish.specs.declared.finish.Finish.{Finish}
 use Rattle.p8_finish.specs.declared.finish.Finish.TheVariants.{Trace, Summary, Saved, Serial, Wave, Plot}
 use Rattle.p8_finish.specs.Finishes.{told_by}
 use Rattle.p8_finish.specs.Checks.{good_line}
+use Rattle.p8_explain.specs.Explaining.{entry_of}
 use Rattle.p8_plot.specs.declared.view.View.{View}
 use Rattle.p8_serial.specs.Typed.{typed_text}
 use Rattle.p8_wave.specs.declared.variables.Selection.{Selection}
 use Rattle.p8_inputs.specs.declared.program.Format.{Format}
 use Rattle.p8_inputs.specs.declared.program.Format.TheVariants.{Memory, Source}
 use Rattle.p8_inputs.specs.Programs.{format_for, format_named, format_of, other_file, boot_by, world_of}
-use Rattle.p8_inputs.specs.Asks.{Ask, program, listing, message, run_asks, check_asks, Given, bytes_in, lines_in, later_bytes_in, Give}
-use Rattle.p8_commands.specs.Commands.{Command, Running, BuildSource, ListSource, RunMemory, RunProgram, Save, Check, Serial as ReadPin, TypeFile, Wave as ShowWave, Plot as DrawPins, Convert, Make, Help}
+use Rattle.p8_inputs.specs.Asks.{Ask, program, listing, mapping, message, run_asks, check_asks, Given, bytes_in, lines_in, later_bytes_in, Give}
+use Rattle.p8_commands.specs.Commands.{Command, Running, BuildSource, ListSource, MapSource, ExplainFile, ExplainNumber, RunMemory, RunProgram, Save, Check, Serial as ReadPin, TypeFile, Wave as ShowWave, Plot as DrawPins, Convert, Make, Help}
 use Rattle.p8_commands.specs.Pages.{help_text}
 
 -- what a wave shows, and what a picture of pins
@@ -32,10 +33,17 @@ selection_of all pins_only = record { all = all; pins_only = pins_only }
 abbrev pub view_of : (pins from to : ℕ) (ascii : Bool) → View
 view_of pins from to ascii = record { pins = pins; from = from; to = to; ascii = ascii }
 
+-- the line of a source of which nothing is refused
+abbrev pub accepted_line : (file : List ℕ) → List ℕ
+accepted_line file = file ++ codes ": nothing is refused" ++ 10 ∷ []
+
 -- what a command reads, in this order: a run its program and then its pin script, where one is named, and a check a history after both
 abbrev pub asks_of : Command → List Ask
 asks_of (BuildSource short file) = program (Source short) file ∷ []
 asks_of (ListSource short file) = listing short file ∷ []
+asks_of (MapSource file) = mapping file ∷ []
+asks_of (ExplainFile file) = program (Source false) file ∷ []
+asks_of (ExplainNumber number) = []
 asks_of (RunMemory run) = run_asks Memory run.file run.script
 asks_of (RunProgram alone short run) = run_asks (format_named short run.file) run.file run.script
 asks_of (Save raw run) = run_asks (format_for raw run.file) run.file run.script
@@ -64,6 +72,9 @@ HasVerdict format given verdict = IsVerdict (boot_by format (bytes_in given)) (l
 abbrev pub IsTextOf : Command → List Given → List ℕ → Type 0
 IsTextOf (BuildSource short file) given text = text ≡ bytes_in given
 IsTextOf (ListSource short file) given text = text ≡ bytes_in given
+IsTextOf (MapSource file) given text = text ≡ bytes_in given
+IsTextOf (ExplainFile file) given text = text ≡ accepted_line file
+IsTextOf (ExplainNumber number) given text = text ≡ entry_of number
 IsTextOf (RunMemory run) given text = IsToldOfRun Memory run (Trace run.dump) given text
 IsTextOf (RunProgram alone short run) given text = IsToldOfRun (format_named short run.file) run (Trace run.dump) given text
 IsTextOf (Save raw run) given text = IsToldOfRun (format_for raw run.file) run Saved given text

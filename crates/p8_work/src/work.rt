@@ -16,20 +16,21 @@ ghost use Rattle.p8_inputs.specs.Orders.{AreAllRead, AreReadSoFar};
 ghost use Rattle.p8_inputs.specs.Programs.{format_for};
 ghost use Rattle.p8_inputs.specs.Sources.{IsImageFrom};
 ghost use Rattle.p8_inputs.specs.declared.program.Format.TheVariants.{Source};
-ghost use Rattle.p8_commands.specs.Commands.{BuildSource, ListSource, Check, TypeFile, Convert, Make, Help};
+ghost use Rattle.p8_commands.specs.Commands.{BuildSource, ListSource, MapSource, ExplainFile, ExplainNumber, Check, TypeFile, Convert, Make, Help};
 ghost use Rattle.p8_commands.specs.Naming.{name_of};
 ghost use Rattle.p8_commands.specs.Seen.{command_read, running, HasLimits, IsWithin};
 ghost use Rattle.p8_work.specs.Headline.{IsBuild};
-ghost use Rattle.p8_work.specs.Texts.{asks_of};
+ghost use Rattle.p8_work.specs.Texts.{accepted_line as accepted_line_of, asks_of};
 ghost use Rattle.p8_work.specs.Works.{IsCheckedBy, IsRunWork, IsWork, world_in};
 
 use crate::laws::{builds_keep_meaning, runs_are_told};
 use p8_access::Boot;
 use p8_commands::{Command, ImageKind, Run, Subcommand, help_page};
+use p8_explain::entry;
 use p8_finish::{Finish, good_line, made_image};
 use p8_inputs::{
-    Format, Program, Recorded, Stop, image_of_source, listing_of_source, other_image, read_inputs,
-    read_message, read_recorded,
+    Format, Program, Recorded, Stop, image_of_source, listing_of_source, map_of_source,
+    other_image, read_inputs, read_message, read_recorded,
 };
 use p8_io::Shelf;
 use p8_ledger::{Limits, Start};
@@ -120,6 +121,43 @@ fn listing_work<S: Shelf>(
     ensures kept { S.files shelf.new ≡ S.files shelf.old }
 {
     let text = listing_of_source(alloc, short, file, shelf)?;
+    Ok(Work::Done(Answer::Text(text)))
+}
+
+/// The map of a source.
+fn map_work<S: Shelf>(alloc: Global, file: &str, shelf: &mut S) -> Result<Work, Stop>
+    ensures work { IfOk result (IsWork (S.files shelf.old) (MapSource file.now)) }
+    ensures stopped { IfErr result (Stops (S.files shelf.old) (S.faults shelf.old) (S.faults shelf.new) (asks_of (MapSource file.now))) }
+    ensures all_read { IfOk result (λ _. AreAllRead (S.files shelf.old) (asks_of (MapSource file.now)) (S.log shelf.old) (S.log shelf.new)) }
+    ensures so_far { AreReadSoFar (S.files shelf.old) (asks_of (MapSource file.now)) (S.log shelf.old) (S.log shelf.new) }
+    ensures later { S.faults shelf.old ≤ S.faults shelf.new }
+    ensures kept { S.files shelf.new ≡ S.files shelf.old }
+{
+    let text = map_of_source(alloc, file, shelf)?;
+    Ok(Work::Done(Answer::Text(text)))
+}
+
+/// The line of a source of which nothing is refused.
+fn accepted_line(alloc: Global, file: &str) -> Result<Vec<u8>, NoMemory>
+    ensures { IfOk result (λ line. line.items ≡ accepted_line_of file.now) }
+{
+    let mut line = Vec::new(alloc);
+    line.extend_from_slice(file.as_bytes())?;
+    line.extend_from_slice(b": nothing is refused\n")?;
+    Ok(line)
+}
+
+/// That nothing of a source is refused.
+fn accepted_work<S: Shelf>(alloc: Global, file: &str, shelf: &mut S) -> Result<Work, Stop>
+    ensures work { IfOk result (IsWork (S.files shelf.old) (ExplainFile file.now)) }
+    ensures stopped { IfErr result (Stops (S.files shelf.old) (S.faults shelf.old) (S.faults shelf.new) (asks_of (ExplainFile file.now))) }
+    ensures all_read { IfOk result (λ _. AreAllRead (S.files shelf.old) (asks_of (ExplainFile file.now)) (S.log shelf.old) (S.log shelf.new)) }
+    ensures so_far { AreReadSoFar (S.files shelf.old) (asks_of (ExplainFile file.now)) (S.log shelf.old) (S.log shelf.new) }
+    ensures later { S.faults shelf.old ≤ S.faults shelf.new }
+    ensures kept { S.files shelf.new ≡ S.files shelf.old }
+{
+    let _image = image_of_source(alloc, false, file, shelf)?;
+    let text = accepted_line(alloc, file)?;
     Ok(Work::Done(Answer::Text(text)))
 }
 
@@ -315,6 +353,14 @@ fn made_work(alloc: Global, seed: u32) -> Result<Work, NoMemory>
     })
 }
 
+/// What is told of a refusal by its number.
+fn entry_work(alloc: Global, number: u8) -> Result<Work, NoMemory>
+    ensures { (files : Files) → IfOk result (IsWork files (ExplainNumber number)) }
+{
+    let text = entry(alloc, number)?;
+    Ok(Work::Done(Answer::Text(text)))
+}
+
 /// A page of help.
 fn help_work(alloc: Global, topic: Option<Subcommand>) -> Result<Work, NoMemory>
     ensures { (files : Files) → IfOk result (IsWork files (Help topic)) }
@@ -337,6 +383,12 @@ pub fn work_of<S: Shelf>(alloc: Global, command: Command<'_>, shelf: &mut S) -> 
     match command {
         Command::Build { short, file } => image_work(alloc, short, file, shelf),
         Command::List { short, file } => listing_work(alloc, short, file, shelf),
+        Command::Map { file } => map_work(alloc, file, shelf),
+        Command::ExplainFile { file } => accepted_work(alloc, file, shelf),
+        Command::ExplainNumber { number } => {
+            let work = entry_work(alloc, number)?;
+            Ok(work)
+        }
         Command::Raw { run } => {
             run_work(
                 alloc,

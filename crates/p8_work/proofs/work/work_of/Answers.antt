@@ -60,6 +60,11 @@ returns-in-Plot-clause-work g c =
     subst (λ (command : Command). IfOk result (IsWork files (command_read command))) (sym c.in-Plot.is)
     (IfOk-weaker result _ _ (run-work files (DrawPins c.in-Plot.alone c.in-Plot.raw c.in-Plot.ascii run c.in-Plot.pins c.in-Plot.from c.in-Plot.to) (format_for c.in-Plot.raw run.file) run (Plot (view_of c.in-Plot.pins c.in-Plot.from c.in-Plot.to c.in-Plot.ascii)) (λ text is. is)) c.chosen_work-in-Plot.ensures.work)
 
+pub returns-in_ok-work-in-ExplainNumber-clause-work : goal.returns-in_ok-work-in-ExplainNumber-clause-work
+returns-in_ok-work-in-ExplainNumber-clause-work g c =
+    let files = g.S.Shelf.files c.args.shelf.now in
+    subst (λ (command : Command). IsWork files (command_read command) c.in_ok-work-in-ExplainNumber.work) (sym c.in-ExplainNumber.is) (c.in_ok-work-in-ExplainNumber.ensures files)
+
 pub returns-in_ok-work-in-Make-clause-work : goal.returns-in_ok-work-in-Make-clause-work
 returns-in_ok-work-in-Make-clause-work g c =
     let files = g.S.Shelf.files c.args.shelf.now in

@@ -1,0 +1,7 @@
+use Rattle.std.proofs.Common.{refl}
+use Rattle.p8_prop.proofs.Answering.{with-reason}
+use Rattle.p8_prop.proofs.answer.explained.Goals as goal
+
+pub returns-clause-ended : goal.returns-clause-ended
+returns-clause-ended g c command explains =
+    with-reason _ command c.args.file.now c.args.number c.args.place c.explanation_in-text.result _ _ explains refl c.explanation_in-text.ensures.explanation c.tell_with.ensures.wrote
