@@ -31,7 +31,7 @@ use Rattle.p8_line_table.specs.declared.table.Row.{Row}
 use Rattle.p8_line_table.specs.declared.table.LineTable.{LineTable}
 use Rattle.p8_line_table.specs.Rows.{further, end_of, line_row, line_rows, code_rows, rows_from, codes_of, IsLineTable, AreApart}
 use Rattle.p8_line_laws.specs.Lines.{begin_of, begins_from}
-use Rattle.p8_line_laws.proofs.Lined.{method-begun}
+use Rattle.p8_line_laws.proofs.Lined.{lines-begin}
 
 -- rows that stand one after the other, from an address up to another one
 abbrev pub Follow : (low high : ℕ) → List Row → Type 0
@@ -119,7 +119,7 @@ offsets (line ∷ lines) = ap (λ ns. line.offset ∷ ns) (offsets lines)
 tiled : (names : Names) (m : MethodTree) (code : MethodCode) → IsCodeOf names m code → IsTiled code
 tiled names m code is = record {
   ops = (method_code names m.body).ops;
-  begins = sym (offsets code.lines) ∙ ap (map begin_of) is.lines ∙ (method-begun names m.body).lines;
+  begins = sym (offsets code.lines) ∙ ap (map begin_of) is.lines ∙ lines-begin names m.body;
   ends = ap length is.bytes;
 }
 

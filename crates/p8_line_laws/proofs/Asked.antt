@@ -27,7 +27,7 @@ use Rattle.p8_gen.specs.Names.{Names}
 use Rattle.p8_compiled.specs.Placing.{HasCode, AreOps}
 use Rattle.p8_line_laws.specs.Lines.{begin_of, begins_from}
 use Rattle.p8_line_laws.specs.Asking.{HasLine, IsAskedBy, IsFetched}
-use Rattle.p8_line_laws.proofs.Lined.{method-begun}
+use Rattle.p8_line_laws.proofs.Lined.{lines-begin}
 
 not-low : (n : ℕ) → 16 ≤ n → nat_lt n 16 ≡ false
 not-low n h = grind (arith, nat_tests)
@@ -60,7 +60,7 @@ pub line-fetched : (n : Names) (ss : Statements) (memory : List ℕ) (base : ℕ
 line-fetched n ss memory base has are op line there =
     let first : base + 0 ≡ base = omega arith in
     let begins : slice_get (begins_from 0 (method_code n ss).ops) there.number ≡ Some line.0 =
-        ap (λ ns. slice_get ns there.number) (sym (method-begun n ss).lines) ∙ slice_get-map begin_of (method_code n ss).lines there.number ∙ ap (option_map begin_of) there.is_line in
+        ap (λ ns. slice_get ns there.number) (sym (lines-begin n ss)) ∙ slice_get-map begin_of (method_code n ss).lines there.number ∙ ap (option_map begin_of) there.is_line in
     each-fetched memory base has.begins has.rest 0 (method_code n ss).ops are (ap (λ p. drop p (code_of memory)) first ∙ has.bytes) there.number op line.0 there.is_op begins
 
 -- ---- what is asked from an address

@@ -1,7 +1,8 @@
 -- What a piece adds to a code's lines: one for each bytecode, where it begins, of the statement at hand or of one inside the piece.
 use Rattle.std.proofs.Common.{◌≡◌, refl, sym, ap, ap₂, subst, ◌∙◌, arith, inl, inr, ◌⊎◌, ℕ, zero, suc, ◌+◌, ◌-◌, ◌^◌, ◌<◌, ◌≤◌, ◌==◌, ◌&&◌, ◌||◌, nat_le, nat_lt, Bool, true, false, not, if◌then◌else◌, List, [], ◌∷◌, ◌++◌, append_assoc, length, length-append, Option, Some, None, append-nil, get_or}
 use Rattle.std.specs.Prelude.{All, Contains, map, flat_map}
-use Rattle.std.proofs.lemmas.List.{map_push}
+use Rattle.std.proofs.lemmas.List.{map-append}
+use Rattle.std.proofs.lemmas.Grind.{flat_map-append}
 use Rattle.std.proofs.lemmas.List.Elements.{All-append, Contains-append_left, Contains-append_right, Contains-append_cases}
 use Rattle.p8_tree.specs.declared.places.Place.{Place}
 use Rattle.p8_tree.specs.Expressions.{Tree, node, Form, Number, Str, Here, Var, Call, Unary, Binary, Assign, Change, Address, ObjectAddress, ObjConst, Built, Look, Variable, Named, Part, Memory, Register, Index, no_index, index, whole, bits, single, range, Trees, no_trees, ◌▷◌, Items, no_items, ◌▸◌}
@@ -30,22 +31,15 @@ use Rattle.p8_line_laws.specs.Lines.{begin_of, begins_from, places_of, places_in
 
 -- ---- where bytecodes begin
 
-begins-more : (at : ℕ) (ops : List Op) (op : Op) → begins_from at (ops ++ op ∷ []) ≡ begins_from at ops ++ (at + length (flat_map spelled ops)) ∷ []
-begins-more at [] op = let here : at ≡ at + 0 = omega arith in ap (λ n. n ∷ []) here
-begins-more at (x ∷ ops) op =
-    let size : length (flat_map spelled (x ∷ ops)) ≡ length (spelled x) + length (flat_map spelled ops) = length-append (spelled x) (flat_map spelled ops) in
-    let there : at + length (spelled x) + length (flat_map spelled ops) ≡ at + length (flat_map spelled (x ∷ ops)) = omega (arith, size) in
-    ap (λ ns. at ∷ ns) (begins-more (at + length (spelled x)) ops op ∙ ap (λ n. begins_from (at + length (spelled x)) ops ++ n ∷ []) there)
+begins-joined : (at : ℕ) (xs ys : List Op) → begins_from at (xs ++ ys) ≡ begins_from at xs ++ begins_from (at + length (flat_map spelled xs)) ys
+begins-joined at [] ys = let here : at ≡ at + 0 = omega arith in ap (λ n. begins_from n ys) here
+begins-joined at (x ∷ xs) ys =
+    let size : length (flat_map spelled (x ∷ xs)) ≡ length (spelled x) + length (flat_map spelled xs) = length-append (spelled x) (flat_map spelled xs) in
+    let there : at + length (spelled x) + length (flat_map spelled xs) ≡ at + length (flat_map spelled (x ∷ xs)) = omega (arith, size) in
+    ap (λ ns. at ∷ ns) (begins-joined (at + length (spelled x)) xs ys ∙ ap (λ n. begins_from (at + length (spelled x)) xs ++ begins_from n ys) there)
 
-begun-more : (ops : List Op) (op : Op) → begins_from 0 (ops ++ op ∷ []) ≡ begins_from 0 ops ++ length (flat_map spelled ops) ∷ []
-begun-more ops op =
-    let there : 0 + length (flat_map spelled ops) ≡ length (flat_map spelled ops) = omega arith in
-    begins-more 0 ops op ∙ ap (λ n. begins_from 0 ops ++ n ∷ []) there
-
--- the code ends where its bytes do, and its lines begin where its bytecodes do
-pub record IsBegun (w : Written) : Type 0 where
-  pub ends : w.end ≡ length (bytes_of w)
-  pub lines : map begin_of w.lines ≡ begins_from 0 w.ops
+sizes-joined : (xs ys : List Op) → length (flat_map spelled (xs ++ ys)) ≡ length (flat_map spelled xs) + length (flat_map spelled ys)
+sizes-joined xs ys = ap length (flat_map-append spelled xs ys) ∙ length-append (flat_map spelled xs) (flat_map spelled ys)
 
 -- ---- places among others
 
@@ -77,14 +71,10 @@ instead s t L inside p h = elim (Contains-append_cases (s ∷ []) L p h) [
 
 -- ---- pieces
 
--- what a piece adds, by the statement at hand
+-- what a piece adds, by the statement at hand, which stays
 pub record Adds (L : List Place) (w v : Written) : Type 0 where
-  pub added : List (ℕ × Place)
-  pub behind : v.lines ≡ w.lines ++ added
-  pub each : All (IsLineOf (w.statement ∷ L) w.end v.end) added
+  pub more : AddsLines (w.statement ∷ L) w v
   pub keeps : v.statement ≡ w.statement
-  pub rises : w.end ≤ v.end
-  pub begun : IsBegun w → IsBegun v
 
 pub record Lined (L : List Place) (a : Piece) : Type 0 where
   pub by : (w : Written) → Adds L w (a w)
@@ -95,35 +85,65 @@ wider places others begin end start stop sub low high line is =
     let e = is.ends in
     record { made = sub line.1 is.made; begins = omega (arith, low, b); ends = omega (arith, high, e) }
 
+-- no bytecode more
+none-more : (places : List Place) (w : Written) → AddsLines places w w
+none-more places w = record {
+  ops = [];
+  lines = [];
+  codes = sym (append-nil w.ops);
+  behind = sym (append-nil w.lines);
+  ends = omega arith;
+  begins = refl;
+  each = λ k d lt. absurd (omega (arith, lt));
+}
+
 -- a bytecode more
 one-more : {L : List Place} (w v : Written) (op : Op) → v.ops ≡ w.ops ++ op ∷ [] → v.end ≡ w.end + length (spelled op) → v.lines ≡ w.lines ++ (w.end, w.statement) ∷ [] → v.statement ≡ w.statement → Adds L w v
 one-more {L} w v op ops end lines same =
     let long : 1 ≤ length (spelled op) = omega arith in
+    let size : length (flat_map spelled (op ∷ [])) ≡ length (spelled op) = ap length (append-nil (spelled op)) in
     record {
-      added = (w.end, w.statement) ∷ [];
-      behind = lines;
-      each = λ k d lt. one-line k d lt (record { made = first w.statement L; begins = omega arith; ends = omega (arith, end, long) });
+      more = record {
+        ops = op ∷ [];
+        lines = (w.end, w.statement) ∷ [];
+        codes = ops;
+        behind = lines;
+        ends = omega (arith, end, size);
+        begins = refl;
+        each = λ k d lt. one-line k d lt (record { made = first w.statement L; begins = omega arith; ends = omega (arith, end, long) });
+      };
       keeps = same;
-      rises = omega (arith, end);
-      begun = λ b.
-          let is = b.ends in
-          let size : length (bytes_of v) ≡ length (bytes_of w) + length (spelled op) = ap length (appended w v op ops) ∙ length-append (bytes_of w) (spelled op) in
-          record {
-            ends = omega (arith, size, end, is);
-            lines =
-                ap (map begin_of) lines ∙ map_push begin_of w.lines (w.end, w.statement) ∙ ap₂ (λ ns n. ns ++ n ∷ []) b.lines b.ends
-                ∙ sym (begun-more w.ops op) ∙ ap (begins_from 0) (sym ops);
-          };
     }
   where
     one-line : (k : ℕ) (d : ℕ × Place) → k < 1 → IsLineOf (w.statement ∷ L) w.end v.end (w.end, w.statement) → IsLineOf (w.statement ∷ L) w.end v.end (get_or ((w.end, w.statement) ∷ []) k d)
     one-line zero d lt is = is
     one-line (suc k) d lt is = absurd (omega (arith, lt))
 
+-- more, and then more
+joined : (a b all : List Place) (w u v : Written) → ((p : Place) → Contains a p → Contains all p) → ((p : Place) → Contains b p → Contains all p) → AddsLines a w u → AddsLines b u v → AddsLines all w v
+joined a b all w u v sub_a sub_b x y =
+    let P : ℕ × Place → Type 0 = IsLineOf all w.end v.end in
+    let low : w.end ≤ u.end = let ends = x.ends in omega (arith, ends) in
+    let high : u.end ≤ v.end = let ends = y.ends in omega (arith, ends) in
+    let size = sizes-joined x.ops y.ops in
+    let first_ends = x.ends in
+    let last_ends = y.ends in
+    record {
+      ops = x.ops ++ y.ops;
+      lines = x.lines ++ y.lines;
+      codes = y.codes ∙ ap (λ os. os ++ y.ops) x.codes ∙ append_assoc w.ops x.ops y.ops;
+      behind = y.behind ∙ ap (λ ls. ls ++ y.lines) x.behind ∙ append_assoc w.lines x.lines y.lines;
+      ends = omega (arith, first_ends, last_ends, size);
+      begins =
+          map-append begin_of x.lines y.lines ∙ ap₂ (λ ns ms. ns ++ ms) x.begins (y.begins ∙ ap (λ n. begins_from n y.ops) x.ends)
+          ∙ sym (begins-joined w.end x.ops y.ops);
+      each = All-append P x.lines y.lines
+          (λ k d lt. wider a all w.end u.end w.end v.end sub_a (omega arith) high _ (x.each k d lt))
+          (λ k d lt. wider b all u.end v.end w.end v.end sub_b low (omega arith) _ (y.each k d lt));
+    }
+
 pub nothings : {L : List Place} → Lined L nothing
-nothings = record {
-  by = λ w. record { added = []; behind = sym (append-nil w.lines); each = λ k d lt. absurd (omega (arith, lt)); keeps = refl; rises = omega arith; begun = λ b. b };
-}
+nothings {L} = record { by = λ w. record { more = none-more (w.statement ∷ L) w; keeps = refl } }
 
 pub ones : {L : List Place} (op : Op) → Lined L (one op)
 ones op = record { by = λ w. one-more w (one op w) op refl refl refl refl }
@@ -153,34 +173,30 @@ both {L} {a} {b} x y = record {
   by = λ w.
       let u = x.by w in
       let v = y.by (a w) in
-      let low = u.rises in
-      let high = v.rises in
-      let P : ℕ × Place → Type 0 = IsLineOf (w.statement ∷ L) w.end (b (a w)).end in
       record {
-        added = u.added ++ v.added;
-        behind = v.behind ∙ ap (λ ls. ls ++ v.added) u.behind ∙ append_assoc w.lines u.added v.added;
-        each = All-append P u.added v.added
-            (λ k d lt. wider (w.statement ∷ L) (w.statement ∷ L) w.end (a w).end w.end (b (a w)).end (λ p h. h) (omega arith) high _ (u.each k d lt))
-            (λ k d lt. wider ((a w).statement ∷ L) (w.statement ∷ L) (a w).end (b (a w)).end w.end (b (a w)).end (λ p h. subst (λ s. Contains (s ∷ L) p) u.keeps h) low (omega arith) _ (v.each k d lt));
+        more = joined (w.statement ∷ L) ((a w).statement ∷ L) (w.statement ∷ L) w (a w) (b (a w)) (λ p h. h) (λ p h. subst (λ s. Contains (s ∷ L) p) u.keeps h) u.more v.more;
         keeps = v.keeps ∙ u.keeps;
-        rises = omega (arith, low, high);
-        begun = λ is. v.begun (u.begun is);
       };
 }
 
+-- the lines of a statement's code, by those of its action's
+of-statement : (s : Place) (L all : List Place) (a : Piece) (w : Written) → ((p : Place) → Contains (s ∷ L) p → Contains all p) → Adds L (record w { statement = s }) (a (record w { statement = s })) → AddsLines all w (of_statement s a w)
+of-statement s L all a w sub x =
+    let inner : Written = record w { statement = s } in
+    let more = x.more in
+    record {
+      ops = more.ops;
+      lines = more.lines;
+      codes = more.codes;
+      behind = more.behind;
+      ends = more.ends;
+      begins = more.begins;
+      each = λ k d lt. wider (s ∷ L) all w.end (a inner).end w.end (a inner).end sub (omega arith) (omega arith) _ (more.each k d lt);
+    }
+
 pub of : {L : List Place} {a : Piece} (s : Place) → Contains L s → Lined L a → Lined L (of_statement s a)
 of {L} {a} s inside x = record {
-  by = λ w.
-      let inner : Written = record w { statement = s } in
-      let v = x.by inner in
-      record {
-        added = v.added;
-        behind = v.behind;
-        each = λ k d lt. wider (s ∷ L) (w.statement ∷ L) w.end (a inner).end w.end (a inner).end (instead s w.statement L inside) (omega arith) (omega arith) _ (v.each k d lt);
-        keeps = refl;
-        rises = v.rises;
-        begun = λ is. let after = v.begun (record { ends = is.ends; lines = is.lines }) in record { ends = after.ends; lines = after.lines };
-      };
+  by = λ w. record { more = of-statement s L (w.statement ∷ L) a w (instead s w.statement L inside) (x.by (record w { statement = s })); keeps = refl };
 }
 
 ups : {L : List Place} {p : ℕ → Piece} → ((x : ℕ) → Lined L (p x)) → Lined L (up_to_end p)
@@ -444,47 +460,32 @@ module _ (L : List Place) where
     bodies-lined n l end (arms ⊳ arm items negated ss) sub =
         both (both (both (bodies-lined n l end arms (left (places_of_arms arms) (places_of_body ss) L sub)) (bytes _)) (body-lined n l ss (right (places_of_arms arms) (places_of_body ss) L sub))) (goes-lined n end)
 
--- ---- methods
-
-method-adds : (n : Names) (ss : Statements) → Adds (places_of_body ss ++ n.statement ∷ []) empty (method_code n ss)
-method-adds n ss =
-    let own : Contains (places_of_body ss ++ n.statement ∷ []) n.statement = Contains-append_right (places_of_body ss) (n.statement ∷ []) n.statement (first n.statement []) in
-    (both (body-lined _ n None ss (λ p h. Contains-append_left (places_of_body ss) (n.statement ∷ []) p h)) (of n.statement own (bytes 0x32))).by empty
-
-pub method-begun : (n : Names) (ss : Statements) → IsBegun (method_code n ss)
-method-begun n ss = (method-adds n ss).begun (record { ends = refl; lines = refl })
+-- ---- statements and methods
 
 pub statement-lines : (n : Names) (l : Option Loop) (x : Statement) (w : Written) → AddsLines (places_of x) w (code n l x w)
 statement-lines n l (statement place action) w =
-    let v = (action-lined (places_in action) (record n { statement = place }) l action (λ p h. h)).by (record w { statement = place }) in
-    record { added = v.added; behind = v.behind; each = v.each }
+    of-statement place (places_in action) (place ∷ places_in action) (code_of (record n { statement = place }) l action) w (λ p h. h)
+    ((action-lined (places_in action) (record n { statement = place }) l action (λ p h. h)).by (record w { statement = place }))
 
 pub alone-lines : (n : Names) (l : Option Loop) (place : Place) (action : Action) → places_in action ≡ [] → (w : Written) → AddsLines (place ∷ []) w (code n l (statement place action) w)
 alone-lines n l place action none w = subst (λ ps. AddsLines (place ∷ ps) w (code n l (statement place action) w)) none (statement-lines n l (statement place action) w)
 
--- ---- no line of a method is of the statement before its first
-
-joined : (a b : List Place) (w u v : Written) → AddsLines a w u → AddsLines b u v → w.end ≤ u.end → u.end ≤ v.end → AddsLines (a ++ b) w v
-joined a b w u v x y low high =
-    let P : ℕ × Place → Type 0 = IsLineOf (a ++ b) w.end v.end in
-    record {
-      added = x.added ++ y.added;
-      behind = y.behind ∙ ap (λ ls. ls ++ y.added) x.behind ∙ append_assoc w.lines x.added y.added;
-      each = All-append P x.added y.added
-          (λ k d lt. wider a (a ++ b) w.end u.end w.end v.end (λ p h. Contains-append_left a b p h) (omega arith) high _ (x.each k d lt))
-          (λ k d lt. wider b (a ++ b) u.end v.end w.end v.end (λ p h. Contains-append_right a b p h) low (omega arith) _ (y.each k d lt));
-    }
-
+-- no line of a method is of the statement before its first
 body-lines : (n : Names) (l : Option Loop) (ss : Statements) (w : Written) → AddsLines (places_of_body ss) w (body n l ss w)
-body-lines n l no_statements w = record { added = []; behind = sym (append-nil w.lines); each = λ k d lt. absurd (omega (arith, lt)) }
+body-lines n l no_statements w = none-more [] w
 body-lines n l (ss ▹ x) w =
     let u : Written = body n l ss w in
-    joined (places_of_body ss) (places_of x) w u (code n l x u) (body-lines n l ss w) (statement-lines n l x u)
-    ((body-lined (places_of_body ss) n l ss (λ p h. h)).by w).rises ((code-lined (places_of x) n l x (λ p h. h)).by u).rises
+    joined (places_of_body ss) (places_of x) (places_of_body (ss ▹ x)) w u (code n l x u) (λ p h. Contains-append_left (places_of_body ss) (places_of x) p h) (λ p h. Contains-append_right (places_of_body ss) (places_of x) p h)
+    (body-lines n l ss w) (statement-lines n l x u)
 
 pub method-lines : (n : Names) (ss : Statements) → AddsLines (places_of_body ss ++ n.statement ∷ []) empty (method_code n ss)
 method-lines n ss =
     let u : Written = body n None ss empty in
-    let last = (bytes {L = []} 0x32).by (record u { statement = n.statement }) in
-    joined (places_of_body ss) (n.statement ∷ []) empty u (method_code n ss) (body-lines n None ss empty) (record { added = last.added; behind = last.behind; each = last.each })
-    ((body-lined (places_of_body ss) n None ss (λ p h. h)).by empty).rises last.rises
+    joined (places_of_body ss) (n.statement ∷ []) (places_of_body ss ++ n.statement ∷ []) empty u (method_code n ss)
+    (λ p h. Contains-append_left (places_of_body ss) (n.statement ∷ []) p h) (λ p h. Contains-append_right (places_of_body ss) (n.statement ∷ []) p h)
+    (body-lines n None ss empty) (of-statement n.statement [] (n.statement ∷ []) (byte 0x32) u (λ p h. h) ((bytes {L = []} 0x32).by (record u { statement = n.statement })))
+
+pub lines-begin : (n : Names) (ss : Statements) → map begin_of (method_code n ss).lines ≡ begins_from 0 (method_code n ss).ops
+lines-begin n ss =
+    let is = method-lines n ss in
+    ap (map begin_of) is.behind ∙ is.begins ∙ ap (begins_from 0) (sym is.codes)

@@ -1,5 +1,5 @@
 -- The lines of code, by the statements from which they are made.
-use Rattle.std.specs.Prelude.{ℕ, ◌+◌, ◌≡◌, ◌≤◌, ◌<◌, List, [], ◌∷◌, ◌++◌, length, All, Contains}
+use Rattle.std.specs.Prelude.{ℕ, ◌+◌, ◌≡◌, ◌≤◌, ◌<◌, List, [], ◌∷◌, ◌++◌, length, map, flat_map, All, Contains}
 use Rattle.p8_tree.specs.declared.places.Place.{Place}
 use Rattle.p8_tree.specs.Statements.{Statement, statement, Action, Do, If, Case, Repeat, Next, Quit, Return, Abort, arm, Otherwise, nothing_else, otherwise, Statements, no_statements, ◌▹◌, Arms, no_arms, ◌⊳◌}
 use Rattle.p8_bytecode.specs.declared.op.Op.{Op}
@@ -53,8 +53,13 @@ pub record IsLineOf (places : List Place) (begin end : ℕ) (line : ℕ × Place
   pub begins : begin ≤ line.0
   pub ends : line.0 < end
 
--- the code after it has more lines than the code before it, each between their ends, and made from a statement at one of these places
+-- The code after it has these bytecodes behind those of the code before it, one after the other, and for each of them its line, which begins where
+-- the bytecode does. Each of the lines is made from a statement at one of these places.
 pub record AddsLines (places : List Place) (before after : Written) : Type 0 where
-  pub added : List (ℕ × Place)
-  pub behind : after.lines ≡ before.lines ++ added
-  pub each : All (IsLineOf places before.end after.end) added
+  pub ops : List Op
+  pub lines : List (ℕ × Place)
+  pub codes : after.ops ≡ before.ops ++ ops
+  pub behind : after.lines ≡ before.lines ++ lines
+  pub ends : after.end ≡ before.end + length (flat_map spelled ops)
+  pub begins : map begin_of lines ≡ begins_from before.end ops
+  pub each : All (IsLineOf places before.end after.end) lines
