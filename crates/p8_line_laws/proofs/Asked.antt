@@ -2,6 +2,7 @@
 use Rattle.std.proofs.Common.{◌≡◌, refl, sym, ap, ◌∙◌, subst, arith, ℕ, zero, suc, ◌+◌, ◌≤◌, nat_lt, true, false, if◌then◌else◌, List, [], ◌∷◌, ◌++◌, append_assoc, length, slice_get, Some, None}
 use Rattle.std.specs.Prelude.{All, map, flat_map, drop, option_map}
 use Rattle.std.proofs.lemmas.Bool.Decides.{nat_tests}
+use Rattle.std.proofs.lemmas.Grind.{flat_map-append}
 use Rattle.std.proofs.lemmas.List.{drop-drop}
 use Rattle.std.proofs.lemmas.List.Elements.{All-head, All-tail}
 use Rattle.std.proofs.lemmas.Option.{none-some, same_Some, slice_get-map}
@@ -22,15 +23,21 @@ use Rattle.p8_bcog.specs.Bytecodes.{bytecode, clocks, does_found, row}
 use Rattle.p8_bcog.specs.Code.{code_of, fetched}
 use Rattle.p8_bcog.specs.Counters.{IsAskedFrom}
 use Rattle.p8_bcog.specs.Replay.{engine_of, lived}
-use Rattle.p8_gen.specs.Methods.{method_code}
+use Rattle.p8_gen.specs.Methods.{bytes_of, method_code}
 use Rattle.p8_gen.specs.Names.{Names}
+use Rattle.p8_gen.specs.Pieces.{Written}
 use Rattle.p8_compiled.specs.Placing.{HasCode, AreOps}
-use Rattle.p8_line_laws.specs.Lines.{begin_of, begins_from}
+use Rattle.p8_line_laws.specs.Lines.{begin_of, begins_from, AddsLines}
 use Rattle.p8_line_laws.specs.Asking.{HasLine, IsAskedBy, IsFetched}
 use Rattle.p8_line_laws.proofs.Lined.{lines-begin}
 
 not-low : (n : ℕ) → 16 ≤ n → nat_lt n 16 ≡ false
 not-low n h = grind (arith, nat_tests)
+
+-- what holds of all holds of the last ones
+last-ones : (xs ys : List Op) → AreOps (xs ++ ys) → AreOps ys
+last-ones [] ys are = are
+last-ones (x ∷ xs) ys are = last-ones xs ys (All-tail IsOp x (xs ++ ys) are)
 
 -- what stands at an address is fetched there
 fetched-here : (memory : List ℕ) (p : ℕ) (op : Op) (rest : List ℕ) → 16 ≤ p → IsOp op → drop p (code_of memory) ≡ spelled op ++ rest → IsFetched memory p op
@@ -56,12 +63,25 @@ module _ (memory : List ℕ) (base : ℕ) (low : 16 ≤ base) (rest : List ℕ) 
       each-fetched (begin + length (spelled x)) ops (All-tail IsOp x ops are) behind k op place at_op at_place
 
 -- the bytecodes of a method's code stand where its lines say
-pub line-fetched : (n : Names) (ss : Statements) (memory : List ℕ) (base : ℕ) → HasCode memory base (method_code n ss) → AreOps (method_code n ss).ops → (op : Op) (line : ℕ × Place) → HasLine (method_code n ss) op line → IsFetched memory (base + line.0) op
+pub line-fetched : (n : Names) (ss : Statements) (memory : List ℕ) (base : ℕ) → HasCode memory base (method_code n ss) → AreOps (method_code n ss).ops → (op : Op) (line : ℕ × Place) → HasLine (method_code n ss).ops (method_code n ss).lines op line → IsFetched memory (base + line.0) op
 line-fetched n ss memory base has are op line there =
     let first : base + 0 ≡ base = omega arith in
     let begins : slice_get (begins_from 0 (method_code n ss).ops) there.number ≡ Some line.0 =
         ap (λ ns. slice_get ns there.number) (sym (lines-begin n ss)) ∙ slice_get-map begin_of (method_code n ss).lines there.number ∙ ap (option_map begin_of) there.is_line in
     each-fetched memory base has.begins has.rest 0 (method_code n ss).ops are (ap (λ p. drop p (code_of memory)) first ∙ has.bytes) there.number op line.0 there.is_op begins
+
+-- so do those of a piece
+pub added-fetched : (memory : List ℕ) (base : ℕ) (places : List Place) (w v : Written) → HasCode memory base w → HasCode memory base v → AreOps v.ops → (adds : AddsLines places w v) → (op : Op) (line : ℕ × Place) → HasLine adds.ops adds.lines op line → IsFetched memory (base + line.0) op
+added-fetched memory base places w v before has are adds op line there =
+    let begins : slice_get (begins_from w.end adds.ops) there.number ≡ Some line.0 =
+        ap (λ ns. slice_get ns there.number) (sym adds.begins) ∙ slice_get-map begin_of adds.lines there.number ∙ ap (option_map begin_of) there.is_line in
+    let own : AreOps adds.ops = last-ones w.ops adds.ops (subst AreOps adds.codes are) in
+    let bytes : drop base (code_of memory) ≡ bytes_of w ++ (flat_map spelled adds.ops ++ has.rest) =
+        has.bytes ∙ ap (λ bs. bs ++ has.rest) (ap (flat_map spelled) adds.codes ∙ flat_map-append spelled w.ops adds.ops) ∙ append_assoc (bytes_of w) (flat_map spelled adds.ops) has.rest in
+    let behind : drop (base + w.end) (code_of memory) ≡ flat_map spelled adds.ops ++ has.rest =
+        ap (λ n. drop (base + n) (code_of memory)) before.ends ∙ sym (drop-drop (length (bytes_of w)) base (code_of memory)) ∙ ap (drop (length (bytes_of w))) bytes
+        ∙ drop-append_seam (bytes_of w) (flat_map spelled adds.ops ++ has.rest) in
+    each-fetched memory base has.begins has.rest w.end adds.ops own behind there.number op line.0 there.is_op begins
 
 -- ---- what is asked from an address
 

@@ -1,3 +1,4 @@
 pub mod Lined
 mod Apart
 mod Asked
+mod Meaning

@@ -11,13 +11,12 @@ use Rattle.p8_bcog.specs.declared.state.State.{State}
 use Rattle.p8_bcog.specs.Bytecodes.{clocks, row}
 use Rattle.p8_bcog.specs.Code.{fetched}
 use Rattle.p8_bcog.specs.Replay.{lived}
-use Rattle.p8_gen.specs.Pieces.{Written}
 
--- a bytecode of a code with its line
-pub record HasLine (w : Written) (op : Op) (line : ℕ × Place) : Type 0 where
+-- one of some bytecodes, with its line
+pub record HasLine (ops : List Op) (lines : List (ℕ × Place)) (op : Op) (line : ℕ × Place) : Type 0 where
   pub number : ℕ
-  pub is_op : slice_get w.ops number ≡ Some op
-  pub is_line : slice_get w.lines number ≡ Some line
+  pub is_op : slice_get ops number ≡ Some op
+  pub is_line : slice_get lines number ≡ Some line
 
 -- a bytecode stands in a memory at an address, with all its bytes
 abbrev pub IsFetched : (memory : List ℕ) → (address : ℕ) → Op → Type 0

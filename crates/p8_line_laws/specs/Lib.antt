@@ -2,3 +2,5 @@
 pub mod Lines
 -- Which bytecode asks an access.
 pub mod Asking
+-- Statements in a memory.
+pub mod Standing

@@ -15,12 +15,12 @@ ghost use Rattle.p8_line_laws.specs.Asking.{HasLine, IsAskedBy, IsFetched};
 ///
 /// The bytecodes are such as there are, as [`templates_have_operations`](p8_compiled::templates_have_operations) says of them.
 pub fn bytecodes_stand_at_their_lines()
-    ensures { (n : Names) → (ss : Statements) → (memory : List ℕ) → (base : ℕ) → HasCode memory base (method_code n ss) → AreOps (method_code n ss).ops → (op : Op) → (line : ℕ × Place) → HasLine (method_code n ss) op line → IsFetched memory (base + line.0) op }
+    ensures { (n : Names) → (ss : Statements) → (memory : List ℕ) → (base : ℕ) → HasCode memory base (method_code n ss) → AreOps (method_code n ss).ops → (op : Op) → (line : ℕ × Place) → HasLine (method_code n ss).ops (method_code n ss).lines op line → IsFetched memory (base + line.0) op }
 {}
 
 /// Law: an access that a life asks from the address of a line is asked by the bytecode of that line.
 ///
 /// So the statement of the line is the one from which the bytecode that asks is made. The life's memory has the bytes of the method's code.
 pub fn accesses_are_asked_by_their_lines()
-    ensures { (n : Names) → (ss : Statements) → (base : ℕ) → (entered : Entered) → HasCode entered.memory base (method_code n ss) → AreOps (method_code n ss).ops → (op : Op) → (line : ℕ × Place) → HasLine (method_code n ss) op line → (turns : List Turn) → IsAskedFrom entered turns (base + line.0) → IsAskedBy entered turns (base + line.0) op }
+    ensures { (n : Names) → (ss : Statements) → (base : ℕ) → (entered : Entered) → HasCode entered.memory base (method_code n ss) → AreOps (method_code n ss).ops → (op : Op) → (line : ℕ × Place) → HasLine (method_code n ss).ops (method_code n ss).lines op line → (turns : List Turn) → IsAskedFrom entered turns (base + line.0) → IsAskedBy entered turns (base + line.0) op }
 {}
