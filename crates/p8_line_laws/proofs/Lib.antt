@@ -2,3 +2,4 @@ pub mod Lined
 mod Apart
 mod Asked
 mod Meaning
+mod Rows

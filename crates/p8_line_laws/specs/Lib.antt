@@ -4,3 +4,5 @@ pub mod Lines
 pub mod Asking
 -- Statements in a memory.
 pub mod Standing
+-- The statements of rows.
+pub mod Origins

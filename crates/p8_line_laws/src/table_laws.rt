@@ -1,5 +1,5 @@
 // Laws of the line table of a project. The functions do nothing: their contracts are the laws.
-ghost use Rattle.std.specs.Prelude.{List};
+ghost use Rattle.std.specs.Prelude.{All, List};
 ghost use Rattle.p8_tree.specs.Projects.{NamedSource};
 ghost use Rattle.p8_names.specs.Mentions.{AreDistinct, HaveNoRing};
 ghost use Rattle.p8_image.specs.declared.clocks.Clock.{Clock};
@@ -7,6 +7,7 @@ ghost use Rattle.p8_image.specs.declared.parts.ObjectPart.{ObjectPart};
 ghost use Rattle.p8_build.specs.Builds.{IsBuilt};
 ghost use Rattle.p8_line_table.specs.declared.table.LineTable.{LineTable};
 ghost use Rattle.p8_line_table.specs.Rows.{IsLineTable, AreApart};
+ghost use Rattle.p8_line_laws.specs.Origins.{IsRowOf};
 
 /// Law: in the line table of a project that is built no two rows hold one address. So
 /// [`at`](p8_line_table::LineTable::at) tells of each address exactly the row that holds it, and of no other address any row.
@@ -15,3 +16,9 @@ pub fn table_tells_each_address_once()
 {
     p8_names::one_for_each_project();
 }
+
+/// Law: each row of a project's line table is of a statement of the method that it names, or of that method's `RETURN` at the end, which has the
+/// place of the method's name.
+pub fn rows_are_of_their_methods()
+    ensures { (files : List NamedSource) → (table : LineTable) → IsLineTable files table → All (IsRowOf files) table.rows }
+{}
