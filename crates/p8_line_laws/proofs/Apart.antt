@@ -1,5 +1,5 @@
 -- The rows of a table stand one after the other.
-use Rattle.std.proofs.Common.{◌≡◌, refl, sym, ap, ◌∙◌, subst, arith, ℕ, zero, suc, ◌+◌, ◌-◌, ◌*◌, ◌/◌, ◌%◌, ◌<◌, ◌≤◌, ◌==◌, Bool, List, [], ◌∷◌, ◌++◌, length, length-append, slice_get, Some, get_or}
+use Rattle.std.proofs.Common.{◌≡◌, refl, sym, ap, ◌∙◌, subst, arith, ℕ, zero, suc, ◌+◌, ◌<◌, ◌≤◌, ◌==◌, Bool, List, [], ◌∷◌, ◌++◌, length, length-append, slice_get, Some, get_or}
 use Rattle.std.specs.Prelude.{map, flat_map, drop}
 use Rattle.std.proofs.lemmas.Option.{none-some, same_Some, slice_get_within}
 use Rattle.p8_tree.specs.declared.places.Place.{Place}
@@ -12,15 +12,14 @@ use Rattle.p8_constants.specs.FileItems.{items}
 use Rattle.p8_names.specs.Kinds.{numbered}
 use Rattle.p8_names.specs.Children.{AreChildren}
 use Rattle.p8_gen.specs.declared.writer.Line.{Line}
-use Rattle.p8_gen.specs.Methods.{method_code, bytes_of}
+use Rattle.p8_gen.specs.Methods.{method_code}
 use Rattle.p8_gen.specs.Names.{Names}
 use Rattle.p8_gen.specs.Uses.{line_of}
 use Rattle.p8_stmt.specs.declared.code.MethodCode.{MethodCode}
 use Rattle.p8_stmt.specs.Methods.{IsCodeOf}
 use Rattle.p8_image.specs.declared.clocks.Clock.{Clock}
-use Rattle.p8_image.specs.declared.parts.MethodPart.{MethodPart}
 use Rattle.p8_image.specs.declared.parts.ObjectPart.{ObjectPart}
-use Rattle.p8_image.specs.Layout.{total, whole_longs, code_size, text_size, codes_offset, texts_offset, size_of, header_by}
+use Rattle.p8_image.specs.Layout.{total, code_size, codes_offset, size_of, header_by}
 use Rattle.p8_image.specs.Projects.{FitsHub}
 use Rattle.p8_build.specs.Parts.{method_parts, strings_of}
 use Rattle.p8_build.specs.Files.{CompiledFile, IsCompiled, method_names}
@@ -29,7 +28,7 @@ use Rattle.p8_build.proofs.Lists.{element}
 use Rattle.p8_build.proofs.Wholes.{one_objects}
 use Rattle.p8_line_table.specs.declared.table.Row.{Row}
 use Rattle.p8_line_table.specs.declared.table.LineTable.{LineTable}
-use Rattle.p8_line_table.specs.Rows.{further, end_of, line_row, line_rows, code_rows, rows_from, codes_of, IsLineTable, AreApart}
+use Rattle.p8_line_table.specs.Rows.{further, end_of, line_rows, code_rows, rows_from, codes_of, IsLineTable, AreApart}
 use Rattle.p8_line_laws.specs.Lines.{begin_of, begins_from}
 use Rattle.p8_line_laws.proofs.Lined.{lines-begin}
 
@@ -216,8 +215,8 @@ table-apart files view clock objects table built is =
     let each : AreCompiled files is.children built.compiled = subst (λ (cs : List Children). AreCompiled files cs built.compiled) same built.each in
     let beside = is.seen.one_each in
     let objects-same : objects ≡ objects_of files is.children is.compiled =
-        built.objects_are ∙ ap (λ (cs : List Children). objects_of files cs built.compiled) same ∙ one_objects files is.children built.compiled is.compiled beside each is.each in
+    built.objects_are ∙ ap (λ (cs : List Children). objects_of files cs built.compiled) same ∙ one_objects files is.children built.compiled is.compiled beside each is.each in
     let fits : 16 + total size_of (objects_of files is.children is.compiled) ≤ 32768 = objects-fit (objects_of files is.children is.compiled) (subst (λ (os : List ObjectPart). FitsHub (header_by os)) objects-same built.fits) in
     let are : AreFilled (objects_of files is.children is.compiled) (codes_of is.compiled) =
-        filled files files is.children is.compiled (λ i f c x at_f at_c at_x. record { top = i == 0; is = is.each.each i f c x (record { stands = at_f; beside = at_c }) at_x }) beside is.each.count in
+    filled files files is.children is.compiled (λ i f c x at_f at_c at_x. record { top = i == 0; is = is.each.each i f c x (record { stands = at_f; beside = at_c }) at_x }) beside is.each.count in
     subst AreApart (sym is.rows) (are-apart 16 _ _ (follow-objects 0 16 (objects_of files is.children is.compiled) (codes_of is.compiled) are (omega (arith, fits))))

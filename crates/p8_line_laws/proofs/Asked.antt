@@ -1,6 +1,6 @@
 -- The bytecodes of a code stand where its lines say, and ask what is asked from there.
-use Rattle.std.proofs.Common.{◌≡◌, refl, sym, ap, ◌∙◌, subst, arith, ℕ, zero, suc, ◌+◌, ◌≤◌, nat_lt, true, false, if◌then◌else◌, List, [], ◌∷◌, ◌++◌, append_assoc, length, slice_get, Some, None}
-use Rattle.std.specs.Prelude.{All, map, flat_map, drop, option_map}
+use Rattle.std.proofs.Common.{◌≡◌, sym, ap, ◌∙◌, subst, arith, ℕ, zero, suc, ◌+◌, ◌≤◌, nat_lt, false, if◌then◌else◌, List, [], ◌∷◌, ◌++◌, append_assoc, length, slice_get, Some, None}
+use Rattle.std.specs.Prelude.{flat_map, drop, option_map}
 use Rattle.std.proofs.lemmas.Bool.Decides.{nat_tests}
 use Rattle.std.proofs.lemmas.Grind.{flat_map-append}
 use Rattle.std.proofs.lemmas.List.{drop-drop}
@@ -12,7 +12,7 @@ use Rattle.p8_tree.specs.Statements.{Statements}
 use Rattle.p8_access.specs.declared.order.Turn.{Turn}
 use Rattle.p8_access.specs.Courses.{Course}
 use Rattle.p8_access.specs.Lives.{Entered}
-use Rattle.p8_access.specs.Timing.{Outcome, Asks, Goes, played}
+use Rattle.p8_access.specs.Timing.{Goes, played}
 use Rattle.p8_access.specs.Replays.{after, step}
 use Rattle.p8_bytecode.specs.declared.op.Op.{Op}
 use Rattle.p8_bytecode.specs.Reading.{op_at, op_in}
@@ -58,8 +58,8 @@ module _ (memory : List ℕ) (base : ℕ) (low : 16 ≤ base) (rest : List ℕ) 
       let bytes : drop (base + begin) (code_of memory) ≡ spelled x ++ (flat_map spelled ops ++ rest) = there ∙ append_assoc (spelled x) (flat_map spelled ops) rest in
       let further : base + (begin + length (spelled x)) ≡ base + begin + length (spelled x) = omega arith in
       let behind : drop (base + (begin + length (spelled x))) (code_of memory) ≡ flat_map spelled ops ++ rest =
-          ap (λ n. drop n (code_of memory)) further ∙ sym (drop-drop (length (spelled x)) (base + begin) (code_of memory))
-          ∙ ap (drop (length (spelled x))) bytes ∙ drop-append_seam (spelled x) (flat_map spelled ops ++ rest) in
+      ap (λ n. drop n (code_of memory)) further ∙ sym (drop-drop (length (spelled x)) (base + begin) (code_of memory))
+      ∙ ap (drop (length (spelled x))) bytes ∙ drop-append_seam (spelled x) (flat_map spelled ops ++ rest) in
       each-fetched (begin + length (spelled x)) ops (All-tail IsOp x ops are) behind k op place at_op at_place
 
 -- the bytecodes of a method's code stand where its lines say
@@ -67,20 +67,20 @@ pub line-fetched : (n : Names) (ss : Statements) (memory : List ℕ) (base : ℕ
 line-fetched n ss memory base has are op line there =
     let first : base + 0 ≡ base = omega arith in
     let begins : slice_get (begins_from 0 (method_code n ss).ops) there.number ≡ Some line.0 =
-        ap (λ ns. slice_get ns there.number) (sym (lines-begin n ss)) ∙ slice_get-map begin_of (method_code n ss).lines there.number ∙ ap (option_map begin_of) there.is_line in
+    ap (λ ns. slice_get ns there.number) (sym (lines-begin n ss)) ∙ slice_get-map begin_of (method_code n ss).lines there.number ∙ ap (option_map begin_of) there.is_line in
     each-fetched memory base has.begins has.rest 0 (method_code n ss).ops are (ap (λ p. drop p (code_of memory)) first ∙ has.bytes) there.number op line.0 there.is_op begins
 
 -- so do those of a piece
 pub added-fetched : (memory : List ℕ) (base : ℕ) (places : List Place) (w v : Written) → HasCode memory base w → HasCode memory base v → AreOps v.ops → (adds : AddsLines places w v) → (op : Op) (line : ℕ × Place) → HasLine adds.ops adds.lines op line → IsFetched memory (base + line.0) op
 added-fetched memory base places w v before has are adds op line there =
     let begins : slice_get (begins_from w.end adds.ops) there.number ≡ Some line.0 =
-        ap (λ ns. slice_get ns there.number) (sym adds.begins) ∙ slice_get-map begin_of adds.lines there.number ∙ ap (option_map begin_of) there.is_line in
+    ap (λ ns. slice_get ns there.number) (sym adds.begins) ∙ slice_get-map begin_of adds.lines there.number ∙ ap (option_map begin_of) there.is_line in
     let own : AreOps adds.ops = last-ones w.ops adds.ops (subst AreOps adds.codes are) in
     let bytes : drop base (code_of memory) ≡ bytes_of w ++ (flat_map spelled adds.ops ++ has.rest) =
-        has.bytes ∙ ap (λ bs. bs ++ has.rest) (ap (flat_map spelled) adds.codes ∙ flat_map-append spelled w.ops adds.ops) ∙ append_assoc (bytes_of w) (flat_map spelled adds.ops) has.rest in
+    has.bytes ∙ ap (λ bs. bs ++ has.rest) (ap (flat_map spelled) adds.codes ∙ flat_map-append spelled w.ops adds.ops) ∙ append_assoc (bytes_of w) (flat_map spelled adds.ops) has.rest in
     let behind : drop (base + w.end) (code_of memory) ≡ flat_map spelled adds.ops ++ has.rest =
-        ap (λ n. drop (base + n) (code_of memory)) before.ends ∙ sym (drop-drop (length (bytes_of w)) base (code_of memory)) ∙ ap (drop (length (bytes_of w))) bytes
-        ∙ drop-append_seam (bytes_of w) (flat_map spelled adds.ops ++ has.rest) in
+    ap (λ n. drop (base + n) (code_of memory)) before.ends ∙ sym (drop-drop (length (bytes_of w)) base (code_of memory)) ∙ ap (drop (length (bytes_of w))) bytes
+    ∙ drop-append_seam (bytes_of w) (flat_map spelled adds.ops ++ has.rest) in
     each-fetched memory base has.begins has.rest w.end adds.ops own behind there.number op line.0 there.is_op begins
 
 -- ---- what is asked from an address
@@ -96,7 +96,7 @@ one-more entered turns done s begin left goes =
 pub asked-by : (entered : Entered) (turns : List Turn) (address : ℕ) (op : Op) → IsFetched entered.memory address op → IsAskedFrom entered turns address → IsAskedBy entered turns address op
 asked-by entered turns address op stands (done, s, begin, left, clock, access, goes, next, here) =
     let found : bytecode entered.memory entered.cog s ≡ row entered.memory entered.cog op (record s { at = address + length (spelled op) }) =
-        ap (λ place. does_found entered.memory entered.cog (fetched entered.memory place) s) here ∙ ap (λ f. does_found entered.memory entered.cog f s) stands in
+    ap (λ place. does_found entered.memory entered.cog (fetched entered.memory place) s) here ∙ ap (λ f. does_found entered.memory entered.cog f s) stands in
     record {
       done = done;
       s = s;

@@ -1,6 +1,6 @@
 -- What a piece adds to a code's lines: one for each bytecode, where it begins, of the statement at hand or of one inside the piece.
-use Rattle.std.proofs.Common.{◌≡◌, refl, sym, ap, ap₂, subst, ◌∙◌, arith, inl, inr, ◌⊎◌, ℕ, zero, suc, ◌+◌, ◌-◌, ◌^◌, ◌<◌, ◌≤◌, ◌==◌, ◌&&◌, ◌||◌, nat_le, nat_lt, Bool, true, false, not, if◌then◌else◌, List, [], ◌∷◌, ◌++◌, append_assoc, length, length-append, Option, Some, None, append-nil, get_or}
-use Rattle.std.specs.Prelude.{All, Contains, map, flat_map}
+use Rattle.std.proofs.Common.{◌≡◌, refl, sym, ap, ap₂, subst, ◌∙◌, arith, inl, inr, ℕ, zero, suc, ◌+◌, ◌-◌, ◌^◌, ◌<◌, ◌≤◌, ◌==◌, ◌&&◌, ◌||◌, nat_le, nat_lt, Bool, true, false, not, if◌then◌else◌, List, [], ◌∷◌, ◌++◌, append_assoc, length, length-append, Option, Some, None, append-nil, get_or}
+use Rattle.std.specs.Prelude.{Contains, map, flat_map}
 use Rattle.std.proofs.lemmas.List.{map-append}
 use Rattle.std.proofs.lemmas.Grind.{flat_map-append}
 use Rattle.std.proofs.lemmas.List.Elements.{All-append, Contains-append_left, Contains-append_right, Contains-append_cases}
@@ -22,8 +22,7 @@ use Rattle.p8_gen.specs.Expressions.{pasm, started, built_without, own_method, m
 use Rattle.p8_gen.specs.Statements.{Loop, inside, goes_on, leaves, with_value, test_of, tests, step_of, step_effect, plain_name, zero_jump, code, code_of, body, chain, other_body, all_tests, case_bodies}
 use Rattle.p8_bytecode.specs.declared.operands.Operands.TheVariants.{Offset}
 use Rattle.p8_bytecode.specs.Table.{operands_of}
-use Rattle.p8_gen.specs.Methods.{bytes_of, method_code}
-use Rattle.p8_compiled.proofs.Fetching.{appended}
+use Rattle.p8_gen.specs.Methods.{method_code}
 use Rattle.p8_compiled.proofs.Standing.{jump_op, jump-size}
 use Rattle.p8_compiled.proofs.Memory.{with_jump}
 use Rattle.p8_compiled.proofs.Jumping.{same-length}

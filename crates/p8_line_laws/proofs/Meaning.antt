@@ -1,5 +1,5 @@
 -- A statement's code does what the statement says, and has its lines.
-use Rattle.std.proofs.Common.{◌≡◌, refl, sym, ap, subst, ℕ, ◌+◌, Bool, true, false, Option, Some, None}
+use Rattle.std.proofs.Common.{◌≡◌, refl, subst, ℕ, ◌+◌, Bool, true, false, Option, Some, None}
 use Rattle.std.specs.Prelude.{IsTrue, is_some}
 use Rattle.p8_tree.specs.Nesting.{leaves_loop}
 use Rattle.p8_tree.specs.Proper.{IsProperStatement}

@@ -1,5 +1,5 @@
 -- Each row of a table is of a statement of the method that it names.
-use Rattle.std.proofs.Common.{◌≡◌, refl, sym, ap, ◌∙◌, subst, arith, ℕ, zero, suc, ◌+◌, ◌<◌, ◌==◌, List, [], ◌∷◌, ◌++◌, length, slice_get, Option, Some}
+use Rattle.std.proofs.Common.{◌≡◌, refl, sym, ap, ◌∙◌, subst, arith, ℕ, suc, ◌+◌, List, [], ◌∷◌, ◌++◌, length, slice_get, Some}
 use Rattle.std.specs.Prelude.{All, Contains, map, option_map}
 use Rattle.std.proofs.lemmas.List.{length-map}
 use Rattle.std.proofs.lemmas.List.Elements.{All-append, All-cons, All-head, All-nil, All-tail}
@@ -8,10 +8,8 @@ use Rattle.p8_tree.specs.declared.places.Place.{Place}
 use Rattle.p8_tree.specs.Projects.{NamedSource}
 use Rattle.p8_tree.specs.Sources.{MethodTree}
 use Rattle.p8_constants.specs.FileItems.{items}
-use Rattle.p8_kinds.specs.declared.children.Children.{Children}
 use Rattle.p8_names.specs.Kinds.{numbered}
 use Rattle.p8_gen.specs.declared.writer.Line.{Line}
-use Rattle.p8_gen.specs.Methods.{method_code}
 use Rattle.p8_gen.specs.Names.{Names}
 use Rattle.p8_gen.specs.Uses.{line_of}
 use Rattle.p8_stmt.specs.declared.code.MethodCode.{MethodCode}
@@ -24,7 +22,7 @@ use Rattle.p8_build.proofs.Lists.{element}
 use Rattle.p8_line_table.specs.declared.table.LineTable.{LineTable}
 use Rattle.p8_line_table.specs.declared.table.Row.{Row}
 use Rattle.p8_line_table.specs.Rows.{further, end_of, line_row, line_rows, code_rows, rows_from, codes_of, IsLineTable}
-use Rattle.p8_line_laws.specs.Lines.{places_of_body, IsLineOf}
+use Rattle.p8_line_laws.specs.Lines.{places_of_body}
 use Rattle.p8_line_laws.specs.Origins.{IsPlaceIn, IsRowOf}
 use Rattle.p8_line_laws.proofs.Lined.{method-lines}
 
