@@ -41,14 +41,6 @@ lower : (low start high : ℕ) (rows : List Row) → start ≤ low → Follow lo
 lower low start high [] less is = omega (arith, less, is)
 lower low start high (row ∷ rows) less is = let begins = is.0 in (omega (arith, less, begins), is.1, is.2)
 
-reaches : (low high : ℕ) (rows : List Row) → Follow low high rows → low ≤ high
-reaches low high [] is = is
-reaches low high (row ∷ rows) is =
-    let begins = is.0 in
-    let some = is.1 in
-    let rest = reaches row.end high rows is.2 in
-    omega (arith, begins, some, rest)
-
 joined : (low mid high : ℕ) (xs ys : List Row) → Follow low mid xs → Follow mid high ys → Follow low high (xs ++ ys)
 joined low mid high [] ys x y = lower mid low high ys x y
 joined low mid high (row ∷ xs) ys x y = (x.0, x.1, joined row.end mid high xs ys x.2 y)
@@ -76,11 +68,11 @@ are-apart low high rows is = record { some = λ i a at. (stands low high rows is
 
 -- ---- the rows of a code
 
-no-lines : (place : ℕ) (rest : List ℕ) {Goal : Type 0} → place ∷ rest ≡ [] → Goal
+pub no-lines : (place : ℕ) (rest : List ℕ) {Goal : Type 0} → place ∷ rest ≡ [] → Goal
 no-lines place rest is = let none = ap length is in absurd (omega (arith, none))
 
 -- where the first line ends there begins the next one
-next-is : (size begin : ℕ) (lines : List Line) (ops : List Op) → map (λ (line : Line). line.offset) lines ≡ begins_from begin ops → size ≡ begin + length (flat_map spelled ops) → end_of size lines ≡ begin
+pub next-is : (size begin : ℕ) (lines : List Line) (ops : List Op) → map (λ (line : Line). line.offset) lines ≡ begins_from begin ops → size ≡ begin + length (flat_map spelled ops) → end_of size lines ≡ begin
 next-is size begin [] [] begins ends = omega (arith, ends)
 next-is size begin [] (op ∷ ops) begins ends = no-lines begin _ (sym begins)
 next-is size begin (line ∷ lines) [] begins ends = no-lines line.offset _ begins
@@ -106,10 +98,10 @@ module _ (file method at size : ℕ) (room : at + size < 65536) where
       )
 
 -- a method's code whose lines begin where its bytecodes do
-record IsTiled (code : MethodCode) : Type 0 where
-  ops : List Op
-  begins : map (λ (line : Line). line.offset) code.lines ≡ begins_from 0 ops
-  ends : length code.bytes ≡ length (flat_map spelled ops)
+pub record IsTiled (code : MethodCode) : Type 0 where
+  pub ops : List Op
+  pub begins : map (λ (line : Line). line.offset) code.lines ≡ begins_from 0 ops
+  pub ends : length code.bytes ≡ length (flat_map spelled ops)
 
 offsets : (lines : List Line) → map begin_of (map line_of lines) ≡ map (λ (line : Line). line.offset) lines
 offsets [] = refl
@@ -124,10 +116,10 @@ tiled names m code is = record {
 
 -- ---- the rows of methods, one code after the other
 
-abbrev bytes_in : MethodCode → ℕ
+abbrev pub bytes_in : MethodCode → ℕ
 bytes_in code = length code.bytes
 
-abbrev AreAllTiled : List MethodCode → Type 0
+abbrev pub AreAllTiled : List MethodCode → Type 0
 AreAllTiled codes = (k : ℕ) (code : MethodCode) → slice_get codes k ≡ Some code → IsTiled code
 
 follow-codes : (file method at : ℕ) (codes : List MethodCode) → AreAllTiled codes → at + total bytes_in codes < 65536 → Follow at (at + total bytes_in codes) (code_rows file method at codes)
@@ -149,7 +141,7 @@ follow-codes file method at (code ∷ codes) all room =
 -- ---- the rows of objects
 
 -- objects with the codes of their methods
-abbrev AreFilled : List ObjectPart → List (List MethodCode) → Type 0
+abbrev pub AreFilled : List ObjectPart → List (List MethodCode) → Type 0
 AreFilled (object ∷ objects) (codes ∷ others) = AreAllTiled codes × (total code_size object.methods ≡ total bytes_in codes) × AreFilled objects others
 AreFilled objects others = Unit {0}
 
@@ -174,9 +166,9 @@ follow-objects file base (object ∷ objects) (codes ∷ others) are room =
 -- ---- the objects of a project
 
 -- a file is compiled to this, whether it is the top file or none
-record IsOne (source : Source) (seen : Children) (x : CompiledFile) : Type 0 where
-  top : Bool
-  is : IsCompiled source seen top x
+pub record IsOne (source : Source) (seen : Children) (x : CompiledFile) : Type 0 where
+  pub top : Bool
+  pub is : IsCompiled source seen top x
 
 sizes : (strings : List (Place × List ℕ)) (ms : List MethodTree) (codes : List MethodCode) → length codes ≡ length ms → total code_size (method_parts strings ms codes) ≡ total bytes_in codes
 sizes strings [] [] is = refl
@@ -191,7 +183,7 @@ tiled-file source seen x one = λ k code there.
     let m = element (numbered (items source)) k (omega (arith, inside, counted)) in
     tiled (method_names seen x k m.0) m.0 code (one.is.code.each k m.0 code m.1 there)
 
-filled : (all files : List NamedSource) (children : List Children) (xs : List CompiledFile)
+pub filled : (all files : List NamedSource) (children : List Children) (xs : List CompiledFile)
     → ((i : ℕ) (file : NamedSource) (seen : Children) (x : CompiledFile) → slice_get files i ≡ Some file → slice_get children i ≡ Some seen → slice_get xs i ≡ Some x → IsOne file.tree seen x)
     → length children ≡ length files → length xs ≡ length files → AreFilled (objects_from all files children xs) (codes_of xs)
 filled all [] children xs each beside count = tt
@@ -205,7 +197,7 @@ filled all (file ∷ files) (seen ∷ children) (x ∷ xs) each beside count =
     )
 
 -- an image that fits the hub has its objects there
-objects-fit : (objects : List ObjectPart) → FitsHub (header_by objects) → 16 + total size_of objects ≤ 32768
+pub objects-fit : (objects : List ObjectPart) → FitsHub (header_by objects) → 16 + total size_of objects ≤ 32768
 objects-fit [] fits = omega arith
 objects-fit (top ∷ objects) fits = omega (arith, fits)
 

@@ -3,3 +3,4 @@ mod Apart
 mod Asked
 mod Meaning
 mod Rows
+mod Covered

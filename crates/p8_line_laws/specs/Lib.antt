@@ -6,3 +6,5 @@ pub mod Asking
 pub mod Standing
 -- The statements of rows.
 pub mod Origins
+-- Addresses that have rows.
+pub mod Covering
