@@ -34,4 +34,6 @@ mod region;
 #[cfg(test)]
 mod spin;
 #[cfg(test)]
+mod turns;
+#[cfg(test)]
 mod words;

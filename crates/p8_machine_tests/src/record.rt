@@ -8,7 +8,6 @@ use p8_pins::PinScript;
 use p8_region::{Region, words_of};
 use p8_words::NoMemory;
 use std::alloc::Global;
-use std::test::Fail;
 
 /// A boot whose first long is a write of a long to $0100.
 fn worked_boot(alloc: Global) -> Result<Boot, NoMemory>
@@ -33,53 +32,62 @@ fn crossed<T: Send>(value: T) -> T
     value
 }
 
-/// Cog 0 loads at its first window, then promises, says its first read, and says that nothing more comes. It asks for
-/// its turns, or they are made as they come.
-#[test]
-fn takes_what_the_least_front_allows(rt: HostRuntime) -> Result<(), Fail> {
-    let limits = Limits {
-        clocks: 10000,
-        turns: 3,
-    };
-    let log = Region::new(rt.alloc(), words_of::<Turn>(3))?.cut::<Turn>(3)?;
-    let start = Start {
-        boot: worked_boot(rt.alloc())?,
-        script: PinScript::empty(rt.alloc()),
-        limits,
-    };
-    let script = &start.script;
-    let mut ledger = crossed(Ledger::open(rt.alloc(), &start, log)?);
-    assert_eq!(rt; ledger.take(script, 1), Taken::After { cog: 0, bound: 16 });
+/// Cog 0 loads at its first window, and then promises: it asks for its turns, and the others are told of it.
+fn takes_the_load(ledger: &mut Ledger, script: &PinScript) -> bool {
     let load = turn(16, Access::Load, Answer::Done);
-    assert_eq!(rt;
-        ledger.take(script, 0),
-        Taken::Done {
-            turn: load,
-            running: false
-        }
-    );
-    assert_eq!(rt; (ledger.owes(0), ledger.owes(1)), (true, false));
-    assert_eq!(rt; ledger.take(script, 0), Taken::Ahead { bound: 17 });
-    assert_eq!(rt;
-        ledger.take_first(script),
-        First::Ahead { cog: 0, bound: 17 }
-    );
+    let running = false;
+    ledger.take(script, 1) == Taken::After { cog: 0, bound: 16 }
+        && ledger.take(script, 0)
+            == Taken::Done {
+                turn: load,
+                running,
+            }
+        && ledger.owes(0)
+        && !ledger.owes(1)
+        && ledger.take(script, 0) == Taken::Ahead { bound: 17 }
+        && ledger.take_first(script) == First::Ahead { cog: 0, bound: 17 }
+}
+
+/// It says its first read, which is made as it comes, and then that nothing more comes.
+fn takes_the_read(ledger: &mut Ledger, script: &PinScript) -> bool {
     let width = Width::Long;
     let access = Access::Read { width, address: 0 };
     ledger.say(0, Next::At { clock: 32, access });
     let read = turn(32, access, Answer::Value(0x083C_0604));
-    assert_eq!(rt;
-        ledger.take_first(script),
-        First::Done {
+    let running = true;
+    let is_made = ledger.take_first(script)
+        == First::Done {
             turn: read,
-            running: true
-        }
-    );
+            running,
+        };
     ledger.say(0, Next::Quiet);
-    assert_eq!(rt; ledger.take(script, 0), Taken::Over);
-    assert_eq!(rt; ledger.take_first(script), First::Over);
-    assert_eq!(rt; ledger.count(), 2);
+    is_made
+        && ledger.take(script, 0) == Taken::Over
+        && ledger.take_first(script) == First::Over
+        && ledger.count() == 2
+}
+
+/// Whether a ledger with room for three turns takes both, and ends with them; None where there is no memory.
+fn takes_both(alloc: Global) -> Option<bool> {
+    let limits = Limits {
+        clocks: 10000,
+        turns: 3,
+    };
+    let mut region = Region::new(alloc, words_of::<Turn>(3)).ok()?;
+    let log = region.cut::<Turn>(3).ok()?;
+    let start = Start {
+        boot: worked_boot(alloc).ok()?,
+        script: PinScript::empty(alloc),
+        limits,
+    };
+    let mut ledger = crossed(Ledger::open(alloc, &start, log).ok()?);
+    let is_taken = takes_the_load(&mut ledger, &start.script)
+        && takes_the_read(&mut ledger, &start.script);
     let ended = ledger.end(1);
-    assert_eq!(rt; (ended.history.turns.len(), ended.crew), (2, 1));
-    Ok(())
+    Some(is_taken && ended.history.turns.len() == 2 && ended.crew == 1)
+}
+
+#[test]
+fn takes_what_the_least_front_allows(rt: HostRuntime) {
+    assert!(rt; takes_both(rt.alloc()) == Some(true));
 }

@@ -1,7 +1,11 @@
 // Lives of a few bytecodes, worked by hand.
-use p8_access::{Access, Answer, Key, Life, Next, Origin, Ram, Reason, Turn, Width};
+ghost use Rattle.std.specs.Prelude.{◌≡◌};
+
+use crate::turns::{takes, writes};
+use p8_access::{Access, Life, Next, Origin, Ram, Reason};
 use p8_bcog::SpinCog;
-use std::test::Fail;
+use p8_words::NoMemory;
+use std::alloc::Global;
 
 /// The image of a program whose only method, at $0018, returns at once. Its frame is at $0024.
 const RETURNS: [u8; 28] = [
@@ -18,63 +22,31 @@ const METHOD: Origin = Origin::Spin {
     size: 0,
 };
 
-/// The next access of cog 0 comes at this clock and is this one; it is answered.
-macro_rules! has_turn {
-    ($rt:expr, $life:expr, $clock:literal, $answer:expr, $($access:tt)+) => {
-        let next = $life.run_to_access(1 << 40, 1000);
-        let Next::At { clock: $clock, access: $($access)+ } = next else {
-            panic!($rt; "{next:?}")
-        };
-        $life.take_answer(&Turn {
-            key: Key { clock: $clock, cog: 0 },
-            access: $($access)+,
-            answer: $answer,
-        });
-    };
+/// Whether the method writes 0 to its result, and then asks this access.
+fn writes_and_asks(life: &mut SpinCog, clock: u64, access: Access) -> bool
+    requires { ⟦<SpinCog as Life>⟧.cog life.old ≡ 0 }
+    ensures { ⟦<SpinCog as Life>⟧.cog life.new ≡ 0 }
+{
+    writes(life, 8224, 0x0024, 0) && takes(life, clock, access, 0)
 }
 
-/// The method writes 0 to its result, and stops its cog when it returns. With an addition in its place the cog,
-/// which has no operands, halts; this is a second life in the same memory.
-#[test]
-fn returns_and_lacks_operands(rt: HostRuntime) -> Result<(), Fail> {
-    let code = Ram::new(rt.alloc(), &RETURNS)?;
-    let mut life = SpinCog::start(rt.alloc(), code, METHOD, 0, 16)?;
-    has_turn!(
-        rt,
-        life,
-        8224,
-        Answer::Done,
-        Access::Write {
-            width: Width::Long,
-            address: 0x0024,
-            value: 0
-        }
-    );
-    has_turn!(rt, life, 8272, Answer::Done, Access::CogStop { cog: 0 });
-    assert_eq!(rt; life.run_to_access(1 << 40, 1000), Next::Quiet);
+/// Whether the method stops its cog when it returns. With an addition in its place the cog, which has no operands,
+/// halts; this is a second life in the same memory.
+fn stops_and_halts(alloc: Global) -> Result<bool, NoMemory> {
+    let code = Ram::new(alloc, &RETURNS)?;
+    let mut life = SpinCog::start(alloc, code, METHOD, 0, 16)?;
+    let stops = writes_and_asks(&mut life, 8272, Access::CogStop { cog: 0 })
+        && life.run_to_access(1 << 40, 1000) == Next::Quiet;
 
     let mut adds = RETURNS;
     adds[0x18] = 0xEC;
-    life.restart(Ram::new(rt.alloc(), &adds)?, METHOD, 0, 16);
-    has_turn!(
-        rt,
-        life,
-        8224,
-        Answer::Done,
-        Access::Write {
-            width: Width::Long,
-            address: 0x0024,
-            value: 0
-        }
-    );
-    has_turn!(
-        rt,
-        life,
-        8263,
-        Answer::Done,
-        Access::Halt {
-            reason: Reason::Under
-        }
-    );
-    Ok(())
+    life.restart(Ram::new(alloc, &adds)?, METHOD, 0, 16);
+    let reason = Reason::Under;
+    let halts = writes_and_asks(&mut life, 8263, Access::Halt { reason });
+    Ok(stops && halts)
+}
+
+#[test]
+fn returns_and_lacks_operands(rt: HostRuntime) {
+    assert!(rt; matches!(stops_and_halts(rt.alloc()), Ok(true)));
 }
