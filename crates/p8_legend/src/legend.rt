@@ -1,0 +1,75 @@
+// The legend of a program.
+ghost use Rattle.std.specs.Prelude.{◌≡◌, ◌++◌, [], OnOk};
+ghost use Rattle.p8_legend.specs.Legends.{address_text, offset_text, place_text};
+
+use crate::ranges::Ranges;
+use itoa::Buffer;
+use p8_disassembly::{push_text, word_digits};
+use p8_words::NoMemory;
+use std::alloc::Global;
+
+/// What is known of a program beside its image: the names of what stands in the hub, and the places of its code.
+///
+/// A program of which nothing is known, as an image or raw memory, has the empty legend.
+#[derive(Drop)]
+pub struct Legend {
+    /// The names of variables, of labels and of methods' codes.
+    pub names: Ranges,
+    /// For each bytecode the place of its statement: `FILE:LINE METHOD`.
+    pub places: Ranges,
+}
+
+impl Legend {
+    /// The legend of a program of which nothing is known. It takes no memory.
+    pub fn empty(alloc: Global) -> Legend
+        ensures names { result.names.ranges ≡ [] }
+        ensures places { result.places.ranges ≡ [] }
+    {
+        Legend {
+            names: Ranges::new(alloc),
+            places: Ranges::new(alloc),
+        }
+    }
+
+    /// Appends an address: the name of the range in which it lies, with `+` and how many bytes of it come before, where there are any; or
+    /// four hexadecimal digits. The only error is want of memory.
+    pub fn push_address(&self, out: &mut Vec<u8>, address: u16) -> Result<(), NoMemory>
+        ensures { OnOk result (out.new.items ≡ out.old.items ++ address_text self.now.names address) }
+    {
+        match self.names.find(address) {
+            None => push_text(out, &word_digits(u32::from(address))),
+            Some(found) => {
+                push_text(out, self.names.text(found.number))?;
+                push_offset(out, found.offset)
+            }
+        }
+    }
+
+    /// Appends a space and the place of the bytecode that stands at an address; nothing where none is known. The only error is want of
+    /// memory.
+    pub fn push_place(&self, out: &mut Vec<u8>, counter: Option<u16>) -> Result<(), NoMemory>
+        ensures { OnOk result (out.new.items ≡ out.old.items ++ place_text self.now.places counter) }
+    {
+        let Some(address) = counter else {
+            return Ok(());
+        };
+        match self.places.find(address) {
+            None => Ok(()),
+            Some(found) => {
+                push_text(out, b" ")?;
+                push_text(out, self.places.text(found.number))
+            }
+        }
+    }
+}
+
+/// Appends the bytes that come before an address in the range of a name.
+fn push_offset(out: &mut Vec<u8>, offset: u16) -> Result<(), NoMemory>
+    ensures { OnOk result (out.new.items ≡ out.old.items ++ offset_text offset) }
+{
+    if offset == 0 {
+        return Ok(());
+    }
+    push_text(out, b"+")?;
+    push_text(out, Buffer::new().format(offset).as_bytes())
+}
