@@ -1,0 +1,3 @@
+mod Eights
+mod Ranges
+mod Showing

@@ -1,0 +1,15 @@
+-- internal: what the code keeps of a past.
+use Rattle.std.specs.Prelude.{ℕ, ◌≡◌, List, map}
+use Rattle.p8_access.specs.declared.order.Turn.{Turn}
+use Rattle.p8_access.specs.Worlds.{World}
+use Rattle.p8_access.specs.Hub.{cogs, cog_state, origin_of}
+use Rattle.p8_access.specs.Pins.{outa_of, dira_of}
+use Rattle.p8_view.specs.declared.cogs.Cogs.{Cogs}
+use Rattle.p8_view.specs.View.{loading}
+
+-- of each cog what it was started with, how many reads of its load are left, and its registers OUTA and DIRA
+pub record AreCogs (w : World) (past : List Turn) (c : Cogs) : Type 0 where
+  pub origins : c.origins ≡ map (λ (n : ℕ). origin_of (cog_state w past n)) cogs
+  pub left : c.left ≡ map (λ (n : ℕ). loading past n) cogs
+  pub outa : c.outa ≡ map (λ (n : ℕ). outa_of past n) cogs
+  pub dira : c.dira ≡ map (λ (n : ℕ). dira_of past n) cogs

@@ -1,0 +1,6 @@
+-- What public contracts cite.
+pub mod Words
+pub mod Drives
+pub mod View
+-- How what the code keeps follows a history: internal.
+pub mod Following

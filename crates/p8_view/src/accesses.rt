@@ -1,0 +1,121 @@
+// What a cog does in a turn, in words.
+ghost use Rattle.std.specs.Prelude.{◌≡◌, ◌++◌, codes, OnOk};
+ghost use Rattle.p8_report.specs.Text.{code_of, number_text};
+ghost use Rattle.p8_view.specs.Words.{access_text, move_text, start_text, wait_text};
+ghost use Rattle.p8_legend.specs.Legends.{address_text};
+
+use crate::starts::{code_in, push_reason, push_start};
+use crate::words::{
+    push_decimal, push_lock, push_long, push_longs, push_number, push_value, value_in, width_name,
+};
+use p8_access::{Access, Answer, Origin, Test, Width};
+use p8_disassembly::{byte_digits, push_text};
+use p8_legend::Legend;
+use p8_words::NoMemory;
+
+/// Appends a read or a write: its word, its width, the address and the value.
+fn push_move(
+    out: &mut Vec<u8>,
+    legend: &Legend,
+    word: &[u8],
+    width: Width,
+    address: u16,
+    value: u32,
+) -> Result<(), NoMemory>
+    ensures { OnOk result (out.new.items ≡ out.old.items ++ move_text legend.now.names word.now width address value) }
+{
+    push_text(out, word)?;
+    push_text(out, width_name(width))?;
+    push_text(out, b" ")?;
+    legend.push_address(out, address)?;
+    push_text(out, b" = ")?;
+    push_value(out, width, value)
+}
+
+/// Appends a text and an address.
+fn push_named(out: &mut Vec<u8>, legend: &Legend, text: &[u8], address: u16) -> Result<(), NoMemory>
+    ensures { OnOk result (out.new.items ≡ out.old.items ++ (text.now ++ address_text legend.now.names address)) }
+{
+    push_text(out, text)?;
+    legend.push_address(out, address)
+}
+
+/// Appends that the longs of a cog's code are read.
+fn push_load(out: &mut Vec<u8>, legend: &Legend, own: &Origin) -> Result<(), NoMemory>
+    ensures { OnOk result (out.new.items ≡ out.old.items ++ (codes "load of " ++ address_text legend.now.names (code_of own.now) ++ codes ", 496 longs")) }
+{
+    push_named(out, legend, b"load of ", code_in(own))?;
+    push_text(out, b", 496 longs")
+}
+
+/// Appends what a wait waits for.
+fn push_wait(out: &mut Vec<u8>, test: Test) -> Result<(), NoMemory>
+    ensures { OnOk result (out.new.items ≡ out.old.items ++ wait_text test) }
+{
+    match test {
+        Test::Count { target } => push_decimal(out, b"waitcnt until ", u64::from(target)),
+        Test::PinsEqual { state, mask } => push_longs(out, b"waitpeq ", state, mask),
+        Test::PinsDiffer { state, mask } => push_longs(out, b"waitpne ", state, mask),
+    }
+}
+
+/// Appends a start of a cog.
+fn push_cog_init(
+    out: &mut Vec<u8>,
+    legend: &Legend,
+    origin: &Origin,
+    answer: Answer,
+) -> Result<(), NoMemory>
+    ensures { OnOk result (out.new.items ≡ out.old.items ++ (codes "coginit " ++ number_text answer ++ codes " " ++ start_text legend.now.names origin.now)) }
+{
+    push_number(out, b"coginit ", answer)?;
+    push_text(out, b" ")?;
+    push_start(out, legend, origin)
+}
+
+/// Appends an access with its answer. The cog that makes it was started with `own`.
+pub(crate) fn push_access(
+    out: &mut Vec<u8>,
+    legend: &Legend,
+    own: &Origin,
+    access: &Access,
+    answer: Answer,
+) -> Result<(), NoMemory>
+    ensures { OnOk result (out.new.items ≡ out.old.items ++ access_text legend.now.names own.now access.now answer) }
+{
+    match *access {
+        Access::Begin => {
+            push_text(out, b"begin of ")?;
+            push_start(out, legend, own)
+        }
+        Access::Load => push_load(out, legend, own),
+        Access::Read { width, address } => {
+            push_move(out, legend, b"read ", width, address, value_in(answer))
+        }
+        Access::Write {
+            width,
+            address,
+            value,
+        } => push_move(out, legend, b"write ", width, address, value),
+        Access::CogId => push_decimal(out, b"cogid ", u64::from(value_in(answer))),
+        Access::CogInit { origin, .. } => push_cog_init(out, legend, &origin, answer),
+        Access::CogStop { cog } => push_decimal(out, b"cogstop ", u64::from(cog)),
+        Access::LockNew => push_number(out, b"locknew ", answer),
+        Access::LockRet { lock } => push_decimal(out, b"lockret ", u64::from(lock)),
+        Access::LockSet { lock } => push_lock(out, b"lockset ", lock, answer),
+        Access::LockClr { lock } => push_lock(out, b"lockclr ", lock, answer),
+        Access::ClkSet { mode } => {
+            push_text(out, b"clkset ")?;
+            push_text(out, &byte_digits(u32::from(mode)))
+        }
+        Access::PinsIn => push_long(out, b"ina ", value_in(answer)),
+        Access::OutSet { value } => push_long(out, b"outa ", value),
+        Access::DirSet { value } => push_long(out, b"dira ", value),
+        Access::Wait { test } => push_wait(out, test),
+        Access::Clock => push_long(out, b"cnt ", value_in(answer)),
+        Access::Halt { reason } => {
+            push_text(out, b"halt ")?;
+            push_reason(out, reason)
+        }
+    }
+}
