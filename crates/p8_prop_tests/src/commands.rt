@@ -56,7 +56,7 @@ const MAP: &[u8] =
     b"0000 header clkfreq 00B71B00\n0004 header clkmode 00\n0005 header checksum 6A\n0006 header pbase 0010\n\
     0008 header vbase 001C\n000A header dbase 0024\n000C header pcurr 0018\n000E header dcurr 0028\n\
     0010 object main.spin\n0018 method 1 MAIN\n+0000 result RESULT 1\n\
-    001C instance * main.spin 0010\n0024 stack\n0028 free 32728\n";
+    0024 stack\n0028 free 32728\n";
 
 /// The page of `make`.
 const PAGE: &[u8] =
