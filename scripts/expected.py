@@ -9,6 +9,36 @@ import struct
 SCRIPT_BYTES, SCRIPT_LINES, HUB_BYTES = 1_048_576, 100_000, 32_768
 
 
+# Explanations
+
+
+def shown_line(content, number):
+    """What a terminal shows of a line of a source: its characters, in Latin-1 or as UTF-16 says, with tabs as spaces."""
+    if content.startswith(b"\xff\xfe"):
+        body = content[2:]
+        units = [one for (one,) in struct.iter_unpack("<H", body[: len(body) // 2 * 2])]
+        characters = units + ([body[-1]] if len(body) % 2 else [])
+    else:
+        characters = list(content)
+    line, shown, before = 1, "", None
+    for one in characters:
+        if before == 13 and one != 10 or before == 10:
+            line += 1
+            if line > number:
+                break
+        before = one
+        if line != number or one in (10, 13):
+            continue
+        shown += " " * (8 - len(shown) % 8) if one == 9 else chr(one) if 32 <= one <= 126 else "?"
+    return shown if line >= number else ""
+
+
+def marked(content, line, column):
+    """The line of a source that an explanation shows, at most 100 columns of it, and the line with the mark."""
+    left = 0 if column <= 80 else column - 50
+    return f"{shown_line(content, line)[left : left + 100]}\n{' ' * (column - 1 - left)}^\n".encode()
+
+
 # Pin scripts
 
 
