@@ -4,7 +4,6 @@ use p8_io::{FailList, MemShelf, MemSink};
 use p8_prop::{Status, prop, prop_alone};
 use p8_words::NoMemory;
 use std::alloc::Global;
-use std::test::Fail;
 
 /// The image of `PUB main`.
 const IMAGE: &[u8] =
@@ -38,7 +37,7 @@ const LISTING: &[u8] = b"object main.spin 0010\nmethod 1 0018\n0018 32\n";
 const MADE: &[u8] = b"made 1\nturns 36299\nlast 99998 7\nwords 319AD0F5\n";
 
 /// The explanation of a method that assigns a reserved word, after a tab.
-const EXPLANATION: &[u8] = b"next.spin:2:14: 6 Unexpected\n\
+const EXPLANATION: &str = "next.spin:2:14: 6 Unexpected\n\
     \x20       a := next\n\
     \x20            ^\n\
     `next` is a reserved word, and can't be a name.\n\
@@ -68,15 +67,22 @@ const PAGE: &[u8] =
 const USAGE: &str =
     "prop: usage: prop build|list FILE, prop raw|run FILE CLOCKS [--pins F] [--turns K] [--dump A:N] [--alone]\n";
 
-/// The numbers of the read and of the write that fail, 0 for none.
-#[derive(Clone, Copy)]
-struct Failing {
-    read: u64,
-    write: u64,
-}
-
-/// Nothing fails.
-const NOTHING: Failing = Failing { read: 0, write: 0 };
+/// The files of the shelf: an image, an empty file, a bad pin script, two good sources, two bad ones and one that mentions a bad
+/// one, a message and the script that sends it, and two history files.
+static FILES: [(&str, &[u8]); 12] = [
+    ("a.binary", IMAGE),
+    ("empty.binary", b""),
+    ("a.pins", b"9000 1"),
+    ("main.spin", b"PUB main\n"),
+    ("bad.spin", b"CON\n  a = 1\n"),
+    ("loop.spin", b"PUB main\n  repeat\n"),
+    ("next.spin", b"PUB main\n\ta := next\n"),
+    ("outer.spin", b"OBJ\n  n : \"next\"\nPUB main\n"),
+    ("a.txt", b"A"),
+    ("sent.pins", SENT),
+    ("a.history", HISTORY),
+    ("b.history", OTHER_HISTORY),
+];
 
 /// What a call left.
 #[derive(Drop)]
@@ -86,6 +92,18 @@ struct Left {
     faults: MemSink,
 }
 
+/// The words of a line, as a command line has them.
+fn words_in(alloc: Global, line: &str) -> Result<Vec<String>, NoMemory> {
+    let mut words = Vec::new(alloc);
+    for word in line.split_whitespace() {
+        match words.push(String::from_str(alloc, word)?) {
+            Ok(()) => {}
+            Err(_) => return Err(NoMemory),
+        }
+    }
+    Ok(words)
+}
+
 /// The list of one call that is to fail, or of none for 0.
 fn failing_at(alloc: Global, call: u64) -> Result<FailList, NoMemory> {
     let mut fails = FailList::new(alloc);
@@ -93,38 +111,26 @@ fn failing_at(alloc: Global, call: u64) -> Result<FailList, NoMemory> {
     Ok(fails)
 }
 
-/// The words as a command line has them.
-fn words_of(alloc: Global, words: &[&str]) -> Result<Vec<String>, NoMemory> {
-    let mut line = Vec::new(alloc);
-    for word in words {
-        match line.push(String::from_str(alloc, word)?) {
-            Ok(()) => {}
-            Err(_) => return Err(NoMemory),
-        }
+/// The shelf of those files, of which the read of this number fails.
+fn shelf_failing_at(alloc: Global, read: u64) -> Result<MemShelf, NoMemory> {
+    let mut shelf = MemShelf::new(alloc);
+    for (name, bytes) in &FILES {
+        shelf.add(name, bytes)?;
     }
-    Ok(line)
+    Ok(shelf.with(failing_at(alloc, read)?))
 }
 
-/// Makes a call of these words, where the shelf has an image, an empty file, a bad pin script, two good sources, two bad ones and one that mentions
-/// a bad one, two history files, a message and the script that sends it.
-fn left_by(alloc: Global, words: &[&str], failing: Failing) -> Result<Left, NoMemory> {
-    let mut shelf = MemShelf::new(alloc);
-    shelf.add("a.binary", IMAGE)?;
-    shelf.add("empty.binary", b"")?;
-    shelf.add("a.pins", b"9000 1")?;
-    shelf.add("main.spin", b"PUB main\n")?;
-    shelf.add("bad.spin", b"CON\n  a = 1\n")?;
-    shelf.add("loop.spin", b"PUB main\n  repeat\n")?;
-    shelf.add("next.spin", b"PUB main\n\ta := next\n")?;
-    shelf.add("outer.spin", b"OBJ\n  n : \"next\"\nPUB main\n")?;
-    shelf.add("a.txt", b"A")?;
-    shelf.add("sent.pins", SENT)?;
-    shelf.add("a.history", HISTORY)?;
-    shelf.add("b.history", OTHER_HISTORY)?;
-    let mut shelf = shelf.with(failing_at(alloc, failing.read)?);
-    let mut out = MemSink::new(alloc, 4096)?.with(failing_at(alloc, failing.write)?);
+/// A sink of which the write of this number fails.
+fn sink_failing_at(alloc: Global, write: u64) -> Result<MemSink, NoMemory> {
+    Ok(MemSink::new(alloc, 4096)?.with(failing_at(alloc, write)?))
+}
+
+/// Makes a call of a line's words, in which the read and the write of these numbers fail; for 0 none does.
+fn left_by(alloc: Global, line: &str, read: u64, write: u64) -> Result<Left, NoMemory> {
+    let words = words_in(alloc, line)?;
+    let mut shelf = shelf_failing_at(alloc, read)?;
+    let mut out = sink_failing_at(alloc, write)?;
     let mut faults = MemSink::new(alloc, 4096)?;
-    let words = words_of(alloc, words)?;
     let status = prop_alone(alloc, &words, &mut shelf, &mut out, &mut faults);
     Ok(Left {
         status,
@@ -133,274 +139,216 @@ fn left_by(alloc: Global, words: &[&str], failing: Failing) -> Result<Left, NoMe
     })
 }
 
-/// Whether a call has this status and this line, and no text.
-fn refused(
-    alloc: Global,
-    words: &[&str],
-    failing: Failing,
-    status: Status,
-    line: &str,
-) -> Result<bool, NoMemory> {
-    let left = left_by(alloc, words, failing)?;
-    let is_told = left.faults.bytes() == line.as_bytes();
+/// Whether a line's words are carried out and leave this text, and no line of a fault.
+fn leaves(alloc: Global, line: &str, text: &[u8]) -> Result<bool, NoMemory> {
+    let left = left_by(alloc, line, 0, 0)?;
+    let is_done = left.status == Status::Ok && left.faults.bytes().is_empty();
+    Ok(is_done && left.out.bytes() == text)
+}
+
+/// A call that is refused: its words, the numbers of the read and of the write that fail, its status, and the line that tells it.
+type Refusal = (&'static str, u64, u64, Status, &'static str);
+
+/// Whether a call has its status and its line, and leaves no text.
+fn is_refused(alloc: Global, refusal: &Refusal) -> Result<bool, NoMemory> {
+    let (line, read, write, status, fault) = *refusal;
+    let left = left_by(alloc, line, read, write)?;
+    let is_told = left.faults.bytes() == fault.as_bytes();
     Ok(left.status == status && left.out.bytes().is_empty() && is_told)
 }
 
-// An option stands before FILE, and another one between FILE and CLOCKS.
-#[test]
-fn runs_an_image(rt: HostRuntime) -> Result<(), Fail> {
-    let words = ["run", "--alone", "a.binary", "--dump=0000:2", "20000"];
-    let left = left_by(rt.alloc(), &words, NOTHING)?;
-    assert_eq!(rt; left.status, Status::Ok);
-    assert!(rt; left.out.bytes() == TEXT);
-    assert!(rt; left.faults.bytes().is_empty());
-    Ok(())
-}
+/// Calls and what they write. An option stands before FILE, and another one between FILE and CLOCKS.
+static ANSWERS: [(&str, &[u8]); 16] = [
+    ("run --alone a.binary --dump=0000:2 20000", TEXT),
+    ("build main.spin", IMAGE),
+    ("list main.spin", LISTING),
+    ("run main.spin 20000 --alone --dump 0000:2", TEXT),
+    ("save a.binary 17 --raw", HISTORY),
+    ("check a.binary a.history --raw", b"good 1\n"),
+    ("type a.txt 0 100 1000", SENT),
+    (
+        "serial a.binary 1951 0 100 --raw --pins=sent.pins",
+        b"1000 41\nbytes 1\n",
+    ),
+    (
+        "serial a.binary 1950 0 100 --raw --pins=sent.pins",
+        b"bytes 0\n",
+    ),
+    (
+        "plot a.binary 2000 0 995:1005 --raw --ascii --alone --pins=sent.pins",
+        b"P0  -----_____\n    |\n    995\n",
+    ),
+    ("list loop.spin --short", SHORT_LISTING),
+    ("make --alone 01", MADE),
+    ("help make", PAGE),
+    ("explain main.spin", b"main.spin: nothing is refused\n"),
+    ("explain 26", ENTRY),
+    ("map main.spin", MAP),
+];
 
 #[test]
-fn builds_lists_and_runs_a_source(rt: HostRuntime) -> Result<(), Fail> {
-    let rows: [(&[&str], &[u8]); 3] = [
-        (&["build", "main.spin"], IMAGE),
-        (&["list", "main.spin"], LISTING),
-        (
-            &["run", "main.spin", "20000", "--alone", "--dump", "0000:2"],
-            TEXT,
-        ),
-    ];
-    for (words, text) in rows {
-        let left = left_by(rt.alloc(), words, NOTHING)?;
-        assert!(rt; left.out.bytes() == text);
+fn carries_commands_out(rt: HostRuntime) {
+    for (line, text) in &ANSWERS {
+        assert!(rt;
+            matches!(leaves(rt.alloc(), line, text), Ok(true)),
+            "{line}"
+        );
     }
-    let words = ["build", "bad.spin"];
-    let line = "prop: bad.spin:1:1: 18 NoPub\n";
-    assert!(rt; refused(rt.alloc(), &words, NOTHING, Status::Refused, line)?);
-    Ok(())
 }
 
-// The refused file stands below the top file, and is the one that is read once more. Where that read fails the refusal's line is told.
-#[test]
-fn explains_a_refusal(rt: HostRuntime) -> Result<(), Fail> {
-    let left = left_by(rt.alloc(), &["explain", "outer.spin"], NOTHING)?;
-    assert_eq!(rt; left.status, Status::Refused);
-    assert!(rt; left.faults.bytes() == EXPLANATION);
-    assert!(rt; left.out.bytes().is_empty());
-    let failing = Failing { read: 3, write: 0 };
-    let words = ["explain", "outer.spin"];
-    let line = "prop: next.spin:2:14: 6 Unexpected\n";
-    assert!(rt; refused(rt.alloc(), &words, failing, Status::Refused, line)?);
-    let words = ["explain", "none.spin"];
-    let line = "prop: none.spin is missing\n";
-    assert!(rt; refused(rt.alloc(), &words, NOTHING, Status::Missing, line)?);
-    Ok(())
-}
+/// Calls whose files or whose text are at fault. The refused file that is explained stands below the top file, and is the one
+/// that is read once more: where that read fails the refusal's line is told.
+static FAULTS: [Refusal; 12] = [
+    (
+        "build bad.spin",
+        0,
+        0,
+        Status::Refused,
+        "prop: bad.spin:1:1: 18 NoPub\n",
+    ),
+    (
+        "check a.binary b.history --raw",
+        0,
+        0,
+        Status::BadHistory,
+        "prop: b.history: turn 1 key\n",
+    ),
+    (
+        "check a.binary c.history --pins a.pins",
+        0,
+        0,
+        Status::BadScript,
+        "prop: a.pins: line 1\n",
+    ),
+    (
+        "raw a.binary 1",
+        1,
+        0,
+        Status::ShelfFault,
+        "prop: cannot read a.binary\n",
+    ),
+    (
+        "raw a.binary 1",
+        0,
+        1,
+        Status::SinkFault,
+        "prop: cannot write\n",
+    ),
+    (
+        "raw b.bin 1",
+        0,
+        0,
+        Status::Missing,
+        "prop: b.bin is missing\n",
+    ),
+    (
+        "run empty.binary 1 --alone",
+        0,
+        0,
+        Status::BadImage,
+        "prop: empty.binary: length 0\n",
+    ),
+    (
+        "raw a.binary 1 --pins a.pins",
+        0,
+        0,
+        Status::BadScript,
+        "prop: a.pins: line 1\n",
+    ),
+    ("explain outer.spin", 0, 0, Status::Refused, EXPLANATION),
+    (
+        "explain outer.spin",
+        3,
+        0,
+        Status::Refused,
+        "prop: next.spin:2:14: 6 Unexpected\n",
+    ),
+    (
+        "explain none.spin",
+        0,
+        0,
+        Status::Missing,
+        "prop: none.spin is missing\n",
+    ),
+    (
+        "map next.spin",
+        0,
+        0,
+        Status::Refused,
+        "prop: next.spin:2:14: 6 Unexpected\n",
+    ),
+];
 
 #[test]
-fn writes_what_explains_and_maps(rt: HostRuntime) -> Result<(), Fail> {
-    let rows: [(&[&str], &[u8]); 3] = [
-        (
-            &["explain", "main.spin"],
-            b"main.spin: nothing is refused\n",
-        ),
-        (&["explain", "26"], ENTRY),
-        (&["map", "main.spin"], MAP),
-    ];
-    for (words, text) in rows {
-        let left = left_by(rt.alloc(), words, NOTHING)?;
-        assert_eq!(rt; left.status, Status::Ok);
-        assert!(rt; left.out.bytes() == text);
-        assert!(rt; left.faults.bytes().is_empty());
+fn tells_faults(rt: HostRuntime) {
+    for refusal in &FAULTS {
+        assert!(rt;
+            matches!(is_refused(rt.alloc(), refusal), Ok(true)),
+            "{}",
+            refusal.0
+        );
     }
-    let words = ["map", "next.spin"];
-    let line = "prop: next.spin:2:14: 6 Unexpected\n";
-    assert!(rt; refused(rt.alloc(), &words, NOTHING, Status::Refused, line)?);
-    Ok(())
 }
 
-#[test]
-fn saves_a_history(rt: HostRuntime) -> Result<(), Fail> {
-    let left = left_by(rt.alloc(), &["save", "a.binary", "17", "--raw"], NOTHING)?;
-    assert_eq!(rt; left.status, Status::Ok);
-    assert!(rt; left.out.bytes() == HISTORY);
-    let words = ["save", "a.binary", "17", "--turns", "40001"];
-    assert!(rt; refused(rt.alloc(), &words, NOTHING, Status::Usage, USAGE)?);
-    Ok(())
-}
+/// Too many turns, pin 32, an option given twice, a call for help as an option, help on another word, a run by a crew, which is no
+/// command for one thread, too great a seed and none, no words, too many clocks, short code of an image, pins and clocks that there
+/// aren't, numbers of digits alone that are none of a refusal, and words that these commands don't have.
+static NO_COMMANDS: [&str; 22] = [
+    "save a.binary 17 --turns 40001",
+    "serial a.binary 1951 32 100",
+    "raw a.binary 1 --turns 2 --turns=2",
+    "--help",
+    "run --help",
+    "help halt",
+    "run a.binary 1",
+    "make 1",
+    "make 4294967296 --alone",
+    "make --alone",
+    "",
+    "raw a.binary 100000001",
+    "run none.binary 1 --short --alone",
+    "plot a.binary 8 0,3-1 --alone",
+    "plot a.binary 8 32 --alone",
+    "plot a.binary 8 0 5:9 --alone",
+    "explain",
+    "explain 0",
+    "explain 31",
+    "explain 026",
+    "explain main.spin --short",
+    "map main.spin 20000",
+];
 
 #[test]
-fn checks_a_history(rt: HostRuntime) -> Result<(), Fail> {
-    let words = ["check", "a.binary", "a.history", "--raw"];
-    let left = left_by(rt.alloc(), &words, NOTHING)?;
-    assert_eq!(rt; left.status, Status::Ok);
-    assert!(rt; left.out.bytes() == b"good 1\n".as_slice());
-    let words = ["check", "a.binary", "b.history", "--raw"];
-    let line = "prop: b.history: turn 1 key\n";
-    assert!(rt; refused(rt.alloc(), &words, NOTHING, Status::BadHistory, line)?);
-    let words = ["check", "a.binary", "c.history", "--pins", "a.pins"];
-    let line = "prop: a.pins: line 1\n";
-    assert!(rt; refused(rt.alloc(), &words, NOTHING, Status::BadScript, line)?);
-    Ok(())
-}
-
-#[test]
-fn sends_bytes_and_reads_them(rt: HostRuntime) -> Result<(), Fail> {
-    let left = left_by(rt.alloc(), &["type", "a.txt", "0", "100", "1000"], NOTHING)?;
-    assert_eq!(rt; left.status, Status::Ok);
-    assert!(rt; left.out.bytes() == SENT);
-    let rows: [(&str, &[u8]); 2] = [("1951", b"1000 41\nbytes 1\n"), ("1950", b"bytes 0\n")];
-    for (clocks, text) in rows {
-        let words = [
-            "serial",
-            "a.binary",
-            clocks,
-            "0",
-            "100",
-            "--raw",
-            "--pins=sent.pins",
-        ];
-        let left = left_by(rt.alloc(), &words, NOTHING)?;
-        assert!(rt; left.out.bytes() == text);
+fn refuses_other_words(rt: HostRuntime) {
+    for line in &NO_COMMANDS {
+        let refusal = (*line, 0, 0, Status::Usage, USAGE);
+        assert!(rt;
+            matches!(is_refused(rt.alloc(), &refusal), Ok(true)),
+            "{line}"
+        );
     }
-    let words = ["serial", "a.binary", "1951", "32", "100"];
-    assert!(rt; refused(rt.alloc(), &words, NOTHING, Status::Usage, USAGE)?);
-    Ok(())
+}
+
+/// Whether a run's wave begins as such a file does.
+fn shows_a_wave(alloc: Global) -> Result<bool, NoMemory> {
+    let left = left_by(alloc, "wave a.binary 20000 --alone", 0, 0)?;
+    let begin = b"$version Propeller P8X32A $end\n";
+    Ok(left.status == Status::Ok && left.out.bytes().starts_with(begin))
 }
 
 #[test]
-fn shows_a_wave(rt: HostRuntime) -> Result<(), Fail> {
-    let words = ["wave", "a.binary", "20000", "--alone"];
-    let left = left_by(rt.alloc(), &words, NOTHING)?;
-    assert_eq!(rt; left.status, Status::Ok);
-    assert!(rt;
-        left.out
-            .bytes()
-            .starts_with(b"$version Propeller P8X32A $end\n")
-    );
-    Ok(())
+fn waves_have_a_version(rt: HostRuntime) {
+    assert!(rt; matches!(shows_a_wave(rt.alloc()), Ok(true)));
 }
 
 #[test]
-fn draws_a_pin(rt: HostRuntime) -> Result<(), Fail> {
-    let words = [
-        "plot",
-        "a.binary",
-        "2000",
-        "0",
-        "995:1005",
-        "--raw",
-        "--ascii",
-        "--alone",
-        "--pins=sent.pins",
-    ];
-    let left = left_by(rt.alloc(), &words, NOTHING)?;
-    assert_eq!(rt; left.status, Status::Ok);
-    assert!(rt; left.out.bytes() == b"P0  -----_____\n    |\n    995\n".as_slice());
-    Ok(())
-}
-
-#[test]
-fn lists_short_code(rt: HostRuntime) -> Result<(), Fail> {
-    let left = left_by(rt.alloc(), &["list", "loop.spin", "--short"], NOTHING)?;
-    assert_eq!(rt; left.status, Status::Ok);
-    assert!(rt; left.out.bytes() == SHORT_LISTING);
-    Ok(())
-}
-
-#[test]
-fn tells_an_unread_file(rt: HostRuntime) -> Result<(), Fail> {
-    let failing = Failing { read: 1, write: 0 };
-    let words = ["raw", "a.binary", "1"];
-    let line = "prop: cannot read a.binary\n";
-    assert!(rt; refused(rt.alloc(), &words, failing, Status::ShelfFault, line)?);
-    Ok(())
-}
-
-#[test]
-fn tells_an_unwritten_text(rt: HostRuntime) -> Result<(), Fail> {
-    let failing = Failing { read: 0, write: 1 };
-    let words = ["raw", "a.binary", "1"];
-    let line = "prop: cannot write\n";
-    assert!(rt; refused(rt.alloc(), &words, failing, Status::SinkFault, line)?);
-    Ok(())
-}
-
-#[test]
-fn tells_what_cannot_be_run(rt: HostRuntime) -> Result<(), Fail> {
-    let words = ["raw", "b.bin", "1"];
-    let line = "prop: b.bin is missing\n";
-    assert!(rt; refused(rt.alloc(), &words, NOTHING, Status::Missing, line)?);
-    let words = ["run", "empty.binary", "1", "--alone"];
-    let line = "prop: empty.binary: length 0\n";
-    assert!(rt; refused(rt.alloc(), &words, NOTHING, Status::BadImage, line)?);
-    let words = ["raw", "a.binary", "1", "--pins", "a.pins"];
-    let line = "prop: a.pins: line 1\n";
-    assert!(rt; refused(rt.alloc(), &words, NOTHING, Status::BadScript, line)?);
-    Ok(())
-}
-
-#[test]
-fn refuses_an_option_given_twice(rt: HostRuntime) -> Result<(), Fail> {
-    let words = ["raw", "a.binary", "1", "--turns", "2", "--turns=2"];
-    assert!(rt; refused(rt.alloc(), &words, NOTHING, Status::Usage, USAGE)?);
-    Ok(())
-}
-
-#[test]
-fn makes_a_program(rt: HostRuntime) -> Result<(), Fail> {
-    let words = ["make", "--alone", "01"];
-    let left = left_by(rt.alloc(), &words, NOTHING)?;
-    assert_eq!(rt; left.status, Status::Ok);
-    assert!(rt; left.out.bytes() == MADE);
-    Ok(())
-}
-
-#[test]
-fn tells_a_command(rt: HostRuntime) -> Result<(), Fail> {
-    let left = left_by(rt.alloc(), &["help", "make"], NOTHING)?;
-    assert_eq!(rt; left.status, Status::Ok);
-    assert!(rt; left.out.bytes() == PAGE);
-    Ok(())
-}
-
-// No words, too many clocks, too great a seed, a call for help as an option, help on another word, short code of an image, pins and clocks
-// that there aren't, numbers of digits alone that are none of a refusal. A run by a crew is no command for one thread.
-#[test]
-fn refuses_other_words(rt: HostRuntime) -> Result<(), Fail> {
-    let rows: [&[&str]; 19] = [
-        &["--help"],
-        &["run", "--help"],
-        &["help", "halt"],
-        &["run", "a.binary", "1"],
-        &["make", "1"],
-        &["make", "4294967296", "--alone"],
-        &["make", "--alone"],
-        &[],
-        &["raw", "a.binary", "100000001"],
-        &["run", "none.binary", "1", "--short", "--alone"],
-        &["plot", "a.binary", "8", "0,3-1", "--alone"],
-        &["plot", "a.binary", "8", "32", "--alone"],
-        &["plot", "a.binary", "8", "0", "5:9", "--alone"],
-        &["explain"],
-        &["explain", "0"],
-        &["explain", "31"],
-        &["explain", "026"],
-        &["explain", "main.spin", "--short"],
-        &["map", "main.spin", "20000"],
-    ];
-    for words in rows {
-        assert!(rt; refused(rt.alloc(), words, NOTHING, Status::Usage, USAGE)?);
-    }
-    Ok(())
-}
-
-#[test]
-fn runs_by_a_crew(rt: HostRuntime) -> Result<(), Fail> {
+fn runs_by_a_crew(rt: HostRuntime) -> Result<(), NoMemory> {
     let alloc = rt.alloc();
-    let mut shelf = MemShelf::new(alloc);
-    shelf.add("main.spin", b"PUB main\n")?;
+    let words = words_in(alloc, "run main.spin 20000 --dump=0000:2")?;
+    let mut shelf = shelf_failing_at(alloc, 0)?;
     let mut out = MemSink::new(alloc, 4096)?;
     let mut faults = MemSink::new(alloc, 4096)?;
     let mut starter = ThreadStarter::new();
-    let words = words_of(alloc, &["run", "main.spin", "20000", "--dump=0000:2"])?;
     let status = prop(
         &rt,
         alloc,
@@ -410,7 +358,6 @@ fn runs_by_a_crew(rt: HostRuntime) -> Result<(), Fail> {
         &mut faults,
         &mut starter,
     );
-    assert_eq!(rt; status, Status::Ok);
-    assert!(rt; out.bytes() == TEXT);
+    assert!(rt; status == Status::Ok && out.bytes() == TEXT);
     Ok(())
 }
