@@ -86,111 +86,162 @@ fn write_answer(
     }
 }
 
-// What a name of a source is, or why the source is refused.
-fn answer(
-    alloc: Global,
-    source: &str,
-    objects: usize,
-    top: bool,
-    asked: (u32, &str),
-) -> Result<String, AllocError> {
+// A source, how many items of `OBJ` it has, whether it is the top file, the name that is asked for in a method or at 0 in the
+// whole file, and what it is, or why the source is refused.
+type Case = (&'static str, usize, bool, u32, &'static str, &'static str);
+
+// Whether what a name of a source is, or why the source is refused, is what a case says.
+fn is_answered(alloc: Global, case: &Case) -> Result<bool, AllocError> {
+    let (source, objects, top, method, name, verdict) = *case;
     let mut out = String::new(alloc);
     let children = kids(alloc, objects)?;
     let Some(file) = tree_of(alloc, source.as_bytes()) else {
-        return Ok(out);
+        return Ok(false);
     };
-    let written = write_answer(&mut out, alloc, &file, &children, top, asked);
+    let written = write_answer(&mut out, alloc, &file, &children, top, (method, name));
     drop(file);
     written?;
-    Ok(out)
+    Ok(out.as_str() == verdict)
 }
 
 // Each by itself: the first fault, by place and then by number.
+static REFUSALS: [Case; 13] = [
+    ("CON\n  a = b\n  b = a", 0, false, 0, "A", "12 2:7"),
+    // What uses itself counts as 0 where it is used.
+    ("CON\n  a = 1 / q\n  q = q", 0, false, 0, "A", "13 2:9"),
+    ("CON\n  a = 1 / 0", 0, false, 0, "A", "13 2:9"),
+    ("CON\n  a = 1", 0, true, 0, "A", "18 1:1"),
+    ("CON\n  x = main\nPUB main", 0, true, 0, "A", "12 2:7"),
+    (
+        "CON\n  a = 1\nVAR\n  long a\nPUB main",
+        0,
+        true,
+        0,
+        "A",
+        "14 4:8",
+    ),
+    ("PUB main\n  x := 1", 0, true, 0, "A", "15 2:3"),
+    ("PUB main : true", 0, true, 0, "A", "14 1:12"),
+    ("PUB main\nDAT\n:a\n:a", 0, true, 0, "A", "14 4:1"),
+    (
+        "VAR\n  long v\nPUB main\n  return v#c",
+        0,
+        true,
+        0,
+        "A",
+        "16 4:10",
+    ),
+    ("PUB main\n  f(1)", 0, true, 0, "A", "15 2:3"),
+    ("PUB main(a)\nPUB g\n  main", 0, true, 0, "A", "17 3:3"),
+    ("PUB main\nDAT\n  jmp #:x\n:y", 0, true, 0, "A", "15 3:8"),
+];
+
 #[test]
-fn refuses_sources(rt: HostRuntime) -> Result<(), AllocError> {
-    let table = [
-        ("CON\n  a = b\n  b = a", false, "12 2:7"),
-        // What uses itself counts as 0 where it is used.
-        ("CON\n  a = 1 / q\n  q = q", false, "13 2:9"),
-        ("CON\n  a = 1 / 0", false, "13 2:9"),
-        ("CON\n  a = 1", true, "18 1:1"),
-        ("CON\n  x = main\nPUB main", true, "12 2:7"),
-        ("CON\n  a = 1\nVAR\n  long a\nPUB main", true, "14 4:8"),
-        ("PUB main\n  x := 1", true, "15 2:3"),
-        ("PUB main : true", true, "14 1:12"),
-        ("PUB main\nDAT\n:a\n:a", true, "14 4:1"),
-        ("VAR\n  long v\nPUB main\n  return v#c", true, "16 4:10"),
-        ("PUB main\n  f(1)", true, "15 2:3"),
-        ("PUB main(a)\nPUB g\n  main", true, "17 3:3"),
-        ("PUB main\nDAT\n  jmp #:x\n:y", true, "15 3:8"),
-    ];
-    for (source, top, verdict) in table {
-        let answer = answer(rt.alloc(), source, 0, top, (0, "A"))?;
-        assert_eq!(rt; answer.as_str(), verdict);
+fn refuses_sources(rt: HostRuntime) {
+    for case in &REFUSALS {
+        assert!(rt;
+            matches!(is_answered(rt.alloc(), case), Ok(true)),
+            "{}",
+            case.0
+        );
     }
-    Ok(())
 }
 
 // A `PRI` of an object's file and the constants of the language have no definition after its name.
+static OBJECTS: [Case; 5] = [
+    (
+        "OBJ\n  kid : \"kid\"\nPUB main\n  kid.hidden",
+        1,
+        true,
+        0,
+        "A",
+        "15 4:7",
+    ),
+    (
+        "OBJ\n  kid : \"kid\"\nPUB main\n  return kid#true",
+        1,
+        true,
+        0,
+        "A",
+        "15 4:14",
+    ),
+    (
+        "OBJ\n  kid[0] : \"kid\"\nPUB main",
+        1,
+        true,
+        0,
+        "A",
+        "20 2:3",
+    ),
+    (
+        "OBJ\n  kid : \"kid\"\nPUB main\n  kid.set",
+        1,
+        true,
+        0,
+        "A",
+        "17 4:7",
+    ),
+    (
+        "CON\n  a = kid#limit + 2\nOBJ\n  kid : \"kid\"\nPUB main\n  kid.set(a)",
+        1,
+        true,
+        0,
+        "A",
+        "Const(42)",
+    ),
+];
+
 #[test]
-fn knows_objects(rt: HostRuntime) -> Result<(), AllocError> {
-    let table = [
-        ("OBJ\n  kid : \"kid\"\nPUB main\n  kid.hidden", "15 4:7"),
-        (
-            "OBJ\n  kid : \"kid\"\nPUB main\n  return kid#true",
-            "15 4:14",
-        ),
-        ("OBJ\n  kid[0] : \"kid\"\nPUB main", "20 2:3"),
-        ("OBJ\n  kid : \"kid\"\nPUB main\n  kid.set", "17 4:7"),
-        (
-            "CON\n  a = kid#limit + 2\nOBJ\n  kid : \"kid\"\nPUB main\n  kid.set(a)",
-            "Const(42)",
-        ),
-    ];
-    for (source, verdict) in table {
-        let answer = answer(rt.alloc(), source, 1, true, (0, "A"))?;
-        assert_eq!(rt; answer.as_str(), verdict);
+fn knows_objects(rt: HostRuntime) {
+    for case in &OBJECTS {
+        assert!(rt;
+            matches!(is_answered(rt.alloc(), case), Ok(true)),
+            "{}",
+            case.0
+        );
     }
-    Ok(())
 }
 
 // A constant may stand before its line, and a counter begins at 0.
-#[test]
-fn finds_constants(rt: HostRuntime) -> Result<(), AllocError> {
-    let source =
-        "CON\n  a = width * h\n  width = 6\n  h = 7\n  c\n  d\n  s = ($FFFFFFFF + 2) >> 1\nPUB main";
-    let table = [
-        ("A", "Const(42)"),
-        ("C", "Const(0)"),
-        ("D", "Const(1)"),
-        ("S", "Const(0)"),
-    ];
-    for (name, kind) in table {
-        let answer = answer(rt.alloc(), source, 0, true, (0, name))?;
-        assert_eq!(rt; answer.as_str(), kind);
-    }
-    Ok(())
-}
+const CONSTANTS: &str =
+    "CON\n  a = width * h\n  width = 6\n  h = 7\n  c\n  d\n  s = ($FFFFFFFF + 2) >> 1\nPUB main";
 
 // Longs stand before bytes; a frame has its result, its parameters and its locals.
+const KINDS: &str =
+    "VAR\n  byte b\n  long l\nPRI hidden\nPUB main(p) : r | x, y[2], z\nDAT\nw word 1";
+
+static NAMES: [Case; 14] = [
+    (CONSTANTS, 0, true, 0, "A", "Const(42)"),
+    (CONSTANTS, 0, true, 0, "C", "Const(0)"),
+    (CONSTANTS, 0, true, 0, "D", "Const(1)"),
+    (CONSTANTS, 0, true, 0, "S", "Const(0)"),
+    (KINDS, 0, true, 0, "B", "Global { size: 1, offset: 4 }"),
+    (KINDS, 0, true, 0, "L", "Global { size: 4, offset: 0 }"),
+    (
+        KINDS,
+        0,
+        true,
+        0,
+        "HIDDEN",
+        "Method { number: 2, params: 0 }",
+    ),
+    (KINDS, 0, true, 0, "MAIN", "Method { number: 1, params: 1 }"),
+    (KINDS, 0, true, 0, "W", "Label { size: 2 }"),
+    (KINDS, 0, true, 0, "TRUE", "Const(4294967295)"),
+    (KINDS, 0, true, 1, "P", "Local { offset: 4 }"),
+    (KINDS, 0, true, 1, "R", "Local { offset: 0 }"),
+    (KINDS, 0, true, 1, "Z", "Local { offset: 20 }"),
+    (KINDS, 0, true, 2, "Z", "nothing"),
+];
+
 #[test]
-fn finds_kinds(rt: HostRuntime) -> Result<(), AllocError> {
-    let source = "VAR\n  byte b\n  long l\nPRI hidden\nPUB main(p) : r | x, y[2], z\nDAT\nw word 1";
-    let table = [
-        ((0, "B"), "Global { size: 1, offset: 4 }"),
-        ((0, "L"), "Global { size: 4, offset: 0 }"),
-        ((0, "HIDDEN"), "Method { number: 2, params: 0 }"),
-        ((0, "MAIN"), "Method { number: 1, params: 1 }"),
-        ((0, "W"), "Label { size: 2 }"),
-        ((0, "TRUE"), "Const(4294967295)"),
-        ((1, "P"), "Local { offset: 4 }"),
-        ((1, "R"), "Local { offset: 0 }"),
-        ((1, "Z"), "Local { offset: 20 }"),
-        ((2, "Z"), "nothing"),
-    ];
-    for (asked, kind) in table {
-        let answer = answer(rt.alloc(), source, 0, true, asked)?;
-        assert_eq!(rt; answer.as_str(), kind);
+fn finds_names(rt: HostRuntime) {
+    for case in &NAMES {
+        assert!(rt;
+            matches!(is_answered(rt.alloc(), case), Ok(true)),
+            "{} {}",
+            case.3,
+            case.4
+        );
     }
-    Ok(())
 }

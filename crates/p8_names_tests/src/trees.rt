@@ -6,7 +6,6 @@ ghost use Rattle.p8_tree.specs.Views.{tree_of, statement_of};
 
 use p8_tree::{Expr, ExprKind, Loop, Place, Stmt, StmtKind, Target, Text};
 use std::alloc::{AllocError, Global};
-use std::test::Fail;
 
 fn number(place: Place, value: u32) -> Expr
     ensures { tree_of result ≡ node place (Number value) }
@@ -47,28 +46,34 @@ fn counting_loop(alloc: Global, at: Place) -> Result<Stmt, AllocError>
     })
 }
 
-#[test]
-fn builds_a_loop(rt: HostRuntime) -> Result<(), Fail> {
-    let at = Place { line: 2, column: 3 };
-    let tree = counting_loop(rt.alloc(), at)?;
-    assert_eq!(rt; tree.place, at);
-    let statements = match &tree.kind {
+// Whether such a loop stands at this place, with one statement in it.
+fn has_one_statement(alloc: Global, at: Place) -> Result<bool, AllocError> {
+    let tree = counting_loop(alloc, at)?;
+    let count = match &tree.kind {
         StmtKind::Repeat(_, body) => body.len(),
         _ => 0,
     };
-    assert_eq!(rt; statements, 1);
-    Ok(())
+    let is_there = tree.place == at;
+    drop(tree);
+    Ok(is_there && count == 1)
 }
 
 #[test]
-fn texts_compare_by_bytes(rt: HostRuntime) -> Result<(), Fail> {
-    let alloc = rt.alloc();
+fn builds_a_loop(rt: HostRuntime) {
+    let at = Place { line: 2, column: 3 };
+    assert!(rt; matches!(has_one_statement(rt.alloc(), at), Ok(true)));
+}
+
+// Whether texts are the same by their bytes, whatever they were made of.
+fn compares_bytes(alloc: Global) -> Result<bool, AllocError> {
     let name = Text::copy_of(alloc, b"PIN")?;
     let same = Text::from_vec(b"PIN".to_vec(alloc)?);
     let longer = Text::copy_of(alloc, b"PINS")?;
-    assert!(rt; name.is_same(&same));
-    assert!(rt; !name.is_same(&longer));
-    assert_eq!(rt; name.len(), 3);
-    assert!(rt; !name.is_empty());
-    Ok(())
+    let is_compared = name.is_same(&same) && !name.is_same(&longer);
+    Ok(is_compared && name.len() == 3 && !name.is_empty())
+}
+
+#[test]
+fn texts_compare_by_bytes(rt: HostRuntime) {
+    assert!(rt; matches!(compares_bytes(rt.alloc()), Ok(true)));
 }
