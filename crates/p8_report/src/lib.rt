@@ -12,5 +12,6 @@ mod phrases;
 mod tail;
 mod words;
 
+pub use dump::push_dump;
 pub use history_text::trace;
 pub use p8_disassembly::instr_text;

@@ -1,3 +1,4 @@
 mod Eights
 mod Ranges
 mod Showing
+mod Joined

@@ -8,10 +8,11 @@ use Rattle.p8_access.specs.Hub.{cog_state, origin_of}
 use Rattle.p8_ledger.specs.Turns.{AreProper}
 use Rattle.p8_legend.specs.declared.legend.Legend.{Legend}
 use Rattle.p8_view.specs.declared.cogs.Cogs.{Cogs}
+use Rattle.p8_view.specs.declared.doings.Doings.{Doings}
 use Rattle.p8_view.specs.declared.drives.Drives.{Drives}
 use Rattle.p8_view.specs.declared.turns.ViewOptions.{ViewOptions}
 use Rattle.p8_view.specs.Drives.{drives_of}
-use Rattle.p8_view.specs.Following.{AreCogs}
+use Rattle.p8_view.specs.Following.{AreCogs, AreDoings}
 use Rattle.p8_view.specs.View.{counter_of, is_asked, is_loaded, is_shown, lines_of, loading, rate, same_drives, shown_line, turn_line, what_text, when_text}
 
 pub told_shown : (options : ViewOptions) (past : List Turn) (turn : Turn) (before after : Drives) (left : ℕ) (asked loaded : Bool) → before ≡ drives_of past → after ≡ drives_of (turn ∷ past) → left ≡ loading past turn.key.cog
@@ -63,3 +64,6 @@ pub of_eight : (turns : List Turn) (i : ℕ) (d : Turn) → AreProper turns → 
 of_eight [] i d proper h = absurd (omega (arith, h))
 of_eight (turn ∷ turns) zero d proper h = proper.0.0
 of_eight (turn ∷ turns) (suc i) d proper h = of_eight turns i d proper.1 (omega (arith, h))
+
+pub doings_more : (turns : List Turn) (i : ℕ) (d : Turn) (c : Doings) → i < length turns → AreDoings (get_or turns i d ∷ reverse (take i turns)) c → AreDoings (reverse (take (i + 1) turns)) c
+doings_more turns i d c h are = subst (λ (past : List Turn). AreDoings past c) (sym (next turns i d h)) are

@@ -5,6 +5,8 @@ use Rattle.p8_access.specs.Worlds.{World}
 use Rattle.p8_access.specs.Hub.{cogs, cog_state, origin_of}
 use Rattle.p8_access.specs.Pins.{outa_of, dira_of}
 use Rattle.p8_view.specs.declared.cogs.Cogs.{Cogs}
+use Rattle.p8_view.specs.declared.doings.Doings.{Doings}
+use Rattle.p8_view.specs.Ending.{doing, last_of}
 use Rattle.p8_view.specs.View.{loading}
 
 -- of each cog what it was started with, how many reads of its load are left, and its registers OUTA and DIRA
@@ -13,3 +15,8 @@ pub record AreCogs (w : World) (past : List Turn) (c : Cogs) : Type 0 where
   pub left : c.left ≡ map (λ (n : ℕ). loading past n) cogs
   pub outa : c.outa ≡ map (λ (n : ℕ). outa_of past n) cogs
   pub dira : c.dira ≡ map (λ (n : ℕ). dira_of past n) cogs
+
+-- of each cog what it is doing, and the clock of its last turn
+pub record AreDoings (past : List Turn) (d : Doings) : Type 0 where
+  pub doings : d.doings ≡ map (λ (n : ℕ). doing past n) cogs
+  pub last : d.last ≡ map (λ (n : ℕ). last_of past n) cogs

@@ -2,5 +2,6 @@
 pub mod Words
 pub mod Drives
 pub mod View
+pub mod Ending
 -- How what the code keeps follows a history: internal.
 pub mod Following

@@ -3,10 +3,16 @@
 
 mod accesses;
 mod cogs;
+mod doings;
 mod drives;
+mod ending;
 mod starts;
 mod times;
 mod turns;
+mod views;
 mod words;
+#[cfg(test)]
+mod worked;
 
 pub use turns::{ViewOptions, turn_lines};
+pub use views::view;

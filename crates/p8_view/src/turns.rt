@@ -76,10 +76,10 @@ fn are_same(a: &Drives, b: &Drives) -> bool
 
 /// What is shown of a history, and in which words.
 #[derive(Clone, Copy)]
-struct Showing<'a> {
-    options: &'a ViewOptions,
-    legend: &'a Legend,
-    frequency: u32,
+pub(crate) struct Showing<'a> {
+    pub options: &'a ViewOptions,
+    pub legend: &'a Legend,
+    pub frequency: u32,
 }
 
 impl<'a> Showing<'a> {
@@ -172,7 +172,7 @@ fn counter_of(counters: &[Option<u16>], number: usize) -> Option<u16>
 }
 
 /// The lines of some turns that are shown, the oldest first; cog 0 was started with `first`.
-fn lines(
+pub(crate) fn lines(
     alloc: Global,
     showing: &Showing<'_>,
     first: Origin,

@@ -1,0 +1,71 @@
+-- The end of a view: what each cog is doing, how far the history came and why it ended (this project's profile). A past is a list of
+-- turns, the newest first.
+use Rattle.std.specs.Prelude.{ℕ, ◌==◌, nat_eq, if◌then◌else◌, List, [], ◌∷◌, ◌++◌, length, Option, Some, None, codes}
+use Rattle.std.specs.Fmt.{decimal}
+use Rattle.std.specs.List.{flat_map}
+use Rattle.p8_access.specs.declared.kinds.Access.{Access}
+use Rattle.p8_access.specs.declared.kinds.Access.TheVariants.{Begin, Load, CogInit, CogStop, Halt}
+use Rattle.p8_access.specs.declared.kinds.Answer.{Answer}
+use Rattle.p8_access.specs.declared.order.Turn.{Turn}
+use Rattle.p8_access.specs.Worlds.{World}
+use Rattle.p8_access.specs.Hub.{cogs, is_number, newest}
+use Rattle.p8_legend.specs.declared.legend.Legend.{Legend}
+use Rattle.p8_report.specs.Text.{dump_text, reason_text}
+use Rattle.p8_view.specs.declared.doings.Doing.{Doing}
+use Rattle.p8_view.specs.declared.doings.Doing.TheVariants.{Idle, Starts, Runs, Stops, Halts}
+use Rattle.p8_view.specs.declared.turns.ViewOptions.{ViewOptions}
+use Rattle.p8_view.specs.View.{lines_of}
+
+-- what a turn tells of what a cog does from then on: a start of it, its own first turn, a stop of it, and its own halt
+abbrev pub doing_by : ℕ → (clock cog : ℕ) → Access → Answer → Option Doing
+doing_by n clock cog (CogInit target origin) answer = if is_number n answer then Some (Starts clock) else None
+doing_by n clock cog Begin answer = if cog == n then Some (Runs clock) else None
+doing_by n clock cog Load answer = if cog == n then Some (Runs clock) else None
+doing_by n clock cog (CogStop target) answer = if target == n then Some (Stops clock) else None
+doing_by n clock cog (Halt reason) answer = if cog == n then Some (Halts clock reason) else None
+doing_by n clock cog _ answer = None
+
+-- at first cog 0 is started, and the others are idle
+abbrev pub doing_first : ℕ → Doing
+doing_first n = if n == 0 then Starts 0 else Idle
+
+abbrev pub doing : List Turn → ℕ → Doing
+doing past n = newest (λ (turn : Turn). doing_by n turn.key.clock turn.key.cog turn.access turn.answer) (doing_first n) past
+
+-- the clock of the last turn of a cog, 0 where it has none
+abbrev pub last_of : List Turn → ℕ → ℕ
+last_of past n = newest (λ (turn : Turn). if turn.key.cog == n then Some turn.key.clock else None) 0 past
+
+abbrev pub doing_text : Doing → (last : ℕ) → List ℕ
+doing_text Idle last = codes "is idle"
+doing_text (Starts clock) last = codes "is started at clock " ++ decimal clock ++ codes " and has had no turn yet"
+doing_text (Runs clock) last = codes "runs since clock " ++ decimal clock ++ codes ", its last turn is at clock " ++ decimal last
+doing_text (Stops clock) last = codes "is stopped at clock " ++ decimal clock
+doing_text (Halts clock reason) last = codes "halts at clock " ++ decimal clock ++ codes ": " ++ reason_text reason
+
+abbrev pub cog_line : List Turn → ℕ → List ℕ
+cog_line past n = codes "cog " ++ decimal n ++ codes " " ++ doing_text (doing past n) (last_of past n) ++ 10 ∷ []
+
+-- the clock of the last turn of all, 0 where there is none
+abbrev pub last_clock : List Turn → ℕ
+last_clock [] = 0
+last_clock (turn ∷ past) = turn.key.clock
+
+-- how many turns were made, and up to which clock
+abbrev pub made_line : (turns clock : ℕ) → List ℕ
+made_line turns clock = decimal turns ++ codes " turns are made, the last at clock " ++ decimal clock ++ 10 ∷ []
+
+-- why no more were: there are as many as are allowed, or no cog makes one in time
+abbrev pub why_text : (turns limit clocks : ℕ) → List ℕ
+why_text turns limit clocks =
+    if nat_eq turns limit then codes "no more are asked for; --turns gives more" else codes "no cog makes another before clock " ++ decimal clocks
+
+abbrev pub why_line : (turns limit clocks : ℕ) → List ℕ
+why_line turns limit clocks = why_text turns limit clocks ++ 10 ∷ []
+
+abbrev pub end_text : World → List Turn → List ℕ
+end_text w past = flat_map (cog_line past) cogs ++ made_line (length past) (last_clock past) ++ why_line (length past) w.turns w.clocks
+
+-- the whole view: the turns that are shown, the end, and the dump where one is asked for
+abbrev pub view_of : ViewOptions → Legend → World → List (Option ℕ) → List Turn → (dump : Option (ℕ × ℕ)) → List ℕ
+view_of options legend w counters past dump = lines_of options legend w counters past ++ end_text w past ++ dump_text w past dump

@@ -1,0 +1,77 @@
+// The end of a view.
+ghost use Rattle.std.specs.Prelude.{◌≡◌, ◌++◌, List, flat_map, length, reverse, OnOk};
+ghost use Rattle.p8_access.specs.declared.order.Turn.{Turn};
+ghost use Rattle.p8_access.specs.Worlds.{World};
+ghost use Rattle.p8_access.specs.Hub.{cogs};
+ghost use Rattle.p8_ledger.specs.Turns.{AreProper};
+ghost use Rattle.p8_view.specs.Following.{AreDoings};
+ghost use Rattle.p8_view.specs.Ending.{cog_line, end_text, last_clock as clock_of_last, made_line, why_line, why_text};
+
+use crate::doings::Doings;
+use crate::words::push_decimal;
+use p8_access::Turn;
+use p8_disassembly::push_text;
+use p8_ledger::{History, Limits};
+use p8_words::NoMemory;
+
+/// Appends the lines of the eight cogs.
+fn push_cogs(out: &mut Vec<u8>, doings: &Doings) -> Result<(), NoMemory>
+    ensures { (past : List Turn) → AreDoings past doings.now → OnOk result (out.new.items ≡ out.old.items ++ flat_map (cog_line past) cogs) }
+{
+    for cog in 0..8 {
+        doings.push_cog(out, cog)?;
+    }
+    Ok(())
+}
+
+/// The clock of the last turn, 0 where there is none.
+fn last_clock(turns: &[Turn]) -> u64
+    ensures { result ≡ clock_of_last (reverse turns.now) }
+{
+    match turns.last() {
+        Some(turn) => turn.key.clock,
+        None => 0,
+    }
+}
+
+/// Appends how many turns were made, and up to which clock.
+fn push_made(out: &mut Vec<u8>, turns: u64, clock: u64) -> Result<(), NoMemory>
+    ensures { OnOk result (out.new.items ≡ out.old.items ++ made_line turns clock) }
+{
+    push_decimal(out, b"", turns)?;
+    push_decimal(out, b" turns are made, the last at clock ", clock)?;
+    push_text(out, b"\n")
+}
+
+/// Appends why no more turns were made.
+fn push_why(out: &mut Vec<u8>, turns: u64, limits: Limits) -> Result<(), NoMemory>
+    ensures { OnOk result (out.new.items ≡ out.old.items ++ why_text turns limits.turns limits.clocks) }
+{
+    if turns == limits.turns {
+        push_text(out, b"no more are asked for; --turns gives more")
+    } else {
+        push_decimal(out, b"no cog makes another before clock ", limits.clocks)
+    }
+}
+
+/// Appends the line that tells why no more turns were made.
+fn push_why_line(out: &mut Vec<u8>, turns: u64, limits: Limits) -> Result<(), NoMemory>
+    ensures { OnOk result (out.new.items ≡ out.old.items ++ why_line turns limits.turns limits.clocks) }
+{
+    push_why(out, turns, limits)?;
+    push_text(out, b"\n")
+}
+
+/// Appends the end of a history: what each cog is doing, how many turns were made, and why no more were.
+pub(crate) fn push_end(out: &mut Vec<u8>, history: &History) -> Result<(), NoMemory>
+    ensures { (w : World)
+        → w.turns ≡ history.now.limits.turns
+        → w.clocks ≡ history.now.limits.clocks
+        → OnOk result (out.new.items ≡ out.old.items ++ end_text w (reverse history.now.turns.list)) }
+{
+    let turns = history.turns.as_slice();
+    let count = turns.len() as u64;
+    push_cogs(out, &Doings::after(turns))?;
+    push_made(out, count, last_clock(turns))?;
+    push_why_line(out, count, history.limits)
+}
