@@ -5,14 +5,14 @@ use Rattle.std.proofs.lemmas.Bool.Decides.{nat_tests}
 use Rattle.std.proofs.lemmas.List.{get_or-map}
 use Rattle.std.proofs.lemmas.List.Elements.{All-weaker, All-from_get_or}
 use Rattle.p8_tree.specs.Names.{is_capital, is_in_name, begins_name, IsName, IsQuoted}
-use Rattle.p8_tree.specs.Proper.{is_unary, is_binary, is_change, is_look, is_value, gives_value, is_size}
+use Rattle.p8_tree.specs.Proper.{is_unary, is_binary, is_change, is_look, is_value, gives_value, gives_no_value, is_size}
 use Rattle.p8_lexer.proofs.ReservedWords.{free_name}
 use Rattle.p8_lexer.specs.declared.word.Word.{Word}
 use Rattle.p8_lexer.specs.declared.word.Word.TheVariants as word_case
 use Rattle.p8_lexer.specs.declared.piece.Class.TheVariants as class
 use Rattle.p8_lexer.specs.Lexing.{is_letter, is_in}
 use Rattle.p8_lexer.specs.Words.{capital}
-use Rattle.p8_grammar.specs.Lexemes.{Lexeme, number, name, string, prefix_word, infix_word, sign, assigns, changes, size, register, look, value, built_in, Token}
+use Rattle.p8_grammar.specs.Lexemes.{Lexeme, number, name, string, prefix_word, infix_word, sign, assigns, changes, size, register, look, value, built_in, command, Token}
 use Rattle.p8_grammar.specs.Proper.{is_register_for, IsProperLexeme, lexeme_in, AreProper}
 use Rattle.p8_expr.specs.Words.{lexeme_of_word}
 use Rattle.p8_expr.specs.Sources.{IsFreeName, AreQuoted, IsLexeme, AreLexemes}
@@ -35,6 +35,7 @@ passes (register a x) = is_register_for x a
 passes (look k) = is_look k
 passes (value k) = is_value k
 passes (built_in k) = gives_value k
+passes (command k) = gives_no_value k
 passes _ = true
 
 words_pass : (w : Word) → passes (lexeme_of_word w) ≡ true
@@ -62,6 +63,7 @@ passing (register a x) h = h
 passing (look k) h = h
 passing (value k) h = h
 passing (built_in k) h = h
+passing (command k) h = h
 passing x h = tt
 
 -- names

@@ -1,17 +1,17 @@
 -- What is read from the tokens of a file is proper.
 use Rattle.std.proofs.Common.{◌≡◌, ℕ, ◌<◌, ◌≤◌, List, length, map, take, refl, ap, subst, arith}
-use Rattle.std.specs.Prelude.{EachIndex, slice_index}
+use Rattle.std.specs.Prelude.{EachIndex, IsTrue, slice_index}
 use Rattle.std.proofs.lemmas.List.{drop-map}
 use Rattle.std.proofs.lemmas.List.Elements.{All-take, All-drop}
-use Rattle.p8_tree.specs.Expressions.{Tree}
+use Rattle.p8_tree.specs.Expressions.{Tree, node}
 use Rattle.p8_tree.specs.Heights.{height}
-use Rattle.p8_tree.specs.Proper.{IsProperTree, IsProperExpression}
+use Rattle.p8_tree.specs.Proper.{IsProperTree, IsProperExpression, IsDone}
 use Rattle.p8_lexer.specs.declared.token.Token as lexer_token
 use Rattle.p8_lexer.specs.Characters.{text_of}
 use Rattle.p8_lexer.specs.Lexing.{AreTokens}
-use Rattle.p8_grammar.specs.Lexemes.{Setting, is_dat, Token}
+use Rattle.p8_grammar.specs.Lexemes.{Setting, in_action, is_value, is_dat, Token}
 use Rattle.p8_grammar.specs.Grammar.{IsExpression}
-use Rattle.p8_grammar.specs.Proper.{IsProperLexeme, lexeme_in, AreProper}
+use Rattle.p8_grammar.specs.Proper.{IsProperLexeme, lexeme_in, AreProper, IsProperAction}
 use Rattle.p8_expr.specs.Words.{token_of}
 use Rattle.p8_expr.specs.Parsing.{greatest_height, tokens_from, Outcome, tree, refused, Ends, whole, too_high, unfit, broken_off, Parses}
 use Rattle.p8_expr.proofs.Sources.{tokens_are}
@@ -40,7 +40,12 @@ module _ (bytes : List ℕ) (tokens : List lexer_token.Token) (small : EachIndex
       All-take (λ t. IsProperLexeme (lexeme_in t)) n (tokens_from bytes tokens at)
       (subst AreProper (drop-map (token_of bytes) at tokens) (All-drop (λ t. IsProperLexeme (lexeme_in t)) at (map (token_of bytes) tokens) all_proper))
 
-  pub read_proper : (spelled : (s : Setting) (ts : List Token) (e : Tree) → IsExpression s e ts → AreProper ts → IsProperTree (is_dat s) e) (s : Setting) (limit at end : ℕ) (e : Tree) → limit ≤ greatest_height → Parses s limit bytes tokens at (tree e end) → IsProperExpression (is_dat s) e
-  read_proper spelled s limit at end e within (n, longest, ends) =
+  pub read_proper : (spelled : (s : Setting) (ts : List Token) (e : Tree) → IsTrue (is_value s) → IsExpression s e ts → AreProper ts → IsProperTree (is_dat s) e) (s : Setting) (limit at end : ℕ) (e : Tree) → limit ≤ greatest_height → IsTrue (is_value s) → Parses s limit bytes tokens at (tree e end) → IsProperExpression (is_dat s) e
+  read_proper spelled s limit at end e within value (n, longest, ends) =
       let r = was_read e end ends refl in
-      (spelled s (take n (tokens_from bytes tokens at)) e r.0 (proper_from at n), omega (arith, r.1, within))
+      (spelled s (take n (tokens_from bytes tokens at)) e value r.0 (proper_from at n), omega (arith, r.1, within))
+
+  pub read_done : (spelled : (ts : List Token) (e : Tree) → IsExpression in_action e ts → AreProper ts → IsProperAction e) (limit at end : ℕ) (e : Tree) → limit ≤ greatest_height → Parses in_action limit bytes tokens at (tree e end) → IsDone e
+  read_done spelled limit at end (node p f) within (n, longest, ends) =
+      let r = was_read (node p f) end ends refl in
+      (spelled (take n (tokens_from bytes tokens at)) (node p f) r.0 (proper_from at n), omega (arith, r.1, within))

@@ -5,7 +5,7 @@ use Rattle.p8_lexer.specs.declared.word.Word.{Word}
 use Rattle.p8_lexer.specs.declared.word.Word.TheVariants as word
 use Rattle.p8_lexer.specs.declared.refusal.Refusal.{Refusal}
 use Rattle.p8_lexer.specs.declared.refusal.Refusal.TheVariants.{Float, Unsupported}
-use Rattle.p8_grammar.specs.Lexemes.{Setting, in_method, in_declaration, in_dat, in_data_item, is_dat}
+use Rattle.p8_grammar.specs.Lexemes.{Setting, in_method, in_declaration, in_dat, in_data_item, in_action, is_dat}
 
 -- refused in methods alone: in DAT the registers are operands
 abbrev pub refused_in_methods : Setting → Option Refusal
@@ -13,6 +13,7 @@ refused_in_methods in_method = Some Unsupported
 refused_in_methods in_declaration = None
 refused_in_methods in_dat = None
 refused_in_methods in_data_item = None
+refused_in_methods in_action = Some Unsupported
 
 abbrev pub refused_in_dat : Setting → Option Refusal
 refused_in_dat s = if is_dat s then Some Unsupported else None

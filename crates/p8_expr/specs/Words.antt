@@ -9,7 +9,7 @@ use Rattle.p8_lexer.specs.declared.word.Word.{Word}
 use Rattle.p8_lexer.specs.declared.word.Word.TheVariants as word
 use Rattle.p8_lexer.specs.Characters.{characters}
 use Rattle.p8_lexer.specs.Words.{capital, word_of}
-use Rattle.p8_grammar.specs.Lexemes.{pins, input_pins, input, assembly, left_parenthesis, right_parenthesis, left_bracket, right_bracket, comma, colon, dot, dot_dot, hash, backslash, equal, Lexeme, number, name, method_result, string, mark, prefix_word, infix_word, sign, assigns, changes, address, object_address, size, register, here, string_word, constant_word, look, value, built_in, other, Token, token}
+use Rattle.p8_grammar.specs.Lexemes.{pins, input_pins, input, assembly, left_parenthesis, right_parenthesis, left_bracket, right_bracket, comma, colon, dot, dot_dot, hash, backslash, equal, Lexeme, number, name, method_result, string, mark, prefix_word, infix_word, sign, assigns, changes, address, object_address, size, register, here, string_word, constant_word, look, value, built_in, command, other, Token, token}
 
 -- what a symbol or a reserved word is to an expression
 unfoldable pub lexeme_of_word : Word → Lexeme
@@ -132,7 +132,19 @@ lexeme_of_word word.Lockset = built_in 0x2A
 lexeme_of_word word.Lockclr = built_in 0x2B
 lexeme_of_word word.Strsize = built_in 0x16
 lexeme_of_word word.Strcomp = built_in 0x17
--- what stands in no expression, the built-ins that give no value among it
+-- the built-ins that give no value, which are actions
+lexeme_of_word word.Cogstop = command 0x21
+lexeme_of_word word.Lockret = command 0x22
+lexeme_of_word word.Waitcnt = command 0x23
+lexeme_of_word word.Waitpeq = command 0x1B
+lexeme_of_word word.Waitpne = command 0x1F
+lexeme_of_word word.Bytefill = command 0x18
+lexeme_of_word word.Wordfill = command 0x19
+lexeme_of_word word.Longfill = command 0x1A
+lexeme_of_word word.Bytemove = command 0x1C
+lexeme_of_word word.Wordmove = command 0x1D
+lexeme_of_word word.Longmove = command 0x1E
+-- what stands in no expression and no action
 lexeme_of_word _ = other
 
 -- the characters between a string's quotes

@@ -11,7 +11,7 @@ fn refused_in_methods(setting: Setting) -> Option<Refusal>
     ensures { result ≡ refused_in_methods (setting_of setting) }
 {
     match setting {
-        Setting::Method => Some(Refusal::Unsupported),
+        Setting::Method | Setting::Action => Some(Refusal::Unsupported),
         Setting::Declaration | Setting::Dat | Setting::DataItem => None,
     }
 }
@@ -21,7 +21,7 @@ fn refused_in_dat(setting: Setting) -> Option<Refusal>
     ensures { result ≡ refused_in_dat (setting_of setting) }
 {
     match setting {
-        Setting::Method | Setting::Declaration => None,
+        Setting::Method | Setting::Declaration | Setting::Action => None,
         Setting::Dat | Setting::DataItem => Some(Refusal::Unsupported),
     }
 }

@@ -136,6 +136,18 @@ fn lexeme_of_word(word: Word) -> Lexeme
         Word::Lockclr => Lexeme::Term(Term::BuiltIn(0x2B)),
         Word::Strsize => Lexeme::Term(Term::BuiltIn(0x16)),
         Word::Strcomp => Lexeme::Term(Term::BuiltIn(0x17)),
+        // Built-ins that give no value, which are actions.
+        Word::Cogstop => Lexeme::Term(Term::Command(0x21)),
+        Word::Lockret => Lexeme::Term(Term::Command(0x22)),
+        Word::Waitcnt => Lexeme::Term(Term::Command(0x23)),
+        Word::Waitpeq => Lexeme::Term(Term::Command(0x1B)),
+        Word::Waitpne => Lexeme::Term(Term::Command(0x1F)),
+        Word::Bytefill => Lexeme::Term(Term::Command(0x18)),
+        Word::Wordfill => Lexeme::Term(Term::Command(0x19)),
+        Word::Longfill => Lexeme::Term(Term::Command(0x1A)),
+        Word::Bytemove => Lexeme::Term(Term::Command(0x1C)),
+        Word::Wordmove => Lexeme::Term(Term::Command(0x1D)),
+        Word::Longmove => Lexeme::Term(Term::Command(0x1E)),
         _ => Lexeme::Term(Term::Other),
     }
 }

@@ -1,14 +1,15 @@
 -- The reader reads what the grammar spells.
-use Rattle.std.proofs.Common.{◌≡◌, ℕ, zero, suc, ◌+◌, ◌*◌, ◌<◌, ◌≤◌, List, [], ◌∷◌, ◌++◌, Option, Some, None, refl, ap, ◌∙◌, arith}
-use Rattle.std.specs.Prelude.{option_and_then, IsTrue, nat_lt, Bool, true, false, ◌&&◌}
+use Rattle.std.proofs.Common.{◌≡◌, ℕ, zero, suc, ◌+◌, ◌*◌, ◌<◌, ◌≤◌, List, [], ◌∷◌, ◌++◌, Option, Some, None, refl, sym, ap, subst, ◌∙◌, arith}
+use Rattle.std.specs.Prelude.{option_and_then, IsTrue, nat_lt, if◌then◌else◌, Bool, true, false, ◌&&◌}
 use Rattle.std.proofs.lemmas.Bool.{lt-ltb}
 use Rattle.p8_tree.specs.declared.places.Place.{Place}
 use Rattle.p8_tree.specs.Expressions.{Tree, Variable}
-use Rattle.p8_grammar.specs.Lexemes.{Setting, inside, Mark, left_parenthesis, right_parenthesis, left_bracket, right_bracket, comma, colon, dot, dot_dot, hash, backslash, equal, Lexeme, mark, prefix_word, infix_word, sign, assigns, object_address, Token, token}
+use Rattle.p8_grammar.specs.Lexemes.{Setting, is_value, inside, behind, Mark, left_parenthesis, right_parenthesis, left_bracket, right_bracket, comma, colon, dot, dot_dot, hash, backslash, equal, Lexeme, mark, prefix_word, infix_word, sign, assigns, object_address, Token, token}
 use Rattle.p8_grammar.specs.Grammar.{word, upto, Row, Prefix, rank, prefix_of, infix_of, Reads, operand, before, between, assigned, assigned_by_word, is_boolean, Spells, nothing, a_word, an_expression}
-use Rattle.p8_grammar.specs.Machine.{reading, Shape, using, string_read, Hole, Next, stays, opens, tree, target, on_close, close, fresh, Frame, prefix_frame, infix_frame, assign_frame, inside_frame, bar_of, reduce, State, state, joined, entered, entered_all, shut, prefixed, operate, join, assign, beyond, go_on, step, walk, all_of, accepted, accept, start}
-use Rattle.p8_grammar.proofs.Walks.{goes_on, one_step, steps_on, kept, wraps}
-use Rattle.p8_grammar.proofs.FormsRead.{fed, run, variables_run, forms_run, written_target}
+use Rattle.p8_grammar.specs.Machine.{reading, Shape, using, string_read, Hole, Next, stays, opens, tree, whole_in, target, if_action, on_close, close, fresh, Frame, prefix_frame, infix_frame, assign_frame, inside_frame, bar_of, reduce, State, state, joined, entered, entered_all, shut, prefixed, operate, join, assign, beyond, go_on, step, walk, all_of, accepted, accept, start}
+use Rattle.p8_grammar.proofs.Walks.{goes_on, one_step, steps_on, kept, wraps, both}
+use Rattle.p8_grammar.proofs.FormsRead.{fed, run, variables_run, forms_run, written_target, whole_tree}
+use Rattle.p8_grammar.proofs.FormsStand.{inside_value, behind_value, behind_same}
 use Rattle.p8_grammar.proofs.Joins.{join_on, join_off, joins, joined_walk}
 
 -- the walk has read an operand, and has what it would have with e
@@ -16,45 +17,54 @@ pub record Arrives (s : Setting) (l : ℕ) (e : Tree) (k : List Frame) (o : Opti
   pub sh : Shape
   pub frames : List Frame
   pub top : Tree
-  pub is : o ≡ Some (state s sh frames)
-  pub whole : tree sh ≡ Some top
+  pub to : Setting
+  pub is : o ≡ Some (state to sh frames)
+  -- where a value is read, the setting stays
+  pub same_setting : IsTrue (is_value s) → to ≡ s
+  pub whole : whole_in to sh ≡ Some top
   pub same : (j : ℕ) → l ≤ 2 * j → reduce (2 * j) top frames ≡ reduce (2 * j) e k
 
-pub prefix_step : (s : Setting) (k : List Frame) (p : Place) (x : Lexeme) (o : Prefix) → prefix_of x ≡ Some o → 2 * rank o + 1 < bar_of k → step (state s fresh k) (token p x) ≡ Some (state s fresh (prefix_frame o p ∷ k))
-prefix_step s k p x o h lt = first x h ∙ rw (lt-ltb (2 * rank o + 1) (bar_of k) lt) refl
+pub prefix_step : (s : Setting) (k : List Frame) (p : Place) (x : Lexeme) (o : Prefix) → IsTrue (is_value s) → prefix_of x ≡ Some o → 2 * rank o + 1 < bar_of k → step (state s fresh k) (token p x) ≡ Some (state s fresh (prefix_frame o p ∷ k))
+prefix_step s k p x o d h lt = first x h ∙ ap (λ b. if b then Some (state s fresh (prefix_frame o p ∷ k)) else None) (both (is_value s) (nat_lt (2 * rank o + 1) (bar_of k)) d (lt-ltb (2 * rank o + 1) (bar_of k) lt))
   where
+    not_action : (n : Option Next) → if_action s n ≡ None
+    not_action n = ap (λ b. if b then None else n) d
+
     first : (x : Lexeme) → prefix_of x ≡ Some o → step (state s fresh k) (token p x) ≡ prefixed s (Some o) p k
-    first (prefix_word r c) h = ap (λ o. prefixed s o p k) h
-    first (sign c j) h = ap (λ o. prefixed s o p k) h
+    first (prefix_word r c) h = ap (λ n. go_on n s fresh k p (prefix_word r c)) (not_action _) ∙ ap (λ o. prefixed s o p k) h
+    first (sign c j) h = ap (λ n. go_on n s fresh k p (sign c j)) (not_action _) ∙ ap (λ o. prefixed s o p k) h
     first object_address h = ap (λ o. prefixed s o p k) h
     first x h = absurd cc
 
-pub operates : (s : Setting) (p : Place) (e : Tree) (k : List Frame) (r c : ℕ) → r < 11 → operate s (Some (suc r, c)) p e k ≡ Some (state s fresh (infix_frame r c p (reduce (2 * suc r) e k).0 ∷ (reduce (2 * suc r) e k).1))
-operates s p e k r c lt = rw (lt-ltb r 11 lt) refl
+pub operates : (s : Setting) (p : Place) (e : Tree) (k : List Frame) (r c : ℕ) → IsTrue (is_value s) → r < 10 → operate s (Some (suc r, c)) p e k ≡ Some (state s fresh (infix_frame r c p (reduce (2 * suc r) e k).0 ∷ (reduce (2 * suc r) e k).1))
+operates s p e k r c d lt = ap (λ b. if b then Some (state s fresh (infix_frame r c p (reduce (2 * suc r) e k).0 ∷ (reduce (2 * suc r) e k).1)) else None) (both (is_value s) (nat_lt r 10) d (lt-ltb r 10 lt))
 
 -- an operator between operands, and its right operand
-pub infix_walk : (s : Setting) (sh : Shape) (k : List Frame) (p : Place) (x : Lexeme) (top : Tree) (r c : ℕ) (us : List Token) (s' : Setting) (sh' : Shape) (k' : List Frame) (top' : Tree) → infix_of x ≡ Some (suc r, c) → tree sh ≡ Some top → r < 11 → tree sh' ≡ Some top' → walk (state s fresh (infix_frame r c p (reduce (2 * suc r) top k).0 ∷ (reduce (2 * suc r) top k).1)) us ≡ Some (state s' sh' k') → walk (state s sh k) (token p x ∷ us) ≡ Some (state s' sh' k')
-infix_walk s sh k p (infix_word r' c') top r c us s' sh' k' top' h t lt t' is = by_target (target sh) refl
+pub infix_walk : (s : Setting) (sh : Shape) (k : List Frame) (p : Place) (x : Lexeme) (top : Tree) (r c : ℕ) (us : List Token) (s' : Setting) (sh' : Shape) (k' : List Frame) (top' : Tree) → IsTrue (is_value s) → infix_of x ≡ Some (suc r, c) → tree sh ≡ Some top → r < 10 → tree sh' ≡ Some top' → walk (state s fresh (infix_frame r c p (reduce (2 * suc r) top k).0 ∷ (reduce (2 * suc r) top k).1)) us ≡ Some (state s' sh' k') → walk (state s sh k) (token p x ∷ us) ≡ Some (state s' sh' k')
+infix_walk s sh k p (infix_word r' c') top r c us s' sh' k' top' d h t lt t' is = by_target (target sh) refl
   where
     first : step (state s sh k) (token p (infix_word r' c')) ≡ join s (target sh) (Some (suc r, c)) p top k
     first = ap (λ o. beyond o s sh k p (infix_word r' c')) t ∙ ap (λ o. join s (target sh) o p top k) h
 
     operated : join s (target sh) (Some (suc r, c)) p top k ≡ operate s (Some (suc r, c)) p top k → walk (state s sh k) (token p (infix_word r' c') ∷ us) ≡ Some (state s' sh' k')
-    operated e = steps_on (state s sh k) (state s fresh (infix_frame r c p (reduce (2 * suc r) top k).0 ∷ (reduce (2 * suc r) top k).1)) (token p (infix_word r' c')) us (first ∙ e ∙ operates s p top k r c lt) ∙ is
+    operated e = steps_on (state s sh k) (state s fresh (infix_frame r c p (reduce (2 * suc r) top k).0 ∷ (reduce (2 * suc r) top k).1)) (token p (infix_word r' c')) us (first ∙ e ∙ operates s p top k r c d lt) ∙ is
 
     by_test : (b : Bool) (v : Variable) → (is_boolean (suc r) && nat_lt 21 (bar_of k)) ≡ b → target sh ≡ Some v → walk (state s sh k) (token p (infix_word r' c') ∷ us) ≡ Some (state s' sh' k')
     by_test false v e w = operated (join_off s (target sh) (suc r) c p top k e)
-    by_test true v e w = steps_on (state s sh k) (joined s r c p v k) (token p (infix_word r' c')) us (first ∙ ap (λ x. join s x (Some (suc r, c)) p top k) w ∙ join_on s v r c p top k e) ∙ joined_walk s sh k p r c top v us s' sh' k' top' t w e t' is
+    by_test true v e w = steps_on (state s sh k) (joined s r c p v k) (token p (infix_word r' c')) us (first ∙ ap (λ x. join s x (Some (suc r, c)) p top k) w ∙ join_on s v r c p top k e) ∙ joined_walk s sh k p r c top v us s' sh' k' top' d t w e t' is
 
     by_target : (o : Option Variable) → target sh ≡ o → walk (state s sh k) (token p (infix_word r' c') ∷ us) ≡ Some (state s' sh' k')
     by_target None w = operated (ap (λ x. join s x (Some (suc r, c)) p top k) w)
     by_target (Some v) w = by_test (is_boolean (suc r) && nat_lt 21 (bar_of k)) v refl w
-infix_walk s sh k p (sign b j) top r c us s' sh' k' top' h t lt t' is =
-    steps_on (state s sh k) (state s fresh (infix_frame r c p (reduce (2 * suc r) top k).0 ∷ (reduce (2 * suc r) top k).1)) (token p (sign b j)) us (ap (λ o. beyond o s sh k p (sign b j)) t ∙ ap (λ o. operate s o p top k) h ∙ operates s p top k r c lt) ∙ is
-infix_walk s sh k p x top r c us s' sh' k' top' h t lt t' is = absurd cc
+infix_walk s sh k p (sign b j) top r c us s' sh' k' top' d h t lt t' is =
+    steps_on (state s sh k) (state s fresh (infix_frame r c p (reduce (2 * suc r) top k).0 ∷ (reduce (2 * suc r) top k).1)) (token p (sign b j)) us (ap (λ n. go_on n s sh k p (sign b j)) (not_action _) ∙ ap (λ o. beyond o s sh k p (sign b j)) t ∙ ap (λ o. operate s o p top k) h ∙ operates s p top k r c d lt) ∙ is
+  where
+    not_action : (n : Option Next) → if_action s n ≡ None
+    not_action n = ap (λ b. if b then None else n) d
+infix_walk s sh k p x top r c us s' sh' k' top' d h t lt t' is = absurd cc
 
 -- an assignment by AND or OR
-word_assigns : (s : Setting) (sh : Shape) (k : List Frame) (p q : Place) (r c : ℕ) (top : Tree) (v : Variable) (us : List Token) → tree sh ≡ Some top → target sh ≡ Some v → IsTrue (is_boolean r) → 21 < bar_of k → walk (state s sh k) (token p (infix_word r c) ∷ token q (mark equal) ∷ us) ≡ walk (state s fresh (assign_frame (Some c) p v ∷ k)) us
+word_assigns : (s : Setting) (sh : Shape) (k : List Frame) (p q : Place) (r c : ℕ) (top : Tree) (v : Variable) (us : List Token) → tree sh ≡ Some top → target sh ≡ Some v → IsTrue (is_boolean r) → 21 < bar_of k → walk (state s sh k) (token p (infix_word r c) ∷ token q (mark equal) ∷ us) ≡ walk (state (behind s) fresh (assign_frame (Some c) p v ∷ k)) us
 word_assigns s sh k p q zero c top v us t w b lt = absurd cc
 word_assigns s sh k p q (suc r) c top v us t w b lt =
     steps_on (state s sh k) (joined s r c p v k) (token p (infix_word (suc r) c)) (token q (mark equal) ∷ us) (joins s sh k p r c top v t w b lt)
@@ -79,7 +89,7 @@ mark_step s s' sh k p hash h e top n t c = absurd cc
 mark_step s s' sh k p backslash h e top n t c = absurd cc
 mark_step s s' sh k p equal h e top n t c = absurd cc
 
-pub assign_step : (s : Setting) (sh : Shape) (k : List Frame) (p : Place) (o : Option ℕ) (top : Tree) (v : Variable) → tree sh ≡ Some top → target sh ≡ Some v → 21 < bar_of k → step (state s sh k) (token p (assigns o)) ≡ Some (state s fresh (assign_frame o p v ∷ k))
+pub assign_step : (s : Setting) (sh : Shape) (k : List Frame) (p : Place) (o : Option ℕ) (top : Tree) (v : Variable) → tree sh ≡ Some top → target sh ≡ Some v → 21 < bar_of k → step (state s sh k) (token p (assigns o)) ≡ Some (state (behind s) fresh (assign_frame o p v ∷ k))
 assign_step s sh k p o top v t w lt =
     ap (λ x. beyond x s sh k p (assigns o)) t ∙ ap (λ x. assign s x o p k) w ∙ rw (lt-ltb 21 (bar_of k) lt) refl
 
@@ -88,28 +98,32 @@ same_next h = cc
 
 mutual
   pub arrives : {s : Setting} {l : ℕ} {e : Tree} {ts : List Token} → Reads s l e ts → l ≤ 22 → (k : List Frame) → l < bar_of k → Arrives s l e k (walk (state s fresh k) ts)
-  arrives {e = e} (operand f sp) small k lt =
+  arrives {s = s} {e = e} (operand f sp) small k lt =
       let r = forms_run f in
-      record { sh = r.sh; frames = k; top = e; is = spelled sp (stays r.sh) r.is k; whole = r.whole; same = λ j h. refl }
-  arrives {s = s} (before {x = x} {o = o} {p = p} {e = e} {ts = ts} h le r) small k lt =
+      record { sh = r.sh; frames = k; top = e; to = s; is = spelled sp (stays r.sh) r.is k; same_setting = λ d. refl; whole = r.whole; same = λ j h. refl }
+  arrives {s = s} (before {x = x} {o = o} {p = p} {e = e} {ts = ts} d h le r) small k lt =
       let a = arrives r (omega arith) (prefix_frame o p ∷ k) (omega arith) in
       record {
         sh = a.sh;
         frames = a.frames;
         top = a.top;
-        is = steps_on (state s fresh k) (state s fresh (prefix_frame o p ∷ k)) (token p x) ts (prefix_step s k p x o h (omega arith)) ∙ a.is;
+        is = steps_on (state s fresh k) (state s fresh (prefix_frame o p ∷ k)) (token p x) ts (prefix_step s k p x o d h (omega arith)) ∙ a.is;
+        to = a.to;
+        same_setting = a.same_setting;
         whole = a.whole;
         same = λ j hj. a.same j (omega arith) ∙ wraps (2 * j) e (prefix_frame o p) k (omega arith);
       }
-  arrives {s = s} (between {r = r} {k = c} {p = p} {a = a} {b = b} {ts = ts} {us = us} x h le ra rb) small k lt =
+  arrives {s = s} (between {r = r} {k = c} {p = p} {a = a} {b = b} {ts = ts} {us = us} x d h tight le ra rb) small k lt =
       let y = arrives ra (omega arith) k (omega arith) in
       let z = arrives rb (omega arith) (infix_frame r c p a ∷ k) (omega arith) in
       record {
         sh = z.sh;
         frames = z.frames;
         top = z.top;
-        is = goes_on (state s fresh k) (state s y.sh y.frames) ts (token p x ∷ us) y.is
-            ∙ infix_walk s y.sh y.frames p x y.top r c us s z.sh z.frames z.top h y.whole (omega arith) z.whole (ap (λ q. walk (state s fresh (infix_frame r c p q.0 ∷ q.1)) us) (y.same (suc r) (omega arith) ∙ kept (2 * suc r) a k (omega arith)) ∙ z.is);
+        to = z.to;
+        same_setting = z.same_setting;
+        is = goes_on (state s fresh k) (state s y.sh y.frames) ts (token p x ∷ us) (y.is ∙ ap (λ t. Some (state t y.sh y.frames)) (y.same_setting d))
+            ∙ infix_walk s y.sh y.frames p x y.top r c us z.to z.sh z.frames z.top d h (whole_tree y.to y.sh y.top y.whole) tight (whole_tree z.to z.sh z.top z.whole) (ap (λ q. walk (state s fresh (infix_frame r c p q.0 ∷ q.1)) us) (y.same (suc r) (omega arith) ∙ kept (2 * suc r) a k (omega arith)) ∙ z.is);
         whole = z.whole;
         same = λ i hi. z.same i (omega arith) ∙ wraps (2 * i) b (infix_frame r c p a) k (omega arith);
       }
@@ -121,8 +135,10 @@ mutual
         frames = a.frames;
         top = a.top;
         is = goes_on (state s fresh k) (state s z.sh k) ts (token p (assigns o) ∷ us) (spelled sp (stays z.sh) z.is k)
-            ∙ steps_on (state s z.sh k) (state s fresh (assign_frame o p v ∷ k)) (token p (assigns o)) us (assign_step s z.sh k p o _ v z.whole (written_target x v z.sh w z.written) (omega arith))
+            ∙ steps_on (state s z.sh k) (state (behind s) fresh (assign_frame o p v ∷ k)) (token p (assigns o)) us (assign_step s z.sh k p o _ v z.whole (written_target x v z.sh w z.written) (omega arith))
             ∙ a.is;
+        to = a.to;
+        same_setting = λ d. a.same_setting (behind_value s) ∙ behind_same s d;
         whole = a.whole;
         same = λ i hi. a.same i (omega arith) ∙ wraps (2 * i) e (assign_frame o p v) k (omega arith);
       }
@@ -136,6 +152,8 @@ mutual
         is = goes_on (state s fresh k) (state s z.sh k) ts (token p (infix_word r c) ∷ token q (mark equal) ∷ us) (spelled sp (stays z.sh) z.is k)
             ∙ word_assigns s z.sh k p q r c _ v us z.whole (written_target x v z.sh w z.written) b (omega arith)
             ∙ a.is;
+        to = a.to;
+        same_setting = λ d. a.same_setting (behind_value s) ∙ behind_same s d;
         whole = a.whole;
         same = λ i hi. a.same i (omega arith) ∙ wraps (2 * i) e (assign_frame (Some c) p v) k (omega arith);
       }
@@ -159,11 +177,11 @@ mutual
           let a = arr hole in
           let st = state (inside s) fresh (inside_frame s hole ∷ k) in
           goes_on (state s fresh k) st ts (us ++ token p (mark m) ∷ []) (ih (opens hole) eq)
-          ∙ goes_on st (state (inside s) a.sh a.frames) us (token p (mark m) ∷ []) a.is
-          ∙ one_step (state (inside s) a.sh a.frames) (entered s k n) (token p (mark m)) (mark_step (inside s) s a.sh a.frames p m hole e a.top n a.whole f ∙ ap (λ q. shut m q.0 q.1) (a.same 11 (omega arith)) ∙ ap (λ o. entered_all s k o) f)
+          ∙ goes_on st (state a.to a.sh a.frames) us (token p (mark m) ∷ []) a.is
+          ∙ one_step (state a.to a.sh a.frames) (entered s k n) (token p (mark m)) (mark_step a.to s a.sh a.frames p m hole e a.top n (whole_tree a.to a.sh a.top a.whole) f ∙ ap (λ q. shut m q.0 q.1) (a.same 11 (omega arith)) ∙ ap (λ o. entered_all s k o) f)
 
 -- the tokens of an expression are read whole
 pub complete : (s : Setting) {e : Tree} {ts : List Token} → Reads s 22 e ts → (st : State) × (walk (start s) ts ≡ Some st) × (accept st ≡ Some e)
 complete s r =
     let a = arrives r (omega arith) [] (omega arith) in
-    (state s a.sh a.frames, a.is, ap (λ o. accepted o a.frames) a.whole ∙ ap (λ q. all_of q.0 q.1) (a.same 11 (omega arith)))
+    (state a.to a.sh a.frames, a.is, ap (λ o. accepted o a.frames) a.whole ∙ ap (λ q. all_of q.0 q.1) (a.same 11 (omega arith)))

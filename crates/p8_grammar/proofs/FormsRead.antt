@@ -1,11 +1,11 @@
 -- Each form is read as it stands in the grammar.
-use Rattle.std.proofs.Common.{◌≡◌, ℕ, List, ◌∷◌, Option, Some, None, Bool, true, false, refl, ap, ◌∙◌}
-use Rattle.std.specs.Prelude.{option_and_then, IsTrue, if◌then◌else◌, ◌&&◌}
+use Rattle.std.proofs.Common.{◌≡◌, ℕ, List, ◌∷◌, Option, Some, None, Bool, true, false, refl, sym, ap, subst, ◌∙◌}
+use Rattle.std.specs.Prelude.{option_and_then, IsTrue, if◌then◌else◌, not, ◌&&◌}
 use Rattle.p8_tree.specs.declared.places.Place.{Place}
 use Rattle.p8_tree.specs.Expressions.{Tree, node, Str, Number, Here, ObjConst, Built, Look, Change, Call, Variable, Named, Part, Memory, Register, no_index, index, bits, single, range, Trees, no_trees, ◌▷◌, Items, no_items, ◌▸◌}
-use Rattle.p8_grammar.specs.Lexemes.{Setting, allows_index, is_dat, Access, memory, is_written, has_bits, is_in, left_parenthesis, right_parenthesis, left_bracket, right_bracket, comma, colon, dot, dot_dot, backslash, name, method_result, mark, changes, size, register}
-use Rattle.p8_grammar.specs.Grammar.{Piece, word, upto, Row, begin, ◌▹◌, Names, plain_name, result_word, local_label, Variables, named, indexed, part, part_indexed, memory_at, memory_indexed, register_whole, register_bit, register_bits, Head, calls, built, applied, Heads, trapped, of_object, of_element, of_built_in, Arguments, no_arguments, argument, Choices, no_choices, value_choice, range_choice, Forms, a_number, a_character, the_place, parentheses, variable, changed_before, changed_after, address_of, plain_call, bare_call, full_call, object_constant, a_value, a_string, a_constant, look_value, look_range}
-use Rattle.p8_grammar.specs.Machine.{Use, reading, addressing, changing, used, takes, Shape, using, indexed_name, dotted, coloned, sized, parted, memory_word, register_word, ready, trapped_name, trapped_element, object_dot, headed, done, Hole, argument_of, choice_of, choice_to, name_index, part_index, memory_address, memory_index, first_bit, last_bit, Next, stays, opens, only_if, tree, if_reading, target, grow, close, named_element, fresh, on_parenthesis, changed}
+use Rattle.p8_grammar.specs.Lexemes.{Setting, is_value, string, string_word, constant_word, look, hash, allows_index, is_dat, Access, memory, is_written, has_bits, is_in, left_parenthesis, right_parenthesis, left_bracket, right_bracket, comma, colon, dot, dot_dot, backslash, Lexeme, prefix_word, sign, object_address, name, method_result, mark, changes, size, register}
+use Rattle.p8_grammar.specs.Grammar.{Piece, word, upto, Row, begin, ◌▹◌, Names, plain_name, result_word, local_label, Variables, named, indexed, part, part_indexed, memory_at, memory_indexed, register_whole, register_bit, register_bits, Head, calls, built, applied, Heads, trapped, of_object, of_element, of_built_in, of_command, Arguments, no_arguments, argument, Choices, no_choices, value_choice, range_choice, Forms, a_number, a_character, the_place, parentheses, variable, name_alone, changed_by, changed_before, changed_after, address_of, plain_call, bare_call, full_call, object_constant, a_value, a_string, a_constant, look_value, look_range, Prefix, at_object, unary, prefix_of, effect_of}
+use Rattle.p8_grammar.specs.Machine.{Use, reading, addressing, changing, used, takes, Shape, using, indexed_name, dotted, coloned, sized, parted, memory_word, register_word, ready, trapped_name, trapped_element, object_dot, headed, hashed, string_begun, string_opened, string_read, constant_begun, look_begun, done, Hole, parenthesis, constant_of, look_for, argument_of, choice_of, choice_to, name_index, part_index, memory_address, memory_index, first_bit, last_bit, Next, stays, opens, only_if, tree, if_value, if_action, is_plain, unless, acting, whole_in, altering, if_reading, target, grow, close, named_element, fresh, on_parenthesis, changed}
 use Rattle.p8_grammar.specs.Machine as machine
 use Rattle.p8_grammar.proofs.Walks.{only, both}
 
@@ -117,17 +117,71 @@ variables_run {s = s} {before = before} (register_bits {a = a} {x = x} {p = p} {
       written = refl;
     }
 
+-- what a test of the setting lets through
+pub value_is : (s : Setting) (o : Option Next) → IsTrue (is_value s) → if_value s o ≡ o
+value_is s o d = go (is_value s) d
+  where
+    go : (b : Bool) → IsTrue b → (if b then o else None) ≡ o
+    go true d = refl
+    go false d = absurd cc
+
+pub action_is : (s : Setting) (o : Option Next) → IsTrue (not (is_value s)) → if_action s o ≡ o
+action_is s o d = go (is_value s) d
+  where
+    go : (b : Bool) → IsTrue (not b) → (if b then None else o) ≡ o
+    go true d = absurd cc
+    go false d = refl
+
+-- a whole form where values stand
+pub value_whole : (s : Setting) (sh : Shape) → IsTrue (is_value s) → whole_in s sh ≡ tree sh
+value_whole s sh d = go (is_value s) d
+  where
+    go : (b : Bool) → IsTrue b → (if b then tree sh else acting sh) ≡ tree sh
+    go true d = refl
+    go false d = absurd cc
+
+-- and where actions stand
+pub action_whole : (s : Setting) (sh : Shape) → IsTrue (not (is_value s)) → whole_in s sh ≡ acting sh
+action_whole s sh d = go (is_value s) d
+  where
+    go : (b : Bool) → IsTrue (not b) → (if b then tree sh else acting sh) ≡ acting sh
+    go true d = absurd cc
+    go false d = refl
+
+-- what is no variable that may be written is whole everywhere
+pub standing : (s : Setting) (sh : Shape) (e : Tree) → tree sh ≡ Some e → target sh ≡ None → whole_in s sh ≡ Some e
+standing s sh e t none = go (is_value s) (is_plain sh)
+  where
+    go : (b c : Bool) → (if b then tree sh else if c then tree sh else unless (target sh) (tree sh)) ≡ Some e
+    go true c = t
+    go false true = t
+    go false false = ap (λ v. unless v (tree sh)) none ∙ t
+
+pub done_whole : (s : Setting) (e : Tree) → whole_in s (done e) ≡ Some e
+done_whole s e = standing s (done e) e refl refl
+
+-- a form that is whole in a setting is whole
+pub whole_tree : (s : Setting) (sh : Shape) (e : Tree) → whole_in s sh ≡ Some e → tree sh ≡ Some e
+whole_tree s sh e h = go (is_value s) (is_plain sh) (target sh) h
+  where
+    go : (b c : Bool) (v : Option Variable) → (if b then tree sh else if c then tree sh else unless v (tree sh)) ≡ Some e → tree sh ≡ Some e
+    go true c v h = h
+    go false true v h = h
+    go false false None h = h
+    go false false (Some v) h = absurd cc
+
 -- a head that has been read
 record HeadRead (s : Setting) (h : Head) (row : Row) : Type 0 where
   sh : Shape
   is : run s row ≡ Some (stays sh)
   whole : tree sh ≡ Some (applied h no_trees)
-  more : on_parenthesis sh ≡ Some (opens (argument_of h no_trees))
+  more : on_parenthesis s sh ≡ Some (opens (argument_of h no_trees))
+  no_variable : target sh ≡ None
 
 heads_run : {s : Setting} {h : Head} {row : Row} → Heads s h row → HeadRead s h row
-heads_run (trapped {n = n} {p = p} o) = record { sh = trapped_name p n; is = refl; whole = refl; more = refl }
-heads_run (of_object {trap = true} {n = n} {m = m} {p = p} {q = q} o) = record { sh = headed (calls true (Some n) no_index m q p); is = refl; whole = refl; more = refl }
-heads_run (of_object {trap = false} {n = n} {m = m} {p = p} {q = q} o) = record { sh = headed (calls false (Some n) no_index m q p); is = refl; whole = refl; more = refl }
+heads_run (trapped {n = n} {p = p} o) = record { sh = trapped_name p n; is = refl; whole = refl; more = refl; no_variable = refl }
+heads_run (of_object {trap = true} {n = n} {m = m} {p = p} {q = q} o) = record { sh = headed (calls true (Some n) no_index m q p); is = refl; whole = refl; more = refl; no_variable = refl }
+heads_run (of_object {trap = false} {n = n} {m = m} {p = p} {q = q} o) = record { sh = headed (calls false (Some n) no_index m q p); is = refl; whole = refl; more = refl; no_variable = refl }
 heads_run {s = s} (of_element {trap = true} {n = n} {m = m} {p = p} {q = q} {r = r} {u = u} {e = e} o i) =
     let row1 : Row = begin ▹ word o (mark backslash) ▹ word p (name n) in
     let row2 : Row = row1 ▹ word u (mark left_bracket) in
@@ -138,6 +192,7 @@ heads_run {s = s} (of_element {trap = true} {n = n} {m = m} {p = p} {q = q} {r =
       is = fed_on s row4 (word q (name m)) (stays (object_dot true p n (index e))) _ (fed_on s row3 (word r (mark dot)) (stays (trapped_element p n e)) _ (fed_on s row2 (upto e right_bracket) (opens (machine.trapped_index p n)) _ (fed_on s row1 (word u (mark left_bracket)) (stays (trapped_name p n)) _ refl (only (allows_index s) _ i)) refl) refl) refl;
       whole = refl;
       more = refl;
+      no_variable = refl;
     }
 heads_run {s = s} (of_element {trap = false} {n = n} {m = m} {p = p} {q = q} {r = r} {u = u} {e = e} o i) =
     let row1 : Row = begin ▹ word p (name n) in
@@ -149,8 +204,10 @@ heads_run {s = s} (of_element {trap = false} {n = n} {m = m} {p = p} {q = q} {r 
       is = fed_on s row4 (word q (name m)) (stays (object_dot false p n (index e))) _ (fed_on s row3 (word r (mark dot)) (stays (indexed_name p n e)) _ (fed_on s row2 (upto e right_bracket) (opens (name_index reading true p n)) _ (fed_on s row1 (word u (mark left_bracket)) (stays (machine.named reading true p n)) _ refl (only (allows_index s) _ i)) refl) refl) refl;
       whole = refl;
       more = refl;
+      no_variable = refl;
     }
-heads_run (of_built_in {k = k} {p = p}) = record { sh = headed (built k p); is = refl; whole = refl; more = refl }
+heads_run (of_built_in {k = k} {p = p}) = record { sh = headed (built k p); is = refl; whole = refl; more = refl; no_variable = refl }
+heads_run {s = s} (of_command {k = k} {p = p} d) = record { sh = headed (built k p); is = action_is s _ d; whole = refl; more = refl; no_variable = refl }
 
 arguments_run : (s : Setting) {before row : Row} {es : Trees} → Arguments before es row → (h : Head) → run s before ≡ Some (opens (argument_of h no_trees)) → run s row ≡ Some (opens (argument_of h es))
 arguments_run s no_arguments h e = e
@@ -166,7 +223,7 @@ choices_run s (range_choice {xs = xs} {low = low} {high = high} {row = row} c) p
 pub record FormRead (s : Setting) (e : Tree) (row : Row) : Type 0 where
   pub sh : Shape
   pub is : run s row ≡ Some (stays sh)
-  pub whole : tree sh ≡ Some e
+  pub whole : whole_in s sh ≡ Some e
 
 only_here : (s : Setting) (n : Next) → IsTrue (is_dat s) → (if is_dat s then Some n else None) ≡ Some n
 only_here s n h = go (is_dat s) h
@@ -187,36 +244,66 @@ pub changes_after : (s : Setting) (sh : Shape) (p : Place) (b a : ℕ) (v : Vari
 changes_after s (using u) p b a v h = absurd cc
 changes_after s sh p b a v h = ap (λ o. changed o p a) h
 
+-- a LOOK function up to its colon
+look_begins : (s : Setting) (p q : Place) (k : ℕ) (x : Tree) → IsTrue (is_value s) → run s (begin ▹ word p (look k) ▹ word q (mark left_parenthesis) ▹ upto x colon) ≡ Some (opens (choice_of p k x no_items))
+look_begins s p q k x d = fed_on s (begin ▹ word p (look k) ▹ word q (mark left_parenthesis)) (upto x colon) (opens (look_for p k)) _ (fed_on s (begin ▹ word p (look k)) (word q (mark left_parenthesis)) (stays (look_begun p k)) _ (value_is s _ d) refl) refl
+
+abbrev effect : Option Prefix → Option ℕ
+effect None = None
+effect (Some o) = effect_of o
+
+-- an operator before the variable that it changes
+altered : (s : Setting) (w : Lexeme) (o : Prefix) (k : ℕ) (p : Place) → IsTrue (not (is_value s)) → prefix_of w ≡ Some o → effect_of o ≡ Some k → grow s fresh p w ≡ Some (stays (using (changing p k)))
+altered s w o k p d is e = by_word w is
+  where
+    by_effect : (x : Option ℕ) → x ≡ Some k → if_action s (altering x p fresh) ≡ Some (stays (using (changing p k)))
+    by_effect x h = ap (λ x. if_action s (altering x p fresh)) h ∙ action_is s _ d
+
+    by_word : (w : Lexeme) → prefix_of w ≡ Some o → grow s fresh p w ≡ Some (stays (using (changing p k)))
+    by_word (prefix_word r c) h = by_effect _ (ap effect (h) ∙ e)
+    by_word (sign c j) h = by_effect _ (ap effect (h) ∙ e)
+    by_word object_address h = let x : effect (Some at_object) ≡ Some k = ap effect h ∙ e in absurd cc
+    by_word w h = absurd cc
+
 pub forms_run : {s : Setting} {e : Tree} {row : Row} → Forms s e row → FormRead s e row
-forms_run (a_number {n = n} {p = p}) = record { sh = done (node p (Number n)); is = refl; whole = refl }
-forms_run (a_character {c = c} {p = p}) = record { sh = done (node p (Number c)); is = refl; whole = refl }
-forms_run {s = s} (the_place {p = p} d) = record { sh = done (node p Here); is = only_here s _ d; whole = refl }
-forms_run (parentheses {e = e}) = record { sh = done e; is = refl; whole = refl }
-forms_run (variable {x = x} {v = v} w) = let r = variables_run w reading refl refl in record { sh = r.sh; is = r.is; whole = r.whole }
-forms_run {s = s} (changed_before {x = x} {v = v} {p = p} {b = b} {a = a} w y) = let r = variables_run y (changing p b) w refl in record { sh = r.sh; is = r.is; whole = r.whole }
+forms_run {s = s} (a_number {n = n} {p = p} d) = record { sh = done (node p (Number n)); is = value_is s _ d; whole = done_whole s _ }
+forms_run {s = s} (a_character {c = c} {p = p} d) = record { sh = done (node p (Number c)); is = value_is s _ d; whole = done_whole s _ }
+forms_run {s = s} (the_place {p = p} d) = record { sh = done (node p Here); is = only_here s _ d; whole = done_whole s _ }
+forms_run {s = s} (parentheses {e = e} {q = q} d) = record { sh = done e; is = fed_on s (begin ▹ word q (mark left_parenthesis)) (upto e right_parenthesis) (opens parenthesis) _ (value_is s _ d) refl; whole = done_whole s _ }
+forms_run {s = s} (variable {x = x} {v = v} d w) = let r = variables_run w reading refl refl in record { sh = r.sh; is = r.is; whole = value_whole s r.sh d ∙ r.whole }
+forms_run {s = s} (name_alone {n = n} {p = p} d) = record { sh = machine.named reading true p n; is = refl; whole = action_whole s (machine.named reading true p n) d }
+forms_run {s = s} (changed_by {x = x} {v = v} {p = p} {w = w} {o = o} {k = k} d is e t y) = let r = variables_run y (changing p k) t (altered s w o k p d is e) in record { sh = r.sh; is = r.is; whole = standing s r.sh _ r.whole r.written }
+forms_run {s = s} (changed_before {x = x} {v = v} {p = p} {b = b} {a = a} w y) = let r = variables_run y (changing p b) w refl in record { sh = r.sh; is = r.is; whole = standing s r.sh _ r.whole r.written }
 forms_run {s = s} (changed_after {x = x} {v = v} {p = p} {b = b} {a = a} {row = row} w y) =
     let r = variables_run y reading refl refl in
-    record { sh = done (node p (Change v a)); is = fed_on s row (word p (changes b a)) (stays r.sh) _ r.is (changes_after s r.sh p b a v (written_target x v r.sh w r.written)); whole = refl }
-forms_run (address_of {v = v} {p = p} y) = let r = variables_run y (addressing p) refl refl in record { sh = r.sh; is = r.is; whole = r.whole }
+    record { sh = done (node p (Change v a)); is = fed_on s row (word p (changes b a)) (stays r.sh) _ r.is (changes_after s r.sh p b a v (written_target x v r.sh w r.written)); whole = done_whole s _ }
+forms_run {s = s} (address_of {v = v} {p = p} d y) = let r = variables_run y (addressing p) refl (value_is s _ d) in record { sh = r.sh; is = r.is; whole = value_whole s r.sh d ∙ r.whole }
 forms_run {s = s} (plain_call {n = n} {p = p} {q = q} {es = es} {e = e} {row = row} a) =
     record {
       sh = done (node p (Call false None no_index n p (es ▷ e)));
       is = fed_on s row (upto e right_parenthesis) (opens (argument_of (calls false None no_index n p p) es)) _ (arguments_run s a (calls false None no_index n p p) refl) refl;
-      whole = refl;
+      whole = done_whole s _;
     }
-forms_run (bare_call h) = let r = heads_run h in record { sh = r.sh; is = r.is; whole = r.whole }
+forms_run {s = s} (bare_call h) = let r = heads_run h in record { sh = r.sh; is = r.is; whole = standing s r.sh _ r.whole r.no_variable }
 forms_run {s = s} (full_call {h = h} {q = q} {es = es} {e = e} {row = row} {row' = row'} y a) =
     let r = heads_run y in
     record {
       sh = done (applied h (es ▷ e));
       is = fed_on s row' (upto e right_parenthesis) (opens (argument_of h es)) _ (arguments_run s a h (fed_on s row (word q (mark left_parenthesis)) (stays r.sh) _ r.is r.more)) refl;
-      whole = refl;
+      whole = done_whole s _;
     }
-forms_run (object_constant {n = n} {m = m} {p = p} {q = q}) = record { sh = done (node p (ObjConst n m q)); is = refl; whole = refl }
-forms_run (a_value {k = k} {p = p}) = record { sh = done (node p (Built k no_trees)); is = refl; whole = refl }
-forms_run (a_string {c = c} {t = t} {p = p}) = record { sh = done (node p (Str (c ∷ t))); is = refl; whole = refl }
-forms_run (a_constant {p = p} {e = e}) = record { sh = done (node p (Built 0 (no_trees ▷ e))); is = refl; whole = refl }
-forms_run {s = s} (look_value {k = k} {p = p} {x = x} {e = e} {xs = xs} {row = row} c) =
-    record { sh = done (node p (Look k x (xs ▸ single e))); is = fed_on s row (upto e right_parenthesis) (opens (choice_of p k x xs)) _ (choices_run s c p k x refl) refl; whole = refl }
-forms_run {s = s} (look_range {k = k} {p = p} {x = x} {low = low} {high = high} {xs = xs} {row = row} c) =
-    record { sh = done (node p (Look k x (xs ▸ range low high))); is = fed_on s (row ▹ upto low dot_dot) (upto high right_parenthesis) (opens (choice_to p k x xs low)) _ (fed_on s row (upto low dot_dot) (opens (choice_of p k x xs)) _ (choices_run s c p k x refl) refl) refl; whole = refl }
+forms_run {s = s} (object_constant {n = n} {m = m} {p = p} {q = q} {r = r} d) = record { sh = done (node p (ObjConst n m q)); is = fed_on s (begin ▹ word p (name n) ▹ word r (mark hash)) (word q (name m)) (stays (hashed p n)) _ (value_is s _ d) refl; whole = done_whole s _ }
+forms_run {s = s} (a_value {k = k} {p = p}) = record { sh = done (node p (Built k no_trees)); is = refl; whole = done_whole s _ }
+forms_run {s = s} (a_string {c = c} {t = t} {p = p} {q = q} {r = r} {o = o} d) =
+    let row1 : Row = begin ▹ word p string_word in
+    let row2 : Row = row1 ▹ word q (mark left_parenthesis) in
+    let row3 : Row = row2 ▹ word r (string (c ∷ t)) in
+    record { sh = done (node p (Str (c ∷ t))); is = fed_on s row3 (word o (mark right_parenthesis)) (stays (string_read p (c ∷ t))) _ (fed_on s row2 (word r (string (c ∷ t))) (stays (string_opened p)) _ (fed_on s row1 (word q (mark left_parenthesis)) (stays (string_begun p)) _ (value_is s _ d) refl) (value_is s _ d)) refl; whole = done_whole s _ }
+forms_run {s = s} (a_constant {p = p} {q = q} {e = e} d) =
+    let row1 : Row = begin ▹ word p constant_word in
+    let row2 : Row = row1 ▹ word q (mark left_parenthesis) in
+    record { sh = done (node p (Built 0 (no_trees ▷ e))); is = fed_on s row2 (upto e right_parenthesis) (opens (constant_of p)) _ (fed_on s row1 (word q (mark left_parenthesis)) (stays (constant_begun p)) _ (value_is s _ d) refl) refl; whole = done_whole s _ }
+forms_run {s = s} (look_value {k = k} {p = p} {q = q} {x = x} {e = e} {xs = xs} {row = row} d c) =
+    record { sh = done (node p (Look k x (xs ▸ single e))); is = fed_on s row (upto e right_parenthesis) (opens (choice_of p k x xs)) _ (choices_run s c p k x (look_begins s p q k x d)) refl; whole = done_whole s _ }
+forms_run {s = s} (look_range {k = k} {p = p} {q = q} {x = x} {low = low} {high = high} {xs = xs} {row = row} d c) =
+    record { sh = done (node p (Look k x (xs ▸ range low high))); is = fed_on s (row ▹ upto low dot_dot) (upto high right_parenthesis) (opens (choice_to p k x xs low)) _ (fed_on s row (upto low dot_dot) (opens (choice_of p k x xs)) _ (choices_run s c p k x (look_begins s p q k x d)) refl) refl; whole = done_whole s _ }

@@ -4,9 +4,9 @@ use Rattle.std.specs.Prelude.{option_and_then, IsTrue, nat_le, nat_lt, if◌then
 use Rattle.std.proofs.lemmas.Bool.{leb-true, ltb-true, lt-ltb}
 use Rattle.p8_tree.specs.declared.places.Place.{Place}
 use Rattle.p8_tree.specs.Expressions.{Tree, Variable, Register, whole}
-use Rattle.p8_grammar.specs.Lexemes.{Setting, is_written, equal, mark, infix_word, Token, token}
+use Rattle.p8_grammar.specs.Lexemes.{Setting, is_value, behind, is_written, equal, mark, infix_word, Token, token}
 use Rattle.p8_grammar.specs.Grammar.{is_boolean}
-use Rattle.p8_grammar.specs.Machine.{reading, addressing, changing, used, Shape, named, indexed_name, parted, memory_word, register_word, ready, tree, if_reading, target, fresh, Frame, infix_frame, bar_of, reduce, state, joined, operate, join, beyond, step, walk}
+use Rattle.p8_grammar.specs.Machine.{reading, addressing, changing, used, Shape, named, indexed_name, parted, memory_word, register_word, ready, tree, if_reading, target, fresh, Frame, infix_frame, bar_of, reduce, State, state, joined, operate, join, grow, beyond, go_on, step, walk}
 use Rattle.p8_grammar.proofs.Walks.{kept, both}
 
 pub first_true : (a b : Bool) → IsTrue (a && b) → IsTrue a
@@ -75,14 +75,21 @@ joins s sh k p r c top v t w h lt =
 same_shape : (s s' : Setting) (sh sh' : Shape) (k k' : List Frame) → Some (state s sh k) ≡ Some (state s' sh' k') → sh ≡ sh'
 same_shape s s' sh sh' k k' h = cc
 
+pub value_goes : (s : Setting) (o : Option State) → IsTrue (is_value s) → (if is_value s then o else None) ≡ o
+value_goes s o d = go (is_value s) d
+  where
+    go : (b : Bool) → IsTrue b → (if b then o else None) ≡ o
+    go true d = refl
+    go false d = absurd cc
+
 -- where no `=` comes, the word is an operator
-past_word : (s : Setting) (r c : ℕ) (p : Place) (v : Variable) (k : List Frame) (us : List Token) (s' : Setting) (sh : Shape) (k' : List Frame) (top : Tree) → tree sh ≡ Some top → walk (state s fresh (infix_frame r c p (used reading v) ∷ k)) us ≡ Some (state s' sh k') → walk (joined s r c p v k) us ≡ Some (state s' sh k')
-past_word s r c p v k [] s' sh k' top t h =
+past_word : (s : Setting) (r c : ℕ) (p : Place) (v : Variable) (k : List Frame) (us : List Token) (s' : Setting) (sh : Shape) (k' : List Frame) (top : Tree) → IsTrue (is_value s) → tree sh ≡ Some top → walk (state s fresh (infix_frame r c p (used reading v) ∷ k)) us ≡ Some (state s' sh k') → walk (joined s r c p v k) us ≡ Some (state s' sh k')
+past_word s r c p v k [] s' sh k' top d t h =
     let e : tree fresh ≡ Some top = ap tree (same_shape s s' fresh sh (infix_frame r c p (used reading v) ∷ k) k' h) ∙ t in
     absurd cc
-past_word s r c p v k (token q (mark equal) ∷ us) s' sh k' top t h = absurd cc
-past_word s r c p v k (token q (mark m) ∷ us) s' sh k' top t h = h
-past_word s r c p v k (token q x ∷ us) s' sh k' top t h = h
+past_word s r c p v k (token q (mark equal) ∷ us) s' sh k' top d t h = absurd cc
+past_word s r c p v k (token q (mark m) ∷ us) s' sh k' top d t h = ap (λ o. option_and_then (λ x. walk x us) o) (value_goes s (go_on (grow s fresh q (mark m)) s fresh (infix_frame r c p (used reading v) ∷ k) q (mark m)) d) ∙ h
+past_word s r c p v k (token q x ∷ us) s' sh k' top d t h = ap (λ o. option_and_then (λ y. walk y us) o) (value_goes s (go_on (grow s fresh q x) s fresh (infix_frame r c p (used reading v) ∷ k) q x) d) ∙ h
 
 same_tree : (x y : Tree) → Some x ≡ Some y → x ≡ y
 same_tree x y h = cc
@@ -95,9 +102,9 @@ reduced_is sh k r top v t w h =
     kept (2 * suc r) top k (omega (arith, most, low)) ∙ ap (λ e. (e, k)) (same_tree top (used reading v) (sym t ∙ target_tree sh v w))
 
 -- AND or OR after a variable, and an operand after it
-pub joined_walk : (s : Setting) (sh : Shape) (k : List Frame) (p : Place) (r c : ℕ) (top : Tree) (v : Variable) (us : List Token) (s' : Setting) (sh' : Shape) (k' : List Frame) (top' : Tree) → tree sh ≡ Some top → target sh ≡ Some v → IsTrue (is_boolean (suc r) && nat_lt 21 (bar_of k)) → tree sh' ≡ Some top' → walk (state s fresh (infix_frame r c p (reduce (2 * suc r) top k).0 ∷ (reduce (2 * suc r) top k).1)) us ≡ Some (state s' sh' k') → walk (joined s r c p v k) us ≡ Some (state s' sh' k')
-joined_walk s sh k p r c top v us s' sh' k' top' t w h t' is =
-    past_word s r c p v k us s' sh' k' top' t' (ap (λ q. walk (state s fresh (infix_frame r c p q.0 ∷ q.1)) us) (sym (reduced_is sh k r top v t w h)) ∙ is)
+pub joined_walk : (s : Setting) (sh : Shape) (k : List Frame) (p : Place) (r c : ℕ) (top : Tree) (v : Variable) (us : List Token) (s' : Setting) (sh' : Shape) (k' : List Frame) (top' : Tree) → IsTrue (is_value s) → tree sh ≡ Some top → target sh ≡ Some v → IsTrue (is_boolean (suc r) && nat_lt 21 (bar_of k)) → tree sh' ≡ Some top' → walk (state s fresh (infix_frame r c p (reduce (2 * suc r) top k).0 ∷ (reduce (2 * suc r) top k).1)) us ≡ Some (state s' sh' k') → walk (joined s r c p v k) us ≡ Some (state s' sh' k')
+joined_walk s sh k p r c top v us s' sh' k' top' d t w h t' is =
+    past_word s r c p v k us s' sh' k' top' d t' (ap (λ q. walk (state s fresh (infix_frame r c p q.0 ∷ q.1)) us) (sym (reduced_is sh k r top v t w h)) ∙ is)
 
 -- the answers of the code
 pub join_taken : (s : Setting) (sh : Shape) (k : List Frame) (p : Place) (r l c : ℕ) (v : Variable) → r ≡ suc l → target sh ≡ Some v → IsTrue (is_boolean r && nat_lt 21 (bar_of k)) → option_and_then (λ e. join s (target sh) (Some (r, c)) p e k) (tree sh) ≡ Some (joined s l c p v k)

@@ -1,18 +1,19 @@
 -- What has been read can be ended to an expression of the least height.
-use Rattle.std.proofs.Common.{◌≡◌, ℕ, suc, ◌≤◌, max, List, [], ◌∷◌, ◌++◌, Some, None, true, false, refl, sym, ap, ◌∙◌, arith}
-use Rattle.std.specs.Prelude.{Option, option_and_then}
+use Rattle.std.proofs.Common.{◌≡◌, ℕ, suc, ◌≤◌, max, List, [], ◌∷◌, ◌++◌, Bool, Some, None, true, false, refl, sym, ap, ◌∙◌, arith}
+use Rattle.std.specs.Prelude.{Option, option_and_then, if◌then◌else◌}
 use Rattle.p8_tree.specs.declared.places.Place.{Place}
-use Rattle.p8_tree.specs.Expressions.{Tree, node, Number, Str, ObjConst, Built, Look, Named, Part, Memory, Register, index, bits, single, range, no_trees, ◌▷◌, no_items, ◌▸◌}
-use Rattle.p8_grammar.specs.Lexemes.{Setting, in_method, in_declaration, in_dat, in_data_item, memory, Mark, left_parenthesis, right_parenthesis, left_bracket, right_bracket, colon, dot, equal, Lexeme, number, name, string, mark, size, Token, token}
+use Rattle.p8_tree.specs.Expressions.{Tree, node, Number, Str, Var, Change, Variable, no_index, ObjConst, Built, Look, Named, Part, Memory, Register, index, bits, single, range, no_trees, ◌▷◌, no_items, ◌▸◌}
+use Rattle.p8_grammar.specs.Lexemes.{Setting, in_method, in_declaration, in_dat, in_data_item, in_action, is_value, behind, memory, Mark, left_parenthesis, right_parenthesis, left_bracket, right_bracket, colon, dot, equal, Lexeme, number, name, string, mark, changes, size, Token, token}
 use Rattle.p8_grammar.specs.Grammar.{Row, Head, calls, built, applied, Reads, IsFront}
 use Rattle.p8_grammar.specs.Heights.{height, height_of_trees, IsTooHigh}
-use Rattle.p8_grammar.specs.Machine.{reading, addressing, changing, Shape, memory_word, named, parted, indexed_name, ready, trapped_name, trapped_element, headed, done, Hole, Next, stays, opens, choice_of, tree, close, fresh, Frame, wrap, assign_frame, inside_frame, reduce, State, state, joined, entered, entered_all, shut, step, walk, all_of, accepted, accept, start}
+use Rattle.p8_grammar.specs.Machine.{reading, addressing, changing, Shape, memory_word, named, parted, indexed_name, ready, trapped_name, trapped_element, headed, done, Hole, Next, stays, opens, choice_of, tree, target, grow, is_plain as is_name_alone, unless, acting, whole_in, close, fresh, Frame, wrap, assign_frame, inside_frame, reduce, State, state, joined, entered, entered_all, shut, go_on, step, walk, all_of, accepted, accept, start}
 use Rattle.p8_grammar.specs.Least.{height_in_head, shape_least, filled, need, least}
 use Rattle.p8_grammar.proofs.Walks.{walk_append, goes_on, steps_on, wraps}
 use Rattle.p8_grammar.proofs.FormsStand.{ShapeStands, is_using, is_coloned, is_sized, is_plain, is_named, is_element, is_plain_dot, is_dotted, is_parted, is_memory, is_register, is_ready, is_trapping, is_trapped_name, is_trapped_element, is_object_dot, is_headed, is_hashed, is_string_begun, is_string_opened, is_string_read, is_constant_begun, is_look_begun, is_done, HoleStands, is_parenthesis, is_plain_index, is_name_index, is_part_index, is_memory_address, is_memory_index, is_first_bit, is_last_bit, is_trapped_index, is_argument, is_constant, is_look_for, is_choice, is_choice_to}
+use Rattle.p8_grammar.proofs.FormsRead.{changes_after, standing, done_whole, whole_tree}
 use Rattle.p8_grammar.proofs.Complete.{mark_step, complete}
 use Rattle.p8_grammar.proofs.Sound.{Pending, nothing_pending, after_operator, in_hole, Begun, Stands, walk_stands, start_stands, joint_assigns, sound}
-use Rattle.p8_grammar.proofs.Tall.{tree_least, need_le, need_wrap}
+use Rattle.p8_grammar.proofs.Tall.{tree_least, target_least, need_le, need_wrap}
 
 somewhere : Place
 somewhere = record { line = 1; column = 1 }
@@ -27,6 +28,8 @@ pub data IsEnding : Lexeme → Type 0 where
   a_number : IsEnding (number 0)
   a_string : IsEnding (string letter)
   a_size : IsEnding (size 1)
+  -- `++`, before and after a variable
+  a_change : IsEnding (changes 0x20 0x28)
   a_mark : (m : Mark) → IsEnding (mark m)
 
 pub data AreEndings : List Token → Type 0 where
@@ -36,6 +39,38 @@ pub data AreEndings : List Token → Type 0 where
 both_end : {ts us : List Token} → AreEndings ts → AreEndings us → AreEndings (ts ++ us)
 both_end none y = y
 both_end (another x y) z = another x (both_end y z)
+
+-- a name's tree
+abbrev alone : Tree
+alone = node somewhere (Var (Named letter no_index somewhere))
+
+-- words that make a whole form one that stands in its setting, at its height: a change of a variable, in an action
+record Lasting (s : Setting) (sh : Shape) : Type 0 where
+  rest : List Token
+  endings : AreEndings rest
+  whole : Shape
+  top : Tree
+  walks : (k : List Frame) → walk (state s sh k) rest ≡ Some (state s whole k)
+  has : whole_in s whole ≡ Some top
+  low : shape_least whole ≤ shape_least sh
+
+lasting : (s : Setting) (sh : Shape) (e : Tree) → tree sh ≡ Some e → Lasting s sh
+lasting s sh e t = go (whole_in s sh) refl (target sh) refl
+  where
+    go : (o : Option Tree) → whole_in s sh ≡ o → (v : Option Variable) → target sh ≡ v → Lasting s sh
+    go (Some x) h v w = record { rest = []; endings = none; whole = sh; top = x; walks = λ k. refl; has = h; low = omega arith }
+    go None h None w = let x = sym h ∙ standing s sh e t w in absurd cc
+    go None h (Some v) w =
+        let c : Tree = node somewhere (Change v 0x28) in
+        record {
+          rest = token somewhere (changes 0x20 0x28) ∷ [];
+          endings = another a_change none;
+          whole = done c;
+          top = c;
+          walks = λ k. steps_on (state s sh k) (state s (done c) k) (token somewhere (changes 0x20 0x28)) [] (ap (λ o. go_on o s sh k somewhere (changes 0x20 0x28)) (changes_after s sh somewhere 0x20 0x28 v w));
+          has = done_whole s c;
+          low = omega (arith, target_least sh v w);
+        }
 
 -- words that end a form at its least height
 record Completed (s : Setting) (sh : Shape) : Type 0 where
@@ -56,6 +91,7 @@ completed (is_coloned {u = u} {p = p} y d) = record { rest = token somewhere (na
 completed {s = in_method} (is_sized {u = u} {p = p} {z = z} y i) = record { rest = token somewhere (mark left_bracket) ∷ token somewhere (number 0) ∷ token somewhere (mark right_bracket) ∷ []; endings = another (a_mark left_bracket) (another a_number (another (a_mark right_bracket) none)); whole = memory_word u p z (node somewhere (Number 0)); top = _; walks = λ k. refl; has = refl; low = omega arith }
 completed {s = in_declaration} (is_sized {u = u} {p = p} {z = z} y i) = record { rest = token somewhere (mark left_bracket) ∷ token somewhere (number 0) ∷ token somewhere (mark right_bracket) ∷ []; endings = another (a_mark left_bracket) (another a_number (another (a_mark right_bracket) none)); whole = memory_word u p z (node somewhere (Number 0)); top = _; walks = λ k. refl; has = refl; low = omega arith }
 completed {s = in_dat} (is_sized {u = u} {p = p} {z = z} y i) = record { rest = token somewhere (mark left_bracket) ∷ token somewhere (number 0) ∷ token somewhere (mark right_bracket) ∷ []; endings = another (a_mark left_bracket) (another a_number (another (a_mark right_bracket) none)); whole = memory_word u p z (node somewhere (Number 0)); top = _; walks = λ k. refl; has = refl; low = omega arith }
+completed {s = in_action} (is_sized {u = u} {p = p} {z = z} y i) = record { rest = token somewhere (mark left_bracket) ∷ token somewhere (number 0) ∷ token somewhere (mark right_bracket) ∷ []; endings = another (a_mark left_bracket) (another a_number (another (a_mark right_bracket) none)); whole = memory_word u p z (node somewhere (Number 0)); top = _; walks = λ k. refl; has = refl; low = omega arith }
 completed {s = in_data_item} (is_sized y i) = absurd cc
 completed {s = s} (is_plain y) = already s _ _ refl
 completed {s = s} (is_named y n) = already s _ _ refl
@@ -71,12 +107,20 @@ completed {s = s} is_trapped_name = already s _ _ refl
 completed (is_trapped_element {p = p} {n = n} {e = e} i) = record { rest = token somewhere (mark dot) ∷ token somewhere (name letter) ∷ []; endings = another (a_mark dot) (another a_name none); whole = headed (calls true (Some n) (index e) letter somewhere p); top = _; walks = λ k. refl; has = refl; low = omega arith }
 completed (is_object_dot {t = t} {p = p} {n = n} {i = i} f) = record { rest = token somewhere (name letter) ∷ []; endings = another a_name none; whole = headed (calls t (Some n) i letter somewhere p); top = _; walks = λ k. refl; has = refl; low = omega arith }
 completed {s = s} (is_headed y) = already s _ _ refl
-completed (is_hashed {p = p} {n = n}) = record { rest = token somewhere (name letter) ∷ []; endings = another a_name none; whole = done (node p (ObjConst n letter somewhere)); top = _; walks = λ k. refl; has = refl; low = omega arith }
-completed (is_string_begun {p = p}) = record { rest = token somewhere (mark left_parenthesis) ∷ token somewhere (string (65 ∷ [])) ∷ token somewhere (mark right_parenthesis) ∷ []; endings = another (a_mark left_parenthesis) (another a_string (another (a_mark right_parenthesis) none)); whole = done (node p (Str (65 ∷ []))); top = _; walks = λ k. refl; has = refl; low = omega arith }
-completed (is_string_opened {p = p}) = record { rest = token somewhere (string (65 ∷ [])) ∷ token somewhere (mark right_parenthesis) ∷ []; endings = another a_string (another (a_mark right_parenthesis) none); whole = done (node p (Str (65 ∷ []))); top = _; walks = λ k. refl; has = refl; low = omega arith }
-completed (is_string_read {p = p} {c = c} {t = t}) = record { rest = token somewhere (mark right_parenthesis) ∷ []; endings = another (a_mark right_parenthesis) none; whole = done (node p (Str (c ∷ t))); top = _; walks = λ k. refl; has = refl; low = omega arith }
-completed (is_constant_begun {p = p}) = record { rest = token somewhere (mark left_parenthesis) ∷ token somewhere (number 0) ∷ token somewhere (mark right_parenthesis) ∷ []; endings = another (a_mark left_parenthesis) (another a_number (another (a_mark right_parenthesis) none)); whole = done (node p (Built 0 (no_trees ▷ node somewhere (Number 0)))); top = _; walks = λ k. refl; has = refl; low = omega arith }
-completed (is_look_begun {p = p} {k = c}) = record { rest = token somewhere (mark left_parenthesis) ∷ token somewhere (number 0) ∷ token somewhere (mark colon) ∷ token somewhere (number 0) ∷ token somewhere (mark right_parenthesis) ∷ []; endings = another (a_mark left_parenthesis) (another a_number (another (a_mark colon) (another a_number (another (a_mark right_parenthesis) none)))); whole = done (node p (Look c (node somewhere (Number 0)) (no_items ▸ single (node somewhere (Number 0))))); top = _; walks = λ k. refl; has = refl; low = omega arith }
+completed (is_hashed {p = p} {n = n} d) = record { rest = token somewhere (name letter) ∷ []; endings = another a_name none; whole = done (node p (ObjConst n letter somewhere)); top = _; walks = λ k. refl; has = refl; low = omega arith }
+completed {s = in_method} (is_string_begun {p = p} d) = record { rest = token somewhere (mark left_parenthesis) ∷ token somewhere (string (65 ∷ [])) ∷ token somewhere (mark right_parenthesis) ∷ []; endings = another (a_mark left_parenthesis) (another a_string (another (a_mark right_parenthesis) none)); whole = done (node p (Str (65 ∷ []))); top = _; walks = λ k. refl; has = refl; low = omega arith }
+completed {s = in_declaration} (is_string_begun {p = p} d) = record { rest = token somewhere (mark left_parenthesis) ∷ token somewhere (string (65 ∷ [])) ∷ token somewhere (mark right_parenthesis) ∷ []; endings = another (a_mark left_parenthesis) (another a_string (another (a_mark right_parenthesis) none)); whole = done (node p (Str (65 ∷ []))); top = _; walks = λ k. refl; has = refl; low = omega arith }
+completed {s = in_dat} (is_string_begun {p = p} d) = record { rest = token somewhere (mark left_parenthesis) ∷ token somewhere (string (65 ∷ [])) ∷ token somewhere (mark right_parenthesis) ∷ []; endings = another (a_mark left_parenthesis) (another a_string (another (a_mark right_parenthesis) none)); whole = done (node p (Str (65 ∷ []))); top = _; walks = λ k. refl; has = refl; low = omega arith }
+completed {s = in_data_item} (is_string_begun {p = p} d) = record { rest = token somewhere (mark left_parenthesis) ∷ token somewhere (string (65 ∷ [])) ∷ token somewhere (mark right_parenthesis) ∷ []; endings = another (a_mark left_parenthesis) (another a_string (another (a_mark right_parenthesis) none)); whole = done (node p (Str (65 ∷ []))); top = _; walks = λ k. refl; has = refl; low = omega arith }
+completed {s = in_action} (is_string_begun d) = absurd cc
+completed {s = in_method} (is_string_opened {p = p} d) = record { rest = token somewhere (string (65 ∷ [])) ∷ token somewhere (mark right_parenthesis) ∷ []; endings = another a_string (another (a_mark right_parenthesis) none); whole = done (node p (Str (65 ∷ []))); top = _; walks = λ k. refl; has = refl; low = omega arith }
+completed {s = in_declaration} (is_string_opened {p = p} d) = record { rest = token somewhere (string (65 ∷ [])) ∷ token somewhere (mark right_parenthesis) ∷ []; endings = another a_string (another (a_mark right_parenthesis) none); whole = done (node p (Str (65 ∷ []))); top = _; walks = λ k. refl; has = refl; low = omega arith }
+completed {s = in_dat} (is_string_opened {p = p} d) = record { rest = token somewhere (string (65 ∷ [])) ∷ token somewhere (mark right_parenthesis) ∷ []; endings = another a_string (another (a_mark right_parenthesis) none); whole = done (node p (Str (65 ∷ []))); top = _; walks = λ k. refl; has = refl; low = omega arith }
+completed {s = in_data_item} (is_string_opened {p = p} d) = record { rest = token somewhere (string (65 ∷ [])) ∷ token somewhere (mark right_parenthesis) ∷ []; endings = another a_string (another (a_mark right_parenthesis) none); whole = done (node p (Str (65 ∷ []))); top = _; walks = λ k. refl; has = refl; low = omega arith }
+completed {s = in_action} (is_string_opened d) = absurd cc
+completed (is_string_read {p = p} {c = c} {t = t} d) = record { rest = token somewhere (mark right_parenthesis) ∷ []; endings = another (a_mark right_parenthesis) none; whole = done (node p (Str (c ∷ t))); top = _; walks = λ k. refl; has = refl; low = omega arith }
+completed (is_constant_begun {p = p} d) = record { rest = token somewhere (mark left_parenthesis) ∷ token somewhere (name letter) ∷ token somewhere (mark right_parenthesis) ∷ []; endings = another (a_mark left_parenthesis) (another a_name (another (a_mark right_parenthesis) none)); whole = done (node p (Built 0 (no_trees ▷ alone))); top = _; walks = λ k. refl; has = refl; low = omega arith }
+completed (is_look_begun {p = p} {k = c} d) = record { rest = token somewhere (mark left_parenthesis) ∷ token somewhere (name letter) ∷ token somewhere (mark colon) ∷ token somewhere (name letter) ∷ token somewhere (mark right_parenthesis) ∷ []; endings = another (a_mark left_parenthesis) (another a_name (another (a_mark colon) (another a_name (another (a_mark right_parenthesis) none)))); whole = done (node p (Look c (alone) (no_items ▸ single (alone)))); top = _; walks = λ k. refl; has = refl; low = omega arith }
 completed {s = s} (is_done f) = already s _ _ refl
 
 -- words that end a form whose next expression is there, at its least height
@@ -124,7 +168,7 @@ applied_low (calls t o i n q p) es e = omega arith
 applied_low (built k p) es e = omega arith
 
 filled_in : {s : Setting} {hole : Hole} {row : Row} → HoleStands s hole row → (e : Tree) → Filled s hole e
-filled_in {s = s} is_parenthesis e = closed s _ e right_parenthesis (done e) e refl refl (omega arith)
+filled_in {s = s} (is_parenthesis d) e = closed s _ e right_parenthesis (done e) e refl refl (omega arith)
 filled_in {s = s} (is_plain_index {u = reading} {p = p} {n = n} y i) e = closed s _ e right_bracket (indexed_name p n e) _ refl refl (omega arith)
 filled_in {s = s} (is_plain_index {u = addressing q} {p = p} {n = n} y i) e = closed s _ e right_bracket (ready (addressing q) (Named n (index e) p) memory) _ refl refl (omega arith)
 filled_in {s = s} (is_plain_index {u = changing q b} {p = p} {n = n} y i) e = closed s _ e right_bracket (ready (changing q b) (Named n (index e) p) memory) _ refl refl (omega arith)
@@ -138,10 +182,10 @@ filled_in {s = s} (is_first_bit {u = u} {p = p} {a = a} {x = x} y i b c t) e = c
 filled_in {s = s} (is_last_bit {u = u} {p = p} {a = a} {x = x} {low = low} y i b c t) e = closed s _ e right_bracket (ready u (Register a (bits (range low e)) p) x) _ refl refl (omega arith)
 filled_in {s = s} (is_trapped_index {p = p} {n = n} i) e = closed_by s _ e right_bracket (stays (trapped_element p n e)) (token somewhere (mark dot) ∷ token somewhere (name letter) ∷ []) (headed (calls true (Some n) (index e) letter somewhere p)) _ (another (a_mark dot) (another a_name none)) refl (λ k. refl) refl (omega arith)
 filled_in {s = s} (is_argument {h = h} {es = es} f a) e = closed s _ e right_parenthesis (done (applied h (es ▷ e))) _ refl refl (applied_low h es e)
-filled_in {s = s} (is_constant {p = p}) e = closed s _ e right_parenthesis (done (node p (Built 0 (no_trees ▷ e)))) _ refl refl (omega arith)
-filled_in {s = s} (is_look_for {p = p} {k = c}) e = closed_by s _ e colon (opens (choice_of p c e no_items)) (token somewhere (number 0) ∷ token somewhere (mark right_parenthesis) ∷ []) (done (node p (Look c e (no_items ▸ single (node somewhere (Number 0)))))) _ (another a_number (another (a_mark right_parenthesis) none)) refl (λ k. refl) refl (omega arith)
-filled_in {s = s} (is_choice {p = p} {k = c} {x = x} {xs = xs} y) e = closed s _ e right_parenthesis (done (node p (Look c x (xs ▸ single e)))) _ refl refl (omega arith)
-filled_in {s = s} (is_choice_to {p = p} {k = c} {x = x} {low = low} {xs = xs} y) e = closed s _ e right_parenthesis (done (node p (Look c x (xs ▸ range low e)))) _ refl refl (omega arith)
+filled_in {s = s} (is_constant {p = p} d) e = closed s _ e right_parenthesis (done (node p (Built 0 (no_trees ▷ e)))) _ refl refl (omega arith)
+filled_in {s = s} (is_look_for {p = p} {k = c} d) e = closed_by s _ e colon (opens (choice_of p c e no_items)) (token somewhere (name letter) ∷ token somewhere (mark right_parenthesis) ∷ []) (done (node p (Look c e (no_items ▸ single (alone))))) _ (another a_name (another (a_mark right_parenthesis) none)) refl (λ k. refl) refl (omega arith)
+filled_in {s = s} (is_choice {p = p} {k = c} {x = x} {xs = xs} d y) e = closed s _ e right_parenthesis (done (node p (Look c x (xs ▸ single e)))) _ refl refl (omega arith)
+filled_in {s = s} (is_choice_to {p = p} {k = c} {x = x} {low = low} {xs = xs} d y) e = closed s _ e right_parenthesis (done (node p (Look c x (xs ▸ range low e)))) _ refl refl (omega arith)
 
 -- words that end a state to an expression of at most this height
 pub record EndsAt (st : State) (n : ℕ) : Type 0 where
@@ -153,43 +197,45 @@ pub record EndsAt (st : State) (n : ℕ) : Type 0 where
   pub accepts : accept end ≡ Some top
   pub low : height top ≤ n
 
-ends : {s0 s : Setting} {k : List Frame} {us : List Token} → Pending s0 s k us → (e : Tree) (s' : Setting) (sh : Shape) (k' : List Frame) (x : Tree) → tree sh ≡ Some x → reduce 22 x k' ≡ reduce 22 e k → EndsAt (state s' sh k') (need (height e) k)
+ends : {s0 s : Setting} {k : List Frame} {us : List Token} → Pending s0 s k us → (e : Tree) (s' : Setting) (sh : Shape) (k' : List Frame) (x : Tree) → whole_in s' sh ≡ Some x → reduce 22 x k' ≡ reduce 22 e k → EndsAt (state s' sh k') (need (height e) k)
 ends nothing_pending e s' sh k' x h r =
     record { rest = []; endings = none; end = state s' sh k'; top = e; is = refl; accepts = ap (λ o. accepted o k') h ∙ ap (λ q. all_of q.0 q.1) r; low = omega arith }
-ends (after_operator {f = f} {k = k} vs l p small low b g) e s' sh k' x h r =
+ends (after_operator {f = f} {k = k} vs l p d same kept small low b g) e s' sh k' x h r =
     let y = ends p (wrap f e) s' sh k' x h (r ∙ wraps 22 e f k b) in
     record { rest = y.rest; endings = y.endings; end = y.end; top = y.top; is = y.is; accepts = y.accepts; low = omega (arith, y.low, need_wrap f e k b) }
 ends (in_hole {s = s} {h = hole} {k = k} p stands sp) e s' sh k' x h r =
     let f = filled_in stands e in
-    let y = ends p f.top s f.whole k f.top f.has refl in
+    let g = lasting s f.whole f.top f.has in
+    let y = ends p g.top s g.whole k g.top g.has refl in
     record {
-      rest = f.rest ++ y.rest;
-      endings = both_end f.endings y.endings;
+      rest = f.rest ++ (g.rest ++ y.rest);
+      endings = both_end f.endings (both_end g.endings y.endings);
       end = y.end;
       top = y.top;
-      is = goes_on (state s' sh k') (state s f.whole k) f.rest y.rest (f.walks s' sh x k' k h r) ∙ y.is;
+      is = goes_on (state s' sh k') (state s f.whole k) f.rest (g.rest ++ y.rest) (f.walks s' sh x k' k (whole_tree s' sh x h) r) ∙ goes_on (state s f.whole k) (state s g.whole k) g.rest y.rest (g.walks k) ∙ y.is;
       accepts = y.accepts;
-      low = omega (arith, y.low, need_le k (height f.top) (filled (height e) hole) (omega (arith, f.low, tree_least f.whole f.top f.has)));
+      low = omega (arith, y.low, need_le k (height g.top) (filled (height e) hole) (omega (arith, f.low, g.low, tree_least g.whole g.top (whole_tree s g.whole g.top g.has))));
     }
 
 ends_form : (s0 s : Setting) (sh : Shape) (k : List Frame) (ts : List Token) → Begun s0 s (stays sh) k ts → EndsAt (state s sh k) (need (shape_least sh) k)
 ends_form s0 s sh k ts b =
     let c = completed b.stands in
-    let y = ends b.pending c.top s c.whole k c.top c.has refl in
+    let g = lasting s c.whole c.top c.has in
+    let y = ends b.pending g.top s g.whole k g.top g.has refl in
     record {
-      rest = c.rest ++ y.rest;
-      endings = both_end c.endings y.endings;
+      rest = c.rest ++ (g.rest ++ y.rest);
+      endings = both_end c.endings (both_end g.endings y.endings);
       end = y.end;
       top = y.top;
-      is = goes_on (state s sh k) (state s c.whole k) c.rest y.rest (c.walks k) ∙ y.is;
+      is = goes_on (state s sh k) (state s c.whole k) c.rest (g.rest ++ y.rest) (c.walks k) ∙ goes_on (state s c.whole k) (state s g.whole k) g.rest y.rest (g.walks k) ∙ y.is;
       accepts = y.accepts;
-      low = omega (arith, y.low, need_le k (height c.top) (shape_least sh) (omega (arith, c.low, tree_least c.whole c.top c.has)));
+      low = omega (arith, y.low, need_le k (height g.top) (shape_least sh) (omega (arith, c.low, g.low, tree_least g.whole g.top (whole_tree s g.whole g.top g.has))));
     }
 
 ends_state : (s0 : Setting) (st : State) (ts : List Token) → Stands s0 st ts → EndsAt st (least st)
 ends_state s0 (state s sh k) ts b = ends_form s0 s sh k ts b
 ends_state s0 (joined s r c p v k) ts b =
-    let y = ends_form s0 s fresh (assign_frame (Some c) p v ∷ k) (ts ++ token somewhere (mark equal) ∷ []) (joint_assigns s0 s r c p v k ts somewhere b) in
+    let y = ends_form s0 (behind s) fresh (assign_frame (Some c) p v ∷ k) (ts ++ token somewhere (mark equal) ∷ []) (joint_assigns s0 s r c p v k ts somewhere b) in
     record { rest = token somewhere (mark equal) ∷ y.rest; endings = another (a_mark equal) y.endings; end = y.end; top = y.top; is = y.is; accepts = y.accepts; low = y.low }
 
 -- an expression that goes on from what has been read, of the least height

@@ -1,17 +1,18 @@
 -- A tree that proper words spell is proper.
-use Rattle.std.proofs.Common.{◌≡◌, ℕ, suc, ◌^◌, ◌<◌, Bool, true, false, List, [], ◌∷◌, ◌++◌, Option, Some, None, refl, sym, ap, subst, arith}
-use Rattle.std.specs.Prelude.{◌==◌, ◌||◌, IsTrue}
+use Rattle.std.proofs.Common.{◌≡◌, ℕ, suc, ◌^◌, ◌<◌, Bool, true, false, List, [], ◌∷◌, ◌++◌, Option, Some, None, refl, sym, ap, subst, ◌∙◌, arith}
+use Rattle.std.specs.Prelude.{◌==◌, ◌||◌, ◌-◌, if◌then◌else◌, not, IsTrue}
 use Rattle.std.proofs.lemmas.Bool.Decides.{nat_tests}
 use Rattle.std.proofs.lemmas.List.{get_or_append_left, length-append}
 use Rattle.std.proofs.lemmas.List.Elements.{All-head, All-tail}
 use Rattle.p8_tree.specs.declared.places.Place.{Place}
-use Rattle.p8_tree.specs.Expressions.{Tree, Variable, Register, no_index, whole, bits, single, range, Trees, no_trees, ◌▷◌, Items}
+use Rattle.p8_tree.specs.Expressions.{Tree, node, Variable, Register, no_index, whole, bits, single, range, Trees, no_trees, ◌▷◌, Items}
 use Rattle.p8_tree.specs.Names.{IsName, IsVariableName, plain_name, result_name, local_label, IsQuoted}
-use Rattle.p8_tree.specs.Proper.{is_one_of, IsProperIndex, is_binary, is_written_register, has_bits as register_has_bits, is_register, is_in_memory, is_written as variable_is_written, arguments_fit, is_value, gives_value, IsProperTree, IsProperForm, IsProperVariable, AreProperTrees, AreProperItems}
-use Rattle.p8_grammar.specs.Lexemes.{Setting, in_method, in_declaration, in_dat, in_data_item, is_dat, inside, Access, memory, pins, input_pins, input, assembly, is_written, has_bits, is_in, mark, equal as equal_mark, assigns, Lexeme, prefix_word, infix_word, sign, object_address, Token, token}
+use Rattle.p8_tree.specs.Proper.{is_one_of, IsProperIndex, is_binary, is_written_register, has_bits as register_has_bits, is_register, is_in_memory, is_written as variable_is_written, arguments_fit, is_value, gives_value, gives_no_value, is_change, is_operator_alone, is_unary, arguments_fit_alone, IsDoneForm, IsProperTree, IsProperForm, IsProperVariable, AreProperTrees, AreProperItems}
+use Rattle.p8_grammar.specs.Lexemes.{Setting, in_method, in_declaration, in_dat, in_data_item, in_action, is_value as takes_value, is_dat, inside, behind, Access, memory, pins, input_pins, input, assembly, is_written, has_bits, is_in, mark, equal as equal_mark, assigns, Lexeme, prefix_word, infix_word, sign, object_address, Token, token}
 use Rattle.p8_grammar.specs.Grammar as grammar
-use Rattle.p8_grammar.specs.Grammar.{Piece, word, upto, Row, begin, ◌▹◌, Names, result_word, Variables, named, indexed, part, part_indexed, memory_at, memory_indexed, register_whole, register_bit, register_bits, place_of, Head, calls, built, applied, opening, Heads, trapped, of_object, of_element, of_built_in, Arguments, no_arguments, argument, Choices, no_choices, value_choice, range_choice, Forms, a_number, a_character, the_place, parentheses, variable, changed_before, changed_after, address_of, plain_call, bare_call, full_call, object_constant, a_value, a_string, a_constant, look_value, look_range, Prefix, at_object, unary, with_prefix, prefix_of, infix_of, Reads, operand, before, between, assigned, assigned_by_word, Spells, nothing, a_word, an_expression}
-use Rattle.p8_grammar.specs.Proper.{is_register_for, IsProperLexeme, lexeme_in, AreProper}
+use Rattle.p8_grammar.specs.Grammar.{Piece, word, upto, Row, begin, ◌▹◌, Names, result_word, Variables, named, indexed, part, part_indexed, memory_at, memory_indexed, register_whole, register_bit, register_bits, place_of, Head, calls, built, applied, opening, Heads, trapped, of_object, of_element, of_built_in, of_command, Arguments, no_arguments, argument, Choices, no_choices, value_choice, range_choice, Forms, a_number, a_character, the_place, parentheses, variable, name_alone, changed_by, changed_before, changed_after, address_of, plain_call, bare_call, full_call, object_constant, a_value, a_string, a_constant, look_value, look_range, Prefix, at_object, unary, with_prefix, prefix_of, effect_of, infix_of, Reads, operand, before, between, assigned, assigned_by_word, Spells, nothing, a_word, an_expression}
+use Rattle.p8_grammar.specs.Proper.{is_register_for, IsProperLexeme, lexeme_in, AreProper, IsProperAction}
+use Rattle.p8_grammar.proofs.FormsStand.{clash, inside_value, behind_value}
 
 -- words one after the other
 
@@ -128,11 +129,12 @@ opening_rest : (dat t : Bool) (o : Place) → IsProperRow dat (opening t o)
 opening_rest dat true o = (tt, tt)
 opening_rest dat false o = tt
 
-heads_proper : (s : Setting) {h : Head} {row : Row} → Heads s h row → IsProperRow (is_dat s) row → IsProperHead (is_dat s) h
-heads_proper s (trapped o) r = (r.1, refl, refl)
-heads_proper s (of_object o) r = (r.1, r.0.0.1, tt)
-heads_proper s (of_element o i) r = (r.1, r.0.0.0.0.1, r.0.0.1)
-heads_proper s of_built_in r = r.1
+heads_proper : (s : Setting) {h : Head} {row : Row} → IsTrue (takes_value s) → Heads s h row → IsProperRow (is_dat s) row → IsProperHead (is_dat s) h
+heads_proper s d (trapped o) r = (r.1, refl, refl)
+heads_proper s d (of_object o) r = (r.1, r.0.0.1, tt)
+heads_proper s d (of_element o i) r = (r.1, r.0.0.0.0.1, r.0.0.1)
+heads_proper s d of_built_in r = r.1
+heads_proper s d (of_command y) r = absurd (clash s d y)
 
 -- a built-in with arguments
 with_arguments : (es : Trees) (e : Tree) (k : ℕ) → IsTrue (gives_value k) → IsTrue (arguments_fit (es ▷ e) k)
@@ -165,24 +167,26 @@ choices_proper dat (range_choice c) h = let r = choices_proper dat c h.0.0 in ((
 small : (c : ℕ) → c < 256 → c < 2 ^ 32
 small c h = omega arith
 
-forms_proper : (s : Setting) {e : Tree} {row : Row} → Forms s e row → IsProperRow (is_dat s) row → IsProperTree (is_dat s) e
-forms_proper s a_number h = h.1
-forms_proper s (a_character {c = c}) h = small c (All-head IsQuoted c [] h.1).0
-forms_proper s (the_place dat) h = dat
-forms_proper s parentheses h = h.1
-forms_proper s (variable v) h = (variables_proper s v h).is
-forms_proper s (changed_before w v) h = let r = variables_proper s v h in (r.rest.1.0, r.written w, r.is)
-forms_proper s (changed_after w v) h = let r = variables_proper s v h.0 in (h.1.1, r.written w, r.is)
-forms_proper s (address_of v) h = let r = variables_proper s v h in (r.in_memory refl, r.is)
-forms_proper s (plain_call a) h = let r = arguments_proper (is_dat s) a h.0 in (r.1.0.1, (refl, refl), tt, (r.0, h.1))
-forms_proper s (bare_call {h = x} r) h = no_call (is_dat s) x (heads_proper s r h)
-forms_proper s (full_call {h = x} {es = es} {e = e} r a) h = let b = arguments_proper (is_dat s) a h.0 in full (is_dat s) x es e (heads_proper s r b.1.0) (b.0, h.1)
-forms_proper s object_constant h = (h.0.0.1, h.1)
-forms_proper s (a_value {k = k}) h = (or_left (is_value k) (gives_value k) h.1, tt)
-forms_proper s (a_string {c = c} {t = t}) h = (omega arith, h.0.1)
-forms_proper s a_constant h = (refl, (tt, h.1))
-forms_proper s (look_value c) h = let r = choices_proper (is_dat s) c h.0 in (r.1.0.0.1, refl, r.1.1, (r.0, h.1))
-forms_proper s (look_range c) h = let r = choices_proper (is_dat s) c h.0.0 in (r.1.0.0.1, refl, r.1.1, (r.0, (h.0.1, h.1)))
+forms_proper : (s : Setting) {e : Tree} {row : Row} → IsTrue (takes_value s) → Forms s e row → IsProperRow (is_dat s) row → IsProperTree (is_dat s) e
+forms_proper s d (a_number y) h = h.1
+forms_proper s d (a_character {c = c} y) h = small c (All-head IsQuoted c [] h.1).0
+forms_proper s d (the_place dat) h = dat
+forms_proper s d (parentheses y) h = h.1
+forms_proper s d (variable y v) h = (variables_proper s v h).is
+forms_proper s d (name_alone y) h = absurd (clash s d y)
+forms_proper s d (changed_by y a b w v) h = absurd (clash s d y)
+forms_proper s d (changed_before w v) h = let r = variables_proper s v h in (r.rest.1.0, r.written w, r.is)
+forms_proper s d (changed_after w v) h = let r = variables_proper s v h.0 in (h.1.1, r.written w, r.is)
+forms_proper s d (address_of y v) h = let r = variables_proper s v h in (r.in_memory refl, r.is)
+forms_proper s d (plain_call a) h = let r = arguments_proper (is_dat s) a h.0 in (r.1.0.1, (refl, refl), tt, (r.0, h.1))
+forms_proper s d (bare_call {h = x} r) h = no_call (is_dat s) x (heads_proper s d r h)
+forms_proper s d (full_call {h = x} {es = es} {e = e} r a) h = let b = arguments_proper (is_dat s) a h.0 in full (is_dat s) x es e (heads_proper s d r b.1.0) (b.0, h.1)
+forms_proper s d (object_constant y) h = (h.0.0.1, h.1)
+forms_proper s d (a_value {k = k}) h = (or_left (is_value k) (gives_value k) h.1, tt)
+forms_proper s d (a_string {c = c} {t = t} y) h = (omega arith, h.0.1)
+forms_proper s d (a_constant y) h = (refl, (tt, h.1))
+forms_proper s d (look_value y c) h = let r = choices_proper (is_dat s) c h.0 in (r.1.0.0.1, refl, r.1.1, (r.0, h.1))
+forms_proper s d (look_range y c) h = let r = choices_proper (is_dat s) c h.0.0 in (r.1.0.0.1, refl, r.1.1, (r.0, (h.0.1, h.1)))
 
 -- operators
 
@@ -201,6 +205,10 @@ prefix_proper dat object_address o e h x p = subst (λ o. IsProperForm dat (with
     given h = cc
 prefix_proper dat x o e h p q = absurd cc
 
+abbrev effect : Option Prefix → Option ℕ
+effect None = None
+effect (Some o) = effect_of o
+
 abbrev code_in : Option (ℕ × ℕ) → ℕ
 code_in None = 0
 code_in (Some x) = x.1
@@ -217,30 +225,117 @@ inside_dat in_method = refl
 inside_dat in_declaration = refl
 inside_dat in_dat = refl
 inside_dat in_data_item = refl
+inside_dat in_action = refl
+
+behind_dat : (s : Setting) → is_dat (behind s) ≡ is_dat s
+behind_dat in_method = refl
+behind_dat in_declaration = refl
+behind_dat in_dat = refl
+behind_dat in_data_item = refl
+behind_dat in_action = refl
 
 mutual
-  pub tree_proper : {s : Setting} {l : ℕ} {e : Tree} {ts : List Token} → Reads s l e ts → AreProper ts → IsProperTree (is_dat s) e
-  tree_proper {s = s} (operand f sp) h = forms_proper s f (row_proper sp h)
-  tree_proper {s = s} (before {x = x} {o = o} {p = p} {e = e} {ts = ts} is le r) h = prefix_proper (is_dat s) x o e is (All-head Has (token p x) ts h) (tree_proper r (All-tail Has (token p x) ts h))
-  tree_proper {s = s} (between {r = r} {k = k} {p = p} {ts = ts} {us = us} x is le a b) h =
+  pub tree_proper : {s : Setting} {l : ℕ} {e : Tree} {ts : List Token} → IsTrue (takes_value s) → Reads s l e ts → AreProper ts → IsProperTree (is_dat s) e
+  tree_proper {s = s} d (operand f sp) h = forms_proper s d f (row_proper sp h)
+  tree_proper {s = s} d (before {x = x} {o = o} {p = p} {e = e} {ts = ts} y is le r) h = prefix_proper (is_dat s) x o e is (All-head Has (token p x) ts h) (tree_proper d r (All-tail Has (token p x) ts h))
+  tree_proper {s = s} d (between {r = r} {k = k} {p = p} {ts = ts} {us = us} x y is tight le a b) h =
       let behind = right ts (token p x ∷ us) h in
-      (infix_proper x (suc r) k is (All-head Has (token p x) us behind), tree_proper a (left ts (token p x ∷ us) h), tree_proper b (All-tail Has (token p x) us behind))
-  tree_proper {s = s} (assigned {o = o} {p = p} {ts = ts} {us = us} x le w v sp r) h =
+      (infix_proper x (suc r) k is (All-head Has (token p x) us behind), tree_proper d a (left ts (token p x ∷ us) h), tree_proper d b (All-tail Has (token p x) us behind))
+  tree_proper {s = s} d (assigned {o = o} {p = p} {e = e} {ts = ts} {us = us} x le w v sp r) h =
       let behind = right ts (token p (assigns o) ∷ us) h in
       let y = variables_proper s v (row_proper sp (left ts (token p (assigns o) ∷ us) h)) in
-      (All-head Has (token p (assigns o)) us behind, y.written w, y.is, tree_proper r (All-tail Has (token p (assigns o)) us behind))
-  tree_proper {s = s} (assigned_by_word {k = k} {p = p} {ts = ts} {us = us} x r q le w b v sp t) h =
+      (All-head Has (token p (assigns o)) us behind, y.written w, y.is, subst (λ dat. IsProperTree dat e) (behind_dat s) (tree_proper (behind_value s) r (All-tail Has (token p (assigns o)) us behind)))
+  tree_proper {s = s} d (assigned_by_word {k = k} {p = p} {e = e} {ts = ts} {us = us} x r q le w b v sp t) h =
       let behind = right ts (token p (infix_word r k) ∷ token q (mark equal_mark) ∷ us) h in
       let y = variables_proper s v (row_proper sp (left ts (token p (infix_word r k) ∷ token q (mark equal_mark) ∷ us) h)) in
       let last = All-tail Has (token p (infix_word r k)) (token q (mark equal_mark) ∷ us) behind in
-      (All-head Has (token p (infix_word r k)) (token q (mark equal_mark) ∷ us) behind, y.written w, y.is, tree_proper t (All-tail Has (token q (mark equal_mark)) us last))
+      (All-head Has (token p (infix_word r k)) (token q (mark equal_mark) ∷ us) behind, y.written w, y.is, subst (λ dat. IsProperTree dat e) (behind_dat s) (tree_proper (behind_value s) t (All-tail Has (token q (mark equal_mark)) us last)))
 
   row_proper : {s : Setting} {row : Row} {ts : List Token} → Spells s row ts → AreProper ts → IsProperRow (is_dat s) row
   row_proper nothing h = tt
   row_proper (a_word {p = p} {x = x} {ts = ts} sp) h = (row_proper sp (left ts (token p x ∷ []) h), All-head Has (token p x) [] (right ts (token p x ∷ []) h))
   row_proper {s = s} (an_expression {e = e} {m = m} {ts = ts} {us = us} p sp r) h =
       let behind = right ts (us ++ token p (mark m) ∷ []) h in
-      (row_proper sp (left ts (us ++ token p (mark m) ∷ []) h), subst (λ dat. IsProperTree dat e) (inside_dat s) (tree_proper r (left us (token p (mark m) ∷ []) behind)))
+      (row_proper sp (left ts (us ++ token p (mark m) ∷ []) h), subst (λ dat. IsProperTree dat e) (inside_dat s) (tree_proper (inside_value s) r (left us (token p (mark m) ∷ []) behind)))
 
-pub spelled_proper : (s : Setting) (ts : List Token) (e : Tree) → Reads s 22 e ts → AreProper ts → IsProperTree (is_dat s) e
-spelled_proper s ts e r h = tree_proper r h
+-- actions
+
+abbrev IsDoneHead : Head → Type 0
+IsDoneHead (built k p) = IsTrue (gives_value k || gives_no_value k)
+IsDoneHead h = IsProperHead false h
+
+-- the effect byte of an operator alone
+effect_proper : (k e : ℕ) → IsTrue (is_unary k) → (if k == 0xEC then None else Some (k - 0xA0)) ≡ Some e → IsTrue (is_operator_alone e)
+effect_proper k e u h = one_of (λ k. (if k == 0xEC then None else Some (k - 0xA0)) ≡ Some e → IsTrue (is_operator_alone e)) (0xE6 ∷ 0xE7 ∷ 0xE9 ∷ 0xEC ∷ 0xF1 ∷ 0xF3 ∷ 0xF8 ∷ 0xFF ∷ []) k u (given 0x46 refl, (given 0x47 refl, (given 0x49 refl, ((λ h. absurd cc), (given 0x51 refl, (given 0x53 refl, (given 0x58 refl, (given 0x5F refl, tt)))))))) h
+  where
+    same : (n : ℕ) → Some n ≡ Some e → n ≡ e
+    same n h = cc
+
+    given : (n : ℕ) → IsTrue (is_operator_alone n) → Some n ≡ Some e → IsTrue (is_operator_alone e)
+    given n t h = subst (λ e. IsTrue (is_operator_alone e)) (same n h) t
+
+operator_proper : (w : Lexeme) (o : Prefix) (e : ℕ) → prefix_of w ≡ Some o → effect_of o ≡ Some e → IsProperLexeme w → IsTrue (is_operator_alone e)
+operator_proper (prefix_word r k) o e is h p = effect_proper k e p (ap effect is ∙ h)
+operator_proper (sign k j) o e is h p = effect_proper k e p.0 (ap effect is ∙ h)
+operator_proper object_address o e is h p = let x : None ≡ Some e = ap effect is ∙ h in absurd cc
+operator_proper w o e is h p = absurd cc
+
+heads_done : {h : Head} {row : Row} → Heads in_action h row → IsProperRow false row → IsDoneHead h
+heads_done (trapped o) r = (r.1, refl, refl)
+heads_done (of_object o) r = (r.1, r.0.0.1, tt)
+heads_done (of_element o i) r = (r.1, r.0.0.0.0.1, r.0.0.1)
+heads_done (of_built_in {k = k}) r = or_left (gives_value k) (gives_no_value k) r.1
+heads_done (of_command {k = k} y) r = or_true (gives_value k) (gives_no_value k) r.1
+
+no_call_done : (h : Head) → IsDoneHead h → IsProperAction (applied h no_trees)
+no_call_done (calls true None no_index n q p) h = (h.0, (refl, refl), tt, tt)
+no_call_done (calls t (Some object) i n q p) h = (h.0, h.1, h.2, tt)
+no_call_done (built k p) h = (or_true (is_value k) (gives_value k || gives_no_value k) h, tt)
+no_call_done (calls t None i n q p) h = absurd cc
+
+full_done : (h : Head) (es : Trees) (e : Tree) → IsDoneHead h → AreProperTrees false (es ▷ e) → IsProperAction (applied h (es ▷ e))
+full_done (calls true None no_index n q p) es e h a = (h.0, (refl, refl), tt, a)
+full_done (calls t (Some object) i n q p) es e h a = (h.0, h.1, h.2, a)
+full_done (built k p) es e h a = (h, a)
+full_done (calls t None i n q p) es e h a = absurd cc
+
+forms_done : {e : Tree} {row : Row} → Forms in_action e row → IsProperRow false row → IsProperAction e
+forms_done (name_alone y) h = h.1
+forms_done (changed_by {w = w} {o = o} {k = k} y a b x v) h = let r = variables_proper in_action v h in (or_true (is_change k) (is_operator_alone k) (operator_proper w o k a b r.rest.1), r.written x, r.is)
+forms_done (changed_before {b = b} w v) h = let r = variables_proper in_action v h in (or_left (is_change b) (is_operator_alone b) r.rest.1.0, r.written w, r.is)
+forms_done (changed_after {a = a} w v) h = let r = variables_proper in_action v h.0 in (or_left (is_change a) (is_operator_alone a) h.1.1, r.written w, r.is)
+forms_done (plain_call a) h = let r = arguments_proper false a h.0 in (r.1.0.1, (refl, refl), tt, (r.0, h.1))
+forms_done (bare_call {h = x} r) h = no_call_done x (heads_done r h)
+forms_done (full_call {h = x} {es = es} {e = e} r a) h = let b = arguments_proper false a h.0 in full_done x es e (heads_done r b.1.0) (b.0, h.1)
+forms_done (a_value {k = k}) h = (or_left (is_value k) (gives_value k || gives_no_value k) h.1, tt)
+forms_done (a_number y) h = absurd cc
+forms_done (a_character y) h = absurd cc
+forms_done (the_place y) h = absurd cc
+forms_done (parentheses y) h = absurd cc
+forms_done (variable y v) h = absurd cc
+forms_done (address_of y v) h = absurd cc
+forms_done (object_constant y) h = absurd cc
+forms_done (a_string y) h = absurd cc
+forms_done (a_constant y) h = absurd cc
+forms_done (look_value y c) h = absurd cc
+forms_done (look_range y c) h = absurd cc
+
+action_proper : {l : ℕ} {e : Tree} {ts : List Token} → Reads in_action l e ts → AreProper ts → IsProperAction e
+action_proper (operand f sp) h = forms_done f (row_proper sp h)
+action_proper (before y is le r) h = absurd cc
+action_proper (between x y is tight le a b) h = absurd cc
+action_proper (assigned {o = o} {p = p} {ts = ts} {us = us} x le w v sp r) h =
+    let behind = right ts (token p (assigns o) ∷ us) h in
+    let y = variables_proper in_action v (row_proper sp (left ts (token p (assigns o) ∷ us) h)) in
+    (All-head Has (token p (assigns o)) us behind, y.written w, y.is, tree_proper refl r (All-tail Has (token p (assigns o)) us behind))
+action_proper (assigned_by_word {k = k} {p = p} {ts = ts} {us = us} x r q le w b v sp t) h =
+    let behind = right ts (token p (infix_word r k) ∷ token q (mark equal_mark) ∷ us) h in
+    let y = variables_proper in_action v (row_proper sp (left ts (token p (infix_word r k) ∷ token q (mark equal_mark) ∷ us) h)) in
+    let last = All-tail Has (token p (infix_word r k)) (token q (mark equal_mark) ∷ us) behind in
+    (All-head Has (token p (infix_word r k)) (token q (mark equal_mark) ∷ us) behind, y.written w, y.is, tree_proper refl t (All-tail Has (token q (mark equal_mark)) us last))
+
+pub spelled_proper : (s : Setting) (ts : List Token) (e : Tree) → IsTrue (takes_value s) → Reads s 22 e ts → AreProper ts → IsProperTree (is_dat s) e
+spelled_proper s ts e d r h = tree_proper d r h
+
+pub spelled_done : (ts : List Token) (e : Tree) → Reads in_action 22 e ts → AreProper ts → IsProperAction e
+spelled_done ts e r h = action_proper r h

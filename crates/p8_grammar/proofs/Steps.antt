@@ -1,14 +1,14 @@
 -- One word more, by what the word is.
-use Rattle.std.proofs.Common.{◌≡◌, ℕ, ◌≤◌, List, [], ◌∷◌, Option, Some, None, refl, sym, ap, ◌∙◌, subst, arith}
-use Rattle.std.specs.Prelude.{option_and_then, IfOk}
+use Rattle.std.proofs.Common.{◌≡◌, ℕ, ◌+◌, ◌*◌, ◌≤◌, List, [], ◌∷◌, Option, Some, None, refl, sym, ap, ◌∙◌, subst, arith}
+use Rattle.std.specs.Prelude.{option_and_then, IfOk, IsTrue, not, if◌then◌else◌, nat_lt, ◌&&◌, Bool, true, false}
 use Rattle.std.specs.declared.result.Result.{Result}
 use Rattle.std.specs.declared.alloc.AllocError.{AllocError}
 use Rattle.std.proofs.lemmas.Bool.{le-ltb}
 use Rattle.p8_tree.specs.declared.places.Place.{Place}
 use Rattle.p8_tree.specs.Expressions.{Tree, Variable}
-use Rattle.p8_grammar.specs.Lexemes.{Setting, inside, Mark, Lexeme, mark, prefix_word, infix_word, sign, assigns, object_address, token}
-use Rattle.p8_grammar.specs.Grammar.{at_object, unary}
-use Rattle.p8_grammar.specs.Machine.{reading, addressing, changing, Shape, using, Hole, Next, stays, opens, inside_frame, tree, target, grow, on_mark, fresh, Frame, bar, bar_of, wrap, reduce, State, state, entered, shut, if_fresh, operate, join, assign, beyond, go_on, step, all_of, accepted, accept}
+use Rattle.p8_grammar.specs.Lexemes.{Setting, is_value, inside, behind, Mark, Lexeme, mark, prefix_word, infix_word, sign, assigns, object_address, token}
+use Rattle.p8_grammar.specs.Grammar.{Prefix, rank, at_object, unary, prefix_of, effect_of}
+use Rattle.p8_grammar.specs.Machine.{reading, addressing, changing, Shape, using, Hole, Next, stays, opens, inside_frame, tree, whole_in, if_action, altering, begins, entered_all, on_prefix, prefixed, target, grow, on_mark, fresh, Frame, prefix_frame, bar, bar_of, wrap, reduce, State, state, entered, shut, if_fresh, operate, join, assign, beyond, go_on, step, all_of, accepted, accept}
 use Rattle.p8_grammar.specs.declared.lexemes.Term as term
 use Rattle.p8_grammar.specs.declared.lexemes.Term.TheVariants as term_case
 use Rattle.p8_grammar.specs.declared.taking.Taken as taken
@@ -28,27 +28,80 @@ no_prefix s (using (addressing q)) p k = refl
 no_prefix s (using (changing q b)) p k = refl
 no_prefix s sh p k = refl
 
-pub unary_step : (s : Setting) (sh : Shape) (k : List Frame) (p : Place) (r c : ℕ) → step (state s sh k) (token p (prefix_word r c)) ≡ if_fresh s sh (Some (unary r c)) p k
-unary_step s (using u) k p r c = refl
-unary_step s sh k p r c = refl
+dead : (s : Setting) (o : Prefix) (p : Place) (k : List Frame) → is_value s ≡ false → prefixed s (Some o) p k ≡ None
+dead s o p k d = ap (λ b. if b && nat_lt (2 * rank o + 1) (bar_of k) then Some (state s fresh (prefix_frame o p ∷ k)) else None) d
 
-pub object_step : (s : Setting) (sh : Shape) (k : List Frame) (p : Place) → step (state s sh k) (token p object_address) ≡ if_fresh s sh (Some at_object) p k
-object_step s (using u) k p = refl
-object_step s sh k p = refl
+fresh_no_tree : (s : Setting) (sh : Shape) (o : Option Prefix) (p : Place) (k : List Frame) (y : Tree) → tree sh ≡ Some y → if_fresh s sh o p k ≡ None
+fresh_no_tree s (using u) o p k y e = absurd cc
+fresh_no_tree s sh o p k y e = refl
+
+dead_prefix : (s : Setting) (sh : Shape) (o : Prefix) (p : Place) (k : List Frame) → is_value s ≡ false → if_fresh s sh (Some o) p k ≡ None
+dead_prefix s (using reading) o p k d = dead s o p k d
+dead_prefix s (using (addressing q)) o p k d = refl
+dead_prefix s (using (changing q b)) o p k d = refl
+dead_prefix s sh o p k d = refl
+
+-- where an operator begins no action, what comes of it
+prefix_step : (s : Setting) (sh : Shape) (k : List Frame) (p : Place) (x : Lexeme) (o : Prefix) → prefix_of x ≡ Some o → grow s sh p x ≡ if_action s (altering (effect_of o) p sh) → ((e : Tree) → tree sh ≡ Some e → beyond (tree sh) s sh k p x ≡ None) → step (state s sh k) (token p x) ≡ on_prefix s sh o p k
+prefix_step s sh k p x o is g none = ap (λ n. go_on n s sh k p x) g ∙ go (is_value s) refl
+  where
+    over : (t : Option Tree) → tree sh ≡ t → beyond t s sh k p x ≡ if_fresh s sh (Some o) p k
+    over None e = ap (λ o. if_fresh s sh o p k) is
+    over (Some y) e = ap (λ t. beyond t s sh k p x) (sym e) ∙ none y e ∙ sym (not_fresh y e)
+      where
+        not_fresh : (y : Tree) → tree sh ≡ Some y → if_fresh s sh (Some o) p k ≡ None
+        not_fresh y e = fresh_no_tree s sh (Some o) p k y e
+
+    no_action : (n : Option Next) → is_value s ≡ false → beyond (tree sh) s sh k p x ≡ None
+    no_action n d = by_tree (tree sh) refl
+      where
+        by_tree : (t : Option Tree) → tree sh ≡ t → beyond t s sh k p x ≡ None
+        by_tree None e = ap (λ o. if_fresh s sh o p k) is ∙ dead_prefix s sh o p k d
+        by_tree (Some y) e = ap (λ t. beyond t s sh k p x) (sym e) ∙ none y e
+
+    go : (b : Bool) → is_value s ≡ b → go_on (if b then None else altering (effect_of o) p sh) s sh k p x ≡ (if b then if_fresh s sh (Some o) p k else entered_all s k (altering (effect_of o) p sh))
+    go true d = over (tree sh) refl
+    go false d = by_next (altering (effect_of o) p sh)
+      where
+        by_next : (n : Option Next) → go_on n s sh k p x ≡ entered_all s k n
+        by_next None = no_action None d
+        by_next (Some n) = refl
+
+pub unary_step : (s : Setting) (sh : Shape) (k : List Frame) (p : Place) (r c : ℕ) → step (state s sh k) (token p (prefix_word r c)) ≡ on_prefix s sh (unary r c) p k
+unary_step s sh k p r c = prefix_step s sh k p (prefix_word r c) (unary r c) refl refl (λ e h. ap (λ t. beyond t s sh k p (prefix_word r c)) h)
+
+pub object_step : (s : Setting) (sh : Shape) (k : List Frame) (p : Place) → step (state s sh k) (token p object_address) ≡ on_prefix s sh at_object p k
+object_step s sh k p = prefix_step s sh k p object_address at_object refl (no_effect (is_value s)) (λ e h. ap (λ t. beyond t s sh k p object_address) h)
+  where
+    no_effect : (b : Bool) → None ≡ (if b then None else altering None p sh)
+    no_effect true = refl
+    no_effect false = refl
 
 pub infix_word_step : (s : Setting) (sh : Shape) (k : List Frame) (p : Place) (r c : ℕ) → step (state s sh k) (token p (infix_word r c)) ≡ option_and_then (λ e. join s (target sh) (Some (r, c)) p e k) (tree sh)
 infix_word_step s (using u) k p r c = no_prefix s (using u) p k
 infix_word_step s sh k p r c = refl
 
-pub sign_before : (s : Setting) (sh : Shape) (k : List Frame) (p : Place) (b c : ℕ) → sh ≡ fresh → step (state s sh k) (token p (sign b c)) ≡ if_fresh s sh (Some (unary 1 b)) p k
-sign_before s (using u) k p b c h = refl
+no_change : (s : Setting) (sh : Shape) (p : Place) (e : Option ℕ) → ((n : Next) → begins sh n ≡ None) → if_action s (altering e p sh) ≡ None
+no_change s sh p e h = by_test (is_value s) e
+  where
+    by_test : (b : Bool) (e : Option ℕ) → (if b then None else altering e p sh) ≡ None
+    by_test true e = refl
+    by_test false None = refl
+    by_test false (Some k) = h _
+
+pub sign_before : (s : Setting) (sh : Shape) (k : List Frame) (p : Place) (b c : ℕ) → sh ≡ fresh → step (state s sh k) (token p (sign b c)) ≡ on_prefix s sh (unary 1 b) p k
+sign_before s (using u) k p b c h = prefix_step s (using u) k p (sign b c) (unary 1 b) refl refl (λ e h. absurd cc)
 sign_before s sh k p b c h = absurd cc
 
 pub sign_between : (s : Setting) (sh : Shape) (k : List Frame) (p : Place) (b c : ℕ) → (sh ≡ fresh → ⊥) → step (state s sh k) (token p (sign b c)) ≡ option_and_then (λ e. operate s (Some (6, c)) p e k) (tree sh)
 sign_between s (using reading) k p b c h = absurd (h refl)
-sign_between s (using (addressing q)) k p b c h = refl
-sign_between s (using (changing q d)) k p b c h = refl
-sign_between s sh k p b c h = refl
+sign_between s (using (addressing q)) k p b c h = ap (λ n. go_on n s (using (addressing q)) k p (sign b c)) (no_change s (using (addressing q)) p (effect_of (unary 1 b)) (λ n. refl))
+sign_between s (using (changing q d)) k p b c h = ap (λ n. go_on n s (using (changing q d)) k p (sign b c)) (no_change s (using (changing q d)) p (effect_of (unary 1 b)) (λ n. refl))
+sign_between s sh k p b c h = ap (λ n. go_on n s sh k p (sign b c)) (no_change s sh p (effect_of (unary 1 b)) (λ n. refl)) ∙ by_tree (tree sh)
+  where
+    by_tree : (o : Option Tree) → beyond o s sh k p (sign b c) ≡ option_and_then (λ e. operate s (Some (6, c)) p e k) o
+    by_tree None = refl
+    by_tree (Some e) = refl
 
 pub assigns_step : (s : Setting) (sh : Shape) (k : List Frame) (p : Place) (o : Option ℕ) → step (state s sh k) (token p (assigns o)) ≡ assign s (target sh) o p k
 assigns_step s (using u) k p o = no_prefix s (using u) p k
@@ -120,10 +173,10 @@ pub not_whole : (sh : Shape) (f : Tree → Option State) → tree sh ≡ None �
 not_whole sh f none = ap (λ o. option_and_then f o) none
 
 -- what is read whole
-pub finish_not : (s : Setting) (sh : Shape) (k : List Frame) → tree sh ≡ None → None ≡ accept (state s sh k)
+pub finish_not : (s : Setting) (sh : Shape) (k : List Frame) → whole_in s sh ≡ None → None ≡ accept (state s sh k)
 finish_not s sh k h = sym (ap (λ o. accepted o k) h)
 
-pub finish_whole : (s : Setting) (sh : Shape) (e e' : Tree) (k k' : List Frame) → tree sh ≡ Some e → reduce 22 e k ≡ (e', k') → all_of e' k' ≡ accept (state s sh k)
+pub finish_whole : (s : Setting) (sh : Shape) (e e' : Tree) (k k' : List Frame) → whole_in s sh ≡ Some e → reduce 22 e k ≡ (e', k') → all_of e' k' ≡ accept (state s sh k)
 finish_whole s sh e e' k k' h r = sym (ap (λ o. accepted o k) h ∙ ap (λ p. all_of p.0 p.1) r)
 
 pub not_all : (e : Tree) (k : List Frame) → (k ≡ [] → ⊥) → None ≡ all_of e k

@@ -4,12 +4,14 @@ use Rattle.std.specs.Prelude.{option_and_then, nat_le, nat_lt, if◌then◌else�
 use Rattle.std.proofs.lemmas.Bool.{leb-true, ltb-true}
 use Rattle.p8_tree.specs.declared.places.Place.{Place}
 use Rattle.p8_tree.specs.Expressions.{Tree, node, Here, Variable, Memory, Register, no_index, whole, no_trees, ◌▷◌}
-use Rattle.p8_grammar.specs.Lexemes.{Setting, allows_index, is_dat, is_in, has_bits, Access, is_written, Mark, left_parenthesis, right_parenthesis, left_bracket, right_bracket, comma, colon, dot, dot_dot, hash, backslash, equal, Lexeme, number, name, method_result, string, mark, prefix_word, infix_word, sign, assigns, changes, address, object_address, size, register, here, string_word, constant_word, look, value, built_in, other, Token, token}
-use Rattle.p8_grammar.specs.Grammar.{Head, calls, built, applied, Prefix, at_object, unary, rank, with_prefix, prefix_of, infix_of, is_boolean}
+use Rattle.p8_grammar.specs.Lexemes.{Setting, is_value, behind, allows_index, is_dat, is_in, has_bits, Access, is_written, Mark, left_parenthesis, right_parenthesis, left_bracket, right_bracket, comma, colon, dot, dot_dot, hash, backslash, equal, Lexeme, number, name, method_result, string, mark, prefix_word, infix_word, sign, assigns, changes, address, object_address, size, register, here, string_word, constant_word, look, value, built_in, command, other, Token, token}
+use Rattle.p8_grammar.specs.Grammar.{Head, calls, built, applied, Prefix, at_object, unary, rank, with_prefix, prefix_of, effect_of, infix_of, is_boolean}
 use Rattle.p8_grammar.specs.Heights.{height, height_in_variable, height_of_trees, IsTooHigh}
-use Rattle.p8_grammar.specs.Machine.{Use, reading, addressing, changing, used, takes, Shape, using, coloned, sized, named, indexed_name, dotted, parted, memory_word, register_word, ready, trapping, trapped_name, trapped_element, object_dot, headed, hashed, string_begun, string_opened, string_read, constant_begun, look_begun, done, Hole, parenthesis, name_index, part_index, memory_address, memory_index, first_bit, last_bit, trapped_index, argument_of, constant_of, look_for, choice_of, choice_to, Next, stays, opens, only_if, tree, if_reading, target, begins, on_name, on_result, on_string, on_size, on_register, changed, on_change, on_parenthesis, on_bracket, on_dot, on_hash, on_colon, on_close, on_mark, grow, at_right_bracket, at_right_parenthesis, at_comma, at_colon, at_range, close, fresh, Frame, prefix_frame, infix_frame, assign_frame, inside_frame, bar, bar_of, wrap, reduce, State, state, joined, entered, entered_all, shut, prefixed, if_fresh, operate, join, assign, after, beyond, go_on, step, walk, all_of, accepted, accept, start}
+use Rattle.p8_grammar.specs.Machine.{Use, reading, addressing, changing, used, takes, Shape, using, coloned, sized, named, indexed_name, dotted, parted, memory_word, register_word, ready, trapping, trapped_name, trapped_element, object_dot, headed, hashed, string_begun, string_opened, string_read, constant_begun, look_begun, done, Hole, parenthesis, name_index, part_index, memory_address, memory_index, first_bit, last_bit, trapped_index, argument_of, constant_of, look_for, choice_of, choice_to, Next, stays, opens, only_if, tree, whole_in, if_value, if_action, altering, if_reading, target, begins, on_name, on_result, on_string, on_size, on_register, changed, on_change, on_parenthesis, on_bracket, on_dot, on_hash, on_colon, on_close, on_mark, grow, at_right_bracket, at_right_parenthesis, at_comma, at_colon, at_range, close, fresh, Frame, prefix_frame, infix_frame, assign_frame, inside_frame, bar, bar_of, wrap, reduce, State, state, joined, entered, entered_all, shut, prefixed, if_fresh, operate, join, assign, after, beyond, go_on, step, walk, all_of, accepted, accept, start}
 use Rattle.p8_grammar.specs.Least.{height_in_head, shape_least, filled, need, next_least, least}
 use Rattle.p8_grammar.proofs.Walks.{goes_on}
+use Rattle.p8_grammar.proofs.Joins.{second_true}
+use Rattle.p8_grammar.proofs.FormsRead.{whole_tree}
 use Rattle.p8_grammar.proofs.Complete.{complete}
 
 used_height : (u : Use) (v : Variable) → height (used u v) ≡ suc (height_in_variable v)
@@ -58,6 +60,20 @@ only_least : (l : ℕ) (b : Bool) (n : Next) → l ≤ next_least n → AtLeast 
 only_least l true n le = le
 only_least l false n le = tt
 
+value_least : (l : ℕ) (s : Setting) (o : Option Next) → AtLeast l o → AtLeast l (if_value s o)
+value_least l s o a = go (is_value s)
+  where
+    go : (b : Bool) → AtLeast l (if b then o else None)
+    go true = a
+    go false = tt
+
+action_least : (l : ℕ) (s : Setting) (o : Option Next) → AtLeast l o → AtLeast l (if_action s o)
+action_least l s o a = go (is_value s)
+  where
+    go : (b : Bool) → AtLeast l (if b then None else o)
+    go true = tt
+    go false = a
+
 begins_least : (sh : Shape) (n : Next) → 1 ≤ next_least n → AtLeast (shape_least sh) (begins sh n)
 begins_least (using reading) n le = le
 begins_least (using (addressing p)) n le = tt
@@ -100,7 +116,7 @@ register_least s p a x (using u) = only_least 1 (is_in s x && takes u x) _ (omeg
 register_least s p a x sh = tt
 
 -- a variable that may be written is as high as its form
-target_least : (sh : Shape) (v : Variable) → target sh ≡ Some v → shape_least sh ≡ suc (height_in_variable v)
+pub target_least : (sh : Shape) (v : Variable) → target sh ≡ Some v → shape_least sh ≡ suc (height_in_variable v)
 target_least (named reading b p n) v h = same_variable _ v h refl
 target_least (named (addressing q) b p n) v h = absurd cc
 target_least (named (changing q c) b p n) v h = absurd cc
@@ -140,20 +156,20 @@ change_least p b a (using (addressing q)) = tt
 change_least p b a (using (changing q c)) = tt
 change_least p b a sh = changed_least sh p a
 
-parenthesis_least : (sh : Shape) → AtLeast (shape_least sh) (on_parenthesis sh)
-parenthesis_least (using reading) = omega arith
-parenthesis_least (using (addressing p)) = tt
-parenthesis_least (using (changing p b)) = tt
-parenthesis_least (named reading true q n) = omega arith
-parenthesis_least (named reading false q n) = tt
-parenthesis_least (named (addressing p) b q n) = tt
-parenthesis_least (named (changing p c) b q n) = tt
-parenthesis_least (trapped_name q n) = omega arith
-parenthesis_least (headed h) = omega arith
-parenthesis_least (string_begun q) = omega arith
-parenthesis_least (constant_begun q) = omega arith
-parenthesis_least (look_begun q k) = omega arith
-parenthesis_least sh = tt
+parenthesis_least : (s : Setting) (sh : Shape) → AtLeast (shape_least sh) (on_parenthesis s sh)
+parenthesis_least s (using reading) = value_least _ s _ (omega arith)
+parenthesis_least s (using (addressing p)) = value_least _ s _ (tt)
+parenthesis_least s (using (changing p b)) = value_least _ s _ (tt)
+parenthesis_least s (named reading true q n) = omega arith
+parenthesis_least s (named reading false q n) = tt
+parenthesis_least s (named (addressing p) b q n) = tt
+parenthesis_least s (named (changing p c) b q n) = tt
+parenthesis_least s (trapped_name q n) = omega arith
+parenthesis_least s (headed h) = omega arith
+parenthesis_least s (string_begun q) = omega arith
+parenthesis_least s (constant_begun q) = omega arith
+parenthesis_least s (look_begun q k) = omega arith
+parenthesis_least s sh = tt
 
 bracket_least : (s : Setting) (sh : Shape) → AtLeast (shape_least sh) (on_bracket s sh)
 bracket_least s (named u b q n) = only_least _ (allows_index s) _ (omega arith)
@@ -187,7 +203,7 @@ close_word_least (string_read q t) = omega arith
 close_word_least sh = tt
 
 mark_least : (s : Setting) (p : Place) (m : Mark) (sh : Shape) → AtLeast (shape_least sh) (on_mark s p m sh)
-mark_least s p left_parenthesis sh = parenthesis_least sh
+mark_least s p left_parenthesis sh = parenthesis_least s sh
 mark_least s p right_parenthesis sh = close_word_least sh
 mark_least s p left_bracket sh = bracket_least s sh
 mark_least s p right_bracket sh = tt
@@ -195,7 +211,7 @@ mark_least s p comma sh = tt
 mark_least s p colon sh = colon_least s p sh
 mark_least s p dot sh = dot_least sh
 mark_least s p dot_dot sh = tt
-mark_least s p hash sh = hash_least sh
+mark_least s p hash sh = value_least _ s _ (hash_least sh)
 mark_least s p backslash sh = begins_least sh _ (omega arith)
 mark_least s p equal sh = tt
 
@@ -206,27 +222,32 @@ here_least s p sh = go (is_dat s)
     go true = begins_least sh _ (omega arith)
     go false = tt
 
+altering_least : (e : Option ℕ) (p : Place) (sh : Shape) → AtLeast (shape_least sh) (altering e p sh)
+altering_least None p sh = tt
+altering_least (Some k) p sh = begins_least sh _ (omega arith)
+
 grow_least : (s : Setting) (sh : Shape) (p : Place) (x : Lexeme) → AtLeast (shape_least sh) (grow s sh p x)
-grow_least s sh p (number n) = begins_least sh _ (omega arith)
+grow_least s sh p (number n) = value_least _ s _ (begins_least sh _ (omega arith))
 grow_least s sh p (name n) = name_least p n sh
 grow_least s sh p method_result = result_least p sh
-grow_least s sh p (string t) = string_least p t sh
+grow_least s sh p (string t) = value_least _ s _ (string_least p t sh)
 grow_least s sh p (mark m) = mark_least s p m sh
-grow_least s sh p (prefix_word r k) = tt
+grow_least s sh p (prefix_word r k) = action_least _ s _ (altering_least (effect_of (unary r k)) p sh)
 grow_least s sh p (infix_word r k) = tt
-grow_least s sh p (sign k j) = tt
+grow_least s sh p (sign k j) = action_least _ s _ (altering_least (effect_of (unary 1 k)) p sh)
 grow_least s sh p (assigns o) = tt
 grow_least s sh p (changes b a) = change_least p b a sh
-grow_least s sh p address = begins_least sh _ (omega arith)
+grow_least s sh p address = value_least _ s _ (begins_least sh _ (omega arith))
 grow_least s sh p object_address = tt
 grow_least s sh p (size z) = size_least s p z sh
 grow_least s sh p (register a x) = register_least s p a x sh
 grow_least s sh p here = here_least s p sh
-grow_least s sh p string_word = begins_least sh _ (omega arith)
-grow_least s sh p constant_word = begins_least sh _ (omega arith)
-grow_least s sh p (look k) = begins_least sh _ (omega arith)
+grow_least s sh p string_word = value_least _ s _ (begins_least sh _ (omega arith))
+grow_least s sh p constant_word = value_least _ s _ (begins_least sh _ (omega arith))
+grow_least s sh p (look k) = value_least _ s _ (begins_least sh _ (omega arith))
 grow_least s sh p (value k) = begins_least sh _ (omega arith)
 grow_least s sh p (built_in k) = begins_least sh _ (omega arith)
+grow_least s sh p (command k) = action_least _ s _ (begins_least sh _ (omega arith))
 grow_least s sh p other = tt
 
 applied_least : (h : Head) (es : _) (e : Tree) → suc (max (height_in_head h) (max (height_of_trees es) (height e))) ≡ height (applied h (es ▷ e))
@@ -342,7 +363,7 @@ mark_from m e k = subst (λ l. LeastFrom l (shut m (reduce 22 e k).0 (reduce 22 
 
 prefixed_least : (s : Setting) (o : Option Prefix) (p : Place) (k : List Frame) → LeastFrom (need 1 k) (prefixed s o p k)
 prefixed_least s None p k = tt
-prefixed_least s (Some o) p k = go (nat_lt (2 * rank o + 1) (bar_of k))
+prefixed_least s (Some o) p k = go (is_value s && nat_lt (2 * rank o + 1) (bar_of k))
   where
     go : (b : Bool) → LeastFrom (need 1 k) (if b then Some (state s fresh (prefix_frame o p ∷ k)) else None)
     go false = tt
@@ -357,19 +378,19 @@ fresh_least s sh o p k = tt
 operate_least : (s : Setting) (o : Option (ℕ × ℕ)) (p : Place) (e : Tree) (k : List Frame) → LeastFrom (need (height e) k) (operate s o p e k)
 operate_least s None p e k = tt
 operate_least s (Some (zero, c)) p e k = tt
-operate_least s (Some (suc r, c)) p e k = go (nat_lt r 11) refl
+operate_least s (Some (suc r, c)) p e k = go (is_value s && nat_lt r 10) refl
   where
-    go : (b : Bool) → nat_lt r 11 ≡ b → LeastFrom (need (height e) k) (if b then (let x = reduce (2 * suc r) e k in Some (state s fresh (infix_frame r c p x.0 ∷ x.1))) else None)
+    go : (b : Bool) → (is_value s && nat_lt r 10) ≡ b → LeastFrom (need (height e) k) (if b then (let x = reduce (2 * suc r) e k in Some (state s fresh (infix_frame r c p x.0 ∷ x.1))) else None)
     go false h = tt
     go true h =
-        let small : r < 11 = ltb-true _ _ h in
+        let small : r < 10 = ltb-true _ _ (second_true (is_value s) (nat_lt r 10) h) in
         let x = reduce (2 * suc r) e k in
         omega (arith, need_reduce (2 * suc r) (omega (arith, small)) k e, need_le x.1 (height x.0) (suc (max (height x.0) 1)) (omega arith))
 
 assign_least : (s : Setting) (sh : Shape) (o : Option ℕ) (p : Place) (k : List Frame) → LeastFrom (need (shape_least sh) k) (assign s (target sh) o p k)
 assign_least s sh o p k = go (target sh) refl
   where
-    step_on : (v : Variable) (b : Bool) → target sh ≡ Some v → LeastFrom (need (shape_least sh) k) (if b then Some (state s fresh (assign_frame o p v ∷ k)) else None)
+    step_on : (v : Variable) (b : Bool) → target sh ≡ Some v → LeastFrom (need (shape_least sh) k) (if b then Some (state (behind s) fresh (assign_frame o p v ∷ k)) else None)
     step_on v false h = tt
     step_on v true h = need_le k (shape_least sh) (suc (max (height_in_variable v) 1)) (omega (arith, target_least sh v h))
 
@@ -417,11 +438,18 @@ operator_least : (s : Setting) (r c : ℕ) (p : Place) (v : Variable) (k : List 
 operator_least s r c p v k q x =
     at_most_least (need (suc (max (height_in_variable v) 1)) k) (need (suc (max (height (used reading v)) 1)) k) (go_on (grow s fresh q x) s fresh (infix_frame r c p (used reading v) ∷ k) q x) (need_le k (suc (max (height_in_variable v) 1)) (suc (max (height (used reading v)) 1)) (omega arith)) (form_least s fresh (infix_frame r c p (used reading v) ∷ k) q x)
 
+value_from : (l : ℕ) (s : Setting) (o : Option State) → LeastFrom l o → LeastFrom l (if is_value s then o else None)
+value_from l s o a = go (is_value s)
+  where
+    go : (b : Bool) → LeastFrom l (if b then o else None)
+    go true = a
+    go false = tt
+
 step_least : (st : State) (t : Token) → LeastFrom (least st) (step st t)
 step_least (state s sh k) (token p x) = form_least s sh k p x
 step_least (joined s r c p v k) (token q (mark equal)) = omega arith
-step_least (joined s r c p v k) (token q (mark m)) = operator_least s r c p v k q (mark m)
-step_least (joined s r c p v k) (token q x) = operator_least s r c p v k q x
+step_least (joined s r c p v k) (token q (mark m)) = value_from _ s _ (operator_least s r c p v k q (mark m))
+step_least (joined s r c p v k) (token q x) = value_from _ s _ (operator_least s r c p v k q x)
 
 same_some : {x y : State} → Some x ≡ Some y → x ≡ y
 same_some h = cc
@@ -436,15 +464,15 @@ walk_least (t ∷ ts) st st' h = go (λ x h'. walk_least ts x st' h') (step st t
 
 pub accept_least : (st : State) (e : Tree) → accept st ≡ Some e → least st ≡ height e
 accept_least (joined s r c p v k) e h = absurd cc
-accept_least (state s sh k) e h = go (tree sh) refl h
+accept_least (state s sh k) e h = go (whole_in s sh) refl h
   where
     all_least : (x : Tree) (k : List Frame) → all_of x k ≡ Some e → need (height x) k ≡ height e
     all_least x [] h = let same : x ≡ e = cc in ap height same
     all_least x (f ∷ k) h = absurd cc
 
-    go : (o : Option Tree) → tree sh ≡ o → accepted o k ≡ Some e → need (shape_least sh) k ≡ height e
+    go : (o : Option Tree) → whole_in s sh ≡ o → accepted o k ≡ Some e → need (shape_least sh) k ≡ height e
     go None t h = absurd cc
-    go (Some x) t h = ap (λ l. need l k) (tree_least sh x t) ∙ sym (need_reduce 22 (omega arith) k x) ∙ all_least (reduce 22 x k).0 (reduce 22 x k).1 h
+    go (Some x) t h = ap (λ l. need l k) (tree_least sh x (whole_tree s sh x t)) ∙ sym (need_reduce 22 (omega arith) k x) ∙ all_least (reduce 22 x k).0 (reduce 22 x k).1 h
 
 -- where the state needs more than n, each expression that begins so is higher than n
 pub too_high : (s : Setting) (n : ℕ) (ts : List Token) (st : State) → walk (start s) ts ≡ Some st → n < least st → IsTooHigh s n ts

@@ -1,12 +1,12 @@
--- Which tokens spell which expression, with all forms and levels of this project's profile of Spin
+-- Which tokens spell which expression and which action, with all forms and levels of this project's profile of Spin
 -- (Propeller Manual v1.2, "Spin Language Reference": "Operators" and the entries of the words).
 --
 -- A form is a row of parts: words, and whole expressions with the mark that ends each. Places are
 -- those by which refusals name a form.
-use Rattle.std.specs.Prelude.{◌≡◌, ℕ, ◌<◌, ◌≤◌, suc, ◌+◌, ◌*◌, nat_le, Bool, true, false, ◌&&◌, IsTrue, Option, Some, None, List, [], ◌∷◌, ◌++◌, length, take}
+use Rattle.std.specs.Prelude.{◌≡◌, ℕ, ◌<◌, ◌≤◌, suc, ◌+◌, ◌-◌, ◌*◌, ◌==◌, nat_le, if◌then◌else◌, not, Bool, true, false, ◌&&◌, IsTrue, Option, Some, None, List, [], ◌∷◌, ◌++◌, length, take}
 use Rattle.p8_tree.specs.declared.places.Place.{Place}
 use Rattle.p8_tree.specs.Expressions.{Tree, node, Form, Number, Str, Here, Var, Call, Unary, Binary, Assign, Change, Address, ObjectAddress, ObjConst, Built, Look, Variable, Named, Part, Memory, Register, Index, no_index, index, whole, bits, single, range, Trees, no_trees, ◌▷◌, Items, no_items, ◌▸◌}
-use Rattle.p8_grammar.specs.Lexemes.{Setting, allows_index, is_dat, inside, Access, memory, is_written, has_bits, is_in, Mark, left_parenthesis, right_parenthesis, left_bracket, right_bracket, comma, colon, dot, dot_dot, hash, backslash, equal, Lexeme, number, name, method_result, string, mark, prefix_word, infix_word, sign, assigns, changes, address, object_address, size, register, here, string_word, constant_word, look, value, built_in, Token, token}
+use Rattle.p8_grammar.specs.Lexemes.{Setting, is_value, allows_index, is_dat, inside, behind, Access, memory, is_written, has_bits, is_in, Mark, left_parenthesis, right_parenthesis, left_bracket, right_bracket, comma, colon, dot, dot_dot, hash, backslash, equal, Lexeme, number, name, method_result, string, mark, prefix_word, infix_word, sign, assigns, changes, address, object_address, size, register, here, string_word, constant_word, look, value, built_in, command, Token, token}
 
 infixl 30 ◌▹◌
 -- a word, or an expression up to the mark that ends it
@@ -82,6 +82,8 @@ pub data Heads (s : Setting) : Head → Row → Type 0 where
   of_element : {trap : Bool} {n m : List ℕ} {p q r u : Place} {e : Tree} (o : Place) → IsTrue (allows_index s) → Heads s (calls trap (Some n) (index e) m q p) (opening trap o ▹ word p (name n) ▹ word u (mark left_bracket) ▹ upto e right_bracket ▹ word r (mark dot) ▹ word q (name m))
   -- LOCKNEW and the like
   of_built_in : {k : ℕ} {p : Place} → Heads s (built k p) (begin ▹ word p (built_in k))
+  -- WAITCNT and the like, as an action
+  of_command : {k : ℕ} {p : Place} → IsTrue (not (is_value s)) → Heads s (built k p) (begin ▹ word p (command k))
 
 -- arguments, each with the comma after it
 pub data Arguments (before : Row) : Trees → Row → Type 0 where
@@ -94,23 +96,43 @@ pub data Choices (before : Row) : Items → Row → Type 0 where
   value_choice : {xs : Items} {e : Tree} {row : Row} → Choices before xs row → Choices before (xs ▸ single e) (row ▹ upto e comma)
   range_choice : {xs : Items} {low high : Tree} {row : Row} → Choices before xs row → Choices before (xs ▸ range low high) (row ▹ upto low dot_dot ▹ upto high comma)
 
--- the forms that are operands of the tightest level
+-- an operator before its operand
+pub data Prefix : Type 0 where
+  at_object : Prefix
+  unary : ℕ → ℕ → Prefix
+
+abbrev pub prefix_of : Lexeme → Option Prefix
+prefix_of object_address = Some at_object
+prefix_of (prefix_word r k) = Some (unary r k)
+prefix_of (sign k j) = Some (unary 1 k)
+prefix_of _ = None
+
+-- the effect byte of an operator that stands alone with the variable after it, as an action: `@@` and `+` don't
+abbrev pub effect_of : Prefix → Option ℕ
+effect_of at_object = None
+effect_of (unary r k) = if k == 0xEC then None else Some (k - 0xA0)
+
+-- the forms that are operands of the tightest level, and those that are actions
 pub data Forms (s : Setting) : Tree → Row → Type 0 where
-  a_number : {n : ℕ} {p : Place} → Forms s (node p (Number n)) (begin ▹ word p (number n))
+  a_number : {n : ℕ} {p : Place} → IsTrue (is_value s) → Forms s (node p (Number n)) (begin ▹ word p (number n))
   -- a string of one character is its code
-  a_character : {c : ℕ} {p : Place} → Forms s (node p (Number c)) (begin ▹ word p (string (c ∷ [])))
+  a_character : {c : ℕ} {p : Place} → IsTrue (is_value s) → Forms s (node p (Number c)) (begin ▹ word p (string (c ∷ [])))
   -- $
   the_place : {p : Place} → IsTrue (is_dat s) → Forms s (node p Here) (begin ▹ word p here)
   -- (e)
-  parentheses : {e : Tree} {q : Place} → Forms s e (begin ▹ word q (mark left_parenthesis) ▹ upto e right_parenthesis)
+  parentheses : {e : Tree} {q : Place} → IsTrue (is_value s) → Forms s e (begin ▹ word q (mark left_parenthesis) ▹ upto e right_parenthesis)
   -- a variable
-  variable : {x : Access} {v : Variable} {row : Row} → Variables s begin x v row → Forms s (node (place_of v) (Var v)) row
+  variable : {x : Access} {v : Variable} {row : Row} → IsTrue (is_value s) → Variables s begin x v row → Forms s (node (place_of v) (Var v)) row
+  -- a name alone, as an action: a call, which its tree doesn't tell
+  name_alone : {n : List ℕ} {p : Place} → IsTrue (not (is_value s)) → Forms s (node p (Var (Named n no_index p))) (begin ▹ word p (name n))
+  -- -v, !v and the like, as actions
+  changed_by : {x : Access} {v : Variable} {p : Place} {w : Lexeme} {o : Prefix} {k : ℕ} {row : Row} → IsTrue (not (is_value s)) → prefix_of w ≡ Some o → effect_of o ≡ Some k → IsTrue (is_written x) → Variables s (begin ▹ word p w) x v row → Forms s (node p (Change v k)) row
   -- ++v, --v, ~v and ~~v
   changed_before : {x : Access} {v : Variable} {p : Place} {b a : ℕ} {row : Row} → IsTrue (is_written x) → Variables s (begin ▹ word p (changes b a)) x v row → Forms s (node p (Change v b)) row
   -- v++, v--, v~ and v~~
   changed_after : {x : Access} {v : Variable} {p : Place} {b a : ℕ} {row : Row} → IsTrue (is_written x) → Variables s begin x v row → Forms s (node p (Change v a)) (row ▹ word p (changes b a))
   -- @v
-  address_of : {v : Variable} {p : Place} {row : Row} → Variables s (begin ▹ word p address) memory v row → Forms s (node p (Address v)) row
+  address_of : {v : Variable} {p : Place} {row : Row} → IsTrue (is_value s) → Variables s (begin ▹ word p address) memory v row → Forms s (node p (Address v)) row
   -- m(e, e)
   plain_call : {n : List ℕ} {p q : Place} {es : Trees} {e : Tree} {row : Row} → Arguments (begin ▹ word p (name n) ▹ word q (mark left_parenthesis)) es row → Forms s (node p (Call false None no_index n p (es ▷ e))) (row ▹ upto e right_parenthesis)
   -- the other calls and the built-ins, without arguments
@@ -118,16 +140,16 @@ pub data Forms (s : Setting) : Tree → Row → Type 0 where
   -- and with arguments
   full_call : {h : Head} {q : Place} {es : Trees} {e : Tree} {row row' : Row} → Heads s h row → Arguments (row ▹ word q (mark left_parenthesis)) es row' → Forms s (applied h (es ▷ e)) (row' ▹ upto e right_parenthesis)
   -- obj#name
-  object_constant : {n m : List ℕ} {p q r : Place} → Forms s (node p (ObjConst n m q)) (begin ▹ word p (name n) ▹ word r (mark hash) ▹ word q (name m))
+  object_constant : {n m : List ℕ} {p q r : Place} → IsTrue (is_value s) → Forms s (node p (ObjConst n m q)) (begin ▹ word p (name n) ▹ word r (mark hash) ▹ word q (name m))
   -- COGID, CLKFREQ and CLKMODE
   a_value : {k : ℕ} {p : Place} → Forms s (node p (Built k no_trees)) (begin ▹ word p (value k))
   -- STRING("text")
-  a_string : {c : ℕ} {t : List ℕ} {p q r o : Place} → Forms s (node p (Str (c ∷ t))) (begin ▹ word p string_word ▹ word q (mark left_parenthesis) ▹ word r (string (c ∷ t)) ▹ word o (mark right_parenthesis))
+  a_string : {c : ℕ} {t : List ℕ} {p q r o : Place} → IsTrue (is_value s) → Forms s (node p (Str (c ∷ t))) (begin ▹ word p string_word ▹ word q (mark left_parenthesis) ▹ word r (string (c ∷ t)) ▹ word o (mark right_parenthesis))
   -- CONSTANT(e)
-  a_constant : {p q : Place} {e : Tree} → Forms s (node p (Built 0 (no_trees ▷ e))) (begin ▹ word p constant_word ▹ word q (mark left_parenthesis) ▹ upto e right_parenthesis)
+  a_constant : {p q : Place} {e : Tree} → IsTrue (is_value s) → Forms s (node p (Built 0 (no_trees ▷ e))) (begin ▹ word p constant_word ▹ word q (mark left_parenthesis) ▹ upto e right_parenthesis)
   -- LOOKUP(e: items) and the like, by their last item
-  look_value : {k : ℕ} {p q : Place} {x e : Tree} {xs : Items} {row : Row} → Choices (begin ▹ word p (look k) ▹ word q (mark left_parenthesis) ▹ upto x colon) xs row → Forms s (node p (Look k x (xs ▸ single e))) (row ▹ upto e right_parenthesis)
-  look_range : {k : ℕ} {p q : Place} {x low high : Tree} {xs : Items} {row : Row} → Choices (begin ▹ word p (look k) ▹ word q (mark left_parenthesis) ▹ upto x colon) xs row → Forms s (node p (Look k x (xs ▸ range low high))) (row ▹ upto low dot_dot ▹ upto high right_parenthesis)
+  look_value : {k : ℕ} {p q : Place} {x e : Tree} {xs : Items} {row : Row} → IsTrue (is_value s) → Choices (begin ▹ word p (look k) ▹ word q (mark left_parenthesis) ▹ upto x colon) xs row → Forms s (node p (Look k x (xs ▸ single e))) (row ▹ upto e right_parenthesis)
+  look_range : {k : ℕ} {p q : Place} {x low high : Tree} {xs : Items} {row : Row} → IsTrue (is_value s) → Choices (begin ▹ word p (look k) ▹ word q (mark left_parenthesis) ▹ upto x colon) xs row → Forms s (node p (Look k x (xs ▸ range low high))) (row ▹ upto low dot_dot ▹ upto high right_parenthesis)
 
 -- The ranks of the operators, tightest first. An operator of rank r between operands has the level
 -- 2 r, one before its operand the level 2 r + 1; an assignment has the level 21, and no level is
@@ -139,11 +161,6 @@ pub data Forms (s : Setting) : Tree → Row → Type 0 where
 --    4  | ^                            10  OR, and := and each operator between operands with =
 --    5  * ** / //
 
--- an operator before its operand
-pub data Prefix : Type 0 where
-  at_object : Prefix
-  unary : ℕ → ℕ → Prefix
-
 abbrev pub rank : Prefix → ℕ
 rank at_object = 0
 rank (unary r k) = r
@@ -151,12 +168,6 @@ rank (unary r k) = r
 abbrev pub with_prefix : Prefix → Tree → Form
 with_prefix at_object e = ObjectAddress e
 with_prefix (unary r k) e = Unary k e
-
-abbrev pub prefix_of : Lexeme → Option Prefix
-prefix_of object_address = Some at_object
-prefix_of (prefix_word r k) = Some (unary r k)
-prefix_of (sign k j) = Some (unary 1 k)
-prefix_of _ = None
 
 -- the rank and the bytecode of an operator between operands
 abbrev pub infix_of : Lexeme → Option (ℕ × ℕ)
@@ -174,14 +185,14 @@ mutual
   pub data Reads : Setting → ℕ → Tree → List Token → Type 0 where
     operand : {s : Setting} {l : ℕ} {e : Tree} {row : Row} {ts : List Token} → Forms s e row → Spells s row ts → Reads s l e ts
     -- an operator before its operand, whose level is at most the operator's
-    before : {s : Setting} {l : ℕ} {x : Lexeme} {o : Prefix} {p : Place} {e : Tree} {ts : List Token} → prefix_of x ≡ Some o → 2 * rank o + 1 ≤ l → Reads s (2 * rank o + 1) e ts → Reads s l (node p (with_prefix o e)) (token p x ∷ ts)
+    before : {s : Setting} {l : ℕ} {x : Lexeme} {o : Prefix} {p : Place} {e : Tree} {ts : List Token} → IsTrue (is_value s) → prefix_of x ≡ Some o → 2 * rank o + 1 ≤ l → Reads s (2 * rank o + 1) e ts → Reads s l (node p (with_prefix o e)) (token p x ∷ ts)
     -- an operator between operands: the left one's level is at most the operator's, the right one's
     -- is below it
-    between : {s : Setting} {l r k : ℕ} {p : Place} {a b : Tree} {ts us : List Token} (x : Lexeme) → infix_of x ≡ Some (suc r, k) → 2 * suc r ≤ l → Reads s (2 * suc r) a ts → Reads s (2 * r + 1) b us → Reads s l (node p (Binary k a b)) (ts ++ token p x ∷ us)
+    between : {s : Setting} {l r k : ℕ} {p : Place} {a b : Tree} {ts us : List Token} (x : Lexeme) → IsTrue (is_value s) → infix_of x ≡ Some (suc r, k) → r < 10 → 2 * suc r ≤ l → Reads s (2 * suc r) a ts → Reads s (2 * r + 1) b us → Reads s l (node p (Binary k a b)) (ts ++ token p x ∷ us)
     -- an assignment: its right side may be one too
-    assigned : {s : Setting} {l : ℕ} {o : Option ℕ} {p : Place} {v : Variable} {e : Tree} {row : Row} {ts us : List Token} (x : Access) → 21 ≤ l → IsTrue (is_written x) → Variables s begin x v row → Spells s row ts → Reads s 21 e us → Reads s l (node p (Assign v o e)) (ts ++ token p (assigns o) ∷ us)
+    assigned : {s : Setting} {l : ℕ} {o : Option ℕ} {p : Place} {v : Variable} {e : Tree} {row : Row} {ts us : List Token} (x : Access) → 21 ≤ l → IsTrue (is_written x) → Variables s begin x v row → Spells s row ts → Reads (behind s) 21 e us → Reads s l (node p (Assign v o e)) (ts ++ token p (assigns o) ∷ us)
     -- an assignment by AND or OR
-    assigned_by_word : {s : Setting} {l k : ℕ} {p : Place} {v : Variable} {e : Tree} {row : Row} {ts us : List Token} (x : Access) (r : ℕ) (q : Place) → 21 ≤ l → IsTrue (is_written x) → IsTrue (is_boolean r) → Variables s begin x v row → Spells s row ts → Reads s 21 e us → Reads s l (node p (Assign v (Some k) e)) (ts ++ token p (infix_word r k) ∷ token q (mark equal) ∷ us)
+    assigned_by_word : {s : Setting} {l k : ℕ} {p : Place} {v : Variable} {e : Tree} {row : Row} {ts us : List Token} (x : Access) (r : ℕ) (q : Place) → 21 ≤ l → IsTrue (is_written x) → IsTrue (is_boolean r) → Variables s begin x v row → Spells s row ts → Reads (behind s) 21 e us → Reads s l (node p (Assign v (Some k) e)) (ts ++ token p (infix_word r k) ∷ token q (mark equal) ∷ us)
 
   -- these tokens spell this row
   pub data Spells : Setting → Row → List Token → Type 0 where

@@ -10,12 +10,20 @@ pub data Setting : Type 0 where
   in_declaration : Setting
   in_dat : Setting
   in_data_item : Setting
+  -- a statement that is an action: in its parentheses and brackets, and behind its assignment, stand values
+  in_action : Setting
+
+-- whether a value stands there, and not an action
+abbrev pub is_value : Setting → Bool
+is_value in_action = false
+is_value _ = true
 
 abbrev pub allows_index : Setting → Bool
 allows_index in_method = true
 allows_index in_declaration = true
 allows_index in_dat = true
 allows_index in_data_item = false
+allows_index in_action = true
 
 -- `$`, local labels and all registers stand in DAT alone
 abbrev pub is_dat : Setting → Bool
@@ -23,6 +31,7 @@ is_dat in_method = false
 is_dat in_declaration = false
 is_dat in_dat = true
 is_dat in_data_item = true
+is_dat in_action = false
 
 -- the setting inside parentheses and brackets
 abbrev pub inside : Setting → Setting
@@ -30,10 +39,19 @@ inside in_method = in_method
 inside in_declaration = in_declaration
 inside in_dat = in_dat
 inside in_data_item = in_dat
+inside in_action = in_method
+
+-- the setting of what is assigned
+abbrev pub behind : Setting → Setting
+behind in_method = in_method
+behind in_declaration = in_declaration
+behind in_dat = in_dat
+behind in_data_item = in_data_item
+behind in_action = in_method
 
 -- What may be done with a variable: those of main memory are read and written and have an address;
 -- OUTA and DIRA are read and written, whole or by bits; INA is read, whole or by bits; PAR and CNT
--- are read; the other registers are read in DAT alone.
+-- are read; the other registers are read in DAT alone. An action writes its variable.
 pub data Access : Type 0 where
   memory : Access
   pins : Access
@@ -52,8 +70,11 @@ has_bits input_pins = true
 has_bits _ = false
 
 abbrev pub is_in : Setting → Access → Bool
+is_in s memory = true
+is_in s pins = true
+is_in s input_pins = is_value s
+is_in s input = is_value s
 is_in s assembly = is_dat s
-is_in s _ = true
 
 pub data Mark : Type 0 where
   left_parenthesis : Mark
@@ -105,7 +126,9 @@ pub data Lexeme : Type 0 where
   value : ℕ → Lexeme
   -- another built-in that gives a value
   built_in : ℕ → Lexeme
-  -- what stands in no expression
+  -- a built-in that gives no value: an action
+  command : ℕ → Lexeme
+  -- what stands in no expression and no action
   other : Lexeme
 
 -- a token, at its place

@@ -1,9 +1,9 @@
 -- internal: a reader of expressions with a stack of what is begun, for the proofs and the code.
-use Rattle.std.specs.Prelude.{ℕ, suc, zero, ◌+◌, ◌*◌, nat_lt, nat_le, if◌then◌else◌, Bool, true, false, ◌&&◌, Option, Some, None, option_and_then, List, [], ◌∷◌}
+use Rattle.std.specs.Prelude.{ℕ, suc, zero, ◌+◌, ◌*◌, nat_lt, nat_le, if◌then◌else◌, not, Bool, true, false, ◌&&◌, Option, Some, None, option_and_then, List, [], ◌∷◌}
 use Rattle.p8_tree.specs.declared.places.Place.{Place}
 use Rattle.p8_tree.specs.Expressions.{Tree, node, Number, Str, Here, Var, Binary, Assign, Change, Address, ObjConst, Built, Look, Variable, Named, Part, Memory, Register, Index, no_index, index, whole, bits, single, range, Trees, no_trees, ◌▷◌, Items, no_items, ◌▸◌}
-use Rattle.p8_grammar.specs.Lexemes.{Setting, allows_index, is_dat, inside, Access, memory, is_written, has_bits, is_in, Mark, left_parenthesis, right_parenthesis, left_bracket, right_bracket, comma, colon, dot, dot_dot, hash, backslash, equal, Lexeme, number, name, method_result, string, mark, prefix_word, infix_word, sign, assigns, changes, address, object_address, size, register, here, string_word, constant_word, look, value, built_in, other, Token, token}
-use Rattle.p8_grammar.specs.Grammar.{result_name, place_of, Head, calls, built, applied, Prefix, rank, with_prefix, prefix_of, infix_of, is_boolean}
+use Rattle.p8_grammar.specs.Lexemes.{Setting, is_value, allows_index, is_dat, inside, behind, Access, memory, is_written, has_bits, is_in, Mark, left_parenthesis, right_parenthesis, left_bracket, right_bracket, comma, colon, dot, dot_dot, hash, backslash, equal, Lexeme, number, name, method_result, string, mark, prefix_word, infix_word, sign, assigns, changes, address, object_address, size, register, here, string_word, constant_word, look, value, built_in, command, other, Token, token}
+use Rattle.p8_grammar.specs.Grammar.{result_name, place_of, Head, calls, built, applied, Prefix, unary, rank, with_prefix, prefix_of, effect_of, infix_of, is_boolean}
 
 -- what a variable is read for: its value, its address, or a change that stands before it
 pub data Use : Type 0 where
@@ -84,6 +84,14 @@ tree (headed h) = Some (applied h no_trees)
 tree (done e) = Some e
 tree _ = None
 
+-- where a value stands
+abbrev pub if_value : Setting → Option Next → Option Next
+if_value s o = if is_value s then o else None
+
+-- where an action stands
+abbrev pub if_action : Setting → Option Next → Option Next
+if_action s o = if is_value s then None else o
+
 abbrev pub if_reading : Use → Bool → Variable → Option Variable
 if_reading reading b v = if b then Some v else None
 if_reading _ b v = None
@@ -97,6 +105,23 @@ target (memory_word u p z e) = if_reading u true (Memory z e no_index p)
 target (register_word u p a x) = if_reading u (is_written x) (Register a whole p)
 target (ready u v x) = if_reading u (is_written x) v
 target _ = None
+
+-- a name alone
+abbrev pub is_plain : Shape → Bool
+is_plain (named reading true p n) = true
+is_plain _ = false
+
+abbrev pub unless : Option Variable → Option Tree → Option Tree
+unless (Some v) o = None
+unless None o = o
+
+-- the tree of a form that is a whole action: a variable that may be written is none, but for a name alone
+abbrev pub acting : Shape → Option Tree
+acting sh = if is_plain sh then tree sh else unless (target sh) (tree sh)
+
+-- the tree of a form that is whole as what stands in this setting
+abbrev pub whole_in : Setting → Shape → Option Tree
+whole_in s sh = if is_value s then tree sh else acting sh
 
 -- at the beginning of an operand
 abbrev pub at_fresh : Use → Next → Option Next
@@ -158,15 +183,15 @@ abbrev pub arguments_of_name : Use → Bool → Place → List ℕ → Option Ne
 arguments_of_name reading true q n = Some (opens (argument_of (calls false None no_index n q q) no_trees))
 arguments_of_name _ _ q n = None
 
-abbrev pub on_parenthesis : Shape → Option Next
-on_parenthesis (using u) = at_fresh u (opens parenthesis)
-on_parenthesis (named u b q n) = arguments_of_name u b q n
-on_parenthesis (trapped_name q n) = Some (opens (argument_of (calls true None no_index n q q) no_trees))
-on_parenthesis (headed h) = Some (opens (argument_of h no_trees))
-on_parenthesis (string_begun q) = Some (stays (string_opened q))
-on_parenthesis (constant_begun q) = Some (opens (constant_of q))
-on_parenthesis (look_begun q k) = Some (opens (look_for q k))
-on_parenthesis _ = None
+abbrev pub on_parenthesis : Setting → Shape → Option Next
+on_parenthesis s (using u) = if_value s (at_fresh u (opens parenthesis))
+on_parenthesis s (named u b q n) = arguments_of_name u b q n
+on_parenthesis s (trapped_name q n) = Some (opens (argument_of (calls true None no_index n q q) no_trees))
+on_parenthesis s (headed h) = Some (opens (argument_of h no_trees))
+on_parenthesis s (string_begun q) = Some (stays (string_opened q))
+on_parenthesis s (constant_begun q) = Some (opens (constant_of q))
+on_parenthesis s (look_begun q k) = Some (opens (look_for q k))
+on_parenthesis s _ = None
 
 abbrev pub on_bracket : Setting → Shape → Option Next
 on_bracket s (named u b q n) = only_if (allows_index s) (opens (name_index u b q n))
@@ -201,7 +226,7 @@ on_close (string_read q t) = Some (stays (done (node q (Str t))))
 on_close _ = None
 
 abbrev pub on_mark : Setting → Place → Mark → Shape → Option Next
-on_mark s p left_parenthesis sh = on_parenthesis sh
+on_mark s p left_parenthesis sh = on_parenthesis s sh
 on_mark s p right_parenthesis sh = on_close sh
 on_mark s p left_bracket sh = on_bracket s sh
 on_mark s p right_bracket sh = None
@@ -209,32 +234,38 @@ on_mark s p comma sh = None
 on_mark s p colon sh = on_colon s p sh
 on_mark s p dot sh = on_dot sh
 on_mark s p dot_dot sh = None
-on_mark s p hash sh = on_hash sh
+on_mark s p hash sh = if_value s (on_hash sh)
 on_mark s p backslash sh = begins sh (stays trapping)
 on_mark s p equal sh = None
 
+-- an operator that changes the variable after it
+abbrev pub altering : Option ℕ → Place → Shape → Option Next
+altering None p sh = None
+altering (Some k) p sh = begins sh (stays (using (changing p k)))
+
 -- what a form is with one more word
 abbrev pub grow : Setting → Shape → Place → Lexeme → Option Next
-grow s sh p (number n) = begins sh (stays (done (node p (Number n))))
+grow s sh p (number n) = if_value s (begins sh (stays (done (node p (Number n)))))
 grow s sh p (name n) = on_name p n sh
 grow s sh p method_result = on_result p sh
-grow s sh p (string t) = on_string p t sh
+grow s sh p (string t) = if_value s (on_string p t sh)
 grow s sh p (mark m) = on_mark s p m sh
-grow s sh p (prefix_word r k) = None
+grow s sh p (prefix_word r k) = if_action s (altering (effect_of (unary r k)) p sh)
 grow s sh p (infix_word r k) = None
-grow s sh p (sign k j) = None
+grow s sh p (sign k j) = if_action s (altering (effect_of (unary 1 k)) p sh)
 grow s sh p (assigns o) = None
 grow s sh p (changes b a) = on_change p b a sh
-grow s sh p address = begins sh (stays (using (addressing p)))
+grow s sh p address = if_value s (begins sh (stays (using (addressing p))))
 grow s sh p object_address = None
 grow s sh p (size z) = on_size s p z sh
 grow s sh p (register a x) = on_register s p a x sh
 grow s sh p here = if is_dat s then begins sh (stays (done (node p Here))) else None
-grow s sh p string_word = begins sh (stays (string_begun p))
-grow s sh p constant_word = begins sh (stays (constant_begun p))
-grow s sh p (look k) = begins sh (stays (look_begun p k))
+grow s sh p string_word = if_value s (begins sh (stays (string_begun p)))
+grow s sh p constant_word = if_value s (begins sh (stays (constant_begun p)))
+grow s sh p (look k) = if_value s (begins sh (stays (look_begun p k)))
 grow s sh p (value k) = begins sh (stays (done (node p (Built k no_trees))))
 grow s sh p (built_in k) = begins sh (stays (headed (built k p)))
+grow s sh p (command k) = if_action s (begins sh (stays (headed (built k p))))
 grow s sh p other = None
 
 abbrev pub named_element : Use → Bool → Place → List ℕ → Tree → Next
@@ -337,20 +368,24 @@ shut m e (inside_frame s h ∷ k) = entered_all s k (close m h e)
 
 abbrev pub prefixed : Setting → Option Prefix → Place → List Frame → Option State
 prefixed s None p k = None
-prefixed s (Some o) p k = if nat_lt (2 * rank o + 1) (bar_of k) then Some (state s fresh (prefix_frame o p ∷ k)) else None
+prefixed s (Some o) p k = if is_value s && nat_lt (2 * rank o + 1) (bar_of k) then Some (state s fresh (prefix_frame o p ∷ k)) else None
 
 abbrev pub if_fresh : Setting → Shape → Option Prefix → Place → List Frame → Option State
 if_fresh s (using reading) o p k = prefixed s o p k
 if_fresh s _ o p k = None
 
+-- an operator before its operand, or the one that changes an action's variable
+abbrev pub on_prefix : Setting → Shape → Prefix → Place → List Frame → Option State
+on_prefix s sh o p k = if is_value s then if_fresh s sh (Some o) p k else entered_all s k (altering (effect_of o) p sh)
+
 abbrev pub operate : Setting → Option (ℕ × ℕ) → Place → Tree → List Frame → Option State
 operate s None p e k = None
 operate s (Some (zero, c)) p e k = None
-operate s (Some (suc r, c)) p e k = if nat_lt r 11 then (let x = reduce (2 * suc r) e k in Some (state s fresh (infix_frame r c p x.0 ∷ x.1))) else None
+operate s (Some (suc r, c)) p e k = if is_value s && nat_lt r 10 then (let x = reduce (2 * suc r) e k in Some (state s fresh (infix_frame r c p x.0 ∷ x.1))) else None
 
 abbrev pub assign : Setting → Option Variable → Option ℕ → Place → List Frame → Option State
 assign s None o p k = None
-assign s (Some v) o p k = if nat_lt 21 (bar_of k) then Some (state s fresh (assign_frame o p v ∷ k)) else None
+assign s (Some v) o p k = if nat_lt 21 (bar_of k) then Some (state (behind s) fresh (assign_frame o p v ∷ k)) else None
 
 -- an operator between operands that is a word: after a variable that may be assigned `=` may come
 abbrev pub join : Setting → Option Variable → Option (ℕ × ℕ) → Place → Tree → List Frame → Option State
@@ -376,8 +411,8 @@ go_on None s sh k p x = beyond (tree sh) s sh k p x
 
 -- a word after a variable and AND or OR: `=`, or the first one of the right operand
 abbrev pub resolve : Setting → ℕ → ℕ → Place → Variable → List Frame → Place → Lexeme → Option State
-resolve s r c p v k q (mark equal) = Some (state s fresh (assign_frame (Some c) p v ∷ k))
-resolve s r c p v k q x = go_on (grow s fresh q x) s fresh (infix_frame r c p (used reading v) ∷ k) q x
+resolve s r c p v k q (mark equal) = Some (state (behind s) fresh (assign_frame (Some c) p v ∷ k))
+resolve s r c p v k q x = if is_value s then go_on (grow s fresh q x) s fresh (infix_frame r c p (used reading v) ∷ k) q x else None
 
 abbrev pub step : State → Token → Option State
 step (state s sh k) (token p x) = go_on (grow s sh p x) s sh k p x
@@ -397,7 +432,7 @@ accepted (Some e) k = (let x = reduce 22 e k in all_of x.0 x.1)
 
 -- the tree, where what has been read is an expression
 abbrev pub accept : State → Option Tree
-accept (state s sh k) = accepted (tree sh) k
+accept (state s sh k) = accepted (whole_in s sh) k
 accept (joined s r c p v k) = None
 
 abbrev pub start : Setting → State

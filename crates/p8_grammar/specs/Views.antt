@@ -50,6 +50,7 @@ setting_of setting_case.Method = lexemes.in_method
 setting_of setting_case.Declaration = lexemes.in_declaration
 setting_of setting_case.Dat = lexemes.in_dat
 setting_of setting_case.DataItem = lexemes.in_data_item
+setting_of setting_case.Action = lexemes.in_action
 
 abbrev pub access_of : access.Access → lexemes.Access
 access_of access_case.Memory = lexemes.memory
@@ -93,6 +94,7 @@ term_of term_case.ConstantWord = lexemes.constant_word
 term_of (term_case.Look k) = lexemes.look k
 term_of (term_case.Value k) = lexemes.value k
 term_of (term_case.BuiltIn k) = lexemes.built_in k
+term_of (term_case.Command k) = lexemes.command k
 term_of term_case.Other = lexemes.other
 
 abbrev pub lexeme_of : lexeme.Lexeme → lexemes.Lexeme

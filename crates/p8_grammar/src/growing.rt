@@ -4,8 +4,8 @@ ghost use Rattle.p8_tree.specs.Expressions.{node, Built, no_trees};
 ghost use Rattle.p8_tree.specs.Views.{form_of};
 ghost use Rattle.p8_grammar.specs.Heights.{height};
 ghost use Rattle.p8_grammar.specs.Views.{Grows, shape_of, access_of, setting_of, use_of, mark_of, term_of};
-ghost use Rattle.p8_grammar.specs.Machine.{takes, begins, on_name, on_result, on_character, on_string, on_size, on_register, on_change, on_parenthesis, on_bracket, on_dot, on_hash, on_colon, on_close, on_mark, grow, stays, done, using};
-ghost use Rattle.p8_grammar.specs.Lexemes.{in_method, here};
+ghost use Rattle.p8_grammar.specs.Machine.{takes, begins, on_name, on_result, on_character, on_string, on_size, on_register, on_change, on_parenthesis, on_bracket, on_dot, on_hash, on_colon, on_close, on_mark, grow, if_value, if_action, stays, done, using, headed};
+ghost use Rattle.p8_grammar.specs.Lexemes.{in_method, here, string as string_word, number as number_word};
 
 use crate::building::{built, change, number};
 use crate::forms::{Written, target};
@@ -47,6 +47,30 @@ fn begins(shape: Shape, next: Shape) -> Grown
     }
 }
 
+// A form that begins an operand, where values stand.
+fn begins_value(setting: Setting, shape: Shape, next: Shape) -> Grown
+    ensures { Grows (if_value (setting_of setting) (begins (shape_of shape) (stays (shape_of next)))) (shape_of shape) result }
+{
+    if setting.is_value() {
+        begins(shape, next)
+    } else {
+        drop(next);
+        Grown::Same(shape)
+    }
+}
+
+// A form that begins an action.
+fn begins_action(setting: Setting, shape: Shape, next: Shape) -> Grown
+    ensures { Grows (if_action (setting_of setting) (begins (shape_of shape) (stays (shape_of next)))) (shape_of shape) result }
+{
+    if setting.is_value() {
+        drop(next);
+        Grown::Same(shape)
+    } else {
+        begins(shape, next)
+    }
+}
+
 // A form that begins an operand and is whole.
 fn begins_whole(
     alloc: Global,
@@ -66,6 +90,23 @@ fn begins_whole(
             drop(kind);
             Ok(Grown::Same(other))
         }
+    }
+}
+
+// A number, where values stand.
+fn on_number(
+    alloc: Global,
+    setting: Setting,
+    place: Place,
+    value: u32,
+    shape: Shape,
+) -> Result<Grown, AllocError>
+    ensures { IfOk result (λ g. Grows (grow (setting_of setting) (shape_of shape) place (number_word value)) (shape_of shape) g) }
+{
+    if setting.is_value() {
+        begins_whole(alloc, place, ExprKind::Number(value), shape)
+    } else {
+        Ok(Grown::Same(shape))
     }
 }
 
@@ -153,6 +194,23 @@ fn on_string(alloc: Global, place: Place, text: Text, shape: Shape) -> Result<Gr
     }
 }
 
+// A string, where values stand.
+fn on_text(
+    alloc: Global,
+    setting: Setting,
+    place: Place,
+    text: Text,
+    shape: Shape,
+) -> Result<Grown, AllocError>
+    ensures { IfOk result (λ g. Grows (grow (setting_of setting) (shape_of shape) place (string_word text)) (shape_of shape) g) }
+{
+    if setting.is_value() {
+        on_string(alloc, place, text, shape)
+    } else {
+        Ok(Grown::Same(shape))
+    }
+}
+
 fn on_size(setting: Setting, place: Place, size: u8, shape: Shape) -> Grown
     ensures { Grows (on_size (setting_of setting) place size (shape_of shape)) (shape_of shape) result }
 {
@@ -188,13 +246,17 @@ fn on_register(setting: Setting, place: Place, address: u16, access: Access, sha
     }
 }
 
-fn on_parenthesis(alloc: Global, shape: Shape) -> Grown
-    ensures { Grows (on_parenthesis (shape_of shape)) (shape_of shape) result }
+fn on_parenthesis(alloc: Global, setting: Setting, shape: Shape) -> Grown
+    ensures { Grows (on_parenthesis (setting_of setting) (shape_of shape)) (shape_of shape) result }
 {
     match shape {
         Shape::Using(Use::Reading) => {
             drop(shape);
-            Grown::Opens(Hole::Parenthesis)
+            if setting.is_value() {
+                Grown::Opens(Hole::Parenthesis)
+            } else {
+                Grown::Same(Shape::Using(Use::Reading))
+            }
         }
         Shape::Named(Use::Reading, true, place, name) => {
             let head = Head::Calls(false, None, None, name, place, place);
@@ -292,6 +354,17 @@ fn on_hash(shape: Shape) -> Grown
     }
 }
 
+// An object's constant, where values stand.
+fn on_constant(setting: Setting, shape: Shape) -> Grown
+    ensures { Grows (if_value (setting_of setting) (on_hash (shape_of shape))) (shape_of shape) result }
+{
+    if setting.is_value() {
+        on_hash(shape)
+    } else {
+        Grown::Same(shape)
+    }
+}
+
 fn on_colon(setting: Setting, place: Place, shape: Shape) -> Grown
     ensures { Grows (on_colon (setting_of setting) place (shape_of shape)) (shape_of shape) result }
 {
@@ -354,12 +427,12 @@ pub fn on_mark(
     ensures { IfOk result (λ g. Grows (on_mark (setting_of setting) place (mark_of mark) (shape_of shape)) (shape_of shape) g) }
 {
     match mark {
-        Mark::LeftParenthesis => Ok(on_parenthesis(alloc, shape)),
+        Mark::LeftParenthesis => Ok(on_parenthesis(alloc, setting, shape)),
         Mark::RightParenthesis => on_close(alloc, shape),
         Mark::LeftBracket => Ok(on_bracket(setting, shape)),
         Mark::Colon => Ok(on_colon(setting, place, shape)),
         Mark::Dot => Ok(on_dot(shape)),
-        Mark::Hash => Ok(on_hash(shape)),
+        Mark::Hash => Ok(on_constant(setting, shape)),
         Mark::Backslash => Ok(begins(shape, Shape::Trapping)),
         Mark::RightBracket => Ok(Grown::Same(shape)),
         Mark::Comma => Ok(Grown::Same(shape)),
@@ -404,22 +477,26 @@ pub fn on_term(
     ensures { IfOk result (λ g. Grows (grow (setting_of setting) (shape_of shape) place (term_of term)) (shape_of shape) g) }
 {
     match term {
-        Term::Number(value) => begins_whole(alloc, place, ExprKind::Number(value), shape),
+        Term::Number(value) => on_number(alloc, setting, place, value, shape),
         Term::Name(name) => on_name(alloc, place, name, shape),
         Term::MethodResult => on_result(alloc, place, shape),
-        Term::Str(text) => on_string(alloc, place, text, shape),
+        Term::Str(text) => on_text(alloc, setting, place, text, shape),
         Term::Changes(before, after) => on_change(alloc, place, before, after, shape),
-        Term::Address => Ok(begins(shape, Shape::Using(Use::Addressing(place)))),
+        Term::Address => { Ok(begins_value(setting, shape, Shape::Using(Use::Addressing(place)))) }
         Term::Size(size) => Ok(on_size(setting, place, size, shape)),
         Term::Register(address, access) => {
             Ok(on_register(setting, place, address, access, shape))
         }
         Term::Here => on_here(alloc, setting, place, shape),
-        Term::StringWord => Ok(begins(shape, Shape::StringBegun(place))),
-        Term::ConstantWord => Ok(begins(shape, Shape::ConstantBegun(place))),
-        Term::Look(code) => Ok(begins(shape, Shape::LookBegun(place, code))),
+        Term::StringWord => Ok(begins_value(setting, shape, Shape::StringBegun(place))),
+        Term::ConstantWord => { Ok(begins_value(setting, shape, Shape::ConstantBegun(place))) }
+        Term::Look(code) => Ok(begins_value(setting, shape, Shape::LookBegun(place, code))),
         Term::Value(code) => on_value(alloc, place, code, shape),
         Term::BuiltIn(code) => Ok(begins(shape, Shape::Headed(Head::Built(code, place)))),
+        Term::Command(code) => {
+            let command = Shape::Headed(Head::Built(code, place));
+            Ok(begins_action(setting, shape, command))
+        }
         Term::Other => Ok(Grown::Same(shape)),
     }
 }

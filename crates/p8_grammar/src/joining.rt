@@ -108,7 +108,9 @@ fn begin_prefix(
 ) -> Result<Resolved, AllocError>
     ensures { IfOk result (λ t. Resolves (prefixed (setting_of setting) (Some (prefix_in operator)) place (operator_frames joined (frames_in stack.old))) (joined_at setting joined (frames_in stack.old)) setting t (frames_in stack.new)) }
 {
-    if 2 * u32::from(operator.rank()) + 1 < 2 * (u32::from(joined.lower) + 1) {
+    if setting.is_value()
+        && 2 * u32::from(operator.rank()) + 1 < 2 * (u32::from(joined.lower) + 1)
+    {
         joined.operate(alloc, stack)?;
         stack.push(Frame::Prefix(operator, place))?;
         Ok(Resolved::On(setting, Shape::Using(Use::Reading)))
@@ -158,8 +160,8 @@ fn resolve_mark(
 {
     if mark.is_equal() {
         joined.assign(stack)?;
-        Ok(Resolved::On(setting, Shape::Using(Use::Reading)))
-    } else {
+        Ok(Resolved::On(setting.behind(), Shape::Using(Use::Reading)))
+    } else if setting.is_value() {
         match growing::on_mark(alloc, setting, place, mark, Shape::Using(Use::Reading)) {
             Ok(grown) => begin(alloc, setting, joined, grown, stack),
             Err(error) => {
@@ -167,6 +169,8 @@ fn resolve_mark(
                 Err(error)
             }
         }
+    } else {
+        Ok(Resolved::Dead(joined))
     }
 }
 
@@ -187,13 +191,17 @@ pub fn resolve(
             alloc, setting, joined, place, operator, stack,
         ),
         Lexeme::Term(term) => {
-            let shape = Shape::Using(Use::Reading);
-            match growing::on_term(alloc, setting, place, term, shape) {
-                Ok(grown) => begin(alloc, setting, joined, grown, stack),
-                Err(error) => {
-                    drop(joined);
-                    Err(error)
+            if setting.is_value() {
+                let shape = Shape::Using(Use::Reading);
+                match growing::on_term(alloc, setting, place, term, shape) {
+                    Ok(grown) => begin(alloc, setting, joined, grown, stack),
+                    Err(error) => {
+                        drop(joined);
+                        Err(error)
+                    }
                 }
+            } else {
+                Ok(Resolved::Dead(joined))
             }
         }
     }

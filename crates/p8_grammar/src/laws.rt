@@ -1,11 +1,11 @@
 // Laws on the grammar of expressions.
-ghost use Rattle.std.specs.Prelude.{◌≡◌, ℕ, ◌<◌, ◌↔◌, ◌++◌, List};
+ghost use Rattle.std.specs.Prelude.{◌≡◌, ℕ, ◌<◌, ◌↔◌, ◌++◌, IsTrue, List};
 ghost use Rattle.p8_tree.specs.Expressions.{Tree};
 ghost use Rattle.p8_tree.specs.Proper.{IsProperTree};
-ghost use Rattle.p8_grammar.specs.Lexemes.{Setting, is_dat, Token};
+ghost use Rattle.p8_grammar.specs.Lexemes.{Setting, in_action, is_value, is_dat, Token};
 ghost use Rattle.p8_grammar.specs.Grammar.{IsExpression, IsFront, IsLongestFront, OneTree};
 ghost use Rattle.p8_grammar.specs.Heights.{height, IsTooHigh};
-ghost use Rattle.p8_grammar.specs.Proper.{AreProper};
+ghost use Rattle.p8_grammar.specs.Proper.{AreProper, IsProperAction};
 ghost use Rattle.p8_grammar.specs.Reading.{HasTaken};
 ghost use Rattle.p8_grammar.specs.declared.reader.Reader.{Reader};
 
@@ -35,7 +35,9 @@ pub fn height_shows()
     ensures { (s : Setting) (n : ℕ) (ts : List Token) (e : Tree) → IsExpression s e ts → (IsTooHigh s n ts ↔ n < height e) }
 {}
 
-/// A tree that proper words spell is proper: the texts and the numbers in the words are the only condition.
+/// A tree that proper words spell is proper, of a value as of an action: the texts and the numbers in the words are the
+/// only condition.
 pub fn spelled_is_proper()
-    ensures { (s : Setting) (ts : List Token) (e : Tree) → IsExpression s e ts → AreProper ts → IsProperTree (is_dat s) e }
+    ensures value { (s : Setting) (ts : List Token) (e : Tree) → IsTrue (is_value s) → IsExpression s e ts → AreProper ts → IsProperTree (is_dat s) e }
+    ensures action { (ts : List Token) (e : Tree) → IsExpression in_action e ts → AreProper ts → IsProperAction e }
 {}

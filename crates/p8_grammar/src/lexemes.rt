@@ -1,6 +1,6 @@
 // What a token is to an expression.
 ghost use Rattle.std.specs.Prelude.{◌≡◌, ◌↔◌, IsTrue};
-ghost use Rattle.p8_grammar.specs.Lexemes.{inside, allows_index, is_dat, is_written, has_bits, is_in, equal};
+ghost use Rattle.p8_grammar.specs.Lexemes.{inside, behind, is_value, allows_index, is_dat, is_written, has_bits, is_in, equal};
 ghost use Rattle.p8_grammar.specs.Views.{setting_of, access_of, mark_of};
 
 use p8_tree::Text;
@@ -16,15 +16,39 @@ pub enum Setting {
     Dat,
     /// An item of data in DAT, where no bracket outside parentheses and brackets is an index.
     DataItem,
+    /// A statement that is an action: an assignment, a change of a variable, a call or a built-in.
+    Action,
 }
 
 impl Setting {
+    /// Whether a value stands here, and not an action.
+    pub fn is_value(self) -> bool
+        ensures { result ≡ is_value (setting_of self) }
+    {
+        match self {
+            Setting::Method | Setting::Declaration | Setting::Dat | Setting::DataItem => true,
+            Setting::Action => false,
+        }
+    }
+
+    /// The setting of what is assigned.
+    pub fn behind(self) -> Setting
+        ensures { setting_of result ≡ behind (setting_of self) }
+    {
+        match self {
+            Setting::Method | Setting::Action => Setting::Method,
+            Setting::Declaration => Setting::Declaration,
+            Setting::Dat => Setting::Dat,
+            Setting::DataItem => Setting::DataItem,
+        }
+    }
+
     /// The setting inside parentheses and brackets.
     pub fn inside(self) -> Setting
         ensures { setting_of result ≡ inside (setting_of self) }
     {
         match self {
-            Setting::Method => Setting::Method,
+            Setting::Method | Setting::Action => Setting::Method,
             Setting::Declaration => Setting::Declaration,
             Setting::Dat | Setting::DataItem => Setting::Dat,
         }
@@ -35,7 +59,7 @@ impl Setting {
         ensures { result ≡ allows_index (setting_of self) }
     {
         match self {
-            Setting::Method | Setting::Declaration | Setting::Dat => true,
+            Setting::Method | Setting::Declaration | Setting::Dat | Setting::Action => true,
             Setting::DataItem => false,
         }
     }
@@ -45,7 +69,7 @@ impl Setting {
         ensures { result ≡ is_dat (setting_of self) }
     {
         match self {
-            Setting::Method | Setting::Declaration => false,
+            Setting::Method | Setting::Declaration | Setting::Action => false,
             Setting::Dat | Setting::DataItem => true,
         }
     }
@@ -93,7 +117,8 @@ impl Access {
     {
         match self {
             Access::Assembly => setting.is_dat(),
-            Access::Memory | Access::Pins | Access::InputPins | Access::Input => true,
+            Access::InputPins | Access::Input => setting.is_value(),
+            Access::Memory | Access::Pins => true,
         }
     }
 }
@@ -165,7 +190,9 @@ pub enum Term {
     Value(u8),
     /// Another built-in that gives a value.
     BuiltIn(u8),
-    /// What stands in no expression.
+    /// A built-in that gives no value: an action.
+    Command(u8),
+    /// What stands in no expression and no action.
     Other,
 }
 

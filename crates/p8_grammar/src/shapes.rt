@@ -1,6 +1,6 @@
 // What has been read of a form.
 ghost use Rattle.std.specs.Prelude.{◌≡◌, min, IsTrue, ◌↔◌};
-ghost use Rattle.p8_grammar.specs.Machine.{fresh};
+ghost use Rattle.p8_grammar.specs.Machine.{fresh, is_plain};
 ghost use Rattle.p8_grammar.specs.Least.{height_in_head, shape_least};
 ghost use Rattle.p8_grammar.specs.Views.{head_of, shape_of};
 
@@ -84,6 +84,16 @@ impl Shape {
     {
         match self {
             Shape::Using(Use::Reading) => true,
+            _ => false,
+        }
+    }
+
+    /// Whether it is a name alone.
+    pub fn is_plain(&self) -> bool
+        ensures { result ≡ is_plain (shape_of self.now) }
+    {
+        match self {
+            Shape::Named(Use::Reading, true, _, _) => true,
             _ => false,
         }
     }

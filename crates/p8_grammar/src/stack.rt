@@ -2,7 +2,7 @@
 ghost use Rattle.std.specs.Prelude.{◌≡◌, ℕ, ◌+◌, ◌*◌, ◌<◌, ◌≤◌, [], ◌∷◌, OnOk, IsTrue, ◌↔◌, MatchOption, List, min, max};
 ghost use Rattle.p8_grammar.specs.Machine as machine;
 ghost use Rattle.p8_grammar.specs.Machine.{bar, bar_of};
-ghost use Rattle.p8_grammar.specs.Grammar.{rank};
+ghost use Rattle.p8_grammar.specs.Grammar.{rank, effect_of};
 ghost use Rattle.p8_grammar.specs.Least.{need, high_in_hole, high_in_frame, adds_hole, adds_frame, depth, base};
 ghost use Rattle.p8_grammar.specs.Views.{hole_of, mark_of, prefix_in, frame_of};
 ghost use Rattle.p8_grammar.specs.Endings.{allows, ends_of_hole, ends_of_frame, ends_of};
@@ -32,6 +32,22 @@ impl Prefix {
         match self {
             Prefix::AtObject => 0,
             Prefix::Unary(rank, _) => rank,
+        }
+    }
+
+    /// The effect byte of the operator where it stands alone with the variable after it, as an action.
+    pub fn effect(self) -> Option<u8>
+        ensures { result ≡ effect_of (prefix_in self) }
+    {
+        match self {
+            Prefix::AtObject => None,
+            Prefix::Unary(_, code) => {
+                if code == 0xEC {
+                    None
+                } else {
+                    Some(code.saturating_sub(0xA0))
+                }
+            }
         }
     }
 }

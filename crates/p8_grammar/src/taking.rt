@@ -1,9 +1,10 @@
 // One word more, with what is begun kept on a stack.
-ghost use Rattle.std.specs.Prelude.{◌≡◌, ℕ, ◌+◌, ◌*◌, ◌<◌, ◌≤◌, ◌&&◌, nat_lt, Some, None, IfOk, OnOk, IsSome, IsTrue, option_and_then, option_map};
-ghost use Rattle.p8_grammar.specs.Machine.{wrap, reduce, shut, step, state, fresh, if_fresh, operate, join, bar_of, assign, grow, tree, target, accept, all_of};
-ghost use Rattle.p8_grammar.specs.Grammar.{is_boolean};
+ghost use Rattle.std.specs.Prelude.{◌≡◌, List, ℕ, ◌+◌, ◌*◌, ◌<◌, ◌≤◌, ◌&&◌, nat_lt, Some, None, IfOk, OnOk, IsSome, IsTrue, option_and_then, option_map};
+ghost use Rattle.p8_grammar.specs.Machine as machine;
+ghost use Rattle.p8_grammar.specs.Machine.{wrap, reduce, shut, step, state, fresh, if_fresh, on_prefix, entered_all, altering, operate, join, bar_of, assign, grow, tree, whole_in, target, accept, all_of};
+ghost use Rattle.p8_grammar.specs.Grammar.{is_boolean, effect_of};
 ghost use Rattle.p8_grammar.specs.Lexemes as lexemes;
-ghost use Rattle.p8_grammar.specs.Lexemes.{token, mark as mark_word, sign};
+ghost use Rattle.p8_grammar.specs.Lexemes.{token, is_value, mark as mark_word, sign};
 ghost use Rattle.p8_grammar.specs.Views.{expr_of, shape_of, setting_of, mark_of, lexeme_of, operator_of, term_of, prefix_in, frame_of, tree_in};
 ghost use Rattle.p8_grammar.specs.Levels.{frames_in, Takes};
 
@@ -104,8 +105,37 @@ fn mark_after(
     }
 }
 
-// An operator before its operand.
+// An operator that changes the variable after it.
+fn altering(setting: Setting, shape: Shape, place: Place, effect: Option<u8>) -> Taken
+    ensures { (k : List machine.Frame) → Takes (entered_all (setting_of setting) k (altering effect place (shape_of shape))) (state (setting_of setting) (shape_of shape) k) result k }
+{
+    match (shape, effect) {
+        (Shape::Using(Use::Reading), Some(effect)) => {
+            Taken::On(setting, Shape::Using(Use::Changing(place, effect)))
+        }
+        (other, _) => Taken::Dead(other),
+    }
+}
+
+// An operator before its operand, or one that changes the variable after it.
 fn prefix(
+    setting: Setting,
+    shape: Shape,
+    place: Place,
+    operator: Prefix,
+    stack: &mut Stack,
+) -> Result<Taken, AllocError>
+    ensures { IfOk result (λ t. Takes (on_prefix (setting_of setting) (shape_of shape) (prefix_in operator) place (frames_in stack.old)) (state (setting_of setting) (shape_of shape) (frames_in stack.old)) t (frames_in stack.new)) }
+{
+    if setting.is_value() {
+        before(setting, shape, place, operator, stack)
+    } else {
+        Ok(altering(setting, shape, place, operator.effect()))
+    }
+}
+
+// An operator before its operand.
+fn before(
     setting: Setting,
     shape: Shape,
     place: Place,
@@ -116,7 +146,7 @@ fn prefix(
 {
     match shape {
         Shape::Using(Use::Reading) => {
-            if 2 * u32::from(operator.rank()) + 1 < stack.bar() {
+            if setting.is_value() && 2 * u32::from(operator.rank()) + 1 < stack.bar() {
                 stack.push(Frame::Prefix(operator, place))?;
                 Ok(Taken::On(setting, Shape::Using(Use::Reading)))
             } else {
@@ -136,8 +166,8 @@ fn operate(
     tree: Tall,
     stack: &mut Stack,
 ) -> Result<(), AllocError>
-    requires { (0 < rank) × (rank < 12) }
-    ensures { (s : lexemes.Setting) → OnOk result (operate s (Some (rank, code)) place (expr_of tree) (frames_in stack.old) ≡ Some (state s fresh (frames_in stack.new))) }
+    requires { (0 < rank) × (rank < 11) }
+    ensures { (s : lexemes.Setting) → IsTrue (is_value s) → OnOk result (operate s (Some (rank, code)) place (expr_of tree) (frames_in stack.old) ≡ Some (state s fresh (frames_in stack.new))) }
 {
     let left = reduce(alloc, 2 * u32::from(rank), tree, stack)?;
     stack.push(Frame::Infix(rank - 1, code, place, left))?;
@@ -156,7 +186,7 @@ fn infix(
 ) -> Result<Taken, AllocError>
     ensures { IfOk result (λ t. Takes (option_and_then (λ e. operate (setting_of setting) (Some (rank, code)) place e (frames_in stack.old)) (tree (shape_of shape))) (state (setting_of setting) (shape_of shape) (frames_in stack.old)) t (frames_in stack.new)) }
 {
-    if rank == 0 || 12 <= rank {
+    if rank == 0 || 11 <= rank || !setting.is_value() {
         return Ok(Taken::Dead(shape));
     }
     match whole(alloc, shape)? {
@@ -221,7 +251,7 @@ fn assign(
     match target(shape) {
         Written::Variable(variable) => {
             stack.push(Frame::Assign(operator, place, variable))?;
-            Ok(Taken::On(setting, Shape::Using(Use::Reading)))
+            Ok(Taken::On(setting.behind(), Shape::Using(Use::Reading)))
         }
         Written::Not(shape) => Ok(Taken::Dead(shape)),
     }
@@ -345,6 +375,22 @@ fn into_tree(finished: Finished) -> Option<Tall>
     }
 }
 
+// The tree of a form that is whole as what stands in this setting.
+fn standing(alloc: Global, setting: Setting, shape: Shape) -> Result<Option<Tall>, AllocError>
+    ensures { IfOk result (λ o. option_map expr_of o ≡ whole_in (setting_of setting) (shape_of shape)) }
+{
+    if setting.is_value() || shape.is_plain() {
+        return Ok(into_tree(whole(alloc, shape)?));
+    }
+    match target(shape) {
+        Written::Variable(variable) => {
+            drop(variable);
+            Ok(None)
+        }
+        Written::Not(shape) => Ok(into_tree(whole(alloc, shape)?)),
+    }
+}
+
 // The tree, where nothing waits for it.
 fn alone(tree: Tall, stack: &Stack) -> Option<Tall>
     ensures { option_map expr_of result ≡ all_of (expr_of tree) (frames_in stack.now) }
@@ -366,8 +412,8 @@ pub fn finish(
 ) -> Result<Option<Tall>, AllocError>
     ensures { IfOk result (λ o. option_map expr_of o ≡ accept (state (setting_of setting) (shape_of shape) (frames_in stack.old))) }
 {
-    let finished = whole(alloc, shape)?;
-    match into_tree(finished) {
+    let stands = standing(alloc, setting, shape)?;
+    match stands {
         None => Ok(None),
         Some(tree) => {
             let tree = reduce(alloc, 22, tree, stack)?;

@@ -1,15 +1,17 @@
 -- What begins an expression is ended by tokens that a source may have.
-use Rattle.std.proofs.Common.{◌≡◌, ℕ, ◌<◌, ◌≤◌, List, [], ◌∷◌, ◌++◌, Some, refl, sym, ap, ◌∙◌, subst, append_assoc, arith}
+use Rattle.std.proofs.Common.{◌≡◌, ℕ, ◌<◌, ◌≤◌, List, [], ◌∷◌, ◌++◌, Bool, true, false, Option, Some, None, refl, sym, ap, ◌∙◌, subst, append_assoc, arith}
+use Rattle.std.specs.Prelude.{not}
 use Rattle.p8_tree.specs.declared.places.Place.{Place}
-use Rattle.p8_tree.specs.Expressions.{Tree, node, Number}
+use Rattle.p8_tree.specs.Expressions.{Tree, node, Number, Var, Named, no_index}
 use Rattle.p8_lexer.specs.declared.token.TokenKind.TheVariants as kind
 use Rattle.p8_lexer.specs.Words.{symbols, reserved_words, every_word}
 use Rattle.p8_grammar.specs.Lexemes as lexemes
-use Rattle.p8_grammar.specs.Lexemes.{Setting, Mark, left_parenthesis, right_parenthesis, left_bracket, right_bracket, comma, colon, dot, dot_dot, hash, backslash, equal, Lexeme, number, mark, token}
-use Rattle.p8_grammar.specs.Grammar.{a_number, operand, nothing, a_word, IsExpression, IsFront}
+use Rattle.p8_grammar.specs.Lexemes.{Setting, is_value, Mark, left_parenthesis, right_parenthesis, left_bracket, right_bracket, comma, colon, dot, dot_dot, hash, backslash, equal, Lexeme, number, name, mark, token}
+use Rattle.p8_grammar.specs.Grammar.{a_number, name_alone, operand, nothing, a_word, IsExpression, IsFront}
 use Rattle.p8_grammar.specs.Heights as heights
 use Rattle.p8_grammar.specs.Heights.{height}
-use Rattle.p8_grammar.specs.Machine.{accept, start}
+use Rattle.p8_grammar.specs.Machine.{fresh, whole_in, accepted, accept, start}
+use Rattle.p8_grammar.proofs.FormsRead.{whole_tree}
 use Rattle.p8_grammar.proofs.Complete.{complete}
 use Rattle.p8_grammar.proofs.Live as live
 use Rattle.p8_grammar.proofs.Live.{IsEnding, AreEndings, front_ends}
@@ -41,6 +43,7 @@ unfolding every_word symbols reserved_words lexeme_of_word
 real p live.a_name = record { is = record { place = p; text = 65 ∷ []; kind = kind.Name }; same = refl }
 real p live.a_number = record { is = record { place = p; text = 48 ∷ []; kind = kind.Number 0 }; same = refl }
 real p live.a_string = record { is = record { place = p; text = 34 ∷ 65 ∷ 34 ∷ []; kind = kind.Str }; same = refl }
+real p live.a_change = record { is = record { place = p; text = []; kind = kind.Symbol 0 }; same = refl }
 real p live.a_size = record { is = record { place = p; text = 66 ∷ 89 ∷ 84 ∷ 69 ∷ []; kind = kind.Name }; same = refl }
 real p (live.a_mark m) = real_mark p m
 
@@ -65,20 +68,31 @@ ended s ts f =
 
 -- no tokens are an expression, and they begin one that isn't high
 pub not_nothing : (s : Setting) (e : Tree) → ¬ IsExpression s e []
-not_nothing s e x = let c = complete s x in let same = c.1 in let is : accept (start s) ≡ Some e = (let z : c.0 ≡ start s = cc in ap accept (sym z) ∙ c.2) in cc
+not_nothing s e x = let c = complete s x in let same = c.1 in let is : accept (start s) ≡ Some e = (let z : c.0 ≡ start s = cc in ap accept (sym z) ∙ c.2) in go (whole_in s fresh) refl is
+  where
+    go : (o : Option Tree) → whole_in s fresh ≡ o → accepted o [] ≡ Some e → ⊥
+    go None h is = cc
+    go (Some t) h is = let y = whole_tree s fresh t h in cc
 
-zero_tree : Tree
-zero_tree = node (record { line = 1; column = 1 }) (Number 0)
+-- some expression, and some action, has height 1
+low_front : (s : Setting) → (ts : List lexemes.Token) × (e : Tree) × IsExpression s e ts × (height e ≡ 1)
+low_front s = go (is_value s) refl
+  where
+    p : Place
+    p = record { line = 1; column = 1 }
+
+    go : (b : Bool) → is_value s ≡ b → (ts : List lexemes.Token) × (e : Tree) × IsExpression s e ts × (height e ≡ 1)
+    go true d = (token p (number 0) ∷ [], node p (Number 0), operand (a_number d) (a_word nothing), refl)
+    go false d = (token p (name (65 ∷ [])) ∷ [], node p (Var (Named (65 ∷ []) no_index p)), operand (name_alone (ap not d)) (a_word nothing), refl)
 
 pub nothing_begins : (s : Setting) → IsFront s []
-nothing_begins s = (token (record { line = 1; column = 1 }) (number 0) ∷ [], node (record { line = 1; column = 1 }) (Number 0), operand a_number (a_word nothing))
+nothing_begins s = let x = low_front s in (x.0, x.1, x.2)
 
 pub nothing_high : (s : Setting) (n : ℕ) → 0 < n → ¬ heights.IsTooHigh s n []
-unfolding zero_tree
 nothing_high s n lt high =
-    let p : Place = record { line = 1; column = 1 } in
-    let h : n < height zero_tree = high (token p (number 0) ∷ []) zero_tree (operand a_number (a_word nothing)) in
-    omega (arith, h, lt)
+    let x = low_front s in
+    let h : n < height x.1 = high x.0 x.1 x.2 in
+    omega (arith, h, lt, x.3)
 
 -- what is too high stays so
 pub stays_high : (s : Setting) (n : ℕ) (us vs : List LineToken) → heights.IsTooHigh s n (terms us) → heights.IsTooHigh s n (terms (us ++ vs))

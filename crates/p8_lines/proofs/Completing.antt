@@ -1,6 +1,6 @@
 -- From each state on a line can be completed, and after each expression some token may stand.
 use Rattle.std.proofs.Common.{◌≡◌, ℕ, ◌<◌, length, map, List, [], ◌∷◌, Option, Some, None, Bool, true, false, refl, ap, ◌∙◌, subst, arith}
-use Rattle.std.specs.Prelude.{IsTrue, if◌then◌else◌, is_some, unwrap_or}
+use Rattle.std.specs.Prelude.{IsTrue, if◌then◌else◌, unwrap_or}
 use Rattle.p8_tree.specs.declared.places.Place.{Place}
 use Rattle.p8_tree.specs.Expressions.{node, Number}
 use Rattle.p8_lexer.specs.declared.word.Word.{Word}
@@ -8,6 +8,7 @@ use Rattle.p8_lexer.specs.declared.word.Word.TheVariants as word
 use Rattle.p8_lexer.specs.declared.token.TokenKind.TheVariants as kind
 use Rattle.p8_lexer.specs.Words.{spelling, symbols, capital, is_spelled}
 use Rattle.p8_lexer.proofs.Searches.{read_back, empty_is_none}
+use Rattle.p8_grammar.specs.Lexemes.{is_value}
 use Rattle.p8_grammar.specs.Grammar.{operand, a_number, a_word, nothing}
 use Rattle.p8_pieces.specs.Pieces.{Piece, tree}
 use Rattle.p8_lines.specs.declared.sign.Sign.{Sign}
@@ -51,13 +52,6 @@ string = record { token = record { place = somewhere; text = 34 ∷ 65 ∷ 34 �
 abbrev a_symbol : ℕ → LineToken
 a_symbol n = record { place = somewhere; text = []; kind = kind.Symbol n }
 
-plus_plus_word : tokens.word (a_symbol 0) ≡ word.PlusPlus
-unfolding symbols
-plus_plus_word = refl
-
-abbrev plus_plus : Spelled
-plus_plus = record { token = a_symbol 0; word = word.PlusPlus; is = plus_plus_word }
-
 right_parenthesis_word : tokens.word (a_symbol 59) ≡ word.RightParenthesis
 unfolding symbols
 right_parenthesis_word = refl
@@ -93,26 +87,12 @@ colon_word = refl
 abbrev colon : Spelled
 colon = record { token = a_symbol 63; word = word.Colon; is = colon_word }
 
-dot_word : tokens.word (a_symbol 64) ≡ word.Dot
-unfolding symbols
-dot_word = refl
-
-abbrev dot : Spelled
-dot = record { token = a_symbol 64; word = word.Dot; is = dot_word }
-
 dot_dot_word : tokens.word (a_symbol 65) ≡ word.DotDot
 unfolding symbols
 dot_dot_word = refl
 
 abbrev dot_dot : Spelled
 dot_dot = record { token = a_symbol 65; word = word.DotDot; is = dot_dot_word }
-
-equal_sign_word : tokens.word (a_symbol 66) ≡ word.EqualSign
-unfolding symbols
-equal_sign_word = refl
-
-abbrev equal_sign : Spelled
-equal_sign = record { token = a_symbol 66; word = word.EqualSign; is = equal_sign_word }
 
 hash_word : tokens.word (a_symbol 67) ≡ word.Hash
 unfolding symbols
@@ -163,6 +143,12 @@ while_word = reserved_word word.While (omega arith) refl
 abbrev while : Spelled
 while = record { token = a_word_of word.While; word = word.While; is = while_word }
 
+next_word : tokens.word (a_word_of word.Next) ≡ word.Next
+next_word = reserved_word word.Next (omega arith) refl
+
+abbrev next : Spelled
+next = record { token = a_word_of word.Next; word = word.Next; is = next_word }
+
 wz_word : tokens.word (a_word_of word.Wz) ≡ word.Wz
 wz_word = reserved_word word.Wz (omega arith) refl
 
@@ -187,15 +173,19 @@ abbrev zero_token : LineToken
 zero_token = record { place = somewhere; text = []; kind = kind.Number 0 }
 
 -- an expression stands there, and a token after it
-by_phrase : {q r : State} (x : Spelled) → IsTrue (is_some (choices q).phrase) → target (behind_in (choices q).phrase) x.word (string_length x.token) ≡ Some r → Completion r → Completion q
+abbrev takes_value : Option Phrase → Bool
+takes_value None = false
+takes_value (Some h) = is_value h.setting
+
+by_phrase : {q r : State} (x : Spelled) → IsTrue (takes_value (choices q).phrase) → target (behind_in (choices q).phrase) x.word (string_length x.token) ≡ Some r → Completion r → Completion q
 by_phrase {q = q} {r = r} x some h y = go (choices q).phrase refl some h
   where
-    go : (o : Option Phrase) → (choices q).phrase ≡ o → IsTrue (is_some o) → target (behind_in o) x.word (string_length x.token) ≡ Some r → Completion q
+    go : (o : Option Phrase) → (choices q).phrase ≡ o → IsTrue (takes_value o) → target (behind_in o) x.word (string_length x.token) ≡ Some r → Completion q
     go None e s h = absurd cc
     go (Some p) e s h = record {
       row = tree (node somewhere (Number 0)) somewhere ∷ piece x.token ∷ y.row;
       tokens = zero_token ∷ x.token ∷ y.tokens;
-      is = phrase [] e (operand a_number (a_word {ts = []} nothing)) (takes p.behind_other x r h) y.is;
+      is = phrase [] e (operand (a_number s) (a_word {ts = []} nothing)) (takes p.behind_other x r h) y.is;
     }
 
 -- the states to which others lead
@@ -263,39 +253,6 @@ from_test = by_phrase line_end refl refl from_end
 from_to : Completion state.To
 from_to = by_phrase line_end refl refl from_end
 
-from_named : Completion state.Named
-from_named = by_token line_end refl from_end
-
-from_named_indexed : Completion state.NamedIndexed
-from_named_indexed = by_token plus_plus refl from_line_end
-
-from_method : Completion state.Method
-from_method = by_token line_end refl from_end
-
-from_indexable : Completion state.Indexable
-from_indexable = by_token plus_plus refl from_line_end
-
-from_indexed : Completion state.Indexed
-from_indexed = by_token plus_plus refl from_line_end
-
-from_assigned : Completion state.Assigned
-from_assigned = by_phrase line_end refl refl from_end
-
-from_address : Completion state.Address
-from_address = by_phrase right_bracket refl refl from_indexable
-
-from_trapped : Completion state.Trapped
-from_trapped = by_token line_end refl from_end
-
-from_changed_name : Completion state.ChangedName
-from_changed_name = by_token line_end refl from_end
-
-from_changed_indexable : Completion state.ChangedIndexable
-from_changed_indexable = by_token line_end refl from_end
-
-from_changed_address : Completion state.ChangedAddress
-from_changed_address = by_phrase right_bracket refl refl from_changed_indexable
-
 from_var_name : Completion state.VarName
 from_var_name = by_token name refl from_var_named
 
@@ -310,12 +267,6 @@ from_more_parameters = by_token right_parenthesis refl from_parameters
 
 from_call_label : Completion state.CallLabel
 from_call_label = by_token name refl from_effects
-
-from_method_of : Completion state.MethodOf
-from_method_of = by_token name refl from_method
-
-from_trapped_dot : Completion state.TrappedDot
-from_trapped_dot = by_token dot refl from_method_of
 
 completed : (q : State) → Completion q
 completed state.End = from_end
@@ -375,7 +326,7 @@ completed state.MoreEffects = from_more_effects
 completed state.Effect = by_token wz refl from_more_effects
 completed state.MoreFlags = from_more_flags
 completed state.FlagEffect = by_token wz refl from_more_flags
-completed state.Statement = by_token name refl from_named
+completed state.Statement = by_token next refl from_line_end
 completed state.ChainLine = by_token an_else refl from_line_end
 completed state.LoopEndLine = by_token while refl from_test
 completed state.LastValue = from_test
@@ -387,40 +338,6 @@ completed state.CaseItem = by_phrase colon refl refl from_end
 completed state.CaseTest = by_phrase colon refl refl from_end
 completed state.CaseRange = by_phrase colon refl refl from_end
 completed state.OtherColon = by_token colon refl from_end
-completed state.Named = from_named
-completed state.NamedIndex = by_phrase right_bracket refl refl from_named_indexed
-completed state.NamedIndexed = from_named_indexed
-completed state.NamedDot = by_token name refl from_method
-completed state.MethodOf = from_method_of
-completed state.Method = from_method
-completed state.Indexable = from_indexable
-completed state.Index = by_phrase right_bracket refl refl from_indexed
-completed state.Indexed = from_indexed
-completed state.Result = by_token plus_plus refl from_line_end
-completed state.ResultDot = by_token long refl from_indexable
-completed state.Memory = by_token left_bracket refl from_address
-completed state.Address = from_address
-completed state.Pins = by_token plus_plus refl from_line_end
-completed state.FirstPin = by_phrase right_bracket refl refl from_indexed
-completed state.LastPin = by_phrase right_bracket refl refl from_indexed
-completed state.Trap = by_token name refl from_trapped
-completed state.Trapped = from_trapped
-completed state.TrappedIndex = by_phrase right_bracket refl refl from_trapped_dot
-completed state.TrappedDot = from_trapped_dot
-completed state.BuiltIn = by_token line_end refl from_end
-completed state.Arguments = by_phrase right_parenthesis refl refl from_line_end
-completed state.AssignedByWord = by_token equal_sign refl from_assigned
-completed state.Assigned = from_assigned
-completed state.Changed = by_token name refl from_changed_name
-completed state.ChangedName = from_changed_name
-completed state.ChangedDot = by_token long refl from_changed_indexable
-completed state.ChangedIndexable = from_changed_indexable
-completed state.ChangedIndex = by_phrase right_bracket refl refl from_line_end
-completed state.ChangedMemory = by_token left_bracket refl from_changed_address
-completed state.ChangedAddress = from_changed_address
-completed state.ChangedPins = by_token line_end refl from_end
-completed state.ChangedFirstPin = by_phrase right_bracket refl refl from_line_end
-completed state.ChangedLastPin = by_phrase right_bracket refl refl from_line_end
 
 pub completion : (q : State) → (row : List Piece) × (ts : List LineToken) × Row q row ts
 completion q = let x = completed q in (x.row, x.tokens, x.is)

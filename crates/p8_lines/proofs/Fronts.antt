@@ -1,15 +1,16 @@
 -- No expression begins with a token that has an arrow beside it, and none goes on with a token that may stand
 -- after it.
 use Rattle.std.proofs.Common.{◌≡◌, ℕ, ◌<◌, length, List, [], ◌∷◌, ◌++◌, Option, Some, None, Bool, true, false, refl, sym, ap, ◌∙◌, subst, arith}
-use Rattle.std.specs.Prelude.{IsTrue, option_and_then}
+use Rattle.std.specs.Prelude.{IsTrue, if◌then◌else◌, option_and_then}
 use Rattle.p8_tree.specs.declared.places.Place.{Place}
 use Rattle.p8_tree.specs.Expressions.{Tree}
 use Rattle.p8_lexer.specs.declared.word.Word.{Word}
 use Rattle.p8_lexer.specs.declared.word.Word.TheVariants as word
-use Rattle.p8_grammar.specs.Lexemes.{Setting, in_method, in_declaration, in_dat, in_data_item, Lexeme, left_bracket, right_bracket, right_parenthesis, comma, colon, dot_dot, string, mark, size, other, Token, token}
+use Rattle.p8_grammar.specs.Lexemes.{Setting, in_method, in_declaration, in_dat, in_data_item, in_action, is_value, Lexeme, left_bracket, right_bracket, right_parenthesis, comma, colon, dot_dot, hash, string, mark, size, other, Token, token}
 use Rattle.p8_grammar.specs.Grammar.{IsExpression, IsFront}
-use Rattle.p8_grammar.specs.Machine.{Shape, using, string_read, tree, on_bracket, on_close, on_colon, Frame, wrap, reduce, State, state, joined, shut, go_on, beyond, step, walk, all_of, accepted, accept, start}
+use Rattle.p8_grammar.specs.Machine.{Shape, Next, if_value, fresh, using, string_read, tree, whole_in, on_bracket, on_close, on_colon, Frame, wrap, reduce, State, state, joined, shut, go_on, beyond, step, walk, all_of, accepted, accept, start}
 use Rattle.p8_grammar.proofs.Walks.{walk_append, wraps}
+use Rattle.p8_grammar.proofs.FormsRead.{whole_tree}
 use Rattle.p8_grammar.proofs.Complete.{complete}
 use Rattle.p8_grammar.proofs.Sound.{Pending, nothing_pending, after_operator, in_hole, start_stands, walk_stands}
 use Rattle.p8_grammar.proofs.Live.{dead}
@@ -24,7 +25,7 @@ use Rattle.p8_lines.specs.Tokens as tokens
 use Rattle.p8_lines.specs.Tokens.{LineToken, lexeme, term, terms, string_length}
 use Rattle.p8_lines.specs.Lines.{Follows, behind}
 use Rattle.p8_lines.proofs.Arrows.{all_good, all_good_behind, taken, taken_behind}
-use Rattle.p8_lines.proofs.Lexemes.{comma_lexeme, colon_lexeme, range_lexeme, left_bracket_lexeme, right_bracket_lexeme, right_parenthesis_lexeme, hash_lexeme, line_end_lexeme, while_lexeme, until_lexeme, other_lexeme, from_lexeme, to_lexeme, step_lexeme, size_lexeme, flag_lexeme, write_lexeme, string_lexeme}
+use Rattle.p8_lines.proofs.Lexemes.{comma_lexeme, colon_lexeme, range_lexeme, left_bracket_lexeme, right_bracket_lexeme, right_parenthesis_lexeme, hash_lexeme, line_end_lexeme, while_lexeme, until_lexeme, other_lexeme, if_lexeme, ifnot_lexeme, case_lexeme, repeat_lexeme, next_lexeme, quit_lexeme, return_lexeme, abort_lexeme, from_lexeme, to_lexeme, step_lexeme, size_lexeme, flag_lexeme, write_lexeme, string_lexeme}
 
 -- before an expression
 
@@ -34,6 +35,14 @@ begins_nothing word.While = true
 begins_nothing word.Until = true
 begins_nothing word.Other = true
 begins_nothing word.Hash = true
+begins_nothing word.If = true
+begins_nothing word.Ifnot = true
+begins_nothing word.Case = true
+begins_nothing word.Repeat = true
+begins_nothing word.Next = true
+begins_nothing word.Quit = true
+begins_nothing word.Return = true
+begins_nothing word.Abort = true
 begins_nothing w = false
 
 abbrev is_item : Setting → Bool
@@ -41,6 +50,7 @@ is_item in_method = false
 is_item in_declaration = false
 is_item in_dat = false
 is_item in_data_item = true
+is_item in_action = false
 
 -- tokens of this sign begin no expression there
 abbrev opens_nothing : Setting → Sign → Bool
@@ -57,10 +67,17 @@ states_before : (q : line_state.State) → IsTrue (good_before (choices q).phras
 states_before states.End = refl
 states_before q = refl
 
+closed : (s : Setting) → if_value s None ≡ None
+closed s = go (is_value s) None refl
+  where
+    go : (b : Bool) (o : Option Next) → o ≡ None → (if b then o else None) ≡ None
+    go true o h = h
+    go false o h = refl
+
 long_fails : (s : Setting) (p : Place) (cs : List ℕ) → 1 < length cs → step (start s) (token p (string cs)) ≡ None
-long_fails s p [] n = refl
+long_fails s p [] n = absurd (omega arith)
 long_fails s p (c ∷ []) n = absurd (omega arith)
-long_fails s p (c ∷ d ∷ cs) n = refl
+long_fails s p (c ∷ d ∷ cs) n = ap (λ o. go_on o s fresh [] p (string (c ∷ d ∷ cs))) (closed s)
 
 size_fails : (s : Setting) (p : Place) (z : ℕ) → IsTrue (is_item s) → step (start s) (token p (size z)) ≡ None
 size_fails in_data_item p z h = refl
@@ -74,7 +91,15 @@ word_fails s t word.LineEnd e h = ap (first_step s t) (line_end_lexeme t e)
 word_fails s t word.While e h = ap (first_step s t) (while_lexeme t e)
 word_fails s t word.Until e h = ap (first_step s t) (until_lexeme t e)
 word_fails s t word.Other e h = ap (first_step s t) (other_lexeme t e)
-word_fails s t word.Hash e h = ap (first_step s t) (hash_lexeme t e)
+word_fails s t word.Hash e h = ap (first_step s t) (hash_lexeme t e) ∙ ap (λ o. go_on o s fresh [] t.place (mark hash)) (closed s)
+word_fails s t word.If e h = ap (first_step s t) (if_lexeme t e)
+word_fails s t word.Ifnot e h = ap (first_step s t) (ifnot_lexeme t e)
+word_fails s t word.Case e h = ap (first_step s t) (case_lexeme t e)
+word_fails s t word.Repeat e h = ap (first_step s t) (repeat_lexeme t e)
+word_fails s t word.Next e h = ap (first_step s t) (next_lexeme t e)
+word_fails s t word.Quit e h = ap (first_step s t) (quit_lexeme t e)
+word_fails s t word.Return e h = ap (first_step s t) (return_lexeme t e)
+word_fails s t word.Abort e h = ap (first_step s t) (abort_lexeme t e)
 word_fails s t w e h = absurd cc
 
 sign_fails : (s : Setting) (t : LineToken) (x : Sign) → Matches x (tokens.word t) (string_length t) → IsTrue (opens_nothing s x) → first_step s t (lexeme t) ≡ None
@@ -171,24 +196,40 @@ record Whole (s : Setting) (st : State) (e : Tree) : Type 0 where
 
 whole : (s : Setting) (st : State) (e : Tree) → accept st ≡ Some e → Whole s st e
 whole s (joined s' r c p v k) e h = absurd cc
-whole s (state s' sh k) e h = go (tree sh) refl h
+whole s (state s' sh k) e h = go (whole_in s' sh) refl h
   where
     ends_so : (q : Tree × List Frame) → all_of q.0 q.1 ≡ Some e → q ≡ (e, [])
     ends_so (x, []) h = let y : x ≡ e = cc in ap (λ z. (z, [])) y
     ends_so (x, f ∷ k) h = absurd cc
 
-    go : (o : Option Tree) → tree sh ≡ o → accepted o k ≡ Some e → Whole s (state s' sh k) e
+    go : (o : Option Tree) → whole_in s' sh ≡ o → accepted o k ≡ Some e → Whole s (state s' sh k) e
     go None t h = absurd cc
-    go (Some top) t h = record { setting = s'; shape = sh; frames = k; top = top; is = refl; has = t; ended = ends_so (reduce 22 top k) h }
+    go (Some top) t h = record { setting = s'; shape = sh; frames = k; top = top; is = refl; has = whole_tree s' sh top t; ended = ends_so (reduce 22 top k) h }
 
--- where nothing is open, the setting is the first one
-same_setting : {s s' : Setting} {k : List Frame} {us : List Token} → Pending s s' k us → (top e : Tree) → reduce 22 top k ≡ (e, []) → s' ≡ s
-same_setting nothing_pending top e h = refl
-same_setting (after_operator {f = f} {k = k} vs l pending le low bar reads) top e h = same_setting pending (wrap f top) e (sym (wraps 22 top f k bar) ∙ h)
-same_setting (in_hole pending stands spells) top e h = let y = ap (λ q. q.1) h in absurd cc
+-- where nothing is open after a value, the setting is the first one
+same_setting : {s s' : Setting} {k : List Frame} {us : List Token} → IsTrue (is_value s) → Pending s s' k us → (top e : Tree) → reduce 22 top k ≡ (e, []) → s' ≡ s
+same_setting d nothing_pending top e h = refl
+same_setting {s = s} {s' = s'} d (after_operator {s = s1} {f = f} {k = k} vs l pending value same kept le low bar reads) top e h =
+    let below : s1 ≡ s = same_setting d pending (wrap f top) e (sym (wraps 22 top f k bar) ∙ h) in
+    sym (kept (subst (λ s. IsTrue (is_value s)) (sym below) d)) ∙ below
+same_setting d (in_hole pending stands spells) top e h = let y = ap (λ q. q.1) h in absurd cc
 
-setting_kept : (s s' : Setting) (sh : Shape) (k : List Frame) (ts : List Token) (top e : Tree) → walk (start s) ts ≡ Some (state s' sh k) → reduce 22 top k ≡ (e, []) → s' ≡ s
-setting_kept s s' sh k ts top e w h = let b = walk_stands s ts [] (start s) (state s' sh k) (start_stands s) w in same_setting b.pending top e h
+setting_kept : (s s' : Setting) (sh : Shape) (k : List Frame) (ts : List Token) (top e : Tree) → IsTrue (is_value s) → walk (start s) ts ≡ Some (state s' sh k) → reduce 22 top k ≡ (e, []) → s' ≡ s
+setting_kept s s' sh k ts top e d w h = let b = walk_stands s ts [] (start s) (state s' sh k) (start_stands s) w in same_setting d b.pending top e h
+
+item_value : (s : Setting) → IsTrue (is_item s) → IsTrue (is_value s)
+item_value in_data_item h = refl
+item_value s h = absurd cc
+
+-- what it doesn't go on with is the same in another setting, but for a bracket
+moved : {s s' : Setting} {x : Lexeme} → Ends s x → (IsTrue (is_item s) → s' ≡ s) → Ends s' x
+moved by_other f = by_other
+moved by_comma f = by_comma
+moved by_colon f = by_colon
+moved by_range f = by_range
+moved by_right_bracket f = by_right_bracket
+moved by_right_parenthesis f = by_right_parenthesis
+moved (by_left_bracket i) f = by_left_bracket (subst (λ s. IsTrue (is_item s)) (sym (f i)) i)
 
 -- an expression doesn't go on with them
 expression_ends : (s : Setting) (e : Tree) (ts : List Token) (p : Place) (x : Lexeme) → IsExpression s e ts → Ends s x → ¬ IsFront s (ts ++ token p x ∷ [])
@@ -196,11 +237,10 @@ expression_ends s e ts p x r y =
     let c = complete s r in
     let w = whole s c.0 e c.2 in
     let walked = c.1 ∙ ap Some w.is in
-    let same = setting_kept s w.setting w.shape w.frames ts w.top e walked w.ended in
     let there : walk (start s) (ts ++ token p x ∷ []) ≡ None =
     walk_append (start s) ts (token p x ∷ [])
     ∙ ap (λ o. option_and_then (λ st. walk st (token p x ∷ [])) o) walked
-    ∙ ap (λ o. option_and_then (λ st. walk st []) o) (no_step w.setting w.shape w.frames w.top e p x w.has w.ended (subst (λ s. Ends s x) (sym same) y)) in
+    ∙ ap (λ o. option_and_then (λ st. walk st []) o) (no_step w.setting w.shape w.frames w.top e p x w.has w.ended (moved y (λ i. setting_kept s w.setting w.shape w.frames ts w.top e (item_value s i) walked w.ended))) in
     dead s (ts ++ token p x ∷ []) there
 
 ending : (s : Setting) (x y : Lexeme) → x ≡ y → Ends s y → Ends s x

@@ -85,6 +85,38 @@ pub other_lexeme : (t : LineToken) → tokens.word t ≡ word.Other → lexeme t
 unfolding lexeme_of_word
 other_lexeme t h = plain_lexeme t word.Other refl h
 
+pub if_lexeme : (t : LineToken) → tokens.word t ≡ word.If → lexeme t ≡ other
+unfolding lexeme_of_word
+if_lexeme t h = plain_lexeme t word.If refl h
+
+pub ifnot_lexeme : (t : LineToken) → tokens.word t ≡ word.Ifnot → lexeme t ≡ other
+unfolding lexeme_of_word
+ifnot_lexeme t h = plain_lexeme t word.Ifnot refl h
+
+pub case_lexeme : (t : LineToken) → tokens.word t ≡ word.Case → lexeme t ≡ other
+unfolding lexeme_of_word
+case_lexeme t h = plain_lexeme t word.Case refl h
+
+pub repeat_lexeme : (t : LineToken) → tokens.word t ≡ word.Repeat → lexeme t ≡ other
+unfolding lexeme_of_word
+repeat_lexeme t h = plain_lexeme t word.Repeat refl h
+
+pub next_lexeme : (t : LineToken) → tokens.word t ≡ word.Next → lexeme t ≡ other
+unfolding lexeme_of_word
+next_lexeme t h = plain_lexeme t word.Next refl h
+
+pub quit_lexeme : (t : LineToken) → tokens.word t ≡ word.Quit → lexeme t ≡ other
+unfolding lexeme_of_word
+quit_lexeme t h = plain_lexeme t word.Quit refl h
+
+pub return_lexeme : (t : LineToken) → tokens.word t ≡ word.Return → lexeme t ≡ other
+unfolding lexeme_of_word
+return_lexeme t h = plain_lexeme t word.Return refl h
+
+pub abort_lexeme : (t : LineToken) → tokens.word t ≡ word.Abort → lexeme t ≡ other
+unfolding lexeme_of_word
+abort_lexeme t h = plain_lexeme t word.Abort refl h
+
 pub from_lexeme : (t : LineToken) → tokens.word t ≡ word.From → lexeme t ≡ other
 unfolding lexeme_of_word
 from_lexeme t h = plain_lexeme t word.From refl h

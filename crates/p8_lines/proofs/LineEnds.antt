@@ -35,13 +35,6 @@ ends_line x r = true
 sign_ends : (x : Sign) (r : State) (v : Word) (n : ℕ) → v ≡ word.LineEnd → Matches x v n → IsTrue (ends_line x r) → r ≡ state.End
 sign_ends (sign.Word w) r v n e m h = let z : word.LineEnd ≡ w = sym e ∙ m in over_is r (subst (λ w. IsTrue (if is_line_end w then is_over r else true)) (sym z) h)
 sign_ends sign.Size r v n e m h = let z = subst (λ v. Matches sign.Size v n) e m in absurd cc
-sign_ends sign.Pins r v n e m h = let z = subst (λ v. Matches sign.Pins v n) e m in absurd cc
-sign_ends sign.Assignment r v n e m h = let z = subst (λ v. Matches sign.Assignment v n) e m in absurd cc
-sign_ends sign.Boolean r v n e m h = let z = subst (λ v. Matches sign.Boolean v n) e m in absurd cc
-sign_ends sign.Change r v n e m h = let z = subst (λ v. Matches sign.Change v n) e m in absurd cc
-sign_ends sign.Operator r v n e m h = let z = subst (λ v. Matches sign.Operator v n) e m in absurd cc
-sign_ends sign.Value r v n e m h = let z = subst (λ v. Matches sign.Value v n) e m in absurd cc
-sign_ends sign.BuiltIn r v n e m h = let z = subst (λ v. Matches sign.BuiltIn v n) e m in absurd cc
 sign_ends sign.Text r v n e m h = let z = sym e ∙ m.0 in absurd cc
 sign_ends sign.LongText r v n e m h = let z = sym e ∙ m.0 in absurd cc
 sign_ends sign.Condition r v n e m h = let z = subst (λ v. Matches sign.Condition v n) e m in absurd cc

@@ -10,7 +10,7 @@ use Rattle.p8_lines.specs.declared.sign.Sign.{Sign}
 use Rattle.p8_lines.specs.declared.sign.Sign.TheVariants as sign
 use Rattle.p8_lines.specs.declared.arrow.Arrow.{Arrow}
 use Rattle.p8_lines.specs.declared.state.State.{State}
-use Rattle.p8_lines.specs.Signs.{is_size, is_pins, is_assignment, is_boolean, is_change, is_operator, is_value, is_built_in, is_condition, takes_two, is_on_memory, takes_one, is_flag, is_write, Matches}
+use Rattle.p8_lines.specs.Signs.{is_size, is_condition, takes_two, is_on_memory, takes_one, is_flag, is_write, Matches}
 use Rattle.p8_lines.specs.Tokens as tokens
 use Rattle.p8_lines.specs.Tokens.{LineToken, string_length}
 use Rattle.p8_lines.specs.Lines.{Follows, here, further}
@@ -22,13 +22,6 @@ is_longer k v n = if sameb the_type v word.Str then nat_lt k n else false
 abbrev pub matches : Sign → Word → ℕ → Bool
 matches (sign.Word w) v n = sameb the_type v w
 matches sign.Size v n = is_size v
-matches sign.Pins v n = is_pins v
-matches sign.Assignment v n = is_assignment v
-matches sign.Boolean v n = is_boolean v
-matches sign.Change v n = is_change v
-matches sign.Operator v n = is_operator v
-matches sign.Value v n = is_value v
-matches sign.BuiltIn v n = is_built_in v
 matches sign.Text v n = is_longer 0 v n
 matches sign.LongText v n = is_longer 1 v n
 matches sign.Condition v n = is_condition v
@@ -58,13 +51,6 @@ not_longer k v n h e lt = go (sameb the_type v word.Str) refl h
 pub does_match : (x : Sign) (v : Word) (n : ℕ) → matches x v n ≡ true → Matches x v n
 does_match (sign.Word w) v n h = same_word v w h
 does_match sign.Size v n h = h
-does_match sign.Pins v n h = h
-does_match sign.Assignment v n h = h
-does_match sign.Boolean v n h = h
-does_match sign.Change v n h = h
-does_match sign.Operator v n h = h
-does_match sign.Value v n h = h
-does_match sign.BuiltIn v n h = h
 does_match sign.Text v n h = longer 0 v n h
 does_match sign.LongText v n h = longer 1 v n h
 does_match sign.Condition v n h = h
@@ -80,13 +66,6 @@ differs b e h = let z = sym e ∙ h in cc
 pub does_not_match : (x : Sign) (v : Word) (n : ℕ) → matches x v n ≡ false → ¬ Matches x v n
 does_not_match (sign.Word w) v n h m = same_false the_type v w h m
 does_not_match sign.Size v n h m = differs (is_size v) h m
-does_not_match sign.Pins v n h m = differs (is_pins v) h m
-does_not_match sign.Assignment v n h m = differs (is_assignment v) h m
-does_not_match sign.Boolean v n h m = differs (is_boolean v) h m
-does_not_match sign.Change v n h m = differs (is_change v) h m
-does_not_match sign.Operator v n h m = differs (is_operator v) h m
-does_not_match sign.Value v n h m = differs (is_value v) h m
-does_not_match sign.BuiltIn v n h m = differs (is_built_in v) h m
 does_not_match sign.Text v n h m = not_longer 0 v n h m.0 m.1
 does_not_match sign.LongText v n h m = not_longer 1 v n h m.0 m.1
 does_not_match sign.Condition v n h m = differs (is_condition v) h m

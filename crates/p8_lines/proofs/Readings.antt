@@ -65,18 +65,14 @@ line_stopped {q = q} {us = us} {row = row} us' rest vs t x split begins no_line 
         let f = (at_end z.way refl).tokens in
         absurd cc
 
-high_high : {q r r' : State} {us us' : List LineToken} {row row' : List Piece} (h h' : Phrase) (first t t' : LineToken) (vs vs' : List LineToken) → Leads q us row r → (choices r).phrase ≡ Some h → IsTooHigh h (t ∷ vs) → Leads q us' row' r' → (choices r').phrase ≡ Some h' → IsTooHigh h' (t' ∷ vs') → us ++ t ∷ vs ≡ us' ++ t' ∷ vs' → (if h.inner then first.place else t.place) ≡ (if h'.inner then first.place else t'.place)
-high_high {r = r} {r' = r'} {us = us} {us' = us'} h h' first t t' vs vs' x p high x' p' high' split =
+high_high : {q r r' : State} {us us' : List LineToken} {row row' : List Piece} (h h' : Phrase) (t t' : LineToken) (vs vs' : List LineToken) → Leads q us row r → (choices r).phrase ≡ Some h → IsTooHigh h (t ∷ vs) → Leads q us' row' r' → (choices r').phrase ≡ Some h' → IsTooHigh h' (t' ∷ vs') → us ++ t ∷ vs ≡ us' ++ t' ∷ vs' → t ≡ t'
+high_high {r = r} {r' = r'} {us = us} {us' = us'} h h' t t' vs vs' x p high x' p' high' split =
     let b = blocked h' (t ∷ vs) (t' ∷ vs') x x' p' high' split in
     let b' = blocked h (t' ∷ vs') (t ∷ vs) x' x p high (sym split) in
     let no_more : b.0 ≡ [] = nothing_more us b.0 b'.0 (b'.1 ∙ ap (λ l. l ++ b'.0) b.1) in
-    let z = goes_on b.0 (leads_way x) (leads_way x') b.1 in
-    let there : r ≡ r' = at_once z.way no_more in
     let tokens : us' ≡ us = b.1 ∙ ap (λ l. us ++ l) no_more ∙ append-nil us in
     let lasts : t ∷ vs ≡ t' ∷ vs' = cancel us (t ∷ vs) (t' ∷ vs') (split ∙ ap (λ l. l ++ t' ∷ vs') tokens) in
-    let firsts : t ≡ t' = cc in
-    let phrases : h ≡ h' = (let y = sym p ∙ ap (λ q. (choices q).phrase) there ∙ p' in cc) in
-    λ i. if (phrases i).inner then first.place else (firsts i).place
+    cc
 
 high_stopped : {q r : State} {us : List LineToken} {row : List Piece} (h : Phrase) (us' vs vs' : List LineToken) (t t' : LineToken) → Leads q us row r → (choices r).phrase ≡ Some h → IsTooHigh h (t ∷ vs) → us ++ t ∷ vs ≡ us' ++ t' ∷ vs' → ¬ Begins q (us' ++ t' ∷ []) → ¬ HasTooHigh q us' → ⊥
 high_stopped {q = q} {r = r} {us = us} {row = row} h us' vs vs' t t' x p high split ends low = go (compare us' (t' ∷ vs') (us ++ high.front) high.rest whole)
@@ -104,15 +100,14 @@ stopped_stopped q us us' vs vs' t t' split begins ends begins' ends' = go (compa
 
 pub one_reading : (q : State) (ts : List LineToken) (o o' : Outcome) → Reads q ts o → Reads q ts o' → o ≡ o'
 one_reading q ts _ _ (line {rest = rest} e x) (line {rest = rest'} e' x') = line_line rest rest' x x' (sym e ∙ e')
-one_reading q ts _ _ (line {rest = rest} e x) (too_high {vs = vs} {t = t} {h = h} f e' x' p high) = absurd (line_high h rest (t ∷ vs) x x' p high (sym e ∙ e'))
+one_reading q ts _ _ (line {rest = rest} e x) (too_high {vs = vs} {t = t} {h = h} e' x' p high) = absurd (line_high h rest (t ∷ vs) x x' p high (sym e ∙ e'))
 one_reading q ts _ _ (line {rest = rest} e x) (stopped {us = us} t vs e' begins no_line ends low) = absurd (line_stopped us rest vs t x (sym e ∙ e') begins no_line ends)
-one_reading q ts _ _ (too_high {vs = vs} {t = t} {h = h} f e x p high) (line {rest = rest} e' x') = absurd (line_high h rest (t ∷ vs) x' x p high (sym e' ∙ e))
-one_reading q ts _ _ (too_high {vs = vs} {first = first} {t = t} {h = h} f e x p high) (too_high {vs = vs'} {first = first'} {t = t'} {h = h'} f' e' x' p' high') =
-    let firsts : first ≡ first' = (let z = sym f ∙ f' in cc) in
-    ap (λ place. refused (refusal_number TooNested) place) (high_high h h' first t t' vs vs' x p high x' p' high' (sym e ∙ e') ∙ ap (λ u. if h'.inner then u.place else t'.place) firsts)
-one_reading q ts _ _ (too_high {vs = vs} {t = t} {h = h} f e x p high) (stopped {us = us} t' vs' e' begins no_line ends low) = absurd (high_stopped h us vs vs' t t' x p high (sym e ∙ e') ends low)
+one_reading q ts _ _ (too_high {vs = vs} {t = t} {h = h} e x p high) (line {rest = rest} e' x') = absurd (line_high h rest (t ∷ vs) x' x p high (sym e' ∙ e))
+one_reading q ts _ _ (too_high {vs = vs} {t = t} {h = h} e x p high) (too_high {vs = vs'} {t = t'} {h = h'} e' x' p' high') =
+    ap (λ u. refused (refusal_number TooNested) u.place) (high_high h h' t t' vs vs' x p high x' p' high' (sym e ∙ e'))
+one_reading q ts _ _ (too_high {vs = vs} {t = t} {h = h} e x p high) (stopped {us = us} t' vs' e' begins no_line ends low) = absurd (high_stopped h us vs vs' t t' x p high (sym e ∙ e') ends low)
 one_reading q ts _ _ (stopped {us = us} t vs e begins no_line ends low) (line {rest = rest} e' x') = absurd (line_stopped us rest vs t x' (sym e' ∙ e) begins no_line ends)
-one_reading q ts _ _ (stopped {us = us} t vs e begins no_line ends low) (too_high {vs = vs'} {t = t'} {h = h'} f' e' x' p' high') = absurd (high_stopped h' us vs' vs t' t x' p' high' (sym e' ∙ e) ends low)
+one_reading q ts _ _ (stopped {us = us} t vs e begins no_line ends low) (too_high {vs = vs'} {t = t'} {h = h'} e' x' p' high') = absurd (high_stopped h' us vs' vs t' t x' p' high' (sym e' ∙ e) ends low)
 one_reading q ts _ _ (stopped {us = us} t vs e begins no_line ends low) (stopped {us = us'} t' vs' e' begins' no_line' ends' low') =
     let lasts = stopped_stopped q us us' vs vs' t t' (sym e ∙ e') begins ends begins' ends' in
     ap (λ u. refused (number_of (setting_at q) (tokens.word u)) u.place) lasts
@@ -172,9 +167,9 @@ leads_fits {q = q} {r = r} x h p w = go (way_keeps (leads_way x))
 pub reads_line : {q : State} {ts us rest : List LineToken} {row : List Piece} → ts ≡ us ++ rest → Leads q us row state.End → Reads q ts (read row rest)
 reads_line e x = line e x
 
-pub reads_stop : {q r : State} {us ws : List LineToken} {row : List Piece} {n : ℕ} {p : Place} (ts others : List LineToken) (first : LineToken) → ts ≡ first ∷ others → ts ≡ us ++ ws → Leads q us row r → Stops (setting_at q) first.place r ws n p → Reads q ts (refused n p)
-reads_stop {us = us} ts others first f e x (stopping.too_high {t = t} {vs = vs} g p high) = too_high f (e ∙ ap (λ l. us ++ l) g) x p high
-reads_stop {q = q} {r = r} {us = us} {row = row} ts others first f e x (stopping.stopped {us = us'} t vs g begins no_line ends low) =
+pub reads_stop : {q r : State} {us ws : List LineToken} {row : List Piece} {n : ℕ} {p : Place} (ts : List LineToken) → ts ≡ us ++ ws → Leads q us row r → Stops (setting_at q) r ws n p → Reads q ts (refused n p)
+reads_stop {us = us} ts e x (stopping.too_high {t = t} {vs = vs} g p high) = too_high (e ∙ ap (λ l. us ++ l) g) x p high
+reads_stop {q = q} {r = r} {us = us} {row = row} ts e x (stopping.stopped {us = us'} t vs g begins no_line ends low) =
     stopped t vs (e ∙ ap (λ l. us ++ l) g ∙ sym (append_assoc us us' (t ∷ vs))) (way_begins us' (leads_way x) begins) line_there begins_there high_there
   where
     line_there : (row' : List Piece) → ¬ Row q row' (us ++ us')

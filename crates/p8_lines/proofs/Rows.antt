@@ -85,20 +85,16 @@ at_once (more {vs = vs} x w) e = let y = takes_some x in let z = ap (λ l. l ++ 
 
 -- What begins an expression that is too high begins no step with an expression that isn't.
 
-pub limit_positive : (h : Phrase) → 0 < greatest_height h
-limit_positive h = go h.inner
-  where
-    go : (b : Bool) → 0 < (if b then 63 else 64)
-    go true = omega arith
-    go false = omega arith
+pub limit_positive : 0 < greatest_height
+limit_positive = omega arith
 
-high_token : (q r : State) (h : Phrase) (t : LineToken) (ws front rest : List LineToken) → Follows (choices q).arrows t r → (choices q).phrase ≡ Some h → t ∷ ws ≡ front ++ rest → IsFront h.setting (terms front) → ¬ heights.IsTooHigh h.setting (greatest_height h) (terms front)
-high_token q r h t ws [] rest f p split begin high = nothing_high h.setting (greatest_height h) (limit_positive h) high
+high_token : (q r : State) (h : Phrase) (t : LineToken) (ws front rest : List LineToken) → Follows (choices q).arrows t r → (choices q).phrase ≡ Some h → t ∷ ws ≡ front ++ rest → IsFront h.setting (terms front) → ¬ heights.IsTooHigh h.setting greatest_height (terms front)
+high_token q r h t ws [] rest f p split begin high = nothing_high h.setting greatest_height limit_positive high
 high_token q r h t ws (u ∷ front) rest f p split begin high =
     let firsts : u ≡ t = cc in
     before_fails q h t r p f (subst (λ w. IsFront h.setting (term w ∷ [])) firsts (front_of h.setting (u ∷ []) front begin))
 
-high_phrase : (q r : State) (h : Phrase) (e : Tree) (us : List LineToken) (t : LineToken) (ws front rest : List LineToken) → (choices q).phrase ≡ Some h → IsExpression h.setting e (terms us) → height e ≤ greatest_height h → Follows (behind h us) t r → us ++ t ∷ ws ≡ front ++ rest → IsFront h.setting (terms front) → ¬ heights.IsTooHigh h.setting (greatest_height h) (terms front)
+high_phrase : (q r : State) (h : Phrase) (e : Tree) (us : List LineToken) (t : LineToken) (ws front rest : List LineToken) → (choices q).phrase ≡ Some h → IsExpression h.setting e (terms us) → height e ≤ greatest_height → Follows (behind h us) t r → us ++ t ∷ ws ≡ front ++ rest → IsFront h.setting (terms front) → ¬ heights.IsTooHigh h.setting greatest_height (terms front)
 high_phrase q r h e us t ws front rest p x l f split begin high = go (compare us (t ∷ ws) front rest split)
   where
     whole : (vs : List LineToken) → us ≡ front ++ vs → ⊥
@@ -118,7 +114,7 @@ step_low h ws (phrase {q = q} {r = r} {h = k} {e = e} {first = first} {t = t} ot
     let split = sym (grouped first others t ws) ∙ y.split in
     high_phrase q r h e (first ∷ others) t ws y.front y.rest p
     (subst (λ h. IsExpression h.setting e (terms (first ∷ others))) phrases x)
-    (subst (λ h. height e ≤ greatest_height h) phrases (l refl))
+    (subst (λ h. height e ≤ greatest_height) phrases (l refl))
     (subst (λ h. Follows (behind h (first ∷ others)) t r) phrases f)
     split y.begins y.high
 

@@ -3,7 +3,7 @@ use Rattle.std.proofs.Common.{◌≡◌, ◌⊎◌, inl, inr, List, [], Option, 
 use Rattle.std.specs.Prelude.{IsTrue}
 use Rattle.p8_lexer.specs.declared.word.Word.{Word}
 use Rattle.p8_lexer.specs.declared.word.Word.TheVariants as word
-use Rattle.p8_grammar.specs.Lexemes.{Setting, in_method, in_declaration, in_dat, in_data_item}
+use Rattle.p8_grammar.specs.Lexemes.{Setting, in_method, in_declaration, in_dat, in_data_item, in_action}
 use Rattle.p8_expr.specs.Refusals.{refusal_of}
 use Rattle.p8_lines.specs.declared.sign.Sign.{Sign}
 use Rattle.p8_lines.specs.declared.sign.Sign.TheVariants as sign
@@ -24,6 +24,7 @@ fits in_method in_method = true
 fits in_declaration in_declaration = true
 fits in_dat in_dat = true
 fits in_data_item in_dat = true
+fits in_action in_method = true
 fits s s' = false
 
 item_refused : (w : Word) → refusal_of in_data_item w ≡ refusal_of in_dat w
@@ -31,11 +32,17 @@ unfolding refusal_of
 item_refused word.FloatNumber = refl
 item_refused w = refl
 
+action_refused : (w : Word) → refusal_of in_action w ≡ refusal_of in_method w
+unfolding refusal_of
+action_refused word.FloatNumber = refl
+action_refused w = refl
+
 fitting : (s s' : Setting) (w : Word) → IsTrue (fits s s') → refusal_of s w ≡ refusal_of s' w
 fitting in_method in_method w h = refl
 fitting in_declaration in_declaration w h = refl
 fitting in_dat in_dat w h = refl
 fitting in_data_item in_dat w h = item_refused w
+fitting in_action in_method w h = action_refused w
 fitting s s' w h = absurd cc
 
 abbrev phrase_fits : Option Phrase → Setting → Bool

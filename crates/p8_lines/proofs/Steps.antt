@@ -21,7 +21,7 @@ use Rattle.p8_lines.specs.Diagram.{Phrase, choices, setting_at}
 use Rattle.p8_lines.specs.Tokens as line_tokens
 use Rattle.p8_lines.specs.Tokens.{LineToken, piece, tokens_from}
 use Rattle.p8_lines.specs.Lines.{Follows, behind, greatest_height, Leads, nowhere, number_of, Reads, read, refused}
-use Rattle.p8_lines.specs.Stopping.{token_at, run, told_at, FitsSetting, Stops, Goes, Advances}
+use Rattle.p8_lines.specs.Stopping.{token_at, run, FitsSetting, Stops, Goes, Advances}
 use Rattle.p8_lines.proofs.Rows.{leads_on}
 use Rattle.p8_lines.proofs.Readings.{leads_fits, reads_line, reads_stop}
 use Rattle.p8_lines.proofs.Texts.{first_at, is_end}
@@ -37,8 +37,8 @@ pub err_so : {A : Type 0} (P Q : ParseFault → Type 0) → ((f : ParseFault) �
 err_so P Q g (Ok x) h = tt
 err_so P Q g (Err e) h = refused_so P Q g e h
 
-pub stops_as : (s : Setting) (first : Place) (q : State) (ts : List LineToken) (n m : ℕ) (p p' : Place) → Stops s first q ts n p → m ≡ n → p' ≡ p → Stops s first q ts m p'
-stops_as s first q ts n m p p' x e f = subst (λ p. Stops s first q ts m p) (sym f) (subst (λ n. Stops s first q ts n p) (sym e) x)
+pub stops_as : (s : Setting) (q : State) (ts : List LineToken) (n m : ℕ) (p p' : Place) → Stops s q ts n p → m ≡ n → p' ≡ p → Stops s q ts m p'
+stops_as s q ts n m p p' x e f = subst (λ p. Stops s q ts m p) (sym f) (subst (λ n. Stops s q ts n p) (sym e) x)
 
 -- the expression at a state
 
@@ -50,38 +50,32 @@ pub phrase_some : (o : Option Phrase) (k : Setting) → option_map (λ h. h.sett
 phrase_some None k e = absurd cc
 phrase_some (Some h) k e = (h, refl, cc)
 
-inner_is : (o : Option Phrase) (b : Bool) (h : Phrase) → MatchOption o (b ≡ false) (λ h. b ≡ h.inner) → o ≡ Some h → b ≡ h.inner
-inner_is o b h m e = subst (λ o. MatchOption o (b ≡ false) (λ h. b ≡ h.inner)) e m
-
 -- reading it
 
 pub parses_within : (s : Setting) (limit : ℕ) (bytes : List ℕ) (tokens : List lexer_token.Token) (at end : ℕ) (e : Tree) → at < length tokens → Parses s limit bytes tokens at (tree e end) → end ≤ length tokens
 parses_within s limit bytes tokens at end e lt x = run_within s limit bytes tokens at end e lt x
 
-pub tree_refused : (s : Setting) (first : Place) (bytes : List ℕ) (tokens : List lexer_token.Token) (at : ℕ) (q : State) (k : Setting) (limit : ℕ) (inner : Bool) (fault : ParseFault) (n : ℕ) (p : Place) → at < length tokens → option_map (λ h. h.setting) (choices q).phrase ≡ Some k → ((h : Phrase) → (choices q).phrase ≡ Some h → limit ≡ greatest_height h) → MatchOption (choices q).phrase (inner ≡ false) (λ h. inner ≡ h.inner) → FitsSetting s q → ((r : State) → ¬ Follows (choices q).arrows (token_at bytes tokens at) r) → IsFault k limit bytes tokens at fault → n ≡ fault.number → p ≡ told_at inner fault.number first fault.place → Stops s first q (tokens_from bytes tokens at) n p
-tree_refused s first bytes tokens at q k limit inner fault n p lt expects limits inners fits unfollowed x number place =
+pub tree_refused : (s : Setting) (bytes : List ℕ) (tokens : List lexer_token.Token) (at : ℕ) (q : State) (k : Setting) (fault : ParseFault) → at < length tokens → option_map (λ h. h.setting) (choices q).phrase ≡ Some k → FitsSetting s q → ((r : State) → ¬ Follows (choices q).arrows (token_at bytes tokens at) r) → IsFault k greatest_height bytes tokens at fault → Stops s q (tokens_from bytes tokens at) fault.number fault.place
+tree_refused s bytes tokens at q k fault lt expects fits unfollowed x =
     let y = phrase_some (choices q).phrase k expects in
-    let h = y.0 in
-    let mine : IsFault h.setting (greatest_height h) bytes tokens at fault = subst (λ k. IsFault k (greatest_height h) bytes tokens at fault) (sym y.2) (subst (λ l. IsFault k l bytes tokens at fault) (limits h y.1) x) in
-    stops_as s first q (tokens_from bytes tokens at) fault.number n (told_at h.inner fault.number first fault.place) p (refused_stops s first bytes tokens at q h fault lt y.1 fits unfollowed mine) number
-    (place ∙ ap (λ b. told_at b fault.number first fault.place) (inner_is (choices q).phrase inner h inners y.1))
+    refused_stops s bytes tokens at q y.0 fault lt y.1 fits unfollowed (subst (λ k. IsFault k greatest_height bytes tokens at fault) (sym y.2) x)
 
-pub none_stops : (s : Setting) (first : Place) (bytes : List ℕ) (tokens : List lexer_token.Token) (at : ℕ) (q : State) (n : ℕ) (p : Place) → at ≤ length tokens → q ≢ state.End → ((r : State) → ¬ Follows (choices q).arrows (token_at bytes tokens at) r) → None ≡ option_map (λ h. h.setting) (choices q).phrase → n ≡ number_of s (line_tokens.word (token_at bytes tokens at)) → p ≡ (token_at bytes tokens at).place → Stops s first q (tokens_from bytes tokens at) n p
-none_stops s first bytes tokens at q n p le open_ unfollowed e number place =
-    stops_as s first q (tokens_from bytes tokens at) (number_of s (line_tokens.word (token_at bytes tokens at))) n (token_at bytes tokens at).place p (no_phrase_stops s first bytes tokens at q le open_ unfollowed (phrase_none (choices q).phrase e)) number place
+pub none_stops : (s : Setting) (bytes : List ℕ) (tokens : List lexer_token.Token) (at : ℕ) (q : State) (n : ℕ) (p : Place) → at ≤ length tokens → q ≢ state.End → ((r : State) → ¬ Follows (choices q).arrows (token_at bytes tokens at) r) → None ≡ option_map (λ h. h.setting) (choices q).phrase → n ≡ number_of s (line_tokens.word (token_at bytes tokens at)) → p ≡ (token_at bytes tokens at).place → Stops s q (tokens_from bytes tokens at) n p
+none_stops s bytes tokens at q n p le open_ unfollowed e number place =
+    stops_as s q (tokens_from bytes tokens at) (number_of s (line_tokens.word (token_at bytes tokens at))) n (token_at bytes tokens at).place p (no_phrase_stops s bytes tokens at q le open_ unfollowed (phrase_none (choices q).phrase e)) number place
 
-pub ended_stops : (s : Setting) (first : Place) (bytes : List ℕ) (tokens : List lexer_token.Token) (at : ℕ) (q : State) (k : Setting) (n : ℕ) (p : Place) → at ≡ length tokens → ((r : State) → ¬ Follows (choices q).arrows (token_at bytes tokens at) r) → option_map (λ h. h.setting) (choices q).phrase ≡ Some k → n ≡ number_of s (line_tokens.word (token_at bytes tokens at)) → p ≡ (token_at bytes tokens at).place → Stops s first q (tokens_from bytes tokens at) n p
-ended_stops s first bytes tokens at q k n p here unfollowed expects number place =
+pub ended_stops : (s : Setting) (bytes : List ℕ) (tokens : List lexer_token.Token) (at : ℕ) (q : State) (k : Setting) (n : ℕ) (p : Place) → at ≡ length tokens → ((r : State) → ¬ Follows (choices q).arrows (token_at bytes tokens at) r) → option_map (λ h. h.setting) (choices q).phrase ≡ Some k → n ≡ number_of s (line_tokens.word (token_at bytes tokens at)) → p ≡ (token_at bytes tokens at).place → Stops s q (tokens_from bytes tokens at) n p
+ended_stops s bytes tokens at q k n p here unfollowed expects number place =
     let y = phrase_some (choices q).phrase k expects in
-    stops_as s first q (tokens_from bytes tokens at) (number_of s (line_tokens.word (token_at bytes tokens at))) n (token_at bytes tokens at).place p (end_stops s first bytes tokens at q y.0 here unfollowed y.1) number place
+    stops_as s q (tokens_from bytes tokens at) (number_of s (line_tokens.word (token_at bytes tokens at))) n (token_at bytes tokens at).place p (end_stops s bytes tokens at q y.0 here unfollowed y.1) number place
 
-pub stops_behind_tree : (s : Setting) (first : Place) (bytes : List ℕ) (tokens : List lexer_token.Token) (at end : ℕ) (q : State) (k : Setting) (e : Tree) (arrows : List Arrow) (n : ℕ) (p : Place) → at < length tokens → option_map (λ h. h.setting) (choices q).phrase ≡ Some k → ((h : Phrase) → (choices q).phrase ≡ Some h → Parses h.setting (greatest_height h) bytes tokens at (tree e end)) → ((r : State) → ¬ Follows (choices q).arrows (token_at bytes tokens at) r) → ((h : Phrase) → (choices q).phrase ≡ Some h → arrows ≡ behind h (run bytes tokens at (end - at))) → ((r : State) → ¬ Follows arrows (token_at bytes tokens end) r) → n ≡ number_of s (line_tokens.word (token_at bytes tokens end)) → p ≡ (token_at bytes tokens end).place → Stops s first q (tokens_from bytes tokens at) n p
-stops_behind_tree s first bytes tokens at end q k e arrows n p lt expects parses unfollowed arrows_are no_arrow number place =
+pub stops_behind_tree : (s : Setting) (bytes : List ℕ) (tokens : List lexer_token.Token) (at end : ℕ) (q : State) (k : Setting) (e : Tree) (arrows : List Arrow) (n : ℕ) (p : Place) → at < length tokens → option_map (λ h. h.setting) (choices q).phrase ≡ Some k → ((h : Phrase) → (choices q).phrase ≡ Some h → Parses h.setting greatest_height bytes tokens at (tree e end)) → ((r : State) → ¬ Follows (choices q).arrows (token_at bytes tokens at) r) → ((h : Phrase) → (choices q).phrase ≡ Some h → arrows ≡ behind h (run bytes tokens at (end - at))) → ((r : State) → ¬ Follows arrows (token_at bytes tokens end) r) → n ≡ number_of s (line_tokens.word (token_at bytes tokens end)) → p ≡ (token_at bytes tokens end).place → Stops s q (tokens_from bytes tokens at) n p
+stops_behind_tree s bytes tokens at end q k e arrows n p lt expects parses unfollowed arrows_are no_arrow number place =
     let y = phrase_some (choices q).phrase k expects in
     let h = y.0 in
     let x = spelled h bytes tokens at end e lt (parses h y.1) in
-    stops_as s first q (tokens_from bytes tokens at) (number_of s (line_tokens.word (token_at bytes tokens end))) n (token_at bytes tokens end).place p
-    (tree_stops s first bytes tokens at end q h e y.1 unfollowed x (λ r f. no_arrow r (subst (λ l. Follows l (token_at bytes tokens end) r) (sym (arrows_are h y.1)) f))) number place
+    stops_as s q (tokens_from bytes tokens at) (number_of s (line_tokens.word (token_at bytes tokens end))) n (token_at bytes tokens end).place p
+    (tree_stops s bytes tokens at end q h e y.1 unfollowed x (λ r f. no_arrow r (subst (λ l. Follows l (token_at bytes tokens end) r) (sym (arrows_are h y.1)) f))) number place
 
 -- what comes after the text's end
 
@@ -98,7 +92,7 @@ arrow_step bytes tokens at m q r old new le f kept e = subst (λ m. Advances byt
   ended = λ lt. line_end_over q r (token_at bytes tokens at) f (end_word bytes tokens at lt);
 })
 
-pub tree_step : (bytes : List ℕ) (tokens : List lexer_token.Token) (at end m : ℕ) (q r : State) (k : Setting) (e : Tree) (arrows : List Arrow) (old middle new : List Piece) → at < length tokens → option_map (λ h. h.setting) (choices q).phrase ≡ Some k → ((h : Phrase) → (choices q).phrase ≡ Some h → Parses h.setting (greatest_height h) bytes tokens at (tree e end)) → ((h : Phrase) → (choices q).phrase ≡ Some h → arrows ≡ behind h (run bytes tokens at (end - at))) → Follows arrows (token_at bytes tokens end) r → middle ≡ old ++ pieces.tree e (token_at bytes tokens at).place ∷ [] → new ≡ middle ++ piece (token_at bytes tokens end) ∷ [] → m ≡ end + 1 → Advances bytes tokens at m q old new r
+pub tree_step : (bytes : List ℕ) (tokens : List lexer_token.Token) (at end m : ℕ) (q r : State) (k : Setting) (e : Tree) (arrows : List Arrow) (old middle new : List Piece) → at < length tokens → option_map (λ h. h.setting) (choices q).phrase ≡ Some k → ((h : Phrase) → (choices q).phrase ≡ Some h → Parses h.setting greatest_height bytes tokens at (tree e end)) → ((h : Phrase) → (choices q).phrase ≡ Some h → arrows ≡ behind h (run bytes tokens at (end - at))) → Follows arrows (token_at bytes tokens end) r → middle ≡ old ++ pieces.tree e (token_at bytes tokens at).place ∷ [] → new ≡ middle ++ piece (token_at bytes tokens end) ∷ [] → m ≡ end + 1 → Advances bytes tokens at m q old new r
 tree_step bytes tokens at end m q r k e arrows old middle new lt expects parses arrows_are f first second behind_it =
     let y = phrase_some (choices q).phrase k expects in
     let h = y.0 in
@@ -139,10 +133,10 @@ fits_there {r = r} s e x = subst (λ s. FitsSetting s r) (sym e) (leads_fits x.l
 pub line_read : {bytes : List ℕ} {tokens : List lexer_token.Token} {at end : ℕ} {q r : State} {row : List Piece} → r ≡ state.End → Goes bytes tokens at end q row r → Reads q (tokens_from bytes tokens at) (read row (tokens_from bytes tokens end))
 line_read {q = q} {row = row} e x = reads_line x.split (subst (λ r. Leads q x.taken row r) e x.leads)
 
-pub line_refused : (bytes : List ℕ) (tokens : List lexer_token.Token) (at end : ℕ) (q r : State) (row : List Piece) (s : Setting) (first : Place) (n : ℕ) (p : Place) → at ≤ length tokens → s ≡ setting_at q → first ≡ (token_at bytes tokens at).place → Goes bytes tokens at end q row r → Stops s first r (tokens_from bytes tokens end) n p → Reads q (tokens_from bytes tokens at) (refused n p)
-line_refused bytes tokens at end q r row s first n p le e f x stops =
-    reads_stop (tokens_from bytes tokens at) (tokens_from bytes tokens (at + 1)) (token_at bytes tokens at) (first_at bytes tokens at le) x.split x.leads
-    (subst (λ s. Stops s (token_at bytes tokens at).place r (tokens_from bytes tokens end) n p) e (subst (λ f. Stops s f r (tokens_from bytes tokens end) n p) f stops))
+pub line_refused : (bytes : List ℕ) (tokens : List lexer_token.Token) (at end : ℕ) (q r : State) (row : List Piece) (s : Setting) (n : ℕ) (p : Place) → at ≤ length tokens → s ≡ setting_at q → Goes bytes tokens at end q row r → Stops s r (tokens_from bytes tokens end) n p → Reads q (tokens_from bytes tokens at) (refused n p)
+line_refused bytes tokens at end q r row s n p le e x stops =
+    reads_stop (tokens_from bytes tokens at) x.split x.leads
+    (subst (λ s. Stops s r (tokens_from bytes tokens end) n p) e stops)
 
 pub onward : (q r : State) (at end : ℕ) → (r ≡ q) ⊎ (at < end) → r ≡ state.End → q ≢ state.End → at < end
 onward q r at end (inl e) f n = absurd (n (sym e ∙ f))

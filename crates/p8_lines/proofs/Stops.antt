@@ -30,7 +30,7 @@ use Rattle.p8_lines.specs.Diagram.{Phrase, choices}
 use Rattle.p8_lines.specs.Tokens as line_tokens
 use Rattle.p8_lines.specs.Tokens.{LineToken, term, terms, piece, line_token, tokens_from}
 use Rattle.p8_lines.specs.Lines.{Follows, behind, Row, Begins, greatest_height, Leads, nowhere, by_token, by_phrase, IsTooHigh, HasTooHigh, number_of}
-use Rattle.p8_lines.specs.Stopping.{token_at, run, told_at, FitsSetting, Stops, too_high, stopped, Goes}
+use Rattle.p8_lines.specs.Stopping.{token_at, run, FitsSetting, Stops, too_high, stopped, Goes}
 use Rattle.p8_lines.proofs.Splits.{Compared, same, beyond, short, compare}
 use Rattle.p8_lines.proofs.Fronts.{behind_fails}
 use Rattle.p8_lines.proofs.Settings.{behind_good}
@@ -52,8 +52,8 @@ some_left [] t vs e = absurd cc
 some_left (u ∷ us) t vs e = absurd cc
 
 -- so reading stops there
-stops_so : (s : Setting) (first : Place) (q : State) (us : List LineToken) (t : LineToken) (vs ts : List LineToken) → ts ≡ us ++ t ∷ vs → Begins q us → q ≢ state.End → NoStep q us t → ((h : Phrase) → (choices q).phrase ≡ Some h → ¬ IsTooHigh h us) → Stops s first q ts (number_of s (line_tokens.word t)) t.place
-stops_so s first q us t vs ts e begins open_ n low = stopped t vs e begins no_line ends no_high
+stops_so : (s : Setting) (q : State) (us : List LineToken) (t : LineToken) (vs ts : List LineToken) → ts ≡ us ++ t ∷ vs → Begins q us → q ≢ state.End → NoStep q us t → ((h : Phrase) → (choices q).phrase ≡ Some h → ¬ IsTooHigh h us) → Stops s q ts (number_of s (line_tokens.word t)) t.place
+stops_so s q us t vs ts e begins open_ n low = stopped t vs e begins no_line ends no_high
   where
     no_line : (row : List Piece) → ¬ Row q row us
     no_line row y = open_ (at_once (row_way y) (no_way us t [] (t ∷ []) n (row_way y) refl))
@@ -71,8 +71,8 @@ stops_so s first q us t vs ts e begins open_ n low = stopped t vs e begins no_li
         low y.phrase (ap (λ q. (choices q).phrase) there ∙ y.expects) (subst (IsTooHigh y.phrase) (sym (y.split ∙ ap (λ l. l ++ y.after) nothing)) y.high)
 
 -- where a token has no arrow and no expression may stand
-pub alone_stops : (s : Setting) (first : Place) (q : State) (t : LineToken) (vs ts : List LineToken) → ts ≡ t ∷ vs → q ≢ state.End → ((r : State) → ¬ Follows (choices q).arrows t r) → (choices q).phrase ≡ None → Stops s first q ts (number_of s (line_tokens.word t)) t.place
-alone_stops s first q t vs ts e open_ unfollowed no_phrase = stops_so s first q [] t vs ts e (completed q) open_ (record { refuses = no_step }) (λ h p. let z = sym no_phrase ∙ p in absurd cc)
+pub alone_stops : (s : Setting) (q : State) (t : LineToken) (vs ts : List LineToken) → ts ≡ t ∷ vs → q ≢ state.End → ((r : State) → ¬ Follows (choices q).arrows t r) → (choices q).phrase ≡ None → Stops s q ts (number_of s (line_tokens.word t)) t.place
+alone_stops s q t vs ts e open_ unfollowed no_phrase = stops_so s q [] t vs ts e (completed q) open_ (record { refuses = no_step }) (λ h p. let z = sym no_phrase ∙ p in absurd cc)
   where
     no_step : (low : Bool) (r : State) (us' : List LineToken) (row : List Piece) (vs ws : List LineToken) → Step low q us' row r → us' ++ ws ≡ t ∷ vs → ⊥
     no_step low r us' row vs ws (token {t = u} f) e = let firsts : u ≡ t = cc in unfollowed r (subst (λ u. Follows (choices q).arrows u r) firsts f)
@@ -87,9 +87,9 @@ is_first [] t vs u l e = cc
 is_first (v ∷ us) t vs u l e = cc
 
 -- where tokens begin an expression and the next one doesn't go on with it
-pub behind_stops : (s : Setting) (first : Place) (q : State) (h : Phrase) (us : List LineToken) (t : LineToken) (vs ts : List LineToken) → ts ≡ us ++ t ∷ vs → (choices q).phrase ≡ Some h → ((u : LineToken) (l : List LineToken) → ts ≡ u ∷ l → (r : State) → ¬ Follows (choices q).arrows u r) → IsFront h.setting (terms us) → ¬ IsFront h.setting (terms us ++ term t ∷ []) → ((e : Tree) → IsExpression h.setting e (terms us) → (r : State) → ¬ Follows (behind h us) t r) → ¬ heights.IsTooHigh h.setting (greatest_height h) (terms us) → Stops s first q ts (number_of s (line_tokens.word t)) t.place
-behind_stops s first q h us t vs ts e p unfollowed begins ends not_behind low =
-    stops_so s first q us t vs ts e (front_begins q h us p begins) (λ x. none_there h q x p) (record { refuses = no_step }) not_too_high
+pub behind_stops : (s : Setting) (q : State) (h : Phrase) (us : List LineToken) (t : LineToken) (vs ts : List LineToken) → ts ≡ us ++ t ∷ vs → (choices q).phrase ≡ Some h → ((u : LineToken) (l : List LineToken) → ts ≡ u ∷ l → (r : State) → ¬ Follows (choices q).arrows u r) → IsFront h.setting (terms us) → ¬ IsFront h.setting (terms us ++ term t ∷ []) → ((e : Tree) → IsExpression h.setting e (terms us) → (r : State) → ¬ Follows (behind h us) t r) → ¬ heights.IsTooHigh h.setting greatest_height (terms us) → Stops s q ts (number_of s (line_tokens.word t)) t.place
+behind_stops s q h us t vs ts e p unfollowed begins ends not_behind low =
+    stops_so s q us t vs ts e (front_begins q h us p begins) (λ x. none_there h q x p) (record { refuses = no_step }) not_too_high
   where
     first_one : (us : List LineToken) (vs : List LineToken) → (l : List LineToken) × (us ++ t ∷ vs ≡ first_of us t ∷ l)
     first_one [] vs = (vs, refl)
@@ -101,8 +101,8 @@ behind_stops s first q h us t vs ts e p unfollowed begins ends not_behind low =
     not_too_high : (k : Phrase) → (choices q).phrase ≡ Some k → ¬ IsTooHigh k us
     not_too_high k p' y =
         let phrases : k ≡ h = (let z = sym p' ∙ p in cc) in
-        let high = subst (λ k. heights.IsTooHigh k.setting (greatest_height k) (terms y.front)) phrases y.high in
-        low (subst (λ l. heights.IsTooHigh h.setting (greatest_height h) (terms l)) (sym y.split) (stays_high h.setting (greatest_height h) y.front y.rest high))
+        let high = subst (λ k. heights.IsTooHigh k.setting greatest_height (terms y.front)) phrases y.high in
+        low (subst (λ l. heights.IsTooHigh h.setting greatest_height (terms l)) (sym y.split) (stays_high h.setting greatest_height y.front y.rest high))
 
     over : (r : State) (e' : Tree) (us' : List LineToken) (x : LineToken) (vs ws : List LineToken) → IsExpression h.setting e' (terms us') → Follows (behind h us') x r → Compared us' (x ∷ ws) us (t ∷ vs) → ⊥
     over r e' us' x vs ws y f (same a b) =
@@ -129,23 +129,23 @@ behind_stops s first q h us t vs ts e p unfollowed begins ends not_behind low =
 pub arrow_goes : (bytes : List ℕ) (tokens : List lexer_token.Token) (at : ℕ) (q r : State) → at ≤ length tokens → Follows (choices q).arrows (token_at bytes tokens at) r → Goes bytes tokens at (at + 1) q (piece (token_at bytes tokens at) ∷ []) r
 arrow_goes bytes tokens at q r le f = record { taken = token_at bytes tokens at ∷ []; split = first_at bytes tokens at le; leads = by_token f nowhere }
 
-pub no_phrase_stops : (s : Setting) (first : Place) (bytes : List ℕ) (tokens : List lexer_token.Token) (at : ℕ) (q : State) → at ≤ length tokens → q ≢ state.End → ((r : State) → ¬ Follows (choices q).arrows (token_at bytes tokens at) r) → (choices q).phrase ≡ None → Stops s first q (tokens_from bytes tokens at) (number_of s (line_tokens.word (token_at bytes tokens at))) (token_at bytes tokens at).place
-no_phrase_stops s first bytes tokens at q le open_ unfollowed p = alone_stops s first q (token_at bytes tokens at) (tokens_from bytes tokens (at + 1)) (tokens_from bytes tokens at) (first_at bytes tokens at le) open_ unfollowed p
+pub no_phrase_stops : (s : Setting) (bytes : List ℕ) (tokens : List lexer_token.Token) (at : ℕ) (q : State) → at ≤ length tokens → q ≢ state.End → ((r : State) → ¬ Follows (choices q).arrows (token_at bytes tokens at) r) → (choices q).phrase ≡ None → Stops s q (tokens_from bytes tokens at) (number_of s (line_tokens.word (token_at bytes tokens at))) (token_at bytes tokens at).place
+no_phrase_stops s bytes tokens at q le open_ unfollowed p = alone_stops s q (token_at bytes tokens at) (tokens_from bytes tokens (at + 1)) (tokens_from bytes tokens at) (first_at bytes tokens at le) open_ unfollowed p
 
 unfollowed_first : (q : State) (t : LineToken) (vs ts : List LineToken) → ts ≡ t ∷ vs → ((r : State) → ¬ Follows (choices q).arrows t r) → (u : LineToken) (l : List LineToken) → ts ≡ u ∷ l → (r : State) → ¬ Follows (choices q).arrows u r
 unfollowed_first q t vs ts e n u l e' r f = let firsts : u ≡ t = (let z = sym e' ∙ e in cc) in n r (subst (λ u. Follows (choices q).arrows u r) firsts f)
 
 -- at the text's end no expression stands
-pub end_stops : (s : Setting) (first : Place) (bytes : List ℕ) (tokens : List lexer_token.Token) (at : ℕ) (q : State) (h : Phrase) → at ≡ length tokens → ((r : State) → ¬ Follows (choices q).arrows (token_at bytes tokens at) r) → (choices q).phrase ≡ Some h → Stops s first q (tokens_from bytes tokens at) (number_of s (line_tokens.word (token_at bytes tokens at))) (token_at bytes tokens at).place
-end_stops s first bytes tokens at q h here unfollowed p =
+pub end_stops : (s : Setting) (bytes : List ℕ) (tokens : List lexer_token.Token) (at : ℕ) (q : State) (h : Phrase) → at ≡ length tokens → ((r : State) → ¬ Follows (choices q).arrows (token_at bytes tokens at) r) → (choices q).phrase ≡ Some h → Stops s q (tokens_from bytes tokens at) (number_of s (line_tokens.word (token_at bytes tokens at))) (token_at bytes tokens at).place
+end_stops s bytes tokens at q h here unfollowed p =
     let e = first_at bytes tokens at (omega (arith, here)) in
     let is = is_end bytes tokens at (slice_get_past tokens at (omega (arith, here))) in
-    behind_stops s first q h [] (token_at bytes tokens at) (tokens_from bytes tokens (at + 1)) (tokens_from bytes tokens at) e p
+    behind_stops s q h [] (token_at bytes tokens at) (tokens_from bytes tokens (at + 1)) (tokens_from bytes tokens at) e p
     (unfollowed_first q (token_at bytes tokens at) (tokens_from bytes tokens (at + 1)) (tokens_from bytes tokens at) e unfollowed)
     (nothing_begins h.setting)
     (subst (λ t. ¬ IsFront h.setting (term t ∷ [])) (sym is) (text_end_ends h.setting [] (map (line_token bytes) tokens)))
     (λ e x. absurd (not_nothing h.setting e x))
-    (nothing_high h.setting (greatest_height h) (limit_positive h))
+    (nothing_high h.setting greatest_height limit_positive)
 
 -- what an expression's reading answers
 
@@ -173,11 +173,11 @@ pub record Spelled (h : Phrase) (bytes : List ℕ) (tokens : List lexer_token.To
   pub longest : Run h.setting bytes tokens at (end - at)
   pub behind : at + (end - at) ≡ end
   pub is : IsExpression h.setting e (terms (run bytes tokens at (end - at)))
-  pub low : height e ≤ greatest_height h
+  pub low : height e ≤ greatest_height
 
-pub spelled : (h : Phrase) (bytes : List ℕ) (tokens : List lexer_token.Token) (at end : ℕ) (e : Tree) → at < length tokens → Parses h.setting (greatest_height h) bytes tokens at (tree e end) → Spelled h bytes tokens at end e
+pub spelled : (h : Phrase) (bytes : List ℕ) (tokens : List lexer_token.Token) (at end : ℕ) (e : Tree) → at < length tokens → Parses h.setting greatest_height bytes tokens at (tree e end) → Spelled h bytes tokens at end e
 spelled h bytes tokens at end e lt (n, long, ends) =
-    let x = ends_tree h.setting (greatest_height h) bytes tokens at (at + n) (take n (parsing.tokens_from bytes tokens at)) e end ends in
+    let x = ends_tree h.setting greatest_height bytes tokens at (at + n) (take n (parsing.tokens_from bytes tokens at)) e end ends in
     let end_is = x.ends in
     let count : n ≡ end - at = omega (arith, end_is) in
     let run_n = run_of h.setting bytes tokens at n lt long in
@@ -224,45 +224,20 @@ tree_goes bytes tokens at end q r h e p y f = go (run bytes tokens at (end - at)
         }
 
 -- and without one reading stops after it
-pub tree_stops : (s : Setting) (first : Place) (bytes : List ℕ) (tokens : List lexer_token.Token) (at end : ℕ) (q : State) (h : Phrase) (e : Tree) → (choices q).phrase ≡ Some h → ((r : State) → ¬ Follows (choices q).arrows (token_at bytes tokens at) r) → Spelled h bytes tokens at end e → ((r : State) → ¬ Follows (behind h (run bytes tokens at (end - at))) (token_at bytes tokens end) r) → Stops s first q (tokens_from bytes tokens at) (number_of s (line_tokens.word (token_at bytes tokens end))) (token_at bytes tokens end).place
-tree_stops s first bytes tokens at end q h e p unfollowed y not_behind =
+pub tree_stops : (s : Setting) (bytes : List ℕ) (tokens : List lexer_token.Token) (at end : ℕ) (q : State) (h : Phrase) (e : Tree) → (choices q).phrase ≡ Some h → ((r : State) → ¬ Follows (choices q).arrows (token_at bytes tokens at) r) → Spelled h bytes tokens at end e → ((r : State) → ¬ Follows (behind h (run bytes tokens at (end - at))) (token_at bytes tokens end) r) → Stops s q (tokens_from bytes tokens at) (number_of s (line_tokens.word (token_at bytes tokens end))) (token_at bytes tokens end).place
+tree_stops s bytes tokens at end q h e p unfollowed y not_behind =
     let le : at ≤ length tokens = (let w = within y in let o = y.ordered in omega (arith, w, o)) in
-    behind_stops s first q h (run bytes tokens at (end - at)) (token_at bytes tokens end) (tokens_from bytes tokens (end + 1)) (tokens_from bytes tokens at) (split_there y) p
+    behind_stops s q h (run bytes tokens at (end - at)) (token_at bytes tokens end) (tokens_from bytes tokens (end + 1)) (tokens_from bytes tokens at) (split_there y) p
     (unfollowed_first q (token_at bytes tokens at) (tokens_from bytes tokens (at + 1)) (tokens_from bytes tokens at) (first_at bytes tokens at le) unfollowed)
     y.longest.front
     (subst (λ n. ¬ IsFront h.setting (terms (run bytes tokens at (end - at)) ++ term (token_at bytes tokens n) ∷ [])) y.behind y.longest.stops)
     (λ e x. not_behind)
-    (not_high h.setting (greatest_height h) (run bytes tokens at (end - at)) e y.is y.low)
+    (not_high h.setting greatest_height (run bytes tokens at (end - at)) e y.is y.low)
 
 -- a refusal of the expression
 
--- no word is refused by itself as too high
-abbrev is_nested : Option Refusal → Bool
-is_nested (Some TooNested) = true
-is_nested _ = false
-
-never_nested : (s : Setting) (w : Word) → is_nested (refusal_of s w) ≡ false
-unfolding refusal_of
-never_nested lexemes.in_method word.File = refl
-never_nested lexemes.in_method w = refl
-never_nested lexemes.in_declaration word.File = refl
-never_nested lexemes.in_declaration w = refl
-never_nested lexemes.in_dat word.File = refl
-never_nested lexemes.in_dat w = refl
-never_nested lexemes.in_data_item word.File = refl
-never_nested lexemes.in_data_item w = refl
-
-told_high : (inner : Bool) (n : ℕ) (first place : Place) → n ≡ refusal_number TooNested → told_at inner n first place ≡ (if inner then first else place)
-told_high true n first place e = ap (λ n. told_at true n first place) e
-told_high false n first place e = refl
-
-told_other : (inner : Bool) (r : Refusal) (first place : Place) → is_nested (Some r) ≡ false → told_at inner (refusal_number r) first place ≡ place
-told_other false r first place e = refl
-told_other true refusal.TooNested first place e = absurd cc
-told_other true r first place e = refl
-
-stops_as : {s : Setting} {first : Place} {q : State} {ts : List LineToken} {n m : ℕ} {p p' : Place} → Stops s first q ts n p → n ≡ m → p ≡ p' → Stops s first q ts m p'
-stops_as {s = s} {first = first} {q = q} {ts = ts} {n = n} {m = m} {p = p} {p' = p'} x e f = subst (λ p. Stops s first q ts m p) f (subst (λ n. Stops s first q ts n p) e x)
+stops_as : {s : Setting} {q : State} {ts : List LineToken} {n m : ℕ} {p p' : Place} → Stops s q ts n p → n ≡ m → p ≡ p' → Stops s q ts m p'
+stops_as {s = s} {q = q} {ts = ts} {n = n} {m = m} {p = p} {p' = p'} x e f = subst (λ p. Stops s q ts m p) f (subst (λ n. Stops s q ts n p) e x)
 
 line_end_fits : (s : Setting) → refusal_of s word.LineEnd ≡ None
 unfolding refusal_of
@@ -272,8 +247,8 @@ refusal_is : (s : Setting) (bytes : List ℕ) (tokens : List lexer_token.Token) 
 unfolding refusal_at
 refusal_is s bytes tokens i t h = ap (option_and_then (λ t. refusal_of s (word_of bytes t))) h
 
-pub refused_stops : (s : Setting) (first : Place) (bytes : List ℕ) (tokens : List lexer_token.Token) (at : ℕ) (q : State) (h : Phrase) (fault : ParseFault) → at < length tokens → (choices q).phrase ≡ Some h → FitsSetting s q → ((r : State) → ¬ Follows (choices q).arrows (token_at bytes tokens at) r) → IsFault h.setting (greatest_height h) bytes tokens at fault → Stops s first q (tokens_from bytes tokens at) fault.number (told_at h.inner fault.number first fault.place)
-refused_stops s first bytes tokens at q h fault lt p fits unfollowed (r, i, (n, long, ends), (t, get, number, place)) = go (ends_refused h.setting (greatest_height h) bytes tokens at (at + n) (take n (parsing.tokens_from bytes tokens at)) r i ends)
+pub refused_stops : (s : Setting) (bytes : List ℕ) (tokens : List lexer_token.Token) (at : ℕ) (q : State) (h : Phrase) (fault : ParseFault) → at < length tokens → (choices q).phrase ≡ Some h → FitsSetting s q → ((r : State) → ¬ Follows (choices q).arrows (token_at bytes tokens at) r) → IsFault h.setting greatest_height bytes tokens at fault → Stops s q (tokens_from bytes tokens at) fault.number fault.place
+refused_stops s bytes tokens at q h fault lt p fits unfollowed (r, i, (n, long, ends), (t, get, number, place)) = go (ends_refused h.setting greatest_height bytes tokens at (at + n) (take n (parsing.tokens_from bytes tokens at)) r i ends)
   where
     y : Run h.setting bytes tokens at n
     y = run_of h.setting bytes tokens at n lt long
@@ -287,40 +262,36 @@ refused_stops s first bytes tokens at q h fault lt p fits unfollowed (r, i, (n, 
     here : tokens_from bytes tokens at ≡ token_at bytes tokens at ∷ tokens_from bytes tokens (at + 1)
     here = first_at bytes tokens at (omega (arith, lt))
 
-    not_high_there : ¬ heights.IsTooHigh h.setting (greatest_height h) (take n (parsing.tokens_from bytes tokens at)) → ¬ heights.IsTooHigh h.setting (greatest_height h) (terms (run bytes tokens at n))
-    not_high_there low high = low (subst (λ l. heights.IsTooHigh h.setting (greatest_height h) l) y.terms_are high)
+    not_high_there : ¬ heights.IsTooHigh h.setting greatest_height (take n (parsing.tokens_from bytes tokens at)) → ¬ heights.IsTooHigh h.setting greatest_height (terms (run bytes tokens at n))
+    not_high_there low high = low (subst (λ l. heights.IsTooHigh h.setting greatest_height l) y.terms_are high)
 
-    stops_behind : ¬ heights.IsTooHigh h.setting (greatest_height h) (take n (parsing.tokens_from bytes tokens at)) → ((e : Tree) → IsExpression h.setting e (terms (run bytes tokens at n)) → (r : State) → ¬ Follows (behind h (run bytes tokens at n)) (token_at bytes tokens (at + n)) r) → Stops s first q (tokens_from bytes tokens at) (number_of s (line_tokens.word (token_at bytes tokens (at + n)))) (token_at bytes tokens (at + n)).place
+    stops_behind : ¬ heights.IsTooHigh h.setting greatest_height (take n (parsing.tokens_from bytes tokens at)) → ((e : Tree) → IsExpression h.setting e (terms (run bytes tokens at n)) → (r : State) → ¬ Follows (behind h (run bytes tokens at n)) (token_at bytes tokens (at + n)) r) → Stops s q (tokens_from bytes tokens at) (number_of s (line_tokens.word (token_at bytes tokens (at + n)))) (token_at bytes tokens (at + n)).place
     stops_behind low not_behind =
-        behind_stops s first q h (run bytes tokens at n) (token_at bytes tokens (at + n)) (tokens_from bytes tokens (at + n + 1)) (tokens_from bytes tokens at)
+        behind_stops s q h (run bytes tokens at n) (token_at bytes tokens (at + n)) (tokens_from bytes tokens (at + n + 1)) (tokens_from bytes tokens at)
         (y.split ∙ ap (λ l. run bytes tokens at n ++ l) (first_at bytes tokens (at + n) y.within)) p
         (unfollowed_first q (token_at bytes tokens at) (tokens_from bytes tokens (at + 1)) (tokens_from bytes tokens at) here unfollowed)
         y.front y.stops not_behind (not_high_there low)
 
-    go : Refuses h.setting (greatest_height h) bytes tokens at (at + n) (take n (parsing.tokens_from bytes tokens at)) r i → Stops s first q (tokens_from bytes tokens at) fault.number (told_at h.inner fault.number first fault.place)
+    go : Refuses h.setting greatest_height bytes tokens at (at + n) (take n (parsing.tokens_from bytes tokens at)) r i → Stops s q (tokens_from bytes tokens at) fault.number fault.place
     go (is_high re ie high) =
         let is = is_at bytes tokens at t (ap (slice_get tokens) (sym ie) ∙ get) in
         let n8 : fault.number ≡ refusal_number TooNested = number ∙ ap refusal_number re in
-        let there : IsTooHigh h (token_at bytes tokens at ∷ tokens_from bytes tokens (at + 1)) = record { front = run bytes tokens at n; rest = tokens_from bytes tokens (at + n); split = sym here ∙ y.split; begins = y.front; high = subst (λ l. heights.IsTooHigh h.setting (greatest_height h) l) (sym y.terms_are) high } in
-        stops_as (too_high here p there) (sym n8) (sym (told_high h.inner fault.number first fault.place n8 ∙ ap (λ place. if h.inner then first else place) (place ∙ sym (ap (λ t. t.place) is))))
+        let there : IsTooHigh h (token_at bytes tokens at ∷ tokens_from bytes tokens (at + 1)) = record { front = run bytes tokens at n; rest = tokens_from bytes tokens (at + n); split = sym here ∙ y.split; begins = y.front; high = subst (λ l. heights.IsTooHigh h.setting greatest_height l) (sym y.terms_are) high } in
+        stops_as (too_high here p there) (sym n8) (ap (λ t. t.place) is ∙ sym place)
     go (is_unfit ie low fit) =
         let get_end : slice_get tokens (at + n) ≡ Some t = ap (slice_get tokens) (sym ie) ∙ get in
         let is = is_at bytes tokens (at + n) t get_end in
         let mine : refusal_of h.setting (line_tokens.word (token_at bytes tokens (at + n))) ≡ Some r = ap (λ t. refusal_of h.setting (line_tokens.word t)) is ∙ sym (refusal_is h.setting bytes tokens (at + n) t get_end) ∙ fit in
         let ours : refusal_of s (line_tokens.word (token_at bytes tokens (at + n))) ≡ Some r = sym (fits h p (line_tokens.word (token_at bytes tokens (at + n)))) ∙ mine in
-        let other : is_nested (Some r) ≡ false = ap is_nested (sym mine) ∙ never_nested h.setting (line_tokens.word (token_at bytes tokens (at + n))) in
         stops_as (stops_behind low (λ e x r' f. let good = behind_good q h (run bytes tokens at n) (token_at bytes tokens (at + n)) r' h.setting p f in let z = sym mine ∙ good in absurd cc))
         (ap (λ o. refusal_number (unwrap_or o Unexpected)) ours ∙ sym number)
-        (ap (λ t. t.place) is ∙ sym place ∙ sym (ap (λ n. told_at h.inner n first fault.place) number ∙ told_other h.inner r first fault.place other))
+        (ap (λ t. t.place) is ∙ sym place)
     go (is_broken re ie low fit not_tree) = there (slice_get tokens (at + n)) refl
       where
         no_tree : (e : Tree) → ¬ IsExpression h.setting e (terms (run bytes tokens at n))
         no_tree e x = not_tree e (subst (IsExpression h.setting e) y.terms_are x)
 
-        untold : told_at h.inner fault.number first fault.place ≡ fault.place
-        untold = ap (λ n. told_at h.inner n first fault.place) (number ∙ ap refusal_number re) ∙ told_other h.inner Unexpected first fault.place refl
-
-        there : (o : Option lexer_token.Token) → slice_get tokens (at + n) ≡ o → Stops s first q (tokens_from bytes tokens at) fault.number (told_at h.inner fault.number first fault.place)
+        there : (o : Option lexer_token.Token) → slice_get tokens (at + n) ≡ o → Stops s q (tokens_from bytes tokens at) fault.number fault.place
         there (Some u) x =
             let inside = slice_get_within tokens (at + n) u x in
             let i_is : i ≡ at + n = ie ∙ rw (lt-ltb (at + n) (length tokens) inside) refl in
@@ -330,7 +301,7 @@ refused_stops s first bytes tokens at q h fault lt p fits unfollowed (r, i, (n, 
             let ours : refusal_of s (line_tokens.word (token_at bytes tokens (at + n))) ≡ None = sym (fits h p (line_tokens.word (token_at bytes tokens (at + n)))) ∙ ap (λ t. refusal_of h.setting (line_tokens.word t)) is ∙ sym (refusal_is h.setting bytes tokens (at + n) u x) ∙ fit in
             stops_as (stops_behind low (λ e z. absurd (no_tree e z)))
             (ap (λ o. refusal_number (unwrap_or o Unexpected)) ours ∙ sym (number ∙ ap refusal_number re))
-            (ap (λ t. t.place) is ∙ ap (λ u. u.place) (sym same_one) ∙ sym place ∙ sym untold)
+            (ap (λ t. t.place) is ∙ ap (λ u. u.place) (sym same_one) ∙ sym place)
         there None x =
             let past = none_within tokens (at + n) x in
             let w = y.within in
@@ -341,4 +312,4 @@ refused_stops s first bytes tokens at q h fault lt p fits unfollowed (r, i, (n, 
             let ours : refusal_of s (line_tokens.word (token_at bytes tokens (at + n))) ≡ None = ap (λ t. refusal_of s (line_tokens.word t)) is ∙ line_end_fits s in
             stops_as (stops_behind low (λ e z. absurd (no_tree e z)))
             (ap (λ o. refusal_number (unwrap_or o Unexpected)) ours ∙ sym (number ∙ ap refusal_number re))
-            (ap (λ t. t.place) is ∙ last ∙ sym place ∙ sym untold)
+            (ap (λ t. t.place) is ∙ last ∙ sym place)

@@ -1,13 +1,13 @@
 -- The tokens of a text, one after the other, and the longest run of them that begins an expression.
-use Rattle.std.proofs.Common.{◌≡◌, ℕ, zero, suc, ◌+◌, ◌-◌, ◌<◌, ◌≤◌, length, take, drop, List, [], ◌∷◌, ◌++◌, Option, Some, None, refl, sym, ap, ◌∙◌, subst, arith, add-one}
-use Rattle.std.specs.Prelude.{map, slice_get, option_map, option_and_then, unwrap_or}
+use Rattle.std.proofs.Common.{◌≡◌, ℕ, zero, suc, ◌+◌, ◌-◌, ◌<◌, ◌≤◌, length, take, drop, List, [], ◌∷◌, ◌++◌, Bool, true, false, Option, Some, None, refl, sym, ap, ◌∙◌, subst, arith, add-one}
+use Rattle.std.specs.Prelude.{map, slice_get, option_map, option_and_then, unwrap_or, if◌then◌else◌}
 use Rattle.std.proofs.lemmas.Option.{slice_get_within}
 use Rattle.std.proofs.lemmas.List.{take-append-drop, length-map, length-drop}
 use Rattle.p8_tree.specs.declared.places.Place.{Place}
 use Rattle.p8_lexer.specs.declared.token.Token as lexer_token
-use Rattle.p8_grammar.specs.Lexemes.{Setting, other, Token, token}
+use Rattle.p8_grammar.specs.Lexemes.{Setting, is_value, other, Token, token}
 use Rattle.p8_grammar.specs.Grammar.{IsFront, IsLongestFront}
-use Rattle.p8_grammar.specs.Machine.{using, reading, Shape, if_fresh, beyond, State, state, joined, tree, step, walk, start}
+use Rattle.p8_grammar.specs.Machine.{using, reading, used, fresh, grow, infix_frame, go_on, Shape, if_fresh, beyond, State, state, joined, tree, step, walk, start}
 use Rattle.p8_tree.specs.Expressions.{Tree}
 use Rattle.p8_grammar.proofs.Live.{dead}
 use Rattle.p8_grammar.proofs.Walks.{walk_append}
@@ -52,7 +52,11 @@ last_is bytes tokens i t h g = go (record { line = 1; column = 1 }) tokens i h g
 
 -- what stands in no expression begins and goes on with none
 no_other : (st : State) (p : Place) → step st (token p other) ≡ None
-no_other (joined s r c q v k) p = refl
+no_other (joined s r c q v k) p = go (is_value s)
+  where
+    go : (b : Bool) → (if b then go_on (grow s fresh p other) s fresh (infix_frame r c q (used reading v) ∷ k) p other else None) ≡ None
+    go true = refl
+    go false = refl
 no_other (state s sh k) p = go (tree sh)
   where
     fresh_none : (sh : Shape) → if_fresh s sh None p k ≡ None

@@ -41,7 +41,7 @@ one_follower (further x f) (further y g) = one_follower f g
 -- one step: a token, or an expression with the token after it; `low` says that it isn't too high
 pub data Step (low : Bool) : State → List LineToken → List Piece → State → Type 0 where
   token : {q r : State} {t : LineToken} → Follows (choices q).arrows t r → Step low q (t ∷ []) (piece t ∷ []) r
-  phrase : {q r : State} {h : Phrase} {e : Tree} {first t : LineToken} (others : List LineToken) → (choices q).phrase ≡ Some h → IsExpression h.setting e (terms (first ∷ others)) → (IsTrue low → height e ≤ greatest_height h) → Follows (behind h (first ∷ others)) t r → Step low q (first ∷ (others ++ t ∷ [])) (tree e first.place ∷ piece t ∷ []) r
+  phrase : {q r : State} {h : Phrase} {e : Tree} {first t : LineToken} (others : List LineToken) → (choices q).phrase ≡ Some h → IsExpression h.setting e (terms (first ∷ others)) → (IsTrue low → height e ≤ greatest_height) → Follows (behind h (first ∷ others)) t r → Step low q (first ∷ (others ++ t ∷ [])) (tree e first.place ∷ piece t ∷ []) r
 
 pub data Way (low : Bool) : State → List LineToken → List Piece → State → Type 0 where
   none : {q : State} → Way low q [] [] q

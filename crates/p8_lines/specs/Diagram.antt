@@ -4,7 +4,7 @@
 use Rattle.std.specs.Prelude.{Bool, true, false, List, [], ◌∷◌, Option, Some, None}
 use Rattle.p8_lexer.specs.declared.word.Word.{Word}
 use Rattle.p8_lexer.specs.declared.word.Word.TheVariants as word
-use Rattle.p8_grammar.specs.Lexemes.{Setting, in_method, in_declaration, in_dat, in_data_item}
+use Rattle.p8_grammar.specs.Lexemes.{Setting, in_method, in_declaration, in_dat, in_data_item, in_action}
 use Rattle.p8_lines.specs.declared.sign.Sign.{Sign}
 use Rattle.p8_lines.specs.declared.sign.Sign.TheVariants as sign
 use Rattle.p8_lines.specs.declared.state.State.{State}
@@ -20,23 +20,19 @@ w ⇒ q = record { sign = sign.Word w; to = q }
 abbrev pub any : Sign → State → Arrow
 any s q = record { sign = s; to = q }
 
--- an expression: where it stands, whether it is a part of an action's own tree, and the tokens that may
--- stand after it, where it is one name and where it is any other
+-- an expression, or an action: where it stands, and the tokens that may stand after it, where it is one name and where it
+-- is any other
 pub record Phrase : Type 0 where
   pub setting : Setting
-  pub inner : Bool
   pub behind_name : List Arrow
   pub behind_other : List Arrow
 
 abbrev pub outer : Setting → List Arrow → Phrase
-outer s behind = record { setting = s; inner = false; behind_name = behind; behind_other = behind }
-
-abbrev pub inner : Setting → List Arrow → Phrase
-inner s behind = record { setting = s; inner = true; behind_name = behind; behind_other = behind }
+outer s behind = record { setting = s; behind_name = behind; behind_other = behind }
 
 -- what one name alone may be followed by is another
 abbrev pub counting : Setting → List Arrow → List Arrow → Phrase
-counting s behind behind_name = record { setting = s; inner = false; behind_name = behind_name; behind_other = behind }
+counting s behind behind_name = record { setting = s; behind_name = behind_name; behind_other = behind }
 
 -- what may stand next
 pub record Choices : Type 0 where
@@ -116,8 +112,8 @@ choices state.MoreEffects = tokens (any sign.Flag state.MoreEffects ∷ any sign
 choices state.Effect = tokens (any sign.Flag state.MoreEffects ∷ any sign.Write state.MoreEffects ∷ [])
 choices state.MoreFlags = tokens (any sign.Flag state.MoreFlags ∷ word.Comma ⇒ state.FlagEffect ∷ word.LineEnd ⇒ state.End ∷ [])
 choices state.FlagEffect = tokens (any sign.Flag state.MoreFlags ∷ [])
--- Statements. An action is described below.
-choices state.Statement = tokens (word.If ⇒ state.LastValue ∷ word.Ifnot ⇒ state.LastValue ∷ word.Case ⇒ state.LastValue ∷ word.Repeat ⇒ state.Repeat ∷ word.Next ⇒ state.LineEnd ∷ word.Quit ⇒ state.LineEnd ∷ word.Return ⇒ state.MaybeValue ∷ word.Abort ⇒ state.MaybeValue ∷ word.Name ⇒ state.Named ∷ word.Result ⇒ state.Result ∷ any sign.Size state.Memory ∷ any sign.Pins state.Pins ∷ word.Backslash ⇒ state.Trap ∷ any sign.Change state.Changed ∷ any sign.Operator state.Changed ∷ any sign.Value state.LineEnd ∷ any sign.BuiltIn state.BuiltIn ∷ [])
+-- Statements: an action is none of these words.
+choices state.Statement = either (word.If ⇒ state.LastValue ∷ word.Ifnot ⇒ state.LastValue ∷ word.Case ⇒ state.LastValue ∷ word.Repeat ⇒ state.Repeat ∷ word.Next ⇒ state.LineEnd ∷ word.Quit ⇒ state.LineEnd ∷ word.Return ⇒ state.MaybeValue ∷ word.Abort ⇒ state.MaybeValue ∷ []) (outer in_action (word.LineEnd ⇒ state.End ∷ []))
 choices state.ChainLine = tokens (word.Else ⇒ state.LineEnd ∷ word.Elseif ⇒ state.LastValue ∷ word.Elseifnot ⇒ state.LastValue ∷ [])
 choices state.LoopEndLine = tokens (word.While ⇒ state.LastValue ∷ word.Until ⇒ state.LastValue ∷ [])
 choices state.LastValue = expression (outer in_method (word.LineEnd ⇒ state.End ∷ []))
@@ -129,42 +125,6 @@ choices state.CaseItem = either (word.Other ⇒ state.OtherColon ∷ []) (outer 
 choices state.CaseTest = expression (outer in_method (word.DotDot ⇒ state.CaseRange ∷ word.Comma ⇒ state.CaseTest ∷ word.Colon ⇒ state.End ∷ []))
 choices state.CaseRange = expression (outer in_method (word.Comma ⇒ state.CaseTest ∷ word.Colon ⇒ state.End ∷ []))
 choices state.OtherColon = tokens (word.Colon ⇒ state.End ∷ [])
--- Actions: assignments, changes of a variable, calls and built-ins.
-choices state.Named = tokens (word.LineEnd ⇒ state.End ∷ word.LeftBracket ⇒ state.NamedIndex ∷ word.Dot ⇒ state.NamedDot ∷ word.LeftParenthesis ⇒ state.Arguments ∷ any sign.Assignment state.Assigned ∷ any sign.Boolean state.AssignedByWord ∷ any sign.Change state.LineEnd ∷ [])
-choices state.NamedIndex = expression (inner in_method (word.RightBracket ⇒ state.NamedIndexed ∷ []))
-choices state.NamedIndexed = tokens (word.Dot ⇒ state.MethodOf ∷ any sign.Assignment state.Assigned ∷ any sign.Boolean state.AssignedByWord ∷ any sign.Change state.LineEnd ∷ [])
-choices state.NamedDot = tokens (word.Name ⇒ state.Method ∷ any sign.Size state.Indexable ∷ [])
-choices state.MethodOf = tokens (word.Name ⇒ state.Method ∷ [])
-choices state.Method = tokens (word.LeftParenthesis ⇒ state.Arguments ∷ word.LineEnd ⇒ state.End ∷ [])
-choices state.Indexable = tokens (word.LeftBracket ⇒ state.Index ∷ any sign.Assignment state.Assigned ∷ any sign.Boolean state.AssignedByWord ∷ any sign.Change state.LineEnd ∷ [])
-choices state.Index = expression (inner in_method (word.RightBracket ⇒ state.Indexed ∷ []))
-choices state.Indexed = tokens (any sign.Assignment state.Assigned ∷ any sign.Boolean state.AssignedByWord ∷ any sign.Change state.LineEnd ∷ [])
-choices state.Result = tokens (word.LeftBracket ⇒ state.Index ∷ word.Dot ⇒ state.ResultDot ∷ any sign.Assignment state.Assigned ∷ any sign.Boolean state.AssignedByWord ∷ any sign.Change state.LineEnd ∷ [])
-choices state.ResultDot = tokens (any sign.Size state.Indexable ∷ [])
-choices state.Memory = tokens (word.LeftBracket ⇒ state.Address ∷ [])
-choices state.Address = expression (inner in_method (word.RightBracket ⇒ state.Indexable ∷ []))
-choices state.Pins = tokens (word.LeftBracket ⇒ state.FirstPin ∷ any sign.Assignment state.Assigned ∷ any sign.Boolean state.AssignedByWord ∷ any sign.Change state.LineEnd ∷ [])
-choices state.FirstPin = expression (inner in_method (word.DotDot ⇒ state.LastPin ∷ word.RightBracket ⇒ state.Indexed ∷ []))
-choices state.LastPin = expression (inner in_method (word.RightBracket ⇒ state.Indexed ∷ []))
-choices state.Trap = tokens (word.Name ⇒ state.Trapped ∷ [])
-choices state.Trapped = tokens (word.LeftParenthesis ⇒ state.Arguments ∷ word.LineEnd ⇒ state.End ∷ word.LeftBracket ⇒ state.TrappedIndex ∷ word.Dot ⇒ state.MethodOf ∷ [])
-choices state.TrappedIndex = expression (inner in_method (word.RightBracket ⇒ state.TrappedDot ∷ []))
-choices state.TrappedDot = tokens (word.Dot ⇒ state.MethodOf ∷ [])
-choices state.BuiltIn = tokens (word.LeftParenthesis ⇒ state.Arguments ∷ word.LineEnd ⇒ state.End ∷ [])
-choices state.Arguments = expression (inner in_method (word.Comma ⇒ state.Arguments ∷ word.RightParenthesis ⇒ state.LineEnd ∷ []))
-choices state.AssignedByWord = tokens (word.EqualSign ⇒ state.Assigned ∷ [])
-choices state.Assigned = expression (inner in_method (word.LineEnd ⇒ state.End ∷ []))
--- An operator and the variable that it changes.
-choices state.Changed = tokens (word.Name ⇒ state.ChangedName ∷ word.Result ⇒ state.ChangedName ∷ any sign.Size state.ChangedMemory ∷ any sign.Pins state.ChangedPins ∷ [])
-choices state.ChangedName = tokens (word.LeftBracket ⇒ state.ChangedIndex ∷ word.Dot ⇒ state.ChangedDot ∷ word.LineEnd ⇒ state.End ∷ [])
-choices state.ChangedDot = tokens (any sign.Size state.ChangedIndexable ∷ [])
-choices state.ChangedIndexable = tokens (word.LeftBracket ⇒ state.ChangedIndex ∷ word.LineEnd ⇒ state.End ∷ [])
-choices state.ChangedIndex = expression (inner in_method (word.RightBracket ⇒ state.LineEnd ∷ []))
-choices state.ChangedMemory = tokens (word.LeftBracket ⇒ state.ChangedAddress ∷ [])
-choices state.ChangedAddress = expression (inner in_method (word.RightBracket ⇒ state.ChangedIndexable ∷ []))
-choices state.ChangedPins = tokens (word.LeftBracket ⇒ state.ChangedFirstPin ∷ word.LineEnd ⇒ state.End ∷ [])
-choices state.ChangedFirstPin = expression (inner in_method (word.DotDot ⇒ state.ChangedLastPin ∷ word.RightBracket ⇒ state.LineEnd ∷ []))
-choices state.ChangedLastPin = expression (inner in_method (word.RightBracket ⇒ state.LineEnd ∷ []))
 
 -- where a line's words stand: in a declaration, in DAT or in a method
 abbrev pub setting_at : State → Setting

@@ -10,6 +10,7 @@ use Rattle.p8_grammar.specs.Grammar.{IsExpression, IsFront}
 use Rattle.p8_grammar.specs.Heights as heights
 use Rattle.p8_grammar.specs.Heights.{height}
 use Rattle.p8_expr.specs.Refusals.{refusal_of}
+pub use Rattle.p8_expr.specs.Parsing.{greatest_height}
 use Rattle.p8_pieces.specs.Pieces.{Piece, tree}
 use Rattle.p8_lines.specs.Signs.{Matches}
 use Rattle.p8_lines.specs.declared.arrow.Arrow.{Arrow}
@@ -51,16 +52,11 @@ pub data Row : State → List Piece → List LineToken → Type 0 where
 abbrev pub Begins : State → List LineToken → Type 0
 Begins q ts = (rest : List LineToken) × (row : List Piece) × Row q row (ts ++ rest)
 
--- How high an expression may be. A part of an action's own tree may be 1 lower, since that tree is higher
--- than its parts and may itself be 64 high.
-abbrev pub greatest_height : Phrase → ℕ
-greatest_height h = if h.inner then 63 else 64
-
 -- These tokens lead from one state to another, as these pieces; no expression among them is too high.
 pub data Leads : State → List LineToken → List Piece → State → Type 0 where
   nowhere : {q : State} → Leads q [] [] q
   by_token : {q r s : State} {row : List Piece} {t : LineToken} {ts : List LineToken} → Follows (choices q).arrows t r → Leads r ts row s → Leads q (t ∷ ts) (piece t ∷ row) s
-  by_phrase : {q r s : State} {h : Phrase} {e : Tree} {row : List Piece} {first t : LineToken} (others : List LineToken) {ts : List LineToken} → (choices q).phrase ≡ Some h → IsExpression h.setting e (terms (first ∷ others)) → height e ≤ greatest_height h → Follows (behind h (first ∷ others)) t r → Leads r ts row s → Leads q ((first ∷ others) ++ t ∷ ts) (tree e first.place ∷ piece t ∷ row) s
+  by_phrase : {q r s : State} {h : Phrase} {e : Tree} {row : List Piece} {first t : LineToken} (others : List LineToken) {ts : List LineToken} → (choices q).phrase ≡ Some h → IsExpression h.setting e (terms (first ∷ others)) → height e ≤ greatest_height → Follows (behind h (first ∷ others)) t r → Leads r ts row s → Leads q ((first ∷ others) ++ t ∷ ts) (tree e first.place ∷ piece t ∷ row) s
 
 -- some of these tokens, from the first one, begin an expression, and each that begins so is too high
 pub record IsTooHigh (h : Phrase) (ts : List LineToken) : Type 0 where
@@ -68,7 +64,7 @@ pub record IsTooHigh (h : Phrase) (ts : List LineToken) : Type 0 where
   pub rest : List LineToken
   pub split : ts ≡ front ++ rest
   pub begins : IsFront h.setting (terms front)
-  pub high : heights.IsTooHigh h.setting (greatest_height h) (terms front)
+  pub high : heights.IsTooHigh h.setting greatest_height (terms front)
 
 -- among these tokens an expression begins that is too high
 pub record HasTooHigh (q : State) (ts : List LineToken) : Type 0 where
@@ -96,9 +92,8 @@ pub data Outcome : Type 0 where
 -- Reading these tokens as a line from a state on answers so.
 pub data Reads (q : State) (ts : List LineToken) : Outcome → Type 0 where
   line : {row : List Piece} {us rest : List LineToken} → ts ≡ us ++ rest → Leads q us row state.End → Reads q ts (read row rest)
-  -- The first expression that is too high is refused at its first token; an action's whole tree is, where
-  -- the expression is a part of that.
-  too_high : {row : List Piece} {us vs others : List LineToken} {first t : LineToken} {r : State} {h : Phrase} → ts ≡ first ∷ others → ts ≡ us ++ t ∷ vs → Leads q us row r → (choices r).phrase ≡ Some h → IsTooHigh h (t ∷ vs) → Reads q ts (refused (refusal_number TooNested) (if h.inner then first.place else t.place))
+  -- the first expression, or action, that is too high is refused at its first token
+  too_high : {row : List Piece} {us vs : List LineToken} {t : LineToken} {r : State} {h : Phrase} → ts ≡ us ++ t ∷ vs → Leads q us row r → (choices r).phrase ≡ Some h → IsTooHigh h (t ∷ vs) → Reads q ts (refused (refusal_number TooNested) t.place)
   -- the first token with which the tokens up to it begin no line, where those before it are no line
   stopped : {us : List LineToken} (t : LineToken) (vs : List LineToken) → ts ≡ us ++ t ∷ vs → Begins q us → ((row : List Piece) → ¬ Row q row us) → ¬ Begins q (us ++ t ∷ []) → ¬ HasTooHigh q us → Reads q ts (refused (number_of (setting_at q) (word t)) t.place)
 

@@ -12,94 +12,6 @@ is_size word.WordSize = true
 is_size word.LongSize = true
 is_size _ = false
 
--- OUTA and DIRA
-abbrev pub is_pins : Word → Bool
-is_pins word.Outa = true
-is_pins word.Dira = true
-is_pins _ = false
-
--- `:=`, and each operator between two values with `=`
-abbrev pub is_assignment : Word → Bool
-is_assignment word.Assign = true
-is_assignment word.RotateRightAssign = true
-is_assignment word.RotateLeftAssign = true
-is_assignment word.ShiftRightAssign = true
-is_assignment word.ShiftLeftAssign = true
-is_assignment word.ArithmeticShiftAssign = true
-is_assignment word.ReverseAssign = true
-is_assignment word.BitAndAssign = true
-is_assignment word.BitOrAssign = true
-is_assignment word.BitXorAssign = true
-is_assignment word.MultiplyAssign = true
-is_assignment word.MultiplyHighAssign = true
-is_assignment word.DivideAssign = true
-is_assignment word.RemainderAssign = true
-is_assignment word.PlusAssign = true
-is_assignment word.MinusAssign = true
-is_assignment word.LimitMinimumAssign = true
-is_assignment word.LimitMaximumAssign = true
-is_assignment word.LessAssign = true
-is_assignment word.GreaterAssign = true
-is_assignment word.NotEqualAssign = true
-is_assignment word.EqualAssign = true
-is_assignment word.LessOrEqualAssign = true
-is_assignment word.GreaterOrEqualAssign = true
-is_assignment _ = false
-
--- AND and OR: with `=` after them they are assignments of two tokens
-abbrev pub is_boolean : Word → Bool
-is_boolean word.And = true
-is_boolean word.Or = true
-is_boolean _ = false
-
--- `++`, `--`, `~` and `~~`
-abbrev pub is_change : Word → Bool
-is_change word.PlusPlus = true
-is_change word.MinusMinus = true
-is_change word.Tilde = true
-is_change word.TildeTilde = true
-is_change _ = false
-
--- the operators before a value, but for `+`
-abbrev pub is_operator : Word → Bool
-is_operator word.Minus = true
-is_operator word.SquareRoot = true
-is_operator word.Absolute = true
-is_operator word.DecodeBit = true
-is_operator word.EncodeBit = true
-is_operator word.Invert = true
-is_operator word.Not = true
-is_operator _ = false
-
--- COGID, CLKFREQ and CLKMODE
-abbrev pub is_value : Word → Bool
-is_value word.Cogid = true
-is_value word.Clkfreq = true
-is_value word.Clkmode = true
-is_value _ = false
-
--- the other built-in methods
-abbrev pub is_built_in : Word → Bool
-is_built_in word.Cognew = true
-is_built_in word.Coginit = true
-is_built_in word.Cogstop = true
-is_built_in word.Locknew = true
-is_built_in word.Lockret = true
-is_built_in word.Lockset = true
-is_built_in word.Lockclr = true
-is_built_in word.Waitcnt = true
-is_built_in word.Waitpeq = true
-is_built_in word.Waitpne = true
-is_built_in word.Bytefill = true
-is_built_in word.Wordfill = true
-is_built_in word.Longfill = true
-is_built_in word.Bytemove = true
-is_built_in word.Wordmove = true
-is_built_in word.Longmove = true
-is_built_in word.Strsize = true
-is_built_in word.Strcomp = true
-is_built_in _ = false
-
 -- the conditions of an instruction
 abbrev pub is_condition : Word → Bool
 is_condition word.IfAlways = true
@@ -227,13 +139,6 @@ is_write _ = false
 abbrev pub Matches : Sign → Word → ℕ → Type 0
 Matches (sign.Word w) v n = v ≡ w
 Matches sign.Size v n = IsTrue (is_size v)
-Matches sign.Pins v n = IsTrue (is_pins v)
-Matches sign.Assignment v n = IsTrue (is_assignment v)
-Matches sign.Boolean v n = IsTrue (is_boolean v)
-Matches sign.Change v n = IsTrue (is_change v)
-Matches sign.Operator v n = IsTrue (is_operator v)
-Matches sign.Value v n = IsTrue (is_value v)
-Matches sign.BuiltIn v n = IsTrue (is_built_in v)
 Matches sign.Text v n = (v ≡ word.Str) × (0 < n)
 Matches sign.LongText v n = (v ≡ word.Str) × (1 < n)
 Matches sign.Condition v n = IsTrue (is_condition v)

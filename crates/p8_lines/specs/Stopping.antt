@@ -26,10 +26,10 @@ run bytes tokens at n = take n (tokens_from bytes tokens at)
 abbrev pub FitsSetting : Setting → State → Type 0
 FitsSetting s q = (h : Phrase) → (choices q).phrase ≡ Some h → (w : Word) → refusal_of h.setting w ≡ refusal_of s w
 
--- Reading stops so at a state, in a line of this setting whose first token stands at `first`.
-pub data Stops (s : Setting) (first : Place) (q : State) (ts : List LineToken) : ℕ → Place → Type 0 where
-  too_high : {h : Phrase} {t : LineToken} {vs : List LineToken} → ts ≡ t ∷ vs → (choices q).phrase ≡ Some h → IsTooHigh h (t ∷ vs) → Stops s first q ts (refusal_number TooNested) (if h.inner then first else t.place)
-  stopped : {us : List LineToken} (t : LineToken) (vs : List LineToken) → ts ≡ us ++ t ∷ vs → Begins q us → ((row : List Piece) → ¬ Row q row us) → ¬ Begins q (us ++ t ∷ []) → ¬ HasTooHigh q us → Stops s first q ts (number_of s (word t)) t.place
+-- Reading stops so at a state, in a line of this setting.
+pub data Stops (s : Setting) (q : State) (ts : List LineToken) : ℕ → Place → Type 0 where
+  too_high : {h : Phrase} {t : LineToken} {vs : List LineToken} → ts ≡ t ∷ vs → (choices q).phrase ≡ Some h → IsTooHigh h (t ∷ vs) → Stops s q ts (refusal_number TooNested) t.place
+  stopped : {us : List LineToken} (t : LineToken) (vs : List LineToken) → ts ≡ us ++ t ∷ vs → Begins q us → ((row : List Piece) → ¬ Row q row us) → ¬ Begins q (us ++ t ∷ []) → ¬ HasTooHigh q us → Stops s q ts (number_of s (word t)) t.place
 
 -- the tokens of these numbers lead from one state to another
 pub record Goes (bytes : List ℕ) (tokens : List lexer_token.Token) (at end : ℕ) (q : State) (row : List Piece) (r : State) : Type 0 where
@@ -45,7 +45,3 @@ pub record Advances (bytes : List ℕ) (tokens : List lexer_token.Token) (at end
   pub onward : at < end
   pub within : end ≤ length tokens + 1
   pub ended : length tokens < end → r ≡ state.End
-
--- the place of an expression's refusal: where a part of an action is too high, the action's whole tree is
-abbrev pub told_at : Bool → ℕ → Place → Place → Place
-told_at inner n first place = if inner && (n == refusal_number TooNested) then first else place

@@ -110,13 +110,10 @@ impl State {
             State::Effect => arrows![[Flag] => MoreEffects, [Write] => MoreEffects],
             State::MoreFlags => arrows![[Flag] => MoreFlags, Comma => FlagEffect, LineEnd => End],
             State::FlagEffect => arrows![[Flag] => MoreFlags],
-            // Statements. An action is described below.
+            // Statements: an action is none of these words.
             State::Statement => arrows![
                 If => LastValue, Ifnot => LastValue, Case => LastValue, Repeat => Repeat, Next => LineEnd,
-                Quit => LineEnd, Return => MaybeValue, Abort => MaybeValue, Name => Named,
-                Result => Result, [Size] => Memory, [Pins] => Pins, Backslash => Trap,
-                [Change] => Changed, [Operator] => Changed, [Value] => LineEnd,
-                [BuiltIn] => BuiltIn,
+                Quit => LineEnd, Return => MaybeValue, Abort => MaybeValue,
             ],
             State::ChainLine =>
                 arrows![Else => LineEnd, Elseif => LastValue, Elseifnot => LastValue],
@@ -125,56 +122,6 @@ impl State {
             State::MaybeValue => arrows![LineEnd => End],
             State::CaseItem => arrows![Other => OtherColon],
             State::OtherColon => arrows![Colon => End],
-            // Actions: assignments, changes of a variable, calls and built-ins.
-            State::Named => arrows![
-                LineEnd => End, LeftBracket => NamedIndex, Dot => NamedDot,
-                LeftParenthesis => Arguments, [Assignment] => Assigned,
-                [Boolean] => AssignedByWord, [Change] => LineEnd,
-            ],
-            State::NamedIndexed => arrows![
-                Dot => MethodOf, [Assignment] => Assigned, [Boolean] => AssignedByWord,
-                [Change] => LineEnd,
-            ],
-            State::NamedDot => arrows![Name => Method, [Size] => Indexable],
-            State::MethodOf => arrows![Name => Method],
-            State::Method => arrows![LeftParenthesis => Arguments, LineEnd => End],
-            State::Indexable => arrows![
-                LeftBracket => Index, [Assignment] => Assigned, [Boolean] => AssignedByWord,
-                [Change] => LineEnd,
-            ],
-            State::Indexed => arrows![
-                [Assignment] => Assigned, [Boolean] => AssignedByWord, [Change] => LineEnd,
-            ],
-            State::Result => arrows![
-                LeftBracket => Index, Dot => ResultDot, [Assignment] => Assigned,
-                [Boolean] => AssignedByWord, [Change] => LineEnd,
-            ],
-            State::ResultDot => arrows![[Size] => Indexable],
-            State::Memory => arrows![LeftBracket => Address],
-            State::Pins => arrows![
-                LeftBracket => FirstPin, [Assignment] => Assigned, [Boolean] => AssignedByWord,
-                [Change] => LineEnd,
-            ],
-            State::Trap => arrows![Name => Trapped],
-            State::Trapped => arrows![
-                LeftParenthesis => Arguments, LineEnd => End, LeftBracket => TrappedIndex,
-                Dot => MethodOf,
-            ],
-            State::TrappedDot => arrows![Dot => MethodOf],
-            State::BuiltIn => arrows![LeftParenthesis => Arguments, LineEnd => End],
-            State::AssignedByWord => arrows![EqualSign => Assigned],
-            // An operator and the variable that it changes.
-            State::Changed => arrows![
-                Name => ChangedName, Result => ChangedName, [Size] => ChangedMemory,
-                [Pins] => ChangedPins,
-            ],
-            State::ChangedName => arrows![
-                LeftBracket => ChangedIndex, Dot => ChangedDot, LineEnd => End,
-            ],
-            State::ChangedDot => arrows![[Size] => ChangedIndexable],
-            State::ChangedIndexable => arrows![LeftBracket => ChangedIndex, LineEnd => End],
-            State::ChangedMemory => arrows![LeftBracket => ChangedAddress],
-            State::ChangedPins => arrows![LeftBracket => ChangedFirstPin, LineEnd => End],
             _ => &[],
         }
     }
@@ -195,19 +142,8 @@ impl State {
             | State::MaybeValue
             | State::CaseItem
             | State::CaseTest
-            | State::CaseRange
-            | State::NamedIndex
-            | State::Index
-            | State::Address
-            | State::FirstPin
-            | State::LastPin
-            | State::TrappedIndex
-            | State::Arguments
-            | State::Assigned
-            | State::ChangedIndex
-            | State::ChangedAddress
-            | State::ChangedFirstPin
-            | State::ChangedLastPin => Some(Setting::Method),
+            | State::CaseRange => Some(Setting::Method),
+            State::Statement => Some(Setting::Action),
             State::DatValue
             | State::DataCount
             | State::Destination
@@ -222,27 +158,6 @@ impl State {
         }
     }
 
-    /// Whether that expression is a part of an action's own tree.
-    pub fn is_inner(self) -> bool
-        ensures { MatchOption (choices self).phrase (result ≡ false) (λ h. result ≡ h.inner) }
-    {
-        matches!(
-            self,
-            State::NamedIndex
-                | State::Index
-                | State::Address
-                | State::FirstPin
-                | State::LastPin
-                | State::TrappedIndex
-                | State::Arguments
-                | State::Assigned
-                | State::ChangedIndex
-                | State::ChangedAddress
-                | State::ChangedFirstPin
-                | State::ChangedLastPin
-        )
-    }
-
     /// The tokens that may stand after that expression.
     pub fn behind(self) -> &'static [Arrow]
         ensures { result.now ≡ behind_in (choices self).phrase }
@@ -254,10 +169,10 @@ impl State {
             State::ObjCount => arrows![RightBracket => ObjColon],
             State::LocalCount => arrows![RightBracket => MoreLocals],
             State::DatValue
+            | State::Statement
             | State::LastValue
             | State::Repeat
-            | State::MaybeValue
-            | State::Assigned => arrows![LineEnd => End],
+            | State::MaybeValue => arrows![LineEnd => End],
             State::FirstData | State::Data | State::DataValue =>
                 arrows![LeftBracket => DataCount, Comma => Data, LineEnd => End],
             State::DataCount => arrows![RightBracket => MoreData],
@@ -272,15 +187,6 @@ impl State {
             State::CaseItem | State::CaseTest =>
                 arrows![DotDot => CaseRange, Comma => CaseTest, Colon => End],
             State::CaseRange => arrows![Comma => CaseTest, Colon => End],
-            State::NamedIndex => arrows![RightBracket => NamedIndexed],
-            State::Index | State::LastPin => arrows![RightBracket => Indexed],
-            State::Address => arrows![RightBracket => Indexable],
-            State::FirstPin => arrows![DotDot => LastPin, RightBracket => Indexed],
-            State::TrappedIndex => arrows![RightBracket => TrappedDot],
-            State::Arguments => arrows![Comma => Arguments, RightParenthesis => LineEnd],
-            State::ChangedIndex | State::ChangedLastPin => arrows![RightBracket => LineEnd],
-            State::ChangedAddress => arrows![RightBracket => ChangedIndexable],
-            State::ChangedFirstPin => arrows![DotDot => ChangedLastPin, RightBracket => LineEnd],
             _ => &[],
         }
     }

@@ -10,7 +10,7 @@ ghost use Rattle.p8_lines.specs.Diagram.{Phrase, choices};
 ghost use Rattle.p8_lines.specs.Tokens as line_tokens;
 ghost use Rattle.p8_lines.specs.Tokens.{LineToken, string_length, piece, piece_from, line_token, text_end, tokens_from};
 ghost use Rattle.p8_lines.specs.Lines.{Follows, is_name_word, behind, greatest_height, Reads, read, refused, number_of, OneReading};
-ghost use Rattle.p8_lines.specs.Stopping.{token_at, run, told_at, FitsSetting, Stops, Advances};
+ghost use Rattle.p8_lines.specs.Stopping.{token_at, run, FitsSetting, Stops, Advances};
 
 use crate::arrow::Arrow;
 use crate::state::State;
@@ -39,9 +39,8 @@ pub fn one_reading()
 /// The line is refused at the first token with which what was read begins no line: with 9 where that
 /// is floating point, with 10 where it is what the machine doesn't carry out, and else with 6; at the
 /// text's end the refusal stands at the last token. Before that, it is refused with 8 where each
-/// expression that begins with the tokens of one is too high: at the first token of that expression,
-/// or at the line's first token where the expression is a part of an action's own tree. Expressions
-/// have at most height 64, and such parts 63. Want of memory may come at any point.
+/// expression, or action, that begins with the tokens of one is too high: at its first token. They have
+/// at most height 64. Want of memory may come at any point.
 pub fn read_line(
     alloc: Global,
     bytes: &[u8],
@@ -55,26 +54,16 @@ pub fn read_line(
     ensures read { IfOk result (λ r. Reads state (tokens_from bytes.now tokens.now at) (read (pieces_of r.0.items) (tokens_from bytes.now tokens.now r.1))) }
     ensures refused { IfErr result (IfRefused (λ fault. Reads state (tokens_from bytes.now tokens.now at) (refused fault.number fault.place))) }
 {
-    let line = LineStart {
-        setting: state.setting(),
-        place: place_at(bytes, tokens, at),
-    };
+    let setting = state.setting();
     let mut pieces = Vec::new(alloc);
     let mut here = state;
     let mut end = at;
     'steps: while !is_end(here) {
-        let (next, behind) = step(alloc, bytes, tokens, end, here, line, &mut pieces)?;
+        let (next, behind) = step(alloc, bytes, tokens, end, here, setting, &mut pieces)?;
         here = next;
         end = behind;
     }
     Ok((pieces, end))
-}
-
-// What the refusals in a line are told by: where its words stand, and the place of its first token.
-#[derive(Clone, Copy)]
-struct LineStart {
-    setting: Setting,
-    place: Place,
 }
 
 // Whether the line has ended.
@@ -92,14 +81,14 @@ fn step(
     tokens: &Tokens,
     at: usize,
     state: State,
-    line: LineStart,
+    line: Setting,
     pieces: &mut Vec<Piece>,
 ) -> Result<(State, usize), Fail<ParseFault>>
     requires within { at ≤ length tokens.now }
     requires unended { state ≢ state_case.End }
-    requires fits { FitsSetting (setting_of line.setting) state }
+    requires fits { FitsSetting (setting_of line) state }
     ensures advances { IfOk result (λ r. Advances bytes.now tokens.now at r.1 state (pieces_of pieces.old.items) (pieces_of pieces.new.items) r.0) }
-    ensures stops { IfErr result (IfRefused (λ fault. Stops (setting_of line.setting) line.place state (tokens_from bytes.now tokens.now at) fault.number fault.place)) }
+    ensures stops { IfErr result (IfRefused (λ fault. Stops (setting_of line) state (tokens_from bytes.now tokens.now at) fault.number fault.place)) }
 {
     let Some(next) = target(bytes, tokens, at, state.arrows()) else {
         return step_over_tree(alloc, bytes, tokens, at, state, line, pieces);
@@ -116,21 +105,21 @@ fn step_over_tree(
     tokens: &Tokens,
     at: usize,
     state: State,
-    line: LineStart,
+    line: Setting,
     pieces: &mut Vec<Piece>,
 ) -> Result<(State, usize), Fail<ParseFault>>
     requires within { at ≤ length tokens.now }
     requires unended { state ≢ state_case.End }
-    requires fits { FitsSetting (setting_of line.setting) state }
+    requires fits { FitsSetting (setting_of line) state }
     requires alone { (r : line_state.State) → ¬ Follows (choices state).arrows (token_at bytes.now tokens.now at) r }
     ensures advances { IfOk result (λ r. Advances bytes.now tokens.now at r.1 state (pieces_of pieces.old.items) (pieces_of pieces.new.items) r.0) }
-    ensures stops { IfErr result (IfRefused (λ fault. Stops (setting_of line.setting) line.place state (tokens_from bytes.now tokens.now at) fault.number fault.place)) }
+    ensures stops { IfErr result (IfRefused (λ fault. Stops (setting_of line) state (tokens_from bytes.now tokens.now at) fault.number fault.place)) }
 {
     let Some(setting) = state.expression() else {
-        return Err(Fail::Refused(fault_at(bytes, tokens, at, line.setting)));
+        return Err(Fail::Refused(fault_at(bytes, tokens, at, line)));
     };
     if at == tokens.len() {
-        return Err(Fail::Refused(fault_at(bytes, tokens, at, line.setting)));
+        return Err(Fail::Refused(fault_at(bytes, tokens, at, line)));
     }
     let (expr, end) = read_tree(alloc, bytes, tokens, at, state, setting, line)?;
     push(pieces, Piece::Tree(expr, place_at(bytes, tokens, at)))?;
@@ -140,7 +129,7 @@ fn step_over_tree(
         end,
         arrows_behind(bytes, tokens, at, end, state),
     ) else {
-        return Err(Fail::Refused(fault_at(bytes, tokens, end, line.setting)));
+        return Err(Fail::Refused(fault_at(bytes, tokens, end, line)));
     };
     let piece = piece_at(alloc, bytes, tokens, end)?;
     push(pieces, piece)?;
@@ -155,46 +144,21 @@ fn read_tree(
     at: usize,
     state: State,
     setting: Setting,
-    line: LineStart,
+    line: Setting,
 ) -> Result<(Expr, usize), Fail<ParseFault>>
     requires within { at < length tokens.now }
-    requires fits { FitsSetting (setting_of line.setting) state }
+    requires fits { FitsSetting (setting_of line) state }
     requires alone { (r : line_state.State) → ¬ Follows (choices state).arrows (token_at bytes.now tokens.now at) r }
     requires expects { option_map (λ h. h.setting) (choices state).phrase ≡ Some (setting_of setting) }
     ensures ordered { IfOk result (λ r. at ≤ r.1) }
     ensures within { IfOk result (λ r. r.1 ≤ length tokens.now) }
-    ensures read { (h : Phrase) → (choices state).phrase ≡ Some h → IfOk result (λ r. Parses h.setting (greatest_height h) bytes.now tokens.now at (tree (tree_of r.0) r.1)) }
-    ensures stops { IfErr result (IfRefused (λ fault. Stops (setting_of line.setting) line.place state (tokens_from bytes.now tokens.now at) fault.number fault.place)) }
+    ensures read { (h : Phrase) → (choices state).phrase ≡ Some h → IfOk result (λ r. Parses h.setting greatest_height bytes.now tokens.now at (tree (tree_of r.0) r.1)) }
+    ensures stops { IfErr result (IfRefused (λ fault. Stops (setting_of line) state (tokens_from bytes.now tokens.now at) fault.number fault.place)) }
 {
-    match parse_expr_in(alloc, bytes, tokens, at, setting, height_at(state)) {
+    match parse_expr_in(alloc, bytes, tokens, at, setting, GREATEST_HEIGHT) {
         Ok(read) => Ok(read),
-        Err(Fail::Refused(fault)) => Err(Fail::Refused(told(fault, state.is_inner(), line.place))),
+        Err(Fail::Refused(fault)) => Err(Fail::Refused(fault)),
         Err(Fail::NoMemory) => Err(Fail::NoMemory),
-    }
-}
-
-// How high the expression at a state may be.
-fn height_at(state: State) -> u8
-    ensures limit { result ≤ 64 }
-    ensures is { (h : Phrase) → (choices state).phrase ≡ Some h → result ≡ greatest_height h }
-{
-    if state.is_inner() {
-        GREATEST_HEIGHT - 1
-    } else {
-        GREATEST_HEIGHT
-    }
-}
-
-// An expression's refusal, as a line tells it: where a part of an action's own tree is too high, the
-// whole tree is, which begins with the line.
-fn told(fault: ParseFault, inner: bool, first: Place) -> ParseFault
-    ensures number { result.number ≡ fault.number }
-    ensures place { result.place ≡ told_at inner fault.number first fault.place }
-{
-    let whole = inner && fault.number == Refusal::TooNested.number();
-    ParseFault {
-        number: fault.number,
-        place: if whole { first } else { fault.place },
     }
 }
 

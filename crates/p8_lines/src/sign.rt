@@ -2,10 +2,7 @@
 ghost use Rattle.std.specs.Prelude.{◌↔◌, IsTrue};
 ghost use Rattle.p8_lines.specs.Signs.{Matches};
 
-use crate::words::{
-    is_assignment, is_boolean, is_built_in, is_change, is_condition, is_flag, is_on_memory,
-    is_operator, is_pins, is_size, is_value, is_write, takes_one, takes_two,
-};
+use crate::words::{is_condition, is_flag, is_on_memory, is_size, is_write, takes_one, takes_two};
 use p8_lexer::Word;
 
 /// Which tokens an arrow of the diagram stands for.
@@ -15,20 +12,6 @@ pub enum Sign {
     Word(Word),
     /// `BYTE`, `WORD` or `LONG`.
     Size,
-    /// `OUTA` or `DIRA`.
-    Pins,
-    /// `:=`, or an operator between two values with `=`.
-    Assignment,
-    /// `AND` or `OR`: with `=` after them they are assignments of two tokens.
-    Boolean,
-    /// `++`, `--`, `~` or `~~`.
-    Change,
-    /// An operator before a value that, alone before a variable, writes the variable: all but `+`.
-    Operator,
-    /// `COGID`, `CLKFREQ` or `CLKMODE`.
-    Value,
-    /// Another built-in method.
-    BuiltIn,
     /// A string that isn't empty.
     Text,
     /// A string of two characters or more.
@@ -56,13 +39,6 @@ impl Sign {
         match self {
             Sign::Word(w) => w == word,
             Sign::Size => is_size(word),
-            Sign::Pins => is_pins(word),
-            Sign::Assignment => is_assignment(word),
-            Sign::Boolean => is_boolean(word),
-            Sign::Change => is_change(word),
-            Sign::Operator => is_operator(word),
-            Sign::Value => is_value(word),
-            Sign::BuiltIn => is_built_in(word),
             Sign::Text => word == Word::Str && length > 0,
             Sign::LongText => word == Word::Str && length > 1,
             Sign::Condition => is_condition(word),

@@ -125,7 +125,7 @@ pub enum State {
     MoreFlags,
     /// An effect after a comma, of an instruction on main memory.
     FlagEffect,
-    // Statements. An action is described below.
+    // Statements. Actions are spelled by the grammar of expressions.
     /// A statement.
     Statement,
     /// A line that goes on with an IF chain.
@@ -150,74 +150,4 @@ pub enum State {
     CaseRange,
     /// What follows OTHER.
     OtherColon,
-    // Actions: assignments, changes of a variable, calls and built-ins.
-    /// What follows a name: nothing where it calls a method.
-    Named,
-    /// What follows a name's `[`.
-    NamedIndex,
-    /// What follows a name's index.
-    NamedIndexed,
-    /// What follows a name's dot.
-    NamedDot,
-    /// The method of an object.
-    MethodOf,
-    /// What follows an object's method.
-    Method,
-    /// What follows a variable that may have an index.
-    Indexable,
-    /// What follows a variable's `[`.
-    Index,
-    /// What follows a variable with its index.
-    Indexed,
-    /// What follows RESULT.
-    Result,
-    /// What follows RESULT's dot.
-    ResultDot,
-    /// What follows BYTE, WORD or LONG.
-    Memory,
-    /// What follows the `[` of BYTE, WORD or LONG.
-    Address,
-    /// What follows OUTA or DIRA.
-    Pins,
-    /// What follows the `[` of OUTA or DIRA.
-    FirstPin,
-    /// What follows the `..` of pins.
-    LastPin,
-    /// What follows `\`.
-    Trap,
-    /// What follows the name after `\`.
-    Trapped,
-    /// What follows the `[` of an object after `\`.
-    TrappedIndex,
-    /// What follows the index of an object after `\`.
-    TrappedDot,
-    /// What follows a built-in's word.
-    BuiltIn,
-    /// An argument.
-    Arguments,
-    /// What follows AND or OR after a variable.
-    AssignedByWord,
-    /// What follows an assignment's word.
-    Assigned,
-    // An operator and the variable that it changes.
-    /// The variable.
-    Changed,
-    /// What follows its name.
-    ChangedName,
-    /// What follows its dot.
-    ChangedDot,
-    /// What follows a variable that may have an index.
-    ChangedIndexable,
-    /// What follows its `[`.
-    ChangedIndex,
-    /// What follows BYTE, WORD or LONG.
-    ChangedMemory,
-    /// What follows the `[` of BYTE, WORD or LONG.
-    ChangedAddress,
-    /// What follows OUTA or DIRA.
-    ChangedPins,
-    /// What follows the `[` of OUTA or DIRA.
-    ChangedFirstPin,
-    /// What follows the `..` of pins.
-    ChangedLastPin,
 }

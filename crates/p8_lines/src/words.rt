@@ -1,6 +1,6 @@
 // Kinds of words.
 ghost use Rattle.std.specs.Prelude.{◌≡◌};
-ghost use Rattle.p8_lines.specs.Signs.{is_size, is_pins, is_assignment, is_boolean, is_change, is_operator, is_value, is_built_in, is_condition, takes_two, is_on_memory, takes_one, is_flag, is_write};
+ghost use Rattle.p8_lines.specs.Signs.{is_size, is_condition, takes_two, is_on_memory, takes_one, is_flag, is_write};
 
 use p8_lexer::Word;
 
@@ -9,113 +9,6 @@ pub fn is_size(word: Word) -> bool
     ensures { result ≡ is_size word }
 {
     matches!(word, Word::ByteSize | Word::WordSize | Word::LongSize)
-}
-
-// Whether the word is one of OUTA and DIRA.
-pub fn is_pins(word: Word) -> bool
-    ensures { result ≡ is_pins word }
-{
-    matches!(word, Word::Outa | Word::Dira)
-}
-
-// Whether the word is one of `:=`, and each operator between two values with `=`.
-pub fn is_assignment(word: Word) -> bool
-    ensures { result ≡ is_assignment word }
-{
-    matches!(
-        word,
-        Word::Assign
-            | Word::RotateRightAssign
-            | Word::RotateLeftAssign
-            | Word::ShiftRightAssign
-            | Word::ShiftLeftAssign
-            | Word::ArithmeticShiftAssign
-            | Word::ReverseAssign
-            | Word::BitAndAssign
-            | Word::BitOrAssign
-            | Word::BitXorAssign
-            | Word::MultiplyAssign
-            | Word::MultiplyHighAssign
-            | Word::DivideAssign
-            | Word::RemainderAssign
-            | Word::PlusAssign
-            | Word::MinusAssign
-            | Word::LimitMinimumAssign
-            | Word::LimitMaximumAssign
-            | Word::LessAssign
-            | Word::GreaterAssign
-            | Word::NotEqualAssign
-            | Word::EqualAssign
-            | Word::LessOrEqualAssign
-            | Word::GreaterOrEqualAssign
-    )
-}
-
-// Whether the word is one of AND and OR.
-pub fn is_boolean(word: Word) -> bool
-    ensures { result ≡ is_boolean word }
-{
-    matches!(word, Word::And | Word::Or)
-}
-
-// Whether the word is one of `++`, `--`, `~` and `~~`.
-pub fn is_change(word: Word) -> bool
-    ensures { result ≡ is_change word }
-{
-    matches!(
-        word,
-        Word::PlusPlus | Word::MinusMinus | Word::Tilde | Word::TildeTilde
-    )
-}
-
-// Whether the word is one of the operators before a value, but for `+`.
-pub fn is_operator(word: Word) -> bool
-    ensures { result ≡ is_operator word }
-{
-    matches!(
-        word,
-        Word::Minus
-            | Word::SquareRoot
-            | Word::Absolute
-            | Word::DecodeBit
-            | Word::EncodeBit
-            | Word::Invert
-            | Word::Not
-    )
-}
-
-// Whether the word is one of COGID, CLKFREQ and CLKMODE.
-pub fn is_value(word: Word) -> bool
-    ensures { result ≡ is_value word }
-{
-    matches!(word, Word::Cogid | Word::Clkfreq | Word::Clkmode)
-}
-
-// Whether the word is one of the other built-in methods.
-pub fn is_built_in(word: Word) -> bool
-    ensures { result ≡ is_built_in word }
-{
-    matches!(
-        word,
-        Word::Cognew
-            | Word::Coginit
-            | Word::Cogstop
-            | Word::Locknew
-            | Word::Lockret
-            | Word::Lockset
-            | Word::Lockclr
-            | Word::Waitcnt
-            | Word::Waitpeq
-            | Word::Waitpne
-            | Word::Bytefill
-            | Word::Wordfill
-            | Word::Longfill
-            | Word::Bytemove
-            | Word::Wordmove
-            | Word::Longmove
-            | Word::Strsize
-            | Word::Strcomp
-    )
 }
 
 // Whether the word is one of the conditions of an instruction.

@@ -1,30 +1,16 @@
 -- What the loops over the phrases of a row do at each.
 use Rattle.std.specs.Prelude.{◌≡◌, List, ◌∷◌, Option, None, Some, true, false, refl}
 use Rattle.std.proofs.Common.{ap, sym, ◌∙◌}
-use Rattle.p8_tree.specs.Expressions.{Tree, Trees, ◌▷◌, Items, ◌▸◌, single, range}
+use Rattle.p8_tree.specs.Expressions.{Tree, Items, ◌▸◌, single, range}
 use Rattle.p8_pieces.specs.Pieces.{Piece, word, tree}
 use Rattle.p8_statements.specs.declared.role.Role.{Role}
 use Rattle.p8_statements.specs.declared.role.Role.TheVariants as role
 use Rattle.p8_statements.specs.Roles.{is_dot_dot}
 use Rattle.p8_statements.specs.Rows.{Reading, phrase}
-use Rattle.p8_statements.specs.Actions.{behind_argument, arguments_after}
 use Rattle.p8_statements.specs.Statements.{test, behind_value, tests_after}
 use Rattle.p8_statements.specs.declared.row.Row.{Row}
 use Rattle.p8_statements.specs.declared.row.Phrase.{Phrase}
-use Rattle.p8_statements.specs.Views.{rest_of, reading, phrase_of, with_argument, behind_test}
-
-abbrev arguments_by : Trees → Reading (Tree × Role) → Option Trees
-arguments_by es None = None
-arguments_by es (Some (x, row)) = behind_argument x.1 (es ▷ x.0) row (arguments_after (es ▷ x.0) row)
-
-arguments_unfold : (es : Trees) (row : List Piece) → arguments_after es row ≡ arguments_by es (phrase row)
-arguments_unfold es (tree e p ∷ word w q ∷ row) = refl
-arguments_unfold es _ = refl
-
--- what reading an argument leaves
-pub argument_read : (es : Trees) (o : Option Phrase) (row : List Piece) (rest : Row) → reading phrase_of o rest ≡ phrase row → arguments_after es row ≡ with_argument es o (rest_of rest)
-argument_read es None row rest h = arguments_unfold es row ∙ ap (arguments_by es) (sym h)
-argument_read es (Some x) row rest h = arguments_unfold es row ∙ ap (arguments_by es) (sym h)
+use Rattle.p8_statements.specs.Views.{rest_of, reading, phrase_of, behind_test}
 
 abbrev tests_by : Items → Option Tree → Reading (Tree × Role) → Option Items
 tests_by xs low None = None

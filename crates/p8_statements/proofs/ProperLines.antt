@@ -1,23 +1,21 @@
 -- Lines of a method that are read of rows whose names and expressions are proper.
-use Rattle.std.proofs.Common.{ℕ, Bool, true, false, List, ◌∷◌, Option, Some, None, refl, subst}
+use Rattle.std.proofs.Common.{◌≡◌, ℕ, Bool, true, false, List, ◌∷◌, Option, Some, None, refl, subst}
 use Rattle.std.specs.Prelude.{IsTrue, if◌then◌else◌, not, option_map, option_and_then}
 use Rattle.p8_tree.specs.declared.places.Place.{Place}
 use Rattle.p8_tree.specs.Expressions.{Tree, node, Var, Named, no_index, Items, no_items, ◌▸◌}
 use Rattle.p8_tree.specs.Statements.{Forever, Count, Before, From, Do, Next, Quit, Return, Abort}
 use Rattle.p8_tree.specs.Names.{IsVariableName}
-use Rattle.p8_tree.specs.Proper.{IfThere, IsProperTree, IsProperExpression, IsProperTest, AreProperTests, IsProperCourse, is_no_item, IsDone}
+use Rattle.p8_tree.specs.Proper.{greatest_height, IfThere, IsProperTree, IsProperExpression, IsProperTest, AreProperTests, IsProperCourse, is_no_item, IsDone}
 use Rattle.p8_columns.specs.Lines.{Plain, If, ElseIf, Else, Repeat, End, Case, Item as ItemLine, Other}
-use Rattle.p8_pieces.specs.Pieces.{Piece, word, name, tree}
+use Rattle.p8_pieces.specs.Pieces.{Piece, word, tree}
 use Rattle.p8_statements.specs.declared.role.Role.{Role}
 use Rattle.p8_statements.specs.declared.role.Role.TheVariants as role
-use Rattle.p8_statements.specs.Roles.{role_of, is_comma, is_dot_dot, is_from, is_to, is_step, begins_action}
+use Rattle.p8_statements.specs.Roles.{role_of, is_comma, is_dot_dot, is_from, is_to, is_step}
 use Rattle.p8_statements.specs.Rows.{◌▶◌, word_in, phrase, is_empty, ended, value_in}
-use Rattle.p8_statements.specs.Actions.{named_action, action}
-use Rattle.p8_statements.specs.Statements.{maybe_value, counted, counting, counter, course_by, course_before, course, test, unless_in_range, is_last_colon, tests_after, line, doing, kind_of_row}
+use Rattle.p8_statements.specs.Statements.{maybe_value, counted, counting, counter, course_by, course_before, course, test, unless_in_range, is_last_colon, tests_after, line, is_item, statement, kind_of_row}
 use Rattle.p8_pieces.specs.Proper.{AreProper}
-use Rattle.p8_statements.specs.Proper.{greatest_height, IsProperKind, KindsAreProper}
-use Rattle.p8_statements.proofs.ProperRows.{Gives, after, mapped, and_then, either, ended_gives, ending_gives, role_proper, SignIs, word_gives, PhraseIs, phrase_gives, value_gives}
-use Rattle.p8_statements.proofs.ProperActions.{named_action_gives, action_gives}
+use Rattle.p8_statements.specs.Proper.{IsProperBy, IsProperRow, IsProperKind, KindsAreProper}
+use Rattle.p8_statements.proofs.ProperRows.{Gives, after, mapped, and_then, either, ended_gives, ending_gives, SignIs, word_gives, PhraseIs, phrase_gives, value_gives}
 
 abbrev IsValue : Tree → Type 0
 IsValue e = IsProperExpression false e
@@ -107,21 +105,25 @@ line_gives role.Return row a = mapped IsProperKind (IfThere IsValue) (λ e. Plai
 line_gives role.Abort row a = mapped IsProperKind (IfThere IsValue) (λ e. Plain (Abort e)) (maybe_value row) (maybe_value_gives row a) (λ e h. h)
 line_gives r row a = tt
 
-doing_gives : (o : Option Tree) → Gives IsDone o → Gives IsProperKind (doing o)
-doing_gives o h = mapped IsProperKind IsDone (λ e. Plain (Do e)) o h (λ e x. x)
+statement_gives : (row : List Piece) → IsProperRow row → is_item row ≡ false → Gives IsProperKind (statement row)
+statement_gives (tree e p ∷ row) a h =
+    let done : IsDone e = subst (λ b. IsProperBy b e (tree e p ∷ row)) h a in
+    ending_gives IsProperKind (Plain (Do e)) row done
+statement_gives (word w p ∷ row) a h = line_gives (role_of w) row a
+statement_gives row a h = tt
 
-kind_gives : (row : List Piece) → AreProper false (greatest_height row) row → Gives IsProperKind (kind_of_row row)
-kind_gives (tree e p ∷ row) a =
-    mapped IsProperKind TestsAre ItemLine (tests_after no_items None (tree e p ∷ row)) (tests_give no_items None (tree e p ∷ row) tt tt a) (λ xs h. (h.some, h.are))
-kind_gives (name n p ∷ row) a =
-    after IsProperKind (SignIs 63) (word_in row) (λ s row. doing (named_action n p s row)) (word_gives 63 row a.1)
-    (λ s row b. doing_gives (named_action n p s row) (named_action_gives n p s row a.0 b.fits b.rest))
-kind_gives (word w p ∷ row) a = go (begins_action (role_of w)) a
+item_gives : (row : List Piece) → IsProperRow row → is_item row ≡ true → Gives IsProperKind (option_map ItemLine (tests_after no_items None row))
+item_gives (tree e p ∷ row) a h =
+    let b : AreProper false greatest_height (tree e p ∷ row) = subst (λ b. IsProperBy b e (tree e p ∷ row)) h a in
+    mapped IsProperKind TestsAre ItemLine (tests_after no_items None (tree e p ∷ row)) (tests_give no_items None (tree e p ∷ row) tt tt b) (λ xs h. (h.some, h.are))
+item_gives row a h = absurd cc
+
+kind_gives : (row : List Piece) → IsProperRow row → Gives IsProperKind (kind_of_row row)
+kind_gives row a = go (is_item row) refl
   where
-    go : (b : Bool) → AreProper false (if b then 63 else 64) row → Gives IsProperKind (if b then doing (action (role_of w) p row) else line (role_of w) row)
-    go true a = doing_gives (action (role_of w) p row) (action_gives (role_of w) p row (role_proper w) a)
-    go false a = line_gives (role_of w) row a
-kind_gives row a = tt
+    go : (b : Bool) → is_item row ≡ b → Gives IsProperKind (if b then option_map ItemLine (tests_after no_items None row) else statement row)
+    go true h = item_gives row a h
+    go false h = statement_gives row a h
 
 pub kinds_proper : KindsAreProper
 kinds_proper row k a e = subst (Gives IsProperKind) e (kind_gives row a)

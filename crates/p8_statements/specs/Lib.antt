@@ -1,8 +1,6 @@
 -- What public contracts cite.
 pub mod Roles
 pub mod Rows
-pub mod Variables
-pub mod Actions
 pub mod Statements
 pub mod Proper
 -- internal: what the code's values stand for.

@@ -1,21 +1,20 @@
 -- What a line of a method satisfies whose names and expressions are proper.
 use Rattle.std.specs.Prelude.{◌≡◌, ℕ, Bool, true, false, if◌then◌else◌, not, IsTrue, List, ◌∷◌, Some}
-use Rattle.p8_tree.specs.Proper.{IsProperExpression, IsProperAction, IsProperCourse, AreProperTests, is_no_item}
+use Rattle.p8_tree.specs.Expressions.{Tree}
+use Rattle.p8_tree.specs.Proper.{greatest_height, IsDone, IsProperExpression, IsProperAction, IsProperCourse, AreProperTests, is_no_item}
 use Rattle.p8_columns.specs.Lines.{Kind, Plain, If, ElseIf, Else, Repeat, End, Case, Item, Other}
-use Rattle.p8_pieces.specs.Pieces.{Piece, word, name}
+use Rattle.p8_pieces.specs.Pieces.{Piece, tree}
 use Rattle.p8_pieces.specs.Proper.{AreProper}
-use Rattle.p8_statements.specs.Roles.{role_of, begins_action}
-use Rattle.p8_statements.specs.Statements.{kind_of_row}
+use Rattle.p8_statements.specs.Statements.{is_item, kind_of_row}
 
--- whether a line is an action
-abbrev pub is_action : List Piece → Bool
-is_action (name n p ∷ row) = true
-is_action (word w p ∷ row) = begins_action (role_of w)
-is_action row = false
+-- the pieces of a line of a method: its names and expressions are proper, and the tree of an action is that of one
+abbrev pub IsProperBy : (item : Bool) → Tree → List Piece → Type 0
+IsProperBy true e row = AreProper false greatest_height row
+IsProperBy false e row = IsDone e
 
--- how high the expressions of a line may be: an action's own tree is higher than its parts
-abbrev pub greatest_height : List Piece → ℕ
-greatest_height row = if is_action row then 63 else 64
+abbrev pub IsProperRow : List Piece → Type 0
+IsProperRow (tree e p ∷ row) = IsProperBy (is_item (tree e p ∷ row)) e (tree e p ∷ row)
+IsProperRow row = AreProper false greatest_height row
 
 abbrev pub IsProperKind : Kind → Type 0
 IsProperKind (Plain action) = IsProperAction action
@@ -30,4 +29,4 @@ IsProperKind Other = Unit {0}
 
 -- a line of proper pieces is proper
 abbrev pub KindsAreProper : Type 0
-KindsAreProper = (row : List Piece) (k : Kind) → AreProper false (greatest_height row) row → kind_of_row row ≡ Some k → IsProperKind k
+KindsAreProper = (row : List Piece) (k : Kind) → IsProperRow row → kind_of_row row ≡ Some k → IsProperKind k

@@ -3,10 +3,10 @@ use Rattle.std.specs.Prelude.{ℕ, Bool, true, false, if◌then◌else◌, List,
 use Rattle.p8_tree.specs.declared.places.Place.{Place}
 use Rattle.p8_tree.specs.Expressions.{Tree}
 use Rattle.p8_lexer.specs.declared.word.Word.{Word}
-use Rattle.p8_pieces.specs.Pieces.{Piece, word, name, tree}
+use Rattle.p8_pieces.specs.Pieces.{Piece, word, tree}
 use Rattle.p8_statements.specs.declared.role.Role.{Role}
 use Rattle.p8_statements.specs.declared.row.Sign.{Sign}
-use Rattle.p8_statements.specs.Roles.{role_of, is_right_bracket, is_line_end}
+use Rattle.p8_statements.specs.Roles.{role_of, is_line_end}
 
 abbrev pub Reading : Type 0 → Type 0
 Reading X = Option (X × List Piece)
@@ -32,10 +32,6 @@ sign w p = record { role = role_of w; place = p }
 abbrev pub word_in : List Piece → Reading Sign
 word_in (word w p ∷ row) = Some (sign w p, row)
 word_in _ = None
-
-abbrev pub name_in : List Piece → Reading (List ℕ × Place)
-name_in (name n p ∷ row) = Some ((n, p), row)
-name_in _ = None
 
 -- an expression, and the word after it
 abbrev pub phrase : List Piece → Reading (Tree × Role)
@@ -65,7 +61,3 @@ ending x row = if ends row then Some x else None
 -- e up to the end of the line
 abbrev pub value_in : List Piece → Option Tree
 value_in row = phrase row ▶ λ x row. ended x.0 x.1 row
-
--- e]
-abbrev pub up_to_bracket : List Piece → Reading Tree
-up_to_bracket row = phrase row ▶ λ x row. if is_right_bracket x.1 then Some (x.0, row) else None

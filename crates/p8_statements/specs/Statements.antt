@@ -1,17 +1,16 @@
 -- What a line of a method is, by its row of pieces (Propeller Manual v1.2, "Spin Language Reference": IF, CASE,
 -- REPEAT, NEXT, QUIT, RETURN, ABORT, and the entries of the built-in methods). A row ends with the end of its
 -- line, an item of a CASE and its OTHER with the colon.
-use Rattle.std.specs.Prelude.{ℕ, Bool, true, false, if◌then◌else◌, List, ◌∷◌, Option, None, Some, option_map, option_and_then}
+use Rattle.std.specs.Prelude.{ℕ, Bool, true, false, if◌then◌else◌, not, List, ◌∷◌, Option, None, Some, option_map, option_and_then}
 use Rattle.p8_tree.specs.declared.places.Place.{Place}
 use Rattle.p8_tree.specs.Expressions.{Tree, node, Var, Named, no_index, Item, single, range, Items, no_items, ◌▸◌}
 use Rattle.p8_tree.specs.Statements.{Course, Forever, Count, Before, From, Do, Next, Quit, Return, Abort}
 use Rattle.p8_columns.specs.Lines.{Kind, Plain, If, ElseIf, Else, Repeat, End, Case, Item as ItemLine, Other}
-use Rattle.p8_pieces.specs.Pieces.{Piece, word, name, tree}
+use Rattle.p8_pieces.specs.Pieces.{Piece, word, tree}
 use Rattle.p8_statements.specs.declared.role.Role.{Role}
 use Rattle.p8_statements.specs.declared.role.Role.TheVariants as role
-use Rattle.p8_statements.specs.Roles.{role_of, is_comma, is_dot_dot, is_colon, is_from, is_to, is_step, begins_action}
+use Rattle.p8_statements.specs.Roles.{role_of, is_comma, is_dot_dot, is_colon, is_from, is_to, is_step, is_line_end}
 use Rattle.p8_statements.specs.Rows.{◌▶◌, word_in, phrase, is_empty, ended, ending, value_in}
-use Rattle.p8_statements.specs.Actions.{named_action, action}
 
 -- what stands after RETURN and ABORT: a value, or nothing
 abbrev pub maybe_value : List Piece → Option (Option Tree)
@@ -93,22 +92,15 @@ line role.Return row = option_map (λ e. Plain (Return e)) (maybe_value row)
 line role.Abort row = option_map (λ e. Plain (Abort e)) (maybe_value row)
 line _ row = None
 
-abbrev pub doing : Option Tree → Option Kind
-doing o = option_map (λ e. Plain (Do e)) o
-
--- the line that begins with a word
-abbrev pub kind_by : Role → Place → List Piece → Option Kind
-kind_by r p row = if begins_action r then doing (action r p row) else line r row
-
--- an item of a CASE begins with an expression
+-- an item of a CASE begins with an expression, after which the line doesn't end
 abbrev pub is_item : List Piece → Bool
-is_item (tree e p ∷ row) = true
+is_item (tree e p ∷ word w q ∷ row) = not (is_line_end (role_of w))
 is_item _ = false
 
--- a line that begins with a word or a name
+-- a line that begins with a word of its own, or an action
 abbrev pub statement : List Piece → Option Kind
-statement (word w p ∷ row) = kind_by (role_of w) p row
-statement (name n p ∷ row) = word_in row ▶ λ s row. doing (named_action n p s row)
+statement (word w p ∷ row) = line (role_of w) row
+statement (tree e p ∷ row) = ending (Plain (Do e)) row
 statement _ = None
 
 -- what a line is; none where its row is no line of a method

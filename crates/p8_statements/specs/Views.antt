@@ -1,20 +1,15 @@
 -- internal: what the code's values stand for.
 use Rattle.std.specs.Prelude.{if◌then◌else◌, List, Option, None, Some, option_map}
-use Rattle.p8_tree.specs.declared.expressions.Expr as expr
-use Rattle.p8_tree.specs.Expressions.{Tree, Index, no_index, index, Variable, Trees, ◌▷◌, Items, ◌▸◌}
-use Rattle.p8_tree.specs.Views.{tree_of, variable_of, item_of}
+use Rattle.p8_tree.specs.Expressions.{Tree, Items, ◌▸◌}
+use Rattle.p8_tree.specs.Views.{tree_of, item_of}
 use Rattle.std.specs.Vec.Iter.{into_iter_items}
 use Rattle.p8_pieces.specs.Pieces.{Piece, pieces_of}
 use Rattle.p8_statements.specs.declared.role.Role.{Role}
-use Rattle.p8_statements.specs.declared.row.Sign.{Sign}
 use Rattle.p8_statements.specs.declared.row.Row.{Row}
 use Rattle.p8_statements.specs.declared.row.Phrase.{Phrase}
-use Rattle.p8_statements.specs.declared.variables.Indexed.{Indexed}
-use Rattle.p8_statements.specs.declared.variables.Found.{Found}
 use Rattle.p8_statements.specs.declared.statements.Tested.{Tested}
 use Rattle.p8_statements.specs.Roles.{is_comma}
 use Rattle.p8_statements.specs.Rows.{Reading}
-use Rattle.p8_statements.specs.Actions.{behind_argument, arguments_after}
 use Rattle.p8_statements.specs.Statements.{is_last_colon, tests_after}
 
 -- what is left of a row
@@ -27,21 +22,6 @@ reading view o r = option_map (λ x. (view x, rest_of r)) o
 
 abbrev pub phrase_of : Phrase → Tree × Role
 phrase_of x = (tree_of x.tree, x.behind)
-
-abbrev pub index_for : Option expr.Expr → Index
-index_for None = no_index
-index_for (Some e) = index (tree_of e)
-
-abbrev pub indexed_of : Indexed → Index × Sign
-indexed_of x = (index_for x.index, x.behind)
-
-abbrev pub found_of : Found → Variable × Sign
-found_of x = (variable_of x.target, x.behind)
-
--- what the arguments are from here on, where this is the next one, if any
-abbrev pub with_argument : Trees → Option Phrase → List Piece → Option Trees
-with_argument es None row = None
-with_argument es (Some x) row = behind_argument x.behind (es ▷ tree_of x.tree) row (arguments_after (es ▷ tree_of x.tree) row)
 
 -- what stands after a test: a further one, or the end
 abbrev pub behind_test : Role → Items → List Piece → Option Items → Option Items

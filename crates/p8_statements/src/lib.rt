@@ -1,12 +1,10 @@
 //! Statements: what a line of a method is, by its row of pieces.
 #![tactic(auto)]
 
-mod actions;
 mod laws;
 mod role;
 mod row;
 mod statements;
-mod variables;
 
 pub use laws::kinds_are_proper;
 pub use statements::line_kind;

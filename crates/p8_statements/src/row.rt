@@ -2,13 +2,13 @@
 ghost use Rattle.std.specs.Prelude.{◌≡◌, [], ◌∷◌, MatchOption, option_map};
 ghost use Rattle.p8_tree.specs.Views.{tree_of};
 ghost use Rattle.p8_pieces.specs.Pieces.{piece_of, pieces_of, tree};
-ghost use Rattle.p8_statements.specs.Rows.{sign, word_in, name_in, phrase, is_empty, is_end, ended, ends, value_in, up_to_bracket};
+ghost use Rattle.p8_statements.specs.Rows.{sign, word_in, phrase, is_empty, is_end, ended, ends, value_in};
 ghost use Rattle.p8_statements.specs.Views.{rest_of, reading, phrase_of};
 
 use crate::role::{Role, role_of};
 use p8_lexer::Word;
 use p8_pieces::Piece;
-use p8_tree::{Expr, Place, Text};
+use p8_tree::{Expr, Place};
 use std::vec::IntoIter;
 
 /// What a word is to a statement, with its place.
@@ -94,18 +94,6 @@ impl Row {
         }
     }
 
-    pub fn name(&mut self) -> Option<(Text, Place)>
-        ensures { reading (λ n. n) result self.new ≡ name_in (rest_of self.old) }
-    {
-        match self.next()? {
-            Piece::Name(name, place) => Some((name, place)),
-            other => {
-                drop(other);
-                None
-            }
-        }
-    }
-
     // An expression, and the word after it.
     pub fn phrase(&mut self) -> Option<Phrase>
         ensures { reading phrase_of result self.new ≡ phrase (rest_of self.old) }
@@ -151,19 +139,6 @@ impl Row {
             Some(value)
         } else {
             drop(value);
-            None
-        }
-    }
-
-    // An expression up to `]`.
-    pub fn up_to_bracket(&mut self) -> Option<Expr>
-        ensures { reading tree_of result self.new ≡ up_to_bracket (rest_of self.old) }
-    {
-        let Phrase { tree, behind } = self.phrase()?;
-        if behind.is_right_bracket() {
-            Some(tree)
-        } else {
-            drop(tree);
             None
         }
     }

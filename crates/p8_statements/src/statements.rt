@@ -7,8 +7,7 @@ ghost use Rattle.p8_columns.specs.Views.{kind_of};
 ghost use Rattle.p8_columns.specs.Lines as lines;
 ghost use Rattle.p8_pieces.specs.Pieces.{pieces_of};
 ghost use Rattle.p8_statements.specs.Rows.{◌▶◌, word_in, phrase, is_empty, ended, ending, value_in};
-ghost use Rattle.p8_statements.specs.Actions.{named_action};
-ghost use Rattle.p8_statements.specs.Statements.{maybe_value, counted, counting, counter, course_by, course_before, course, tests_after, line, doing, is_last_colon, other_line, kind_by, is_item, statement, kind_of_row};
+ghost use Rattle.p8_statements.specs.Statements.{maybe_value, counted, counting, counter, course_by, course_before, course, tests_after, line, is_last_colon, other_line, is_item, statement, kind_of_row};
 ghost use Rattle.p8_statements.specs.Views.{rest_of, with_test};
 
 use crate::role::{Role, role_of};
@@ -22,7 +21,7 @@ use std::alloc::{AllocError, Global};
 /// What a line of a method is, by its row of pieces; none where no line has such a row.
 ///
 /// A row ends with the end of its line, an item of a `CASE` and its `OTHER` with the colon. A name
-/// alone is read as a variable: that it is a call is told later. Want of memory is the only error, and
+/// alone is a variable's tree: that it is a call is told later. Want of memory is the only error, and
 /// may come at any point. Source: Propeller Manual v1.2, "Spin Language Reference".
 pub fn line_kind(alloc: Global, pieces: Vec<Piece>) -> Result<Option<LineKind>, NoMemory>
     ensures { IfOk result (λ o. option_map kind_of o ≡ kind_of_row (pieces_of pieces.items)) }
@@ -32,7 +31,7 @@ pub fn line_kind(alloc: Global, pieces: Vec<Piece>) -> Result<Option<LineKind>, 
     if is_item {
         row.item(alloc)
     } else {
-        row.statement(alloc)
+        Ok(row.statement())
     }
 }
 
@@ -40,8 +39,8 @@ pub fn line_kind(alloc: Global, pieces: Vec<Piece>) -> Result<Option<LineKind>, 
 fn is_item(pieces: &[Piece]) -> bool
     ensures { result ≡ is_item (pieces_of pieces.now) }
 {
-    match pieces.first() {
-        Some(Piece::Tree(_, _)) => true,
+    match pieces {
+        [Piece::Tree(_, _), Piece::Word(word, _), ..] => !role_of(*word).is_line_end(),
         _ => false,
     }
 }
@@ -77,13 +76,6 @@ fn name_alone(target: Target) -> Option<(Text, Place)>
             None
         }
     }
-}
-
-// The line that does this.
-fn doing(tree: Option<Expr>) -> Option<LineKind>
-    ensures { option_map kind_of result ≡ doing (option_map tree_of tree) }
-{
-    Some(LineKind::Plain(Action::Do(tree?)))
 }
 
 /// A test of an item, and the word after it.
@@ -424,49 +416,17 @@ impl Row {
         }
     }
 
-    // The line that begins with a word.
-    fn kind_by(
-        &mut self,
-        alloc: Global,
-        role: Role,
-        place: Place,
-    ) -> Result<Option<LineKind>, NoMemory>
-        ensures { IfOk result (λ o. option_map kind_of o ≡ kind_by role place (rest_of self.old)) }
+    // A line that begins with a word of its own, or an action.
+    fn statement(&mut self) -> Option<LineKind>
+        ensures { option_map kind_of result ≡ statement (rest_of self.old) }
     {
-        if role.begins_action() {
-            Ok(doing(self.action(alloc, role, place)?))
-        } else {
-            Ok(self.line(role))
-        }
-    }
-
-    // A line that begins with a name.
-    fn kind_named(
-        &mut self,
-        alloc: Global,
-        name: Text,
-        place: Place,
-    ) -> Result<Option<LineKind>, NoMemory>
-        ensures { IfOk result (λ o. option_map kind_of o ≡ (word_in (rest_of self.old) ▶ λ s row. doing (named_action name place s row))) }
-    {
-        match self.word() {
-            Some(sign) => Ok(doing(self.named_action(alloc, name, place, sign)?)),
-            None => Ok(None),
-        }
-    }
-
-    // A line that begins with a word or a name.
-    fn statement(&mut self, alloc: Global) -> Result<Option<LineKind>, NoMemory>
-        ensures { IfOk result (λ o. option_map kind_of o ≡ statement (rest_of self.old)) }
-    {
-        match self.next() {
-            Some(Piece::Word(word, place)) => self.kind_by(alloc, role_of(word), place),
-            Some(Piece::Name(name, place)) => self.kind_named(alloc, name, place),
-            Some(other) => {
+        match self.next()? {
+            Piece::Word(word, _) => self.line(role_of(word)),
+            Piece::Tree(tree, _) => self.ending(LineKind::Plain(Action::Do(tree))),
+            other => {
                 drop(other);
-                Ok(None)
+                None
             }
-            None => Ok(None),
         }
     }
 }

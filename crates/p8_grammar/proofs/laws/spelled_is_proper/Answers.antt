@@ -1,5 +1,8 @@
-use Rattle.p8_grammar.proofs.Proper.{spelled_proper}
+use Rattle.p8_grammar.proofs.Proper.{spelled_proper, spelled_done}
 use Rattle.p8_grammar.proofs.laws.spelled_is_proper.Goals as goal
 
-pub returns : goal.returns
-returns c = λ s ts e r h. spelled_proper s ts e r h
+pub returns-clause-value : goal.returns-clause-value
+returns-clause-value c = spelled_proper
+
+pub returns-clause-action : goal.returns-clause-action
+returns-clause-action c = spelled_done

@@ -37,7 +37,7 @@ step-requires c =
     record {
       within = still_within (length c.args.tokens.now) c.steps.end c.steps.here c.steps.invariant.ended unended;
       unended = unended;
-      fits = fits_there (setting_of c.setting.result) c.setting.ensures c.steps.invariant.goes;
+      fits = fits_there (setting_of c.setting-setting.result) c.setting-setting.ensures c.steps.invariant.goes;
     }
 
 pub returns : goal.returns
@@ -54,7 +54,7 @@ pub returns-in_err-next-clause-refused : goal.returns-in_err-next-clause-refused
 returns-in_err-next-clause-refused c =
     let bytes = c.args.bytes.now in
     let tokens = c.args.tokens.now in
-    let P : ParseFault → Type 0 = λ f. Stops (setting_of c.setting.result) c.place_at.result c.steps.here (tokens_from bytes tokens c.steps.end) f.number f.place in
+    let P : ParseFault → Type 0 = λ f. Stops (setting_of c.setting-setting.result) c.steps.here (tokens_from bytes tokens c.steps.end) f.number f.place in
     let Q : ParseFault → Type 0 = λ f. Reads c.args.state (tokens_from bytes tokens c.args.at) (refused f.number f.place) in
     let stops : IfErr c.from_residual.result (IfRefused P) = first_of (search rules, grind (arith, common_steps)) in
-    err_so P Q (λ f x. line_refused bytes tokens c.args.at c.steps.end c.args.state c.steps.here (pieces_of c.steps.pieces.items) (setting_of c.setting.result) c.place_at.result f.number f.place c.requires c.setting.ensures c.place_at.ensures c.steps.invariant.goes x) c.from_residual.result stops
+    err_so P Q (λ f x. line_refused bytes tokens c.args.at c.steps.end c.args.state c.steps.here (pieces_of c.steps.pieces.items) (setting_of c.setting-setting.result) f.number f.place c.requires c.setting-setting.ensures c.steps.invariant.goes x) c.from_residual.result stops

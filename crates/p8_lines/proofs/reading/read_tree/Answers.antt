@@ -1,15 +1,14 @@
 use Rattle.p8_tree.specs.Views.{tree_of}
 use Rattle.p8_grammar.specs.Views.{setting_of}
-use Rattle.p8_expr.specs.Parsing.{IsFault}
+use Rattle.p8_expr.specs.Parsing.{greatest_height, IsFault}
 use Rattle.p8_lines.proofs.Steps.{parses_within, tree_refused, is_refused}
 use Rattle.p8_lines.proofs.reading.read_tree.Goals as goal
 
 pub returns-in-Ok-clause-within : goal.returns-in-Ok-clause-within
-returns-in-Ok-clause-within c = parses_within (setting_of c.args.setting) c.height_at.result c.args.bytes.now c.args.tokens.now c.args.at c.in-Ok.read.1 (tree_of c.in-Ok.read.0) c.requires.within c.in-Ok.ensures.read
+returns-in-Ok-clause-within c = parses_within (setting_of c.args.setting) greatest_height c.args.bytes.now c.args.tokens.now c.args.at c.in-Ok.read.1 (tree_of c.in-Ok.read.0) c.requires.within c.in-Ok.ensures.read
 
 pub returns-in-Err-Refused-clause-stops : goal.returns-in-Err-Refused-clause-stops
 returns-in-Err-Refused-clause-stops c =
-    tree_refused (setting_of c.args.line.setting) c.args.line.place c.args.bytes.now c.args.tokens.now c.args.at c.args.state (setting_of c.args.setting) c.height_at.result c.is_inner.result c.in-Err-Refused.fault c.told.result.number c.told.result.place
-    c.requires.within c.requires.expects c.height_at.ensures.is c.is_inner.ensures c.requires.fits c.requires.alone
-    (is_refused (IsFault (setting_of c.args.setting) c.height_at.result c.args.bytes.now c.args.tokens.now c.args.at) c.in-Err-Refused.field-0 c.in-Err-Refused.fault c.in-Err-Refused.field-0-is c.in-Err-Refused.ensures.refused)
-    c.told.ensures.number c.told.ensures.place
+    tree_refused (setting_of c.args.line) c.args.bytes.now c.args.tokens.now c.args.at c.args.state (setting_of c.args.setting) c.in-Err-Refused.fault
+    c.requires.within c.requires.expects c.requires.fits c.requires.alone
+    (is_refused (IsFault (setting_of c.args.setting) greatest_height c.args.bytes.now c.args.tokens.now c.args.at) c.in-Err-Refused.field-0 c.in-Err-Refused.fault c.in-Err-Refused.field-0-is c.in-Err-Refused.ensures.refused)
