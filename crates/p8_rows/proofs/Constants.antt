@@ -8,7 +8,8 @@ use Rattle.p8_lines.specs.declared.state.State.TheVariants as state
 use Rattle.p8_declarations.specs.Parts.{Part, line_end, equals, hash, left_bracket, part_of_piece, is_line_end, ended}
 use Rattle.p8_declarations.specs.Constants.{setting, constant, constants, constants_named, constants_behind, constants_of_row}
 use Rattle.p8_rows.specs.Values.{HaveValues}
-use Rattle.p8_rows.proofs.Following.{Has, found, is_closed, Keeps, holds}
+use Rattle.p8_rows.proofs.Closed.{is_closed}
+use Rattle.p8_rows.proofs.Following.{Has, found, Keeps, both, holds}
 use Rattle.p8_rows.proofs.DeclarationWords.{Each, each, with}
 
 abbrev own : State → Bool
@@ -58,14 +59,11 @@ keeps state.ConName ps h = record {
 }
 keeps state.ConValue ps h = record {
   arrows = tt;
-  phrase = (
-    ((λ y e p. ((λ p. with (setting p e) (y.0)), (λ n p. with (constant n p (Some e) None) (y.0)))), ((λ y e p. ((λ p. with (setting p e) (over ps y)), (λ n p. with (constant n p (Some e) None) (over ps y)))), tt)),
-    ((λ y e p. ((λ p. with (setting p e) (y.0)), (λ n p. with (constant n p (Some e) None) (y.0)))), ((λ y e p. ((λ p. with (setting p e) (over ps y)), (λ n p. with (constant n p (Some e) None) (over ps y)))), tt)),
-  );
+  phrase = both part_of_piece Each Goal state.ConValue ps (λ b. ((λ y e p k. ((λ p. with (setting p e) (y.0)), (λ n p. with (constant n p (Some e) None) (y.0)))), ((λ y e p k. ((λ p. with (setting p e) (over ps y)), (λ n p. with (constant n p (Some e) None) (over ps y)))), tt)));
 }
 keeps state.ConStep ps h = record {
   arrows = tt;
-  phrase = (((λ y e p n q. with (constant n q None (Some e)) y), tt), ((λ y e p n q. with (constant n q None (Some e)) y), tt));
+  phrase = both part_of_piece Each Goal state.ConStep ps (λ b. ((λ y e p k n q. with (constant n q None (Some e)) y), tt));
 }
 keeps state.ConMore ps h = record {
   arrows = ((λ y. y.0), ((λ y. over ps y), tt));

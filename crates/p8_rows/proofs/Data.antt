@@ -20,7 +20,8 @@ use Rattle.p8_data.specs.Lines as stages
 use Rattle.p8_data.specs.Lines.{local, value, before, behind, open_bracket, datum, items, all_items, bare, effects, direct, immediate, label, behind_hash, source, operands, filled, instruction, body, blank, line, maybe_line, line_of_row}
 use Rattle.p8_rows.proofs.DataMade.{Facts, IsLabel, plain, behind_colon, IsSize, IsDatum, AreData, IsCondition, a_condition, no_condition, effects_number, IsEffects, some_effects, IsFlags, some_flags, sixteen, IsInstruction, two, on_memory, one, call, of_data, of_org, of_res, of_fit, of_instruction, IsLine, label_alone, with_contents}
 use Rattle.p8_rows.proofs.DataMade as made
-use Rattle.p8_rows.proofs.DataWords.{Has, found, mapped, AreKnown, is_closed, Keeps, holds}
+use Rattle.p8_rows.proofs.Closed.{is_closed}
+use Rattle.p8_rows.proofs.DataWords.{Has, found, mapped, AreKnown, Keeps, holds}
 
 abbrev own : State → Bool
 own state.End = true

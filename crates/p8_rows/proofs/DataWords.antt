@@ -21,9 +21,9 @@ use Rattle.p8_lines.specs.Diagram.{Phrase, choices}
 use Rattle.p8_lines.specs.Tokens as tokens
 use Rattle.p8_lines.specs.Tokens.{LineToken, string_length, piece}
 use Rattle.p8_lines.specs.Lines.{Follows, here, further, is_name, behind, Row, over, token, phrase}
-use Rattle.p8_lines.proofs.Arrows.{all_good, all_good_behind, taken, taken_behind}
 use Rattle.p8_lines.proofs.Lexemes.{is_plain}
 use Rattle.p8_data.specs.Parts.{Part, line_end, colon, comma, hash, left_bracket, right_bracket, size, org, res, fit, condition, effect, jump, other, name, text, tree, part_of_word, part_of_piece}
+use Rattle.p8_rows.proofs.Closed.{is_closed, halves, own_next, own_behind}
 use Rattle.p8_rows.proofs.Pieces.{word_piece, name_piece, text_piece}
 use Rattle.p8_rows.proofs.DataMade.{Facts, IsSize, byte_size, word_size, long_size, condition_number}
 
@@ -142,10 +142,6 @@ unfolding part_of_word
 one p word.Clkset = refl
 one p w = refl
 
-pub halves : (a b : Bool) → IsTrue (if a then b else false) → (a ≡ true) × (b ≡ true)
-halves true b h = (refl, h)
-halves false b h = absurd cc
-
 class_kind : (class : Word → Bool) (kind : Part → Bool) → ((p : Place) (w : Word) → IsTrue (are class kind p w)) → (p : Place) (w : Word) → IsTrue (class w) → IsTrue (is_plain w) × IsTrue (kind (part_of_word w p))
 class_kind class kind all p w m =
     halves (is_plain w) (kind (part_of_word w p)) (subst (λ b. IsTrue (if b then (if is_plain w then kind (part_of_word w p) else false) else true)) m (all p w))
@@ -252,15 +248,6 @@ each F sign.Flag R t m s y = flagged F R t (tokens.word t) refl m y
 each F sign.Write R t m s y = write_set F R t (tokens.word t) refl m y
 each F x R t m s y = y (part_of_piece (piece t))
 
--- Some states, to which no others lead
-
-abbrev all_own : (State → Bool) → Option Phrase → Bool
-all_own own None = true
-all_own own (Some h) = all_good_behind (λ a. own a.to) h
-
-abbrev pub is_closed : (State → Bool) → State → Bool
-is_closed own q = if own q then (if all_good (λ a. own a.to) (choices q).arrows then all_own own (choices q).phrase else false) else true
-
 -- what arrows owe, and what a state does
 
 abbrev pub Owes : Facts → (State → List Part → Type 0) → List Part → (Part → Type 0) → List Arrow → Type 0
@@ -289,23 +276,9 @@ behind_phrase : (F : Facts) (Goal : State → List Part → Type 0) (q : State) 
 behind_phrase F Goal q ps h us f s owes y = by_arrow F Goal ps (λ x. (e : Tree) (p : Place) → F.IsValue h.setting e → Goal q (tree e p ∷ x ∷ ps)) f s (pick F Goal ps (λ x. (e : Tree) (p : Place) → F.IsValue h.setting e → Goal q (tree e p ∷ x ∷ ps)) h (is_name us) owes.0 owes.1) y
 
 module _ (F : Facts) (own : State → Bool) (closed : (q : State) → IsTrue (is_closed own q)) (Goal : State → List Part → Type 0) (at_end : Goal state.End []) (keeps : (q : State) (ps : List Part) → IsTrue (own q) → Keeps F Goal q ps) where
-  own_choices : (q : State) → IsTrue (own q) → (all_good (λ a. own a.to) (choices q).arrows ≡ true) × (all_own own (choices q).phrase ≡ true)
-  own_choices q h = halves (all_good (λ a. own a.to) (choices q).arrows) (all_own own (choices q).phrase) (subst (λ b. IsTrue (if b then (if all_good (λ a. own a.to) (choices q).arrows then all_own own (choices q).phrase else false) else true)) h (closed q))
-
-  own_next : (q r : State) (t : LineToken) → Follows (choices q).arrows t r → IsTrue (own q) → IsTrue (own r)
-  own_next q r t f h =
-      let x = taken (λ a. own a.to) f ((own_choices q h).0) in
-      subst (λ r. IsTrue (own r)) x.goes x.good
-
-  own_behind : (q r : State) (h : Phrase) (us : List LineToken) (t : LineToken) → (choices q).phrase ≡ Some h → Follows (behind h us) t r → IsTrue (own q) → IsTrue (own r)
-  own_behind q r h us t e f y =
-      let good : IsTrue (all_good_behind (λ a. own a.to) h) = subst (λ o. IsTrue (all_own own o)) e ((own_choices q y).1) in
-      let x = taken_behind (λ a. own a.to) h us f good in
-      subst (λ r. IsTrue (own r)) x.goes x.good
-
   pub holds : {q : State} {row : List Piece} {ts : List LineToken} → Row q row ts → AreKnown F row → IsTrue (own q) → Goal q (map part_of_piece row)
   holds over a h = at_end
   holds (token {q = q} {r = r} {row = row} {t = t} f y) a h =
-      by_arrow F Goal (map part_of_piece row) (λ x. Goal q (x ∷ map part_of_piece row)) f a.0 ((keeps q (map part_of_piece row) h).arrows) (holds y a.1 (own_next q r t f h))
+      by_arrow F Goal (map part_of_piece row) (λ x. Goal q (x ∷ map part_of_piece row)) f a.0 ((keeps q (map part_of_piece row) h).arrows) (holds y a.1 (own_next own closed q r t f h))
   holds (phrase {q = q} {r = r} {h = p} {e = e} {row = row} {first = first} {t = t} others some is f y) a h =
-      behind_phrase F Goal q (map part_of_piece row) p (first ∷ others) f a.1.0 (subst (λ o. OwesBehind F Goal q (map part_of_piece row) o) some ((keeps q (map part_of_piece row) h).phrase)) (holds y a.1.1 (own_behind q r p (first ∷ others) t some f h)) e first.place (a.0 p.setting)
+      behind_phrase F Goal q (map part_of_piece row) p (first ∷ others) f a.1.0 (subst (λ o. OwesBehind F Goal q (map part_of_piece row) o) some ((keeps q (map part_of_piece row) h).phrase)) (holds y a.1.1 (own_behind own closed q r p (first ∷ others) t some f h)) e first.place (a.0 p.setting)

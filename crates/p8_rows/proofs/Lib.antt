@@ -1,4 +1,5 @@
 pub mod Pieces
+mod Closed
 mod Following
 mod DeclarationWords
 mod Constants
@@ -12,9 +13,5 @@ mod ProperData
 mod ReadProper
 mod Reading
 mod StatementPieces
-mod StatementRows
-mod StatementGoals
-mod Actions
 mod StatementLines
 mod StatementReads
-mod Assignments

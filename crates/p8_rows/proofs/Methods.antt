@@ -9,7 +9,8 @@ use Rattle.p8_declarations.specs.Parts.{Part, line_end, left_bracket, part_of_pi
 use Rattle.p8_declarations.specs.Variables.{variable, variables, variables_named, variables_behind}
 use Rattle.p8_declarations.specs.Methods.{bare, with_parameter, with_result, with_locals, behind_result, result_named, behind_parameters, parameters, behind_parameter, behind_name, head, method_of_row}
 use Rattle.p8_rows.specs.Values.{HaveValues}
-use Rattle.p8_rows.proofs.Following.{Has, found, mapped, is_closed, Keeps, holds}
+use Rattle.p8_rows.proofs.Closed.{is_closed}
+use Rattle.p8_rows.proofs.Following.{Has, found, mapped, Keeps, both, holds}
 use Rattle.p8_rows.proofs.DeclarationWords.{Each, each, with}
 use Rattle.p8_rows.proofs.Variables.{over}
 
@@ -76,7 +77,7 @@ keeps public state.LocalNamed ps h = record {
 }
 keeps public state.LocalCount ps h = record {
   arrows = tt;
-  phrase = (((λ y e p n q. with (variable 4 n q (Some e)) y), tt), ((λ y e p n q. with (variable 4 n q (Some e)) y), tt));
+  phrase = both part_of_piece Each (Goal public) state.LocalCount ps (λ b. ((λ y e p k n q. with (variable 4 n q (Some e)) y), tt));
 }
 keeps public state.MoreLocals ps h = record { arrows = ((λ y. y), ((λ y. over ps y), tt)); phrase = tt }
 keeps public q ps h = absurd cc

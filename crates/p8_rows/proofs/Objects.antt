@@ -8,7 +8,8 @@ use Rattle.p8_lines.specs.declared.state.State.TheVariants as state
 use Rattle.p8_declarations.specs.Parts.{Part, line_end, left_bracket, right_bracket, text, tree, part_of_piece, is_line_end}
 use Rattle.p8_declarations.specs.Objects.{child, in_file, object_named, object, alone, objects_of_row}
 use Rattle.p8_rows.specs.Values.{HaveValues}
-use Rattle.p8_rows.proofs.Following.{Has, found, is_closed, Keeps, holds}
+use Rattle.p8_rows.proofs.Closed.{is_closed}
+use Rattle.p8_rows.proofs.Following.{Has, found, Keeps, both, holds}
 use Rattle.p8_rows.proofs.DeclarationWords.{Each, each}
 
 abbrev own : State → Bool
@@ -52,7 +53,7 @@ keeps state.ObjLine ps h = record { arrows = ((λ y n p. y n p), tt); phrase = t
 keeps state.ObjNamed ps h = record { arrows = ((λ y n p. y n p), ((λ y n p. y n p None), tt)); phrase = tt }
 keeps state.ObjCount ps h = record {
   arrows = tt;
-  phrase = (((λ y e p n q. y n q e), tt), ((λ y e p n q. y n q e), tt));
+  phrase = both part_of_piece Each Goal state.ObjCount ps (λ b. ((λ y e p k n q. y n q e), tt));
 }
 keeps state.ObjColon ps h = record { arrows = ((λ y n p e. y n p (Some e)), tt); phrase = tt }
 keeps state.ObjFile ps h = record { arrows = ((λ y t q n p c. in_text n p c t q ps y), tt); phrase = tt }

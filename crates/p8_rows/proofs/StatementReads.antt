@@ -10,8 +10,7 @@ use Rattle.p8_lines.specs.Lines.{read, Reads, line}
 use Rattle.p8_statements.specs.Statements.{kind_of_row}
 use Rattle.p8_rows.specs.Values.{HaveKinds, suits, begins_line}
 use Rattle.p8_lines.proofs.Readings.{leads_row}
-use Rattle.p8_rows.proofs.StatementGoals.{HasKind}
-use Rattle.p8_rows.proofs.StatementLines.{statements_have_kinds, chain_lines_have_kinds, loop_ends_have_kinds, case_items_have_kinds}
+use Rattle.p8_rows.proofs.StatementLines.{HasKind, statements_have_kinds, chain_lines_have_kinds, loop_ends_have_kinds, case_items_have_kinds}
 
 kinds : (q : State) → IsTrue (begins_line q) → HaveKinds kind_of_row q
 kinds state.Statement h = statements_have_kinds

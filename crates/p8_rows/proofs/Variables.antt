@@ -8,7 +8,8 @@ use Rattle.p8_lines.specs.declared.state.State.TheVariants as state
 use Rattle.p8_declarations.specs.Parts.{Part, line_end, left_bracket, part_of_piece, is_line_end, ended}
 use Rattle.p8_declarations.specs.Variables.{variable, variables, variables_named, variables_behind, sized_variables, variables_of_row}
 use Rattle.p8_rows.specs.Values.{HaveValues}
-use Rattle.p8_rows.proofs.Following.{Has, found, is_closed, Keeps, holds}
+use Rattle.p8_rows.proofs.Closed.{is_closed}
+use Rattle.p8_rows.proofs.Following.{Has, found, Keeps, both, holds}
 use Rattle.p8_rows.proofs.DeclarationWords.{Each, each, with}
 
 abbrev own : State → Bool
@@ -53,7 +54,7 @@ keeps state.VarNamed ps h = record {
 }
 keeps state.VarCount ps h = record {
   arrows = tt;
-  phrase = (((λ y e p s n q. with (variable s n q (Some e)) (y s)), tt), ((λ y e p s n q. with (variable s n q (Some e)) (y s)), tt));
+  phrase = both part_of_piece Each Goal state.VarCount ps (λ b. ((λ y e p k s n q. with (variable s n q (Some e)) (y s)), tt));
 }
 keeps state.VarMore ps h = record { arrows = ((λ y s. y s), ((λ y s. over ps y), tt)); phrase = tt }
 keeps q ps h = absurd cc

@@ -1,4 +1,3 @@
 -- What public contracts cite.
 pub mod Values
-pub mod Agreement
 pub mod Proper

@@ -1,5 +1,5 @@
 -- Lines whose names, strings and expressions are proper: those that are read of proper tokens are.
-use Rattle.std.specs.Prelude.{◌≡◌, Bool, true, false, List, Some}
+use Rattle.std.specs.Prelude.{◌≡◌, Bool, true, List, Some}
 use Rattle.p8_tree.specs.Sources.{Line}
 use Rattle.p8_tree.specs.Proper.{IsProperLine}
 use Rattle.p8_grammar.specs.Lexemes.{is_dat}
@@ -11,7 +11,7 @@ use Rattle.p8_lines.specs.declared.state.State.TheVariants as state
 use Rattle.p8_lines.specs.Diagram.{setting_at}
 use Rattle.p8_lines.specs.Tokens.{LineToken, terms}
 use Rattle.p8_lines.specs.Lines.{Row, Leads}
-use Rattle.p8_statements.specs.Proper.{greatest_height}
+use Rattle.p8_statements.specs.Proper.{IsProperRow}
 use Rattle.p8_data.specs.Lines.{line_of_row}
 
 -- whether a state is one of a line of DAT
@@ -22,9 +22,9 @@ is_in_dat q = is_dat (setting_at q)
 abbrev pub RowsAreProper : State → Bool → Type 0
 RowsAreProper q dat = (us : List LineToken) (row : List Piece) → Leads q us row state.End → grammar.AreProper (terms us) → AreProper dat 64 row
 
--- and those of an action are low enough for its own tree
+-- and so are those of a line of a method, but that the tree of an action is that of one
 abbrev pub MethodRowsAreProper : State → Type 0
-MethodRowsAreProper q = (us : List LineToken) (row : List Piece) → Leads q us row state.End → grammar.AreProper (terms us) → AreProper false (greatest_height row) row
+MethodRowsAreProper q = (us : List LineToken) (row : List Piece) → Leads q us row state.End → grammar.AreProper (terms us) → IsProperRow row
 
 -- each line of DAT from this state on is proper, where its pieces are
 abbrev pub LinesAreProper : State → Type 0

@@ -1,5 +1,5 @@
 // What the calls of this crate rest on: each line has a value.
-ghost use Rattle.std.specs.Prelude.{Bool, IsTrue};
+ghost use Rattle.std.specs.Prelude.{◌≢◌, Bool, IsTrue};
 ghost use Rattle.p8_lines.specs.declared.state.State as line_state;
 ghost use Rattle.p8_lines.specs.declared.state.State.TheVariants as state_case;
 ghost use Rattle.p8_declarations.specs.Constants.{constants_of_row};
@@ -44,10 +44,10 @@ pub fn data_have_values()
     ensures line { HaveValues line_of_row state_case.DatLine }
 {}
 
-/// The pieces of a line are proper, where its tokens are; in a method they are low enough for the tree
-/// of an action, too.
+/// The pieces of a line are proper, where its tokens are, and a line of a method that is an action is
+/// a proper one: an action stands at the beginning of a statement alone.
 pub fn rows_are_proper()
-    ensures pieces { (q : line_state.State) → RowsAreProper q (is_in_dat q) }
+    ensures pieces { (q : line_state.State) → q ≢ state_case.Statement → RowsAreProper q (is_in_dat q) }
     ensures actions { (q : line_state.State) → IsTrue (begins_line q) → MethodRowsAreProper q }
 {
     p8_grammar::spelled_is_proper();

@@ -1,12 +1,10 @@
 //! Lines of each kind of block, read to what they say.
 #![tactic(auto)]
 
-mod agreement;
 mod declarations;
 mod laws;
 mod statements;
 
-pub use agreement::assignments_agree;
 pub use declarations::{read_constants, read_data, read_method, read_objects, read_variables};
 pub use laws::{
     case_items_have_kinds, chain_lines_have_kinds, constants_have_values, data_are_proper,
