@@ -11,8 +11,8 @@ use Rattle.p8_commands.specs.declared.table.Subcommand.{Subcommand}
 use Rattle.p8_commands.specs.declared.table.Subcommand.TheVariants as named
 use Rattle.p8_commands.specs.declared.kind.ImageKind.{ImageKind}
 use Rattle.p8_commands.specs.Kinds.{kind_named}
-use Rattle.p8_commands.specs.Numbers.{is_digit, number_of, number_from, range_of, refusal_of, most_clocks, most_turns, usual_turns, most_saved_turns, last_pin, least_bits, most_bits, most_seed}
-use Rattle.p8_commands.specs.Pins.{mask_of, span_of}
+use Rattle.p8_commands.specs.Numbers.{is_digit, number_of, number_from, range_of, cog_of, refusal_of, most_clocks, most_turns, usual_turns, most_saved_turns, last_pin, least_bits, most_bits, most_seed}
+use Rattle.p8_commands.specs.Pins.{mask_of, span_by, span_of}
 use Rattle.p8_commands.specs.Table.{entry_of, app_for, subcommand_named}
 
 -- a run: its file, the clock before which it ends, the file of a pin script, if any, how many turns it makes at most, and the
@@ -24,13 +24,19 @@ pub record Running : Type 0 where
   pub turns : ℕ
   pub dump : Option (ℕ × ℕ)
 
+-- what is to be dumped: a range of hub RAM, or what has a name in the program
+pub data Dump : Type 0 where
+  RangeOf : ℕ × ℕ → Dump
+  Named : (name : List ℕ) → Dump
+
 -- A command: to write the image of a source, its listing or its map; to explain why a source is refused, or a refusal by its number; to run hub
 -- memory, or an image or a source; to save the history of a run, or to check one; to read the bytes that stand on a pin of a run, with so many clocks a
 -- bit, or to write a pin script that sends the bytes of a file from a clock on; to write the wave of a run, of all that it has or of what changes, or of
--- its pins and locks alone; to draw some pins of a run, by their mask, from one clock on and before another; to write an image as the other kind of
--- file; to run the made program of a seed; or to tell a command or all of them. A run is made by one thread alone, or by a crew of eight. Where it says
--- whether it is raw, what is run is hub memory where it is, and else an image or a source. Where it says whether it is short, a source has its short
--- code where it is.
+-- its pins and locks alone; to draw some pins of a run, by their mask, from one clock on and before another; to show a run for reading, all turns or
+-- those of one cog or those that change pins, from one clock on and before another, or none of them, and then what holds in the end, with a dump; to
+-- write an image as the other kind of file; to run the made program of a seed; or to tell a command or all of them. A run is made by one thread alone,
+-- or by a crew of eight. Where it says whether it is raw, what is run is hub memory where it is, and else an image or a source. Where it says whether
+-- it is short, a source has its short code where it is.
 pub data Command : Type 0 where
   BuildSource : (short : Bool) (file : List ℕ) → Command
   ListSource : (short : Bool) (file : List ℕ) → Command
@@ -45,6 +51,7 @@ pub data Command : Type 0 where
   TypeFile : (file : List ℕ) (pin bits start : ℕ) → Command
   Wave : (alone raw all pins_only : Bool) (run : Running) → Command
   Plot : (alone raw ascii : Bool) (run : Running) (pins from to : ℕ) → Command
+  ViewRun : (raw pins_only quiet : Bool) (run : Running) (cog : Option ℕ) (from to : ℕ) (dump : Option Dump) → Command
   Convert : ImageKind → (file : List ℕ) → Command
   Make : (alone : Bool) (seed : ℕ) → Command
   Help : (topic : Option Subcommand) → Command
@@ -64,10 +71,10 @@ explains command = false
 
 -- ---- the meaning of each entry, by the value of each argument that has one
 
--- how many turns a run makes at most, by the value of `--turns`, where so many may be asked for and so many are usual
-abbrev pub turns_by : (most usual : ℕ) → Option Text → Option ℕ
-turns_by most usual None = Some usual
-turns_by most usual (Some value) = number_of most value
+-- the number that the value of an option says, which is at most a limit; the usual one where that isn't given
+abbrev pub number_by : (most usual : ℕ) → Option Text → Option ℕ
+number_by most usual None = Some usual
+number_by most usual (Some value) = number_of most value
 
 -- the range to dump, by the value of `--dump`; none where that isn't given
 abbrev pub dump_by : Option Text → Option (Option (ℕ × ℕ))
@@ -79,11 +86,11 @@ run_by (Some file) (Some clocks) script (Some turns) (Some dump) =
     Some (record { file = file; clocks = clocks; script = script; turns = turns; dump = dump })
 run_by _ _ script _ _ = None
 
--- a run by the arguments that every run has, with the value of `--dump`, if any
+-- a run by the arguments that every run has, with the value of `--dump`, if any; `most` turns may be asked for, and `usual` are where none is
 abbrev pub run_of : (most usual : ℕ) → (dump : Option Text) → (Text → Option Text) → Option Running
 run_of most usual dump value =
     run_by (value (codes "FILE")) (option_and_then (number_of most_clocks) (value (codes "CLOCKS")))
-    (value (codes "pins")) (turns_by most usual (value (codes "turns"))) (dump_by dump)
+    (value (codes "pins")) (number_by most usual (value (codes "turns"))) (dump_by dump)
 
 -- a run that is traced, one that is saved, and one of which another thing is told
 abbrev pub traced_of : (Text → Option Text) → Option Running
@@ -149,6 +156,33 @@ plot_of value =
     plot_by (has_flag (codes "alone") value) (has_flag (codes "raw") value) (has_flag (codes "ascii") value)
     (told_of value) (option_and_then mask_of (value (codes "PINS"))) (value (codes "FROM:TO"))
 
+-- the cog that is shown, by the value of `--cog`; all of them where that isn't given
+abbrev pub cog_by : Option Text → Option (Option ℕ)
+cog_by None = Some None
+cog_by (Some value) = option_map Some (cog_of value)
+
+-- the clocks that are shown of a run with so many, by the values of `--from` and `--to`
+abbrev pub shown_by : (clocks : ℕ) → (from to : Option Text) → Option (ℕ × ℕ)
+shown_by clocks from to = span_by (number_by clocks 0 from) (number_by clocks clocks to)
+
+-- what is dumped in the end of a view, by the value of `--dump`: `A:N` is a range, and any other word a name
+abbrev pub dumped_by : Text → Option (ℕ × ℕ) → Dump
+dumped_by word (Some range) = RangeOf range
+dumped_by word None = Named word
+
+abbrev pub dumped_of : Option Text → Option Dump
+dumped_of value = option_map (λ word. dumped_by word (range_of word)) value
+
+abbrev pub view_by : (raw pins_only quiet : Bool) → Option Running → (cog : Option (Option ℕ)) → (from to dump : Option Text) → Option Command
+view_by raw pins_only quiet (Some run) (Some cog) from to dump =
+    option_map (λ shown. ViewRun raw pins_only quiet run cog shown.0 shown.1 (dumped_of dump)) (shown_by run.clocks from to)
+view_by raw pins_only quiet _ _ from to dump = None
+
+abbrev pub view_of : (Text → Option Text) → Option Command
+view_of value =
+    view_by (has_flag (codes "raw") value) (has_flag (codes "pins-only") value) (has_flag (codes "quiet") value)
+    (told_of value) (cog_by (value (codes "cog"))) (value (codes "from")) (value (codes "to")) (value (codes "dump"))
+
 -- what is to be explained: a word of digits alone is the number of a refusal, and never a file
 abbrev pub explain_of : Text → Option Command
 explain_of word = if list_all is_digit word then option_map ExplainNumber (refusal_of word) else Some (ExplainFile word)
@@ -180,6 +214,7 @@ meaning_of named.Wave value =
     option_map (Wave (has_flag (codes "alone") value) (has_flag (codes "raw") value) (has_flag (codes "all") value) (has_flag (codes "pins-only") value))
     (told_of value)
 meaning_of named.Plot value = plot_of value
+meaning_of named.View value = view_of value
 meaning_of named.Convert value = option_and_then convert_of (value (codes "FILE"))
 meaning_of named.Make value = option_map (Make (has_flag (codes "alone") value)) (seed_of value)
 meaning_of named.Help value = option_map Help (topic_of (value (codes "COMMAND")))

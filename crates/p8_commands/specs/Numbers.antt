@@ -29,6 +29,11 @@ number_of limit text =
 abbrev pub number_from : (least limit : ℕ) → List ℕ → Option ℕ
 number_from least limit text = option_and_then (λ number. if nat_le least number then Some number else None) (number_of limit text)
 
+-- the one digit of a cog
+abbrev pub cog_of : List ℕ → Option ℕ
+cog_of (code ∷ []) = if nat_le 48 code && nat_le code 55 then Some (code - 48) else None
+cog_of _ = None
+
 -- the number of a refusal, of one or two decimal digits
 abbrev pub refusal_of : List ℕ → Option ℕ
 refusal_of text = if nat_le (length text) 2 then number_from 1 last_refusal text else None
@@ -84,6 +89,10 @@ most_saved_turns = 40000
 -- the number of the last pin
 abbrev pub last_pin : ℕ
 last_pin = 31
+
+-- the number of the last cog
+abbrev pub last_cog : ℕ
+last_cog = 7
 
 -- how many clocks a bit has at least and at most
 abbrev pub least_bits : ℕ

@@ -1,15 +1,18 @@
 -- internal
 -- The table and the command of the words, as the code has them.
 use Rattle.std.specs.Prelude.{ℕ, ◌≤◌, Option, Some, None, map}
+use Rattle.std.specs.Option.{ForSome}
 use Rattle.p8_commands.specs.declared.table.Argument.{Argument as ArgumentHeld}
 use Rattle.p8_commands.specs.declared.table.Row.{Row}
 use Rattle.p8_commands.specs.declared.command.Command.{Command as CommandRead}
 use Rattle.p8_commands.specs.declared.command.Command.TheVariants as read
 use Rattle.p8_commands.specs.declared.command.Run.{Run as RunRead}
-use Rattle.p8_commands.specs.Commands.{Command, Running, BuildSource, ListSource, MapSource, ExplainFile, ExplainNumber, RunMemory, RunProgram, Save, Check, Serial, TypeFile, Wave, Plot, Convert, Make, Help}
+use Rattle.p8_commands.specs.declared.command.Dump.{Dump as DumpRead}
+use Rattle.p8_commands.specs.declared.command.Dump.TheVariants as dumped
+use Rattle.p8_commands.specs.Commands.{Command, Dump, RangeOf, Named, Running, BuildSource, ListSource, MapSource, ExplainFile, ExplainNumber, RunMemory, RunProgram, Save, Check, Serial, TypeFile, Wave, Plot, ViewRun, Convert, Make, Help}
 use Rattle.p8_commands.specs.Table.{Argument, Entry}
 use Rattle.p8_commands.specs.Naming.{name_of}
-use Rattle.p8_commands.specs.Numbers.{most_clocks, most_turns, most_saved_turns, last_pin, last_refusal, least_bits, most_bits}
+use Rattle.p8_commands.specs.Numbers.{most_clocks, most_turns, most_saved_turns, last_cog, last_pin, last_refusal, least_bits, most_bits}
 use Rattle.p8_commands.specs.Ranges.{IsInRam}
 
 abbrev pub argument_of : ArgumentHeld → Argument
@@ -20,6 +23,14 @@ entry_in row = record { word = row.word.now; arguments = map argument_of row.arg
 
 abbrev pub running : RunRead → Running
 running run = record { file = run.file.now; clocks = run.clocks; script = name_of run.script; turns = run.turns; dump = run.dump }
+
+abbrev pub dump_read : DumpRead → Dump
+dump_read (dumped.Range range) = RangeOf range
+dump_read (dumped.Name name) = Named name.now
+
+abbrev pub dump_if_any : Option DumpRead → Option Dump
+dump_if_any None = None
+dump_if_any (Some dump) = Some (dump_read dump)
 
 abbrev pub command_read : CommandRead → Command
 command_read (read.Build short file) = BuildSource short file.now
@@ -35,6 +46,7 @@ command_read (read.Serial raw run pin bits) = Serial raw (running run) pin bits
 command_read (read.TypeFile file pin bits start) = TypeFile file.now pin bits start
 command_read (read.Wave alone raw all pins_only run) = Wave alone raw all pins_only (running run)
 command_read (read.Plot alone raw ascii run pins from to) = Plot alone raw ascii (running run) pins from to
+command_read (read.View raw pins_only quiet run cog from to dump) = ViewRun raw pins_only quiet (running run) cog from to (dump_if_any dump)
 command_read (read.Convert kind file) = Convert kind file.now
 command_read (read.Make seed alone) = Make alone seed
 command_read (read.Help topic) = Help topic
@@ -54,6 +66,10 @@ IsWithin run = (run.clocks ≤ most_clocks) × (run.turns ≤ most_turns) × IsI
 abbrev pub IsOnPin : (pin bits : ℕ) → Type 0
 IsOnPin pin bits = (pin ≤ last_pin) × (least_bits ≤ bits) × (bits ≤ most_bits)
 
+abbrev pub IsDumpInRam : Option DumpRead → Type 0
+IsDumpInRam (Some (dumped.Range range)) = IsInRam (Some range)
+IsDumpInRam _ = Unit {0}
+
 abbrev pub HasLimits : CommandRead → Type 0
 HasLimits (read.Raw run) = IsWithin run
 HasLimits (read.Run alone short run) = IsWithin run
@@ -61,6 +77,7 @@ HasLimits (read.Save raw run) = IsWithin run × (run.turns ≤ most_saved_turns)
 HasLimits (read.Serial raw run pin bits) = IsWithin run × IsOnPin pin bits
 HasLimits (read.Wave alone raw all pins_only run) = IsWithin run
 HasLimits (read.Plot alone raw ascii run pins from to) = IsWithin run
+HasLimits (read.View raw pins_only quiet run cog from to dump) = IsWithin run × ForSome cog (λ number. number ≤ last_cog) × IsDumpInRam dump
 HasLimits (read.ExplainNumber number) = (1 ≤ number) × (number ≤ last_refusal)
 HasLimits (read.TypeFile file pin bits start) = IsOnPin pin bits × (1 ≤ start) × (start ≤ most_clocks)
 HasLimits _ = Unit {0}

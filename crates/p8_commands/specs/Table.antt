@@ -87,6 +87,21 @@ shown_clocks =
 abbrev pub explained : Argument
 explained = operand (codes "WORD") (codes "the top file of a project, a source in Spin; or the number of a refusal, 1 or 2 digits, from 1 to 30")
 
+abbrev pub cog : Argument
+cog = valued (codes "cog") (codes "N") (codes "shows what this cog does alone: 1 digit, from 0 to 7")
+
+abbrev pub from : Argument
+from = valued (codes "from") (codes "CLOCK") (codes "shows nothing before this clock: 1 to 10 digits, at most the clock of --to; else 0")
+
+abbrev pub to : Argument
+to = valued (codes "to") (codes "CLOCK") (codes "shows nothing at this clock or later: 1 to 10 digits, at most CLOCKS; else CLOCKS")
+
+-- a dump in the end of a view
+abbrev pub named_dump : Argument
+named_dump =
+    valued (codes "dump") (codes "A:N|NAME")
+    (codes "adds N bytes of hub RAM from the address A on, as run has it; or all of the variable or the label NAME, or of OBJECT.NAME")
+
 abbrev pub pins_only : Argument
 pins_only = flag (codes "pins-only") (codes "shows the pins and the locks alone, for readers that take no variable of more than one bit")
 
@@ -171,6 +186,14 @@ entry_of named.Plot = record {
   about = codes "Runs a file up to a clock, and draws the levels of some pins as text, a line for each pin.";
   example = codes "prop plot blink.spin 200000 16";
 }
+entry_of named.View = record {
+  word = codes "view";
+  arguments =
+      any_file ∷ clocks ∷ pins ∷ turns ∷ flag (codes "alone") (codes "changes nothing: one thread makes all turns in any case") ∷ raw ∷ cog ∷ from ∷ to
+      ∷ flag (codes "pins-only") (codes "shows what changes pins alone") ∷ flag (codes "quiet") (codes "shows no turn, and tells the end alone") ∷ named_dump ∷ [];
+  about = codes "Runs a file up to a clock, and writes its history for reading, with the names and the lines of a source, and what each cog does in the end.";
+  example = codes "prop view blink.spin 20000 --cog 1";
+}
 entry_of named.Convert = record {
   word = codes "convert";
   arguments = operand (codes "FILE") (codes "an image, whose name ends in .binary or .eeprom") ∷ [];
@@ -194,7 +217,7 @@ entry_of named.Help = record {
 abbrev pub subcommands : List Subcommand
 subcommands =
     named.Build ∷ named.List ∷ named.Map ∷ named.Explain ∷ named.Raw ∷ named.Run ∷ named.Save ∷ named.Check ∷ named.Serial ∷ named.TypeFile ∷ named.Wave
-    ∷ named.Plot ∷ named.Convert ∷ named.Make ∷ named.Help ∷ []
+    ∷ named.Plot ∷ named.View ∷ named.Convert ∷ named.Make ∷ named.Help ∷ []
 
 -- the command that a word names
 unfoldable pub subcommand_named : Text → Option Subcommand

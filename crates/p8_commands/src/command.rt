@@ -20,6 +20,15 @@ pub struct Run<'a> {
     pub dump: Option<(u16, u16)>,
 }
 
+/// What is dumped in the end of a view.
+#[derive(Clone, Copy)]
+pub enum Dump<'a> {
+    /// A range of hub RAM: an address, and how many bytes from there on.
+    Range((u16, u16)),
+    /// All of the variable or the label of this name.
+    Name(&'a str),
+}
+
 /// A command.
 #[derive(Clone, Copy)]
 pub enum Command<'a> {
@@ -114,6 +123,24 @@ pub enum Command<'a> {
         /// The clock before which it ends, at least the first one and at most the run's.
         to: u64,
     },
+    /// Writes the history of a run for reading, by one thread. What is run is hub memory where it is raw, and else an image or a source.
+    View {
+        raw: bool,
+        /// Whether it has the turns that change pins alone.
+        pins_only: bool,
+        /// Whether it has no turn at all, and what holds in the end alone.
+        quiet: bool,
+        /// The run; it has no dump of its own.
+        run: Run<'a>,
+        /// The one cog that is shown, at most 7, or None for all of them.
+        cog: Option<u8>,
+        /// The first clock that is shown.
+        from: u64,
+        /// The clock before which it ends, at least the first one and at most the run's.
+        to: u64,
+        /// What is dumped in the end.
+        dump: Option<Dump<'a>>,
+    },
     /// Writes an image of this kind as the other kind of file.
     Convert {
         kind: ImageKind,
@@ -142,7 +169,7 @@ impl Command<'_> {
             Command::Raw { .. } | Command::Run { .. } => false,
             Command::Save { .. } | Command::Check { .. } => false,
             Command::Serial { .. } | Command::TypeFile { .. } => false,
-            Command::Wave { .. } | Command::Plot { .. } => false,
+            Command::Wave { .. } | Command::Plot { .. } | Command::View { .. } => false,
             Command::Convert { .. } | Command::Make { .. } => false,
             Command::Help { .. } => false,
         }
@@ -159,6 +186,7 @@ impl Command<'_> {
             Command::Raw { .. } | Command::Save { .. } => true,
             Command::Check { .. } | Command::Convert { .. } => true,
             Command::Serial { .. } | Command::TypeFile { .. } => true,
+            Command::View { .. } => true,
             Command::Help { .. } => true,
             Command::Run { alone, .. } => alone,
             Command::Wave { alone, .. } => alone,

@@ -10,7 +10,7 @@ mod pins;
 mod table;
 mod words;
 
-pub use command::{Command, Run};
+pub use command::{Command, Dump, Run};
 pub use kind::ImageKind;
 pub use page::help_page;
 pub use table::Subcommand;

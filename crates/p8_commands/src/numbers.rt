@@ -2,8 +2,8 @@
 ghost use Rattle.std.specs.Prelude.{◌≡◌, ◌<◌, ◌≤◌, Some, None, ℕ, length, IfSome};
 ghost use Rattle.std.specs.List.{list_all};
 ghost use Rattle.std.specs.Option.{ForSome};
-ghost use Rattle.p8_commands.specs.Numbers.{number_of, number_from as number_from_of, count_of, range_of, range_by, refusal_of};
-ghost use Rattle.p8_commands.specs.Numbers.{address_by, hexadecimal_digit as hexadecimal_digit_of, is_digit, value_within, last_refusal, most_seed};
+ghost use Rattle.p8_commands.specs.Numbers.{number_of, number_from as number_from_of, count_of, range_of, range_by, cog_of, refusal_of};
+ghost use Rattle.p8_commands.specs.Numbers.{address_by, hexadecimal_digit as hexadecimal_digit_of, is_digit, value_within, last_cog, last_refusal, most_seed};
 ghost use Rattle.p8_commands.specs.Ranges.{IsInRam};
 
 /// The number of the last refusal of a source.
@@ -49,6 +49,20 @@ pub fn number_from(text: &[u8], least: u64, limit: u64) -> Option<u64>
 {
     let number = number_in(text, limit)?;
     if number < least { None } else { Some(number) }
+}
+
+/// The number of a cog, which is one digit from 0 to 7, or None for any other text.
+pub fn cog_in(text: &[u8]) -> Option<u8>
+    ensures cog { result ≡ cog_of text.now }
+    ensures within { ForSome result (λ cog. cog ≤ last_cog) }
+{
+    match text {
+        [code] => match *code {
+            b'0'..=b'7' => Some(*code - b'0'),
+            _ => None,
+        },
+        _ => None,
+    }
 }
 
 /// Whether the text is of decimal digits alone.

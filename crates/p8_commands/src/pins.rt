@@ -74,8 +74,8 @@ pub fn mask_in(text: &[u8]) -> Option<u32>
     Some(mask)
 }
 
-/// The clocks from one on and before another one.
-fn span_by(from: Option<u64>, to: Option<u64>) -> Option<(u64, u64)>
+/// The clocks from one on and before another one, or None where one of them isn't told, or the other one comes first.
+pub fn span_by(from: Option<u64>, to: Option<u64>) -> Option<(u64, u64)>
     ensures { result ≡ span_by_of from to }
 {
     let from = from?;

@@ -66,6 +66,8 @@ pub enum Subcommand {
     Wave,
     /// Draws the levels of some pins of a run.
     Plot,
+    /// Writes the history of a run for reading.
+    View,
     /// Writes an image as the other kind of file.
     Convert,
     /// Runs a made program.
@@ -228,6 +230,55 @@ const EXPLAINED: Argument = Argument {
     about: "the top file of a project, a source in Spin; or the number of a refusal, 1 or 2 digits, from 1 to 30",
 };
 
+const COG: Argument = Argument {
+    kind: ArgumentKind::Valued,
+    name: "cog",
+    value: "N",
+    about: "shows what this cog does alone: 1 digit, from 0 to 7",
+};
+
+const FROM: Argument = Argument {
+    kind: ArgumentKind::Valued,
+    name: "from",
+    value: "CLOCK",
+    about: "shows nothing before this clock: 1 to 10 digits, at most the clock of --to; else 0",
+};
+
+const TO: Argument = Argument {
+    kind: ArgumentKind::Valued,
+    name: "to",
+    value: "CLOCK",
+    about: "shows nothing at this clock or later: 1 to 10 digits, at most CLOCKS; else CLOCKS",
+};
+
+const CHANGES_OF_PINS: Argument = Argument {
+    kind: ArgumentKind::Flag,
+    name: "pins-only",
+    value: "",
+    about: "shows what changes pins alone",
+};
+
+const QUIET: Argument = Argument {
+    kind: ArgumentKind::Flag,
+    name: "quiet",
+    value: "",
+    about: "shows no turn, and tells the end alone",
+};
+
+const ALONE_IN_ANY_CASE: Argument = Argument {
+    kind: ArgumentKind::Flag,
+    name: "alone",
+    value: "",
+    about: "changes nothing: one thread makes all turns in any case",
+};
+
+const NAMED_DUMP: Argument = Argument {
+    kind: ArgumentKind::Valued,
+    name: "dump",
+    value: "A:N|NAME",
+    about: "adds N bytes of hub RAM from the address A on, as run has it; or all of the variable or the label NAME, or of OBJECT.NAME",
+};
+
 const MESSAGE_FILE: Argument = Argument {
     kind: ArgumentKind::Operand,
     name: "FILE",
@@ -274,6 +325,7 @@ impl Subcommand {
             Subcommand::TypeFile,
             Subcommand::Wave,
             Subcommand::Plot,
+            Subcommand::View,
             Subcommand::Convert,
             Subcommand::Make,
             Subcommand::Help,
@@ -366,6 +418,25 @@ impl Subcommand {
                 ],
                 about: "Runs a file up to a clock, and draws the levels of some pins as text, a line for each pin.",
                 example: "prop plot blink.spin 200000 16",
+            },
+            Subcommand::View => Row {
+                word: "view",
+                arguments: &[
+                    ANY_FILE,
+                    CLOCKS,
+                    PINS,
+                    TURNS,
+                    ALONE_IN_ANY_CASE,
+                    RAW,
+                    COG,
+                    FROM,
+                    TO,
+                    CHANGES_OF_PINS,
+                    QUIET,
+                    NAMED_DUMP,
+                ],
+                about: "Runs a file up to a clock, and writes its history for reading, with the names and the lines of a source, and what each cog does in the end.",
+                example: "prop view blink.spin 20000 --cog 1",
             },
             Subcommand::Convert => Row {
                 word: "convert",

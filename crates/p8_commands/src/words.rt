@@ -2,18 +2,18 @@
 ghost use Rattle.std.specs.Prelude.{◌≡◌, ◌≤◌, Some, None, codes, map, option_map, option_and_then, string_bytes, IfOk, IfSome};
 ghost use Rattle.std.specs.Option.{ForSome};
 ghost use Rattle.clap.specs.Matches.{first_value, found_of};
-ghost use Rattle.p8_commands.specs.Commands.{command_of, said_to, meaning_of, run_of, traced_of, saved_of, turns_by};
-ghost use Rattle.p8_commands.specs.Commands.{dump_by, is_given as is_given_by, has_flag as has_flag_by, check_of, told_of, pin_of, bits_of, serial_of, type_of, program_of, plot_of, explain_of, seed_of, topic_of, convert_of};
+ghost use Rattle.p8_commands.specs.Commands.{command_of, said_to, meaning_of, run_of, traced_of, saved_of, number_by};
+ghost use Rattle.p8_commands.specs.Commands.{dump_by, is_given as is_given_by, has_flag as has_flag_by, check_of, told_of, pin_of, bits_of, serial_of, type_of, program_of, plot_of, cog_by, dumped_of, shown_by, view_of, explain_of, seed_of, topic_of, convert_of};
 ghost use Rattle.p8_commands.specs.Naming.{name_of};
-ghost use Rattle.p8_commands.specs.Numbers.{most_turns, most_saved_turns, last_pin, least_bits, most_bits};
+ghost use Rattle.p8_commands.specs.Numbers.{most_saved_turns, most_seed, most_turns, last_cog, last_pin, least_bits, most_bits};
 ghost use Rattle.p8_commands.specs.Ranges.{IsInRam};
-ghost use Rattle.p8_commands.specs.Seen.{command_if_any, run_if_any, running, IsWithin, HasLimits};
+ghost use Rattle.p8_commands.specs.Seen.{command_if_any, dump_if_any, run_if_any, running, IsDumpInRam, IsWithin, HasLimits};
 
 use crate::arguments::{command_for, matches_in};
-use crate::command::{Command, Run};
+use crate::command::{Command, Dump, Run};
 use crate::kind::ImageKind;
-use crate::numbers::{is_of_digits, number_from, number_in, range_in, refusal_in};
-use crate::pins::{LAST_PIN, mask_in, span_in};
+use crate::numbers::{cog_in, is_of_digits, number_from, number_in, range_in, refusal_in};
+use crate::pins::{LAST_PIN, mask_in, span_by, span_in};
 use crate::table::Subcommand;
 use clap::ArgMatches;
 use p8_words::NoMemory;
@@ -39,12 +39,12 @@ const MOST_BITS: u64 = 10_000;
 /// The greatest seed of a made program.
 const MOST_SEED: u64 = 4_294_967_295;
 
-/// How many turns the value of `--turns` says, at most so many, or None for another spelling. Where it has no value it is the usual number.
-fn turns_in(value: Option<&str>, most: u64, usual: u64) -> Option<u64>
-    requires most { most ≤ most_turns }
+/// The number that the value of an option says, at most so great, or None for another spelling. Where it has no value it is the usual number.
+fn number_or(value: Option<&str>, most: u64, usual: u64) -> Option<u64>
+    requires most { most ≤ most_seed }
     requires usual { usual ≤ most }
-    ensures turns { result ≡ turns_by most usual (name_of value.entry) }
-    ensures within { ForSome result (λ turns. turns ≤ most) }
+    ensures number { result ≡ number_by most usual (name_of value.entry) }
+    ensures within { ForSome result (λ number. number ≤ most) }
 {
     match value {
         None => Some(usual),
@@ -79,7 +79,7 @@ fn run_in<'a>(
 {
     let file = matches.get_str("FILE")?;
     let clocks = number_in(matches.get_str("CLOCKS")?.as_bytes(), MOST_CLOCKS)?;
-    let turns = turns_in(matches.get_str("turns"), most, usual)?;
+    let turns = number_or(matches.get_str("turns"), most, usual)?;
     let dump = dump_in(dump)?;
     Some(Run {
         file,
@@ -221,6 +221,57 @@ fn plot_in<'a>(matches: &ArgMatches<'a>) -> Option<Command<'a>>
     })
 }
 
+/// The cog that the value of `--cog` says, or all of them where it has none, or None for another spelling.
+fn shown_cog(value: Option<&str>) -> Option<Option<u8>>
+    ensures cog { result ≡ cog_by (name_of value.entry) }
+    ensures within { IfSome result (λ cog. ForSome cog (λ number. number ≤ last_cog)) }
+{
+    match value {
+        None => Some(None),
+        Some(text) => Some(Some(cog_in(text.as_bytes())?)),
+    }
+}
+
+/// The clocks that the values of `--from` and `--to` say of a run with so many, or None for another spelling.
+fn shown_clocks(from: Option<&str>, to: Option<&str>, clocks: u64) -> Option<(u64, u64)>
+    requires { clocks ≤ most_seed }
+    ensures { result ≡ shown_by clocks (name_of from.entry) (name_of to.entry) }
+{
+    span_by(number_or(from, clocks, 0), number_or(to, clocks, clocks))
+}
+
+/// What the value of `--dump` says is dumped in the end of a view: `A:N` is a range, and any other word a name.
+fn dumped_by(value: Option<&str>) -> Option<Dump<'_>>
+    ensures dump { dump_if_any result ≡ dumped_of (name_of value.entry) }
+    ensures in_ram { IsDumpInRam result }
+{
+    let word = value?;
+    match range_in(word.as_bytes()) {
+        Some(range) => Some(Dump::Range(range)),
+        None => Some(Dump::Name(word)),
+    }
+}
+
+/// The command to show a run, or None where a value has another spelling.
+fn view_in<'a>(matches: &ArgMatches<'a>) -> Option<Command<'a>>
+    ensures seen { command_if_any result ≡ view_of (first_value (found_of matches.now)) }
+    ensures within { IfSome result HasLimits }
+{
+    let run = told_in(matches)?;
+    let cog = shown_cog(matches.get_str("cog"))?;
+    let (from, to) = shown_clocks(matches.get_str("from"), matches.get_str("to"), run.clocks)?;
+    Some(Command::View {
+        raw: has_flag(matches, "raw"),
+        pins_only: has_flag(matches, "pins-only"),
+        quiet: has_flag(matches, "quiet"),
+        run,
+        cog,
+        from,
+        to,
+        dump: dumped_by(matches.get_str("dump")),
+    })
+}
+
 /// The command to explain what a word names, or None where it is of digits and not the number of a refusal.
 fn explain_in(word: &str) -> Option<Command<'_>>
     ensures seen { command_if_any result ≡ explain_of word.now }
@@ -304,6 +355,7 @@ fn meaning_in<'a>(command: Subcommand, matches: &ArgMatches<'a>) -> Option<Comma
             run: told_in(matches)?,
         }),
         Subcommand::Plot => plot_in(matches),
+        Subcommand::View => view_in(matches),
         Subcommand::Convert => convert_in(matches.get_str("FILE")?),
         Subcommand::Make => Some(Command::Make {
             seed: seed_in(matches)?,
