@@ -1,5 +1,6 @@
 -- Ranges of the hub, each with a text.
 use Rattle.std.specs.Prelude.{ℕ, suc, ◌-◌, ◌<◌, ◌≤◌, ◌&&◌, ◌||◌, nat_le, nat_lt, if◌then◌else◌, Bool, List, [], ◌∷◌, ◌++◌, Option, Some, None, option_map, slice_get}
+use Rattle.std.specs.Str.{str_eq_ignore_ascii_case}
 use Rattle.std.proofs.Props.{props}
 use Rattle.p8_legend.specs.declared.ranges.Found.{Found}
 use Rattle.p8_legend.specs.declared.ranges.Range.{Range}
@@ -44,3 +45,8 @@ text_or (Some text) = text
 
 abbrev pub text_of : List (List ℕ) → (number : ℕ) → List ℕ
 text_of texts number = text_or (slice_get texts number)
+
+-- the address of the first range with this text, in letters of either case, and how many bytes it has
+abbrev pub range_named : List Range → List (List ℕ) → (name : List ℕ) → Option (ℕ × ℕ)
+range_named (r ∷ ranges) (text ∷ texts) name = if str_eq_ignore_ascii_case text name then Some (r.address, r.end - r.address) else range_named ranges texts name
+range_named _ _ name = None

@@ -1,6 +1,7 @@
 // The legend of a program.
 ghost use Rattle.std.specs.Prelude.{◌≡◌, ◌++◌, [], OnOk};
 ghost use Rattle.p8_legend.specs.Legends.{address_text, offset_text, place_text};
+ghost use Rattle.p8_legend.specs.Ranges.{range_named};
 
 use crate::ranges::Ranges;
 use itoa::Buffer;
@@ -43,6 +44,14 @@ impl Legend {
                 push_offset(out, found.offset)
             }
         }
+    }
+
+    /// The address of the variable, the label or the method's code of this name, and how many bytes it has. Letters in either case are the
+    /// same. Of names that stand more than once it is the first one, in the order of addresses; none where there is none.
+    pub fn range_of(&self, name: &[u8]) -> Option<(u16, u16)>
+        ensures { result ≡ range_named self.now.names.ranges self.now.names.texts name.now }
+    {
+        self.names.range_of(name)
     }
 
     /// Appends a space and the place of the bytecode that stands at an address; nothing where none is known. The only error is want of

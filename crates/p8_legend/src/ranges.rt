@@ -1,6 +1,7 @@
 // Ranges of the hub, each with a text.
 ghost use Rattle.std.specs.Prelude.{◌≡◌, ◌≤◌, [], length, OnOk};
-ghost use Rattle.p8_legend.specs.Ranges.{AreApart, is_prop-AreApart, last_end, found_at, with_range, text_of};
+ghost use Rattle.std.specs.Str.{str_eq_ignore_ascii_case};
+ghost use Rattle.p8_legend.specs.Ranges.{AreApart, is_prop-AreApart, last_end, found_at, range_named, with_range, text_of};
 ghost use Rattle.p8_legend.specs.Finding.{Splits};
 
 use p8_tree::{List, Text};
@@ -105,4 +106,36 @@ impl Ranges {
             None => &[],
         }
     }
+
+    /// The first range with this text, where letters in either case are the same: its address, and how many bytes it has. None where no
+    /// range has this text. It takes time in proportion to the ranges.
+    pub fn range_of(&self, name: &[u8]) -> Option<(u16, u16)>
+        ensures { result ≡ range_named self.now.ranges self.now.texts name.now }
+    {
+        first_named(self.ranges.as_slice(), self.texts.as_slice(), name)
+    }
+}
+
+/// The address and the bytes of the first range with this text, letters in either case.
+fn first_named(mut ranges: &[Range], mut texts: &[Text], name: &[u8]) -> Option<(u16, u16)>
+    ensures { result ≡ range_named ranges.now texts.now name.now }
+{
+    while let [range, rest @ ..] = ranges {
+        let [text, others @ ..] = texts else {
+            return None;
+        };
+        if is_named(text.as_slice(), name) {
+            return Some((range.address, range.end.saturating_sub(range.address)));
+        }
+        ranges = rest;
+        texts = others;
+    }
+    None
+}
+
+/// Whether a text is a name, letters in either case.
+fn is_named(text: &[u8], name: &[u8]) -> bool
+    ensures { result ≡ str_eq_ignore_ascii_case text.now name.now }
+{
+    text.eq_ignore_ascii_case(name)
 }
