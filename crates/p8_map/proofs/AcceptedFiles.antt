@@ -74,14 +74,21 @@ all-files files children a h names beside by =
     let d = element a.assembled i (omega (arith, h.assembled.count)) in
     by.each i n at_n f m.0 d.0 at_f m.1 d.1 ∙ one-file files children a h i f c m.0 d.0 x at_f at_c m.1 d.1 at_x)
 
+-- the names that were found, of lists that are those of the project
+pub names-told : (files : List NamedSource) (a : Accepted) (project : IsAcceptedProject files a) → (named : List Named) → named ≡ a.named → (dats : List Dat) → dats ≡ a.assembled
+    → (names : List FileNames) → AreNamesBy files named dats names → names ≡ names_of files project.children project.is.objects.xs
+names-told files a project named named_is dats dats_are names by =
+    all-files files project.children a project.is names project.seen.one_each
+    (subst (λ (ns : List Named). AreNamesBy files ns a.assembled names) named_is (subst (λ (ds : List Dat). AreNamesBy files named ds names) dats_are by))
+
 -- the map of what an accepted project is built to
-map-is : (files : List NamedSource) (a : Accepted) → IsAcceptedProject files a → (names : List FileNames) → AreNamesBy files a.named a.assembled names
-    → (text : List ℕ) → text ≡ map_of a.built.image.file names a.built.objects → IsMapOf files text
-map-is files a project names by text told =
+pub map-told : (files : List NamedSource) (a : Accepted) (project : IsAcceptedProject files a) → (names shown : List FileNames) → names ≡ names_of files project.children project.is.objects.xs → shown ≡ names
+    → (image : List ℕ) → image ≡ a.built.image.file → (objects : List ObjectPart) → objects ≡ a.built.objects
+    → (text : List ℕ) → text ≡ map_of image shown objects → IsMapOf files text
+map-told files a project names shown named shown_are image image_is objects objects_are text told =
     let h = project.is in
-    let objects : List ObjectPart = objects_of files project.children h.objects.xs in
-    let objects_are : a.built.objects ≡ objects = h.objects.are in
-    let named : names ≡ names_of files project.children h.objects.xs = all-files files project.children a h names project.seen.one_each by in
+    let compiled : List ObjectPart = objects_of files project.children h.objects.xs in
+    let built : a.built.objects ≡ compiled = h.objects.are in
     record {
       children = project.children;
       seen = project.seen;
@@ -89,22 +96,10 @@ map-is files a project names by text told =
       each = h.objects.compiled;
       clock = h.finished.clock;
       clock_is = h.finished.is;
-      fits = subst (λ (os : List ObjectPart). FitsHub (header_by os)) objects_are h.finished.fits;
+      fits = subst (λ (os : List ObjectPart). FitsHub (header_by os)) built h.finished.fits;
       is = told
-          ∙ ap (λ (image : ImageValue). map_of image.file names a.built.objects) h.finished.image
-          ∙ ap (λ (os : List ObjectPart). map_of (image_of h.finished.clock os) names os) objects_are
-          ∙ ap (λ (ns : List FileNames). map_of (image_of h.finished.clock objects) ns objects) named;
+          ∙ ap (λ (i : List ℕ). map_of i shown objects) (image_is ∙ ap (λ (image : ImageValue). image.file) h.finished.image)
+          ∙ ap (λ (os : List ObjectPart). map_of (image_of h.finished.clock a.built.objects) shown os) (objects_are ∙ built)
+          ∙ ap (λ (os : List ObjectPart). map_of (image_of h.finished.clock os) shown compiled) built
+          ∙ ap (λ (ns : List FileNames). map_of (image_of h.finished.clock compiled) ns compiled) (shown_are ∙ named);
     }
-
--- the same, of lists that are those of the project
-pub map-told : (files : List NamedSource) (a : Accepted) → IsAcceptedProject files a → (named : List Named) → named ≡ a.named → (dats : List Dat) → dats ≡ a.assembled
-    → (names shown : List FileNames) → AreNamesBy files named dats names → shown ≡ names → (image : List ℕ) → image ≡ a.built.image.file → (objects : List ObjectPart) → objects ≡ a.built.objects
-    → (text : List ℕ) → text ≡ map_of image shown objects → IsMapOf files text
-map-told files a project named named_is dats dats_are names shown by shown_are image image_is objects objects_are text told =
-    map-is files a project names
-    (subst (λ (ns : List Named). AreNamesBy files ns a.assembled names) named_is (subst (λ (ds : List Dat). AreNamesBy files named ds names) dats_are by))
-    text
-    (told
-    ∙ ap (λ (i : List ℕ). map_of i shown objects) image_is
-    ∙ ap (λ (ns : List FileNames). map_of a.built.image.file ns objects) shown_are
-    ∙ ap (λ (os : List ObjectPart). map_of a.built.image.file names os) objects_are)

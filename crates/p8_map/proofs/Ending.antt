@@ -4,9 +4,10 @@ use Rattle.std.proofs.lemmas.List.{append-nil}
 use Rattle.p8_image.specs.declared.parts.MethodPart.{MethodPart}
 use Rattle.p8_image.specs.declared.parts.ObjectPart.{ObjectPart}
 use Rattle.p8_image.specs.declared.parts.Variable.{Variable}
+use Rattle.p8_map.specs.declared.instances.Instance.{Instance}
 use Rattle.p8_map.specs.declared.names.MethodNames.{MethodNames}
 use Rattle.p8_map.specs.declared.names.FileNames.{FileNames}
-use Rattle.p8_map.specs.Map.{child_lines, method_lines, objects_lines, sized_lines, inner_lines}
+use Rattle.p8_map.specs.Map.{child_lines, method_lines, objects_lines, sized_lines, all_inside}
 
 pub all-said : (out whole more : List ℕ) → more ≡ [] → out ++ more ≡ whole → out ≡ whole
 all-said out whole more none said = sym (append-nil out) ∙ ap (λ (rest : List ℕ). out ++ rest) (sym none) ∙ said
@@ -47,13 +48,16 @@ pub no-variable_names : (size place : ℕ) (prefix : List ℕ) (names : List (Li
 no-variable_names size place prefix [] variables few = refl
 no-variable_names size place prefix (name ∷ names) variables few = absurd (omega arith)
 
-pub no-instances : (lines : List ℕ → ℕ → ℕ → List ℕ) (sizes : List ℕ) (place : ℕ) (prefix : List ℕ) (names : List (List ℕ)) (instances : List ℕ) → length instances < 1
-    → inner_lines lines sizes place prefix names instances ≡ []
-no-instances lines sizes place prefix [] instances few = refl
-no-instances lines sizes place prefix (name ∷ names) [] few = refl
-no-instances lines sizes place prefix (name ∷ names) (f ∷ instances) few = absurd (omega arith)
+pub all-put : (all whole more : List Instance) → more ≡ [] → all ++ more ≡ whole → all ≡ whole
+all-put all whole more none put = sym (append-nil all) ∙ ap (λ (rest : List Instance). all ++ rest) (sym none) ∙ put
 
-pub no-instance_names : (lines : List ℕ → ℕ → ℕ → List ℕ) (sizes : List ℕ) (place : ℕ) (prefix : List ℕ) (names : List (List ℕ)) (instances : List ℕ) → length names < 1
-    → inner_lines lines sizes place prefix names instances ≡ []
-no-instance_names lines sizes place prefix [] instances few = refl
-no-instance_names lines sizes place prefix (name ∷ names) instances few = absurd (omega arith)
+pub no-instances : (within : List ℕ → ℕ → ℕ → List Instance) (sizes : List ℕ) (place : ℕ) (prefix : List ℕ) (names : List (List ℕ)) (instances : List ℕ) → length instances < 1
+    → all_inside within sizes place prefix names instances ≡ []
+no-instances within sizes place prefix [] instances few = refl
+no-instances within sizes place prefix (name ∷ names) [] few = refl
+no-instances within sizes place prefix (name ∷ names) (f ∷ instances) few = absurd (omega arith)
+
+pub no-instance_names : (within : List ℕ → ℕ → ℕ → List Instance) (sizes : List ℕ) (place : ℕ) (prefix : List ℕ) (names : List (List ℕ)) (instances : List ℕ) → length names < 1
+    → all_inside within sizes place prefix names instances ≡ []
+no-instance_names within sizes place prefix [] instances few = refl
+no-instance_names within sizes place prefix (name ∷ names) instances few = absurd (omega arith)

@@ -12,7 +12,7 @@ use Rattle.p8_disassembly.specs.Numerals.{hex}
 use Rattle.p8_map.specs.declared.names.LocalName.{LocalName}
 use Rattle.p8_map.specs.declared.names.MethodNames.{MethodNames}
 use Rattle.p8_map.specs.declared.names.FileNames.{FileNames}
-use Rattle.p8_map.specs.Map.{instance_lines, map_of}
+use Rattle.p8_map.specs.Map.{instances_within, map_of}
 
 abbrev local : List ℕ → ℕ → LocalName
 local name longs = record { name = name; longs = longs }
@@ -109,5 +109,5 @@ blinks : map_of header (top_names ∷ blink_names ∷ []) (top ∷ blink ∷ [])
     ∷ codes "00B4 stack"
     ∷ codes "00C8 free 32568"
     ∷ [])
-unfolding digits hex instance_lines variables_within
+unfolding digits hex instances_within variables_within
 blinks = refl

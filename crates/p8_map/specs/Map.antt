@@ -11,6 +11,7 @@ use Rattle.p8_image.specs.declared.parts.ObjectPart.{ObjectPart}
 use Rattle.p8_image.specs.Headers.{word_at}
 use Rattle.p8_image.specs.Layout.{variable_size, own_variables, codes_offset, text_size, size_of, variables_of}
 use Rattle.p8_disassembly.specs.Numerals.{hex}
+use Rattle.p8_map.specs.declared.instances.Instance.{Instance}
 use Rattle.p8_map.specs.declared.names.LocalName.{LocalName}
 use Rattle.p8_map.specs.declared.names.MethodNames.{MethodNames}
 use Rattle.p8_map.specs.declared.names.FileNames.{FileNames}
@@ -135,16 +136,52 @@ objects_lines files base (names ∷ rest) (object ∷ objects) =
     object_lines files base names object ++ objects_lines files (further base (size_of object)) rest objects
 objects_lines files base _ _ = []
 
--- ---- the instances of objects, each with its variables
+-- ---- the instances of objects that have variables
+
+-- numbers of bytes, mod 65,536
+abbrev pub low : List ℕ → List ℕ
+low numbers = map (λ (n : ℕ). n % 65536) numbers
+
+-- an instance of object f, where it has variables of its own; one that only holds others isn't told
+abbrev pub own_instance : (prefix : List ℕ) → (f place : ℕ) → List Variable → List Instance
+own_instance prefix f place [] = []
+own_instance prefix f place (v ∷ variables) = record { prefix = prefix; file = f; place = place } ∷ []
+
+-- the instances inside one, which stand one after the other, as `within` tells each with those inside it. Where there are no bytes of variables
+-- in one, nor in any inside it, nothing is told.
+abbrev pub one_inside : (within : (prefix : List ℕ) → (f place : ℕ) → List Instance) → (size place : ℕ) → (prefix name : List ℕ) → (f : ℕ) → List Instance
+one_inside within size place prefix name f = if size == 0 then [] else within (prefix ++ name ++ codes ".") f place
+
+abbrev pub all_inside : (within : (prefix : List ℕ) → (f place : ℕ) → List Instance) → (sizes : List ℕ) → (place : ℕ) → (prefix : List ℕ)
+    → (names : List (List ℕ)) → (instances : List ℕ) → List Instance
+all_inside within sizes place prefix (name ∷ names) (f ∷ instances) =
+    one_inside within (slice_index sizes f) place prefix name f ++ all_inside within sizes (further place (slice_index sizes f)) prefix names instances
+all_inside within sizes place prefix _ _ = []
+
+-- an instance whose variables begin there, and those inside it, whose variables stand after its own
+abbrev pub with_inside : (within : (prefix : List ℕ) → (f place : ℕ) → List Instance) → (sizes : List ℕ) → (prefix : List ℕ) → (f place : ℕ)
+    → Option FileNames → Option ObjectPart → List Instance
+with_inside within sizes prefix f place (Some names) (Some object) =
+    own_instance prefix f place object.variables
+    ++ all_inside within sizes (further place (own_variables object)) prefix names.instances object.instances
+with_inside within sizes prefix f place _ _ = []
+
+-- an instance of object f with those inside it, if objects stand inside each other at most so deep, where objects have so many bytes of variables
+unfoldable pub instances_within : List FileNames → List ObjectPart → (sizes : List ℕ) → (depth : ℕ) → (prefix : List ℕ) → (f place : ℕ) → List Instance
+instances_within files objects sizes zero prefix f place = []
+instances_within files objects sizes (suc depth) prefix f place =
+    with_inside (instances_within files objects sizes depth) sizes prefix f place (slice_get files f) (slice_get objects f)
+
+-- the instances of a project whose variables begin there, the top object's first
+abbrev pub instances_from : (variables_at : ℕ) → List FileNames → List ObjectPart → List Instance
+instances_from variables_at files objects = instances_within files objects (low (variables_of objects)) (length objects) [] 0 variables_at
+
+-- ---- their lines
 
 -- where objects stand, one after the other
 abbrev pub bases_from : (base : ℕ) → List ObjectPart → List ℕ
 bases_from base [] = []
 bases_from base (object ∷ objects) = base ∷ bases_from (further base (size_of object)) objects
-
--- numbers of bytes, mod 65,536
-abbrev pub low : List ℕ → List ℕ
-low numbers = map (λ (n : ℕ). n % 65536) numbers
 
 -- the file of an instance, and where its object stands
 abbrev pub instance_file : (file : List ℕ) → (base : ℕ) → List ℕ
@@ -153,11 +190,6 @@ instance_file file base = codes "* " ++ file ++ codes " " ++ hex 4 base ++ 10 �
 -- an instance: where its variables begin, what their names begin with, and its file
 abbrev pub instance_line : (place : ℕ) → (prefix file : List ℕ) → (base : ℕ) → List ℕ
 instance_line place prefix file base = hex 4 place ++ codes " instance " ++ prefix ++ instance_file file base
-
--- such a line, where the instance has variables of its own; one that only holds others has none
-abbrev pub owner_line : (place : ℕ) → (prefix file : List ℕ) → (base : ℕ) → List Variable → List ℕ
-owner_line place prefix file base [] = []
-owner_line place prefix file base (v ∷ variables) = instance_line place prefix file base
 
 -- the size of a variable's elements, and how many there are
 abbrev pub elements : Variable → List ℕ
@@ -192,31 +224,14 @@ variable_lines place prefix names variables =
     ++ sized_lines 2 (after_size 4 place variables) prefix names variables
     ++ sized_lines 1 (after_size 2 (after_size 4 place variables) variables) prefix names variables
 
--- the instances inside one, after its own variables, as `lines` tells each. Where there are no bytes of variables in one, nor in any inside
--- it, nothing is told.
-abbrev pub inner_line : (lines : (prefix : List ℕ) → (f place : ℕ) → List ℕ) → (size place : ℕ) → (prefix name : List ℕ) → (f : ℕ) → List ℕ
-inner_line lines size place prefix name f = if size == 0 then [] else lines (prefix ++ name ++ codes ".") f place
+-- an instance with its variables, where its object stands at this base
+abbrev pub lines_by : (base : ℕ) → Instance → Option FileNames → Option ObjectPart → List ℕ
+lines_by base i (Some names) (Some object) =
+    instance_line i.place i.prefix names.file base ++ variable_lines i.place i.prefix names.variables object.variables
+lines_by base i _ _ = []
 
-abbrev pub inner_lines : (lines : (prefix : List ℕ) → (f place : ℕ) → List ℕ) → (sizes : List ℕ) → (place : ℕ) → (prefix : List ℕ)
-    → (names : List (List ℕ)) → (instances : List ℕ) → List ℕ
-inner_lines lines sizes place prefix (name ∷ names) (f ∷ instances) =
-    inner_line lines (slice_index sizes f) place prefix name f ++ inner_lines lines sizes (further place (slice_index sizes f)) prefix names instances
-inner_lines lines sizes place prefix _ _ = []
-
--- an instance whose variables begin there, with those inside it, as `lines` tells each
-abbrev pub object_instance_lines : (lines : (prefix : List ℕ) → (f place : ℕ) → List ℕ) → (sizes : List ℕ) → (base place : ℕ)
-    → (prefix : List ℕ) → Option FileNames → Option ObjectPart → List ℕ
-object_instance_lines lines sizes base place prefix (Some names) (Some object) =
-    owner_line place prefix names.file base object.variables
-    ++ variable_lines place prefix names.variables object.variables
-    ++ inner_lines lines sizes (further place (own_variables object)) prefix names.instances object.instances
-object_instance_lines lines sizes base place prefix _ _ = []
-
--- an instance of object f, if objects stand inside each other at most so deep, where objects have these bases and so many bytes of variables
-unfoldable pub instance_lines : List FileNames → List ObjectPart → (bases sizes : List ℕ) → (depth : ℕ) → (prefix : List ℕ) → (f place : ℕ) → List ℕ
-instance_lines files objects bases sizes zero prefix f place = []
-instance_lines files objects bases sizes (suc depth) prefix f place =
-    object_instance_lines (instance_lines files objects bases sizes depth) sizes (slice_index bases f) place prefix (slice_get files f) (slice_get objects f)
+abbrev pub instance_lines : List FileNames → List ObjectPart → (bases : List ℕ) → Instance → List ℕ
+instance_lines files objects bases i = lines_by (slice_index bases i.file) i (slice_get files i.file) (slice_get objects i.file)
 
 -- ---- the memory after the variables
 
@@ -232,5 +247,5 @@ abbrev pub map_of : (image : List ℕ) → List FileNames → List ObjectPart �
 map_of image files objects =
     header_lines image
     ++ objects_lines files 16 files objects
-    ++ instance_lines files objects (bases_from 16 objects) (low (variables_of objects)) (length objects) [] 0 (word_at image 8)
+    ++ flat_map (instance_lines files objects (bases_from 16 objects)) (instances_from (word_at image 8) files objects)
     ++ memory_lines (word_at image 10) (word_at image 14)

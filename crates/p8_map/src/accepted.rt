@@ -1,17 +1,32 @@
 // The names of the files of an accepted project.
 ghost use Rattle.std.specs.Prelude.{◌≡◌, length, map, IfOk};
 ghost use Rattle.p8_tree.specs.Views.{named_source_of};
-ghost use Rattle.p8_map.specs.Accepting.{AreNamesBy, names_by};
+ghost use Rattle.p8_map.specs.Accepting.{AreNamesBy, IsAcceptedProject, names_by};
+ghost use Rattle.p8_map.specs.Projects.{names_of};
 
 use crate::names::FileNames;
+use p8_build::Accepted;
 use p8_dat::Dat;
 use p8_kinds::{Label, Named, consts_of};
 use p8_tree::{List, ProjectFile, Text};
 use p8_words::NoMemory;
 use std::alloc::Global;
 
+/// The names of all files of an accepted project, in the order of the files. The only error is want of memory.
+pub fn names_of_accepted(
+    alloc: Global,
+    files: &[ProjectFile],
+    accepted: &Accepted<'_>,
+) -> Result<List<FileNames>, NoMemory>
+    requires { IsAcceptedProject (map named_source_of files.now) accepted.now }
+    ensures { (project : IsAcceptedProject (map named_source_of files.now) accepted.now) → IfOk result (λ names. names ≡ names_of (map named_source_of files.now) project.children project.is.objects.xs) }
+{
+    let named = accepted.named.as_slice();
+    names_of_all(alloc, files, named, accepted.assembled.as_slice())
+}
+
 /// The names of all files, by what was found of each.
-pub(crate) fn names_of_all(
+fn names_of_all(
     alloc: Global,
     files: &[ProjectFile],
     named: &[Named<'_>],

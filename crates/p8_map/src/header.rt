@@ -11,6 +11,9 @@ use p8_words::NoMemory;
 /// How many bytes the hub's memory has.
 const HUB_BYTES: u16 = 32_768;
 
+/// Where an image's header tells the begin of the variables.
+const VBASE: u16 = 8;
+
 /// The byte at a place, or 0 where there is none.
 fn byte_at(bytes: &[u8], place: u16) -> u8
     ensures { result ≡ slice_index bytes.now place }
@@ -24,6 +27,13 @@ pub fn word_at(bytes: &[u8], place: u16) -> u16
     ensures { result ≡ word_in bytes.now place }
 {
     u16::from(byte_at(bytes, place)) + 256 * u16::from(byte_at(bytes, place + 1))
+}
+
+/// Where the variables of an image begin, as its header tells.
+pub fn variables_at(image: &[u8]) -> u16
+    ensures { result ≡ word_in image.now 8 }
+{
+    word_at(image, VBASE)
 }
 
 /// Appends the line of a field.

@@ -1,86 +1,85 @@
-// The lines of the instances of objects.
+// The instances of objects.
 ghost use Rattle.std.specs.Prelude.{◌≡◌, ◌++◌, codes, slice_get, slice_index, Some, None, MatchOption, OnOk, IfOk};
 ghost use Rattle.p8_image.specs.Layout.{own_variables as own_variables_of};
-ghost use Rattle.p8_map.specs.Map.{further as further_by, inner_line, inner_lines, instance_file, instance_line, instance_lines, owner_line, variable_lines};
+ghost use Rattle.p8_map.specs.Map.{all_inside, further as further_by, instances_from, instances_within, one_inside, own_instance};
 
 use crate::names::FileNames;
-use crate::plan::{number_at, own_variables};
-use crate::text::{further, push_place};
-use crate::variables::push_variables;
+use crate::plan::{number_at, own_variables, sizes};
+use crate::text::further;
 use p8_disassembly::push_text;
 use p8_image::{ObjectPart, Variable};
-use p8_tree::Text;
+use p8_tree::{List, Text};
 use p8_words::NoMemory;
 use std::alloc::Global;
 
-/// What is known of a project: the names of its files, their objects, where these stand, and how many bytes of variables each has with
-/// those of the objects inside it.
+/// An instance of an object that has variables of its own.
+#[derive(Drop)]
+pub struct Instance {
+    /// What the names of its variables begin with: the names of the objects on the way to it, each with `.` behind it; nothing for the top
+    /// object.
+    pub prefix: Text,
+    /// The number of its file, counted from 0 in the order of the project's files.
+    pub file: u8,
+    /// Where its variables begin.
+    pub place: u16,
+}
+
+/// What is known of a project: the names of its files, their objects, and how many bytes of variables each has with those of the objects
+/// inside it.
 #[derive(Clone, Copy)]
-pub struct Plan<'a> {
-    pub files: &'a [FileNames],
-    pub objects: &'a [ObjectPart],
-    pub bases: &'a [u16],
-    pub sizes: &'a [u16],
+struct Plan<'a> {
+    files: &'a [FileNames],
+    objects: &'a [ObjectPart],
+    sizes: &'a [u16],
 }
 
-/// Appends what the line of an instance has after what its names begin with: its file, and where its object stands.
-fn push_file(out: &mut Vec<u8>, file: &[u8], base: u16) -> Result<(), NoMemory>
-    ensures { OnOk result (out.new.items ≡ out.old.items ++ instance_file file.now base) }
+/// The instances of a project's objects that have variables of their own, in the order of addresses. `variables_at` is where variables
+/// begin; `files` are the names of the project's files and `objects` their objects, both in the order of the files, the top file's first.
+/// Addresses are told mod 65,536, which is exact in an image that fits the hub. The only error is want of memory.
+///
+/// Instances without variables inside aren't walked into. So each depth of objects inside each other has at most as many instances
+/// to be walked as there are longs of variables, however many instances the objects could make.
+pub fn instances_of(
+    alloc: Global,
+    variables_at: u16,
+    files: &[FileNames],
+    objects: &[ObjectPart],
+) -> Result<List<Instance>, NoMemory>
+    ensures { IfOk result (λ all. all ≡ instances_from variables_at files.now objects.now) }
 {
-    push_text(out, b"* ")?;
-    push_text(out, file)?;
-    push_text(out, b" ")?;
-    push_place(out, base)?;
-    push_text(out, b"\n")
+    let sizes = sizes(alloc, objects)?;
+    let plan = Plan {
+        files,
+        objects,
+        sizes: &sizes,
+    };
+    let mut all = List::new(alloc);
+    push_instance(alloc, &mut all, &plan, objects.len(), b"", 0, variables_at)?;
+    Ok(all)
 }
 
-/// Appends the line of an instance.
-fn push_instance_line(
-    out: &mut Vec<u8>,
-    place: u16,
+/// Puts an instance of the object of this number, where it has variables of its own.
+fn push_own(
+    alloc: Global,
+    all: &mut List<Instance>,
     prefix: &[u8],
-    file: &[u8],
-    base: u16,
-) -> Result<(), NoMemory>
-    ensures { OnOk result (out.new.items ≡ out.old.items ++ instance_line place prefix.now file.now base) }
-{
-    push_place(out, place)?;
-    push_text(out, b" instance ")?;
-    push_text(out, prefix)?;
-    push_file(out, file, base)
-}
-
-/// Appends the line of an instance that has variables of its own, and nothing for one that only holds others.
-fn push_owner(
-    out: &mut Vec<u8>,
+    number: u8,
     place: u16,
-    prefix: &[u8],
-    file: &[u8],
-    base: u16,
     variables: &[Variable],
 ) -> Result<(), NoMemory>
-    ensures { OnOk result (out.new.items ≡ out.old.items ++ owner_line place prefix.now file.now base variables.now) }
+    ensures { OnOk result (all.new ≡ all.old ++ own_instance prefix.now number place variables.now) }
 {
     match variables {
         [] => Ok(()),
-        [_, ..] => push_instance_line(out, place, prefix, file, base),
+        [_, ..] => {
+            all.push(Instance {
+                prefix: Text::copy_of(alloc, prefix)?,
+                file: number,
+                place,
+            })?;
+            Ok(())
+        }
     }
-}
-
-/// Appends the lines of an instance and of its own variables.
-fn push_own(
-    out: &mut Vec<u8>,
-    base: u16,
-    place: u16,
-    prefix: &[u8],
-    names: &FileNames,
-    object: &ObjectPart,
-) -> Result<(), NoMemory>
-    ensures { OnOk result (out.new.items ≡ out.old.items ++ (owner_line place prefix.now names.now.file base object.now.variables ++ variable_lines place prefix.now names.now.variables object.now.variables)) }
-{
-    let variables = object.variables.as_slice();
-    push_owner(out, place, prefix, names.file.as_slice(), base, variables)?;
-    push_variables(out, place, prefix, names.variables.as_slice(), variables)
 }
 
 /// The names of the file of this number.
@@ -116,18 +115,18 @@ fn inner_prefix(alloc: Global, prefix: &[u8], name: &Text) -> Result<Vec<u8>, No
     Ok(inner)
 }
 
-/// Appends the lines of an instance of the object of this number, whose variables begin at an address, and of those inside it.
+/// Puts an instance of the object of this number, whose variables begin at an address, and those inside it.
 #[cycle(instances)]
-pub fn push_instance(
+fn push_instance(
     alloc: Global,
-    out: &mut Vec<u8>,
+    all: &mut List<Instance>,
     plan: &Plan<'_>,
     depth: usize,
     prefix: &[u8],
     number: u8,
     place: u16,
 ) -> Result<(), NoMemory>
-    ensures { OnOk result (out.new.items ≡ out.old.items ++ instance_lines plan.now.files.now plan.now.objects.now plan.now.bases.now plan.now.sizes.now depth prefix.now number place) }
+    ensures { OnOk result (all.new ≡ all.old ++ instances_within plan.now.files.now plan.now.objects.now plan.now.sizes.now depth prefix.now number place) }
 {
     if depth == 0 {
         return Ok(());
@@ -138,12 +137,18 @@ pub fn push_instance(
     let Some(object) = object_at(plan.objects, number) else {
         return Ok(());
     };
-    let base = number_at(plan.bases, number);
     let inside = after_own(place, object);
-    push_own(out, base, place, prefix, names, object)?;
+    push_own(
+        alloc,
+        all,
+        prefix,
+        number,
+        place,
+        object.variables.as_slice(),
+    )?;
     push_inner(
         alloc,
-        out,
+        all,
         plan,
         depth - 1,
         prefix,
@@ -153,11 +158,11 @@ pub fn push_instance(
     )
 }
 
-/// Appends the lines of the instances inside one, whose variables stand one after the other.
+/// Puts the instances inside one, whose variables stand one after the other.
 #[cycle(instances)]
 fn push_inner(
     alloc: Global,
-    out: &mut Vec<u8>,
+    all: &mut List<Instance>,
     plan: &Plan<'_>,
     depth: usize,
     prefix: &[u8],
@@ -165,25 +170,25 @@ fn push_inner(
     names: &[Text],
     instances: &[u8],
 ) -> Result<(), NoMemory>
-    ensures { OnOk result (out.new.items ≡ out.old.items ++ inner_lines (instance_lines plan.now.files.now plan.now.objects.now plan.now.bases.now plan.now.sizes.now depth) plan.now.sizes.now place prefix.now names.now instances.now) }
+    ensures { OnOk result (all.new ≡ all.old ++ all_inside (instances_within plan.now.files.now plan.now.objects.now plan.now.sizes.now depth) plan.now.sizes.now place prefix.now names.now instances.now) }
 {
     let mut rest = names;
     for file in instances {
         let [name, others @ ..] = rest else {
             return Ok(());
         };
-        push_one(alloc, out, plan, depth, prefix, *file, place, name)?;
+        push_one(alloc, all, plan, depth, prefix, *file, place, name)?;
         place = further(place, u64::from(number_at(plan.sizes, *file)));
         rest = others;
     }
     Ok(())
 }
 
-/// Appends the lines of an instance inside another, where it has variables or one inside it has some.
+/// Puts an instance inside another with those inside it, where it has variables or one inside it has some.
 #[cycle(instances)]
 fn push_one(
     alloc: Global,
-    out: &mut Vec<u8>,
+    all: &mut List<Instance>,
     plan: &Plan<'_>,
     depth: usize,
     prefix: &[u8],
@@ -191,11 +196,11 @@ fn push_one(
     place: u16,
     name: &Text,
 ) -> Result<(), NoMemory>
-    ensures { OnOk result (out.new.items ≡ out.old.items ++ inner_line (instance_lines plan.now.files.now plan.now.objects.now plan.now.bases.now plan.now.sizes.now depth) (slice_index plan.now.sizes.now file) place prefix.now name.now file) }
+    ensures { OnOk result (all.new ≡ all.old ++ one_inside (instances_within plan.now.files.now plan.now.objects.now plan.now.sizes.now depth) (slice_index plan.now.sizes.now file) place prefix.now name.now file) }
 {
     if number_at(plan.sizes, file) == 0 {
         return Ok(());
     }
     let inner = inner_prefix(alloc, prefix, name)?;
-    push_instance(alloc, out, plan, depth, &inner, file, place)
+    push_instance(alloc, all, plan, depth, &inner, file, place)
 }

@@ -8,11 +8,15 @@ mod mapping;
 mod methods;
 mod names;
 mod objects;
+mod owners;
 mod plan;
 mod project;
 mod text;
 mod variables;
 
+pub use accepted::names_of_accepted;
+pub use header::variables_at;
+pub use instances::{Instance, instances_of};
 pub use mapping::map_text;
 pub use names::{FileNames, LocalName, MethodNames};
 pub use project::project_map;

@@ -9,7 +9,7 @@ ghost use Rattle.p8_build.specs.Told.{IsRefusal};
 ghost use Rattle.p8_map.specs.Projects.{IsMapOf};
 ghost use Rattle.p8_map.specs.Accepting.{IsAcceptedProject};
 
-use crate::accepted::names_of_all;
+use crate::accepted::names_of_accepted;
 use crate::mapping::map_text;
 use p8_build::{Accepted, BuildFault, FileFault, accept, told};
 use p8_kinds::Children;
@@ -66,8 +66,7 @@ fn map_accepted(
     requires { IsAcceptedProject (map named_source_of files.now) accepted.now }
     ensures { IfOk result (λ text. IsMapOf (map named_source_of files.now) text.items) }
 {
-    let named = accepted.named.as_slice();
-    let names = names_of_all(alloc, files, named, accepted.assembled.as_slice())?;
+    let names = names_of_accepted(alloc, files, accepted)?;
     let built = &accepted.built;
     map_text(
         alloc,

@@ -1,5 +1,5 @@
 use Rattle.std.proofs.Common.{◌≡◌, ◌++◌, ◌+◌, ◌*◌, drop}
-use Rattle.p8_map.specs.Map.{inner_lines, instance_lines}
+use Rattle.p8_map.specs.Map.{all_inside, instances_within}
 use Rattle.p8_map.proofs.instances.+instances.Given as goal
 
 abbrev pub decreases-push_instance : goal.decreases-push_instance
@@ -13,5 +13,5 @@ decreases-push_one l = 3 * l.depth + 1
 
 abbrev pub invariant-push_inner-loop-file : goal.invariant-push_inner-loop-file
 invariant-push_inner-loop-file l =
-    l.out.items ++ inner_lines (instance_lines l.plan.files.now l.plan.objects.now l.plan.bases.now l.plan.sizes.now l.depth) l.plan.sizes.now l.place l.prefix l.rest (drop l.file-index l.instances)
-    ≡ l.initial.out.items ++ inner_lines (instance_lines l.plan.files.now l.plan.objects.now l.plan.bases.now l.plan.sizes.now l.depth) l.plan.sizes.now l.initial.place l.prefix l.initial.rest l.instances
+    l.all ++ all_inside (instances_within l.plan.files.now l.plan.objects.now l.plan.sizes.now l.depth) l.plan.sizes.now l.place l.prefix l.rest (drop l.file-index l.instances)
+    ≡ l.initial.all ++ all_inside (instances_within l.plan.files.now l.plan.objects.now l.plan.sizes.now l.depth) l.plan.sizes.now l.initial.place l.prefix l.initial.rest l.instances

@@ -10,9 +10,9 @@ pub returns : goal.returns
 returns c =
     let files = map named_source_of c.args.files.now in
     let image = c.bytes.result.now in
-    let shown = c.as_slice-2.result.now in
-    let objects = c.as_slice-3.result.now in
+    let shown = c.as_slice.result.now in
+    let objects = c.as_slice-2.result.now in
     IfOk-weaker c.map_text.result (λ text. text.items ≡ map_of image shown objects) (λ text. IsMapOf files text.items)
-    (λ text told. map-told files c.args.accepted.now c.requires c.as_slice-named.result.now c.as_slice-named.ensures c.as_slice.result.now c.as_slice.ensures
-    c.in_ok-names.names shown c.in_ok-names.ensures c.as_slice-2.ensures image c.bytes.ensures.bytes objects c.as_slice-3.ensures text.items told)
+    (λ text told. map-told files c.args.accepted.now c.requires c.in_ok-names.names shown (c.in_ok-names.ensures c.requires) c.as_slice.ensures
+    image c.bytes.ensures.bytes objects c.as_slice-2.ensures text.items told)
     c.map_text.ensures
