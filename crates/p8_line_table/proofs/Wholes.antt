@@ -18,7 +18,7 @@ use Rattle.p8_stmt.specs.declared.code.MethodCode.{MethodCode}
 use Rattle.p8_build.specs.declared.building.Accepted.{Accepted}
 use Rattle.p8_build.specs.Parts.{data_start}
 use Rattle.p8_build.specs.Files.{CompiledFile, IsCompiled}
-use Rattle.p8_build.specs.Builds.{IsFile}
+use Rattle.p8_build.specs.Builds.{IsFile, objects_of}
 use Rattle.p8_build.specs.Phases.{compiled}
 use Rattle.p8_build.proofs.Lists.{element, same_lists}
 use Rattle.p8_image.specs.declared.parts.ObjectPart.{ObjectPart}
@@ -112,11 +112,15 @@ module _ (files : List NamedSource) (a : Accepted) (project : IsAcceptedProject 
         let mapped = length-map project.is.objects.xs (λ (x : CompiledFile). x.codes) in
         same_lists all (codes_of project.is.objects.xs) (omega (arith, long, named, counted, mapped)) one-same
 
+    pub rows-are : (objects : List ObjectPart) (codes : List (List MethodCode)) (table : LineTable) → objects ≡ a.built.objects → codes ≡ all → table.rows ≡ rows_from 0 16 objects codes
+        → table.rows ≡ rows_from 0 16 (objects_of files project.children project.is.objects.xs) (codes_of project.is.objects.xs)
+    rows-are objects codes table o c rows = rows ∙ ap₂ (rows_from 0 16) (o ∙ project.is.objects.are) (c ∙ all-same)
+
     pub is-table : (objects : List ObjectPart) (codes : List (List MethodCode)) (table : LineTable) → objects ≡ a.built.objects → codes ≡ all → table.rows ≡ rows_from 0 16 objects codes → IsLineTable files table
     is-table objects codes table o c rows = record {
       children = project.children;
       seen = project.seen;
       compiled = project.is.objects.xs;
       each = project.is.objects.compiled;
-      rows = rows ∙ ap₂ (rows_from 0 16) (o ∙ project.is.objects.are) (c ∙ all-same);
+      rows = rows-are objects codes table o c rows;
     }

@@ -6,5 +6,5 @@ mod project;
 mod rows;
 mod table;
 
-pub use project::line_table;
+pub use project::{line_table, table_of_accepted};
 pub use table::{LineTable, Row};

@@ -6,7 +6,8 @@ ghost use Rattle.p8_names.specs.Mentions.{HaveMentioned, HaveNoRing};
 ghost use Rattle.p8_build.specs.Parts.{AreProper, most_files};
 ghost use Rattle.p8_build.specs.Phases.{IfFirstRefused};
 ghost use Rattle.p8_build.specs.Told.{IsRefusal};
-ghost use Rattle.p8_line_table.specs.Rows.{IsLineTable};
+ghost use Rattle.p8_build.specs.Builds.{objects_of};
+ghost use Rattle.p8_line_table.specs.Rows.{IsLineTable, codes_of, rows_from};
 ghost use Rattle.p8_line_table.specs.Steps.{IsAcceptedProject};
 
 use crate::codes::codes_of_files;
@@ -56,18 +57,19 @@ fn table_of_files(
     ensures refused { IfErr result (IfFirstRefused (map named_source_of files.now) children.now) }
 {
     let accepted = accept(alloc, files, children)?;
-    Ok(table_of(alloc, files, &accepted)?)
+    Ok(table_of_accepted(alloc, files, &accepted)?)
 }
 
-/// The line table of an accepted project.
-fn table_of(
+/// The line table of an accepted project. The only error is want of memory.
+pub fn table_of_accepted(
     alloc: Global,
     files: &[ProjectFile],
     accepted: &Accepted<'_>,
 ) -> Result<LineTable, NoMemory>
     requires few { length files.now ≤ most_files }
     requires accepted { IsAcceptedProject (map named_source_of files.now) accepted.now }
-    ensures { IfOk result (IsLineTable (map named_source_of files.now)) }
+    ensures table { IfOk result (IsLineTable (map named_source_of files.now)) }
+    ensures rows { (project : IsAcceptedProject (map named_source_of files.now) accepted.now) → IfOk result (λ table. table.rows ≡ rows_from 0 16 (objects_of (map named_source_of files.now) project.children project.is.objects.xs) (codes_of project.is.objects.xs)) }
 {
     let named = accepted.named.as_slice();
     let codes = codes_of_files(alloc, named, accepted.assembled.as_slice())?;
