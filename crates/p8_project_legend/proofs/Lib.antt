@@ -1,1 +1,5 @@
 mod Further
+mod Pathways
+mod OfAccepted
+pub mod OneLegend
+mod Examples

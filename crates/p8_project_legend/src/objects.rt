@@ -2,8 +2,9 @@
 ghost use Rattle.std.specs.Prelude.{◌≡◌, ◌++◌, [], IfOk, OnOk};
 ghost use Rattle.p8_map.specs.Map.{further};
 ghost use Rattle.p8_image.specs.Layout.{codes_offset};
-ghost use Rattle.p8_project_legend.specs.Legends.{and_one, label_end, prefix_of, with_labels, with_methods, with_object, with_objects};
+ghost use Rattle.p8_project_legend.specs.Legends.{and_one, label_end, with_labels, with_methods, with_object, with_objects};
 
+use crate::paths::push_path;
 use p8_disassembly::push_text;
 use p8_image::{MethodPart, ObjectPart, Offsets};
 use p8_kinds::Label;
@@ -24,7 +25,7 @@ pub(crate) fn further(place: u16, bytes: u64) -> u16
 }
 
 /// A name behind a prefix.
-fn named(alloc: Global, prefix: &[u8], name: &[u8]) -> Result<Text, NoMemory>
+pub(crate) fn named(alloc: Global, prefix: &[u8], name: &[u8]) -> Result<Text, NoMemory>
     ensures { IfOk result (λ text. text ≡ prefix.now ++ name.now) }
 {
     let mut text = Vec::new(alloc);
@@ -95,61 +96,52 @@ fn push_methods(
     Ok(())
 }
 
-/// What the names of the object of this number begin with.
-fn prefix_of(alloc: Global, number: u64, file: &[u8]) -> Result<Vec<u8>, NoMemory>
-    ensures { IfOk result (λ prefix. prefix.items ≡ prefix_of number file.now) }
-{
-    let mut prefix = Vec::new(alloc);
-    if number != 0 {
-        push_text(&mut prefix, file)?;
-        push_text(&mut prefix, b".")?;
-    }
-    Ok(prefix)
-}
-
-/// Puts the names of an object behind the names so far.
+/// Puts the names of an object behind the names so far, each of them behind a prefix.
 #[tactic(auto, using(crate::proofs::Further::further_low))]
 fn push_object(
     alloc: Global,
     names: &mut Ranges,
-    number: u64,
+    prefix: &[u8],
     base: u16,
     file: &FileNames,
     object: &ObjectPart,
 ) -> Result<(), NoMemory>
-    ensures { OnOk result ((names.new.ranges, names.new.texts) ≡ with_object (names.old.ranges, names.old.texts) number base file.now object.now) }
+    ensures { OnOk result ((names.new.ranges, names.new.texts) ≡ with_object (names.old.ranges, names.old.texts) prefix.now base file.now object.now) }
 {
-    let prefix = prefix_of(alloc, number, file.file.as_slice())?;
     let codes = further(base, u64::from(Offsets::of(object).codes));
-    push_labels(alloc, names, &prefix, base, codes, file.labels.as_slice())?;
+    push_labels(alloc, names, prefix, base, codes, file.labels.as_slice())?;
     let methods = file.methods.as_slice();
     push_methods(
         alloc,
         names,
-        &prefix,
+        prefix,
         codes,
         methods,
         object.methods.as_slice(),
     )
 }
 
-/// The names of what stands in objects, one after the other.
+/// The names of what stands in a project's objects, one after the other.
 #[tactic(auto, using(crate::proofs::Further::further_low))]
 pub(crate) fn names_of(
     alloc: Global,
-    mut files: &[FileNames],
-    mut objects: &[ObjectPart],
+    all: &[FileNames],
+    parts: &[ObjectPart],
 ) -> Result<Ranges, NoMemory>
-    ensures { IfOk result (λ names. (names.ranges, names.texts) ≡ with_objects ([], []) 0 16 files.now objects.now) }
+    ensures { IfOk result (λ names. (names.ranges, names.texts) ≡ with_objects ([], []) all.now parts.now 0 16 all.now parts.now) }
 {
     let mut names = Ranges::new(alloc);
     let mut number: u64 = 0;
     let mut base = FIRST_BASE;
+    let mut files = all;
+    let mut objects = parts;
     while let [file, others @ ..] = files {
         let [object, rest @ ..] = objects else {
             return Ok(names);
         };
-        push_object(alloc, &mut names, number, base, file, object)?;
+        let mut prefix = Vec::new(alloc);
+        push_path(&mut prefix, all, parts, parts.len(), number)?;
+        push_object(alloc, &mut names, &prefix, base, file, object)?;
         number = number.checked_add(1).ok_or(NoMemory)?;
         base = further(base, u64::from(Offsets::of(object).size));
         files = others;

@@ -2,23 +2,25 @@
 ghost use Rattle.std.specs.Prelude.{◌≡◌, [], IfOk};
 ghost use Rattle.p8_project_legend.specs.Legends.{names_in, with_rows};
 
+use crate::instances::push_instances;
 use crate::objects::names_of;
 use crate::places::places_of;
-use crate::variables::push_top;
 use p8_image::ObjectPart;
 use p8_legend::Legend;
 use p8_line_table::LineTable;
-use p8_map::FileNames;
+use p8_map::{FileNames, instances_of};
 use p8_words::NoMemory;
 use std::alloc::Global;
 
-/// The legend of a project's objects: the names of its labels, of its methods' codes and of the top object's variables, and the place of
-/// each bytecode.
+/// The legend of a project's objects: the names of its labels, of its methods' codes and of the variables of each instance of an object,
+/// and the place of each bytecode.
 ///
 /// `files` are the names of the project's files, `objects` their objects in the same order, the top file's first, and `table` is the
-/// project's line table; `variables_at` is where the top object's variables begin, the image's vbase. A label names the bytes up to the next one, and the last one those up to the codes. The names of an object that
-/// isn't the top file's begin with the name of its file and `.`. A range that begins before the one before it ends is left out. The only
-/// error is want of memory.
+/// project's line table; `variables_at` is where variables begin, the image's vbase. A label names the bytes up to the next one, and the
+/// last one those up to the codes. Names that aren't the top file's begin with a path, each name on it with `.` behind it: those of
+/// variables with the names of the objects on the way to their instance, as [`instances_of`] tells them; those of labels and methods
+/// with the path of the first instance of their object, which is the first one inside the first file of the project that has one. A
+/// range that begins before the one before it ends is left out. The only error is want of memory.
 pub fn legend_of_parts(
     alloc: Global,
     variables_at: u16,
@@ -30,7 +32,8 @@ pub fn legend_of_parts(
     ensures places { IfOk result (λ legend. (legend.places.ranges, legend.places.texts) ≡ with_rows ([], []) files.now table.now.rows) }
 {
     let mut names = names_of(alloc, files, objects)?;
-    push_top(alloc, &mut names, variables_at, files, objects)?;
+    let instances = instances_of(alloc, variables_at, files, objects)?;
+    push_instances(alloc, &mut names, files, objects, instances.as_slice())?;
     Ok(Legend {
         names,
         places: places_of(alloc, files, table.rows.as_slice())?,

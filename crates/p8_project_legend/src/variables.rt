@@ -1,13 +1,12 @@
-// The names of the variables of a project's top object.
+// The names of the variables of an instance.
 ghost use Rattle.std.specs.Prelude.{◌≡◌, OnOk};
 ghost use Rattle.p8_image.specs.Layout.{variable_size};
 ghost use Rattle.p8_map.specs.Map.{after_size as after_variables, sized_bytes as bytes_among};
-ghost use Rattle.p8_project_legend.specs.Legends.{and_one, with_sized, with_top, with_variables};
+ghost use Rattle.p8_project_legend.specs.Legends.{and_one, with_sized, with_variables};
 
-use crate::objects::further;
-use p8_image::{ObjectPart, Variable};
+use crate::objects::{further, named};
+use p8_image::Variable;
 use p8_legend::{Range, Ranges};
-use p8_map::FileNames;
 use p8_tree::Text;
 use p8_words::NoMemory;
 use std::alloc::Global;
@@ -46,10 +45,11 @@ fn push_sized(
     names: &mut Ranges,
     size: u8,
     mut place: u16,
+    prefix: &[u8],
     mut texts: &[Text],
     mut variables: &[Variable],
 ) -> Result<(), NoMemory>
-    ensures { OnOk result ((names.new.ranges, names.new.texts) ≡ with_sized (names.old.ranges, names.old.texts) size place texts.now variables.now) }
+    ensures { OnOk result ((names.new.ranges, names.new.texts) ≡ with_sized (names.old.ranges, names.old.texts) size place prefix.now texts.now variables.now) }
 {
     while let [text, others @ ..] = texts {
         let [variable, rest @ ..] = variables else {
@@ -60,7 +60,7 @@ fn push_sized(
             address: place,
             end,
         };
-        let name = Text::copy_of(alloc, text.as_slice())?;
+        let name = named(alloc, prefix, text.as_slice())?;
         names.push(range, name)?;
         place = end;
         texts = others;
@@ -69,39 +69,20 @@ fn push_sized(
     Ok(())
 }
 
-/// Puts the variables of an object, which begin at an address, behind the names so far.
-fn push_variables(
+/// Puts the variables of an instance, which begin at an address, behind the names so far; each name stands behind a prefix.
+pub(crate) fn push_variables(
     alloc: Global,
     names: &mut Ranges,
     longs: u16,
+    prefix: &[u8],
     texts: &[Text],
     variables: &[Variable],
 ) -> Result<(), NoMemory>
-    ensures { OnOk result ((names.new.ranges, names.new.texts) ≡ with_variables (names.old.ranges, names.old.texts) longs texts.now variables.now) }
+    ensures { OnOk result ((names.new.ranges, names.new.texts) ≡ with_variables (names.old.ranges, names.old.texts) longs prefix.now texts.now variables.now) }
 {
     let words = after_size(4, longs, variables);
     let bytes = after_size(2, words, variables);
-    push_sized(alloc, names, 4, longs, texts, variables)?;
-    push_sized(alloc, names, 2, words, texts, variables)?;
-    push_sized(alloc, names, 1, bytes, texts, variables)
-}
-
-/// Puts the variables of the top object, which begin at an address, behind the names so far.
-pub(crate) fn push_top(
-    alloc: Global,
-    names: &mut Ranges,
-    place: u16,
-    files: &[FileNames],
-    objects: &[ObjectPart],
-) -> Result<(), NoMemory>
-    ensures { OnOk result ((names.new.ranges, names.new.texts) ≡ with_top (names.old.ranges, names.old.texts) place files.now objects.now) }
-{
-    let [file, ..] = files else {
-        return Ok(());
-    };
-    let [object, ..] = objects else {
-        return Ok(());
-    };
-    let texts = file.variables.as_slice();
-    push_variables(alloc, names, place, texts, object.variables.as_slice())
+    push_sized(alloc, names, 4, longs, prefix, texts, variables)?;
+    push_sized(alloc, names, 2, words, prefix, texts, variables)?;
+    push_sized(alloc, names, 1, bytes, prefix, texts, variables)
 }
