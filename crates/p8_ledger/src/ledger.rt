@@ -188,6 +188,14 @@ impl Ledger {
         }
     }
 
+    /// What a cog, below 8, has said last of its next access. After a turn of its own that is a promise.
+    pub fn said(&self, cog: u8) -> Next
+        requires { cog < 8 }
+        ensures { (w : World) (r : Record) → Found w self.now r → result ≡ said cog r }
+    {
+        self.sayings[cog as usize]
+    }
+
     /// Notes what a cog, below 8, says of its next access. It has to be true, and an access that a life makes.
     pub fn say(&mut self, cog: u8, next: Next)
         requires cog { cog < 8 }

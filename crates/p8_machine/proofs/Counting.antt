@@ -1,4 +1,4 @@
--- The counter of the access that a cog asks next is that of its life.
+-- The counter of the access that a cog asks next is that of its life, and what it asks is what it has said last.
 use Rattle.std.proofs.Common.{◌≡◌, ◌∙◌, sym, subst, refl, ℕ, ◌<◌, List, Option, Some, slice_get, arith}
 use Rattle.p8_access.specs.declared.kinds.Access.{Access}
 use Rattle.p8_access.specs.declared.kinds.Origin.{Origin}
@@ -18,6 +18,7 @@ use Rattle.p8_lives.specs.Whole.{stands_for}
 use Rattle.p8_ledger.specs.declared.ledger.Ledger.{Ledger}
 use Rattle.p8_ledger.specs.Seats.{Sits, SitsIn}
 use Rattle.p8_ledger.specs.Records.{Record, turns, said}
+use Rattle.p8_machine.specs.Asked.{IsNextAsked}
 use Rattle.p8_machine.specs.Counters.{IsNextCounter}
 use Rattle.p8_machine.specs.Places.{announced_in, IsSpoken, AreAnnounced}
 use Rattle.p8_machine.specs.Standing.{has_spoken, Stands}
@@ -40,3 +41,9 @@ next-counter w r ledger lives stands announced n near life at origin runs counte
     let asked_here : asks sits.life (since_begin (turns r) n) clock access = subst (λ (x : Begun). asks x (since_begin (turns r) n) clock access) (sym same) asked in
     let is_announcing = announcing life sits.life (since_begin (turns r) n) w.clocks (said n r) sits.told sits.stood.1 (announced n life (said n r) at (stands.found.sayings n near)) clock access asked_here below in
     subst (λ (x : Begun). IsCounter x (since_begin (turns r) n) counter) same (counts sits.life (since_begin (turns r) n) sits.stood.0 is_announcing))
+
+pub next-asked : (w : World) (r : Record) (ledger : Ledger) (lives : List CogLife) → Stands w r ledger lives → (n : ℕ) (life : CogLife) → slice_get lives n ≡ Some life → (origin : Origin) → cog_state w (turns r) n ≡ Running origin → (next : Next) → next ≡ said n r → IsNextAsked w (turns r) n (cog_state w (turns r) n) next
+next-asked w r ledger lives stands n life at origin runs next is =
+    let sits : Sits asks (has_spoken life (said n r)) (said n r) w (turns r) n = subst (λ (s : CogState). SitsIn asks (has_spoken life (said n r)) (said n r) w (turns r) n s) runs (stands.seated n life at) in
+    subst (λ (x : Next). IsNextAsked w (turns r) n (cog_state w (turns r) n) x) (sym is)
+    (subst (λ (s : CogState). IsNextAsked w (turns r) n s (said n r)) (sym runs) (sits.life, sits.began, sits.told, sits.stood.1))

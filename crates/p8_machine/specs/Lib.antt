@@ -1,6 +1,7 @@
 -- What public contracts cite.
 pub mod Machines
 pub mod Counters
+pub mod Asked
 -- How a machine stands for its history, which the contract of its step cites.
 pub mod Places
 pub mod Standing

@@ -10,12 +10,13 @@ ghost use Rattle.p8_lives.specs.Lives.{asks};
 ghost use Rattle.p8_ledger.specs.Advances.{HasMade};
 ghost use Rattle.p8_ledger.specs.Records.{Record};
 ghost use Rattle.p8_ledger.specs.Worlds.{world_of};
+ghost use Rattle.p8_machine.specs.Asked.{IsNextAsked};
 ghost use Rattle.p8_machine.specs.Counters.{IsNextCounter};
 ghost use Rattle.p8_machine.specs.Places.{AreAnnounced};
 ghost use Rattle.p8_machine.specs.Standing.{Stands, Comes, past_with, HasAdvanced};
 
 use crate::seats::Seats;
-use p8_access::{Boot, CogState, Turn};
+use p8_access::{Boot, CogState, Next, Turn};
 use p8_ledger::{Ended, First, Ledger, Limits, Room, Start};
 use p8_pins::PinScript;
 use p8_words::NoMemory;
@@ -127,6 +128,18 @@ impl Machine {
         match self.ledger.state(cog) {
             CogState::Running { .. } => self.seats.lives[usize::from(cog)].counter(),
             CogState::Starting { .. } | CogState::Stopped => None,
+        }
+    }
+
+    /// What a cog asks next: the access, with the clock from which on it asks, or `Quiet` where that isn't below the limit of clocks. `Quiet`
+    /// where the cog doesn't run.
+    pub fn asked(&self, cog: u8) -> Next
+        requires { cog < 8 }
+        ensures { IsStanding self.now → IsNextAsked (world_in self.now) (past_in self.now) cog (cog_state (world_in self.now) (past_in self.now) cog) result }
+    {
+        match self.ledger.state(cog) {
+            CogState::Running { .. } => self.ledger.said(cog),
+            CogState::Starting { .. } | CogState::Stopped => Next::Quiet,
         }
     }
 
