@@ -1,5 +1,6 @@
--- The program counter of each turn of a history.
-use Rattle.std.specs.Prelude.{ℕ, ◌≡◌, List, [], ◌∷◌, Option, Some, None}
+-- The program counter of each turn of a history, and what the cogs ask after it.
+use Rattle.std.specs.Prelude.{ℕ, ◌≡◌, List, [], ◌∷◌, Option, Some, None, length, slice_get}
+use Rattle.p8_access.specs.declared.lives.Next.{Next}
 use Rattle.p8_access.specs.declared.order.Turn.{Turn}
 use Rattle.p8_access.specs.declared.states.CogState.{CogState}
 use Rattle.p8_access.specs.declared.states.CogState.TheVariants.{Stopped, Starting, Running}
@@ -8,6 +9,7 @@ use Rattle.p8_access.specs.Worlds.{World}
 use Rattle.p8_access.specs.Hub.{cog_state}
 use Rattle.p8_access.specs.Histories.{begun, since_begin}
 use Rattle.p8_bcog.specs.Counters.{IsCounter}
+use Rattle.p8_machine.specs.Asked.{IsNextAsked}
 
 -- a running cog asks its next access from the counter of its life, after the turns that this life has had; the turn with which
 -- a life begins has no counter
@@ -24,3 +26,8 @@ AreCounters w [] (counter ∷ counters) = ⊥
 AreCounters w (turn ∷ past) [] = ⊥
 AreCounters w (turn ∷ past) (counter ∷ counters) =
     IsCounterIn w past turn.key.cog (cog_state w past turn.key.cog) counter × AreCounters w past counters
+
+-- for each of the eight cogs, in the order of their numbers, what it asks next after a past
+abbrev pub AreAsked : World → (past : List Turn) → List Next → Type 0
+AreAsked w past asked =
+    (length asked ≡ 8) × ((n : ℕ) (next : Next) → slice_get asked n ≡ Some next → IsNextAsked w past n (cog_state w past n) next)

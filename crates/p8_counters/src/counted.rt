@@ -1,23 +1,25 @@
-// A run that keeps the counter of each turn.
+// A run that keeps the counter of each turn, and what each cog asks in the end.
 ghost use Rattle.std.specs.Prelude.{◌≡◌, ◌<◌, ◌≤◌, [], ℕ, List, Option, Some, length, reverse, slice_get, IfOk};
+ghost use Rattle.p8_access.specs.declared.lives.Next.{Next};
 ghost use Rattle.p8_access.specs.Proper.{IsProperOrigin};
 ghost use Rattle.p8_access.specs.Hub.{cog_state};
 ghost use Rattle.p8_access.specs.Histories.{IsOver, Ended as HasEnded};
 ghost use Rattle.p8_hub.specs.Standing.{IsHub};
 ghost use Rattle.p8_lives.specs.Lives.{asks};
 ghost use Rattle.p8_ledger.specs.Worlds.{world_of};
+ghost use Rattle.p8_machine.specs.Asked.{IsNextAsked};
 ghost use Rattle.p8_machine.specs.Counters.{IsNextCounter};
 ghost use Rattle.p8_machine.specs.Machines.{world_in, past_in, IsStanding};
-ghost use Rattle.p8_counters.specs.Counted.{AreCounters};
+ghost use Rattle.p8_counters.specs.Counted.{AreAsked, AreCounters};
 
-use p8_access::Boot;
+use p8_access::{Boot, Next};
 use p8_ledger::{Ended, Limits};
 use p8_machine::Machine;
 use p8_pins::PinScript;
 use p8_words::NoMemory;
 use std::alloc::Global;
 
-/// A history that has ended, with the program counter of each turn.
+/// A history that has ended, with the program counter of each turn and what each cog asks next.
 #[derive(Drop)]
 pub struct Counted {
     pub ended: Ended,
@@ -25,6 +27,9 @@ pub struct Counted {
     /// access. `None` for PASM, for the turn with which a life begins, and for the write with which Spin enters its
     /// method.
     pub counters: Vec<Option<u16>>,
+    /// For each cog, in the order of their numbers: the access that it asks next, with the clock from which on it asks. `Quiet` where that
+    /// clock isn't below the limit, and where the cog doesn't run.
+    pub asked: [Next; 8],
 }
 
 /// The counters of the accesses that the eight cogs ask next, in the order of their numbers.
@@ -41,6 +46,23 @@ fn next_counters(machine: &Machine) -> [Option<u16>; 8]
         machine.counter(5),
         machine.counter(6),
         machine.counter(7),
+    ]
+}
+
+/// What the eight cogs ask next, in the order of their numbers.
+fn next_accesses(machine: &Machine) -> [Next; 8]
+    ensures length { length result ≡ 8 }
+    ensures each { IsStanding machine.now → (n : ℕ) (next : Next) → slice_get result n ≡ Some next → IsNextAsked (world_in machine.now) (past_in machine.now) n (cog_state (world_in machine.now) (past_in machine.now) n) next }
+{
+    [
+        machine.asked(0),
+        machine.asked(1),
+        machine.asked(2),
+        machine.asked(3),
+        machine.asked(4),
+        machine.asked(5),
+        machine.asked(6),
+        machine.asked(7),
     ]
 }
 
@@ -66,8 +88,8 @@ fn count_turns(alloc: Global, machine: &mut Machine) -> Result<Vec<Option<u16>>,
     }
 }
 
-/// The whole history of a boot up to the limits, on one thread, with the counter of each turn. It is the history that
-/// `p8_machine::run_alone` gives.
+/// The whole history of a boot up to the limits, on one thread, with the counter of each turn and what each cog asks next. It is the history
+/// that `p8_machine::run_alone` gives.
 ///
 /// # Errors
 ///
@@ -85,12 +107,15 @@ pub fn run_counted(
     ensures ended { IfOk result (λ counted. HasEnded asks (world_of boot script limits) (reverse counted.ended.history.turns.list)) }
     ensures hub { IfOk result (λ counted. IsHub (world_of boot script limits) (reverse counted.ended.history.turns.list) counted.ended.hub) }
     ensures counters { IfOk result (λ counted. AreCounters (world_of boot script limits) (reverse counted.ended.history.turns.list) (reverse counted.counters.items)) }
+    ensures asked { IfOk result (λ counted. AreAsked (world_of boot script limits) (reverse counted.ended.history.turns.list) counted.asked) }
     ensures crew { IfOk result (λ counted. counted.ended.crew ≡ 1) }
 {
     let mut machine = Machine::open(alloc, boot, script, limits)?;
     let counters = count_turns(alloc, &mut machine)?;
+    let asked = next_accesses(&machine);
     Ok(Counted {
         ended: machine.end(),
         counters,
+        asked,
     })
 }
