@@ -2,3 +2,4 @@ mod Eights
 mod Ranges
 mod Showing
 mod Joined
+mod Missed

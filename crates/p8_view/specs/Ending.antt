@@ -6,14 +6,17 @@ use Rattle.std.specs.List.{flat_map}
 use Rattle.p8_access.specs.declared.kinds.Access.{Access}
 use Rattle.p8_access.specs.declared.kinds.Access.TheVariants.{Begin, Load, CogInit, CogStop, Halt}
 use Rattle.p8_access.specs.declared.kinds.Answer.{Answer}
+use Rattle.p8_access.specs.declared.lives.Next.{Next}
 use Rattle.p8_access.specs.declared.order.Turn.{Turn}
 use Rattle.p8_access.specs.Worlds.{World}
 use Rattle.p8_access.specs.Hub.{cogs, is_number, newest}
 use Rattle.p8_legend.specs.declared.legend.Legend.{Legend}
+use Rattle.p8_legend.specs.declared.ranges.Ranges.{Ranges}
 use Rattle.p8_report.specs.Text.{dump_text, reason_text}
 use Rattle.p8_view.specs.declared.doings.Doing.{Doing}
 use Rattle.p8_view.specs.declared.doings.Doing.TheVariants.{Idle, Starts, Runs, Stops, Halts}
 use Rattle.p8_view.specs.declared.turns.ViewOptions.{ViewOptions}
+use Rattle.p8_view.specs.Nexts.{next_of, next_text}
 use Rattle.p8_view.specs.View.{lines_of}
 
 -- what a turn tells of what a cog does from then on: a start of it, its own first turn, a stop of it, and its own halt
@@ -36,15 +39,18 @@ doing past n = newest (λ (turn : Turn). doing_by n turn.key.clock turn.key.cog 
 abbrev pub last_of : List Turn → ℕ → ℕ
 last_of past n = newest (λ (turn : Turn). if turn.key.cog == n then Some turn.key.clock else None) 0 past
 
-abbrev pub doing_text : Doing → (last : ℕ) → List ℕ
-doing_text Idle last = codes "is idle"
-doing_text (Starts clock) last = codes "is started at clock " ++ decimal clock ++ codes " and has had no turn yet"
-doing_text (Runs clock) last = codes "runs since clock " ++ decimal clock ++ codes ", its last turn is at clock " ++ decimal last
-doing_text (Stops clock) last = codes "is stopped at clock " ++ decimal clock
-doing_text (Halts clock reason) last = codes "halts at clock " ++ decimal clock ++ codes ": " ++ reason_text reason
+-- a cog that runs: since when, when its last turn was, and what it does next
+abbrev pub doing_text : Ranges → (clocks : ℕ) → Doing → (last : ℕ) → Next → List ℕ
+doing_text names clocks Idle last next = codes "is idle"
+doing_text names clocks (Starts clock) last next = codes "is started at clock " ++ decimal clock ++ codes " and has had no turn yet"
+doing_text names clocks (Runs clock) last next =
+    codes "runs since clock " ++ decimal clock ++ codes ", its last turn is at clock " ++ decimal last ++ next_text names clocks next
+doing_text names clocks (Stops clock) last next = codes "is stopped at clock " ++ decimal clock
+doing_text names clocks (Halts clock reason) last next = codes "halts at clock " ++ decimal clock ++ codes ": " ++ reason_text reason
 
-abbrev pub cog_line : List Turn → ℕ → List ℕ
-cog_line past n = codes "cog " ++ decimal n ++ codes " " ++ doing_text (doing past n) (last_of past n) ++ 10 ∷ []
+abbrev pub cog_line : Ranges → (clocks : ℕ) → List Next → List Turn → ℕ → List ℕ
+cog_line names clocks asked past n =
+    codes "cog " ++ decimal n ++ codes " " ++ doing_text names clocks (doing past n) (last_of past n) (next_of asked n) ++ 10 ∷ []
 
 -- the clock of the last turn of all, 0 where there is none
 abbrev pub last_clock : List Turn → ℕ
@@ -63,9 +69,11 @@ why_text turns limit clocks =
 abbrev pub why_line : (turns limit clocks : ℕ) → List ℕ
 why_line turns limit clocks = why_text turns limit clocks ++ 10 ∷ []
 
-abbrev pub end_text : World → List Turn → List ℕ
-end_text w past = flat_map (cog_line past) cogs ++ made_line (length past) (last_clock past) ++ why_line (length past) w.turns w.clocks
+abbrev pub end_text : Ranges → World → List Next → List Turn → List ℕ
+end_text names w asked past =
+    flat_map (cog_line names w.clocks asked past) cogs ++ made_line (length past) (last_clock past) ++ why_line (length past) w.turns w.clocks
 
 -- the whole view: the turns that are shown, the end, and the dump where one is asked for
-abbrev pub view_of : ViewOptions → Legend → World → List (Option ℕ) → List Turn → (dump : Option (ℕ × ℕ)) → List ℕ
-view_of options legend w counters past dump = lines_of options legend w counters past ++ end_text w past ++ dump_text w past dump
+abbrev pub view_of : ViewOptions → Legend → World → List (Option ℕ) → List Next → List Turn → (dump : Option (ℕ × ℕ)) → List ℕ
+view_of options legend w counters asked past dump =
+    lines_of options legend w counters past ++ end_text legend.names w asked past ++ dump_text w past dump

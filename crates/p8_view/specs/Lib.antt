@@ -2,6 +2,7 @@
 pub mod Words
 pub mod Drives
 pub mod View
+pub mod Nexts
 pub mod Ending
 -- How what the code keeps follows a history: internal.
 pub mod Following

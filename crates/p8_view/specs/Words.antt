@@ -19,10 +19,13 @@ use Rattle.p8_report.specs.Text.{number_text, previous_text, width_text, digits_
 abbrev pub start_text : Ranges → Origin → List ℕ
 start_text names origin = kind_text origin ++ codes " " ++ address_text names (code_of origin) ++ codes " " ++ address_text names (parameter_of origin)
 
--- so many bytes at an address, and their value
+-- so many bytes at an address
+abbrev pub moved_text : Ranges → (word : List ℕ) → Width → (address : ℕ) → List ℕ
+moved_text names word width address = word ++ width_text width ++ codes " " ++ address_text names address
+
+-- and their value
 abbrev pub move_text : Ranges → (word : List ℕ) → Width → (address value : ℕ) → List ℕ
-move_text names word width address value =
-    word ++ width_text width ++ codes " " ++ address_text names address ++ codes " = " ++ hex (digits_of width) value
+move_text names word width address value = moved_text names word width address ++ codes " = " ++ hex (digits_of width) value
 
 -- what a wait waits for: a clock, or pins
 abbrev pub wait_text : Test → List ℕ
@@ -30,23 +33,37 @@ wait_text (Count target) = codes "waitcnt until " ++ decimal target
 wait_text (PinsEqual state mask) = codes "waitpeq " ++ hex 8 state ++ codes " " ++ hex 8 mask
 wait_text (PinsDiffer state mask) = codes "waitpne " ++ hex 8 state ++ codes " " ++ hex 8 mask
 
--- an access with its answer; Begin and Load tell what their cog was started with
+-- an access without its answer
+abbrev pub asked_text : Ranges → Access → List ℕ
+asked_text names Begin = codes "begin"
+asked_text names Load = codes "load"
+asked_text names (Read width address) = moved_text names (codes "read ") width address
+asked_text names (Write width address value) = move_text names (codes "write ") width address value
+asked_text names CogId = codes "cogid"
+asked_text names (CogInit target origin) = codes "coginit " ++ start_text names origin
+asked_text names (CogStop cog) = codes "cogstop " ++ decimal cog
+asked_text names LockNew = codes "locknew"
+asked_text names (LockRet lock) = codes "lockret " ++ decimal lock
+asked_text names (LockSet lock) = codes "lockset " ++ decimal lock
+asked_text names (LockClr lock) = codes "lockclr " ++ decimal lock
+asked_text names (ClkSet mode) = codes "clkset " ++ hex 2 mode
+asked_text names PinsIn = codes "ina"
+asked_text names (OutSet value) = codes "outa " ++ hex 8 value
+asked_text names (DirSet value) = codes "dira " ++ hex 8 value
+asked_text names (Wait test) = wait_text test
+asked_text names Clock = codes "cnt"
+asked_text names (Halt reason) = codes "halt " ++ reason_text reason
+
+-- an access with its answer, where that tells anything; Begin and Load tell what their cog was started with
 abbrev pub access_text : Ranges → (own : Origin) → Access → Answer → List ℕ
 access_text names own Begin answer = codes "begin of " ++ start_text names own
 access_text names own Load answer = codes "load of " ++ address_text names (code_of own) ++ codes ", 496 longs"
 access_text names own (Read width address) answer = move_text names (codes "read ") width address (value_of answer)
-access_text names own (Write width address value) answer = move_text names (codes "write ") width address value
 access_text names own CogId answer = codes "cogid " ++ decimal (value_of answer)
 access_text names own (CogInit target origin) answer = codes "coginit " ++ number_text answer ++ codes " " ++ start_text names origin
-access_text names own (CogStop cog) answer = codes "cogstop " ++ decimal cog
 access_text names own LockNew answer = codes "locknew " ++ number_text answer
-access_text names own (LockRet lock) answer = codes "lockret " ++ decimal lock
 access_text names own (LockSet lock) answer = codes "lockset " ++ decimal lock ++ codes " " ++ previous_text answer
 access_text names own (LockClr lock) answer = codes "lockclr " ++ decimal lock ++ codes " " ++ previous_text answer
-access_text names own (ClkSet mode) answer = codes "clkset " ++ hex 2 mode
 access_text names own PinsIn answer = codes "ina " ++ hex 8 (value_of answer)
-access_text names own (OutSet value) answer = codes "outa " ++ hex 8 value
-access_text names own (DirSet value) answer = codes "dira " ++ hex 8 value
-access_text names own (Wait test) answer = wait_text test
 access_text names own Clock answer = codes "cnt " ++ hex 8 (value_of answer)
-access_text names own (Halt reason) answer = codes "halt " ++ reason_text reason
+access_text names own access answer = asked_text names access

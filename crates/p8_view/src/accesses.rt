@@ -1,19 +1,34 @@
 // What a cog does in a turn, in words.
 ghost use Rattle.std.specs.Prelude.{◌≡◌, ◌++◌, codes, OnOk};
 ghost use Rattle.p8_report.specs.Text.{code_of, number_text};
-ghost use Rattle.p8_view.specs.Words.{access_text, move_text, start_text, wait_text};
+ghost use Rattle.p8_view.specs.Words.{access_text, asked_text, move_text, moved_text, start_text, wait_text};
 ghost use Rattle.p8_legend.specs.Legends.{address_text};
 
-use crate::starts::{code_in, push_reason, push_start};
-use crate::words::{
-    push_decimal, push_lock, push_long, push_longs, push_number, push_value, value_in, width_name,
-};
+use crate::starts::{push_reason, push_start};
+use crate::words::{push_lock, push_long, push_number, push_value, width_name};
 use p8_access::{Access, Answer, Origin, Test, Width};
 use p8_disassembly::{byte_digits, push_text};
 use p8_legend::Legend;
+use p8_report::{code_in, push_longs, push_numbered, value_in};
 use p8_words::NoMemory;
 
-/// Appends a read or a write: its word, its width, the address and the value.
+/// Appends what is read or written: the word for that, the width and the address.
+fn push_place(
+    out: &mut Vec<u8>,
+    legend: &Legend,
+    word: &[u8],
+    width: Width,
+    address: u16,
+) -> Result<(), NoMemory>
+    ensures { OnOk result (out.new.items ≡ out.old.items ++ moved_text legend.now.names word.now width address) }
+{
+    push_text(out, word)?;
+    push_text(out, width_name(width))?;
+    push_text(out, b" ")?;
+    legend.push_address(out, address)
+}
+
+/// Appends a read or a write with its value.
 fn push_move(
     out: &mut Vec<u8>,
     legend: &Legend,
@@ -24,10 +39,7 @@ fn push_move(
 ) -> Result<(), NoMemory>
     ensures { OnOk result (out.new.items ≡ out.old.items ++ move_text legend.now.names word.now width address value) }
 {
-    push_text(out, word)?;
-    push_text(out, width_name(width))?;
-    push_text(out, b" ")?;
-    legend.push_address(out, address)?;
+    push_place(out, legend, word, width, address)?;
     push_text(out, b" = ")?;
     push_value(out, width, value)
 }
@@ -53,7 +65,7 @@ fn push_wait(out: &mut Vec<u8>, test: Test) -> Result<(), NoMemory>
     ensures { OnOk result (out.new.items ≡ out.old.items ++ wait_text test) }
 {
     match test {
-        Test::Count { target } => push_decimal(out, b"waitcnt until ", u64::from(target)),
+        Test::Count { target } => push_numbered(out, b"waitcnt until ", u64::from(target)),
         Test::PinsEqual { state, mask } => push_longs(out, b"waitpeq ", state, mask),
         Test::PinsDiffer { state, mask } => push_longs(out, b"waitpne ", state, mask),
     }
@@ -71,6 +83,49 @@ fn push_cog_init(
     push_number(out, b"coginit ", answer)?;
     push_text(out, b" ")?;
     push_start(out, legend, origin)
+}
+
+/// Appends an access without its answer.
+pub(crate) fn push_asked(
+    out: &mut Vec<u8>,
+    legend: &Legend,
+    access: &Access,
+) -> Result<(), NoMemory>
+    ensures { OnOk result (out.new.items ≡ out.old.items ++ asked_text legend.now.names access.now) }
+{
+    match *access {
+        Access::Begin => push_text(out, b"begin"),
+        Access::Load => push_text(out, b"load"),
+        Access::Read { width, address } => push_place(out, legend, b"read ", width, address),
+        Access::Write {
+            width,
+            address,
+            value,
+        } => push_move(out, legend, b"write ", width, address, value),
+        Access::CogId => push_text(out, b"cogid"),
+        Access::CogInit { origin, .. } => {
+            push_text(out, b"coginit ")?;
+            push_start(out, legend, &origin)
+        }
+        Access::CogStop { cog } => push_numbered(out, b"cogstop ", u64::from(cog)),
+        Access::LockNew => push_text(out, b"locknew"),
+        Access::LockRet { lock } => push_numbered(out, b"lockret ", u64::from(lock)),
+        Access::LockSet { lock } => push_numbered(out, b"lockset ", u64::from(lock)),
+        Access::LockClr { lock } => push_numbered(out, b"lockclr ", u64::from(lock)),
+        Access::ClkSet { mode } => {
+            push_text(out, b"clkset ")?;
+            push_text(out, &byte_digits(u32::from(mode)))
+        }
+        Access::PinsIn => push_text(out, b"ina"),
+        Access::OutSet { value } => push_long(out, b"outa ", value),
+        Access::DirSet { value } => push_long(out, b"dira ", value),
+        Access::Wait { test } => push_wait(out, test),
+        Access::Clock => push_text(out, b"cnt"),
+        Access::Halt { reason } => {
+            push_text(out, b"halt ")?;
+            push_reason(out, reason)
+        }
+    }
 }
 
 /// Appends an access with its answer. The cog that makes it was started with `own`.
@@ -92,30 +147,20 @@ pub(crate) fn push_access(
         Access::Read { width, address } => {
             push_move(out, legend, b"read ", width, address, value_in(answer))
         }
-        Access::Write {
-            width,
-            address,
-            value,
-        } => push_move(out, legend, b"write ", width, address, value),
-        Access::CogId => push_decimal(out, b"cogid ", u64::from(value_in(answer))),
+        Access::CogId => push_numbered(out, b"cogid ", u64::from(value_in(answer))),
         Access::CogInit { origin, .. } => push_cog_init(out, legend, &origin, answer),
-        Access::CogStop { cog } => push_decimal(out, b"cogstop ", u64::from(cog)),
         Access::LockNew => push_number(out, b"locknew ", answer),
-        Access::LockRet { lock } => push_decimal(out, b"lockret ", u64::from(lock)),
         Access::LockSet { lock } => push_lock(out, b"lockset ", lock, answer),
         Access::LockClr { lock } => push_lock(out, b"lockclr ", lock, answer),
-        Access::ClkSet { mode } => {
-            push_text(out, b"clkset ")?;
-            push_text(out, &byte_digits(u32::from(mode)))
-        }
         Access::PinsIn => push_long(out, b"ina ", value_in(answer)),
-        Access::OutSet { value } => push_long(out, b"outa ", value),
-        Access::DirSet { value } => push_long(out, b"dira ", value),
-        Access::Wait { test } => push_wait(out, test),
         Access::Clock => push_long(out, b"cnt ", value_in(answer)),
-        Access::Halt { reason } => {
-            push_text(out, b"halt ")?;
-            push_reason(out, reason)
-        }
+        Access::Write { .. }
+        | Access::CogStop { .. }
+        | Access::LockRet { .. }
+        | Access::ClkSet { .. }
+        | Access::OutSet { .. }
+        | Access::DirSet { .. }
+        | Access::Wait { .. }
+        | Access::Halt { .. } => push_asked(out, legend, access),
     }
 }

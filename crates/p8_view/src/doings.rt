@@ -5,10 +5,11 @@ ghost use Rattle.p8_ledger.specs.Turns.{AreProper};
 ghost use Rattle.p8_view.specs.Following.{AreDoings};
 ghost use Rattle.p8_view.specs.Ending.{cog_line, doing, doing_text, last_of};
 
+use crate::nexts::Nexts;
 use crate::starts::push_reason;
-use crate::words::push_decimal;
-use p8_access::{Access, Answer, Reason, Turn};
+use p8_access::{Access, Answer, Next, Reason, Turn};
 use p8_disassembly::push_text;
+use p8_report::push_numbered;
 use p8_words::NoMemory;
 
 /// What a cog is doing, and the clock since which.
@@ -118,36 +119,44 @@ impl Doings {
     }
 
     /// Appends the line of a cog.
-    pub fn push_cog(&self, out: &mut Vec<u8>, cog: u8) -> Result<(), NoMemory>
+    pub fn push_cog(&self, out: &mut Vec<u8>, nexts: &Nexts<'_>, cog: u8) -> Result<(), NoMemory>
         requires { cog < 8 }
-        ensures { (past : List Turn) → AreDoings past self.now → OnOk result (out.new.items ≡ out.old.items ++ cog_line past cog) }
+        ensures { (past : List Turn) → AreDoings past self.now → OnOk result (out.new.items ≡ out.old.items ++ cog_line nexts.now.legend.now.names nexts.now.clocks nexts.now.asked.now past cog) }
     {
         let doing = self.doing(cog);
         let last = self.last(cog);
-        push_decimal(out, b"cog ", u64::from(cog))?;
+        let next = nexts.next(cog);
+        push_numbered(out, b"cog ", u64::from(cog))?;
         push_text(out, b" ")?;
-        push_doing(out, &doing, last)?;
+        push_doing(out, nexts, &doing, last, &next)?;
         push_text(out, b"\n")
     }
 }
 
-/// Appends what a cog is doing, whose last turn was at a clock.
-fn push_doing(out: &mut Vec<u8>, doing: &Doing, last: u64) -> Result<(), NoMemory>
-    ensures { OnOk result (out.new.items ≡ out.old.items ++ doing_text doing.now last) }
+/// Appends what a cog is doing, whose last turn was at a clock and which says this of its next access.
+fn push_doing(
+    out: &mut Vec<u8>,
+    nexts: &Nexts<'_>,
+    doing: &Doing,
+    last: u64,
+    next: &Next,
+) -> Result<(), NoMemory>
+    ensures { OnOk result (out.new.items ≡ out.old.items ++ doing_text nexts.now.legend.now.names nexts.now.clocks doing.now last next.now) }
 {
     match *doing {
         Doing::Idle => push_text(out, b"is idle"),
         Doing::Starts(clock) => {
-            push_decimal(out, b"is started at clock ", clock)?;
+            push_numbered(out, b"is started at clock ", clock)?;
             push_text(out, b" and has had no turn yet")
         }
         Doing::Runs(clock) => {
-            push_decimal(out, b"runs since clock ", clock)?;
-            push_decimal(out, b", its last turn is at clock ", last)
+            push_numbered(out, b"runs since clock ", clock)?;
+            push_numbered(out, b", its last turn is at clock ", last)?;
+            nexts.push_next(out, next)
         }
-        Doing::Stops(clock) => push_decimal(out, b"is stopped at clock ", clock),
+        Doing::Stops(clock) => push_numbered(out, b"is stopped at clock ", clock),
         Doing::Halts(clock, reason) => {
-            push_decimal(out, b"halts at clock ", clock)?;
+            push_numbered(out, b"halts at clock ", clock)?;
             push_text(out, b": ")?;
             push_reason(out, reason)
         }

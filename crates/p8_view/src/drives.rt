@@ -3,8 +3,8 @@ ghost use Rattle.std.specs.Prelude.{◌≡◌, ◌<◌, ◌++◌, OnOk};
 ghost use Rattle.p8_pins.specs.Levels.{is_high};
 ghost use Rattle.p8_view.specs.Drives.{pin_changes, pin_text, pin_word as word_of_pin, pins_text};
 
-use crate::words::push_decimal;
 use p8_disassembly::push_text;
+use p8_report::push_numbered;
 use p8_words::NoMemory;
 
 /// What the cogs do to the 32 pins, bit n for pin n.
@@ -58,7 +58,7 @@ fn push_pin(out: &mut Vec<u8>, before: &Drives, after: &Drives, pin: u8) -> Resu
     if !before.changes(after, pin) {
         return Ok(());
     }
-    push_decimal(out, b", ", u64::from(pin))?;
+    push_numbered(out, b", ", u64::from(pin))?;
     push_text(out, after.pin_word(pin))
 }
 

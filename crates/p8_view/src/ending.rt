@@ -8,18 +8,20 @@ ghost use Rattle.p8_view.specs.Following.{AreDoings};
 ghost use Rattle.p8_view.specs.Ending.{cog_line, end_text, last_clock as clock_of_last, made_line, why_line, why_text};
 
 use crate::doings::Doings;
-use crate::words::push_decimal;
-use p8_access::Turn;
+use crate::nexts::Nexts;
+use p8_access::{Next, Turn};
 use p8_disassembly::push_text;
-use p8_ledger::{History, Limits};
+use p8_ledger::Limits;
+use p8_legend::Legend;
+use p8_report::push_numbered;
 use p8_words::NoMemory;
 
 /// Appends the lines of the eight cogs.
-fn push_cogs(out: &mut Vec<u8>, doings: &Doings) -> Result<(), NoMemory>
-    ensures { (past : List Turn) → AreDoings past doings.now → OnOk result (out.new.items ≡ out.old.items ++ flat_map (cog_line past) cogs) }
+fn push_cogs(out: &mut Vec<u8>, doings: &Doings, nexts: &Nexts<'_>) -> Result<(), NoMemory>
+    ensures { (past : List Turn) → AreDoings past doings.now → OnOk result (out.new.items ≡ out.old.items ++ flat_map (cog_line nexts.now.legend.now.names nexts.now.clocks nexts.now.asked.now past) cogs) }
 {
     for cog in 0..8 {
-        doings.push_cog(out, cog)?;
+        doings.push_cog(out, nexts, cog)?;
     }
     Ok(())
 }
@@ -38,8 +40,8 @@ fn last_clock(turns: &[Turn]) -> u64
 fn push_made(out: &mut Vec<u8>, turns: u64, clock: u64) -> Result<(), NoMemory>
     ensures { OnOk result (out.new.items ≡ out.old.items ++ made_line turns clock) }
 {
-    push_decimal(out, b"", turns)?;
-    push_decimal(out, b" turns are made, the last at clock ", clock)?;
+    push_numbered(out, b"", turns)?;
+    push_numbered(out, b" turns are made, the last at clock ", clock)?;
     push_text(out, b"\n")
 }
 
@@ -50,7 +52,7 @@ fn push_why(out: &mut Vec<u8>, turns: u64, limits: Limits) -> Result<(), NoMemor
     if turns == limits.turns {
         push_text(out, b"no more are asked for; --turns gives more")
     } else {
-        push_decimal(out, b"no cog makes another before clock ", limits.clocks)
+        push_numbered(out, b"no cog makes another before clock ", limits.clocks)
     }
 }
 
@@ -62,16 +64,28 @@ fn push_why_line(out: &mut Vec<u8>, turns: u64, limits: Limits) -> Result<(), No
     push_text(out, b"\n")
 }
 
-/// Appends the end of a history: what each cog is doing, how many turns were made, and why no more were.
-pub(crate) fn push_end(out: &mut Vec<u8>, history: &History) -> Result<(), NoMemory>
+/// Appends the end of a history of these turns, the oldest first: what each cog is doing and does next, how many turns were made, and why no
+/// more were.
+pub(crate) fn push_end(
+    out: &mut Vec<u8>,
+    turns: &[Turn],
+    limits: Limits,
+    legend: &Legend,
+    asked: &[Next],
+) -> Result<(), NoMemory>
+    requires { AreProper turns.now }
     ensures { (w : World)
-        → w.turns ≡ history.now.limits.turns
-        → w.clocks ≡ history.now.limits.clocks
-        → OnOk result (out.new.items ≡ out.old.items ++ end_text w (reverse history.now.turns.list)) }
+        → w.turns ≡ limits.turns
+        → w.clocks ≡ limits.clocks
+        → OnOk result (out.new.items ≡ out.old.items ++ end_text legend.now.names w asked.now (reverse turns.now)) }
 {
-    let turns = history.turns.as_slice();
     let count = turns.len() as u64;
-    push_cogs(out, &Doings::after(turns))?;
+    let nexts = Nexts {
+        asked,
+        legend,
+        clocks: limits.clocks,
+    };
+    push_cogs(out, &Doings::after(turns), &nexts)?;
     push_made(out, count, last_clock(turns))?;
-    push_why_line(out, count, history.limits)
+    push_why_line(out, count, limits)
 }

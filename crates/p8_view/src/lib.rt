@@ -6,13 +6,14 @@ mod cogs;
 mod doings;
 mod drives;
 mod ending;
+mod laws;
+mod nexts;
 mod starts;
 mod times;
 mod turns;
 mod views;
 mod words;
-#[cfg(test)]
-mod worked;
 
+pub use laws::missed_wait_ends;
 pub use turns::{ViewOptions, turn_lines};
 pub use views::view;

@@ -1,43 +1,14 @@
 // What cogs are started with, and why they halt.
 ghost use Rattle.std.specs.Prelude.{◌≡◌, ◌++◌, OnOk};
-ghost use Rattle.p8_report.specs.Text.{code_of, kind_text, parameter_of, reason_text};
+ghost use Rattle.p8_report.specs.Text.{reason_text};
 ghost use Rattle.p8_view.specs.Words.{start_text};
 
 use crate::words::push_long;
 use p8_access::{Origin, Reason};
 use p8_disassembly::{push_text, register_digits, word_digits};
 use p8_legend::Legend;
+use p8_report::{code_in, kind_name, parameter_in};
 use p8_words::NoMemory;
-
-/// What kind of code a cog is started with.
-fn kind_name(origin: &Origin) -> &'static [u8]
-    ensures { result.now ≡ kind_text origin.now }
-{
-    match origin {
-        Origin::Pasm { .. } => b"pasm",
-        Origin::Spin { .. } => b"spin",
-    }
-}
-
-/// The address of the code that a cog is started with.
-pub(crate) fn code_in(origin: &Origin) -> u16
-    ensures { result ≡ code_of origin.now }
-{
-    match origin {
-        Origin::Pasm { code, .. } => *code,
-        Origin::Spin { entry, .. } => *entry,
-    }
-}
-
-/// The value of PAR, or the frame.
-fn parameter_in(origin: &Origin) -> u16
-    ensures { result ≡ parameter_of origin.now }
-{
-    match origin {
-        Origin::Pasm { par, .. } => *par,
-        Origin::Spin { frame, .. } => *frame,
-    }
-}
 
 /// Appends what a cog is started with.
 pub(crate) fn push_start(

@@ -11,11 +11,11 @@ use crate::accesses::push_access;
 use crate::cogs::Cogs;
 use crate::drives::{Drives, push_pins};
 use crate::times::{push_time, rate_of};
-use crate::words::push_decimal;
 use p8_access::{Access, Origin, Turn};
 use p8_disassembly::push_text;
 use p8_ledger::History;
 use p8_legend::Legend;
+use p8_report::push_numbered;
 use p8_words::NoMemory;
 use std::alloc::Global;
 
@@ -87,10 +87,10 @@ impl<'a> Showing<'a> {
     fn push_when(&self, out: &mut Vec<u8>, turn: &Turn) -> Result<(), NoMemory>
         ensures { OnOk result (out.new.items ≡ out.old.items ++ when_text self.now.frequency turn.now) }
     {
-        push_decimal(out, b"", turn.key.clock)?;
+        push_numbered(out, b"", turn.key.clock)?;
         push_text(out, b" ")?;
         push_time(out, self.frequency, turn.key.clock)?;
-        push_decimal(out, b"cog ", u64::from(turn.key.cog))?;
+        push_numbered(out, b"cog ", u64::from(turn.key.cog))?;
         push_text(out, b" ")
     }
 

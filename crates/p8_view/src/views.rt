@@ -7,21 +7,24 @@ ghost use Rattle.p8_view.specs.Ending.{view_of};
 
 use crate::ending::push_end;
 use crate::turns::{ViewOptions, turn_lines};
+use p8_access::Next;
 use p8_ledger::Ended;
 use p8_legend::Legend;
 use p8_report::push_dump;
 use p8_words::NoMemory;
 use std::alloc::Global;
 
-/// A history that has ended, in the words of its program: a line for each turn that is shown, what each cog is doing at the end, how many
-/// turns were made and why no more were, and the dump where one is asked for.
+/// A history that has ended, in the words of its program: a line for each turn that is shown, what each cog is doing at the end and does
+/// next, how many turns were made and why no more were, and the dump where one is asked for.
 ///
 /// `counters` has for each turn, the oldest first, the hub address of the bytecode that asks it; none is known of a turn behind its end.
+/// `asked` has by the number of each cog what it asks next; a running cog behind its end is said to ask nothing.
 /// A dump is an address and how many bytes from there on, none of them after RAM. The only error is want of memory.
 pub fn view(
     alloc: Global,
     ended: &Ended,
     counters: &[Option<u16>],
+    asked: &[Next],
     legend: &Legend,
     options: &ViewOptions,
     dump: Option<(u16, u16)>,
@@ -33,10 +36,12 @@ pub fn view(
         → w.turns ≡ ended.now.history.limits.turns
         → w.clocks ≡ ended.now.history.limits.clocks
         → IsHub w (reverse ended.now.history.turns.list) ended.now.hub
-        → IfOk result (λ text. text.items ≡ view_of options.now legend.now w counters.now (reverse ended.now.history.turns.list) dump) }
+        → IfOk result (λ text. text.items ≡ view_of options.now legend.now w counters.now asked.now (reverse ended.now.history.turns.list) dump) }
 {
+    let turns = ended.history.turns.as_slice();
+    let limits = ended.history.limits;
     let mut out = turn_lines(alloc, &ended.history, counters, legend, options)?;
-    push_end(&mut out, &ended.history)?;
+    push_end(&mut out, turns, limits, legend, asked)?;
     push_dump(&mut out, &ended.hub, dump)?;
     Ok(out)
 }

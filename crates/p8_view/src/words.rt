@@ -2,22 +2,13 @@
 ghost use Rattle.std.specs.Prelude.{◌≡◌, ◌++◌, codes, OnOk};
 ghost use Rattle.std.specs.Fmt.{decimal};
 ghost use Rattle.p8_access.specs.declared.kinds.Width.{Width};
-ghost use Rattle.p8_access.specs.Proper.{value_of};
 ghost use Rattle.p8_disassembly.specs.Numerals.{hex};
 ghost use Rattle.p8_report.specs.Text.{digits_of, number_text, previous_text, width_text};
 
-use itoa::Buffer;
 use p8_access::{Answer, Width};
 use p8_disassembly::{byte_digits, long_digits, push_text, word_digits};
+use p8_report::push_numbered;
 use p8_words::NoMemory;
-
-/// A text and a number in decimal digits.
-pub(crate) fn push_decimal(out: &mut Vec<u8>, text: &[u8], number: u64) -> Result<(), NoMemory>
-    ensures { OnOk result (out.new.items ≡ out.old.items ++ (text.now ++ decimal number)) }
-{
-    push_text(out, text)?;
-    push_text(out, Buffer::new().format(number).as_bytes())
-}
 
 /// A text and a long.
 pub(crate) fn push_long(out: &mut Vec<u8>, text: &[u8], value: u32) -> Result<(), NoMemory>
@@ -25,21 +16,6 @@ pub(crate) fn push_long(out: &mut Vec<u8>, text: &[u8], value: u32) -> Result<()
 {
     push_text(out, text)?;
     push_text(out, &long_digits(value))
-}
-
-/// A text and two longs.
-pub(crate) fn push_longs(
-    out: &mut Vec<u8>,
-    text: &[u8],
-    first: u32,
-    second: u32,
-) -> Result<(), NoMemory>
-    ensures { OnOk result (out.new.items ≡ out.old.items ++ (text.now ++ hex 8 first ++ codes " " ++ hex 8 second)) }
-{
-    push_text(out, text)?;
-    push_text(out, &long_digits(first))?;
-    push_text(out, b" ")?;
-    push_text(out, &long_digits(second))
 }
 
 /// The word for a width.
@@ -64,23 +40,13 @@ pub(crate) fn push_value(out: &mut Vec<u8>, width: Width, value: u32) -> Result<
     }
 }
 
-/// The value in an answer, or 0 where it has none.
-pub(crate) fn value_in(answer: Answer) -> u32
-    ensures { result ≡ value_of answer }
-{
-    match answer {
-        Answer::Value(value) => value,
-        Answer::Done | Answer::Number(_) | Answer::Was(_) => 0,
-    }
-}
-
 /// A text and the number of a cog or a lock in an answer, or `none`.
 pub(crate) fn push_number(out: &mut Vec<u8>, text: &[u8], answer: Answer) -> Result<(), NoMemory>
     ensures { OnOk result (out.new.items ≡ out.old.items ++ (text.now ++ number_text answer)) }
 {
     push_text(out, text)?;
     match answer {
-        Answer::Number(Some(number)) => push_decimal(out, b"", u64::from(number)),
+        Answer::Number(Some(number)) => push_numbered(out, b"", u64::from(number)),
         Answer::Number(None) | Answer::Done | Answer::Value(_) | Answer::Was(_) => {
             push_text(out, b"none")
         }
@@ -96,7 +62,7 @@ pub(crate) fn push_lock(
 ) -> Result<(), NoMemory>
     ensures { OnOk result (out.new.items ≡ out.old.items ++ (text.now ++ decimal lock ++ codes " " ++ previous_text answer)) }
 {
-    push_decimal(out, text, u64::from(lock))?;
+    push_numbered(out, text, u64::from(lock))?;
     push_text(out, b" ")?;
     match answer {
         Answer::Was(true) => push_text(out, b"1"),

@@ -6,4 +6,4 @@ use Rattle.p8_view.specs.Ending.{cog_line}
 use Rattle.p8_view.proofs.ending.push_cogs.Given as goal
 
 abbrev pub invariant-loop-cog : goal.invariant-loop-cog
-invariant-loop-cog l = (past : List Turn) → AreDoings past l.doings → l.out.items ≡ l.initial.out.items ++ flat_map (cog_line past) (range_with_len 0 l.cog)
+invariant-loop-cog l = (past : List Turn) → AreDoings past l.doings → l.out.items ≡ l.initial.out.items ++ flat_map (cog_line l.nexts.legend.now.names l.nexts.clocks l.nexts.asked.now past) (range_with_len 0 l.cog)
