@@ -139,7 +139,7 @@ fn boot_of_kinds(alloc: Global) -> Result<Boot, NoMemory>
     Ok(Boot::raw(alloc, &KINDS)?)
 }
 
-fn boot_of_blink(alloc: Global) -> Result<Boot, NoMemory>
+pub(crate) fn boot_of_blink(alloc: Global) -> Result<Boot, NoMemory>
     ensures { IfOk result (λ boot. IsProperOrigin boot.first) }
 {
     Ok(Boot {

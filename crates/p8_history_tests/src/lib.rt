@@ -1,4 +1,4 @@
-//! Tests of what is made of histories: history files and their checker, waves, and pictures of pins.
+//! Tests of what is made of histories: history files and their checker, waves, pictures of pins, and views.
 #![tactic(auto)]
 
 #[cfg(test)]
@@ -7,5 +7,7 @@ mod histories;
 mod pictures;
 #[cfg(test)]
 mod programs;
+#[cfg(test)]
+mod views;
 #[cfg(test)]
 mod waves;
