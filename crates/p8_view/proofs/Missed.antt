@@ -1,5 +1,5 @@
 -- When a wait ends that is missed.
-use Rattle.std.proofs.Common.{◌≡◌, ◌∙◌, subst, sym, ℕ, ◌+◌, ◌-◌, ◌%◌, ◌^◌, ◌<◌, ◌≤◌, List, arith}
+use Rattle.std.proofs.Common.{◌≡◌, ◌∙◌, subst, sym, ℕ, ◌%◌, ◌^◌, ◌<◌, ◌≤◌, List, arith}
 use Rattle.p8_access.specs.declared.kinds.Test.TheVariants.{Count}
 use Rattle.p8_access.specs.declared.order.Key.{Key}
 use Rattle.p8_access.specs.declared.order.Turn.{Turn}
