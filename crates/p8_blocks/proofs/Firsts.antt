@@ -13,7 +13,7 @@ use Rattle.p8_lines.specs.declared.sign.Sign.{Sign}
 use Rattle.p8_lines.specs.declared.sign.Sign.TheVariants as sign
 use Rattle.p8_lines.specs.declared.state.State.{State}
 use Rattle.p8_lines.specs.declared.state.State.TheVariants as state
-use Rattle.p8_lines.specs.Signs.{is_size, is_pins, is_change, is_operator, is_value, is_built_in, is_condition, takes_two, is_on_memory, takes_one, Matches}
+use Rattle.p8_lines.specs.Signs.{is_size, is_condition, takes_two, is_on_memory, takes_one, Matches}
 use Rattle.p8_lines.specs.Diagram.{Phrase, choices}
 use Rattle.p8_lines.specs.Tokens.{LineToken, word, lexeme, term, string_length}
 use Rattle.p8_lines.specs.Lines as line_specs
@@ -77,26 +77,6 @@ sizes : (w : Word) → apart_in (is_size w) (is_apart w) ≡ false
 sizes word_case.PlusPlus = refl
 sizes w = refl
 
-pins : (w : Word) → apart_in (is_pins w) (is_apart w) ≡ false
-pins word_case.PlusPlus = refl
-pins w = refl
-
-changes : (w : Word) → apart_in (is_change w) (is_apart w) ≡ false
-changes word_case.PlusPlus = refl
-changes w = refl
-
-operators : (w : Word) → apart_in (is_operator w) (is_apart w) ≡ false
-operators word_case.PlusPlus = refl
-operators w = refl
-
-values : (w : Word) → apart_in (is_value w) (is_apart w) ≡ false
-values word_case.PlusPlus = refl
-values w = refl
-
-built_ins : (w : Word) → apart_in (is_built_in w) (is_apart w) ≡ false
-built_ins word_case.PlusPlus = refl
-built_ins w = refl
-
 conditions : (w : Word) → apart_in (is_condition w) (is_apart w) ≡ false
 conditions word_case.PlusPlus = refl
 conditions w = refl
@@ -116,11 +96,6 @@ singles w = refl
 abbrev stays_inside : Sign → Bool
 stays_inside (sign.Word w) = if is_apart w then false else true
 stays_inside sign.Size = true
-stays_inside sign.Pins = true
-stays_inside sign.Change = true
-stays_inside sign.Operator = true
-stays_inside sign.Value = true
-stays_inside sign.BuiltIn = true
 stays_inside sign.Condition = true
 stays_inside sign.TwoOperands = true
 stays_inside sign.Memory = true
@@ -134,11 +109,6 @@ refuted false h = refl
 sign_inside : (x : Sign) (v : Word) (n : ℕ) → Matches x v n → IsTrue (stays_inside x) → is_apart v ≡ false
 sign_inside (sign.Word w) v n m h = ap is_apart m ∙ refuted (is_apart w) h
 sign_inside sign.Size v n m h = not_apart (is_size v) (is_apart v) (sizes v) m
-sign_inside sign.Pins v n m h = not_apart (is_pins v) (is_apart v) (pins v) m
-sign_inside sign.Change v n m h = not_apart (is_change v) (is_apart v) (changes v) m
-sign_inside sign.Operator v n m h = not_apart (is_operator v) (is_apart v) (operators v) m
-sign_inside sign.Value v n m h = not_apart (is_value v) (is_apart v) (values v) m
-sign_inside sign.BuiltIn v n m h = not_apart (is_built_in v) (is_apart v) (built_ins v) m
 sign_inside sign.Condition v n m h = not_apart (is_condition v) (is_apart v) (conditions v) m
 sign_inside sign.TwoOperands v n m h = not_apart (takes_two v) (is_apart v) (pairs v) m
 sign_inside sign.Memory v n m h = not_apart (is_on_memory v) (is_apart v) (memory v) m

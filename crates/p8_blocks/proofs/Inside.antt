@@ -5,10 +5,10 @@ use Rattle.p8_tree.specs.Expressions.{Tree}
 use Rattle.p8_tree.specs.declared.places.Place.{Place}
 use Rattle.p8_lexer.specs.declared.word.Word.{Word}
 use Rattle.p8_lexer.specs.declared.word.Word.TheVariants as word_case
-use Rattle.p8_grammar.specs.Lexemes.{Setting, other, token}
+use Rattle.p8_grammar.specs.Lexemes.{Setting, is_value, other, token}
 use Rattle.p8_grammar.specs.Grammar.{IsExpression}
 use Rattle.p8_grammar.specs.Machine as machine
-use Rattle.p8_grammar.specs.Machine.{reading, addressing, changing, Shape, using, Frame, if_fresh, step, walk, start, tree, beyond}
+use Rattle.p8_grammar.specs.Machine.{reading, addressing, changing, used, Shape, using, fresh, grow, go_on, Frame, infix_frame, if_fresh, step, walk, start, tree, beyond}
 use Rattle.p8_grammar.proofs.Complete.{complete}
 use Rattle.p8_expr.specs.Words.{lexeme_of_word}
 use Rattle.p8_pieces.specs.Pieces.{Piece}
@@ -17,7 +17,7 @@ use Rattle.p8_lines.specs.declared.sign.Sign.TheVariants as sign
 use Rattle.p8_lines.specs.declared.arrow.Arrow.{Arrow}
 use Rattle.p8_lines.specs.declared.state.State.{State}
 use Rattle.p8_lines.specs.declared.state.State.TheVariants as state
-use Rattle.p8_lines.specs.Signs.{is_size, is_pins, is_assignment, is_boolean, is_change, is_operator, is_value, is_built_in, is_condition, takes_two, is_on_memory, takes_one, is_flag, is_write, Matches}
+use Rattle.p8_lines.specs.Signs.{is_size, is_condition, takes_two, is_on_memory, takes_one, is_flag, is_write, Matches}
 use Rattle.p8_lines.specs.Diagram.{Phrase, choices}
 use Rattle.p8_lines.specs.Tokens.{LineToken, word, lexeme, term, terms, string_length}
 use Rattle.p8_lines.specs.Lines as line_specs
@@ -40,34 +40,6 @@ not_block false block h y = absurd cc
 sizes : (w : Word) → block_in (is_size w) (is_block_word w) ≡ false
 sizes word_case.PlusPlus = refl
 sizes w = refl
-
-pins : (w : Word) → block_in (is_pins w) (is_block_word w) ≡ false
-pins word_case.PlusPlus = refl
-pins w = refl
-
-assignments : (w : Word) → block_in (is_assignment w) (is_block_word w) ≡ false
-assignments word_case.PlusPlus = refl
-assignments w = refl
-
-booleans : (w : Word) → block_in (is_boolean w) (is_block_word w) ≡ false
-booleans word_case.PlusPlus = refl
-booleans w = refl
-
-changes : (w : Word) → block_in (is_change w) (is_block_word w) ≡ false
-changes word_case.PlusPlus = refl
-changes w = refl
-
-operators : (w : Word) → block_in (is_operator w) (is_block_word w) ≡ false
-operators word_case.PlusPlus = refl
-operators w = refl
-
-values : (w : Word) → block_in (is_value w) (is_block_word w) ≡ false
-values word_case.PlusPlus = refl
-values w = refl
-
-built_ins : (w : Word) → block_in (is_built_in w) (is_block_word w) ≡ false
-built_ins word_case.PlusPlus = refl
-built_ins w = refl
 
 conditions : (w : Word) → block_in (is_condition w) (is_block_word w) ≡ false
 conditions word_case.PlusPlus = refl
@@ -104,13 +76,6 @@ refuted false h = refl
 on_sign : (x : Sign) (v : Word) (n : ℕ) → Matches x v n → IsTrue (begins_no_block x) → is_block_word v ≡ false
 on_sign (sign.Word w) v n m h = ap is_block_word m ∙ refuted (is_block_word w) h
 on_sign sign.Size v n m h = not_block (is_size v) (is_block_word v) (sizes v) m
-on_sign sign.Pins v n m h = not_block (is_pins v) (is_block_word v) (pins v) m
-on_sign sign.Assignment v n m h = not_block (is_assignment v) (is_block_word v) (assignments v) m
-on_sign sign.Boolean v n m h = not_block (is_boolean v) (is_block_word v) (booleans v) m
-on_sign sign.Change v n m h = not_block (is_change v) (is_block_word v) (changes v) m
-on_sign sign.Operator v n m h = not_block (is_operator v) (is_block_word v) (operators v) m
-on_sign sign.Value v n m h = not_block (is_value v) (is_block_word v) (values v) m
-on_sign sign.BuiltIn v n m h = not_block (is_built_in v) (is_block_word v) (built_ins v) m
 on_sign sign.Condition v n m h = not_block (is_condition v) (is_block_word v) (conditions v) m
 on_sign sign.TwoOperands v n m h = not_block (takes_two v) (is_block_word v) (pairs v) m
 on_sign sign.Memory v n m h = not_block (is_on_memory v) (is_block_word v) (memory v) m
@@ -151,7 +116,11 @@ not_fresh s (using (changing q b)) p k = refl
 not_fresh s sh p k = refl
 
 no_step : (st : machine.State) (p : Place) → step st (token p other) ≡ None
-no_step (machine.joined s r c q v k) p = refl
+no_step (machine.joined s r c q v k) p = go (is_value s)
+  where
+    go : (b : Bool) → (if b then go_on (grow s fresh p other) s fresh (infix_frame r c q (used reading v) ∷ k) p other else None) ≡ None
+    go true = refl
+    go false = refl
 no_step (machine.state s sh k) p = go (tree sh)
   where
     go : (o : Option Tree) → beyond o s sh k p other ≡ None

@@ -224,7 +224,8 @@ module _ (all : AllValues) where
   barred_number {t = t} (after_other h g c) e = not_nested in_method (word t) e
 
   nothing_high : {q : State} {n : ℕ} {p : Place} → Reads q [] (refused n p) → n ≡ refusal_number TooNested → ⊥
-  nothing_high (too_high e f x p h) n = absurd cc
+  nothing_high (too_high {us = []} e x p h) n = absurd cc
+  nothing_high (too_high {us = u ∷ us} e x p h) n = absurd cc
   nothing_high {q} (stopped t vs e b l s h) n = not_nested (setting_at q) (word t) n
 
   module _ {m : MethodTree} {ls : List lines.Line} {ps : List Part} {b : Bool} {ts : List LineToken} (w : Walk any_height (method m ls ∷ ps, b) ts) (t : LineToken) (q : State) (n : word t ≢ word_case.LineEnd) (i : ¬ IsHead t) (e : Enters ls b t (from q)) where

@@ -3,14 +3,14 @@ use Rattle.std.proofs.Common.{◌≡◌, ℕ, ◌<◌, ◌≤◌, ◌⊎◌, inl
 use Rattle.std.proofs.lemmas.Bool.{cases_lt}
 use Rattle.std.specs.Prelude.{if◌then◌else◌}
 use Rattle.p8_tree.specs.declared.places.Place.{Place}
-use Rattle.p8_tree.specs.Expressions.{Tree}
+use Rattle.p8_tree.specs.Expressions.{Tree, node, Built, no_trees}
 use Rattle.p8_lexer.specs.declared.token.TokenKind.TheVariants as kind
 use Rattle.p8_lexer.specs.Words.{symbols, reserved_words, every_word}
 use Rattle.p8_lexer.specs.declared.refusal.Refusal.TheVariants as refusal
 use Rattle.p8_lexer.specs.Refusals.{refusal_number}
 use Rattle.p8_grammar.specs.Lexemes as lexemes
-use Rattle.p8_grammar.specs.Lexemes.{Setting, in_method, in_declaration, in_dat, in_data_item, Mark, left_parenthesis, right_parenthesis, left_bracket, right_bracket, comma, colon, dot, dot_dot, hash, backslash, equal, Lexeme, number, name, method_result, mark, token}
-use Rattle.p8_grammar.specs.Grammar.{a_number, operand, nothing, a_word, result_name, IsExpression, IsFront}
+use Rattle.p8_grammar.specs.Lexemes.{Setting, in_method, in_declaration, in_dat, in_data_item, in_action, Mark, left_parenthesis, right_parenthesis, left_bracket, right_bracket, comma, colon, dot, dot_dot, hash, backslash, equal, Lexeme, name, method_result, mark, token}
+use Rattle.p8_grammar.specs.Grammar.{a_value, operand, nothing, a_word, result_name, IsExpression, IsFront}
 use Rattle.p8_grammar.specs.Heights as heights
 use Rattle.p8_grammar.specs.Heights.{height}
 use Rattle.p8_grammar.specs.Machine as machine
@@ -60,6 +60,7 @@ unfolding every_word symbols reserved_words lexeme_of_word
 real p live.a_name = record { is = record { place = p; text = 65 ∷ []; kind = kind.Name }; same = refl }
 real p live.a_number = record { is = record { place = p; text = 48 ∷ []; kind = kind.Number 0 }; same = refl }
 real p live.a_string = record { is = record { place = p; text = 34 ∷ 65 ∷ 34 ∷ []; kind = kind.Str }; same = refl }
+real p live.a_change = record { is = record { place = p; text = []; kind = kind.Symbol 0 }; same = refl }
 real p live.a_size = record { is = record { place = p; text = 66 ∷ 89 ∷ 84 ∷ 69 ∷ []; kind = kind.Name }; same = refl }
 real p (live.a_mark m) = real_mark p m
 
@@ -113,17 +114,30 @@ name_low in_method n p (name m) lt h = named_low in_method n p (name m) true m r
 name_low in_declaration n p (name m) lt h = named_low in_declaration n p (name m) true m refl lt
 name_low in_dat n p (name m) lt h = named_low in_dat n p (name m) true m refl lt
 name_low in_data_item n p (name m) lt h = named_low in_data_item n p (name m) true m refl lt
+name_low in_action n p (name m) lt h = named_low in_action n p (name m) true m refl lt
 name_low in_method n p method_result lt h = named_low in_method n p method_result false result_name refl lt
 name_low in_declaration n p method_result lt h = named_low in_declaration n p method_result false result_name refl lt
 name_low in_dat n p method_result lt h = named_low in_dat n p method_result false result_name refl lt
 name_low in_data_item n p method_result lt h = named_low in_data_item n p method_result false result_name refl lt
+name_low in_action n p method_result lt h = named_low in_action n p method_result false result_name refl lt
 name_low s n p x lt h = absurd cc
 
 abbrev somewhere : Place
 somewhere = record { line = 0; column = 0 }
 
-abbrev zero_token : LineToken
-zero_token = record { place = somewhere; text = []; kind = kind.Number 0 }
+-- COGID, which is an expression and an action
+abbrev value_token : LineToken
+value_token = record { place = somewhere; text = 67 ∷ 79 ∷ 71 ∷ 73 ∷ 68 ∷ []; kind = kind.Name }
+
+value_lexeme : lexeme value_token ≡ lexemes.value 0x3F
+unfolding every_word symbols reserved_words lexeme_of_word
+value_lexeme = refl
+
+value_is_no_name : is_name_word (lexeme value_token) ≡ false
+value_is_no_name = ap is_name_word value_lexeme
+
+value_reads : (s : Setting) → (e : Tree) × IsExpression s e (terms (value_token ∷ [])) × (height e ≡ 1)
+value_reads s = (node somewhere (Built 0x3F no_trees), subst (λ x. IsExpression s (node somewhere (Built 0x3F no_trees)) (token somewhere x ∷ [])) (sym value_lexeme) (operand a_value (a_word nothing)), refl)
 
 -- a line within the limits from a state
 pub record LowLine (q : State) (ts : List LineToken) : Type 0 where
@@ -131,22 +145,22 @@ pub record LowLine (q : State) (ts : List LineToken) : Type 0 where
   pub row : List Piece
   pub leads : Leads q (ts ++ rest) row state.End
 
--- an expression and what follows it, and 0 in its place where it isn't a name
+-- an expression and what follows it, and COGID in its place where it isn't a name
 zeroed : {q r : State} {h : Phrase} {e : Tree} {t : LineToken} (first : LineToken) (others : List LineToken) → (choices q).phrase ≡ Some h → IsExpression h.setting e (terms (first ∷ others)) → Follows (behind h (first ∷ others)) t r → LowLine r [] → LowLine q []
 zeroed {q} {r} {h} {e} {t} first others p x f z = go others x f
   where
-    zero : Follows h.behind_other t r → LowLine q []
-    zero f = record { rest = zero_token ∷ t ∷ z.rest; row = _; leads = by_phrase [] p (operand a_number (a_word {ts = []} nothing)) (let lt = limit_positive h in omega (arith, lt)) f z.leads }
+    value : Follows h.behind_other t r → LowLine q []
+    value f = let x = value_reads h.setting in record { rest = value_token ∷ t ∷ z.rest; row = _; leads = by_phrase [] p x.1 (let one = x.2 in omega (arith, one)) (subst (λ b. Follows (if b then h.behind_name else h.behind_other) t r) (sym value_is_no_name) f) z.leads }
 
     alone : (b : Bool) → is_name_word (lexeme first) ≡ b → IsExpression h.setting e (terms (first ∷ [])) → Follows (behind h (first ∷ [])) t r → LowLine q []
-    alone true n x f = record { rest = first ∷ t ∷ z.rest; row = _; leads = by_phrase [] p x (low_tree h.setting (greatest_height h) (first ∷ []) e x (name_low h.setting (greatest_height h) first.place (lexeme first) (limit_positive h) n)) f z.leads }
-    alone false n x f = zero (subst (λ b. Follows (if b then h.behind_name else h.behind_other) t r) n f)
+    alone true n x f = record { rest = first ∷ t ∷ z.rest; row = _; leads = by_phrase [] p x (low_tree h.setting greatest_height (first ∷ []) e x (name_low h.setting greatest_height first.place (lexeme first) limit_positive n)) f z.leads }
+    alone false n x f = value (subst (λ b. Follows (if b then h.behind_name else h.behind_other) t r) n f)
 
     go : (others : List LineToken) → IsExpression h.setting e (terms (first ∷ others)) → Follows (behind h (first ∷ others)) t r → LowLine q []
     go [] x f = alone (is_name_word (lexeme first)) refl x f
-    go (u ∷ us) x f = zero f
+    go (u ∷ us) x f = value f
 
--- with 0 in the place of each expression but names
+-- with COGID in the place of each expression but names
 lowered : {q : State} {row : List Piece} {ts : List LineToken} → Row q row ts → LowLine q []
 lowered over = record { rest = []; row = []; leads = nowhere }
 lowered (lines.token {t = t} f x) = let y = lowered x in record { rest = t ∷ y.rest; row = _; leads = by_token f y.leads }
@@ -156,7 +170,7 @@ pub from_state : (q : State) → LowLine q []
 from_state q = lowered (completed q).2
 
 -- a low expression at a state, and what follows it
-pub low_phrase : (q : State) (h : Phrase) (ts : List LineToken) → (choices q).phrase ≡ Some h → Low h.setting (greatest_height h) ts → LowLine q ts
+pub low_phrase : (q : State) (h : Phrase) (ts : List LineToken) → (choices q).phrase ≡ Some h → Low h.setting greatest_height ts → LowLine q ts
 low_phrase q h ts p y = go (ts ++ y.rest) refl
   where
     go : (l : List LineToken) → ts ++ y.rest ≡ l → LowLine q ts
@@ -191,22 +205,22 @@ further_high {us = us} vs l h = record {
 phrase_lows : {q r : State} {h : Phrase} {tree : Tree} {t : LineToken} (first u : LineToken) (us rest others ts : List LineToken) → (choices q).phrase ≡ Some h → IsExpression h.setting tree (terms (first ∷ others)) → Follows (behind h (first ∷ others)) t r → (first ∷ others) ++ t ∷ ts ≡ (u ∷ us) ++ rest → ¬ HasTooHigh q (u ∷ us) → ((vs : List LineToken) → ts ≡ vs ++ rest → ¬ HasTooHigh r vs → LowLine r vs) → LowLine q (u ∷ us)
 phrase_lows {q} {r} {h} {tree} {t} first u us rest others ts p x f e n later = go (compare (u ∷ us) rest (first ∷ others) (t ∷ ts) (sym e))
   where
-    not_high : (front after : List LineToken) → u ∷ us ≡ front ++ after → IsFront h.setting (terms front) → ¬ heights.IsTooHigh h.setting (greatest_height h) (terms front)
+    not_high : (front after : List LineToken) → u ∷ us ≡ front ++ after → IsFront h.setting (terms front) → ¬ heights.IsTooHigh h.setting greatest_height (terms front)
     not_high front after split b high = n (record { before = []; after = u ∷ us; split = refl; row = []; at = q; leads = nowhere; phrase = h; expects = p; high = record { front = front; rest = after; split = split; begins = b; high = high } })
 
     part : (vs : List LineToken) → first ∷ others ≡ (u ∷ us) ++ vs → LowLine q (u ∷ us)
-    part vs a = from_there (low_or_high h.setting (greatest_height h) (u ∷ us) b)
+    part vs a = from_there (low_or_high h.setting greatest_height (u ∷ us) b)
       where
         b : IsFront h.setting (terms (u ∷ us))
         b = (terms vs, tree, subst (IsExpression h.setting tree) (ap terms a ∙ terms_append (u ∷ us) vs) x)
 
-        from_there : heights.IsTooHigh h.setting (greatest_height h) (terms (u ∷ us)) ⊎ Low h.setting (greatest_height h) (u ∷ us) → LowLine q (u ∷ us)
+        from_there : heights.IsTooHigh h.setting greatest_height (terms (u ∷ us)) ⊎ Low h.setting greatest_height (u ∷ us) → LowLine q (u ∷ us)
         from_there (inl high) = absurd (not_high (u ∷ us) [] (sym (append-nil (u ∷ us))) b high)
         from_there (inr low) = low_phrase q h (u ∷ us) p low
 
     behind_it : (w : LineToken) (vs : List LineToken) → u ∷ us ≡ (first ∷ others) ++ w ∷ vs → t ≡ w → ts ≡ vs ++ rest → LowLine q (u ∷ us)
     behind_it w vs a i j =
-        let low = low_tree h.setting (greatest_height h) (first ∷ others) tree x (not_high (first ∷ others) (w ∷ vs) a ([], tree, subst (IsExpression h.setting tree) (sym (append-nil (terms (first ∷ others)))) x)) in
+        let low = low_tree h.setting greatest_height (first ∷ others) tree x (not_high (first ∷ others) (w ∷ vs) a ([], tree, subst (IsExpression h.setting tree) (sym (append-nil (terms (first ∷ others)))) x)) in
         let l : Leads q ((first ∷ others) ++ w ∷ []) _ r = by_phrase others p x low (subst (λ t. Follows (behind h (first ∷ others)) t r) i f) nowhere in
         let whole : u ∷ us ≡ ((first ∷ others) ++ w ∷ []) ++ vs = a ∙ sym (append_assoc (first ∷ others) (w ∷ []) vs) in
         subst (LowLine q) (sym whole) (led vs l (later vs j (λ k. n (subst (HasTooHigh q) (sym whole) (further_high vs l k)))))
@@ -295,7 +309,7 @@ same_first first [] x ys zs e = (zs, (let h : x ≡ first = cc in ap (λ y. y �
 same_first first (y ∷ xs) x ys zs e = (xs ++ x ∷ zs, (let h : y ≡ first = cc in ap (λ y. y ∷ (xs ++ x ∷ zs)) h))
 
 pub high_at : {q : State} {ts : List LineToken} {n : ℕ} {p : Place} → Reads q ts (refused n p) → n ≡ refusal_number refusal.TooNested → HighAt q ts p
-high_at {q} {ts} (lines.too_high {row = row} {us = us} {vs = vs} {others = others} {first = first} {t = t} {r = r} {h = h} e f leads expects high) n = record {
+high_at {q} {ts} (lines.too_high {row = row} {us = us} {vs = vs} {t = t} {r = r} {h = h} f leads expects high) n = record {
   front = us ++ fh.front;
   token = fh.token;
   rest = fh.rest ++ high.rest;
@@ -306,30 +320,23 @@ high_at {q} {ts} (lines.too_high {row = row} {us = us} {vs = vs} {others = other
   at_once = λ z. at_once us fh.front z f whole;
 }
   where
-    fh : FirstHigh h.setting (greatest_height h) high.front
-    fh = first_high h.setting (greatest_height h) [] high.front high.begins (nothing_low h.setting (greatest_height h) (limit_positive h)) high.high
+    fh : FirstHigh h.setting greatest_height high.front
+    fh = first_high h.setting greatest_height [] high.front high.begins (nothing_low h.setting greatest_height limit_positive) high.high
 
     whole : t ∷ vs ≡ fh.front ++ fh.token ∷ (fh.rest ++ high.rest)
     whole = high.split ∙ ap (λ l. l ++ high.rest) fh.split ∙ append_assoc fh.front (fh.token ∷ fh.rest) high.rest
 
-    again : (more : List LineToken) → Reads q ((us ++ fh.front) ++ fh.token ∷ more) (refused (refusal_number refusal.TooNested) (if h.inner then first.place else t.place))
+    again : (more : List LineToken) → Reads q ((us ++ fh.front) ++ fh.token ∷ more) (refused (refusal_number refusal.TooNested) t.place)
     again more =
         let x = same_first t fh.front fh.token (fh.rest ++ high.rest) more (sym whole) in
         let there : (us ++ fh.front) ++ fh.token ∷ more ≡ us ++ t ∷ x.0 = append_assoc us fh.front (fh.token ∷ more) ∙ ap (λ l. us ++ l) x.1 in
-        let y = same_first first us t vs x.0 (sym f ∙ e) in
         let split : t ∷ x.0 ≡ (fh.front ++ fh.token ∷ []) ++ more = sym x.1 ∙ sym (append_assoc fh.front (fh.token ∷ []) more) in
-        lines.too_high (there ∙ y.1) there leads expects (record { front = fh.front ++ fh.token ∷ []; rest = more; split = split; begins = fh.begins; high = fh.high })
+        lines.too_high there leads expects (record { front = fh.front ++ fh.token ∷ []; rest = more; split = split; begins = fh.begins; high = fh.high })
 
-    place : t ≡ first → (b : Bool) → (if b then first.place else t.place) ≡ t.place
-    place i true = ap (λ x. x.place) (sym i)
-    place i false = refl
-
-    at_once : (us front : List LineToken) → us ++ front ≡ [] → ts ≡ us ++ t ∷ vs → t ∷ vs ≡ front ++ fh.token ∷ (fh.rest ++ high.rest) → (if h.inner then first.place else t.place) ≡ fh.token.place
+    at_once : (us front : List LineToken) → us ++ front ≡ [] → ts ≡ us ++ t ∷ vs → t ∷ vs ≡ front ++ fh.token ∷ (fh.rest ++ high.rest) → t.place ≡ fh.token.place
     at_once [] [] z f w =
-        let firsts : t ∷ vs ≡ first ∷ others = sym f ∙ e in
-        let i : t ≡ first = cc in
         let j : t ≡ fh.token = cc in
-        place i h.inner ∙ ap (λ x. x.place) j
+        ap (λ x. x.place) j
     at_once [] (x ∷ front) z f w = absurd cc
     at_once (x ∷ us) front z f w = absurd cc
 high_at {q} (lines.stopped {us = us} t vs e begins no_line ends low) n = absurd (not_nested (setting_at q) (word t) n)

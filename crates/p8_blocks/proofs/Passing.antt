@@ -1,6 +1,6 @@
 -- Where tokens go past the limits on heights and on how deep blocks stand.
-use Rattle.std.proofs.Common.{◌≡◌, ℕ, ◌<◌, List, [], ◌∷◌, ◌++◌, Option, Some, None, Bool, true, false, refl, sym, ap, ◌∙◌, subst, append_assoc, arith}
-use Rattle.std.specs.Prelude.{IsTrue, if◌then◌else◌, unwrap_or}
+use Rattle.std.proofs.Common.{◌≡◌, ℕ, List, [], ◌∷◌, ◌++◌, Option, Some, None, Bool, true, false, refl, sym, ap, ◌∙◌, subst, append_assoc}
+use Rattle.std.specs.Prelude.{IsTrue, unwrap_or}
 use Rattle.p8_tree.specs.declared.places.Place.{Place}
 use Rattle.p8_lexer.specs.declared.word.Word.{Word}
 use Rattle.p8_lexer.specs.declared.word.Word.TheVariants as word_case
@@ -9,7 +9,7 @@ use Rattle.p8_lexer.specs.declared.refusal.Refusal.TheVariants as refusal
 use Rattle.p8_lexer.specs.Refusals.{refusal_number}
 use Rattle.p8_grammar.specs.Grammar.{IsFront}
 use Rattle.p8_grammar.specs.Heights as heights
-use Rattle.p8_grammar.specs.Lexemes.{Setting, in_method, in_declaration, in_dat, in_data_item}
+use Rattle.p8_grammar.specs.Lexemes.{Setting, in_method, in_declaration, in_dat, in_data_item, in_action}
 use Rattle.p8_expr.specs.Refusals.{refusal_of}
 use Rattle.p8_pieces.specs.Pieces.{Piece}
 use Rattle.p8_lines.specs.declared.state.State.{State}
@@ -18,7 +18,7 @@ use Rattle.p8_lines.specs.Tokens.{LineToken, word, terms}
 use Rattle.p8_lines.specs.Lines as line_specs
 use Rattle.p8_lines.specs.Lines.{Row, Leads, Outcome, read, Reads, refused, line, too_high, stopped, number_of, greatest_height, IsTooHigh}
 use Rattle.p8_lines.proofs.Begun.{nothing_high}
-use Rattle.p8_lines.proofs.Rows.{leads_way, begun, way_begins, front_begins}
+use Rattle.p8_lines.proofs.Rows.{leads_way, begun, way_begins, front_begins, limit_positive}
 use Rattle.p8_blocks.specs.Reading.{IsRefusedAt}
 use Rattle.p8_lines.proofs.Readings.{leads_row}
 use Rattle.p8_blocks.proofs.Ends.{is_over, Last, row_ends}
@@ -41,6 +41,8 @@ words_refused in_dat word_case.PlusPlus = refl
 words_refused in_dat w = refl
 words_refused in_data_item word_case.PlusPlus = refl
 words_refused in_data_item w = refl
+words_refused in_action word_case.PlusPlus = refl
+words_refused in_action w = refl
 
 pub not_nested : (s : Setting) (w : Word) → number_of s w ≡ refusal_number refusal.TooNested → ⊥
 not_nested s w e = go (refusal_of s w) (words_refused s w) e
@@ -69,19 +71,12 @@ pub record High (q : State) (first : LineToken) (others : List LineToken) (p : P
   pub begins : line_specs.Begins q (first ∷ front)
   pub again : (more : List LineToken) → Reads q (first ∷ (front ++ more)) (refused (refusal_number refusal.TooNested) p)
 
-some_height : (h : Phrase) → 0 < greatest_height h
-some_height h = go h.inner
-  where
-    go : (b : Bool) → 0 < (if b then 63 else 64)
-    go true = omega arith
-    go false = omega arith
-
 module _ {q r : State} {row : List Piece} (h : Phrase) (us vs fs gs : List LineToken) (t : LineToken) (leads : Leads q us row r) (expects : (choices r).phrase ≡ Some h) (is : vs ≡ fs ++ gs) (begins : line_specs.Begins q (us ++ t ∷ fs)) (high : (more : List LineToken) → IsTooHigh h (t ∷ (fs ++ more))) where
   -- from the line's first token on
-  high_from : (first : LineToken) (others : List LineToken) → us ++ t ∷ vs ≡ first ∷ others → High q first others (if h.inner then first.place else t.place)
+  high_from : (first : LineToken) (others : List LineToken) → us ++ t ∷ vs ≡ first ∷ others → High q first others t.place
   high_from first others e = go us refl
     where
-      go : (xs : List LineToken) → us ≡ xs → High q first others (if h.inner then first.place else t.place)
+      go : (xs : List LineToken) → us ≡ xs → High q first others t.place
       go [] f =
           let whole : t ∷ vs ≡ first ∷ others = ap (λ xs. xs ++ t ∷ vs) (sym f) ∙ e in
           let firsts : t ≡ first = cc in
@@ -91,7 +86,7 @@ module _ {q r : State} {row : List Piece} (h : Phrase) (us vs fs gs : List LineT
             rest = gs;
             split = sym tails ∙ is;
             begins = subst (λ x. line_specs.Begins q (x ∷ fs)) firsts (subst (λ xs. line_specs.Begins q (xs ++ t ∷ fs)) f begins);
-            again = λ more. too_high refl (ap (λ x. x ∷ (fs ++ more)) (sym firsts) ∙ ap (λ xs. xs ++ t ∷ (fs ++ more)) (sym f)) leads expects (high more);
+            again = λ more. too_high (ap (λ x. x ∷ (fs ++ more)) (sym firsts) ∙ ap (λ xs. xs ++ t ∷ (fs ++ more)) (sym f)) leads expects (high more);
           }
       go (x ∷ xs) f =
           let whole : x ∷ (xs ++ t ∷ vs) ≡ first ∷ others = ap (λ xs. xs ++ t ∷ vs) (sym f) ∙ e in
@@ -103,26 +98,22 @@ module _ {q r : State} {row : List Piece} (h : Phrase) (us vs fs gs : List LineT
             rest = gs;
             split = sym tails ∙ ap (λ l. xs ++ t ∷ l) is ∙ sym (append_assoc xs (t ∷ fs) gs);
             begins = subst (λ l. line_specs.Begins q (l ++ t ∷ fs)) same begins;
-            again = λ more. too_high refl (ap (λ l. first ∷ l) (append_assoc xs (t ∷ fs) more) ∙ ap (λ l. l ++ t ∷ (fs ++ more)) (sym same)) leads expects (high more);
+            again = λ more. too_high (ap (λ l. first ∷ l) (append_assoc xs (t ∷ fs) more) ∙ ap (λ l. l ++ t ∷ (fs ++ more)) (sym same)) leads expects (high more);
           }
 
 pub high_line : {q : State} {first : LineToken} {others : List LineToken} {n : ℕ} {p : Place} → Reads q (first ∷ others) (refused n p) → n ≡ refusal_number refusal.TooNested → High q first others p
-high_line {q} {first} {others} (too_high {row = row} {us = us} {vs = vs} {others = os} {first = f0} {t = t} {r = r} {h = h} e f leads expects high) n = go high.front refl
+high_line {q} {first} {others} (too_high {row = row} {us = us} {vs = vs} {t = t} {r = r} {h = h} f leads expects high) n = go high.front refl
   where
-    firsts : f0 ≡ first
-    firsts = (let z = e in cc)
-
-    go : (fs : List LineToken) → high.front ≡ fs → High q first others (if h.inner then f0.place else t.place)
-    go [] g = absurd (nothing_high h.setting (greatest_height h) (some_height h) (subst (λ l. heights.IsTooHigh h.setting (greatest_height h) (terms l)) g high.high))
+    go : (fs : List LineToken) → high.front ≡ fs → High q first others t.place
+    go [] g = absurd (nothing_high h.setting greatest_height limit_positive (subst (λ l. heights.IsTooHigh h.setting greatest_height (terms l)) g high.high))
     go (u ∷ fs) g =
         let whole : t ∷ vs ≡ u ∷ (fs ++ high.rest) = high.split ∙ ap (λ l. l ++ high.rest) g in
         let same : u ≡ t = cc in
         let tails : vs ≡ fs ++ high.rest = cc in
         let front : high.front ≡ t ∷ fs = g ∙ ap (λ u. u ∷ fs) same in
         let begins : line_specs.Begins q (us ++ t ∷ fs) = subst (λ l. line_specs.Begins q (us ++ l)) front (way_begins high.front (leads_way leads) (front_begins r h high.front expects high.begins)) in
-        let again : (more : List LineToken) → IsTooHigh h (t ∷ (fs ++ more)) = λ more. record { front = t ∷ fs; rest = more; split = refl; begins = subst (λ l. IsFront h.setting (terms l)) front high.begins; high = subst (λ l. heights.IsTooHigh h.setting (greatest_height h) (terms l)) front high.high } in
-        subst (λ x. High q first others (if h.inner then x.place else t.place)) (sym firsts)
-        (high_from h us vs fs high.rest t leads expects tails begins again first others (sym f))
+        let again : (more : List LineToken) → IsTooHigh h (t ∷ (fs ++ more)) = λ more. record { front = t ∷ fs; rest = more; split = refl; begins = subst (λ l. IsFront h.setting (terms l)) front high.begins; high = subst (λ l. heights.IsTooHigh h.setting greatest_height (terms l)) front high.high } in
+        high_from h us vs fs high.rest t leads expects tails begins again first others (sym f)
 high_line {q} (stopped {us = us} t vs e begins no_line ends low) n = absurd (not_nested (setting_at q) (word t) n)
 
 no_last : {w : Word} → Last [] w → ⊥
@@ -141,19 +132,12 @@ begins_line_so {q} {t} {ts} over (line {row = row} {us = us} {rest = rest} e lea
     go (x ∷ xs) f r =
         let firsts : x ≡ t = (let z = e ∙ ap (λ l. l ++ rest) f in cc) in
         (xs, row, subst (λ x. Row q row (x ∷ xs)) firsts (subst (λ l. Row q row l) f r))
-begins_line_so {q} {t} {ts} over (too_high {us = us} {vs = vs} {others = os} {first = f0} {t = u} {r = r} {h = h} e f leads expects high) n = go us refl
+begins_line_so {q} {t} {ts} over (too_high {us = us} {vs = vs} {t = u} {r = r} {h = h} f leads expects high) n = go us refl
   where
-    firsts : t ≡ f0
-    firsts = (let z = e in cc)
-
     go : (xs : List LineToken) → us ≡ xs → line_specs.Begins q (t ∷ [])
     go [] g =
         let same : t ≡ u = (let z = f ∙ ap (λ l. l ++ u ∷ vs) g in cc) in
-        absurd (n (there same h.inner))
-      where
-        there : t ≡ u → (b : Bool) → (if b then f0.place else u.place) ≡ t.place
-        there same true = ap (λ x. x.place) (sym firsts)
-        there same false = ap (λ x. x.place) (sym same)
+        absurd (n (ap (λ x. x.place) (sym same)))
     go (x ∷ xs) g =
         let same : x ≡ t = (let z = f ∙ ap (λ l. l ++ u ∷ vs) g in cc) in
         let b : line_specs.Begins q (us ++ high.front) = way_begins high.front (leads_way leads) (front_begins r h high.front expects high.begins) in

@@ -1,6 +1,6 @@
 -- A file of proper words is proper.
 use Rattle.std.proofs.Common.{◌≡◌, ℕ, List, [], ◌∷◌, ◌++◌, All, Option, Some, None, Bool, true, false, refl, sym, ap, ◌∙◌, subst}
-use Rattle.std.specs.Prelude.{IsTrue, option_map}
+use Rattle.std.specs.Prelude.{◌≢◌, IsTrue, option_map}
 use Rattle.std.specs.List.{AllByRecursion as Each}
 use Rattle.std.proofs.lemmas.List.Elements.{All-nil, All-append, All-push, All-pop, All-from_recursion, recursion_from_All}
 use Rattle.p8_tree.specs.Sources as sources
@@ -52,7 +52,7 @@ each_proper ts h = go ts (recursion_from_All (λ t. IsProperLexeme (lexeme_in t)
 
 -- what proper words and pieces give
 pub record Laws : Type 0 where
-  pub pieces : (q : State) → RowsAreProper q (is_in_dat q)
+  pub pieces : (q : State) → q ≢ state.Statement → RowsAreProper q (is_in_dat q)
   pub actions : (q : State) → IsTrue (begins_line q) → MethodRowsAreProper q
   pub constants : ConstantsAreProper
   pub variables : VariablesAreProper
@@ -71,14 +71,18 @@ module _ (laws : Laws) where
     declared (a_blank {ts = ts} t e d) h = declared d (each_first IsProperToken ts (t ∷ []) h)
     declared (a_line {xs = xs} {ys = ys} {ts = ts} us row l v d) h = All-append P xs ys (declared d (each_first IsProperToken ts us h)) (each us row ys l (each_rest IsProperToken ts us h) v)
 
-  of_constants : (q : State) → is_in_dat q ≡ false → (us : List LineToken) (row : List Piece) (xs : List Constant) → Leads q us row state.End → Each IsProperToken us → constants_of_row row ≡ Some xs → All IsProperConstant xs
-  of_constants q a us row xs l h e = laws.constants row xs (subst (λ d. AreProper d 64 row) a (laws.pieces q us row l (are_proper us h))) e
+  of_constants : (q : State) → q ≢ state.Statement → is_in_dat q ≡ false → (us : List LineToken) (row : List Piece) (xs : List Constant) → Leads q us row state.End → Each IsProperToken us → constants_of_row row ≡ Some xs → All IsProperConstant xs
+  of_constants q n a us row xs l h e = laws.constants row xs (subst (λ d. AreProper d 64 row) a (laws.pieces q n us row l (are_proper us h))) e
 
-  of_variables : (q : State) → is_in_dat q ≡ false → (us : List LineToken) (row : List Piece) (xs : List Declared) → Leads q us row state.End → Each IsProperToken us → variables_of_row row ≡ Some xs → All IsProperDeclared xs
-  of_variables q a us row xs l h e = laws.variables row xs (subst (λ d. AreProper d 64 row) a (laws.pieces q us row l (are_proper us h))) e
+  of_variables : (q : State) → q ≢ state.Statement → is_in_dat q ≡ false → (us : List LineToken) (row : List Piece) (xs : List Declared) → Leads q us row state.End → Each IsProperToken us → variables_of_row row ≡ Some xs → All IsProperDeclared xs
+  of_variables q n a us row xs l h e = laws.variables row xs (subst (λ d. AreProper d 64 row) a (laws.pieces q n us row l (are_proper us h))) e
 
-  of_objects : (q : State) → is_in_dat q ≡ false → (us : List LineToken) (row : List Piece) (xs : List Child) → Leads q us row state.End → Each IsProperToken us → objects_of_row row ≡ Some xs → All IsProperChild xs
-  of_objects q a us row xs l h e = laws.objects row xs (subst (λ d. AreProper d 64 row) a (laws.pieces q us row l (are_proper us h))) e
+  of_objects : (q : State) → q ≢ state.Statement → is_in_dat q ≡ false → (us : List LineToken) (row : List Piece) (xs : List Child) → Leads q us row state.End → Each IsProperToken us → objects_of_row row ≡ Some xs → All IsProperChild xs
+  of_objects q n a us row xs l h e = laws.objects row xs (subst (λ d. AreProper d 64 row) a (laws.pieces q n us row l (are_proper us h))) e
+
+  -- no line of DAT is a statement
+  in_dat : (q : State) → is_in_dat q ≡ true → q ≢ state.Statement
+  in_dat q a e = let z = sym (ap is_in_dat e) ∙ a in cc
 
   of_data : (q : State) → is_in_dat q ≡ true → LinesAreProper q → (us : List LineToken) (row : List Piece) (xs : List sources.Line) → Leads q us row state.End → Each IsProperToken us → lines_of_row row ≡ Some xs → All IsProperLine xs
   of_data q a law us row xs l h e = go (line_of_row row) refl e
@@ -88,7 +92,7 @@ module _ (laws : Laws) where
       go (Some None) f e = let none : [] ≡ xs = cc in subst (All IsProperLine) none (All-nil IsProperLine)
       go (Some (Some x)) f e =
           let one : x ∷ [] ≡ xs = cc in
-          subst (All IsProperLine) one (All-push IsProperLine [] x (All-nil IsProperLine) (law row us x (leads_row l) (subst (λ d. AreProper d 64 row) a (laws.pieces q us row l (are_proper us h))) f))
+          subst (All IsProperLine) one (All-push IsProperLine [] x (All-nil IsProperLine) (law row us x (leads_row l) (subst (λ d. AreProper d 64 row) a (laws.pieces q (in_dat q a) us row l (are_proper us h))) f))
 
   -- the lines of a method
 
@@ -105,12 +109,12 @@ module _ (laws : Laws) where
   -- blocks
 
   proper_block : {b : BlockTree} {ts : List LineToken} → IsBlock within_limits b ts → Each IsProperToken ts → IsShallowBlock b → IsProperBlock b
-  proper_block (con {xs = xs} {ys = ys} {vs = vs} t us row i l v d) h s = All-append IsProperConstant xs ys (of_constants state.ConHead refl us row xs l (each_first IsProperToken us vs h.1) v) (declared IsProperConstant constants_of_row state.ConItem (of_constants state.ConItem refl) d (each_rest IsProperToken us vs h.1))
-  proper_block (var {xs = xs} {ys = ys} {vs = vs} t us row i l v d) h s = All-append IsProperDeclared xs ys (of_variables state.VarHead refl us row xs l (each_first IsProperToken us vs h.1) v) (declared IsProperDeclared variables_of_row state.VarLine (of_variables state.VarLine refl) d (each_rest IsProperToken us vs h.1))
-  proper_block (obj {xs = xs} {ys = ys} {vs = vs} t us row i l v d) h s = All-append IsProperChild xs ys (of_objects state.ObjHead refl us row xs l (each_first IsProperToken us vs h.1) v) (declared IsProperChild objects_of_row state.ObjLine (of_objects state.ObjLine refl) d (each_rest IsProperToken us vs h.1))
+  proper_block (con {xs = xs} {ys = ys} {vs = vs} t us row i l v d) h s = All-append IsProperConstant xs ys (of_constants state.ConHead (λ e. cc) refl us row xs l (each_first IsProperToken us vs h.1) v) (declared IsProperConstant constants_of_row state.ConItem (of_constants state.ConItem (λ e. cc) refl) d (each_rest IsProperToken us vs h.1))
+  proper_block (var {xs = xs} {ys = ys} {vs = vs} t us row i l v d) h s = All-append IsProperDeclared xs ys (of_variables state.VarHead (λ e. cc) refl us row xs l (each_first IsProperToken us vs h.1) v) (declared IsProperDeclared variables_of_row state.VarLine (of_variables state.VarLine (λ e. cc) refl) d (each_rest IsProperToken us vs h.1))
+  proper_block (obj {xs = xs} {ys = ys} {vs = vs} t us row i l v d) h s = All-append IsProperChild xs ys (of_objects state.ObjHead (λ e. cc) refl us row xs l (each_first IsProperToken us vs h.1) v) (declared IsProperChild objects_of_row state.ObjLine (of_objects state.ObjLine (λ e. cc) refl) d (each_rest IsProperToken us vs h.1))
   proper_block (dat {xs = xs} {ys = ys} {vs = vs} t us row i l v d) h s = All-append IsProperLine xs ys (of_data state.DatHead refl laws.first_data us row xs l (each_first IsProperToken us vs h.1) v) (declared IsProperLine lines_of_row state.DatLine (of_data state.DatLine refl laws.data_lines) d (each_rest IsProperToken us vs h.1))
   proper_block (method {m = m} {ls = ls} {ss = ss} {vs = vs} public t us row i l v d a g) h s =
-      let head = laws.heads public row m (laws.pieces state.MethodName us row l (are_proper us (each_first IsProperToken us vs h.1))) v in
+      let head = laws.heads public row m (laws.pieces state.MethodName (λ e. cc) us row l (are_proper us (each_first IsProperToken us vs h.1))) v in
       record {
         name = head.name;
         params = head.params;
@@ -128,7 +132,7 @@ module _ (laws : Laws) where
   first_proper (x ∷ xs) h = All-push IsProperBlock [] (sources.Con (x ∷ xs)) (All-nil IsProperBlock) h
 
   proper_file : {s : Source} {ts : List LineToken} → IsFile within_limits s ts → Each IsProperToken ts → IsShallow s → IsProperFile s
-  proper_file (first {xs = xs} d) h s = first_proper xs (declared IsProperConstant constants_of_row state.ConItem (of_constants state.ConItem refl) d h)
+  proper_file (first {xs = xs} d) h s = first_proper xs (declared IsProperConstant constants_of_row state.ConItem (of_constants state.ConItem (λ e. cc) refl) d h)
   proper_file (one_more {bs = bs} {b = b} {ts = ts} {us = us} f x) h s =
       let z = All-pop IsShallowBlock (bs ++ b ∷ []) bs (Some b) refl s in
       All-push IsProperBlock bs b (proper_file f (each_first IsProperToken ts us h) z.0) (proper_block x (each_rest IsProperToken ts us h) z.1)

@@ -111,8 +111,8 @@ module _ (all : AllValues) where
   head_refused : {ps : List Part} {b : Bool} {ts : List LineToken} (t : LineToken) (us : List LineToken) {n : ℕ} {p : Place} → Walk within_limits (ps, b) ts → AllShallow ps → IsHead t → Reads (head_state (word t)) us (refused n p) → IsRefused (ts ++ t ∷ us) n p
   head_refused {ps} {b} t us w h i (stopped {us = vs} u rest e begins no_line stop low) =
       stopped_within all w h (head_at_hand ps b t i h) vs u rest us e begins no_line stop (low_line vs begins low) t vs refl (λ _. tt)
-  head_refused {ps} {b} {ts} t us w h i (too_high e f l x g) =
-      let y = high_at (too_high e f l x g) refl in
+  head_refused {ps} {b} {ts} t us w h i (too_high e l x g) =
+      let y = high_at (too_high e l x g) refl in
       let file = walk_file all (walk_any within_limits w) in
       high_within all w h (head_at_hand ps b t i h) us y (ts ++ t ∷ []) (sym (append_assoc ts (t ∷ []) y.front)) (λ u vs k. behind_word t file.1 i) t y.front refl (λ _. tt)
 
@@ -163,10 +163,10 @@ module _ (all : AllValues) where
       go : (vs : List LineToken) → t ∷ us ≡ vs ++ u ∷ rest → line_specs.Begins (line_state ps) vs → ((row : List Piece) → ¬ Row (line_state ps) row vs) → ¬ line_specs.Begins (line_state ps) (vs ++ u ∷ []) → ¬ HasTooHigh (line_state ps) vs → IsRefused (ts ++ t ∷ us) (number_of (setting_at (line_state ps)) (word u)) u.place
       go [] e begins no_line stop low = stopped_so all w h (declared_at_hand ps b t n i d h) [] u rest (t ∷ us) e begins no_line stop (λ later. (later, (let k : u ≡ t = cc in ap (λ x. x ∷ later) k))) (behind w h) none
       go (v ∷ vs) e begins no_line stop low = stopped_within all w h (declared_at_hand ps b t n i d h) (v ∷ vs) u rest (t ∷ us) e begins no_line stop (low_line (v ∷ vs) begins low) v vs refl (from_first t u v vs us rest e)
-  declared_refused {ps} {b} {ts} t us {p = p} w h n i d (too_high e f l x g) = go y.front refl
+  declared_refused {ps} {b} {ts} t us {p = p} w h n i d (too_high e l x g) = go y.front refl
     where
       y : HighAt (line_state ps) (t ∷ us) p
-      y = high_at (too_high e f l x g) refl
+      y = high_at (too_high e l x g) refl
 
       begins : (u : LineToken) (vs : List LineToken) → y.front ++ y.token ∷ y.rest ≡ u ∷ vs → BeginsLine ts u (line_state ps)
       begins u vs k =
@@ -324,18 +324,18 @@ module _ (all : AllValues) where
             go (v ∷ vs) f begins no_line stop low =
                 let firsts : v ≡ t = cc in
                 there_refused us (deep_stops d) (subst (λ v. line_specs.Begins q (v ∷ [])) firsts (begun (v ∷ []) vs begins)) (stopped u rest f begins no_line stop low) same
-        deep_line us {p = p} d same (too_high f g k x z) = go y.front refl
+        deep_line us {p = p} d same (too_high f k x z) = go y.front refl
           where
             y : HighAt q (t ∷ us) p
-            y = high_at (too_high f g k x z) refl
+            y = high_at (too_high f k x z) refl
 
             go : (vs : List LineToken) → y.front ≡ vs → IsRefused (ts ++ t ∷ us) (refusal_number TooNested) p
             go [] j =
                 let firsts : y.token ≡ t = (let whole : t ∷ us ≡ y.token ∷ y.rest = y.split ∙ ap (λ l. l ++ y.token ∷ y.rest) j in cc) in
-                there_refused us (deep_stops d) (subst (λ u. line_specs.Begins q (u ∷ [])) firsts (subst (λ l. line_specs.Begins q (l ++ y.token ∷ [])) j y.begins)) (too_high f g k x z) same
+                there_refused us (deep_stops d) (subst (λ u. line_specs.Begins q (u ∷ [])) firsts (subst (λ l. line_specs.Begins q (l ++ y.token ∷ [])) j y.begins)) (too_high f k x z) same
             go (v ∷ vs) j =
                 let firsts : v ≡ t = (let whole : t ∷ us ≡ (v ∷ vs) ++ y.token ∷ y.rest = y.split ∙ ap (λ l. l ++ y.token ∷ y.rest) j in cc) in
-                there_refused us (deep_stops d) (subst (λ u. line_specs.Begins q (u ∷ [])) firsts (begun (v ∷ []) (vs ++ y.token ∷ []) (subst (λ l. line_specs.Begins q (l ++ y.token ∷ [])) j y.begins))) (too_high f g k x z) same
+                there_refused us (deep_stops d) (subst (λ u. line_specs.Begins q (u ∷ [])) firsts (begun (v ∷ []) (vs ++ y.token ∷ []) (subst (λ l. line_specs.Begins q (l ++ y.token ∷ [])) j y.begins))) (too_high f k x z) same
 
         -- the line isn't too deep
 
@@ -370,10 +370,10 @@ module _ (all : AllValues) where
                   let firsts : t ≡ u = cc in
                   subst (λ u. IsRefused (ts ++ t ∷ us) (number_of (setting_at q) (word u)) u.place) firsts (first_refused us begins no_line (subst (λ u. ¬ line_specs.Begins q (u ∷ [])) (sym firsts) stop))
               go (v ∷ vs) f begins no_line stop low = stopped_within all w h line_at_hand (v ∷ vs) u rest (t ∷ us) f begins no_line stop (low_line (v ∷ vs) begins low) v vs refl (from_first t u v vs us rest f)
-          line_refused us {p = p} (too_high f g k x z) = go y.front refl
+          line_refused us {p = p} (too_high f k x z) = go y.front refl
             where
               y : HighAt q (t ∷ us) p
-              y = high_at (too_high f g k x z) refl
+              y = high_at (too_high f k x z) refl
 
               line_begins : (u : LineToken) (vs : List LineToken) → y.front ++ y.token ∷ y.rest ≡ u ∷ vs → BeginsLine ts u q
               line_begins u vs j =

@@ -125,7 +125,7 @@ module _ (all : AllValues) where
       (us, r.0, subst (λ u. Row (head_state (word u)) r.0 us) firsts r.1, cc)
 
   head_stops : {x : Progress} {ts : List LineToken} (t : LineToken) (us : List LineToken) {n : ℕ} {p : Place} → Walk any_height x ts → IsHead t → Reads (head_state (word t)) us (refused n p) → n ≢ refusal_number TooNested → StopsAt (ts ++ t ∷ us) n p
-  head_stops t us w i (too_high e f l g h) n = absurd (n refl)
+  head_stops t us w i (too_high e l g h) n = absurd (n refl)
   head_stops {x} {ts} t us w i (stopped {us = vs} u rest split begins no_line ends low) n =
       let q = head_state (word t) in
       let o = row_opens (word t) i.0 begins.1 (vs ++ begins.0) begins.2 in
@@ -170,7 +170,7 @@ module _ (all : AllValues) where
         }
 
     line_stops : (us : List LineToken) {n : ℕ} {p : Place} → Reads q (t ∷ us) (refused n p) → n ≢ refusal_number TooNested → StopsAt (ts ++ t ∷ us) n p
-    line_stops us (too_high e f l g h) n = absurd (n refl)
+    line_stops us (too_high e l g h) n = absurd (n refl)
     line_stops us (stopped {us = vs} u rest split begins no_line ends low) n = go vs split begins no_line ends
       where
         go : (vs : List LineToken) → t ∷ us ≡ vs ++ u ∷ rest → line_specs.Begins q vs → ((row : List Piece) → ¬ Row q row vs) → ¬ line_specs.Begins q (vs ++ u ∷ []) → StopsAt (ts ++ t ∷ us) (number_of (setting_at q) (word u)) u.place
