@@ -1,7 +1,6 @@
-use Rattle.std.proofs.Common.{◌≡◌, map}
+use Rattle.std.proofs.Common.{map}
 use Rattle.std.proofs.lemmas.Result.{IfOk-weaker}
 use Rattle.p8_tree.specs.Views.{named_source_of}
-use Rattle.p8_map.specs.Projects.{names_of}
 use Rattle.p8_map.proofs.AcceptedFiles.{names-told}
 use Rattle.p8_map.proofs.accepted.names_of_accepted.Goals as goal
 
