@@ -19,7 +19,7 @@ use Rattle.p8_cog.specs.declared.stage.Stage.{Stage}
 use Rattle.p8_cog.specs.declared.stage.Stage.TheVariants.{Loading, Running, Over}
 use Rattle.p8_cog.specs.Replay.{instruction, played, Outcome, Asks, Goes, Ends, step, after, first_with, loading, loaded_by, replayed, IsAsked, BeginsAt, Begins}
 use Rattle.p8_cog.specs.Standing.{turns_of, running_at, standing_at, IsReading, StandsIn, StandsFor, clock_in, clock_of}
-use Rattle.p8_cog.specs.Stops.{IsFrom, is_half, IsHalf, IsInLoad, Comes, Announces, Stops, Leads, IsSpent, IsTold, Loads, Takes}
+use Rattle.p8_cog.specs.Stops.{IsFrom, is_half, IsHalf, IsInLoad, Comes, Announces, is_access, asked_of, asked_now, announced_at, Stops, Leads, IsSpent, IsTold, Loads, Takes}
 use Rattle.p8_cog.specs.Replaying.{on-time, begin-asks, after-one, after-plus, after-asks, step-from, after-from, turn-kept, turn-taken, not-before}
 use Rattle.p8_cog.specs.Reaching.{begin-near, last-ends, ended-behind}
 
@@ -160,6 +160,14 @@ stops-announces cog code until stage p (At c a) room stops = λ clock access e.
     (stops.0 ∙ ap (λ (k : ℕ). Asks k a) when ∙ ap (Asks clock) what, omega (arith, when, stops.1), omega (arith, when, stops.2, room))
 stops-announces cog code until stage p Quiet room stops = announces-none cog code stage p
 stops-announces cog code until stage p (More bound) room stops = announces-none cog code stage p
+
+-- what is told, and whether an access is, tell what is announced
+pub told-announced : (cog code reached until : ℕ) (stage : Stage) (p : Progress) (next : Next) (asking : Bool) → asking ≡ is_access next → Stops cog (standing_at stage code p) reached until next → announced_at asking cog code stage p ≡ announced_by next
+unfolding asked_now
+told-announced cog code reached until stage p (At clock access) asking is stops =
+    ap (λ (b : Bool). announced_at b cog code stage p) is ∙ ap asked_of stops.0
+told-announced cog code reached until stage p Quiet asking is stops = ap (λ (b : Bool). announced_at b cog code stage p) is
+told-announced cog code reached until stage p (More bound) asking is stops = ap (λ (b : Bool). announced_at b cog code stage p) is
 
 -- ---- a run of instructions
 

@@ -118,6 +118,26 @@ Comes o turn =
 abbrev pub IsInLoad : Progress → Type 0
 IsInLoad p = (p.begun.at < 496) × (is_half p.had ≡ false)
 
+-- whether an access is told
+abbrev pub is_access : Next → Bool
+is_access (At clock access) = true
+is_access Quiet = false
+is_access (More bound) = false
+
+abbrev pub asked_of : Outcome → Option (ℕ × Access)
+asked_of (Asks clock access) = Some (clock, access)
+asked_of (Goes s left) = None
+asked_of Ends = None
+
+-- what is asked where a life stands
+unfoldable pub asked_now : (cog code : ℕ) → Stage → Progress → Option (ℕ × Access)
+asked_now cog code stage p = asked_of (step cog (standing_at stage code p))
+
+-- what was announced: what is asked there, if that was told
+abbrev pub announced_at : (asking : Bool) (cog code : ℕ) → Stage → Progress → Option (ℕ × Access)
+announced_at true cog code stage p = asked_now cog code stage p
+announced_at false cog code stage p = None
+
 -- what was announced is what comes next
 abbrev pub Announces : (cog code : ℕ) → Stage → Progress → Option (ℕ × Access) → Type 0
 Announces cog code stage p announced =

@@ -2,11 +2,11 @@
 ghost use Rattle.std.specs.Prelude.{ℕ, ◌≡◌, ◌<◌, ◌≤◌, ◌+◌, ◌%◌, ◌^◌, [], None, Some, IfOk};
 ghost use Rattle.std.proofs.Math.Nat.{le_refl};
 ghost use Rattle.p8_access.specs.Windows.{IsWindow};
-ghost use Rattle.p8_access.specs.Lives.{PasmBegun, announced_by};
+ghost use Rattle.p8_access.specs.Lives.{PasmBegun};
 ghost use Rattle.p8_cog.specs.declared.stage.Stage.TheVariants.{Loading};
 ghost use Rattle.p8_cog.specs.Replay.{IsAsked, Begins};
 ghost use Rattle.p8_cog.specs.Standing.{StandsFor, clock_of};
-ghost use Rattle.p8_cog.specs.Stops.{Announces, IsAtHub, IsHalf, IsInLoad};
+ghost use Rattle.p8_cog.specs.Stops.{Announces, IsAtHub, IsHalf, IsInLoad, announced_at, is_access};
 ghost use Rattle.p8_cog.specs.Replaying.{one-asked, asked-first, asked-later};
 
 use crate::ending::Ending;
@@ -14,14 +14,14 @@ use crate::hub::value_in;
 use crate::progress::{Had, Progress};
 use crate::stage::Stage;
 use crate::state::State;
-use p8_access::{Access, Life, Next, Turn};
+use p8_access::{Life, Next, Turn};
 use p8_words::NoMemory;
 use std::alloc::Global;
 
 /// A cog that runs PASM, from a start on.
 ///
-/// It keeps its registers and flags and how far it is in its load or in the instruction at hand, and the
-/// access that it has announced until that has its turn.
+/// It keeps its registers and flags, how far it is in its load or in the instruction at hand, and whether it has
+/// announced the access that is asked there: that access itself it doesn't keep.
 #[derive(Drop)]
 pub struct Cog {
     state: Progress,
@@ -32,7 +32,8 @@ pub struct Cog {
     stage: Stage,
     /// How many instructions it has done since its start.
     done: u64,
-    announced: Option<(u64, Access)>,
+    /// Whether the access that it asks next is announced and has had no turn yet.
+    asking: bool,
     /// As a run told it of the instruction at hand.
     kept: Option<u32>,
     ghost at: { state.begun.at < 512 },
@@ -44,17 +45,17 @@ pub struct Cog {
     ghost half: { IsHalf cog state },
     ghost at_hub: { (k : ℕ) → kept ≡ Some k → IsAtHub state.begun k },
     ghost loads: { stage ≡ Loading → IsInLoad state },
-    ghost announces: { Announces cog code stage state announced },
+    ghost announces: { Announces cog code stage state (announced_at asking cog code stage state) },
 }
 
-/// The access that an answer announces.
-fn announced_in(next: Next) -> Option<(u64, Access)>
-    ensures { result ≡ announced_by next }
+/// Whether an answer announces an access.
+#[inline(always)]
+fn is_access(next: Next) -> bool
+    ensures { result ≡ is_access next }
 {
     match next {
-        Next::At { clock, access } => Some((clock, access)),
-        Next::Quiet => None,
-        Next::More { .. } => None,
+        Next::At { .. } => true,
+        Next::Quiet | Next::More { .. } => false,
     }
 }
 
@@ -88,7 +89,7 @@ impl Cog {
             cog,
             stage: Stage::Loading,
             done: 0,
-            announced: None,
+            asking: false,
             kept: None,
         })
     }
@@ -110,7 +111,7 @@ impl Cog {
         ensures announced { ⟦<Cog as Life>⟧.announced self.new ≡ None }
         ensures cog { ⟦<Cog as Life>⟧.cog self.new ≡ cog }
     {
-        self.announced = None;
+        self.asking = false;
         self.kept = None;
         self.state.had = Had::Nothing;
         self.state.begun.unload(par, load);
@@ -140,24 +141,24 @@ impl Life for Cog {
 
     ghost reach = { λ life. 16 };
 
-    ghost announced = { λ life. life.announced };
+    ghost announced = { λ life. announced_at life.asking life.cog life.code life.stage life.state };
 
     ghost cog = { λ life. life.cog };
 
     fn run_to_access(&mut self, until: u64, budget: u32) -> Next {
-        self.announced = None;
+        self.asking = false;
         self.kept = None;
         match self.stage {
             Stage::Loading => {
                 let next = self.state.next_read(self.code, until);
-                self.announced = announced_in(next);
+                self.asking = is_access(next);
                 next
             }
             Stage::Running => {
                 let ran = self.state.next_below(self.cog, until, budget);
                 self.done += u64::from(ran.done);
                 self.kept = ran.kept;
-                self.announced = announced_in(ran.next);
+                self.asking = is_access(ran.next);
                 ran.next
             }
             Stage::Over => Next::Quiet,
@@ -166,7 +167,7 @@ impl Life for Cog {
 
     fn take_answer(&mut self, turn: &Turn) {
         let kept = self.kept;
-        self.announced = None;
+        self.asking = false;
         self.kept = None;
         match self.stage {
             Stage::Loading => self.stage = self.state.take_long(value_in(turn.answer)),

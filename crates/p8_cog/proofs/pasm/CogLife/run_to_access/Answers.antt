@@ -4,21 +4,53 @@ use Rattle.p8_cog.specs.declared.stage.Stage.TheVariants.{Loading, Running}
 use Rattle.p8_cog.specs.Replay.{Begins}
 use Rattle.p8_cog.specs.Standing.{standing_at, clock_of}
 use Rattle.p8_cog.specs.Stops.{Stops}
-use Rattle.p8_cog.specs.Keeping.{stops-tells, stops-thorough, stops-quiet, stops-far, over-ended, stops-announces, announces-same, told-spends, over-tells, over-thorough, at-stage, again-told, again, led, placed}
+use Rattle.p8_cog.specs.Keeping.{stops-near, stops-tells, stops-thorough, stops-quiet, stops-far, over-ended, stops-announces, announces-same, told-announced, not-in-load, told-spends, over-tells, over-thorough, at-stage, again-told, again, led, placed}
 use Rattle.p8_cog.proofs.pasm.CogLife.run_to_access.Goals as goal
 
 -- what a load tells stands where it is
 reads : (c : goal.After-self-1) → Stops c.args.self.now.cog (standing_at c.args.self.now.stage c.args.self.now.code c.args.self.now.state) (clock_of c.args.self.now.state) c.args.until c.next_read-next.result
 reads c = at-stage c.args.self.now.cog c.args.self.now.code (clock_of c.args.self.now.state) c.args.until c.args.self.now.stage Loading c.args.self.now.state c.next_read-next.result c.in-Loading.is (c.next_read-next.ensures.stops c.args.self.now.cog)
 
+in_load : (c : goal.After-is_access-self) → Stops c.args.self.now.cog (standing_at c.args.self.now.stage c.args.self.now.code c.args.self.now.state) (clock_of c.args.self.now.state) c.args.until c.next_read-next.result
+in_load c = at-stage c.args.self.now.cog c.args.self.now.code (clock_of c.args.self.now.state) c.args.until c.args.self.now.stage Loading c.args.self.now.state c.next_read-next.result c.in-Loading.is (c.next_read-next.ensures.stops c.args.self.now.cog)
+
 -- what a run tells stands where it has come
 ran : (c : goal.After-self-in-Running-1) → Stops c.args.self.now.cog (standing_at c.args.self.now.stage c.args.self.now.code c.next_below-ran.new.self) (clock_of c.next_below-ran.new.self) c.args.until c.next_below-ran.result.next
 ran c = at-stage c.args.self.now.cog c.args.self.now.code (clock_of c.next_below-ran.new.self) c.args.until c.args.self.now.stage Running c.next_below-ran.new.self c.next_below-ran.result.next c.in-Running.is c.next_below-ran.ensures.stops
 
 pub invariant_of-self-clause-announces : goal.invariant_of-self-clause-announces
-invariant_of-self-clause-announces c = announces-same c.args.self.now.cog c.args.self.now.code c.args.self.now.stage c.args.self.now.state c.announced_in-self.result (announced_by c.next_read-next.result) c.announced_in-self.ensures
-    (stops-announces c.args.self.now.cog c.args.self.now.code c.args.until c.args.self.now.stage c.args.self.now.state c.next_read-next.result c.requires.until
-    (at-stage c.args.self.now.cog c.args.self.now.code (clock_of c.args.self.now.state) c.args.until c.args.self.now.stage Loading c.args.self.now.state c.next_read-next.result c.in-Loading.is (c.next_read-next.ensures.stops c.args.self.now.cog)))
+invariant_of-self-clause-announces c =
+    announces-same c.args.self.now.cog c.args.self.now.code c.args.self.now.stage c.args.self.now.state _ (announced_by c.next_read-next.result)
+    (told-announced c.args.self.now.cog c.args.self.now.code (clock_of c.args.self.now.state) c.args.until c.args.self.now.stage c.args.self.now.state c.next_read-next.result c.is_access-self.result c.is_access-self.ensures (in_load c))
+    (stops-announces c.args.self.now.cog c.args.self.now.code c.args.until c.args.self.now.stage c.args.self.now.state c.next_read-next.result c.requires.until (in_load c))
+
+pub invariant_of-self-in-Running : goal.invariant_of-self-in-Running
+invariant_of-self-in-Running c =
+    let stops = at-stage c.args.self.now.cog c.args.self.now.code (clock_of c.next_below-ran.new.self) c.args.until c.args.self.now.stage Running c.next_below-ran.new.self c.next_below-ran.result.next c.in-Running.is c.next_below-ran.ensures.stops in
+    record {
+      at = c.next_below-ran.ensures.at;
+      aligned = c.args.self.now.aligned;
+      room = c.args.self.now.room;
+      cog_below = c.args.self.now.cog_below;
+      clock = c.next_below-ran.ensures.clock;
+      counts = omega (arith, c.from.ensures, c.args.self.now.counts, c.next_below-ran.ensures.counts);
+      half = c.next_below-ran.ensures.half;
+      at_hub = c.next_below-ran.ensures.kept;
+      loads = not-in-load c.args.self.now.stage c.next_below-ran.new.self c.in-Running.is;
+      announces =
+          announces-same c.args.self.now.cog c.args.self.now.code c.args.self.now.stage c.next_below-ran.new.self _ (announced_by c.next_below-ran.result.next)
+          (told-announced c.args.self.now.cog c.args.self.now.code (clock_of c.next_below-ran.new.self) c.args.until c.args.self.now.stage c.next_below-ran.new.self c.next_below-ran.result.next c.is_access-self-in-Running.result c.is_access-self-in-Running.ensures stops)
+          (stops-announces c.args.self.now.cog c.args.self.now.code c.args.until c.args.self.now.stage c.next_below-ran.new.self c.next_below-ran.result.next c.requires.until stops);
+    }
+
+pub returns-in-Loading-clause-near : goal.returns-in-Loading-clause-near
+returns-in-Loading-clause-near c = stops-near c.args.self.now.cog (clock_of c.args.self.now.state) c.args.until (standing_at c.args.self.now.stage c.args.self.now.code c.args.self.now.state) c.next_read-next.result (reads c)
+
+pub returns-in-Loading-clause-announced : goal.returns-in-Loading-clause-announced
+returns-in-Loading-clause-announced c = told-announced c.args.self.now.cog c.args.self.now.code (clock_of c.args.self.now.state) c.args.until c.args.self.now.stage c.args.self.now.state c.next_read-next.result c.is_access-self.result c.is_access-self.ensures (reads c)
+
+pub returns-in-Running-clause-announced : goal.returns-in-Running-clause-announced
+returns-in-Running-clause-announced c = told-announced c.args.self.now.cog c.args.self.now.code (clock_of c.next_below-ran.new.self) c.args.until c.args.self.now.stage c.next_below-ran.new.self c.next_below-ran.result.next c.is_access-self-in-Running.result c.is_access-self-in-Running.ensures (ran c)
 
 pub returns-in-Loading-clause-tells : goal.returns-in-Loading-clause-tells
 returns-in-Loading-clause-tells c = stops-tells c.args.self.now.done c.args.self.now.cog c.args.self.now.code (clock_of c.args.self.now.state) c.args.until c.args.self.now.stage c.args.self.now.state c.next_read-next.result (reads c)

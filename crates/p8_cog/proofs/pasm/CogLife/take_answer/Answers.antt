@@ -1,24 +1,24 @@
 use Rattle.std.proofs.Common.{◌≡◌, Some, None, ℕ, ◌+◌, ◌++◌, ◌∷◌, [], subst, arith}
 use Rattle.p8_cog.specs.declared.stage.Stage.TheVariants.{Loading, Over}
 use Rattle.p8_cog.specs.Standing.{clock_of}
-use Rattle.p8_cog.specs.Stops.{Loads}
+use Rattle.p8_cog.specs.Stops.{Loads, announced_at}
 use Rattle.p8_cog.specs.Keeping.{comes-running, comes-never, comes-read, load-holds, load-clock, load-stands, IsLoaded, announces-none, not-in-load, over-stands, whole-stands, half-stands, placed}
 use Rattle.p8_cog.proofs.pasm.CogLife.take_answer.Goals as goal
 
 pub take_long-self-requires-clause-clock : goal.take_long-self-requires-clause-clock
 take_long-self-requires-clause-clock c =
-    let at : c.args.turn.now.key.clock ≡ c.args.self.now.state.begun.clock + 16 = comes-read c.args.self.now.cog c.args.self.now.code c.args.self.now.stage c.args.self.now.state c.args.self.now.announced c.args.turn.now c.in-Loading.is c.args.self.now.announces c.requires.announced in
+    let at : c.args.turn.now.key.clock ≡ c.args.self.now.state.begun.clock + 16 = comes-read c.args.self.now.cog c.args.self.now.code c.args.self.now.stage c.args.self.now.state (announced_at c.args.self.now.asking c.args.self.now.cog c.args.self.now.code c.args.self.now.stage c.args.self.now.state) c.args.turn.now c.in-Loading.is c.args.self.now.announces c.requires.announced in
     omega (arith, at, c.requires.clock)
 
 pub take-requires-clause-comes : goal.take-requires-clause-comes
-take-requires-clause-comes c = (comes-running c.args.self.now.cog c.args.self.now.code c.args.self.now.stage c.args.self.now.state c.args.self.now.announced c.args.turn.now c.in-Running.is c.args.self.now.announces c.requires.announced).0
+take-requires-clause-comes c = (comes-running c.args.self.now.cog c.args.self.now.code c.args.self.now.stage c.args.self.now.state (announced_at c.args.self.now.asking c.args.self.now.cog c.args.self.now.code c.args.self.now.stage c.args.self.now.state) c.args.turn.now c.in-Running.is c.args.self.now.announces c.requires.announced).0
 
 pub unreachable-requires : goal.unreachable-requires
-unreachable-requires c = comes-never c.args.self.now.cog c.args.self.now.code c.args.self.now.stage c.args.self.now.state c.args.self.now.announced c.args.turn.now c.in-Over.is c.args.self.now.announces c.requires.announced
+unreachable-requires c = comes-never c.args.self.now.cog c.args.self.now.code c.args.self.now.stage c.args.self.now.state (announced_at c.args.self.now.asking c.args.self.now.cog c.args.self.now.code c.args.self.now.stage c.args.self.now.state) c.args.turn.now c.in-Over.is c.args.self.now.announces c.requires.announced
 
 pub invariant_of-self : goal.invariant_of-self
 invariant_of-self c =
-    let at : c.args.turn.now.key.clock ≡ c.args.self.now.state.begun.clock + 16 = comes-read c.args.self.now.cog c.args.self.now.code c.args.self.now.stage c.args.self.now.state c.args.self.now.announced c.args.turn.now c.in-Loading.is c.args.self.now.announces c.requires.announced in
+    let at : c.args.turn.now.key.clock ≡ c.args.self.now.state.begun.clock + 16 = comes-read c.args.self.now.cog c.args.self.now.code c.args.self.now.stage c.args.self.now.state (announced_at c.args.self.now.asking c.args.self.now.cog c.args.self.now.code c.args.self.now.stage c.args.self.now.state) c.args.turn.now c.in-Loading.is c.args.self.now.announces c.requires.announced in
     let here : clock_of c.args.self.now.state ≡ c.args.self.now.state.begun.clock = load-clock c.args.self.now.state (c.args.self.now.loads c.in-Loading.is) in
     let h : IsLoaded c.args.self.now.cog c.args.self.now.state.begun.clock c.take_long-self.result c.take_long-self.new.self = load-holds c.args.self.now.cog c.take_long-self.result c.args.self.now.state.begun c.value_in.result c.take_long-self.new.self c.take_long-self.ensures in
     record {
@@ -36,7 +36,7 @@ invariant_of-self c =
 
 pub invariant_of-self-in-Ended : goal.invariant_of-self-in-Ended
 invariant_of-self-in-Ended c =
-    let comes = comes-running c.args.self.now.cog c.args.self.now.code c.args.self.now.stage c.args.self.now.state c.args.self.now.announced c.args.turn.now c.in-Running.is c.args.self.now.announces c.requires.announced in
+    let comes = comes-running c.args.self.now.cog c.args.self.now.code c.args.self.now.stage c.args.self.now.state (announced_at c.args.self.now.asking c.args.self.now.cog c.args.self.now.code c.args.self.now.stage c.args.self.now.state) c.args.turn.now c.in-Running.is c.args.self.now.announces c.requires.announced in
     record {
       at = c.in-Ended.ensures.at;
       aligned = c.args.self.now.aligned;
@@ -52,7 +52,7 @@ invariant_of-self-in-Ended c =
 
 pub invariant_of-self-in-Whole : goal.invariant_of-self-in-Whole
 invariant_of-self-in-Whole c =
-    let comes = comes-running c.args.self.now.cog c.args.self.now.code c.args.self.now.stage c.args.self.now.state c.args.self.now.announced c.args.turn.now c.in-Running.is c.args.self.now.announces c.requires.announced in
+    let comes = comes-running c.args.self.now.cog c.args.self.now.code c.args.self.now.stage c.args.self.now.state (announced_at c.args.self.now.asking c.args.self.now.cog c.args.self.now.code c.args.self.now.stage c.args.self.now.state) c.args.turn.now c.in-Running.is c.args.self.now.announces c.requires.announced in
     record {
       at = c.in-Whole.ensures.at;
       aligned = c.args.self.now.aligned;
@@ -68,7 +68,7 @@ invariant_of-self-in-Whole c =
 
 pub invariant_of-self-in-Half : goal.invariant_of-self-in-Half
 invariant_of-self-in-Half c =
-    let comes = comes-running c.args.self.now.cog c.args.self.now.code c.args.self.now.stage c.args.self.now.state c.args.self.now.announced c.args.turn.now c.in-Running.is c.args.self.now.announces c.requires.announced in
+    let comes = comes-running c.args.self.now.cog c.args.self.now.code c.args.self.now.stage c.args.self.now.state (announced_at c.args.self.now.asking c.args.self.now.cog c.args.self.now.code c.args.self.now.stage c.args.self.now.state) c.args.turn.now c.in-Running.is c.args.self.now.announces c.requires.announced in
     record {
       at = c.in-Half.ensures.at;
       aligned = c.args.self.now.aligned;
@@ -89,18 +89,18 @@ returns-in-Loading-clause-stands c =
 
 pub returns-in-Loading-clause-reached : goal.returns-in-Loading-clause-reached
 returns-in-Loading-clause-reached c =
-    let at : c.args.turn.now.key.clock ≡ c.args.self.now.state.begun.clock + 16 = comes-read c.args.self.now.cog c.args.self.now.code c.args.self.now.stage c.args.self.now.state c.args.self.now.announced c.args.turn.now c.in-Loading.is c.args.self.now.announces c.requires.announced in
+    let at : c.args.turn.now.key.clock ≡ c.args.self.now.state.begun.clock + 16 = comes-read c.args.self.now.cog c.args.self.now.code c.args.self.now.stage c.args.self.now.state (announced_at c.args.self.now.asking c.args.self.now.cog c.args.self.now.code c.args.self.now.stage c.args.self.now.state) c.args.turn.now c.in-Loading.is c.args.self.now.announces c.requires.announced in
     let h : IsLoaded c.args.self.now.cog c.args.self.now.state.begun.clock c.take_long-self.result c.take_long-self.new.self = load-holds c.args.self.now.cog c.take_long-self.result c.args.self.now.state.begun c.value_in.result c.take_long-self.new.self c.take_long-self.ensures in
     omega (arith, at, h.least)
 
 pub returns-in-Loading-clause-lead : goal.returns-in-Loading-clause-lead
 returns-in-Loading-clause-lead c =
-    let at : c.args.turn.now.key.clock ≡ c.args.self.now.state.begun.clock + 16 = comes-read c.args.self.now.cog c.args.self.now.code c.args.self.now.stage c.args.self.now.state c.args.self.now.announced c.args.turn.now c.in-Loading.is c.args.self.now.announces c.requires.announced in
+    let at : c.args.turn.now.key.clock ≡ c.args.self.now.state.begun.clock + 16 = comes-read c.args.self.now.cog c.args.self.now.code c.args.self.now.stage c.args.self.now.state (announced_at c.args.self.now.asking c.args.self.now.cog c.args.self.now.code c.args.self.now.stage c.args.self.now.state) c.args.turn.now c.in-Loading.is c.args.self.now.announces c.requires.announced in
     let h : IsLoaded c.args.self.now.cog c.args.self.now.state.begun.clock c.take_long-self.result c.take_long-self.new.self = load-holds c.args.self.now.cog c.take_long-self.result c.args.self.now.state.begun c.value_in.result c.take_long-self.new.self c.take_long-self.ensures in
     omega (arith, at, h.most)
 
 pub returns-in-Ended-clause-stands : goal.returns-in-Ended-clause-stands
-returns-in-Ended-clause-stands c = over-stands c.args.self.now.done c.args.self.now.cog c.args.self.now.code c.args.self.now.stage c.args.self.now.state c.take.new.self c.args.turn.now c.in-Running.is (comes-running c.args.self.now.cog c.args.self.now.code c.args.self.now.stage c.args.self.now.state c.args.self.now.announced c.args.turn.now c.in-Running.is c.args.self.now.announces c.requires.announced).0 c.in-Ended.ensures.takes
+returns-in-Ended-clause-stands c = over-stands c.args.self.now.done c.args.self.now.cog c.args.self.now.code c.args.self.now.stage c.args.self.now.state c.take.new.self c.args.turn.now c.in-Running.is (comes-running c.args.self.now.cog c.args.self.now.code c.args.self.now.stage c.args.self.now.state (announced_at c.args.self.now.asking c.args.self.now.cog c.args.self.now.code c.args.self.now.stage c.args.self.now.state) c.args.turn.now c.in-Running.is c.args.self.now.announces c.requires.announced).0 c.in-Ended.ensures.takes
 
 pub returns-in-Whole-clause-stands : goal.returns-in-Whole-clause-stands
 returns-in-Whole-clause-stands c = whole-stands c.args.self.now.done c.args.self.now.cog c.args.self.now.code c.args.self.now.stage c.args.self.now.state c.take.new.self c.args.turn.now c.in-Running.is c.in-Whole.ensures.takes
