@@ -1,10 +1,11 @@
 -- Where the bytecode stands that asks what was announced.
-use Rattle.std.proofs.Common.{◌≡◌, ◌⊎◌, inl, inr, ℕ, ◌+◌, true, List, Option, Some, None, refl, sym, ◌∙◌, ap}
+use Rattle.std.proofs.Common.{◌≡◌, ◌⊎◌, inl, inr, ℕ, ◌+◌, Bool, true, false, List, Option, Some, None, refl, sym, ◌∙◌, ap}
 use Rattle.p8_access.specs.declared.kinds.Reason.{Reason}
 use Rattle.p8_access.specs.declared.kinds.Access.{Access}
+use Rattle.p8_access.specs.declared.kinds.Access.TheVariants.{Halt}
 use Rattle.p8_access.specs.declared.order.Turn.{Turn}
 use Rattle.p8_access.specs.Lives.{Begun, PasmBegun, SpinBegun}
-use Rattle.p8_access.specs.Timing.{Asks}
+use Rattle.p8_access.specs.Timing.{Asks, earliest}
 use Rattle.p8_bcog.specs.declared.stage.Stage.{Stage}
 use Rattle.p8_bcog.specs.declared.stage.Stage.TheVariants.{Entering, Ready, Asked, Halted, Over}
 use Rattle.p8_bcog.specs.declared.step.Later.{Later}
@@ -12,8 +13,9 @@ use Rattle.p8_bcog.specs.declared.state.State.{State}
 use Rattle.p8_bcog.specs.Counters.{IsAnnouncing, IsCounter}
 use Rattle.p8_bcog.specs.Replay.{lived}
 use Rattle.p8_bcog.specs.Standing.{come_to, is_under, is_amid, StandsFor}
-use Rattle.p8_bcog.specs.Stops.{Announces}
+use Rattle.p8_bcog.specs.Stops.{Announces, asked_of, asked_now, announced_at}
 use Rattle.p8_bcog.proofs.Keeping.{here-is, never_ready, never_over_asks}
+use Rattle.p8_bcog.proofs.Answering.{asked_here, halted_here}
 
 amid_under : (stage : Stage) → is_amid stage ≡ true → is_under stage ≡ true
 amid_under Entering is = is
@@ -43,6 +45,23 @@ amid_counts counter memory done cog stage s clock reached (Some asked) is announ
     let next : lived (done + 1) e ts ≡ Asks asked.0 asked.1 =
     ap (λ (k : ℕ). lived k e ts) (sym (amid_come stage done is)) ∙ here-is memory done cog stage s clock e ts stands ∙ (announces asked.0 asked.1 refl).0 in
     (done, began.0, began.1, began.2, asked.0, asked.1, began.3, next, began.4 is)
+
+never_both : (o : Option (ℕ × Access)) (asked : ℕ × Access) → o ≡ None → o ≡ Some asked → ⊥
+never_both o asked none some = let x : None ≡ Some asked = sym none ∙ some in cc
+
+-- a bytecode that is under way asks
+amid_asks : (cog : ℕ) (stage : Stage) (s : State) (clock : ℕ) → is_amid stage ≡ true → asked_now cog stage s clock ≡ None → ⊥
+unfolding asked_now
+amid_asks cog (Asked access later) s clock is none =
+    never_both _ (earliest cog clock access, access) none (ap asked_of (asked_here cog (Asked access later) s clock access later refl))
+amid_asks cog (Halted reason) s clock is none =
+    never_both _ (earliest cog clock (Halt reason), Halt reason) none (ap asked_of (halted_here cog (Halted reason) s clock reason refl))
+amid_asks cog _ s clock is none = absurd cc
+
+-- so where it has told what it asks, something is announced
+pub amid_announces : (cog : ℕ) (stage : Stage) (s : State) (clock : ℕ) (asking : Bool) → is_amid stage ≡ true → asking ≡ true → announced_at asking cog stage s clock ≡ None → ⊥
+amid_announces cog stage s clock true is told none = amid_asks cog stage s clock is none
+amid_announces cog stage s clock false is told none = absurd cc
 
 -- while none is
 pub none_counts : (counter : ℕ) (memory : List ℕ) (done cog : ℕ) (stage : Stage) (s : State) (clock reached : ℕ) (announced : Option (ℕ × Access)) → (stage ≡ Entering) ⊎ (stage ≡ Ready) ⊎ (stage ≡ Over) → Announces cog stage s clock reached announced → (b : Begun) (ts : List Turn) → StandsFor counter memory done cog stage s clock b ts → IsAnnouncing announced → IsCounter b ts None

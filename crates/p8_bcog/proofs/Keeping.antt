@@ -20,7 +20,7 @@ use Rattle.p8_bcog.specs.Accesses.{ends, write_of}
 use Rattle.p8_bcog.specs.Laters.{asking-is}
 use Rattle.p8_bcog.specs.Replay.{entry_of, engine_of, first_begin, lived, IsAsked, BeginsAt, Begins}
 use Rattle.p8_bcog.specs.Standing.{standing, come_to, is_under, StandsIn, StandsFor}
-use Rattle.p8_bcog.specs.Stops.{is_ready, Leads, Led, IsBehind, Stops, Announces}
+use Rattle.p8_bcog.specs.Stops.{is_ready, Leads, Led, IsBehind, Stops, Announces, is_access, asked_of, asked_now, announced_at}
 
 -- ---- how many bytecodes a replay has come to
 
@@ -175,6 +175,14 @@ announced-as cog stage s clock reached until (More bound) room stops = announces
 pub stops_announces : (cog : ℕ) (stage : Stage) (s : State) (clock reached until : ℕ) (next : Next) (announced : Option (ℕ × Access)) → announced ≡ announced_by next → until < 2 ^ 62 → Stops (standing cog stage s clock []) reached until next → Announces cog stage s clock reached announced
 stops_announces cog stage s clock reached until next announced is room stops =
     subst (Announces cog stage s clock reached) (sym is) (announced-as cog stage s clock reached until next room stops)
+
+-- what is told, and whether an access is, tell what is announced
+pub told_announced : (cog : ℕ) (stage : Stage) (s : State) (clock reached until : ℕ) (next : Next) (asking : Bool) → asking ≡ is_access next → Stops (standing cog stage s clock []) reached until next → announced_at asking cog stage s clock ≡ announced_by next
+unfolding asked_now
+told_announced cog stage s clock reached until (At when access) asking is stops =
+    ap (λ (b : Bool). announced_at b cog stage s clock) is ∙ ap asked_of stops.0
+told_announced cog stage s clock reached until Quiet asking is stops = ap (λ (b : Bool). announced_at b cog stage s clock) is
+told_announced cog stage s clock reached until (More bound) asking is stops = ap (λ (b : Bool). announced_at b cog stage s clock) is
 
 -- what was announced is told again
 pub again : (when until reached : ℕ) (access : Access) (here : Outcome State) (next : Next) → here ≡ Asks when access → when < until → Stops here reached until next → next ≡ At when access

@@ -1,5 +1,5 @@
 -- internal: what the parts of a Spin cog's code promise each other.
-use Rattle.std.specs.Prelude.{ℕ, ◌+◌, ◌^◌, ◌≡◌, ◌<◌, ◌≤◌, ◌⊎◌, Bool, true, false, List, [], Option, Some, Result, Ok, Err}
+use Rattle.std.specs.Prelude.{ℕ, ◌+◌, ◌^◌, ◌≡◌, ◌<◌, ◌≤◌, ◌⊎◌, Bool, true, false, List, [], Option, Some, None, Result, Ok, Err}
 use Rattle.p8_access.specs.declared.kinds.Reason.{Reason}
 use Rattle.p8_access.specs.declared.kinds.Access.{Access}
 use Rattle.p8_access.specs.declared.order.Turn.{Turn}
@@ -7,7 +7,7 @@ use Rattle.p8_access.specs.declared.lives.Next.{Next}
 use Rattle.p8_access.specs.declared.lives.Next.TheVariants.{At, Quiet, More}
 use Rattle.p8_access.specs.Lives.{IsMade}
 use Rattle.p8_access.specs.Courses.{Course, Finish, Stop}
-use Rattle.p8_access.specs.Timing.{Outcome, Asks, Goes}
+use Rattle.p8_access.specs.Timing.{Outcome, Asks, Goes, Ends}
 use Rattle.p8_access.specs.Replays.{after}
 use Rattle.p8_access.specs.Replaying.{IsFrom}
 use Rattle.p8_bcog.specs.declared.step.Step.{Step}
@@ -82,6 +82,26 @@ abbrev pub Stops : (here : Outcome State) → (reached until : ℕ) → Next →
 Stops here reached until (At clock access) = (here ≡ Asks clock access) × (reached ≤ clock) × (clock < until) × (clock ≤ reached + 560)
 Stops here reached until Quiet = IsFrom until here
 Stops here reached until (More bound) = (s : State) × (here ≡ Goes s bound []) × (bound ≡ reached) × (bound < until)
+
+-- whether an access is told
+abbrev pub is_access : Next → Bool
+is_access (At clock access) = true
+is_access Quiet = false
+is_access (More bound) = false
+
+abbrev pub asked_of : Outcome State → Option (ℕ × Access)
+asked_of (Asks clock access) = Some (clock, access)
+asked_of (Goes s clock left) = None
+asked_of Ends = None
+
+-- what is asked where a life stands
+unfoldable pub asked_now : (cog : ℕ) → Stage → State → (clock : ℕ) → Option (ℕ × Access)
+asked_now cog stage s clock = asked_of (standing cog stage s clock [])
+
+-- what was announced: what is asked there, if that was told
+abbrev pub announced_at : (asking : Bool) (cog : ℕ) → Stage → State → (clock : ℕ) → Option (ℕ × Access)
+announced_at true cog stage s clock = asked_now cog stage s clock
+announced_at false cog stage s clock = None
 
 -- what was announced is what comes next
 abbrev pub Announces : (cog : ℕ) → Stage → State → (clock reached : ℕ) → Option (ℕ × Access) → Type 0

@@ -2,14 +2,14 @@
 ghost use Rattle.std.specs.Prelude.{ℕ, List, ◌≡◌, ◌⊎◌, ◌<◌, ◌≤◌, ◌+◌, ◌^◌, [], None, IfOk};
 ghost use Rattle.p8_access.specs.declared.lives.Next.TheVariants.{Quiet};
 ghost use Rattle.p8_access.specs.declared.order.Turn.{Turn};
-ghost use Rattle.p8_access.specs.Lives.{Begun, SpinBegun, announced_by, IsMade, IsMadeNext, is_last};
+ghost use Rattle.p8_access.specs.Lives.{Begun, SpinBegun, IsMade, IsMadeNext, is_last};
 ghost use Rattle.p8_access.specs.Timing.{Asks, earliest};
 ghost use Rattle.p8_bcog.specs.declared.stage.Stage.TheVariants.{Ready, Over};
 ghost use Rattle.p8_bcog.specs.Origins.{IsSpin};
 ghost use Rattle.p8_bcog.specs.Counters.{IsAnnouncing, IsCounter};
 ghost use Rattle.p8_bcog.specs.Replay.{IsAsked, Begins};
 ghost use Rattle.p8_bcog.specs.Standing.{standing, StandsFor};
-ghost use Rattle.p8_bcog.specs.Stops.{IsSound, Stops, Announces};
+ghost use Rattle.p8_bcog.specs.Stops.{IsSound, Stops, Announces, announced_at, is_access};
 ghost use Rattle.p8_bcog.specs.Single.{is_prop-IsSound};
 ghost use Rattle.p8_bcog.specs.Laws.{one-asked, asked-first, asked-later, pace_holds};
 
@@ -26,8 +26,8 @@ use std::alloc::Global;
 
 /// A cog that runs Spin, from a start on.
 ///
-/// It keeps its stack, marks, calls and registers, how far it is in the bytecode at hand, and the access
-/// that it has announced until that has its turn.
+/// It keeps its stack, marks, calls and registers, how far it is in the bytecode at hand, and whether it has announced
+/// the access that is asked there.
 #[derive(Drop)]
 pub struct SpinCog {
     /// The memory that its code and tables stand in.
@@ -42,7 +42,8 @@ pub struct SpinCog {
     reached: u64,
     /// How many bytecodes it has done since its start.
     done: u64,
-    announced: Option<(u64, Access)>,
+    /// Whether the access that it asks next is announced and has had no turn yet.
+    asking: bool,
     /// The hub address of the bytecode that is under way.
     counter: u16,
     ghost cog_below: { cog < 8 },
@@ -52,17 +53,17 @@ pub struct SpinCog {
     ghost counts: { done ≤ reached },
     ghost ready: { stage ≡ Ready → reached ≡ clock },
     ghost sound: { IsSound stage state } by { is_prop-IsSound stage state },
-    ghost announces: { Announces cog stage state clock reached announced },
+    ghost announces: { Announces cog stage state clock reached (announced_at asking cog stage state clock) },
 }
 
-/// The access that an answer announces.
-fn announced_in(next: Next) -> Option<(u64, Access)>
-    ensures { result ≡ announced_by next }
+/// Whether an answer announces an access.
+#[inline(always)]
+fn is_access(next: Next) -> bool
+    ensures { result ≡ is_access next }
 {
     match next {
-        Next::At { clock, access } => Some((clock, access)),
-        Next::Quiet => None,
-        Next::More { .. } => None,
+        Next::At { .. } => true,
+        Next::Quiet | Next::More { .. } => false,
     }
 }
 
@@ -188,7 +189,7 @@ impl SpinCog {
             clock: begin + 8192,
             reached: begin + 8192,
             done: 0,
-            announced: None,
+            asking: false,
             counter: 0,
         })
     }
@@ -209,7 +210,7 @@ impl SpinCog {
         ensures announced { ⟦<SpinCog as Life>⟧.announced self.new ≡ None }
         ensures cog { ⟦<SpinCog as Life>⟧.cog self.new ≡ cog }
     {
-        self.announced = None;
+        self.asking = false;
         self.code = code;
         self.state.begin(origin);
         self.cog = cog;
@@ -226,7 +227,7 @@ impl SpinCog {
         ensures counts { (b : Begun) (ts : List Turn) → ⟦<SpinCog as Life>⟧.stands self.now b ts → IsAnnouncing (⟦<SpinCog as Life>⟧.announced self.now) → IsCounter b ts result }
         ensures none { ⟦<SpinCog as Life>⟧.announced self.now ≡ None → result ≡ None }
     {
-        if self.announced.is_none() {
+        if !self.asking {
             return None;
         }
         match self.stage {
@@ -255,12 +256,12 @@ impl Life for SpinCog {
 
     ghost reach = { λ life. 560 };
 
-    ghost announced = { λ life. life.announced };
+    ghost announced = { λ life. announced_at life.asking life.cog life.stage life.state life.clock };
 
     ghost cog = { λ life. life.cog };
 
     fn run_to_access(&mut self, until: u64, budget: u32) -> Next {
-        self.announced = None;
+        self.asking = false;
         if is_ready(&self.stage) {
             let memory = self.code.bytes();
             let code = &memory[..code_end(memory)];
@@ -279,17 +280,17 @@ impl Life for SpinCog {
             self.clock = ran.clock;
             self.counter = ran.counter;
             let next = told(&self.stage, &self.state, self.cog, ran.clock, until);
-            self.announced = announced_in(next);
+            self.asking = is_access(next);
             next
         } else {
             let next = told(&self.stage, &self.state, self.cog, self.clock, until);
-            self.announced = announced_in(next);
+            self.asking = is_access(next);
             next
         }
     }
 
     fn take_answer(&mut self, turn: &Turn) {
-        self.announced = None;
+        self.asking = false;
         match self.stage {
             Stage::Entering => {
                 self.clock = turn.key.clock + 7;

@@ -1,7 +1,7 @@
 use Rattle.std.proofs.Common.{◌≡◌, ℕ, ◌+◌, ◌*◌, [], true, false, sym, subst, ◌∙◌, arith}
 use Rattle.p8_access.specs.Lives.{IsWithin}
 use Rattle.p8_bcog.specs.Standing.{standing}
-use Rattle.p8_bcog.proofs.Keeping.{ran_stands, behind_early, behind_late, behind_ready, stops_tells, stops_thorough, placed, stops_near, stops_announces, ran_spends, rest_spends, again, ready_by, not_ready, ran_far, rest_far, over_ended}
+use Rattle.p8_bcog.proofs.Keeping.{ran_stands, behind_early, behind_late, behind_ready, stops_tells, stops_thorough, placed, stops_near, stops_announces, told_announced, ran_spends, rest_spends, again, ready_by, not_ready, ran_far, rest_far, over_ended}
 use Rattle.p8_bcog.proofs.spin.SpinCogLife.run_to_access.Goals as goal
 
 pub invariant_of-self : goal.invariant_of-self
@@ -13,7 +13,7 @@ invariant_of-self c = record {
   counts = omega (arith, c.args.self.now.counts, c.args.self.now.ready (ready_by c.args.self.now.stage (sym c.is_ready.ensures ∙ c.if-is_ready.true)), c.run-ran.ensures.least, c.from.ensures);
   ready = behind_ready c.run-ran.result.done c.args.budget c.run-ran.result.begun c.run-ran.result.clock c.args.until c.run-ran.new.stage c.run-ran.ensures.is_behind;
   sound = c.run-ran.ensures.sound;
-  announces = stops_announces c.args.self.now.cog c.run-ran.new.stage c.run-ran.new.state c.run-ran.result.clock c.run-ran.result.begun c.args.until c.told-next.result c.announced_in-self.result c.announced_in-self.ensures c.requires.until (c.told-next.ensures.stops c.run-ran.result.begun (behind_early c.run-ran.result.done c.args.budget c.run-ran.result.begun c.run-ran.result.clock c.args.until c.run-ran.new.stage c.run-ran.ensures.is_behind) (behind_late c.run-ran.result.done c.args.budget c.run-ran.result.begun c.run-ran.result.clock c.args.until c.run-ran.new.stage c.run-ran.ensures.is_behind) (behind_ready c.run-ran.result.done c.args.budget c.run-ran.result.begun c.run-ran.result.clock c.args.until c.run-ran.new.stage c.run-ran.ensures.is_behind));
+  announces = stops_announces c.args.self.now.cog c.run-ran.new.stage c.run-ran.new.state c.run-ran.result.clock c.run-ran.result.begun c.args.until c.told-next.result _ (told_announced c.args.self.now.cog c.run-ran.new.stage c.run-ran.new.state c.run-ran.result.clock c.run-ran.result.begun c.args.until c.told-next.result c.is_access-self.result c.is_access-self.ensures (c.told-next.ensures.stops c.run-ran.result.begun (behind_early c.run-ran.result.done c.args.budget c.run-ran.result.begun c.run-ran.result.clock c.args.until c.run-ran.new.stage c.run-ran.ensures.is_behind) (behind_late c.run-ran.result.done c.args.budget c.run-ran.result.begun c.run-ran.result.clock c.args.until c.run-ran.new.stage c.run-ran.ensures.is_behind) (behind_ready c.run-ran.result.done c.args.budget c.run-ran.result.begun c.run-ran.result.clock c.args.until c.run-ran.new.stage c.run-ran.ensures.is_behind))) c.requires.until (c.told-next.ensures.stops c.run-ran.result.begun (behind_early c.run-ran.result.done c.args.budget c.run-ran.result.begun c.run-ran.result.clock c.args.until c.run-ran.new.stage c.run-ran.ensures.is_behind) (behind_late c.run-ran.result.done c.args.budget c.run-ran.result.begun c.run-ran.result.clock c.args.until c.run-ran.new.stage c.run-ran.ensures.is_behind) (behind_ready c.run-ran.result.done c.args.budget c.run-ran.result.begun c.run-ran.result.clock c.args.until c.run-ran.new.stage c.run-ran.ensures.is_behind));
 }
 
 pub returns-then-is_ready-clause-keeps : goal.returns-then-is_ready-clause-keeps
@@ -49,8 +49,16 @@ invariant_of-self-else-is_ready c = record {
   counts = c.args.self.now.counts;
   ready = c.args.self.now.ready;
   sound = c.args.self.now.sound;
-  announces = stops_announces c.args.self.now.cog c.args.self.now.stage c.args.self.now.state c.args.self.now.clock c.args.self.now.reached c.args.until c.told-next-else-is_ready.result c.announced_in-self-else-is_ready.result c.announced_in-self-else-is_ready.ensures c.requires.until (c.told-next-else-is_ready.ensures.stops c.args.self.now.reached c.args.self.now.early c.args.self.now.late c.args.self.now.ready);
+  announces = stops_announces c.args.self.now.cog c.args.self.now.stage c.args.self.now.state c.args.self.now.clock c.args.self.now.reached c.args.until c.told-next-else-is_ready.result _ (told_announced c.args.self.now.cog c.args.self.now.stage c.args.self.now.state c.args.self.now.clock c.args.self.now.reached c.args.until c.told-next-else-is_ready.result c.is_access-self-else-is_ready.result c.is_access-self-else-is_ready.ensures (c.told-next-else-is_ready.ensures.stops c.args.self.now.reached c.args.self.now.early c.args.self.now.late c.args.self.now.ready)) c.requires.until (c.told-next-else-is_ready.ensures.stops c.args.self.now.reached c.args.self.now.early c.args.self.now.late c.args.self.now.ready);
 }
+
+pub returns-then-is_ready-clause-announced : goal.returns-then-is_ready-clause-announced
+returns-then-is_ready-clause-announced c =
+    told_announced c.args.self.now.cog c.run-ran.new.stage c.run-ran.new.state c.run-ran.result.clock c.run-ran.result.begun c.args.until c.told-next.result c.is_access-self.result c.is_access-self.ensures (c.told-next.ensures.stops c.run-ran.result.begun (behind_early c.run-ran.result.done c.args.budget c.run-ran.result.begun c.run-ran.result.clock c.args.until c.run-ran.new.stage c.run-ran.ensures.is_behind) (behind_late c.run-ran.result.done c.args.budget c.run-ran.result.begun c.run-ran.result.clock c.args.until c.run-ran.new.stage c.run-ran.ensures.is_behind) (behind_ready c.run-ran.result.done c.args.budget c.run-ran.result.begun c.run-ran.result.clock c.args.until c.run-ran.new.stage c.run-ran.ensures.is_behind))
+
+pub returns-else-is_ready-clause-announced : goal.returns-else-is_ready-clause-announced
+returns-else-is_ready-clause-announced c =
+    told_announced c.args.self.now.cog c.args.self.now.stage c.args.self.now.state c.args.self.now.clock c.args.self.now.reached c.args.until c.told-next-else-is_ready.result c.is_access-self-else-is_ready.result c.is_access-self-else-is_ready.ensures (c.told-next-else-is_ready.ensures.stops c.args.self.now.reached c.args.self.now.early c.args.self.now.late c.args.self.now.ready)
 
 pub returns-else-is_ready-clause-tells : goal.returns-else-is_ready-clause-tells
 returns-else-is_ready-clause-tells c = λ b ts stands.

@@ -7,14 +7,15 @@ use Rattle.p8_bcog.specs.Accesses.{write_of}
 use Rattle.p8_bcog.proofs.OneMore.{sound_at}
 use Rattle.p8_bcog.proofs.Keeping.{announces_none, placed}
 use Rattle.p8_bcog.proofs.Answering.{came, asked_here, halted_here, entering_here, never_asks, asked_over, halted_over, asked_stands, entering_stands}
+use Rattle.p8_bcog.specs.Stops.{announced_at}
 use Rattle.p8_bcog.proofs.spin.SpinCogLife.take_answer.Goals as goal
 
 pub unreachable-requires : goal.unreachable-requires
-unreachable-requires c = never_asks c.args.self.now.cog c.args.self.now.stage c.args.self.now.state c.args.self.now.clock c.args.self.now.reached c.args.self.now.announced c.args.turn.now c.in-Ready.is c.args.self.now.announces c.requires.announced
+unreachable-requires c = never_asks c.args.self.now.cog c.args.self.now.stage c.args.self.now.state c.args.self.now.clock c.args.self.now.reached (announced_at c.args.self.now.asking c.args.self.now.cog c.args.self.now.stage c.args.self.now.state c.args.self.now.clock) c.args.turn.now c.in-Ready.is c.args.self.now.announces c.requires.announced
 
 pub invariant_of-self : goal.invariant_of-self
 invariant_of-self c =
-    let h = came c.args.self.now.cog c.args.self.now.stage c.args.self.now.state c.args.self.now.clock c.args.self.now.reached c.args.self.now.announced c.args.turn.now (write_of Long c.args.self.now.state.frame 0) (entering_here c.args.self.now.cog c.args.self.now.stage c.args.self.now.state c.args.self.now.clock c.in-Entering.is) c.args.self.now.announces c.requires.announced in
+    let h = came c.args.self.now.cog c.args.self.now.stage c.args.self.now.state c.args.self.now.clock c.args.self.now.reached (announced_at c.args.self.now.asking c.args.self.now.cog c.args.self.now.stage c.args.self.now.state c.args.self.now.clock) c.args.turn.now (write_of Long c.args.self.now.state.frame 0) (entering_here c.args.self.now.cog c.args.self.now.stage c.args.self.now.state c.args.self.now.clock c.in-Entering.is) c.args.self.now.announces c.requires.announced in
     record {
       cog_below = c.args.self.now.cog_below;
       early = omega arith;
@@ -28,7 +29,7 @@ invariant_of-self c =
 
 pub invariant_of-self-then-is_last : goal.invariant_of-self-then-is_last
 invariant_of-self-then-is_last c =
-    let h = came c.args.self.now.cog c.args.self.now.stage c.args.self.now.state c.args.self.now.clock c.args.self.now.reached c.args.self.now.announced c.args.turn.now c.in-Asked.access (asked_here c.args.self.now.cog c.args.self.now.stage c.args.self.now.state c.args.self.now.clock c.in-Asked.access c.in-Asked.later c.in-Asked.is) c.args.self.now.announces c.requires.announced in
+    let h = came c.args.self.now.cog c.args.self.now.stage c.args.self.now.state c.args.self.now.clock c.args.self.now.reached (announced_at c.args.self.now.asking c.args.self.now.cog c.args.self.now.stage c.args.self.now.state c.args.self.now.clock) c.args.turn.now c.in-Asked.access (asked_here c.args.self.now.cog c.args.self.now.stage c.args.self.now.state c.args.self.now.clock c.in-Asked.access c.in-Asked.later c.in-Asked.is) c.args.self.now.announces c.requires.announced in
     let later = behind-later c.args.self.now.cog c.args.self.now.clock c.in-Asked.access c.args.turn.now.key.clock h.1 in
     let near = behind-near c.args.self.now.cog c.args.self.now.clock c.in-Asked.access c.args.turn.now.key.clock h.1 in
     record {
@@ -44,7 +45,7 @@ invariant_of-self-then-is_last c =
 
 pub invariant_of-self-else-is_last : goal.invariant_of-self-else-is_last
 invariant_of-self-else-is_last c =
-    let h = came c.args.self.now.cog c.args.self.now.stage c.args.self.now.state c.args.self.now.clock c.args.self.now.reached c.args.self.now.announced c.args.turn.now c.in-Asked.access (asked_here c.args.self.now.cog c.args.self.now.stage c.args.self.now.state c.args.self.now.clock c.in-Asked.access c.in-Asked.later c.in-Asked.is) c.args.self.now.announces c.requires.announced in
+    let h = came c.args.self.now.cog c.args.self.now.stage c.args.self.now.state c.args.self.now.clock c.args.self.now.reached (announced_at c.args.self.now.asking c.args.self.now.cog c.args.self.now.stage c.args.self.now.state c.args.self.now.clock) c.args.turn.now c.in-Asked.access (asked_here c.args.self.now.cog c.args.self.now.stage c.args.self.now.state c.args.self.now.clock c.in-Asked.access c.in-Asked.later c.in-Asked.is) c.args.self.now.announces c.requires.announced in
     let later = behind-later c.args.self.now.cog c.args.self.now.clock c.in-Asked.access c.args.turn.now.key.clock h.1 in
     let near = behind-near c.args.self.now.cog c.args.self.now.clock c.in-Asked.access c.args.turn.now.key.clock h.1 in
     record {
@@ -60,7 +61,7 @@ invariant_of-self-else-is_last c =
 
 pub invariant_of-self-in-Halted : goal.invariant_of-self-in-Halted
 invariant_of-self-in-Halted c =
-    let h = came c.args.self.now.cog c.args.self.now.stage c.args.self.now.state c.args.self.now.clock c.args.self.now.reached c.args.self.now.announced c.args.turn.now (Halt c.in-Halted.reason) (halted_here c.args.self.now.cog c.args.self.now.stage c.args.self.now.state c.args.self.now.clock c.in-Halted.reason c.in-Halted.is) c.args.self.now.announces c.requires.announced in
+    let h = came c.args.self.now.cog c.args.self.now.stage c.args.self.now.state c.args.self.now.clock c.args.self.now.reached (announced_at c.args.self.now.asking c.args.self.now.cog c.args.self.now.stage c.args.self.now.state c.args.self.now.clock) c.args.turn.now (Halt c.in-Halted.reason) (halted_here c.args.self.now.cog c.args.self.now.stage c.args.self.now.state c.args.self.now.clock c.in-Halted.reason c.in-Halted.is) c.args.self.now.announces c.requires.announced in
     record {
       cog_below = c.args.self.now.cog_below;
       early = omega arith;
@@ -81,7 +82,7 @@ returns-in-Entering-clause-placed c = λ b ts stands live.
 
 pub returns-then-is_last-clause-stands : goal.returns-then-is_last-clause-stands
 returns-then-is_last-clause-stands c =
-    let h = came c.args.self.now.cog c.args.self.now.stage c.args.self.now.state c.args.self.now.clock c.args.self.now.reached c.args.self.now.announced c.args.turn.now c.in-Asked.access (asked_here c.args.self.now.cog c.args.self.now.stage c.args.self.now.state c.args.self.now.clock c.in-Asked.access c.in-Asked.later c.in-Asked.is) c.args.self.now.announces c.requires.announced in
+    let h = came c.args.self.now.cog c.args.self.now.stage c.args.self.now.state c.args.self.now.clock c.args.self.now.reached (announced_at c.args.self.now.asking c.args.self.now.cog c.args.self.now.stage c.args.self.now.state c.args.self.now.clock) c.args.turn.now c.in-Asked.access (asked_here c.args.self.now.cog c.args.self.now.stage c.args.self.now.state c.args.self.now.clock c.in-Asked.access c.in-Asked.later c.in-Asked.is) c.args.self.now.announces c.requires.announced in
     asked_over c.args.self.now.counter c.args.self.now.code c.args.self.now.done c.args.self.now.cog c.args.self.now.stage c.args.self.now.state c.args.self.now.state c.args.self.now.clock c.behind-clock.result c.in-Asked.access c.in-Asked.later c.args.turn.now c.in-Asked.is (sym c.is_last.ensures ∙ c.if-is_last.true) h.0
 
 pub returns-then-is_last-clause-placed : goal.returns-then-is_last-clause-placed
@@ -98,17 +99,17 @@ returns-else-is_last-clause-placed c = λ b ts stands live.
 
 pub returns-else-is_last-clause-reached : goal.returns-else-is_last-clause-reached
 returns-else-is_last-clause-reached c =
-    let h = came c.args.self.now.cog c.args.self.now.stage c.args.self.now.state c.args.self.now.clock c.args.self.now.reached c.args.self.now.announced c.args.turn.now c.in-Asked.access (asked_here c.args.self.now.cog c.args.self.now.stage c.args.self.now.state c.args.self.now.clock c.in-Asked.access c.in-Asked.later c.in-Asked.is) c.args.self.now.announces c.requires.announced in
+    let h = came c.args.self.now.cog c.args.self.now.stage c.args.self.now.state c.args.self.now.clock c.args.self.now.reached (announced_at c.args.self.now.asking c.args.self.now.cog c.args.self.now.stage c.args.self.now.state c.args.self.now.clock) c.args.turn.now c.in-Asked.access (asked_here c.args.self.now.cog c.args.self.now.stage c.args.self.now.state c.args.self.now.clock c.in-Asked.access c.in-Asked.later c.in-Asked.is) c.args.self.now.announces c.requires.announced in
     omega (arith, behind-later c.args.self.now.cog c.args.self.now.clock c.in-Asked.access c.args.turn.now.key.clock h.1, c.behind-clock.ensures)
 
 pub returns-else-is_last-clause-lead : goal.returns-else-is_last-clause-lead
 returns-else-is_last-clause-lead c =
-    let h = came c.args.self.now.cog c.args.self.now.stage c.args.self.now.state c.args.self.now.clock c.args.self.now.reached c.args.self.now.announced c.args.turn.now c.in-Asked.access (asked_here c.args.self.now.cog c.args.self.now.stage c.args.self.now.state c.args.self.now.clock c.in-Asked.access c.in-Asked.later c.in-Asked.is) c.args.self.now.announces c.requires.announced in
+    let h = came c.args.self.now.cog c.args.self.now.stage c.args.self.now.state c.args.self.now.clock c.args.self.now.reached (announced_at c.args.self.now.asking c.args.self.now.cog c.args.self.now.stage c.args.self.now.state c.args.self.now.clock) c.args.turn.now c.in-Asked.access (asked_here c.args.self.now.cog c.args.self.now.stage c.args.self.now.state c.args.self.now.clock c.in-Asked.access c.in-Asked.later c.in-Asked.is) c.args.self.now.announces c.requires.announced in
     omega (arith, behind-near c.args.self.now.cog c.args.self.now.clock c.in-Asked.access c.args.turn.now.key.clock h.1, c.behind-clock.ensures)
 
 pub returns-in-Halted-clause-stands : goal.returns-in-Halted-clause-stands
 returns-in-Halted-clause-stands c =
-    let h = came c.args.self.now.cog c.args.self.now.stage c.args.self.now.state c.args.self.now.clock c.args.self.now.reached c.args.self.now.announced c.args.turn.now (Halt c.in-Halted.reason) (halted_here c.args.self.now.cog c.args.self.now.stage c.args.self.now.state c.args.self.now.clock c.in-Halted.reason c.in-Halted.is) c.args.self.now.announces c.requires.announced in
+    let h = came c.args.self.now.cog c.args.self.now.stage c.args.self.now.state c.args.self.now.clock c.args.self.now.reached (announced_at c.args.self.now.asking c.args.self.now.cog c.args.self.now.stage c.args.self.now.state c.args.self.now.clock) c.args.turn.now (Halt c.in-Halted.reason) (halted_here c.args.self.now.cog c.args.self.now.stage c.args.self.now.state c.args.self.now.clock c.in-Halted.reason c.in-Halted.is) c.args.self.now.announces c.requires.announced in
     halted_over c.args.self.now.counter c.args.self.now.code c.args.self.now.done c.args.self.now.cog c.args.self.now.stage c.args.self.now.state c.args.self.now.state c.args.self.now.clock (c.args.turn.now.key.clock + 1) c.in-Halted.reason c.args.turn.now c.in-Halted.is h.0
 
 pub returns-in-Halted-clause-placed : goal.returns-in-Halted-clause-placed
