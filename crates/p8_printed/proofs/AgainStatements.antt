@@ -16,8 +16,7 @@ use Rattle.p8_printed.proofs.Below.{Laws}
 use Rattle.p8_printed.proofs.Rebuilt.{is_headed}
 use Rattle.p8_printed.proofs.Printable.{of_source}
 use Rattle.p8_printed.proofs.Lines.{KindReadsBack, kind_reads_back}
-use Rattle.p8_printed.proofs.MethodLines.{KindSpelled, value_of, if_kind, else_if_kind, else_kind, end_kind, case_kind, other_kind, next_kind, quit_kind, return_kind, abort_kind, repeat_kind, item_kind}
-use Rattle.p8_printed.proofs.Actions.{action_kind}
+use Rattle.p8_printed.proofs.MethodLines.{KindSpelled, value_of, if_kind, else_if_kind, else_kind, end_kind, case_kind, other_kind, next_kind, quit_kind, return_kind, abort_kind, repeat_kind, item_kind, do_kind}
 
 -- a line of this kind, but for its places, is read back
 record ReadKind (k : Kind) : Type 0 where
@@ -286,7 +285,7 @@ module _ (laws : Laws) where
     body_again e (ss ▹ statement p a) h = action_again e ss p a (body_again e ss h.0) h.1
 
     action_again : (e : ℕ) (ss : Statements) (p : Place) (a : Action) → BodyAgain e ss → IsProperAction a → BodyAgain e (ss ▹ statement p a)
-    action_again e ss p (Do d) r h = plain_line e ss p (Do d) r (as_plain (Do d) (read_kind (Plain (Do d)) (action_kind d h)))
+    action_again e ss p (Do d) r h = plain_line e ss p (Do d) r (as_plain (Do d) (read_kind (Plain (Do d)) (do_kind d h)))
     action_again e ss p Next r h = plain_line e ss p Next r (as_plain Next (read_kind (Plain Next) next_kind))
     action_again e ss p Quit r h = plain_line e ss p Quit r (as_plain Quit (read_kind (Plain Quit) quit_kind))
     action_again e ss p (Return o) r h = plain_line e ss p (Return o) r (as_plain (Return o) (read_kind (Plain (Return o)) (return_kind o h)))

@@ -1,11 +1,11 @@
 -- Rows that are alike but for places stand for trees that are alike.
 use Rattle.std.proofs.Common.{◌≡◌, ℕ, true, false, List, ◌∷◌, Some, None, refl, sym, ap, ap₂, subst}
-use Rattle.std.specs.Prelude.{IsTrue}
+use Rattle.std.specs.Prelude.{IsTrue, not}
 use Rattle.p8_tree.specs.declared.places.Place.{Place}
 use Rattle.p8_tree.specs.Expressions.{Tree, node, Number, Str, Here, Var, Call, Change, Address, ObjConst, Built, Look, Variable, Named, Part, Memory, Register, no_index, index, whole, bits, single, range, Trees, no_trees, ◌▷◌, Items, no_items, ◌▸◌}
 use Rattle.p8_tree.specs.Forgetting.{anywhere, variable_anywhere, trees_anywhere, items_anywhere, IsSameTree}
-use Rattle.p8_grammar.specs.Lexemes.{Setting, allows_index, is_dat, Access, memory, assembly, is_written, is_in, Mark, left_parenthesis, right_parenthesis, colon, dot_dot, Lexeme, name, mark, changes, address, look}
-use Rattle.p8_grammar.specs.Grammar.{word, upto, Row, begin, ◌▹◌, Names, plain_name, result_word, local_label, Variables, named, indexed, part, part_indexed, memory_at, memory_indexed, register_whole, register_bit, register_bits, place_of, Head, calls, built, applied, Heads, trapped, of_object, of_element, of_built_in, Arguments, no_arguments, argument, Choices, no_choices, value_choice, range_choice, Forms, a_number, a_character, the_place, parentheses, variable, changed_before, changed_after, address_of, plain_call, bare_call, full_call, object_constant, a_value, a_string, a_constant, look_value, look_range}
+use Rattle.p8_grammar.specs.Lexemes.{Setting, is_value, allows_index, is_dat, Access, memory, input_pins, input, assembly, is_written, is_in, Mark, left_parenthesis, right_parenthesis, colon, dot_dot, Lexeme, name, mark, changes, address, look}
+use Rattle.p8_grammar.specs.Grammar.{word, upto, Row, begin, ◌▹◌, Names, plain_name, result_word, local_label, Variables, named, indexed, part, part_indexed, memory_at, memory_indexed, register_whole, register_bit, register_bits, place_of, Head, calls, built, applied, Heads, trapped, of_object, of_element, of_built_in, of_command, Arguments, no_arguments, argument, Choices, no_choices, value_choice, range_choice, Forms, a_number, a_character, the_place, parentheses, variable, name_alone, changed_by, Prefix, prefix_of, effect_of, changed_before, changed_after, address_of, plain_call, bare_call, full_call, object_constant, a_value, a_string, a_constant, look_value, look_range}
 
 pub data Alike : Row → Row → Type 0 where
   alike_begin : Alike begin begin
@@ -15,13 +15,22 @@ pub data Alike : Row → Row → Type 0 where
 -- a setting in which all stands that stands in another, indexes among it
 pub record Fits (s s' : Setting) : Type 0 where
   pub dat : is_dat s' ≡ is_dat s
+  pub value : is_value s' ≡ is_value s
   pub indexes : IsTrue (allows_index s')
 
 in_dat_too : {s s' : Setting} → Fits s s' → IsTrue (is_dat s) → IsTrue (is_dat s')
 in_dat_too f h = subst IsTrue (sym f.dat) h
 
+pub value_too : {s s' : Setting} → Fits s s' → IsTrue (is_value s) → IsTrue (is_value s')
+value_too f h = subst IsTrue (sym f.value) h
+
+action_too : {s s' : Setting} → Fits s s' → IsTrue (not (is_value s)) → IsTrue (not (is_value s'))
+action_too f h = subst (λ b. IsTrue (not b)) (sym f.value) h
+
 is_in_too : {s s' : Setting} → Fits s s' → (x : Access) → IsTrue (is_in s x) → IsTrue (is_in s' x)
 is_in_too f assembly h = subst IsTrue (sym f.dat) h
+is_in_too f input_pins h = value_too f h
+is_in_too f input h = value_too f h
 is_in_too f x h = h
 
 pub record NamesAs (s : Setting) (before : Row) (n : List ℕ) (row : Row) : Type 0 where
@@ -84,6 +93,8 @@ heads_as f (of_element {trap = false} {n = n} {m = m} o i) (alike_word {p' = q'}
     record { other = calls false (Some n) (index e') m q' p'; heads = of_element {trap = false} o f.indexes; same = λ es es' d'. ap₂ (λ t u. node anywhere (Call false (Some n) (index t) m anywhere u)) d d' }
 heads_as f (of_built_in {k = k}) (alike_word {p' = p'} alike_begin) =
     record { other = built k p'; heads = of_built_in; same = λ es es' d. ap (λ t. node anywhere (Built k t)) d }
+heads_as f (of_command {k = k} a) (alike_word {p' = p'} alike_begin) =
+    record { other = built k p'; heads = of_command (action_too f a); same = λ es es' d. ap (λ t. node anywhere (Built k t)) d }
 
 record ArgumentsAs (before : Row) (es : Trees) (row : Row) : Type 0 where
   base : Row
@@ -120,11 +131,11 @@ pub record FormsAs (s : Setting) (e : Tree) (row : Row) : Type 0 where
   pub forms : Forms s other row
   pub same : IsSameTree other e
 
-read_as : {s : Setting} {x : Access} {v : Variable} {row : Row} → VariablesAs s begin x v row → FormsAs s (node (place_of v) (Var v)) row
-read_as {s = s} {x = x} {v = v} {row = row} r = go r.base r.alike r.variables
+read_as : {s : Setting} {x : Access} {v : Variable} {row : Row} → IsTrue (is_value s) → VariablesAs s begin x v row → FormsAs s (node (place_of v) (Var v)) row
+read_as {s = s} {x = x} {v = v} {row = row} is r = go r.base r.alike r.variables
   where
     go : (base : Row) → Alike begin base → Variables s base x r.other row → FormsAs s (node (place_of v) (Var v)) row
-    go begin alike_begin y = record { other = node (place_of r.other) (Var r.other); forms = variable y; same = ap (λ w. node anywhere (Var w)) r.same }
+    go begin alike_begin y = record { other = node (place_of r.other) (Var r.other); forms = variable is y; same = ap (λ w. node anywhere (Var w)) r.same }
     go (_ ▹ _) k y = elim k [ ]
 
 changed_before_as : {s : Setting} {p : Place} {b a : ℕ} {x : Access} {v : Variable} {row : Row} → IsTrue (is_written x) → VariablesAs s (begin ▹ word p (changes b a)) x v row → FormsAs s (node p (Change v b)) row
@@ -133,6 +144,12 @@ changed_before_as {s = s} {p = p} {b = b} {a = a} {x = x} {v = v} {row = row} w 
     go : (base : Row) → Alike (begin ▹ word p (changes b a)) base → Variables s base x r.other row → FormsAs s (node p (Change v b)) row
     go base (alike_word {p' = p'} alike_begin) y = record { other = node p' (Change r.other b); forms = changed_before w y; same = ap (λ u. node anywhere (Change u b)) r.same }
 
+changed_by_as : {s : Setting} {p : Place} {w : Lexeme} {o : Prefix} {k : ℕ} {x : Access} {v : Variable} {row : Row} → IsTrue (not (is_value s)) → prefix_of w ≡ Some o → effect_of o ≡ Some k → IsTrue (is_written x) → VariablesAs s (begin ▹ word p w) x v row → FormsAs s (node p (Change v k)) row
+changed_by_as {s = s} {p = p} {w = w} {k = k} {x = x} {v = v} {row = row} a e f h r = go r.base r.alike r.variables
+  where
+    go : (base : Row) → Alike (begin ▹ word p w) base → Variables s base x r.other row → FormsAs s (node p (Change v k)) row
+    go base (alike_word {p' = p'} alike_begin) y = record { other = node p' (Change r.other k); forms = changed_by a e f h y; same = ap (λ u. node anywhere (Change u k)) r.same }
+
 changed_after_as : {s : Setting} {p p' : Place} {b a : ℕ} {x : Access} {v : Variable} {row : Row} → IsTrue (is_written x) → VariablesAs s begin x v row → FormsAs s (node p (Change v a)) (row ▹ word p' (changes b a))
 changed_after_as {s = s} {p = p} {p' = p'} {b = b} {a = a} {x = x} {v = v} {row = row} w r = go r.base r.alike r.variables
   where
@@ -140,11 +157,11 @@ changed_after_as {s = s} {p = p} {p' = p'} {b = b} {a = a} {x = x} {v = v} {row 
     go begin alike_begin y = record { other = node p' (Change r.other a); forms = changed_after w y; same = ap (λ u. node anywhere (Change u a)) r.same }
     go (_ ▹ _) k y = elim k [ ]
 
-address_as : {s : Setting} {p : Place} {v : Variable} {row : Row} → VariablesAs s (begin ▹ word p address) memory v row → FormsAs s (node p (Address v)) row
-address_as {s = s} {p = p} {v = v} {row = row} r = go r.base r.alike r.variables
+address_as : {s : Setting} {p : Place} {v : Variable} {row : Row} → IsTrue (is_value s) → VariablesAs s (begin ▹ word p address) memory v row → FormsAs s (node p (Address v)) row
+address_as {s = s} {p = p} {v = v} {row = row} is r = go r.base r.alike r.variables
   where
     go : (base : Row) → Alike (begin ▹ word p address) base → Variables s base memory r.other row → FormsAs s (node p (Address v)) row
-    go base (alike_word {p' = p'} alike_begin) y = record { other = node p' (Address r.other); forms = address_of y; same = ap (λ u. node anywhere (Address u)) r.same }
+    go base (alike_word {p' = p'} alike_begin) y = record { other = node p' (Address r.other); forms = address_of is y; same = ap (λ u. node anywhere (Address u)) r.same }
 
 plain_call_as : {s : Setting} {n : List ℕ} {p q : Place} {es : Trees} {e e' : Tree} {row : Row} → ArgumentsAs (begin ▹ word p (name n) ▹ word q (mark left_parenthesis)) es row → IsSameTree e' e → FormsAs s (node p (Call false None no_index n p (es ▷ e))) (row ▹ upto e' right_parenthesis)
 plain_call_as {s = s} {n = n} {p = p} {q = q} {es = es} {e = e} {e' = e'} {row = row} r d = go r.base r.alike r.arguments
@@ -161,38 +178,40 @@ full_call_as {s' = s'} {h = h} {q = q} {es = es} {e' = e'} {row = row} {row' = r
         let z = heads_as f y k in
         record { other = applied z.other (r.other ▷ e'); forms = full_call z.heads a; same = z.same (es ▷ e) (r.other ▷ e') (ap₂ (λ ts t. ts ▷ t) r.same d) }
 
-look_value_as : {s : Setting} {k : ℕ} {p q : Place} {x e e' : Tree} {xs : Items} {row : Row} → ChoicesAs (begin ▹ word p (look k) ▹ word q (mark left_parenthesis) ▹ upto x colon) xs row → IsSameTree e' e → FormsAs s (node p (Look k x (xs ▸ single e))) (row ▹ upto e' right_parenthesis)
-look_value_as {s = s} {k = k} {p = p} {q = q} {x = x} {e = e} {e' = e'} {xs = xs} {row = row} r d = go r.base r.alike r.choices
+look_value_as : {s : Setting} {k : ℕ} {p q : Place} {x e e' : Tree} {xs : Items} {row : Row} → IsTrue (is_value s) → ChoicesAs (begin ▹ word p (look k) ▹ word q (mark left_parenthesis) ▹ upto x colon) xs row → IsSameTree e' e → FormsAs s (node p (Look k x (xs ▸ single e))) (row ▹ upto e' right_parenthesis)
+look_value_as {s = s} {k = k} {p = p} {q = q} {x = x} {e = e} {e' = e'} {xs = xs} {row = row} is r d = go r.base r.alike r.choices
   where
     go : (base : Row) → Alike (begin ▹ word p (look k) ▹ word q (mark left_parenthesis) ▹ upto x colon) base → Choices base r.other row → FormsAs s (node p (Look k x (xs ▸ single e))) (row ▹ upto e' right_parenthesis)
     go base (alike_upto {e' = x'} (alike_word (alike_word {p' = p'} alike_begin)) dx) c =
-        record { other = node p' (Look k x' (r.other ▸ single e')); forms = look_value c; same = ap₂ (λ t ys. node anywhere (Look k t ys)) dx (ap₂ (λ ys t. ys ▸ single t) r.same d) }
+        record { other = node p' (Look k x' (r.other ▸ single e')); forms = look_value is c; same = ap₂ (λ t ys. node anywhere (Look k t ys)) dx (ap₂ (λ ys t. ys ▸ single t) r.same d) }
 
-look_range_as : {s : Setting} {k : ℕ} {p q : Place} {x low low' high high' : Tree} {xs : Items} {row : Row} → ChoicesAs (begin ▹ word p (look k) ▹ word q (mark left_parenthesis) ▹ upto x colon) xs row → IsSameTree low' low → IsSameTree high' high → FormsAs s (node p (Look k x (xs ▸ range low high))) (row ▹ upto low' dot_dot ▹ upto high' right_parenthesis)
-look_range_as {s = s} {k = k} {p = p} {q = q} {x = x} {low = low} {low' = low'} {high = high} {high' = high'} {xs = xs} {row = row} r d d' = go r.base r.alike r.choices
+look_range_as : {s : Setting} {k : ℕ} {p q : Place} {x low low' high high' : Tree} {xs : Items} {row : Row} → IsTrue (is_value s) → ChoicesAs (begin ▹ word p (look k) ▹ word q (mark left_parenthesis) ▹ upto x colon) xs row → IsSameTree low' low → IsSameTree high' high → FormsAs s (node p (Look k x (xs ▸ range low high))) (row ▹ upto low' dot_dot ▹ upto high' right_parenthesis)
+look_range_as {s = s} {k = k} {p = p} {q = q} {x = x} {low = low} {low' = low'} {high = high} {high' = high'} {xs = xs} {row = row} is r d d' = go r.base r.alike r.choices
   where
     go : (base : Row) → Alike (begin ▹ word p (look k) ▹ word q (mark left_parenthesis) ▹ upto x colon) base → Choices base r.other row → FormsAs s (node p (Look k x (xs ▸ range low high))) (row ▹ upto low' dot_dot ▹ upto high' right_parenthesis)
     go base (alike_upto {e' = x'} (alike_word (alike_word {p' = p'} alike_begin)) dx) c =
-        record { other = node p' (Look k x' (r.other ▸ range low' high')); forms = look_range c; same = ap₂ (λ t ys. node anywhere (Look k t ys)) dx (ap₂ (λ ys y. ys ▸ y) r.same (ap₂ range d d')) }
+        record { other = node p' (Look k x' (r.other ▸ range low' high')); forms = look_range is c; same = ap₂ (λ t ys. node anywhere (Look k t ys)) dx (ap₂ (λ ys y. ys ▸ y) r.same (ap₂ range d d')) }
 
 pub forms_as : {s s' : Setting} {e : Tree} {row row' : Row} → Fits s s' → Forms s e row → Alike row row' → FormsAs s' e row'
-forms_as f (a_number {n = n}) (alike_word {p' = p'} alike_begin) = record { other = node p' (Number n); forms = a_number; same = refl }
-forms_as f (a_character {c = c}) (alike_word {p' = p'} alike_begin) = record { other = node p' (Number c); forms = a_character; same = refl }
+forms_as f (a_number {n = n} v) (alike_word {p' = p'} alike_begin) = record { other = node p' (Number n); forms = a_number (value_too f v); same = refl }
+forms_as f (a_character {c = c} v) (alike_word {p' = p'} alike_begin) = record { other = node p' (Number c); forms = a_character (value_too f v); same = refl }
 forms_as f (the_place d) (alike_word {p' = p'} alike_begin) = record { other = node p' Here; forms = the_place (in_dat_too f d); same = refl }
-forms_as f parentheses (alike_upto {e' = e'} (alike_word alike_begin) d) = record { other = e'; forms = parentheses; same = d }
-forms_as f (variable y) h = read_as (variables_as f y h)
+forms_as f (parentheses v) (alike_upto {e' = e'} (alike_word alike_begin) d) = record { other = e'; forms = parentheses (value_too f v); same = d }
+forms_as f (variable v y) h = read_as (value_too f v) (variables_as f y h)
+forms_as f (name_alone {n = n} a) (alike_word {p' = p'} alike_begin) = record { other = node p' (Var (Named n no_index p')); forms = name_alone (action_too f a); same = refl }
+forms_as f (changed_by a e k w y) h = changed_by_as (action_too f a) e k w (variables_as f y h)
 forms_as f (changed_before w y) h = changed_before_as w (variables_as f y h)
 forms_as f (changed_after w y) (alike_word h) = changed_after_as w (variables_as f y h)
-forms_as f (address_of y) h = address_as (variables_as f y h)
+forms_as f (address_of v y) h = address_as (value_too f v) (variables_as f y h)
 forms_as f (plain_call a) (alike_upto h d) = plain_call_as (arguments_as a h) d
 forms_as f (bare_call y) h =
     let r = heads_as f y h in
     record { other = applied r.other no_trees; forms = bare_call r.heads; same = r.same no_trees no_trees refl }
 forms_as f (full_call {e = e} y a) (alike_upto h d) = full_call_as e f y (arguments_as a h) d
-forms_as f (object_constant {n = n} {m = m}) (alike_word {p' = q'} (alike_word (alike_word {p' = p'} alike_begin))) = record { other = node p' (ObjConst n m q'); forms = object_constant; same = refl }
+forms_as f (object_constant {n = n} {m = m} v) (alike_word {p' = q'} (alike_word (alike_word {p' = p'} alike_begin))) = record { other = node p' (ObjConst n m q'); forms = object_constant (value_too f v); same = refl }
 forms_as f (a_value {k = k}) (alike_word {p' = p'} alike_begin) = record { other = node p' (Built k no_trees); forms = a_value; same = refl }
-forms_as f (a_string {c = c} {t = t}) (alike_word (alike_word (alike_word (alike_word {p' = p'} alike_begin)))) = record { other = node p' (Str (c ∷ t)); forms = a_string; same = refl }
-forms_as f a_constant (alike_upto {e' = e'} (alike_word (alike_word {p' = p'} alike_begin)) d) =
-    record { other = node p' (Built 0 (no_trees ▷ e')); forms = a_constant; same = ap (λ t. node anywhere (Built 0 (no_trees ▷ t))) d }
-forms_as f (look_value c) (alike_upto h d) = look_value_as (choices_as c h) d
-forms_as f (look_range c) (alike_upto (alike_upto h d) d') = look_range_as (choices_as c h) d d'
+forms_as f (a_string {c = c} {t = t} v) (alike_word (alike_word (alike_word (alike_word {p' = p'} alike_begin)))) = record { other = node p' (Str (c ∷ t)); forms = a_string (value_too f v); same = refl }
+forms_as f (a_constant v) (alike_upto {e' = e'} (alike_word (alike_word {p' = p'} alike_begin)) d) =
+    record { other = node p' (Built 0 (no_trees ▷ e')); forms = a_constant (value_too f v); same = ap (λ t. node anywhere (Built 0 (no_trees ▷ t))) d }
+forms_as f (look_value v c) (alike_upto h d) = look_value_as (value_too f v) (choices_as c h) d
+forms_as f (look_range v c) (alike_upto (alike_upto h d) d') = look_range_as (value_too f v) (choices_as c h) d d'

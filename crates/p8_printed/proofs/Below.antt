@@ -24,7 +24,7 @@ use Rattle.p8_statements.specs.Statements.{kind_of_row}
 use Rattle.p8_rows.specs.Values.{begins_line}
 use Rattle.p8_print.specs.Spelled.{Spelled, IsReadable}
 use Rattle.p8_expr.specs.Sources.{AreLexemes}
-use Rattle.p8_printed.specs.Written.{Written, IsSameRow}
+use Rattle.p8_printed.specs.Written.{Written, begins_action, IsSameRow}
 use Rattle.p8_printed.specs.Rereading.{AreSpelled, AreOfSource, with_line_end, ReadsBack}
 use Rattle.p8_print.specs.StatementWords.{words_of_kind}
 use Rattle.p8_print.specs.DeclarationWords.{words_of_constant, words_of_variable, words_of_child, words_of_head}
@@ -37,9 +37,9 @@ Lexemes = (bytes : List ℕ) (tokens : List lexer_token.Token) → EachIndex byt
 
 -- What is written of each line is read back.
 pub record Laws : Type 0 where
-  pub readable : (bare : Bool) (q : State) (row : List Piece) (us : List LineToken) (words : List Spelled) → Leads q us row state.End → AreOfSource us → Written bare row words → All IsReadable words
-  pub same : (bare : Bool) (q : State) (row : List Piece) (us ts : List LineToken) (words : List Spelled) (t : LineToken) → (IsTrue bare → setting_at q ≡ in_method) → Leads q us row state.End → AreOfSource us → Written bare row words → AreSpelled words ts → word t ≡ word_case.LineEnd → (row' : List Piece) × Leads q (with_line_end row ts t) row' state.End × IsSameRow row' row
-  pub lines_written : (q : State) (us : List LineToken) (row : List Piece) (k : Kind) → IsTrue (begins_line q) → Leads q us row state.End → AreOfSource us → kind_of_row row ≡ Some k → Written true row (words_of_kind k)
+  pub readable : (bare : Bool) (q : State) (row : List Piece) (us : List LineToken) (words : List Spelled) → Leads q us row state.End → AreOfSource us → Written bare (begins_action q) row words → All IsReadable words
+  pub same : (bare : Bool) (q : State) (row : List Piece) (us ts : List LineToken) (words : List Spelled) (t : LineToken) → (IsTrue bare → setting_at q ≡ in_method) → Leads q us row state.End → AreOfSource us → Written bare (begins_action q) row words → AreSpelled words ts → word t ≡ word_case.LineEnd → (row' : List Piece) × Leads q (with_line_end row ts t) row' state.End × IsSameRow row' row
+  pub lines_written : (q : State) (us : List LineToken) (row : List Piece) (k : Kind) → IsTrue (begins_line q) → Leads q us row state.End → kind_of_row row ≡ Some k → Written true (begins_action q) row (words_of_kind k)
   pub places : (row row' : List Piece) (k : Kind) → IsSameRow row' row → kind_of_row row ≡ Some k → (k' : Kind) × (kind_of_row row' ≡ Some k') × (kind_anywhere k' ≡ kind_anywhere k)
   pub first_constants : (us : List LineToken) (row : List Piece) (xs : List Constant) → Leads state.ConHead us row state.End → AreOfSource us → constants_of_row row ≡ Some xs → All (λ x. ReadsBack constants_of_row (map constant_anywhere) state.ConItem (words_of_constant x) (x ∷ [])) xs
   pub constants : (us : List LineToken) (row : List Piece) (xs : List Constant) → Leads state.ConItem us row state.End → AreOfSource us → constants_of_row row ≡ Some xs → All (λ x. ReadsBack constants_of_row (map constant_anywhere) state.ConItem (words_of_constant x) (x ∷ [])) xs

@@ -85,7 +85,7 @@ of_line row xs g h =
     (All-from_recursion IsItem xs (each_unless IsItem (is_line_end (parts row)) (constants (parts row)) xs h (λ k. items (parts row) xs g k)))
 
 pub from_head : (us : List LineToken) (row : List Piece) (xs : List Constant) → Leads state.ConHead us row state.End → AreOfSource us → constants_of_row row ≡ Some xs → All IsReadBack xs
-from_head us row xs w g h = of_line row xs (leads_good in_declaration declarations_closed w refl g) h
+from_head us row xs w g h = of_line row xs (leads_good in_declaration refl declarations_closed w refl g) h
 
 pub from_item : (us : List LineToken) (row : List Piece) (xs : List Constant) → Leads state.ConItem us row state.End → AreOfSource us → constants_of_row row ≡ Some xs → All IsReadBack xs
-from_item us row xs w g h = of_line row xs (leads_good in_declaration declarations_closed w refl g) h
+from_item us row xs w g h = of_line row xs (leads_good in_declaration refl declarations_closed w refl g) h

@@ -1,5 +1,5 @@
 -- What holds of each line of DAT that was read, where it holds at the line's end and each arrow keeps it.
-use Rattle.std.proofs.Common.{◌≡◌, ℕ, ◌<◌, ◌≤◌, List, [], ◌∷◌, ◌++◌, map, length, Option, Some, None, Bool, true, false, All, refl, sym, ◌∙◌, subst, arith}
+use Rattle.std.proofs.Common.{◌≡◌, ℕ, ◌<◌, List, [], ◌∷◌, ◌++◌, map, length, Option, Some, None, Bool, true, false, All, refl, sym, ◌∙◌, subst}
 use Rattle.std.specs.Prelude.{IsTrue, if◌then◌else◌, option_map}
 use Rattle.std.proofs.lemmas.List.Elements.{All-nil, All-cons, All-head, All-tail}
 use Rattle.p8_tree.specs.declared.places.Place.{Place}
@@ -8,7 +8,6 @@ use Rattle.p8_lexer.specs.declared.word.Word.{Word}
 use Rattle.p8_lexer.specs.declared.word.Word.TheVariants as word
 use Rattle.p8_lexer.specs.Words.{capital}
 use Rattle.p8_grammar.specs.Lexemes as lexemes
-use Rattle.p8_grammar.specs.Heights.{height}
 use Rattle.p8_expr.specs.Words.{between_quotes}
 use Rattle.p8_pieces.specs.Pieces.{Piece}
 use Rattle.p8_lines.specs.declared.sign.Sign.{Sign}
@@ -20,7 +19,7 @@ use Rattle.p8_lines.specs.Signs.{Matches, is_size, is_condition, takes_two, is_o
 use Rattle.p8_lines.specs.Diagram.{Phrase, choices}
 use Rattle.p8_lines.specs.Tokens as tokens
 use Rattle.p8_lines.specs.Tokens.{LineToken, lexeme, term, terms, string_length, piece}
-use Rattle.p8_lines.specs.Lines.{Follows, here, further, is_name, behind, greatest_height, Leads, nowhere, by_token, by_phrase}
+use Rattle.p8_lines.specs.Lines.{Follows, here, further, is_name, behind, Leads, nowhere, by_token, by_phrase}
 use Rattle.p8_lines.proofs.Arrows.{all_good, all_good_behind, taken, taken_behind}
 use Rattle.p8_lines.proofs.Lexemes.{is_plain, name_lexeme, string_lexeme}
 use Rattle.p8_lines.proofs.Ways.{terms_append}
@@ -247,7 +246,7 @@ each x R t m s y = y (part_of_piece (piece t))
 
 abbrev all_own : (State → Bool) → Option Phrase → Bool
 all_own own None = true
-all_own own (Some h) = all_good_behind (λ a. own a.to) h
+all_own own (Some h) = if lexemes.is_value h.setting then all_good_behind (λ a. own a.to) h else false
 
 abbrev pub is_closed : (State → Bool) → State → Bool
 is_closed own q = if own q then (if all_good (λ a. own a.to) (choices q).arrows then all_own own (choices q).phrase else false) else true
@@ -296,13 +295,6 @@ source_left us vs h = all_left IsToken (terms us) (terms vs) (subst (All IsToken
 source_right : (us vs : List LineToken) → AreOfSource (us ++ vs) → AreOfSource vs
 source_right us vs h = all_right IsToken (terms us) (terms vs) (subst (All IsToken) (terms_append us vs) h)
 
-low_enough : (h : Phrase) (e : Tree) → height e ≤ greatest_height h → height e ≤ 64
-low_enough h e l = go h.inner l
-  where
-    go : (b : Bool) → height e ≤ (if b then 63 else 64) → height e ≤ 64
-    go true l = omega (arith, l)
-    go false l = l
-
 module _ (own : State → Bool) (closed : (q : State) → IsTrue (is_closed own q)) (Goal : State → List Part → Type 0) (at_end : Goal state.End []) (keeps : (q : State) (ps : List Part) → IsTrue (own q) → Keeps Goal q ps) where
   own_choices : (q : State) → IsTrue (own q) → (all_good (λ a. own a.to) (choices q).arrows ≡ true) × (all_own own (choices q).phrase ≡ true)
   own_choices q h = halves (all_good (λ a. own a.to) (choices q).arrows) (all_own own (choices q).phrase) (subst (λ b. IsTrue (if b then (if all_good (λ a. own a.to) (choices q).arrows then all_own own (choices q).phrase else false) else true)) h (closed q))
@@ -312,10 +304,12 @@ module _ (own : State → Bool) (closed : (q : State) → IsTrue (is_closed own 
       let x = taken (λ a. own a.to) f ((own_choices q h).0) in
       subst (λ r. IsTrue (own r)) x.goes x.good
 
+  own_phrase : (q : State) (h : Phrase) → (choices q).phrase ≡ Some h → IsTrue (own q) → IsTrue (lexemes.is_value h.setting) × IsTrue (all_good_behind (λ a. own a.to) h)
+  own_phrase q h e y = halves (lexemes.is_value h.setting) (all_good_behind (λ a. own a.to) h) (subst (λ o. IsTrue (all_own own o)) e ((own_choices q y).1))
+
   own_behind : (q r : State) (h : Phrase) (us : List LineToken) (t : LineToken) → (choices q).phrase ≡ Some h → Follows (behind h us) t r → IsTrue (own q) → IsTrue (own r)
   own_behind q r h us t e f y =
-      let good : IsTrue (all_good_behind (λ a. own a.to) h) = subst (λ o. IsTrue (all_own own o)) e ((own_choices q y).1) in
-      let x = taken_behind (λ a. own a.to) h us f good in
+      let x = taken_behind (λ a. own a.to) h us f (own_phrase q h e y).1 in
       subst (λ r. IsTrue (own r)) x.goes x.good
 
   holds_to : {q s : State} {us : List LineToken} {row : List Piece} → Leads q us row s → s ≡ state.End → AreOfSource us → IsTrue (own q) → Goal q (map part_of_piece row)
@@ -324,7 +318,7 @@ module _ (own : State → Bool) (closed : (q : State) → IsTrue (is_closed own 
       by_arrow Goal (map part_of_piece row) (λ x. Goal q (x ∷ map part_of_piece row)) f (All-head IsToken (term t) (terms ts) s) ((keeps q (map part_of_piece row) h).arrows) (holds_to y e (All-tail IsToken (term t) (terms ts) s) (own_next q r t f h))
   holds_to (by_phrase {q = q} {r = r} {h = p} {e = x} {row = row} {first = first} {t = t} others {ts = ts} some is l f y) e s h =
       let rest = source_right (first ∷ others) (t ∷ ts) s in
-      behind_phrase Goal q (map part_of_piece row) p (first ∷ others) f (All-head IsToken (term t) (terms ts) rest) (subst (λ o. OwesBehind Goal q (map part_of_piece row) o) some ((keeps q (map part_of_piece row) h).phrase)) (holds_to y e (All-tail IsToken (term t) (terms ts) rest) (own_behind q r p (first ∷ others) t some f h)) x first.place (record { tokens = terms (first ∷ others); is = is; good = source_left (first ∷ others) (t ∷ ts) s; low = low_enough p x l })
+      behind_phrase Goal q (map part_of_piece row) p (first ∷ others) f (All-head IsToken (term t) (terms ts) rest) (subst (λ o. OwesBehind Goal q (map part_of_piece row) o) some ((keeps q (map part_of_piece row) h).phrase)) (holds_to y e (All-tail IsToken (term t) (terms ts) rest) (own_behind q r p (first ∷ others) t some f h)) x first.place (record { tokens = terms (first ∷ others); is = is; good = source_left (first ∷ others) (t ∷ ts) s; low = l; value = (own_phrase q p some h).0 })
 
   pub holds : {q : State} {us : List LineToken} {row : List Piece} → Leads q us row state.End → AreOfSource us → IsTrue (own q) → Goal q (map part_of_piece row)
   holds l s h = holds_to l refl s h

@@ -257,9 +257,10 @@ string_read (c ∷ t) p h =
     let fourth = token p (mark right_parenthesis) in
     record {
       tokens = first ∷ second ∷ third ∷ fourth ∷ [];
-      is = operand (a_string {c = c} {t = t} {p = p} {q = p} {r = p} {o = p}) (a_word (a_word (a_word (a_word nothing))));
+      is = operand (a_string {c = c} {t = t} {p = p} {q = p} {r = p} {o = p} refl) (a_word (a_word (a_word (a_word nothing))));
       good = All-cons IsToken first (second ∷ third ∷ fourth ∷ []) named (All-cons IsToken second (third ∷ fourth ∷ []) opens (All-cons IsToken third (fourth ∷ []) h.0 (All-cons IsToken fourth [] closes (All-nil IsToken))));
       low = omega arith;
+      value = refl;
     }
 
 -- what each state owes

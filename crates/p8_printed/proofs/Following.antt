@@ -9,7 +9,7 @@ use Rattle.p8_lines.specs.declared.sign.Sign.{Sign}
 use Rattle.p8_lines.specs.declared.sign.Sign.TheVariants as sign
 use Rattle.p8_lines.specs.declared.state.State.{State}
 use Rattle.p8_lines.specs.declared.state.State.TheVariants as state
-use Rattle.p8_lines.specs.Signs.{Matches, is_size, is_pins, is_assignment, is_boolean, is_change, is_operator, is_value, is_built_in, is_condition, takes_two, is_on_memory, takes_one, is_flag, is_write}
+use Rattle.p8_lines.specs.Signs.{Matches, is_size, is_condition, takes_two, is_on_memory, takes_one, is_flag, is_write}
 use Rattle.p8_lines.specs.Diagram.{Phrase, choices, behind_in, behind_name_in}
 use Rattle.p8_lines.specs.Tokens.{LineToken, word, lexeme, string_length}
 use Rattle.p8_lines.specs.Lines.{Follows, here, further, is_name, behind}
@@ -40,13 +40,6 @@ still_matches {t = t} {u = u} like = go
     go : (x : Sign) → Matches x (word t) (string_length t) → Matches x (word u) (string_length u)
     go (sign.Word w) m = like.same_word ∙ m
     go sign.Size m = moved is_size m
-    go sign.Pins m = moved is_pins m
-    go sign.Assignment m = moved is_assignment m
-    go sign.Boolean m = moved is_boolean m
-    go sign.Change m = moved is_change m
-    go sign.Operator m = moved is_operator m
-    go sign.Value m = moved is_value m
-    go sign.BuiltIn m = moved is_built_in m
     go sign.Text m = (like.same_word ∙ m.0, subst (λ n. 0 < n) (same_length like m.0) m.1)
     go sign.LongText m = (like.same_word ∙ m.0, subst (λ n. 1 < n) (same_length like m.0) m.1)
     go sign.Condition m = moved is_condition m
@@ -90,13 +83,6 @@ from_is w h = absurd cc
 sign_from : (x : Sign) (v : Word) (n : ℕ) → v ≡ word_case.From → Matches x v n → is_from x ≡ true
 sign_from (sign.Word w) v n e m = ap is_from_word (sym m ∙ e)
 sign_from sign.Size v n e m = let z = subst (λ v. Matches sign.Size v n) e m in absurd cc
-sign_from sign.Pins v n e m = let z = subst (λ v. Matches sign.Pins v n) e m in absurd cc
-sign_from sign.Assignment v n e m = let z = subst (λ v. Matches sign.Assignment v n) e m in absurd cc
-sign_from sign.Boolean v n e m = let z = subst (λ v. Matches sign.Boolean v n) e m in absurd cc
-sign_from sign.Change v n e m = let z = subst (λ v. Matches sign.Change v n) e m in absurd cc
-sign_from sign.Operator v n e m = let z = subst (λ v. Matches sign.Operator v n) e m in absurd cc
-sign_from sign.Value v n e m = let z = subst (λ v. Matches sign.Value v n) e m in absurd cc
-sign_from sign.BuiltIn v n e m = let z = subst (λ v. Matches sign.BuiltIn v n) e m in absurd cc
 sign_from sign.Text v n e m = let z = sym e ∙ m.0 in absurd cc
 sign_from sign.LongText v n e m = let z = sym e ∙ m.0 in absurd cc
 sign_from sign.Condition v n e m = let z = subst (λ v. Matches sign.Condition v n) e m in absurd cc

@@ -1,22 +1,63 @@
--- What a line of a method is doesn't depend on places.
-use Rattle.std.proofs.Common.{◌≡◌, ℕ, List, ◌∷◌, Option, Some, None, false, refl, sym, ap, ◌∙◌}
-use Rattle.std.specs.Prelude.{if◌then◌else◌, option_map, option_and_then}
+-- What a line of a method is doesn't depend on places: they are forgotten first or afterwards.
+use Rattle.std.proofs.Common.{◌≡◌, ℕ, List, ◌∷◌, Option, Some, None, false, refl, sym, ap, ◌∙◌, [], map, Bool, true}
+use Rattle.std.specs.Prelude.{if◌then◌else◌, not, option_map, option_and_then}
 use Rattle.p8_tree.specs.declared.places.Place.{Place}
 use Rattle.p8_tree.specs.Expressions.{Tree, node, Var, Named, no_index, Items, no_items, ◌▸◌}
 use Rattle.p8_tree.specs.Statements.{Forever, Count, Before, From, Action, Do, Next, Quit, Return, Abort}
 use Rattle.p8_tree.specs.Forgetting.{anywhere, tree_anywhere, items_anywhere, course_anywhere}
 use Rattle.p8_columns.specs.Lines.{Kind, Plain, If, ElseIf, Else, Repeat, End, Case, Item as ItemLine, Other}
-use Rattle.p8_pieces.specs.Pieces.{Piece, word, name, tree}
+use Rattle.p8_pieces.specs.Pieces.{Piece, word, tree}
 use Rattle.p8_statements.specs.declared.role.Role.{Role}
 use Rattle.p8_statements.specs.declared.role.Role.TheVariants as role
-use Rattle.p8_statements.specs.Roles.{role_of, is_comma, is_dot_dot, is_colon, is_from, is_to, is_step, begins_action}
-use Rattle.p8_statements.specs.Rows.{◌▶◌, phrase, ended, value_in}
-use Rattle.p8_statements.specs.Actions.{named_action, action}
-use Rattle.p8_statements.specs.Statements.{maybe_value, counted, counting, counter, course_by, course_before, course, test, unless_in_range, is_last_colon, behind_value, tests_after, other_line, line, doing, kind_by, statement, kind_of_row}
-use Rattle.p8_printed.specs.Written.{IsSameRow}
+use Rattle.p8_statements.specs.Roles.{role_of, is_comma, is_dot_dot, is_colon, is_from, is_to, is_step, is_line_end}
+use Rattle.p8_statements.specs.Rows.{◌▶◌, phrase, ended, value_in, sign, word_in, is_empty, is_end, ending}
+use Rattle.p8_statements.specs.Statements.{maybe_value, counted, counting, counter, course_by, course_before, course, test, unless_in_range, is_last_colon, behind_value, tests_after, other_line, line, statement, kind_of_row}
+use Rattle.p8_printed.specs.Written.{IsSameRow, piece_anywhere}
 use Rattle.p8_printed.specs.Kinds.{kind_anywhere}
-use Rattle.p8_printed.proofs.Forgetting.{row_anywhere, chosen, either, mapped, behind, empty_same, ended_same, ending_same, value_same}
-use Rattle.p8_printed.proofs.ForgettingActions.{named_action_same, action_same}
+use Rattle.p8_statements.specs.declared.row.Sign.{Sign}
+
+abbrev row_anywhere : List Piece → List Piece
+row_anywhere row = map piece_anywhere row
+
+abbrev sign_anywhere : Sign → Sign
+sign_anywhere s = record { role = s.role; place = anywhere }
+
+-- combinators
+
+chosen : {X Y : Type 0} (f : X → Y) (b : Bool) (x : X) → (if b then Some (f x) else None) ≡ option_map f (if b then Some x else None)
+chosen f true x = refl
+chosen f false x = refl
+
+either : {X : Type 0} (f : X → X) (b : Bool) (x y : Option X) {x' y' : Option X} → x' ≡ option_map f x → y' ≡ option_map f y → (if b then x' else y') ≡ option_map f (if b then x else y)
+either f true x y e e' = e
+either f false x y e e' = e'
+
+mapped : {X Y : Type 0} (f : X → X) (h : Y → Y) (g g' : X → Y) → ((x : X) → g' (f x) ≡ h (g x)) → (o : Option X) {o' : Option X} → o' ≡ option_map f o → option_map g' o' ≡ option_map h (option_map g o)
+mapped f h g g' k None e = ap (option_map g') e
+mapped f h g g' k (Some x) e = ap (option_map g') e ∙ ap Some (k x)
+
+-- what is read after a word
+behind : {Y : Type 0} (h : Y → Y) (g g' : Sign → List Piece → Option Y) → ((s : Sign) (row : List Piece) → g' (sign_anywhere s) (row_anywhere row) ≡ option_map h (g s row)) → (row : List Piece) → (word_in (row_anywhere row) ▶ g') ≡ option_map h (word_in row ▶ g)
+behind h g g' k (word w p ∷ row) = k (sign w p) row
+behind h g g' k row = refl
+
+-- the ends of lines
+
+empty_same : (row : List Piece) → is_empty (row_anywhere row) ≡ is_empty row
+empty_same [] = refl
+empty_same (x ∷ row) = refl
+
+ended_same : {X : Type 0} (f : X → X) (x : X) (r : Role) (row : List Piece) → ended (f x) r (row_anywhere row) ≡ option_map f (ended x r row)
+ended_same f x r [] = chosen f (is_end r []) x
+ended_same f x r (y ∷ row) = chosen f (is_end r (y ∷ row)) x
+
+ending_same : {X : Type 0} (f : X → X) (x : X) (row : List Piece) → ending (f x) (row_anywhere row) ≡ option_map f (ending x row)
+ending_same f x (word w p ∷ row) = ended_same f x (role_of w) row
+ending_same f x row = refl
+
+value_same : (row : List Piece) → value_in (row_anywhere row) ≡ option_map tree_anywhere (value_in row)
+value_same (tree e p ∷ word w q ∷ row) = ended_same tree_anywhere e (role_of w) row
+value_same row = refl
 
 maybe_value_same : (row : List Piece) → maybe_value (row_anywhere row) ≡ option_map (option_map tree_anywhere) (maybe_value row)
 maybe_value_same (word w p ∷ row) = ended_same (option_map tree_anywhere) None (role_of w) row
@@ -109,21 +150,18 @@ line_same role.Return row = maybe_valued_same Return (λ e. refl) row
 line_same role.Abort row = maybe_valued_same Abort (λ e. refl) row
 line_same r row = refl
 
-doing_same : (o : Option Tree) {o' : Option Tree} → o' ≡ option_map tree_anywhere o → doing o' ≡ option_map kind_anywhere (doing o)
-doing_same o e = mapped tree_anywhere kind_anywhere (λ e. Plain (Do e)) (λ e. Plain (Do e)) (λ e. refl) o e
-
-kind_by_same : (r : Role) (p : Place) (row : List Piece) → kind_by r anywhere (row_anywhere row) ≡ option_map kind_anywhere (kind_by r p row)
-kind_by_same r p row = either kind_anywhere (begins_action r) (doing (action r p row)) (line r row) (doing_same (action r p row) (action_same r p row)) (line_same r row)
-
 statement_same : (row : List Piece) → statement (row_anywhere row) ≡ option_map kind_anywhere (statement row)
-statement_same (word w p ∷ row) = kind_by_same (role_of w) p row
-statement_same (name n p ∷ row) = behind kind_anywhere (λ s row. doing (named_action n p s row)) (λ s row. doing (named_action n anywhere s row)) (λ s row. doing_same (named_action n p s row) (named_action_same n p s row)) row
+statement_same (word w p ∷ row) = line_same (role_of w) row
+statement_same (tree e p ∷ row) = ending_same kind_anywhere (Plain (Do e)) row
 statement_same row = refl
 
 kind_same : (row : List Piece) → kind_of_row (row_anywhere row) ≡ option_map kind_anywhere (kind_of_row row)
-kind_same (tree e p ∷ row) = mapped items_anywhere kind_anywhere ItemLine ItemLine (λ xs. refl) (tests_after no_items None (tree e p ∷ row)) (tests_after_same no_items None (tree e p ∷ row))
+kind_same (tree e p ∷ word w q ∷ row) =
+    let whole : List Piece = tree e p ∷ word w q ∷ row in
+    either kind_anywhere (not (is_line_end (role_of w))) (option_map ItemLine (tests_after no_items None whole)) (statement whole)
+    (mapped items_anywhere kind_anywhere ItemLine ItemLine (λ xs. refl) (tests_after no_items None whole) (tests_after_same no_items None whole))
+    (statement_same whole)
 kind_same (word w p ∷ row) = statement_same (word w p ∷ row)
-kind_same (name n p ∷ row) = statement_same (name n p ∷ row)
 kind_same row = refl
 
 -- a line whose value is the same but for places

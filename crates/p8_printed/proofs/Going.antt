@@ -20,7 +20,7 @@ use Rattle.p8_lines.specs.Tokens.{LineToken, terms, string_length, piece}
 use Rattle.p8_lines.specs.Lines.{Follows, is_name, Leads, nowhere, by_token, by_phrase}
 use Rattle.p8_lines.proofs.Matching.{target, follows}
 use Rattle.p8_data.specs.Parts.{Part, line_end, tree, part_of_word, part_of_piece, before_end, parts}
-use Rattle.p8_print.specs.Spelled.{Spelled, reserved, IsReadable}
+use Rattle.p8_print.specs.Spelled.{Spelled, IsReadable}
 use Rattle.p8_printed.specs.Lexemes.{AreWords, IsInCapitals}
 use Rattle.p8_printed.proofs.Printed.{wrapped_printed, wrapped_back}
 use Rattle.p8_printed.proofs.ReadWords.{lexeme_is}
@@ -113,10 +113,6 @@ at_end l (t ∷ []) {K = K} are goes k = record {
   value = subst K (sym (ap (λ x. before_end (x ∷ [])) (plain_part t word.LineEnd refl are))) k;
 }
 
--- a word
-pub reserved_word : {w : Word} {t : LineToken} → IsSpelled (reserved w) t → tokens.word t ≡ w
-reserved_word h = h.word
-
 -- an expression in parentheses, read again, and what is after it
 pub record TreeRead (s : Setting) (e : Tree) (ys : List Spelled) (ts : List LineToken) : Type 0 where
   pub first : LineToken
@@ -160,7 +156,7 @@ tree_read s e ys ts was are = go y.left y.is y.words
     go (first ∷ others) is are =
         let readable : All IsReadable (wrapped e) = λ k d lt. (wrapped_printed was.is was.good k d lt).0 in
         let capitals : All IsInCapitals (wrapped e) = λ k d lt. (wrapped_printed was.is was.good k d lt).1 in
-        let z = wrapped_back was.is was.good (as_words (wrapped e) (first ∷ others) readable capitals are) in
+        let z = wrapped_back was.value was.is was.good (as_words (wrapped e) (first ∷ others) readable capitals are) in
         let low : height z.0 ≤ 64 = subst (λ n. n ≤ 64) (sym z.3) was.low in
         record { first = first; others = others; right = y.right; is = is; other = z.0; reads = z.1; low = low; same = z.2; rest = y.rest }
 

@@ -209,4 +209,4 @@ pub read_back : (public : Bool) (m : MethodTree) → IsHead public m → ReadsBa
 read_back public m h = reads_back (method_of_row public) (head public) method_anywhere state.MethodName (words_of_head m) m (λ row. refl) (head_back public m h)
 
 pub from_name : (public : Bool) (us : List LineToken) (row : List Piece) (m : MethodTree) → Leads state.MethodName us row state.End → AreOfSource us → method_of_row public row ≡ Some m → ReadsBack (method_of_row public) method_anywhere state.MethodName (words_of_head m) m
-from_name public us row m w g h = read_back public m (head_is public m (parts row) (leads_good in_method methods_closed w refl g) h)
+from_name public us row m w g h = read_back public m (head_is public m (parts row) (leads_good in_method refl methods_closed w refl g) h)

@@ -6,17 +6,16 @@ use Rattle.p8_tree.specs.Expressions.{Tree, Items, no_items, ◌▸◌}
 use Rattle.p8_lexer.specs.declared.word.Word.{Word}
 use Rattle.p8_lexer.specs.declared.word.Word.TheVariants as word_case
 use Rattle.p8_columns.specs.Lines.{Kind, Plain, If, ElseIf, Else, Repeat, End, Case, Item, Other}
-use Rattle.p8_pieces.specs.Pieces.{Piece, word, name, tree}
+use Rattle.p8_pieces.specs.Pieces.{Piece, word, tree}
 use Rattle.p8_statements.specs.declared.role.Role.{Role}
 use Rattle.p8_statements.specs.declared.role.Role.TheVariants as role
-use Rattle.p8_statements.specs.Roles.{role_of, is_colon, is_comma, is_dot_dot, begins_action}
-use Rattle.p8_statements.specs.Rows.{value_in, word_in}
-use Rattle.p8_statements.specs.Actions.{action, named_action}
-use Rattle.p8_statements.specs.Statements.{is_item as is_item_row, maybe_value, course, test, unless_in_range, is_last_colon, tests_after, other_line, line, doing, statement, kind_of_row}
+use Rattle.p8_statements.specs.Roles.{role_of, is_colon, is_comma, is_dot_dot}
+use Rattle.p8_statements.specs.Rows.{value_in}
+use Rattle.p8_statements.specs.Statements.{is_item as is_item_row, maybe_value, course, test, unless_in_range, is_last_colon, tests_after, other_line, line, statement, kind_of_row}
 use Rattle.p8_blocks.specs.Files.{is_item}
 use Rattle.p8_printed.specs.Written.{ends_line}
 use Rattle.p8_printed.specs.Kinds.{kind_anywhere}
-use Rattle.p8_printed.proofs.Values.{Where, where_is, where_if, where_map, where_after, where_ending}
+use Rattle.p8_printed.proofs.Values.{Where, where_is, where_if, where_map, where_ending}
 
 item_kept : (k : Kind) → is_item (kind_anywhere k) ≡ is_item k
 item_kept (Item xs) = refl
@@ -113,13 +112,9 @@ lines_end w p role.Return row = where_map (Ends (word w p ∷ row)) _ (λ e i. a
 lines_end w p role.Abort row = where_map (Ends (word w p ∷ row)) _ (λ e i. absurd cc) (maybe_value row)
 lines_end w p r row = tt
 
-doing_ends : (row : List Piece) (o : Option Tree) → Where (Ends row) (doing o)
-doing_ends row None = tt
-doing_ends row (Some e) = λ i. absurd cc
-
 statements_end : (row : List Piece) → Where (Ends row) (statement row)
-statements_end (word w p ∷ row) = where_if (Ends (word w p ∷ row)) (begins_action (role_of w)) (doing (action (role_of w) p row)) (line (role_of w) row) (doing_ends (word w p ∷ row) (action (role_of w) p row)) (lines_end w p (role_of w) row)
-statements_end (name n p ∷ row) = where_after (Ends (name n p ∷ row)) _ (λ s rest. doing_ends (name n p ∷ row) (named_action n p s rest)) (word_in row)
+statements_end (word w p ∷ row) = lines_end w p (role_of w) row
+statements_end (tree e p ∷ row) = where_ending (Ends (tree e p ∷ row)) (Plain _) row (λ i. absurd cc)
 statements_end row = tt
 
 -- a row that ends with the end of its line is no item

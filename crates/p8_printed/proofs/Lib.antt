@@ -1,11 +1,7 @@
-pub mod Forgetting
-pub mod ForgettingActions
 pub mod ForgettingLines
-pub mod MethodNames
+pub mod ActionPlaces
 pub mod RoleWords
 pub mod WrittenRows
-pub mod WrittenVariables
-pub mod WrittenActions
 pub mod WrittenLines
 pub mod Readings
 pub mod PartSources
@@ -65,9 +61,6 @@ mod PlacelessLines
 mod LineTokens
 mod ProperLines
 mod MethodLines
-mod ActionWords
-mod ActionVariables
-mod Actions
 mod ProperAgain
 mod AgainData
 mod AgainStatements

@@ -12,7 +12,7 @@ use Rattle.p8_lexer.specs.declared.word.Word.{Word}
 use Rattle.p8_lexer.specs.declared.word.Word.TheVariants as word_case
 use Rattle.p8_lexer.specs.Words.{spelling}
 use Rattle.p8_grammar.specs.Lexemes as lexemes
-use Rattle.p8_grammar.specs.Lexemes.{Setting, inside, left_parenthesis, right_parenthesis, Lexeme, number, name, string, mark, Token, token}
+use Rattle.p8_grammar.specs.Lexemes.{Setting, is_value, inside, left_parenthesis, right_parenthesis, Lexeme, number, name, string, mark, Token, token}
 use Rattle.p8_grammar.specs.Grammar.{IsExpression, parentheses, operand, nothing, a_word, an_expression}
 use Rattle.p8_grammar.specs.Proper.{lexeme_in}
 use Rattle.p8_expr.specs.Words.{lexeme_of_word}
@@ -144,12 +144,12 @@ for_term p (name n) h = free_name_token p n h
 for_term p (string s) h = string_token p s h
 for_term p x h = symbol_token p x h.0 h.1 h
 
-record ForTerms (ts : List Token) : Type 0 where
-  tokens : List LineToken
-  are : terms tokens ≡ ts
-  good : Each IsOfSource tokens
+pub record ForTerms (ts : List Token) : Type 0 where
+  pub tokens : List LineToken
+  pub are : terms tokens ≡ ts
+  pub good : Each IsOfSource tokens
 
-for_terms : (ts : List Token) → AreLexemes ts → ForTerms ts
+pub for_terms : (ts : List Token) → AreLexemes ts → ForTerms ts
 for_terms [] h = record { tokens = []; are = refl; good = tt }
 for_terms (token p x ∷ ts) h =
     let t = for_term p x (All-head (λ t. IsLexeme (lexeme_in t)) (token p x) ts h) in
@@ -179,8 +179,8 @@ right_lexeme : lexeme_of_word word_case.RightParenthesis ≡ mark right_parenthe
 unfolding lexeme_of_word
 right_lexeme = refl
 
-pub enclosed_phrase : {s : Setting} {e : Tree} → IsSpelled (inside s) e → Phrase s e
-enclosed_phrase {s = s} x =
+pub enclosed_phrase : {s : Setting} {e : Tree} → IsTrue (is_value s) → IsSpelled (inside s) e → Phrase s e
+enclosed_phrase {s = s} v x =
     let left = word_token word_case.LeftParenthesis refl in
     let right = word_token word_case.RightParenthesis refl in
     let inner = for_terms x.tokens x.lexemes in
@@ -190,7 +190,7 @@ enclosed_phrase {s = s} x =
       tree = x.tree;
       first = left.token;
       others = inner.tokens ++ right.token ∷ [];
-      is = subst (IsExpression s x.tree) (sym are) (operand (parentheses {q = anywhere}) (an_expression anywhere (a_word nothing) x.reads));
+      is = subst (IsExpression s x.tree) (sym are) (operand (parentheses {q = anywhere} v) (an_expression anywhere (a_word nothing) x.reads));
       no_name = not_alone left.token inner.tokens right.token;
       good = (left.good, each_append IsOfSource inner.tokens (right.token ∷ []) inner.good (right.good, tt));
       same = x.same;

@@ -137,7 +137,7 @@ module _ {q : State} {k k' : Kind} {row : List Piece} (ts : List LineToken) (t :
 
 pub kind_reads_back : Laws → {q : State} {row : List Piece} {us : List LineToken} (k : Kind) → IsTrue (begins_line q) → Leads q us row state.End → AreOfSource us → kind_of_row row ≡ Some k → KindReadsBack k
 kind_reads_back laws {q} {row} {us} k begins leads of_source is =
-    let written = laws.lines_written q us row k begins leads of_source is in
+    let written = laws.lines_written q us row k begins leads is in
     record {
       is_line = row_is_line row k is;
       readable = laws.readable true q row us (words_of_kind k) leads of_source written;

@@ -1,34 +1,39 @@
--- Lines of methods but for actions: each has tokens that a source can have.
-use Rattle.std.proofs.Common.{◌≡◌, ℕ, ◌≤◌, Bool, true, false, List, [], ◌∷◌, Option, Some, None, option_map, refl, sym, ap, ◌∙◌, subst, arith}
+-- Lines of methods: each has tokens that a source can have.
+use Rattle.std.proofs.Common.{◌≡◌, ℕ, ◌≤◌, Bool, true, false, List, [], ◌∷◌, ◌++◌, Option, Some, None, option_map, refl, sym, ap, ◌∙◌, subst, arith}
 use Rattle.std.specs.Prelude.{IsTrue, not, if◌then◌else◌}
+use Rattle.std.specs.List.{AllByRecursion as Each}
+use Rattle.p8_tree.specs.declared.places.Place.{Place}
 use Rattle.p8_tree.specs.Expressions.{Tree, node, Var, Named, no_index, single, range, Items, no_items, ◌▸◌}
-use Rattle.p8_tree.specs.Statements.{Course, Forever, Count, Before, After, From, Next, Quit, Return, Abort}
+use Rattle.p8_tree.specs.Statements.{Course, Forever, Count, Before, After, From, Do, Next, Quit, Return, Abort}
 use Rattle.p8_tree.specs.Forgetting.{anywhere, items_anywhere}
 use Rattle.p8_tree.specs.Names.{IsVariableName, plain_name, result_name, local_label}
-use Rattle.p8_tree.specs.Proper.{IfThere, IsProperTree, IsProperExpression, IsProperCourse, AreProperTests, is_no_item}
+use Rattle.p8_tree.specs.Proper.{IfThere, IsDone, IsProperExpression, IsProperCourse, AreProperTests, is_no_item}
 use Rattle.p8_lexer.specs.declared.word.Word.TheVariants as word_case
 use Rattle.p8_grammar.specs.Lexemes as lexemes
-use Rattle.p8_grammar.specs.Lexemes.{in_method, token}
+use Rattle.p8_grammar.specs.Lexemes.{in_method, in_action, token}
 use Rattle.p8_grammar.specs.Grammar as grammar
 use Rattle.p8_grammar.specs.Grammar.{IsExpression, operand, variable, named, nothing}
 use Rattle.p8_grammar.specs.Heights.{height}
 use Rattle.p8_expr.specs.Words.{lexeme_of_word}
 use Rattle.p8_pieces.specs.Pieces.{Piece, word, tree}
 use Rattle.p8_columns.specs.Lines.{Kind, Plain, If, ElseIf, Else, Repeat, End, Case, Item as ItemLine, Other}
+use Rattle.p8_lines.specs.declared.arrow.Arrow.{Arrow}
 use Rattle.p8_lines.specs.declared.state.State.{State}
 use Rattle.p8_lines.specs.declared.state.State.TheVariants as state
 use Rattle.p8_lines.specs.Diagram.{Phrase as Expected, ◌⇒◌, outer, counting as counting_phrase, choices}
 use Rattle.p8_lines.specs.Tokens.{LineToken, terms}
-use Rattle.p8_lines.specs.Lines.{Follows, is_name_word, is_name, behind, Leads, by_phrase}
+use Rattle.p8_lines.specs.Lines.{Follows, is_name_word, is_name, behind, Leads, nowhere, by_phrase}
+use Rattle.p8_lines.proofs.Begun.{not_nothing}
 use Rattle.p8_statements.specs.Roles.{role_of}
 use Rattle.p8_statements.specs.Statements.{tests_after, is_item, statement, kind_of_row}
 use Rattle.p8_rows.specs.Values.{begins_line}
 use Rattle.p8_printed.specs.Kinds.{kind_anywhere}
+use Rattle.p8_printed.proofs.Elements.{each_append}
 use Rattle.p8_printed.proofs.Heights.{same_height}
 use Rattle.p8_printed.proofs.Rebuilt.{is_headed}
 use Rattle.p8_printed.proofs.Printable.{IsOfSource}
-use Rattle.p8_printed.proofs.Expressions.{inner_of, tree_spelled}
-use Rattle.p8_printed.proofs.LineTokens.{word_token, end_token, name_token, Phrase, enclosed_phrase}
+use Rattle.p8_printed.proofs.Expressions.{in_methods, tree_spelled, action_spelled}
+use Rattle.p8_printed.proofs.LineTokens.{word_token, end_token, name_token, for_terms, Phrase, enclosed_phrase}
 use Rattle.p8_printed.proofs.ProperLines.{LineSpelled, over, takes, a_word, line_end, phrase_on}
 
 -- a line of a method, but for its places, in tokens that a source can have
@@ -43,32 +48,29 @@ pub record KindSpelled (k : Kind) : Type 0 where
 
 -- expressions in methods
 
-pub record Value (limit : ℕ) (e : Tree) : Type 0 where
+pub record Value (e : Tree) : Type 0 where
   pub phrase : Phrase in_method e
-  pub low : height phrase.tree ≤ limit
+  pub low : height phrase.tree ≤ 64
 
-pub value_within : (limit : ℕ) (e : Tree) → IsProperTree false e → height e ≤ limit → Value limit e
-value_within limit e h low =
-    let p = enclosed_phrase {s = in_method} (tree_spelled (inner_of in_method refl) e h) in
-    record { phrase = p; low = subst (λ n. n ≤ limit) (sym (same_height p.tree e p.same)) low }
-
-pub value_of : (e : Tree) → IsProperExpression false e → Value 64 e
-value_of e h = value_within 64 e h.0 h.1
+pub value_of : (e : Tree) → IsProperExpression false e → Value e
+value_of e h =
+    let p = enclosed_phrase {s = in_method} refl (tree_spelled in_methods e h.0) in
+    record { phrase = p; low = subst (λ n. n ≤ 64) (sym (same_height p.tree e p.same)) h.1 }
 
 -- a value at the end of a line
 
 abbrev End64 : Expected
 End64 = outer in_method (word_case.LineEnd ⇒ state.End ∷ [])
 
-last_value : {q : State} {e : Tree} → (choices q).phrase ≡ Some End64 → (x : Value 64 e) → LineSpelled q (tree x.phrase.tree x.phrase.first.place ∷ word word_case.LineEnd anywhere ∷ [])
+last_value : {q : State} {e : Tree} → (choices q).phrase ≡ Some End64 → (x : Value e) → LineSpelled q (tree x.phrase.tree x.phrase.first.place ∷ word word_case.LineEnd anywhere ∷ [])
 last_value is x = phrase_on End64 is x.phrase x.low end_token (λ n. refl) over
 
-pub if_kind : (negated : Bool) (e : Tree) → Value 64 e → KindSpelled (If negated e)
+pub if_kind : (negated : Bool) (e : Tree) → Value e → KindSpelled (If negated e)
 unfolding role_of
 if_kind false e x = record { kind = If false x.phrase.tree; at = state.Statement; begins = refl; row = _; line = a_word state.LastValue word_case.If refl (λ n. refl) (last_value refl x); is = refl; same = ap (If false) x.phrase.same }
 if_kind true e x = record { kind = If true x.phrase.tree; at = state.Statement; begins = refl; row = _; line = a_word state.LastValue word_case.Ifnot refl (λ n. refl) (last_value refl x); is = refl; same = ap (If true) x.phrase.same }
 
-pub else_if_kind : (negated : Bool) (e : Tree) → Value 64 e → KindSpelled (ElseIf negated e)
+pub else_if_kind : (negated : Bool) (e : Tree) → Value e → KindSpelled (ElseIf negated e)
 unfolding role_of
 else_if_kind false e x = record { kind = ElseIf false x.phrase.tree; at = state.ChainLine; begins = refl; row = _; line = a_word state.LastValue word_case.Elseif refl (λ n. refl) (last_value refl x); is = refl; same = ap (ElseIf false) x.phrase.same }
 else_if_kind true e x = record { kind = ElseIf true x.phrase.tree; at = state.ChainLine; begins = refl; row = _; line = a_word state.LastValue word_case.Elseifnot refl (λ n. refl) (last_value refl x); is = refl; same = ap (ElseIf true) x.phrase.same }
@@ -77,18 +79,49 @@ pub else_kind : KindSpelled Else
 unfolding role_of
 else_kind = record { kind = Else; at = state.ChainLine; begins = refl; row = _; line = a_word state.LineEnd word_case.Else refl (λ n. refl) (line_end (λ n. refl)); is = refl; same = refl }
 
-pub end_kind : (until : Bool) (e : Tree) → Value 64 e → KindSpelled (End until e)
+pub end_kind : (until : Bool) (e : Tree) → Value e → KindSpelled (End until e)
 unfolding role_of
 end_kind false e x = record { kind = End false x.phrase.tree; at = state.LoopEndLine; begins = refl; row = _; line = a_word state.LastValue word_case.While refl (λ n. refl) (last_value refl x); is = refl; same = ap (End false) x.phrase.same }
 end_kind true e x = record { kind = End true x.phrase.tree; at = state.LoopEndLine; begins = refl; row = _; line = a_word state.LastValue word_case.Until refl (λ n. refl) (last_value refl x); is = refl; same = ap (End true) x.phrase.same }
 
-pub case_kind : (e : Tree) → Value 64 e → KindSpelled (Case e)
+pub case_kind : (e : Tree) → Value e → KindSpelled (Case e)
 unfolding role_of
 case_kind e x = record { kind = Case x.phrase.tree; at = state.Statement; begins = refl; row = _; line = a_word state.LastValue word_case.Case refl (λ n. refl) (last_value refl x); is = refl; same = ap Case x.phrase.same }
 
 pub other_kind : KindSpelled Other
 unfolding role_of
 other_kind = record { kind = Other; at = state.CaseItem; begins = refl; row = _; line = a_word state.OtherColon word_case.Other refl (λ n. refl) (a_word state.End word_case.Colon refl (λ n. refl) over); is = refl; same = refl }
+
+-- an action, as it is
+
+abbrev LastEnd : List Arrow
+LastEnd = word_case.LineEnd ⇒ state.End ∷ []
+
+behind_action : (us : List LineToken) → Follows (behind (outer in_action LastEnd) us) end_token.token state.End
+behind_action us = go (is_name us)
+  where
+    go : (b : Bool) → Follows (if b then LastEnd else LastEnd) end_token.token state.End
+    go true = takes end_token.token end_token.same_word (λ n. refl)
+    go false = takes end_token.token end_token.same_word (λ n. refl)
+
+action_line : (e : Tree) (us : List LineToken) → IsExpression in_action e (terms us) → height e ≤ 64 → Each IsOfSource us → (p : Place) × LineSpelled state.Statement (tree e p ∷ word word_case.LineEnd anywhere ∷ [])
+action_line e [] is low good = absurd (not_nothing in_action e is)
+action_line e (u ∷ us) is low good = (
+  u.place,
+  record {
+    tokens = (u ∷ us) ++ end_token.token ∷ [];
+    leads = subst (λ y. Leads state.Statement ((u ∷ us) ++ end_token.token ∷ []) (tree e u.place ∷ y ∷ []) state.End) end_token.same_piece (by_phrase us refl is low (behind_action (u ∷ us)) nowhere);
+    good = each_append IsOfSource (u ∷ us) (end_token.token ∷ []) good (end_token.good, tt);
+  },
+)
+
+pub do_kind : (e : Tree) → IsDone e → KindSpelled (Plain (Do e))
+unfolding role_of
+do_kind (node p f) h =
+    let x = action_spelled (node p f) h in
+    let ts = for_terms x.tokens x.lexemes in
+    let l = action_line x.tree ts.tokens (subst (IsExpression in_action x.tree) (sym ts.are) x.reads) (subst (λ n. n ≤ 64) (sym (same_height x.tree (node p f) x.same)) h.1) ts.good in
+    record { kind = Plain (Do x.tree); at = state.Statement; begins = refl; row = _; line = l.1; is = refl; same = ap (λ e. Plain (Do e)) x.same }
 
 -- NEXT, QUIT, RETURN and ABORT
 
@@ -146,7 +179,7 @@ counter_of n (plain_name h) =
     record {
       token = t.token;
       alone = ap is_name_word t.same_lexeme;
-      is = subst (λ u. IsExpression in_method (node anywhere (Var (Named n no_index anywhere))) (u ∷ [])) (sym t.same_term) (operand (variable (named grammar.plain_name)) (grammar.a_word nothing));
+      is = subst (λ u. IsExpression in_method (node anywhere (Var (Named n no_index anywhere))) (u ∷ [])) (sym t.same_term) (operand (variable refl (named grammar.plain_name)) (grammar.a_word nothing));
       good = t.good;
     }
 counter_of n result_name =
@@ -154,7 +187,7 @@ counter_of n result_name =
     record {
       token = t.token;
       alone = ap is_name_word t.same_lexeme ∙ result_is_name;
-      is = subst (λ u. IsExpression in_method (node anywhere (Var (Named n no_index anywhere))) (u ∷ [])) (sym (t.same_term ∙ ap (token anywhere) result_is)) (operand (variable (named grammar.result_word)) (grammar.a_word nothing));
+      is = subst (λ u. IsExpression in_method (node anywhere (Var (Named n no_index anywhere))) (u ∷ [])) (sym (t.same_term ∙ ap (token anywhere) result_is)) (operand (variable refl (named grammar.result_word)) (grammar.a_word nothing));
       good = t.good;
     }
 counter_of n (local_label d h) = absurd cc

@@ -160,7 +160,7 @@ of_line row xs g h =
     (All-from_recursion IsObject xs (each_unless IsObject (is_line_end (parts row)) (alone (object (parts row))) xs h (λ k. alone_is IsObject (object (parts row)) xs (λ x l. item (parts row) x g l) k)))
 
 pub from_head : (us : List LineToken) (row : List Piece) (xs : List Child) → Leads state.ObjHead us row state.End → AreOfSource us → objects_of_row row ≡ Some xs → All IsReadBack xs
-from_head us row xs w g h = of_line row xs (leads_good in_declaration declarations_closed w refl g) h
+from_head us row xs w g h = of_line row xs (leads_good in_declaration refl declarations_closed w refl g) h
 
 pub from_line : (us : List LineToken) (row : List Piece) (xs : List Child) → Leads state.ObjLine us row state.End → AreOfSource us → objects_of_row row ≡ Some xs → All IsReadBack xs
-from_line us row xs w g h = of_line row xs (leads_good in_declaration declarations_closed w refl g) h
+from_line us row xs w g h = of_line row xs (leads_good in_declaration refl declarations_closed w refl g) h

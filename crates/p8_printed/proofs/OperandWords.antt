@@ -9,7 +9,7 @@ use Rattle.p8_lexer.proofs.Searches.{same-true}
 use Rattle.p8_tree.specs.declared.places.Place.{Place}
 use Rattle.p8_tree.specs.Expressions.{Tree, Variable, index, Trees, Items}
 use Rattle.p8_grammar.specs.Lexemes.{Setting, Access, Lexeme}
-use Rattle.p8_grammar.specs.Grammar.{word, upto, Row, begin, ◌▹◌, result_name, Names, plain_name, result_word, local_label, Variables, named, indexed, part, part_indexed, memory_at, memory_indexed, register_whole, register_bit, register_bits, Head, applied, Heads, trapped, of_object, of_element, of_built_in, Arguments, no_arguments, argument, Choices, no_choices, value_choice, range_choice}
+use Rattle.p8_grammar.specs.Grammar.{word, upto, Row, begin, ◌▹◌, result_name, Names, plain_name, result_word, local_label, Variables, named, indexed, part, part_indexed, memory_at, memory_indexed, register_whole, register_bit, register_bits, Head, applied, Heads, trapped, of_object, of_element, of_built_in, of_command, Arguments, no_arguments, argument, Choices, no_choices, value_choice, range_choice}
 use Rattle.p8_print.specs.Spelled as spelled
 use Rattle.p8_print.specs.Spelled.{Spelled, reserved, IsReadable}
 use Rattle.p8_print.specs.Tables.{size_word, register_word}
@@ -154,6 +154,7 @@ heads_words (of_object {trap = false} o) es = refl
 heads_words (of_element {trap = true} {n = n} {m = m} {e = e} o i) es = ap (λ ws. reserved word_case.Backslash ∷ spelled.name n ∷ ws) (sym (object_words e (spelled.name m ∷ words_of_arguments es)))
 heads_words (of_element {trap = false} {n = n} {m = m} {e = e} o i) es = ap (λ ws. spelled.name n ∷ ws) (sym (object_words e (spelled.name m ∷ words_of_arguments es)))
 heads_words of_built_in es = refl
+heads_words (of_command a) es = refl
 
 joined : (xs ys : List Spelled) (w : Spelled) (rest : List Spelled) → xs ++ (ys ++ w ∷ rest) ≡ (xs ++ (ys ++ w ∷ [])) ++ rest
 joined xs ys w rest = sym (append_assoc xs (ys ++ w ∷ []) rest ∙ ap (λ ws. xs ++ ws) (one_more ys w rest))

@@ -1,23 +1,21 @@
 -- The parts of a line that was read have what a source can have: names, strings and expressions.
-use Rattle.std.proofs.Common.{◌≡◌, ℕ, ◌≤◌, List, [], ◌∷◌, ◌++◌, Option, Some, None, Bool, true, false, refl, subst, arith}
+use Rattle.std.proofs.Common.{◌≡◌, ℕ, List, [], ◌∷◌, ◌++◌, Option, Some, None, Bool, true, false, refl, subst}
 use Rattle.std.specs.Prelude.{IsTrue, if◌then◌else◌}
 use Rattle.std.specs.List.{AllByRecursion}
 use Rattle.std.proofs.lemmas.List.Elements.{All-nil, All-cons, All-head, All-tail}
 use Rattle.p8_tree.specs.declared.places.Place.{Place}
-use Rattle.p8_tree.specs.Expressions.{Tree}
 use Rattle.p8_lexer.specs.declared.word.Word.{Word}
 use Rattle.p8_lexer.specs.declared.word.Word.TheVariants as word_case
 use Rattle.p8_grammar.specs.Lexemes as lexemes
-use Rattle.p8_grammar.specs.Lexemes.{Setting, in_method, in_declaration, in_dat, in_data_item, Lexeme, Token}
+use Rattle.p8_grammar.specs.Lexemes.{Setting, in_method, in_declaration, in_dat, in_data_item, is_value, Lexeme, Token}
 use Rattle.p8_grammar.specs.Grammar.{IsExpression}
-use Rattle.p8_grammar.specs.Heights.{height}
 use Rattle.p8_pieces.specs.Pieces.{Piece}
 use Rattle.p8_lines.specs.declared.state.State.{State}
 use Rattle.p8_lines.specs.declared.state.State.TheVariants as state
 use Rattle.p8_lines.specs.Diagram.{Phrase, choices, setting_at}
 use Rattle.p8_lines.specs.Tokens as tokens
 use Rattle.p8_lines.specs.Tokens.{LineToken, lexeme, term, terms, piece_from, piece}
-use Rattle.p8_lines.specs.Lines.{Follows, behind, greatest_height, Leads, nowhere, by_token, by_phrase}
+use Rattle.p8_lines.specs.Lines.{Follows, behind, Leads, nowhere, by_token, by_phrase}
 use Rattle.p8_lines.proofs.Arrows.{all_good, all_good_behind, taken, taken_behind}
 use Rattle.p8_declarations.specs.Parts.{Part, name, text, size, tree, part_of_word, part_of_piece, parts, ended, with_first}
 use Rattle.p8_grammar.specs.Proper.{lexeme_in}
@@ -87,6 +85,7 @@ same_if s s' h = absurd cc
 abbrev own : Setting → State → Bool
 own s state.End = true
 own s state.LineEnd = true
+own s state.Statement = false
 own s q = same (setting_at q) s
 
 abbrev all_own : Setting → Option Phrase → Bool
@@ -112,14 +111,7 @@ both : (a b : Bool) → IsTrue (if a then b else false) → IsTrue a × IsTrue b
 both true b h = (refl, h)
 both false b h = absurd cc
 
-small : (h : Phrase) (e : Tree) → height e ≤ greatest_height h → height e ≤ 64
-small h e le = go h.inner le
-  where
-    go : (b : Bool) → height e ≤ (if b then 63 else 64) → height e ≤ 64
-    go true le = omega (arith, le)
-    go false le = le
-
-module _ (s : Setting) (closed : AreClosed s) where
+module _ (s : Setting) (value : IsTrue (is_value s)) (closed : AreClosed s) where
   own_choices : (q : State) → IsTrue (own s q) → IsTrue (all_good (λ a. own s a.to) (choices q).arrows) × IsTrue (all_own s (choices q).phrase)
   own_choices q h = both (all_good (λ a. own s a.to) (choices q).arrows) (all_own s (choices q).phrase) (subst (λ b. IsTrue (if b then (if all_good (λ a. own s a.to) (choices q).arrows then all_own s (choices q).phrase else false) else true)) h (closed q))
 
@@ -146,7 +138,8 @@ module _ (s : Setting) (closed : AreClosed s) where
           tokens = terms (first ∷ others);
           is = subst (λ s. IsExpression s e (terms (first ∷ others))) (same_if p.setting s ((own_phrase q p some h).0)) is;
           good = before_good (first ∷ others) (t ∷ ts) g;
-          low = small p e low;
+          low = low;
+          value = value;
         },
         (token_good s t (All-head IsOfSource (term t) (terms ts) rest), leads_good w (own_behind q r p (first ∷ others) t some f h) (All-tail IsOfSource (term t) (terms ts) rest)),
       )

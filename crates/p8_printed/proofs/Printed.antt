@@ -4,11 +4,12 @@ use Rattle.std.specs.Prelude.{if◌then◌else◌, IsTrue, All}
 use Rattle.std.proofs.lemmas.List.Elements.{All-nil, All-cons, All-head, All-tail, All-append}
 use Rattle.p8_lexer.specs.declared.word.Word.TheVariants as word_case
 use Rattle.p8_tree.specs.declared.places.Place.{Place}
-use Rattle.p8_tree.specs.Expressions.{Tree, node, Number, Unary, Binary, Assign, ObjectAddress, Variable, no_trees, ◌▷◌}
+use Rattle.p8_tree.specs.Expressions.{Tree, node, Number, Unary, Binary, Assign, ObjectAddress, Variable, Named, no_index, no_trees, ◌▷◌}
 use Rattle.p8_tree.specs.Forgetting.{anywhere, IsSameTree}
-use Rattle.p8_grammar.specs.Lexemes.{Setting, in_method, in_declaration, in_dat, in_data_item, allows_index, is_dat, inside, Access, is_written, left_parenthesis, right_parenthesis, equal, Lexeme, number, string, mark, infix_word, assigns, changes, Token, token}
-use Rattle.p8_grammar.specs.Grammar.{word, upto, Row, begin, ◌▹◌, Variables, Forms, a_number, a_character, the_place, parentheses, variable, changed_before, changed_after, address_of, plain_call, bare_call, full_call, object_constant, a_value, a_string, a_constant, look_value, look_range, Prefix, at_object, unary, rank, with_prefix, prefix_of, infix_of, is_boolean, Reads, operand, before, between, assigned, assigned_by_word, Spells, nothing, a_word, an_expression}
+use Rattle.p8_grammar.specs.Lexemes.{Setting, in_method, in_declaration, in_dat, in_data_item, in_action, is_value, allows_index, is_dat, inside, behind, Access, is_written, left_parenthesis, right_parenthesis, equal, Lexeme, number, string, mark, infix_word, assigns, changes, Token, token}
+use Rattle.p8_grammar.specs.Grammar.{word, upto, Row, begin, ◌▹◌, Variables, named, plain_name, Forms, a_number, a_character, the_place, parentheses, variable, name_alone, changed_by, changed_before, changed_after, address_of, plain_call, bare_call, full_call, object_constant, a_value, a_string, a_constant, look_value, look_range, Prefix, at_object, unary, rank, with_prefix, prefix_of, effect_of, infix_of, is_boolean, Reads, operand, before, between, assigned, assigned_by_word, Spells, nothing, a_word, an_expression}
 use Rattle.p8_grammar.specs.Heights.{height}
+use Rattle.p8_grammar.proofs.FormsStand.{inside_value, behind_value}
 use Rattle.p8_print.specs.Spelled as spelled
 use Rattle.p8_print.specs.Spelled.{Spelled, reserved}
 use Rattle.p8_print.specs.Tables.{operator_word, change_word, built_ins, built_word}
@@ -16,8 +17,8 @@ use Rattle.p8_print.specs.Wording.{is_number, operand_with, change_with, words_o
 use Rattle.p8_grammar.specs.Proper.{lexeme_in}
 use Rattle.p8_expr.specs.Sources.{IsLexeme, AreLexemes}
 use Rattle.p8_printed.specs.Lexemes.{lexeme_of_spelled, AreWords}
-use Rattle.p8_printed.proofs.TableWords.{IsPrinted, mark_word, spelled_of, Prints, mark_prints, prints, infix_prints, prefix_operator, prefix_prints, boolean_prints, boolean_number, no_boolean, assignment_word, assignment_prints, change_parts, change_word_same}
-use Rattle.p8_printed.proofs.Alike.{Alike, alike_begin, alike_word, alike_upto, Fits, VariablesAs, variables_as, forms_as}
+use Rattle.p8_printed.proofs.TableWords.{IsPrinted, mark_word, spelled_of, Prints, mark_prints, prints, infix_prints, prefix_operator, prefix_prints, boolean_prints, boolean_number, no_boolean, assignment_word, assignment_prints, change_parts, change_word_same, stands_alone}
+use Rattle.p8_printed.proofs.Alike.{Alike, alike_begin, alike_word, alike_upto, Fits, value_too, VariablesAs, variables_as, forms_as}
 use Rattle.p8_printed.proofs.WordTokens.{none_left, first_word, split_words, last_word, all_left, all_right, all_same}
 use Rattle.p8_printed.proofs.Heights.{same_height}
 use Rattle.p8_printed.proofs.OperandWords.{words_of_row, words_from, row_words, Good, good_begin, good_word, good_upto, Adds, variables_words, heads_words, arguments_words, choices_words}
@@ -29,21 +30,43 @@ inside_dat in_method = refl
 inside_dat in_declaration = refl
 inside_dat in_dat = refl
 inside_dat in_data_item = refl
+inside_dat in_action = refl
 
 inside_indexes : (s : Setting) → IsTrue (allows_index (inside s))
 inside_indexes in_method = refl
 inside_indexes in_declaration = refl
 inside_indexes in_dat = refl
 inside_indexes in_data_item = refl
+inside_indexes in_action = refl
 
-pub fits_itself : (s : Setting) → Fits s (inside s)
-fits_itself s = record { dat = inside_dat s; indexes = inside_indexes s }
+behind_dat : (s : Setting) → is_dat (behind s) ≡ is_dat s
+behind_dat in_method = refl
+behind_dat in_declaration = refl
+behind_dat in_dat = refl
+behind_dat in_data_item = refl
+behind_dat in_action = refl
 
-fits_inside : {s s' : Setting} → Fits s s' → Fits s (inside s')
-fits_inside {s' = s'} f = record { dat = inside_dat s' ∙ f.dat; indexes = inside_indexes s' }
+behind_indexes : (s : Setting) → allows_index (behind s) ≡ allows_index s
+behind_indexes in_method = refl
+behind_indexes in_declaration = refl
+behind_indexes in_dat = refl
+behind_indexes in_data_item = refl
+behind_indexes in_action = refl
 
-fits_within : {s s' : Setting} → Fits s s' → Fits (inside s) s'
-fits_within {s = s} f = record { dat = f.dat ∙ sym (inside_dat s); indexes = f.indexes }
+fits_itself : (s : Setting) → IsTrue (is_value s) → Fits s (inside s)
+fits_itself s v = record { dat = inside_dat s; value = inside_value s ∙ sym v; indexes = inside_indexes s }
+
+fits_inside : {s s' : Setting} → IsTrue (is_value s) → Fits s s' → Fits s (inside s')
+fits_inside {s' = s'} v f = record { dat = inside_dat s' ∙ f.dat; value = inside_value s' ∙ sym v; indexes = inside_indexes s' }
+
+fits_within : {s s' : Setting} → IsTrue (is_value s) → Fits s s' → Fits (inside s) s'
+fits_within {s = s} v f = record { dat = f.dat ∙ sym (inside_dat s); value = f.value ∙ v ∙ sym (inside_value s); indexes = f.indexes }
+
+both_inside : {s s' : Setting} → Fits s s' → Fits (inside s) (inside s')
+both_inside {s = s} {s' = s'} f = record { dat = inside_dat s' ∙ f.dat ∙ sym (inside_dat s); value = inside_value s' ∙ sym (inside_value s); indexes = inside_indexes s' }
+
+both_behind : {s s' : Setting} → Fits s s' → Fits (behind s) (behind s')
+both_behind {s = s} {s' = s'} f = record { dat = behind_dat s' ∙ f.dat ∙ sym (behind_dat s); value = behind_value s' ∙ sym (behind_value s); indexes = subst IsTrue (sym (behind_indexes s')) f.indexes }
 
 -- printed words that are read back
 pub record Back (s : Setting) (e : Tree) (us : List Token) : Type 0 where
@@ -97,7 +120,7 @@ row_back (good_upto {row = row} {e = e} {m = m} g pr) s' us f h =
     let y = split_words us (words_of_row row) (words_of e ++ reserved (mark_word m) ∷ []) h in
     let l = last_word y.right (words_of e) (reserved (mark_word m)) (mark m) (mark_prints m) y.words_right in
     let r = row_back g s' y.left f y.words_left in
-    let b = pr.back (inside s') l.left (fits_within (fits_inside f)) l.words in
+    let b = pr.back (inside s') l.left (both_inside f) l.words in
     record {
       other = r.other ▹ upto b.other m;
       alike = alike_upto r.alike b.same;
@@ -119,19 +142,19 @@ plainly {s = s} {e = e} {row = row} form g eq = record {
     is : words_of e ≡ words_of_row row
     is = eq ∙ sym (row_words row)
 
-printed_inside : {s : Setting} {e : Tree} → Printed (inside s) e → Printed s e
-printed_inside pr = record { words = pr.words; back = λ s' us f h. pr.back s' us (fits_within f) h }
+printed_inside : {s : Setting} {e : Tree} → IsTrue (is_value s) → Printed (inside s) e → Printed s e
+printed_inside v pr = record { words = pr.words; back = λ s' us f h. pr.back s' us (fits_within v f) h }
 
 -- a number, which has 32 bits
-one_number : (s : Setting) (l n : ℕ) (us : List Token) → n < 2 ^ 32 → AreWords us (spelled.number n ∷ []) → (q : Place) × Reads s l (node q (Number n)) us
-one_number s l n us small h =
+one_number : (s : Setting) (l n : ℕ) (us : List Token) → IsTrue (is_value s) → n < 2 ^ 32 → AreWords us (spelled.number n ∷ []) → (q : Place) × Reads s l (node q (Number n)) us
+one_number s l n us v small h =
     let t = first_word us (spelled.number n) (number n) [] (prints (number n) small) h in
-    (t.place, subst (λ us. Reads s l (node t.place (Number n)) us) (sym (t.is ∙ ap (λ ts. token t.place (number n) ∷ ts) (none_left t.others t.words))) (operand a_number (a_word nothing)))
+    (t.place, subst (λ us. Reads s l (node t.place (Number n)) us) (sym (t.is ∙ ap (λ ts. token t.place (number n) ∷ ts) (none_left t.others t.words))) (operand (a_number v) (a_word nothing)))
 
-number_printed : (s : Setting) (p : Place) (n : ℕ) → n < 2 ^ 32 → Printed s (node p (Number n))
-number_printed s p n small = record {
+number_printed : (s : Setting) (p : Place) (n : ℕ) → IsTrue (is_value s) → n < 2 ^ 32 → Printed s (node p (Number n))
+number_printed s p n v small = record {
   words = one_printed (spelled.number n) (prints (number n) small).printed;
-  back = λ s' us f h. let r = one_number s' 22 n us small h in record { other = node r.0 (Number n); reads = r.1; same = refl };
+  back = λ s' us f h. let r = one_number s' 22 n us (value_too f v) small h in record { other = node r.0 (Number n); reads = r.1; same = refl };
 }
 
 variable_words : {I : Tree → Type 0} {row : Row} (v : Variable) → Adds I begin (words_of_variable v) row → words_of_variable v ≡ words_from row []
@@ -154,6 +177,14 @@ small_character c h = let small : c < 256 = h.1 0 (omega arith) in omega arith
 changed_before_words : {I : Tree → Type 0} {p : Place} {row : Row} (b a : ℕ) (v : Variable) → Adds I (begin ▹ word p (changes b a)) (words_of_variable v) row → change_with b (words_of_variable v) ≡ words_from row []
 changed_before_words b a v r = before_words b a (good_first r.good) (words_of_variable v) ∙ ap (λ ws. reserved (change_word b) ∷ ws) (sym (append-nil (words_of_variable v))) ∙ sym (r.from [])
 
+changed_by_words : {I : Tree → Type 0} {p : Place} {row : Row} (x : Lexeme) (o : Prefix) (k : ℕ) (v : Variable) → prefix_of x ≡ Some o → effect_of o ≡ Some k → Adds I (begin ▹ word p x) (words_of_variable v) row → change_with k (words_of_variable v) ≡ words_from row []
+changed_by_words x o k v e f r =
+    let y = stands_alone x o k (good_first r.good) e f in
+    let ws = words_of_variable v in
+    ap (λ b. if b then ws ++ reserved (change_word k) ∷ [] else reserved (change_word k) ∷ ws) y.before
+    ∙ ap₂ (λ w ws. w ∷ ws) (sym y.word) (sym (append-nil ws))
+    ∙ sym (r.from [])
+
 changed_after_words : {I : Tree → Type 0} {row : Row} (b a : ℕ) (v : Variable) → IsLexeme (changes b a) → Adds I begin (words_of_variable v) row → change_with a (words_of_variable v) ≡ words_from row (reserved (change_word b) ∷ [])
 changed_after_words b a v h r = behind_words b a h (words_of_variable v) ∙ sym (r.from (reserved (change_word b) ∷ []))
 
@@ -165,25 +196,27 @@ look_words k x ws = reserved (built_word k) ∷ reserved word_case.LeftParenthes
 
 pub form_printed : {s : Setting} {e : Tree} {row : Row} → Forms s e row → GoodRow s row → Printed s e
 unfolding built_ins
-form_printed a_number g = plainly a_number g refl
-form_printed {s = s} (a_character {c = c} {p = p}) (good_word g h) = number_printed s p c (small_character c h)
+form_printed (a_number v) g = plainly (a_number v) g refl
+form_printed {s = s} (a_character {c = c} {p = p} v) (good_word g h) = number_printed s p c v (small_character c h)
 form_printed (the_place d) g = plainly (the_place d) g refl
-form_printed parentheses (good_upto g pr) = printed_inside pr
-form_printed (variable {v = v} y) g = plainly (variable y) g (variable_words v (variables_words y g))
+form_printed (parentheses v) (good_upto g pr) = printed_inside v pr
+form_printed (variable {v = v} is y) g = plainly (variable is y) g (variable_words v (variables_words y g))
+form_printed {s = s} (name_alone {n = n} {p = p} a) g = plainly (name_alone a) g (variable_words (Named n no_index p) (variables_words {s = s} (named plain_name) g))
+form_printed (changed_by {v = v} {w = x} {o = o} {k = k} a e f w y) g = plainly (changed_by a e f w y) g (changed_by_words x o k v e f (variables_words y g))
 form_printed (changed_before {v = v} {b = b} {a = a} w y) g = plainly (changed_before {b = b} {a = a} w y) g (changed_before_words b a v (variables_words y g))
 form_printed (changed_after {v = v} {b = b} {a = a} w y) (good_word g h) = plainly (changed_after {b = b} {a = a} w y) (good_word g h) (changed_after_words b a v h (variables_words y g))
-form_printed (address_of {v = v} y) g = plainly (address_of y) g (address_words v (variables_words y g))
+form_printed (address_of {v = v} is y) g = plainly (address_of is y) g (address_words v (variables_words y g))
 form_printed (plain_call {es = es} {e = e} a) g = plainly (plain_call a) g (sym (arguments_words a (words_of e ++ reserved word_case.RightParenthesis ∷ [])))
 form_printed (bare_call y) g = plainly (bare_call y) g (heads_words y no_trees)
 form_printed (full_call {q = q} {es = es} {e = e} {row = row} y a) g =
     plainly (full_call y a) g (heads_words y (es ▷ e) ∙ sym (arguments_words a (words_of e ++ reserved word_case.RightParenthesis ∷ [])))
-form_printed object_constant g = plainly object_constant g refl
+form_printed (object_constant v) g = plainly (object_constant v) g refl
 form_printed a_value g = plainly a_value g refl
-form_printed a_string g = plainly a_string g refl
-form_printed a_constant g = plainly a_constant g refl
-form_printed (look_value {x = x} {e = e} c) g = plainly (look_value c) g (sym (choices_words c (words_of e ++ reserved word_case.RightParenthesis ∷ [])))
-form_printed (look_range {k = k} {x = x} {low = low} {high = high} {xs = xs} c) g =
-    plainly (look_range c) g (
+form_printed (a_string v) g = plainly (a_string v) g refl
+form_printed (a_constant v) g = plainly (a_constant v) g refl
+form_printed (look_value {x = x} {e = e} v c) g = plainly (look_value v c) g (sym (choices_words c (words_of e ++ reserved word_case.RightParenthesis ∷ [])))
+form_printed (look_range {k = k} {x = x} {low = low} {high = high} {xs = xs} v c) g =
+    plainly (look_range v c) g (
     ap (λ ws. look_words k x (choices_before xs ++ ws)) (append_assoc (words_of low) (reserved word_case.DotDot ∷ words_of high) (reserved word_case.RightParenthesis ∷ []))
     ∙ sym (choices_words c (words_of low ++ reserved word_case.DotDot ∷ (words_of high ++ reserved word_case.RightParenthesis ∷ []))))
 
@@ -198,34 +231,34 @@ record OperandBack (s : Setting) (e : Tree) (us : List Token) : Type 0 where
   same : IsSameTree other e
 
 -- in parentheses
-enclosed_back : {s s' : Setting} {e : Tree} (us : List Token) → Printed s e → Fits s (inside s') → AreWords us (reserved word_case.LeftParenthesis ∷ (words_of e ++ reserved word_case.RightParenthesis ∷ [])) → OperandBack s' e us
-enclosed_back {s' = s'} {e = e} us pr f h =
+enclosed_back : {s s' : Setting} {e : Tree} (us : List Token) → IsTrue (is_value s') → Printed s e → Fits s (inside s') → AreWords us (reserved word_case.LeftParenthesis ∷ (words_of e ++ reserved word_case.RightParenthesis ∷ [])) → OperandBack s' e us
+enclosed_back {s' = s'} {e = e} us v pr f h =
     let t = first_word us (reserved word_case.LeftParenthesis) (mark left_parenthesis) (words_of e ++ reserved word_case.RightParenthesis ∷ []) (mark_prints left_parenthesis) h in
     let l = last_word t.others (words_of e) (reserved word_case.RightParenthesis) (mark right_parenthesis) (mark_prints right_parenthesis) t.words in
     let b = pr.back (inside s') l.left f l.words in
     record {
       other = b.other;
       reads = λ level. subst (λ us. Reads s' level b.other us) (sym (t.is ∙ ap (λ ts. token t.place (mark left_parenthesis) ∷ ts) l.is))
-          (operand (parentheses {q = t.place}) (an_expression l.place (a_word nothing) b.reads));
+          (operand (parentheses {q = t.place} v) (an_expression l.place (a_word nothing) b.reads));
       same = b.same;
     }
 
-number_back : {s : Setting} (e : Tree) (us : List Token) → is_number e ≡ true → All IsPrinted (words_of e) → AreWords us (words_of e) → OperandBack s e us
-number_back {s = s} (node p (Number n)) us is r h =
+number_back : {s : Setting} (e : Tree) (us : List Token) → IsTrue (is_value s) → is_number e ≡ true → All IsPrinted (words_of e) → AreWords us (words_of e) → OperandBack s e us
+number_back {s = s} (node p (Number n)) us v is r h =
     let t = first_word us (spelled.number n) (number n) [] (prints (number n) (All-head IsPrinted (spelled.number n) [] r).0) h in
     record {
       other = node t.place (Number n);
-      reads = λ l. subst (λ us. Reads s l (node t.place (Number n)) us) (sym (t.is ∙ ap (λ ts. token t.place (number n) ∷ ts) (none_left t.others t.words))) (operand a_number (a_word nothing));
+      reads = λ l. subst (λ us. Reads s l (node t.place (Number n)) us) (sym (t.is ∙ ap (λ ts. token t.place (number n) ∷ ts) (none_left t.others t.words))) (operand (a_number v) (a_word nothing));
       same = refl;
     }
-number_back e us is r h = absurd cc
+number_back e us v is r h = absurd cc
 
-operand_back : {s s' : Setting} {e : Tree} (us : List Token) → Printed s e → Fits s s' → AreWords us (operand_with (is_number e) (words_of e)) → OperandBack s' e us
-operand_back {s = s} {s' = s'} {e = e} us pr f h = go (is_number e) refl h
+operand_back : {s s' : Setting} {e : Tree} (us : List Token) → IsTrue (is_value s) → Printed s e → Fits s s' → AreWords us (operand_with (is_number e) (words_of e)) → OperandBack s' e us
+operand_back {s = s} {s' = s'} {e = e} us v pr f h = go (is_number e) refl h
   where
     go : (b : Bool) → is_number e ≡ b → AreWords us (operand_with b (words_of e)) → OperandBack s' e us
-    go true is h = number_back e us is pr.words h
-    go false is h = enclosed_back us pr (fits_inside f) h
+    go true is h = number_back e us (value_too f v) is pr.words h
+    go false is h = enclosed_back us (value_too f v) pr (fits_inside v f) h
 
 -- operators
 
@@ -237,15 +270,15 @@ same_prefix : (p q : Place) (o : Prefix) (e e' : Tree) → IsSameTree e' e → I
 same_prefix p q at_object e e' h = ap (λ t. node anywhere (ObjectAddress t)) h
 same_prefix p q (unary r k) e e' h = ap (λ t. node anywhere (Unary k t)) h
 
-before_printed : (s : Setting) (p : Place) (x : Lexeme) (o : Prefix) (e : Tree) → IsLexeme x → prefix_of x ≡ Some o → 2 * rank o + 1 ≤ 22 → Printed s e → Printed s (node p (with_prefix o e))
-before_printed s p x o e k is le pr = record {
+before_printed : (s : Setting) (p : Place) (x : Lexeme) (o : Prefix) (e : Tree) → IsTrue (is_value s) → IsLexeme x → prefix_of x ≡ Some o → 2 * rank o + 1 ≤ 22 → Printed s e → Printed s (node p (with_prefix o e))
+before_printed s p x o e v k is le pr = record {
   words = all_same IsPrinted (prefix_words p o e) (All-cons IsPrinted (reserved (prefix_operator o)) (operand_words e) print.printed (operand_printed (is_number e) (words_of e) pr.words));
   back = λ s' us f h.
       let t = first_word us (reserved (prefix_operator o)) x (operand_words e) print (h ∙ ap (λ ws. map lexeme_of_spelled ws) (prefix_words p o e)) in
-      let b = operand_back t.others pr f t.words in
+      let b = operand_back t.others v pr f t.words in
       record {
         other = node t.place (with_prefix o b.other);
-        reads = subst (λ us. Reads s' 22 (node t.place (with_prefix o b.other)) us) (sym t.is) (before is le (b.reads (2 * rank o + 1)));
+        reads = subst (λ us. Reads s' 22 (node t.place (with_prefix o b.other)) us) (sym t.is) (before (value_too f v) is le (b.reads (2 * rank o + 1)));
         same = same_prefix p t.place o e b.other b.same;
       };
 }
@@ -253,19 +286,19 @@ before_printed s p x o e k is le pr = record {
     print : Prints (reserved (prefix_operator o)) x
     print = prefix_prints x o k is
 
-between_printed : (s : Setting) (p : Place) (x : Lexeme) (r k : ℕ) (a b : Tree) → IsLexeme x → infix_of x ≡ Some (suc r, k) → 2 * suc r ≤ 22 → Printed s a → Printed s b → Printed s (node p (Binary k a b))
-between_printed s p x r k a b good is le pa pb = record {
+between_printed : (s : Setting) (p : Place) (x : Lexeme) (r k : ℕ) (a b : Tree) → IsTrue (is_value s) → IsLexeme x → infix_of x ≡ Some (suc r, k) → r < 10 → Printed s a → Printed s b → Printed s (node p (Binary k a b))
+between_printed s p x r k a b v good is le pa pb = record {
   words = All-append IsPrinted (operand_words a) (reserved (operator_word k) ∷ (operand_words b)) (operand_printed (is_number a) (words_of a) pa.words)
       (All-cons IsPrinted (reserved (operator_word k)) (operand_words b) print.printed (operand_printed (is_number b) (words_of b) pb.words));
   back = λ s' us f h.
       let y = split_words us (operand_words a) (reserved (operator_word k) ∷ (operand_words b)) h in
       let t = first_word y.right (reserved (operator_word k)) x (operand_words b) print y.words_right in
-      let first = operand_back y.left pa f y.words_left in
-      let last = operand_back t.others pb f t.words in
+      let first = operand_back y.left v pa f y.words_left in
+      let last = operand_back t.others v pb f t.words in
       record {
         other = node t.place (Binary k first.other last.other);
         reads = subst (λ us. Reads s' 22 (node t.place (Binary k first.other last.other)) us) (sym (y.is ∙ ap (λ ts. y.left ++ ts) t.is))
-            (between x is le (first.reads (2 * suc r)) (last.reads (2 * r + 1)));
+            (between x (value_too f v) is le (omega (arith, le)) (first.reads (2 * suc r)) (last.reads (2 * r + 1)));
         same = ap₂ (λ t u. node anywhere (Binary k t u)) first.same last.same;
       };
 }
@@ -280,7 +313,7 @@ record Operated (s : Setting) (o : Option ℕ) (x : Access) (us : List Token) (r
   others : List Token
   words : AreWords others rest
   place : Place
-  reads : {v : Variable} {e : Tree} {row : Row} {ts : List Token} → Variables s begin x v row → Spells s row ts → Reads s 21 e others → Reads s 22 (node place (Assign v o e)) (ts ++ us)
+  reads : {v : Variable} {e : Tree} {row : Row} {ts : List Token} → Variables s begin x v row → Spells s row ts → Reads (behind s) 21 e others → Reads s 22 (node place (Assign v o e)) (ts ++ us)
 
 -- the operator of an assignment, which is read back
 record Operator (o : Option ℕ) : Type 0 where
@@ -331,7 +364,7 @@ operates_by_word r k good boolean = record {
     print : Prints (reserved (operator_word k)) (infix_word r k)
     print = boolean_prints r k good
 
-assigned_printed : (s : Setting) (p : Place) (o : Option ℕ) (v : Variable) (e : Tree) (x : Access) (row : Row) → Operator o → IsTrue (is_written x) → Variables s begin x v row → GoodRow s row → Printed s e → Printed s (node p (Assign v o e))
+assigned_printed : (s : Setting) (p : Place) (o : Option ℕ) (v : Variable) (e : Tree) (x : Access) (row : Row) → Operator o → IsTrue (is_written x) → Variables s begin x v row → GoodRow s row → Printed (behind s) e → Printed s (node p (Assign v o e))
 assigned_printed s p o v e x row op w y g pr = record {
   words = All-append IsPrinted (words_of_variable v) (words_of_assignment o ++ operand_words e) (all_same IsPrinted is (row_printed s g))
       (All-append IsPrinted (words_of_assignment o) (operand_words e) op.words (operand_printed (is_number e) (words_of e) pr.words));
@@ -339,14 +372,14 @@ assigned_printed s p o v e x row op w y g pr = record {
       let z = split_words us (words_of_variable v) (words_of_assignment o ++ operand_words e) h in
       let t = op.back s' x z.right (operand_words e) w z.words_right in
       let r = row_back g s' z.left f (z.words_left ∙ ap (λ ws. map lexeme_of_spelled ws) is) in
-      let last = operand_back t.others pr f t.words in
+      let last = operand_back t.others (behind_value s) pr (both_behind f) t.words in
       put s' us z.left z.right z.is r (variables_as f y r.alike) t last;
 }
   where
     is : words_of_variable v ≡ words_of_row row
     is = variable_words v (variables_words y g) ∙ sym (row_words row)
 
-    put : (s' : Setting) (us left right : List Token) → us ≡ left ++ right → (r : RowBack s' row left) → VariablesAs s' begin x v r.other → (t : Operated s' o x right (operand_words e)) → OperandBack s' e t.others → Back s' (node p (Assign v o e)) us
+    put : (s' : Setting) (us left right : List Token) → us ≡ left ++ right → (r : RowBack s' row left) → VariablesAs s' begin x v r.other → (t : Operated s' o x right (operand_words e)) → OperandBack (behind s') e t.others → Back s' (node p (Assign v o e)) us
     put s' us left right is r a t last = go a.base a.alike a.variables
       where
         go : (base : Row) → Alike begin base → Variables s' base x a.other r.other → Back s' (node p (Assign v o e)) us
@@ -365,11 +398,11 @@ Has t = IsLexeme (lexeme_in t)
 mutual
   pub printed : {s : Setting} {l : ℕ} {e : Tree} {ts : List Token} → Reads s l e ts → l ≤ 22 → AreLexemes ts → Printed s e
   printed (operand form sp) small h = form_printed form (good sp h)
-  printed {s = s} (before {x = x} {o = o} {p = p} {e = e} {ts = ts} is le r) small h =
-      before_printed s p x o e (All-head Has (token p x) ts h) is (omega arith) (printed r (omega arith) (All-tail Has (token p x) ts h))
-  printed {s = s} (between {r = r} {k = k} {p = p} {a = a} {b = b} {ts = ts} {us = us} x is le ra rb) small h =
+  printed {s = s} (before {x = x} {o = o} {p = p} {e = e} {ts = ts} v is le r) small h =
+      before_printed s p x o e v (All-head Has (token p x) ts h) is (omega arith) (printed r (omega arith) (All-tail Has (token p x) ts h))
+  printed {s = s} (between {r = r} {k = k} {p = p} {a = a} {b = b} {ts = ts} {us = us} x v is low le ra rb) small h =
       let behind = all_right Has ts (token p x ∷ us) h in
-      between_printed s p x r k a b (All-head Has (token p x) us behind) is (omega arith) (printed ra (omega arith) (all_left Has ts (token p x ∷ us) h)) (printed rb (omega arith) (All-tail Has (token p x) us behind))
+      between_printed s p x r k a b v (All-head Has (token p x) us behind) is low (printed ra (omega arith) (all_left Has ts (token p x ∷ us) h)) (printed rb (omega arith) (All-tail Has (token p x) us behind))
   printed {s = s} (assigned {o = o} {p = p} {v = v} {e = e} {row = row} {ts = ts} {us = us} x le w y sp r) small h =
       let behind = all_right Has ts (token p (assigns o) ∷ us) h in
       assigned_printed s p o v e x row (operates o (All-head Has (token p (assigns o)) us behind)) w y (good sp (all_left Has ts (token p (assigns o) ∷ us) h)) (printed r (omega arith) (All-tail Has (token p (assigns o)) us behind))
@@ -391,12 +424,12 @@ mutual
 pub wrapped_printed : {s : Setting} {e : Tree} {ts : List Token} → Reads s 22 e ts → AreLexemes ts → All IsPrinted (wrapped e)
 wrapped_printed {e = e} r h = enclosed_printed (words_of e) (printed r (omega arith) h).words
 
-pub wrapped_back : {s : Setting} {e : Tree} {ts us : List Token} → Reads s 22 e ts → AreLexemes ts → AreWords us (wrapped e) → (e' : Tree) × Reads s 22 e' us × IsSameTree e' e × (height e' ≡ height e)
-wrapped_back {s = s} {e = e} {us = us} r h is =
-    let b = enclosed_back us (printed r (omega arith) h) (fits_itself s) is in
+pub wrapped_back : {s : Setting} {e : Tree} {ts us : List Token} → IsTrue (is_value s) → Reads s 22 e ts → AreLexemes ts → AreWords us (wrapped e) → (e' : Tree) × Reads s 22 e' us × IsSameTree e' e × (height e' ≡ height e)
+wrapped_back {s = s} {e = e} {us = us} v r h is =
+    let b = enclosed_back us v (printed r (omega arith) h) (fits_itself s v) is in
     (b.other, b.reads 22, b.same, same_height b.other e b.same)
 
 pub bare_back : {s : Setting} {e : Tree} {ts us : List Token} → IsTrue (allows_index s) → Reads s 22 e ts → AreLexemes ts → AreWords us (words_of e) → (e' : Tree) × Reads s 22 e' us × IsSameTree e' e × (height e' ≡ height e)
 bare_back {s = s} {e = e} {us = us} i r h is =
-    let b = (printed r (omega arith) h).back s us (record { dat = refl; indexes = i }) is in
+    let b = (printed r (omega arith) h).back s us (record { dat = refl; value = refl; indexes = i }) is in
     (b.other, b.reads, b.same, same_height b.other e b.same)

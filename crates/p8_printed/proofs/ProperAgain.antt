@@ -11,7 +11,7 @@ use Rattle.p8_tree.specs.Forgetting.{anywhere, tree_anywhere, constant_anywhere,
 use Rattle.p8_tree.specs.Heights.{height}
 use Rattle.p8_tree.specs.Names.{IsName, has_dot}
 use Rattle.p8_tree.specs.Proper.{IfThere, is_nothing, is_size, IsProperExpression, IsProperConstant, setting, with_value, counted, IsProperDeclared, IsProperLocal, IsProperChild, IsProperMethod}
-use Rattle.p8_grammar.specs.Lexemes.{Setting, in_method, in_declaration, in_dat, in_data_item}
+use Rattle.p8_grammar.specs.Lexemes.{Setting, in_method, in_declaration, in_dat, in_data_item, is_value}
 use Rattle.p8_declarations.specs.Constants as constants
 use Rattle.p8_declarations.specs.Variables.{variable}
 use Rattle.p8_declarations.specs.Objects.{file_of, child}
@@ -27,7 +27,7 @@ use Rattle.p8_printed.proofs.Heights.{same_height}
 use Rattle.p8_printed.proofs.ProperNames.{name_lexeme, string_lexeme}
 use Rattle.p8_printed.proofs.Tables.{table_end, ◌&◌, one_of}
 use Rattle.p8_printed.proofs.Rows.{IsSpelled, enclosed}
-use Rattle.p8_printed.proofs.Expressions.{inner_of, tree_spelled}
+use Rattle.p8_printed.proofs.Expressions.{inner_of, in_methods, tree_spelled}
 
 -- one that is the same but for places, and so
 pub record Again {X : Type 0} (P : X → Type 0) (forget : X → X) (x : X) : Type 0 where
@@ -45,25 +45,25 @@ each_again Q P forget f (x ∷ xs) h =
 
 -- expressions
 
-read_of : (s : Setting) (e : Tree) → IsSpelled s e → height e ≤ 64 → Again (IsRead s) tree_anywhere e
-read_of s e x low = record {
+read_of : (s : Setting) (e : Tree) → IsTrue (is_value s) → IsSpelled s e → height e ≤ 64 → Again (IsRead s) tree_anywhere e
+read_of s e v x low = record {
   other = x.tree;
-  holds = record { tokens = x.tokens; is = x.reads; good = x.lexemes; low = subst (λ n. n ≤ 64) (sym (same_height x.tree e x.same)) low };
+  holds = record { tokens = x.tokens; is = x.reads; good = x.lexemes; low = subst (λ n. n ≤ 64) (sym (same_height x.tree e x.same)) low; value = v };
   same = x.same;
 }
 
 pub declared_again : (e : Tree) → IsProperExpression false e → Again (IsRead in_declaration) tree_anywhere e
-declared_again e h = read_of in_declaration e (tree_spelled (inner_of in_declaration refl) e h.0) h.1
+declared_again e h = read_of in_declaration e refl (tree_spelled (inner_of in_declaration refl refl) e h.0) h.1
 
 pub method_again : (e : Tree) → IsProperExpression false e → Again (IsRead in_method) tree_anywhere e
-method_again e h = read_of in_method e (tree_spelled (inner_of in_method refl) e h.0) h.1
+method_again e h = read_of in_method e refl (tree_spelled in_methods e h.0) h.1
 
 pub dat_again : (e : Tree) → IsProperExpression true e → Again (IsRead in_dat) tree_anywhere e
-dat_again e h = read_of in_dat e (tree_spelled (inner_of in_dat refl) e h.0) h.1
+dat_again e h = read_of in_dat e refl (tree_spelled (inner_of in_dat refl refl) e h.0) h.1
 
 -- in parentheses it can stand in an item of data
 pub data_again : (e : Tree) → IsProperExpression true e → Again (IsRead in_data_item) tree_anywhere e
-data_again e h = read_of in_data_item e (enclosed {s = in_data_item} (tree_spelled (inner_of in_dat refl) e h.0)) h.1
+data_again e h = read_of in_data_item e refl (enclosed {s = in_data_item} refl (tree_spelled (inner_of in_dat refl refl) e h.0)) h.1
 
 -- what there is, if there is anything
 pub there_again : (dat : Bool) (P : Tree → Type 0) → ((e : Tree) → IsProperExpression dat e → Again P tree_anywhere e) → (o : Option Tree) → IfThere (IsProperExpression dat) o → Again (IfThere P) (option_map tree_anywhere) o

@@ -4,7 +4,6 @@ use Rattle.std.specs.Prelude.{if◌then◌else◌}
 use Rattle.std.specs.List.{AllByRecursion as Each}
 use Rattle.p8_tree.specs.Expressions.{Tree}
 use Rattle.p8_tree.specs.Forgetting.{anywhere}
-use Rattle.p8_tree.specs.Names.{IsName}
 use Rattle.p8_lexer.specs.declared.word.Word.{Word}
 use Rattle.p8_lexer.specs.declared.word.Word.TheVariants as word_case
 use Rattle.p8_grammar.specs.Lexemes.{Lexeme}
@@ -21,7 +20,7 @@ use Rattle.p8_lines.proofs.Matching.{target, follows}
 use Rattle.p8_print.specs.Spelled.{is_free}
 use Rattle.p8_printed.proofs.Elements.{each_append}
 use Rattle.p8_printed.proofs.Printable.{IsOfSource}
-use Rattle.p8_printed.proofs.LineTokens.{TokenFor, word_token, end_token, name_token, Phrase}
+use Rattle.p8_printed.proofs.LineTokens.{TokenFor, word_token, end_token, Phrase}
 
 -- these pieces are a line, or what is left of one, in tokens that a source can have
 pub record LineSpelled (q : State) (row : List Piece) : Type 0 where
@@ -50,9 +49,6 @@ token_on {q = q} {row = row} t f l = record {
 pub a_word : {q : State} (r : State) (w : Word) {row : List Piece} → is_free w ≡ false → Goes (choices q).arrows w r → LineSpelled r row → LineSpelled q (pieces.word w anywhere ∷ row)
 a_word {q} r w free goes l = let t = word_token w free in token_on t (takes t.token t.same_word goes) l
 
-pub a_name : {q : State} (r : State) (n : List ℕ) {row : List Piece} → IsName n → Goes (choices q).arrows word_case.Name r → LineSpelled r row → LineSpelled q (pieces.name n anywhere ∷ row)
-a_name {q} r n h goes l = let t = name_token n h in token_on t (takes t.token t.same_word goes) l
-
 -- the end of the line
 pub line_end : {q : State} → Goes (choices q).arrows word_case.LineEnd state.End → LineSpelled q (pieces.word word_case.LineEnd anywhere ∷ [])
 line_end goes = token_on end_token (takes end_token.token end_token.same_word goes) over
@@ -62,7 +58,7 @@ line_end goes = token_on end_token (takes end_token.token end_token.same_word go
 behind_phrase : (h : Expected) (us : List LineToken) {t : LineToken} {r : State} → is_name us ≡ false → Follows h.behind_other t r → Follows (behind h us) t r
 behind_phrase h us {t = t} {r = r} e f = subst (λ b. Follows (if b then h.behind_name else h.behind_other) t r) (sym e) f
 
-pub phrase_on : {q r : State} (h : Expected) {e : Tree} {w : Word} {x : Lexeme} {y : Piece} {row : List Piece} → (choices q).phrase ≡ Some h → (p : Phrase h.setting e) → height p.tree ≤ greatest_height h → (t : TokenFor w x y) → Goes h.behind_other w r → LineSpelled r row → LineSpelled q (pieces.tree p.tree p.first.place ∷ y ∷ row)
+pub phrase_on : {q r : State} (h : Expected) {e : Tree} {w : Word} {x : Lexeme} {y : Piece} {row : List Piece} → (choices q).phrase ≡ Some h → (p : Phrase h.setting e) → height p.tree ≤ greatest_height → (t : TokenFor w x y) → Goes h.behind_other w r → LineSpelled r row → LineSpelled q (pieces.tree p.tree p.first.place ∷ y ∷ row)
 phrase_on {q = q} h {row = row} is p low t goes l = record {
   tokens = (p.first ∷ p.others) ++ t.token ∷ l.tokens;
   leads = subst (λ y. Leads q ((p.first ∷ p.others) ++ t.token ∷ l.tokens) (pieces.tree p.tree p.first.place ∷ y ∷ row) state.End) t.same_piece (by_phrase p.others is p.is low (behind_phrase h (p.first ∷ p.others) p.no_name (takes t.token t.same_word goes)) l.leads);

@@ -1,8 +1,9 @@
 -- What a source can have: names, sizes, and expressions that were read.
 use Rattle.std.proofs.Common.{ℕ, ◌≤◌, List}
+use Rattle.std.specs.Prelude.{IsTrue}
 use Rattle.p8_tree.specs.Expressions.{Tree}
 use Rattle.p8_grammar.specs.Lexemes as lexemes
-use Rattle.p8_grammar.specs.Lexemes.{Setting, Token}
+use Rattle.p8_grammar.specs.Lexemes.{Setting, is_value, Token}
 use Rattle.p8_grammar.specs.Grammar.{IsExpression}
 use Rattle.p8_grammar.specs.Heights.{height}
 use Rattle.p8_expr.specs.Sources.{IsLexeme, AreLexemes}
@@ -13,6 +14,7 @@ pub record IsRead (s : Setting) (e : Tree) : Type 0 where
   pub is : IsExpression s e tokens
   pub good : AreLexemes tokens
   pub low : height e ≤ 64
+  pub value : IsTrue (is_value s)
 
 -- a name that isn't reserved, in capitals
 abbrev pub IsName : List ℕ → Type 0

@@ -1,12 +1,13 @@
 -- Tokens that a source can have, as the grammar of expressions has them, for rows and expressions.
-use Rattle.std.proofs.Common.{◌≡◌, List, [], ◌∷◌, ◌++◌, sym, subst}
+use Rattle.std.proofs.Common.{◌≡◌, List, [], ◌∷◌, ◌++◌, refl, sym, subst}
 use Rattle.std.specs.Prelude.{IsTrue}
 use Rattle.std.proofs.lemmas.List.Elements.{All-nil, All-cons, All-append}
 use Rattle.p8_tree.specs.Expressions.{Tree}
 use Rattle.p8_tree.specs.Forgetting.{anywhere, tree_anywhere}
-use Rattle.p8_grammar.specs.Lexemes.{Setting, allows_index, inside, Mark, left_parenthesis, right_parenthesis, Lexeme, mark, Token, token}
+use Rattle.p8_grammar.specs.Lexemes.{Setting, in_method, in_declaration, in_dat, in_data_item, in_action, is_value, allows_index, inside, behind, Mark, left_parenthesis, right_parenthesis, Lexeme, mark, Token, token}
 use Rattle.p8_grammar.specs.Grammar.{word, upto, Row, begin, ◌▹◌, Forms, parentheses, Reads, operand, Spells, nothing, a_word, an_expression}
 use Rattle.p8_grammar.specs.Proper.{lexeme_in}
+use Rattle.p8_grammar.proofs.FormsStand.{behind_value}
 use Rattle.p8_expr.specs.Sources.{IsLexeme, AreLexemes}
 use Rattle.p8_printed.proofs.TableWords.{mark_word, mark_is}
 
@@ -40,10 +41,11 @@ lexeme_first x ts h all = All-cons Good (token anywhere x) ts h all
 pub lexemes_joined : (ts us : List Token) → AreLexemes ts → AreLexemes us → AreLexemes (ts ++ us)
 lexemes_joined ts us h k = All-append Good ts us h k
 
--- A setting is that inside parentheses, where it allows an index.
+-- A setting of values is that inside parentheses, where it allows an index.
 pub record IsInner (s : Setting) : Type 0 where
   pub same : inside s ≡ s
   pub allows : IsTrue (allows_index s)
+  pub value : IsTrue (is_value s)
 
 module _ {s : Setting} where
   pub start : RowSpelled s begin
@@ -67,8 +69,28 @@ module _ {s : Setting} where
   form {e' = e'} f r same = record { tree = e'; tokens = r.tokens; reads = operand f r.spells; lexemes = r.lexemes; same = same }
 
   -- in parentheses an expression is an operand
-  pub enclosed : {l : _} {e : Tree} → IsSpelled (inside s) e → SpelledAt s l e
-  enclosed x = form parentheses (put right_parenthesis (add_mark left_parenthesis start) x) x.same
+  pub enclosed : {l : _} {e : Tree} → IsTrue (is_value s) → IsSpelled (inside s) e → SpelledAt s l e
+  enclosed v x = form (parentheses v) (put right_parenthesis (add_mark left_parenthesis start) x) x.same
 
 pub inside_of : {s : Setting} {e : Tree} → IsInner s → IsSpelled s e → IsSpelled (inside s) e
 inside_of {e = e} i x = subst (λ s. IsSpelled s e) (sym i.same) x
+
+-- what is assigned stands in parentheses
+inside_behind : (s : Setting) → inside (behind s) ≡ inside s
+inside_behind in_method = refl
+inside_behind in_declaration = refl
+inside_behind in_dat = refl
+inside_behind in_data_item = refl
+inside_behind in_action = refl
+
+pub right_side : (s : Setting) {l : _} {e : Tree} → IsSpelled (inside s) e → SpelledAt (behind s) l e
+right_side s {e = e} x = enclosed (behind_value s) (subst (λ z. IsSpelled z e) (sym (inside_behind s)) x)
+
+-- a row of an action is one of an expression in a method
+respelled : {s s' : Setting} {row : Row} {ts : List Token} → inside s ≡ inside s' → Spells s row ts → Spells s' row ts
+respelled i nothing = nothing
+respelled i (a_word sp) = a_word (respelled i sp)
+respelled i (an_expression {e = e} {us = us} p sp r) = an_expression p (respelled i sp) (subst (λ s. Reads s 22 e us) i r)
+
+pub in_row : {s s' : Setting} {row : Row} → inside s ≡ inside s' → RowSpelled s row → RowSpelled s' row
+in_row i r = record { tokens = r.tokens; spells = respelled i r.spells; lexemes = r.lexemes }

@@ -142,7 +142,7 @@ record Reread (s : Setting) (e : Tree) (us : List LineToken) : Type 0 where
 reread : (s : Setting) (e : Tree) (us : List LineToken) → IsRead s e → AreSpelled (wrapped e) us → Reread s e us
 reread s e [] r h = absurd h
 reread s e (u ∷ us) r h =
-    let x = wrapped_back {us = terms (u ∷ us)} r.is r.good (spelled_words (wrapped e) (u ∷ us) (wrapped_readable s e r) (wrapped_capitals s e r) h) in
+    let x = wrapped_back {us = terms (u ∷ us)} r.value r.is r.good (spelled_words (wrapped e) (u ∷ us) (wrapped_readable s e r) (wrapped_capitals s e r) h) in
     let y = r.low in
     let z = x.3 in
     record { first = u; others = us; tokens = refl; other = x.0; is = x.1; same = x.2; low = subst (λ n. n ≤ 64) (sym z) y }

@@ -1,11 +1,11 @@
 -- Each word of a table is what its number came from.
 use Rattle.std.proofs.Common.{◌≡◌, ℕ, Bool, true, false, Option, Some, None, refl, sym, ap, ◌∙◌, subst}
-use Rattle.std.specs.Prelude.{◌&&◌, not, IsTrue}
+use Rattle.std.specs.Prelude.{◌&&◌, not, IsTrue, option_and_then}
 use Rattle.p8_lexer.specs.declared.word.Word.{Word}
 use Rattle.p8_lexer.specs.declared.word.Word.TheVariants as word
-use Rattle.p8_grammar.specs.Lexemes.{Mark, left_parenthesis, right_parenthesis, left_bracket, right_bracket, comma, colon, dot, dot_dot, hash, backslash, equal, Lexeme, number, name, method_result, string, mark, prefix_word, infix_word, sign, assigns, changes, address, object_address, size, register, here, string_word, constant_word, look, value, built_in}
+use Rattle.p8_grammar.specs.Lexemes.{Mark, left_parenthesis, right_parenthesis, left_bracket, right_bracket, comma, colon, dot, dot_dot, hash, backslash, equal, Lexeme, number, name, method_result, string, mark, prefix_word, infix_word, sign, assigns, changes, address, object_address, size, register, here, string_word, constant_word, look, value, built_in, command}
 use Rattle.p8_grammar.specs.Grammar as grammar
-use Rattle.p8_grammar.specs.Grammar.{Prefix, at_object, unary, prefix_of, infix_of}
+use Rattle.p8_grammar.specs.Grammar.{Prefix, at_object, unary, prefix_of, effect_of, infix_of}
 use Rattle.p8_expr.specs.Words.{lexeme_of_word}
 use Rattle.p8_print.specs.Spelled as spelled
 use Rattle.p8_print.specs.Spelled.{Spelled, IsReadable, is_free}
@@ -50,6 +50,7 @@ word_of_lexeme constant_word = word.Constant
 word_of_lexeme (look k) = built_word k
 word_of_lexeme (value k) = built_word k
 word_of_lexeme (built_in k) = built_word k
+word_of_lexeme (command k) = built_word k
 word_of_lexeme _ = word.Pub
 
 -- and by its second number, if it has one
@@ -61,6 +62,18 @@ word_behind x = word_of_lexeme x
 abbrev pub parts_changes : Lexeme → Bool
 parts_changes (changes b a) = not (is_behind b) && is_behind a
 parts_changes _ = true
+
+-- the effect byte of an operator that stands alone
+abbrev alone : Lexeme → Option ℕ
+alone x = option_and_then effect_of (prefix_of x)
+
+abbrev word_by : Lexeme → Option ℕ → Word
+word_by x None = word_of_lexeme x
+word_by x (Some k) = change_word k
+
+abbrev behind_by : Option ℕ → Bool
+behind_by None = false
+behind_by (Some k) = is_behind k
 
 -- AND and OR are told by their ranks and by their numbers
 abbrev pub by_rank : Lexeme → Bool
@@ -102,6 +115,16 @@ changes_parted : (w : Word) → parts_changes (lexeme_of_word w) ≡ true
 unfolding lexeme_of_word
 changes_parted word.PlusPlus = refl
 changes_parted _ = refl
+
+words_alone : (w : Word) → word_by (lexeme_of_word w) (alone (lexeme_of_word w)) ≡ word_of_lexeme (lexeme_of_word w)
+unfolding lexeme_of_word operators changes_of
+words_alone word.PlusPlus = refl
+words_alone _ = refl
+
+none_behind : (w : Word) → behind_by (alone (lexeme_of_word w)) ≡ false
+unfolding lexeme_of_word
+none_behind word.PlusPlus = refl
+none_behind _ = refl
 
 booleans_same : (w : Word) → by_rank (lexeme_of_word w) ≡ by_number (lexeme_of_word w)
 unfolding lexeme_of_word
@@ -228,3 +251,20 @@ assignment_prints o h = reserved_prints (assignment_word o) (assigns o) (is_for 
 -- the word of a change that stands after its variable is the word of the change before it
 pub change_word_same : (b a : ℕ) → IsLexeme (changes b a) → change_word a ≡ change_word b
 change_word_same b a h = words_same (changes b a) h.0 h.1
+
+-- an operator that stands alone has the word of its change, and stands before the variable
+pub record Alone (x : Lexeme) (k : ℕ) : Type 0 where
+  pub word : spelled_of x ≡ spelled.reserved (change_word k)
+  pub before : is_behind k ≡ false
+
+alone_word : (x : Lexeme) (w : Word) (k : ℕ) → lexeme_of_word w ≡ x → alone x ≡ Some k → spelled_of x ≡ spelled.reserved (word_of_lexeme x) → Alone x k
+alone_word x w k h e is = record {
+  word = is ∙ ap spelled.reserved (sym (subst (λ x. word_by x (alone x) ≡ word_of_lexeme x) h (words_alone w)) ∙ ap (word_by x) e);
+  before = sym (ap behind_by e) ∙ subst (λ x. behind_by (alone x) ≡ false) h (none_behind w);
+}
+
+pub stands_alone : (x : Lexeme) (o : Prefix) (k : ℕ) → IsLexeme x → prefix_of x ≡ Some o → effect_of o ≡ Some k → Alone x k
+stands_alone object_address o k h e f = absurd (let z : None ≡ Some k = ap (option_and_then effect_of) e ∙ f in cc)
+stands_alone (prefix_word r j) o k h e f = alone_word (prefix_word r j) h.0 k h.1 (ap (option_and_then effect_of) e ∙ f) refl
+stands_alone (sign i j) o k h e f = alone_word (sign i j) h.0 k h.1 (ap (option_and_then effect_of) e ∙ f) refl
+stands_alone x o k h e f = absurd cc

@@ -4,10 +4,10 @@ use Rattle.std.specs.Prelude.{◌&&◌, ◌||◌, ◌==◌, not, nat_le, IsTrue}
 use Rattle.std.proofs.lemmas.Bool.Decides.{nat_tests}
 use Rattle.p8_lexer.specs.declared.word.Word.{Word}
 use Rattle.p8_lexer.specs.declared.word.Word.TheVariants as word
-use Rattle.p8_tree.specs.Proper.{is_one_of, is_unary, is_binary, is_change, is_look, is_value, gives_value, is_size, is_written_register, has_bits, is_register}
+use Rattle.p8_tree.specs.Proper.{is_one_of, is_unary, is_binary, is_change, is_operator_alone, is_look, is_value, gives_value, gives_no_value, is_size, is_written_register, has_bits, is_register}
 use Rattle.p8_grammar.specs.Lexemes as lexemes
-use Rattle.p8_grammar.specs.Lexemes.{Setting, is_dat, Access, pins, input_pins, input, assembly, is_in, Lexeme, prefix_word, infix_word, sign, assigns, changes, size, register, look, value, built_in}
-use Rattle.p8_grammar.specs.Grammar.{unary, prefix_of, infix_of, is_boolean}
+use Rattle.p8_grammar.specs.Lexemes.{Setting, is_dat, Access, pins, input_pins, input, assembly, is_in, Lexeme, prefix_word, infix_word, sign, assigns, changes, size, register, look, value, built_in, command}
+use Rattle.p8_grammar.specs.Grammar.{Prefix, unary, prefix_of, effect_of, infix_of, is_boolean}
 use Rattle.p8_expr.specs.Words.{lexeme_of_word}
 use Rattle.p8_expr.specs.Sources.{IsLexeme}
 
@@ -159,6 +159,28 @@ change k h = one_of IsChange (0x20 ∷ 0x28 ∷ 0x30 ∷ 0x38 ∷ 0x10 ∷ 0x18 
     table_end
     ) h
 
+-- operators that stand alone before their variable
+
+pub record IsAlone (k : ℕ) : Type 0 where
+  pub lexeme : Lexeme
+  pub good : IsLexeme lexeme
+  pub operator : Prefix
+  pub is : prefix_of lexeme ≡ Some operator
+  pub effect : effect_of operator ≡ Some k
+
+pub operator_alone : (k : ℕ) → IsTrue (is_operator_alone k) → IsAlone k
+unfolding lexeme_of_word
+operator_alone k h = one_of IsAlone (0x46 ∷ 0x47 ∷ 0x49 ∷ 0x51 ∷ 0x53 ∷ 0x58 ∷ 0x5F ∷ []) k (
+    record { lexeme = sign 0xE6 0xED; good = (word.Minus, refl); operator = unary 1 0xE6; is = refl; effect = refl } &
+    record { lexeme = prefix_word 1 0xE7; good = (word.Invert, refl); operator = unary 1 0xE7; is = refl; effect = refl } &
+    record { lexeme = prefix_word 1 0xE9; good = (word.Absolute, refl); operator = unary 1 0xE9; is = refl; effect = refl } &
+    record { lexeme = prefix_word 1 0xF1; good = (word.EncodeBit, refl); operator = unary 1 0xF1; is = refl; effect = refl } &
+    record { lexeme = prefix_word 1 0xF3; good = (word.DecodeBit, refl); operator = unary 1 0xF3; is = refl; effect = refl } &
+    record { lexeme = prefix_word 1 0xF8; good = (word.SquareRoot, refl); operator = unary 1 0xF8; is = refl; effect = refl } &
+    record { lexeme = prefix_word 8 0xFF; good = (word.Not, refl); operator = unary 8 0xFF; is = refl; effect = refl } &
+    table_end
+    ) h
+
 -- sizes and built-ins
 
 pub size_lexeme : (z : ℕ) → IsTrue (is_size z) → IsLexeme (size z)
@@ -186,6 +208,23 @@ built_lexeme k h = one_of (λ k. IsLexeme (built_in k)) (0x16 ∷ 0x17 ∷ 0x28 
     table_end
     ) h
 
+pub command_lexeme : (k : ℕ) → IsTrue (gives_no_value k) → IsLexeme (command k)
+unfolding lexeme_of_word
+command_lexeme k h = one_of (λ k. IsLexeme (command k)) (0x18 ∷ 0x19 ∷ 0x1A ∷ 0x1B ∷ 0x1C ∷ 0x1D ∷ 0x1E ∷ 0x1F ∷ 0x21 ∷ 0x22 ∷ 0x23 ∷ []) k (
+    (word.Bytefill, refl) &
+    (word.Wordfill, refl) &
+    (word.Longfill, refl) &
+    (word.Waitpeq, refl) &
+    (word.Bytemove, refl) &
+    (word.Wordmove, refl) &
+    (word.Longmove, refl) &
+    (word.Waitpne, refl) &
+    (word.Cogstop, refl) &
+    (word.Lockret, refl) &
+    (word.Waitcnt, refl) &
+    table_end
+    ) h
+
 -- registers
 
 pub record IsAt (s : Setting) (a : ℕ) : Type 0 where
@@ -202,14 +241,14 @@ in_dat_alone : (b : Bool) → IsTrue (b || false) → IsTrue b
 in_dat_alone true h = refl
 in_dat_alone false h = absurd cc
 
-pub register_lexeme : (s : Setting) (a : ℕ) → IsTrue (is_register (is_dat s) a) → IsAt s a
+pub register_lexeme : (s : Setting) (a : ℕ) → IsTrue (lexemes.is_value s) → IsTrue (is_register (is_dat s) a) → IsAt s a
 unfolding lexeme_of_word
-register_lexeme s a h =
+register_lexeme s a v h =
     let range = within 0x1F0 0x1FF (is_dat s || is_one_of (0x1F0 ∷ 0x1F1 ∷ 0x1F2 ∷ 0x1F4 ∷ 0x1F6 ∷ []) a) a h in
     all_from (MayStand s) 0x1F0 16 a (
-    (λ y. record { access = input; good = (word.Par, refl); allowed = refl; written = λ h. absurd cc; bits = λ h. absurd cc }) &
-    (λ y. record { access = input; good = (word.Cnt, refl); allowed = refl; written = λ h. absurd cc; bits = λ h. absurd cc }) &
-    (λ y. record { access = input_pins; good = (word.Ina, refl); allowed = refl; written = λ h. absurd cc; bits = λ h. refl }) &
+    (λ y. record { access = input; good = (word.Par, refl); allowed = v; written = λ h. absurd cc; bits = λ h. absurd cc }) &
+    (λ y. record { access = input; good = (word.Cnt, refl); allowed = v; written = λ h. absurd cc; bits = λ h. absurd cc }) &
+    (λ y. record { access = input_pins; good = (word.Ina, refl); allowed = v; written = λ h. absurd cc; bits = λ h. refl }) &
     (λ y. record { access = assembly; good = (word.Inb, refl); allowed = in_dat_alone (is_dat s) y; written = λ h. absurd cc; bits = λ h. absurd cc }) &
     (λ y. record { access = pins; good = (word.Outa, refl); allowed = refl; written = λ h. refl; bits = λ h. refl }) &
     (λ y. record { access = assembly; good = (word.Outb, refl); allowed = in_dat_alone (is_dat s) y; written = λ h. absurd cc; bits = λ h. absurd cc }) &

@@ -1,6 +1,6 @@
 -- Rows of pieces taken apart as their words are.
 use Rattle.std.proofs.Common.{◌≡◌, ℕ, List, [], ◌∷◌, ◌++◌, Bool, true, false, refl, sym, ap, ◌∙◌, subst}
-use Rattle.std.specs.Prelude.{IsTrue}
+use Rattle.std.specs.Prelude.{IsTrue, not}
 use Rattle.p8_tree.specs.declared.places.Place.{Place}
 use Rattle.p8_tree.specs.Expressions.{Tree}
 use Rattle.p8_lexer.specs.declared.word.Word.{Word}
@@ -24,15 +24,15 @@ use Rattle.p8_printed.specs.Lexemes.{lexeme_of_spelled, IsInCapitals}
 use Rattle.p8_printed.specs.Written.{Written, nothing, line_end, a_word, a_name, a_text, enclosed, as_it_is, begins_from, ends_line}
 
 -- what is written of a row, by its first piece
-pub data First (bare : Bool) (x : Piece) (row : List Piece) (words : List Spelled) : Type 0 where
-  is_end : {p : Place} → x ≡ pieces.word word_case.LineEnd p → row ≡ [] → words ≡ [] → First bare x row words
-  is_word : {w : Word} {p : Place} {ws : List Spelled} → x ≡ pieces.word w p → is_free w ≡ false → words ≡ spelled.reserved w ∷ ws → Written bare row ws → First bare x row words
-  is_name : {n : List ℕ} {p : Place} {ws : List Spelled} → x ≡ pieces.name n p → words ≡ spelled.name n ∷ ws → Written bare row ws → First bare x row words
-  is_text : {n : List ℕ} {p : Place} {ws : List Spelled} → x ≡ pieces.text n p → words ≡ spelled.string n ∷ ws → Written bare row ws → First bare x row words
-  is_enclosed : {e : Tree} {p : Place} {ws : List Spelled} → x ≡ pieces.tree e p → begins_from row ≡ false → words ≡ wrapped e ++ ws → Written bare row ws → First bare x row words
-  is_bare : {e : Tree} {p : Place} {ws : List Spelled} → x ≡ pieces.tree e p → IsTrue bare → words ≡ words_of e ++ ws → Written bare row ws → First bare x row words
+pub data First (bare acts : Bool) (x : Piece) (row : List Piece) (words : List Spelled) : Type 0 where
+  is_end : {p : Place} → x ≡ pieces.word word_case.LineEnd p → row ≡ [] → words ≡ [] → First bare acts x row words
+  is_word : {w : Word} {p : Place} {ws : List Spelled} → x ≡ pieces.word w p → is_free w ≡ false → words ≡ spelled.reserved w ∷ ws → Written bare false row ws → First bare acts x row words
+  is_name : {n : List ℕ} {p : Place} {ws : List Spelled} → x ≡ pieces.name n p → words ≡ spelled.name n ∷ ws → Written bare false row ws → First bare acts x row words
+  is_text : {n : List ℕ} {p : Place} {ws : List Spelled} → x ≡ pieces.text n p → words ≡ spelled.string n ∷ ws → Written bare false row ws → First bare acts x row words
+  is_enclosed : {e : Tree} {p : Place} {ws : List Spelled} → x ≡ pieces.tree e p → IsTrue (not acts) → begins_from row ≡ false → words ≡ wrapped e ++ ws → Written bare false row ws → First bare acts x row words
+  is_bare : {e : Tree} {p : Place} {ws : List Spelled} → x ≡ pieces.tree e p → IsTrue bare → words ≡ words_of e ++ ws → Written bare false row ws → First bare acts x row words
 
-pub first_of_row : {bare : Bool} {whole : List Piece} {words : List Spelled} (x : Piece) (row : List Piece) → Written bare whole words → whole ≡ x ∷ row → First bare x row words
+pub first_of_row : {bare acts : Bool} {whole : List Piece} {words : List Spelled} (x : Piece) (row : List Piece) → Written bare acts whole words → whole ≡ x ∷ row → First bare acts x row words
 first_of_row x row nothing e = absurd cc
 first_of_row x row (line_end {p = p}) e =
     let head : x ≡ pieces.word word_case.LineEnd p = cc in
@@ -41,23 +41,23 @@ first_of_row x row (line_end {p = p}) e =
 first_of_row {bare = bare} x row (a_word {w = w} {p = p} {row = rest} {ws = ws} f y) e =
     let head : x ≡ pieces.word w p = cc in
     let tail : rest ≡ row = cc in
-    is_word head f refl (subst (λ l. Written bare l ws) tail y)
+    is_word head f refl (subst (λ l. Written bare false l ws) tail y)
 first_of_row {bare = bare} x row (a_name {n = n} {p = p} {row = rest} {ws = ws} y) e =
     let head : x ≡ pieces.name n p = cc in
     let tail : rest ≡ row = cc in
-    is_name head refl (subst (λ l. Written bare l ws) tail y)
+    is_name head refl (subst (λ l. Written bare false l ws) tail y)
 first_of_row {bare = bare} x row (a_text {x = n} {p = p} {row = rest} {ws = ws} y) e =
     let head : x ≡ pieces.text n p = cc in
     let tail : rest ≡ row = cc in
-    is_text head refl (subst (λ l. Written bare l ws) tail y)
-first_of_row {bare = bare} x row (enclosed {e = t} {p = p} {row = rest} {ws = ws} f y) e =
+    is_text head refl (subst (λ l. Written bare false l ws) tail y)
+first_of_row {bare = bare} x row (enclosed {e = t} {p = p} {row = rest} {ws = ws} o f y) e =
     let head : x ≡ pieces.tree t p = cc in
     let tail : rest ≡ row = cc in
-    is_enclosed head (subst (λ l. begins_from l ≡ false) tail f) refl (subst (λ l. Written bare l ws) tail y)
+    is_enclosed head o (subst (λ l. begins_from l ≡ false) tail f) refl (subst (λ l. Written bare false l ws) tail y)
 first_of_row {bare = bare} x row (as_it_is {e = t} {p = p} {row = rest} {ws = ws} b y) e =
     let head : x ≡ pieces.tree t p = cc in
     let tail : rest ≡ row = cc in
-    is_bare head b refl (subst (λ l. Written bare l ws) tail y)
+    is_bare head b refl (subst (λ l. Written bare false l ws) tail y)
 
 -- the piece that a token is
 
@@ -144,30 +144,30 @@ tree_ends e p (x ∷ row) = refl
 -- what is written of a row that begins with a token
 pub data Next (bare : Bool) (t : LineToken) (row : List Piece) (words : List Spelled) : Type 0 where
   last : word t ≡ word_case.LineEnd → ends_line (piece t ∷ []) ≡ true → row ≡ [] → words ≡ [] → Next bare t row words
-  more : {w : Spelled} {ws : List Spelled} → words ≡ w ∷ ws → IsReadable w → IsInCapitals w → word_read w ≡ word t → lexeme_of_spelled w ≡ lexeme t → ends_line (piece t ∷ row) ≡ ends_line row → Written bare row ws → Next bare t row words
+  more : {w : Spelled} {ws : List Spelled} → words ≡ w ∷ ws → IsReadable w → IsInCapitals w → word_read w ≡ word t → lexeme_of_spelled w ≡ lexeme t → ends_line (piece t ∷ row) ≡ ends_line row → Written bare false row ws → Next bare t row words
 
-pub next_token : {bare : Bool} {row : List Piece} {words : List Spelled} (t : LineToken) → IsLexeme (lexeme t) → Written bare (piece t ∷ row) words → Next bare t row words
-next_token {bare = bare} {row = row} {words = words} t is written = go (shape t) (first_of_row (piece t) row written refl)
+pub next_token : {bare acts : Bool} {row : List Piece} {words : List Spelled} (t : LineToken) → IsLexeme (lexeme t) → Written bare acts (piece t ∷ row) words → Next bare t row words
+next_token {bare = bare} {acts = acts} {row = row} {words = words} t is written = go (shape t) (first_of_row (piece t) row written refl)
   where
     ends : (x : Piece) → piece t ≡ x → ends_line (x ∷ row) ≡ ends_line row → ends_line (piece t ∷ row) ≡ ends_line row
     ends x e h = ap (λ x. ends_line (x ∷ row)) e ∙ h
 
-    by_name : (n m : List ℕ) (p : Place) (ws : List Spelled) → lexeme t ≡ lexemes.name n → piece t ≡ pieces.name m p → m ≡ n → words ≡ spelled.name m ∷ ws → Written bare row ws → Next bare t row words
+    by_name : (n m : List ℕ) (p : Place) (ws : List Spelled) → lexeme t ≡ lexemes.name n → piece t ≡ pieces.name m p → m ≡ n → words ≡ spelled.name m ∷ ws → Written bare false row ws → Next bare t row words
     by_name n m p ws e s same h y =
         let names : lexeme t ≡ lexemes.name m = e ∙ ap (λ n. lexemes.name n) (sym same) in
         let good : IsLexeme (lexemes.name m) = subst IsLexeme names is in
         more h good.0 good.1 (sym (name_word t n e)) (sym names) (ends (pieces.name m p) s (name_ends m p row)) y
 
-    by_text : (n m : List ℕ) (p : Place) (ws : List Spelled) → lexeme t ≡ lexemes.string n → piece t ≡ pieces.text m p → m ≡ n → words ≡ spelled.string m ∷ ws → Written bare row ws → Next bare t row words
+    by_text : (n m : List ℕ) (p : Place) (ws : List Spelled) → lexeme t ≡ lexemes.string n → piece t ≡ pieces.text m p → m ≡ n → words ≡ spelled.string m ∷ ws → Written bare false row ws → Next bare t row words
     by_text n m p ws e s same h y =
         let texts : lexeme t ≡ lexemes.string m = e ∙ ap (λ n. lexemes.string n) (sym same) in
         let good : IsLexeme (lexemes.string m) = subst IsLexeme texts is in
         more h good tt (sym (string_word t n e)) (sym texts) (ends (pieces.text m p) s (text_ends m p row)) y
 
-    by_word : (w : Word) (p : Place) (ws : List Spelled) → piece t ≡ pieces.word w p → w ≡ word t → is_free w ≡ false → words ≡ spelled.reserved w ∷ ws → Written bare row ws → Next bare t row words
+    by_word : (w : Word) (p : Place) (ws : List Spelled) → piece t ≡ pieces.word w p → w ≡ word t → is_free w ≡ false → words ≡ spelled.reserved w ∷ ws → Written bare false row ws → Next bare t row words
     by_word w p ws s same f h y = more h f tt same (sym (plain_lexeme t w (taken_plain w f) (sym same))) (ends (pieces.word w p) s (word_ends w p row f)) y
 
-    go : Shape t → First bare (piece t) row words → Next bare t row words
+    go : Shape t → First bare acts (piece t) row words → Next bare t row words
     go (a_name_piece n e s) (is_name {n = m} {p = p} {ws = ws} s' h y) =
         let z = sym s' ∙ s in
         let same : m ≡ n = cc in
@@ -187,30 +187,30 @@ next_token {bare = bare} {row = row} {words = words} t is written = go (shape t)
     go (a_name_piece n e s) (is_end s' h h') = let z = sym s ∙ s' in absurd cc
     go (a_name_piece n e s) (is_word s' f h y) = let z = sym s ∙ s' in absurd cc
     go (a_name_piece n e s) (is_text s' h y) = let z = sym s ∙ s' in absurd cc
-    go (a_name_piece n e s) (is_enclosed s' f h y) = let z = sym s ∙ s' in absurd cc
+    go (a_name_piece n e s) (is_enclosed s' o f h y) = let z = sym s ∙ s' in absurd cc
     go (a_name_piece n e s) (is_bare s' b h y) = let z = sym s ∙ s' in absurd cc
     go (a_text_piece n e s) (is_end s' h h') = let z = sym s ∙ s' in absurd cc
     go (a_text_piece n e s) (is_word s' f h y) = let z = sym s ∙ s' in absurd cc
     go (a_text_piece n e s) (is_name s' h y) = let z = sym s ∙ s' in absurd cc
-    go (a_text_piece n e s) (is_enclosed s' f h y) = let z = sym s ∙ s' in absurd cc
+    go (a_text_piece n e s) (is_enclosed s' o f h y) = let z = sym s ∙ s' in absurd cc
     go (a_text_piece n e s) (is_bare s' b h y) = let z = sym s ∙ s' in absurd cc
     go (a_word_piece s) (is_name s' h y) = let z = sym s ∙ s' in absurd cc
     go (a_word_piece s) (is_text s' h y) = let z = sym s ∙ s' in absurd cc
-    go (a_word_piece s) (is_enclosed s' f h y) = let z = sym s ∙ s' in absurd cc
+    go (a_word_piece s) (is_enclosed s' o f h y) = let z = sym s ∙ s' in absurd cc
     go (a_word_piece s) (is_bare s' b h y) = let z = sym s ∙ s' in absurd cc
 
 -- what is written of a row that begins with an expression
-pub data NextTree (bare : Bool) (e : Tree) (row : List Piece) (words : List Spelled) : Type 0 where
-  in_parentheses : {ws : List Spelled} → begins_from row ≡ false → words ≡ wrapped e ++ ws → Written bare row ws → NextTree bare e row words
-  without_them : {ws : List Spelled} → IsTrue bare → words ≡ words_of e ++ ws → Written bare row ws → NextTree bare e row words
+pub data NextTree (bare acts : Bool) (e : Tree) (row : List Piece) (words : List Spelled) : Type 0 where
+  in_parentheses : {ws : List Spelled} → IsTrue (not acts) → begins_from row ≡ false → words ≡ wrapped e ++ ws → Written bare false row ws → NextTree bare acts e row words
+  without_them : {ws : List Spelled} → IsTrue bare → words ≡ words_of e ++ ws → Written bare false row ws → NextTree bare acts e row words
 
-pub next_tree : {bare : Bool} {row : List Piece} {words : List Spelled} (e : Tree) (p : Place) → Written bare (pieces.tree e p ∷ row) words → NextTree bare e row words
-next_tree {bare = bare} {row = row} {words = words} e p written = go (first_of_row (pieces.tree e p) row written refl)
+pub next_tree : {bare acts : Bool} {row : List Piece} {words : List Spelled} (e : Tree) (p : Place) → Written bare acts (pieces.tree e p ∷ row) words → NextTree bare acts e row words
+next_tree {bare = bare} {acts = acts} {row = row} {words = words} e p written = go (first_of_row (pieces.tree e p) row written refl)
   where
-    go : First bare (pieces.tree e p) row words → NextTree bare e row words
-    go (is_enclosed {e = e'} {ws = ws} s f h y) =
+    go : First bare acts (pieces.tree e p) row words → NextTree bare acts e row words
+    go (is_enclosed {e = e'} {ws = ws} s o f h y) =
         let same : e' ≡ e = cc in
-        in_parentheses f (h ∙ ap (λ e. wrapped e ++ ws) same) y
+        in_parentheses o f (h ∙ ap (λ e. wrapped e ++ ws) same) y
     go (is_bare {e = e'} {ws = ws} s b h y) =
         let same : e' ≡ e = cc in
         without_them b (h ∙ ap (λ e. words_of e ++ ws) same) y

@@ -6,17 +6,16 @@ use Rattle.p8_tree.specs.Expressions.{Tree}
 use Rattle.p8_tree.specs.Statements.{Course, Forever, Count, Before, From, Do, Next, Quit, Return, Abort}
 use Rattle.p8_tree.specs.Sources.{MethodTree}
 use Rattle.p8_columns.specs.Lines.{Kind, Plain, If, ElseIf, Else, Repeat, End, Case, Item, Other}
-use Rattle.p8_pieces.specs.Pieces.{Piece, word, name, tree}
+use Rattle.p8_pieces.specs.Pieces.{Piece, word, tree}
 use Rattle.p8_declarations.specs.Parts as parts
 use Rattle.p8_declarations.specs.Parts.{Part}
 use Rattle.p8_declarations.specs.Variables.{variables}
 use Rattle.p8_declarations.specs.Methods.{bare, with_parameter, with_result, with_locals, behind_result, result_named, behind_parameters, parameters, behind_parameter, behind_name, head, method_of_row}
 use Rattle.p8_statements.specs.declared.role.Role.{Role}
 use Rattle.p8_statements.specs.declared.role.Role.TheVariants as role
-use Rattle.p8_statements.specs.Roles.{role_of, is_to, is_step, is_from, begins_action}
+use Rattle.p8_statements.specs.Roles.{role_of, is_to, is_step, is_from}
 use Rattle.p8_statements.specs.Rows.{Reading, ◌▶◌, word_in, phrase, is_empty, is_end, ended, ends, ending, value_in}
-use Rattle.p8_statements.specs.Actions.{action, named_action}
-use Rattle.p8_statements.specs.Statements.{maybe_value, counted, counting, counter, course_by, course_before, course, is_last_colon, tests_after, line, doing, is_item, statement, kind_of_row}
+use Rattle.p8_statements.specs.Statements.{maybe_value, counted, counting, counter, course_by, course_before, course, is_last_colon, tests_after, line, is_item, statement, kind_of_row}
 use Rattle.p8_printed.proofs.Rebuilt.{is_headed, is_line}
 
 -- what is there has this property
@@ -98,12 +97,9 @@ lines role.Return row = where_map IsLineKind (λ e. Plain (Return e)) (λ e. ref
 lines role.Abort row = where_map IsLineKind (λ e. Plain (Abort e)) (λ e. refl) (maybe_value row)
 lines r row = tt
 
-does : (o : Option Tree) → Where IsLineKind (doing o)
-does o = where_map IsLineKind (λ e. Plain (Do e)) (λ e. refl) o
-
 statements : (row : List Piece) → Where IsLineKind (statement row)
-statements (word w p ∷ row) = where_if IsLineKind (begins_action (role_of w)) _ _ (does (action (role_of w) p row)) (lines (role_of w) row)
-statements (name n p ∷ row) = where_after IsLineKind _ (λ s row. does (named_action n p s row)) (word_in row)
+statements (word w p ∷ row) = lines (role_of w) row
+statements (tree e p ∷ row) = where_ending IsLineKind (Plain (Do e)) row refl
 statements row = tt
 
 pub row_is_line : (row : List Piece) (k : Kind) → kind_of_row row ≡ Some k → IsTrue (is_line k)

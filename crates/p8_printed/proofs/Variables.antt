@@ -158,7 +158,7 @@ of_line : (row : List Piece) (xs : List Declared) → AreGood in_declaration (pa
 of_line row xs g h = All-from_recursion IsReadBack xs (each_unless IsReadBack (is_line_end (parts row)) (sized_variables (parts row)) xs h (λ k. sized_items (parts row) xs g k))
 
 pub from_head : (us : List LineToken) (row : List Piece) (xs : List Declared) → Leads state.VarHead us row state.End → AreOfSource us → variables_of_row row ≡ Some xs → All IsReadBack xs
-from_head us row xs w g h = of_line row xs (leads_good in_declaration declarations_closed w refl g) h
+from_head us row xs w g h = of_line row xs (leads_good in_declaration refl declarations_closed w refl g) h
 
 pub from_line : (us : List LineToken) (row : List Piece) (xs : List Declared) → Leads state.VarLine us row state.End → AreOfSource us → variables_of_row row ≡ Some xs → All IsReadBack xs
-from_line us row xs w g h = of_line row xs (leads_good in_declaration declarations_closed w refl g) h
+from_line us row xs w g h = of_line row xs (leads_good in_declaration refl declarations_closed w refl g) h

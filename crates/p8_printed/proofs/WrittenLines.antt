@@ -1,37 +1,33 @@
 -- Lines of a method, as words.
 use Rattle.std.proofs.Common.{◌≡◌, ℕ, Bool, true, false, List, [], ◌∷◌, ◌++◌, Option, Some, None, refl, sym, ap, ◌∙◌, subst, append_assoc, append-nil}
-use Rattle.std.specs.Prelude.{if◌then◌else◌, option_map, option_and_then, All}
-use Rattle.std.proofs.lemmas.List.Elements.{All-head, All-tail}
+use Rattle.std.specs.Prelude.{IsTrue, if◌then◌else◌, option_map, option_and_then}
 use Rattle.p8_tree.specs.declared.places.Place.{Place}
 use Rattle.p8_tree.specs.Expressions.{Tree, node, Var, Named, no_index, Items, no_items, ◌▸◌}
 use Rattle.p8_tree.specs.Statements.{Course, Forever, Count, Before, From, Action, Do, Next, Quit, Return, Abort}
 use Rattle.p8_lexer.specs.declared.word.Word.{Word}
 use Rattle.p8_lexer.specs.declared.word.Word.TheVariants as word_case
 use Rattle.p8_columns.specs.Lines.{Kind, Plain, If, ElseIf, Else, Repeat, End, Case, Item as ItemLine, Other}
-use Rattle.p8_pieces.specs.Pieces.{Piece, word, name, tree}
+use Rattle.p8_pieces.specs.Pieces.{Piece, word, tree}
 use Rattle.p8_lines.specs.declared.state.State.{State}
 use Rattle.p8_lines.specs.Tokens.{LineToken}
 use Rattle.p8_lines.specs.Lines.{Leads}
 use Rattle.p8_statements.specs.declared.role.Role.{Role}
 use Rattle.p8_statements.specs.declared.role.Role.TheVariants as role
-use Rattle.p8_statements.specs.Roles.{role_of, is_comma, is_from, begins_action}
-use Rattle.p8_statements.specs.Rows.{◌▶◌, phrase, ended, value_in}
-use Rattle.p8_statements.specs.Actions.{named_action, action}
-use Rattle.p8_statements.specs.Statements.{maybe_value, counted, counting, counter, course_by, course_before, course, test, unless_in_range, is_last_colon, tests_after, other_line, line, doing, kind_by, kind_of_row}
+use Rattle.p8_statements.specs.Roles.{role_of, is_comma, is_from}
+use Rattle.p8_statements.specs.Rows.{◌▶◌, phrase, ended, ending, value_in}
+use Rattle.p8_statements.specs.Statements.{maybe_value, counted, counting, counter, course_by, course_before, course, test, unless_in_range, is_last_colon, tests_after, other_line, line, is_item, statement, kind_of_row}
 use Rattle.p8_print.specs.Spelled.{Spelled, reserved}
 use Rattle.p8_print.specs.Wording.{words_of, words_of_name, wrapped, words_of_value}
-use Rattle.p8_printed.specs.Written.{Written}
-use Rattle.p8_printed.specs.Rereading.{AreOfSource}
+use Rattle.p8_printed.specs.Written.{Written, begins_action, line_end, a_word, as_it_is}
 use Rattle.p8_print.specs.StatementWords.{end_word, words_of_course, words_of_test, tests_before, words_of_tests, words_of_kind}
-use Rattle.p8_printed.proofs.MethodNames.{IsPlain, IsPlainPiece, plain_pieces}
+use Rattle.p8_printed.proofs.ActionPlaces.{no_item}
 use Rattle.p8_printed.proofs.RoleWords as roles
-use Rattle.p8_printed.proofs.RoleWords.{word_of}
-use Rattle.p8_printed.proofs.WrittenRows.{by_words, Takes, untaken, as_words, word_taken, name_taken, bare_taken, enclosed_taken, all_taken, Gives, mapped, tested, closed, ended_gives, ending_gives, ended_value_gives, value_gives}
-use Rattle.p8_printed.proofs.WrittenActions.{IsWritten, named_action_gives, action_gives}
+use Rattle.p8_printed.proofs.RoleWords.{word_of, word_is}
+use Rattle.p8_printed.proofs.WrittenRows.{by_words, Takes, untaken, as_words, word_taken, bare_taken, enclosed_taken, all_taken, Gives, mapped, tested, closed, ended_gives, ending_gives, ended_value_gives, value_gives}
 
 -- the words of this line are the row
 abbrev IsLine : List Piece → Kind → Type 0
-IsLine full k = Written true full (words_of_kind k)
+IsLine full k = Written true false full (words_of_kind k)
 
 -- loops
 
@@ -45,7 +41,7 @@ abbrev to_word : Spelled
 to_word = reserved word_case.To
 
 abbrev IsCourse : List Piece → Course → Type 0
-IsCourse full c = Written true full (repeat_word ∷ words_of_course c)
+IsCourse full c = Written true false full (repeat_word ∷ words_of_course c)
 
 -- REPEAT, a counter with its first value, and TO
 abbrev up_to : List ℕ → Tree → List Spelled
@@ -61,8 +57,8 @@ counted_gives {full = full} n p a b q w s row t =
     tested (IsCourse full) roles.step w (option_map (λ c. From n a b (Some c) p) (value_in row)) (ended (From n a b None p) (role_of w) row)
     (λ is. mapped (IsCourse full) (λ c. From n a b (Some c) p) (value_in row)
     (value_gives (λ c. IsCourse full (From n a b (Some c) p)) row (word_taken role.Step refl is (enclosed_taken (ap is_from is) t))
-    (λ c h. by_words (append_assoc (up_to n a ++ wrapped b) (reserved word_case.Step ∷ []) (wrapped c) ∙ with_last n a b (reserved word_case.Step ∷ wrapped c)) (h.enclosed))))
-    (ended_value_gives (IsCourse full) (From n a b None p) b q w s row t (λ h. by_words (sym (append-nil (up_to n a ++ wrapped b)) ∙ with_last n a b []) h.enclosed))
+    (λ c h. by_words (append_assoc (up_to n a ++ wrapped b) (reserved word_case.Step ∷ []) (wrapped c) ∙ with_last n a b (reserved word_case.Step ∷ wrapped c)) h)))
+    (ended_value_gives (IsCourse full) (From n a b None p) b q w s row t (λ h. by_words (sym (append-nil (up_to n a ++ wrapped b)) ∙ with_last n a b []) h))
 
 to_gives : {full : List Piece} (n : List ℕ) (p : Place) (a : Tree) (row : List Piece) → Takes full (up_to n a) row → Gives (IsCourse full) (phrase row ▶ λ b row. counted n p a b.0 b.1 row)
 to_gives n p a (tree b q ∷ word w s ∷ row) t = counted_gives n p a b q w s row t
@@ -86,11 +82,11 @@ course_by_gives : {full : List Piece} (e : Tree) (p : Place) (w : Word) (q : Pla
 course_by_gives {full = full} e p w q row t =
     tested (IsCourse full) roles.from w (option_and_then (λ c. counting c.0 c.1 row) (counter e)) (ended (Count e) (role_of w) row)
     (λ is. from_gives e row (word_taken role.From refl is (bare_taken t)))
-    (ended_value_gives (IsCourse full) (Count e) e p w q row t (λ h. h.enclosed))
+    (ended_value_gives (IsCourse full) (Count e) e p w q row t (λ h. h))
 
 course_before_gives : {full : List Piece} (r : Role) (w : Word) (p : Place) (row : List Piece) → role_of w ≡ r → Takes full (repeat_word ∷ []) (word w p ∷ row) → Gives (IsCourse full) (course_before r row)
 course_before_gives {full = full} (role.End until) w p row e t =
-    mapped (IsCourse full) (Before until) (value_in row) (value_gives (λ x. IsCourse full (Before until x)) row (word_taken (role.End until) refl e t) (λ x h. h.enclosed))
+    mapped (IsCourse full) (Before until) (value_in row) (value_gives (λ x. IsCourse full (Before until x)) row (word_taken (role.End until) refl e t) (λ x h. h))
 course_before_gives {full = full} role.LineEnd w p row e t = subst (λ r. Gives (IsCourse full) (ended Forever r row)) e (ended_gives (IsCourse full) Forever w p row t (λ x. x))
 course_before_gives r w p row e t = tt
 
@@ -111,7 +107,7 @@ abbrev comma_word : Spelled
 comma_word = reserved word_case.Comma
 
 abbrev AreTests : List Piece → Items → Type 0
-AreTests full xs = Written true full (words_of_tests xs ++ colon_word ∷ [])
+AreTests full xs = Written true false full (words_of_tests xs ++ colon_word ∷ [])
 
 -- the first value of a range
 abbrev words_of_low : Option Tree → List Spelled
@@ -157,7 +153,7 @@ tests_after_give xs low row t = tt
 
 -- a word and a value
 valued_gives : {full : List Piece} (f : Tree → Kind) (w : Word) → ((e : Tree) → reserved w ∷ wrapped e ≡ words_of_kind (f e)) → (row : List Piece) → Takes full (reserved w ∷ []) row → Gives (IsLine full) (option_map f (value_in row))
-valued_gives {full = full} f w same row t = mapped (IsLine full) f (value_in row) (value_gives (λ e. IsLine full (f e)) row t (λ e h. by_words (same e) h.enclosed))
+valued_gives {full = full} f w same row t = mapped (IsLine full) f (value_in row) (value_gives (λ e. IsLine full (f e)) row t (λ e h. by_words (same e) h))
 
 -- a word, and a value or none
 maybe_valued_gives : {full : List Piece} (f : Option Tree → Action) (w : Word) → ((e : Option Tree) → reserved w ∷ words_of_value e ≡ words_of_kind (Plain (f e))) → (row : List Piece) → Takes full (reserved w ∷ []) row → Gives (IsLine full) (option_map (λ e. Plain (f e)) (maybe_value row))
@@ -165,7 +161,7 @@ maybe_valued_gives {full = full} f w same row t = mapped (IsLine full) (λ e. Pl
   where
     go : (row : List Piece) → Takes full (reserved w ∷ []) row → Gives (λ e. IsLine full (Plain (f e))) (maybe_value row)
     go (word v p ∷ row) t = ended_gives (λ e. IsLine full (Plain (f e))) None v p row t (λ x. by_words (same None) x)
-    go (tree e p ∷ word v q ∷ row) t = ended_value_gives (λ e. IsLine full (Plain (f e))) (Some e) e p v q row t (λ h. by_words (same (Some e)) h.enclosed)
+    go (tree e p ∷ word v q ∷ row) t = ended_value_gives (λ e. IsLine full (Plain (f e))) (Some e) e p v q row t (λ h. by_words (same (Some e)) h)
     go row t = tt
 
 other_line_gives : {full : List Piece} (row : List Piece) → Takes full (reserved word_case.Other ∷ []) row → Gives (IsLine full) (other_line row)
@@ -189,23 +185,39 @@ line_gives r w p row e t = tt
 
 -- lines
 
-doing_gives : (full : List Piece) (o : Option Tree) → Gives (IsWritten full) o → Gives (IsLine full) (doing o)
-doing_gives full o h = mapped (IsLine full) (λ e. Plain (Do e)) o h
+-- where an action may stand first, too
 
-kind_by_gives : {full : List Piece} (w : Word) (p : Place) (row : List Piece) → All IsPlainPiece row → Takes full [] (word w p ∷ row) → Gives (IsLine full) (kind_by (role_of w) p row)
-kind_by_gives {full = full} w p row plain t = go (begins_action (role_of w))
+abbrev IsLineAt : Bool → List Piece → Kind → Type 0
+IsLineAt action row k = Written true action row (words_of_kind k)
+
+at_begin : {action : Bool} {w : Word} {p : Place} {row : List Piece} {ws : List Spelled} → Written true false (word w p ∷ row) ws → Written true action (word w p ∷ row) ws
+at_begin line_end = line_end
+at_begin (a_word f y) = a_word f y
+
+weaker : {P Q : Kind → Type 0} → ((k : Kind) → P k → Q k) → (o : Option Kind) → Gives P o → Gives Q o
+weaker f None h = tt
+weaker f (Some k) h = f k h
+
+action_gives : (action : Bool) (e : Tree) (p : Place) (row : List Piece) → Gives (IsLineAt action (tree e p ∷ row)) (ending (Plain (Do e)) row)
+action_gives action e p (word w q ∷ []) = closed (IsLineAt action (tree e p ∷ word w q ∷ [])) roles.line_end (Plain (Do e)) w [] (λ is h. go (word_is role.LineEnd is))
   where
-    go : (b : Bool) → Gives (IsLine full) (if b then doing (action (role_of w) p row) else line (role_of w) row)
-    go true = doing_gives full (action (role_of w) p row) (action_gives w p row plain t)
-    go false = line_gives (role_of w) w p row refl t
+    go : word_case.LineEnd ≡ w → Written true action (tree e p ∷ word w q ∷ []) (words_of e)
+    go is = subst (λ w. Written true action (tree e p ∷ word w q ∷ []) (words_of e)) is (subst (Written true action (tree e p ∷ word word_case.LineEnd q ∷ [])) (append-nil (words_of e)) (as_it_is refl line_end))
+action_gives action e p (word w q ∷ x ∷ row) = closed (IsLineAt action (tree e p ∷ word w q ∷ x ∷ row)) roles.line_end (Plain (Do e)) w (x ∷ row) (λ is h. absurd cc)
+action_gives action e p row = tt
 
-kind_gives : (row : List Piece) → All IsPlainPiece row → Gives (IsLine row) (kind_of_row row)
-kind_gives (tree e p ∷ row) plain = mapped (IsLine (tree e p ∷ row)) ItemLine (tests_after no_items None (tree e p ∷ row)) (tests_after_give no_items None (tree e p ∷ row) (untaken (tree e p ∷ row)))
-kind_gives (word w p ∷ row) plain = kind_by_gives w p row (All-tail IsPlainPiece (word w p) row plain) (untaken (word w p ∷ row))
-kind_gives (name n p ∷ word w q ∷ row) plain =
-    let is : IsPlain n = All-head IsPlainPiece (name n p) (word w q ∷ row) plain in
-    doing_gives (name n p ∷ word w q ∷ row) (named_action n p (record { role = role_of w; place = q }) row) (named_action_gives n is p w q row (name_taken (untaken (name n p ∷ word w q ∷ row))))
-kind_gives row plain = tt
+statement_gives : (action : Bool) (row : List Piece) → Gives (IsLineAt action row) (statement row)
+statement_gives action (word w p ∷ row) = weaker (λ k x. at_begin x) (line (role_of w) row) (line_gives (role_of w) w p row refl (untaken (word w p ∷ row)))
+statement_gives action (tree e p ∷ row) = action_gives action e p row
+statement_gives action row = tt
 
-pub lines_are_written : {q s : State} {us : List LineToken} {row : List Piece} (k : Kind) → Leads q us row s → AreOfSource us → kind_of_row row ≡ Some k → Written true row (words_of_kind k)
-lines_are_written {row = row} k l good e = subst (λ o. Gives (IsLine row) o) e (kind_gives row (plain_pieces l good))
+kind_gives : (action : Bool) (row : List Piece) → (IsTrue action → is_item row ≡ false) → Gives (IsLineAt action row) (kind_of_row row)
+kind_gives action row none = go action (is_item row) none
+  where
+    go : (action b : Bool) → (IsTrue action → b ≡ false) → Gives (IsLineAt action row) (if b then option_map ItemLine (tests_after no_items None row) else statement row)
+    go true true none = absurd (let z : true ≡ false = none refl in cc)
+    go false true none = mapped (IsLine row) ItemLine (tests_after no_items None row) (tests_after_give no_items None row (untaken row))
+    go action false none = statement_gives action row
+
+pub lines_are_written : {q s : State} {us : List LineToken} {row : List Piece} (k : Kind) → Leads q us row s → kind_of_row row ≡ Some k → Written true (begins_action q) row (words_of_kind k)
+lines_are_written {q = q} {row = row} k l e = subst (Gives (IsLineAt (begins_action q) row)) e (kind_gives (begins_action q) row (λ b. no_item b l))

@@ -1,11 +1,13 @@
 -- Rows of pieces as words: what a printer writes of a line.
-use Rattle.std.specs.Prelude.{◌≡◌, ℕ, Bool, true, false, IsTrue, List, [], ◌∷◌, ◌++◌, map}
+use Rattle.std.specs.Prelude.{◌≡◌, ℕ, Bool, true, false, not, IsTrue, List, [], ◌∷◌, ◌++◌, map}
 use Rattle.p8_tree.specs.declared.places.Place.{Place}
 use Rattle.p8_tree.specs.Expressions.{Tree}
 use Rattle.p8_tree.specs.Forgetting.{anywhere, tree_anywhere}
 use Rattle.p8_lexer.specs.declared.word.Word.{Word}
 use Rattle.p8_lexer.specs.declared.word.Word.TheVariants as word_case
 use Rattle.p8_pieces.specs.Pieces.{Piece, word, name, text, tree}
+use Rattle.p8_lines.specs.declared.state.State.{State}
+use Rattle.p8_lines.specs.declared.state.State.TheVariants as state
 use Rattle.p8_print.specs.Spelled as spelled
 use Rattle.p8_print.specs.Spelled.{Spelled, is_free}
 use Rattle.p8_print.specs.Wording.{words_of, wrapped}
@@ -15,16 +17,22 @@ abbrev pub begins_from : List Piece → Bool
 begins_from (word word_case.From p ∷ row) = true
 begins_from _ = false
 
+-- whether an action may stand next
+abbrev pub begins_action : State → Bool
+begins_action state.Statement = true
+begins_action _ = false
+
 -- These words are a row of pieces. The end of a line, which stands last, has no word. An expression stands in
--- parentheses, unless it is a counter; where `bare` is set it may also stand without them.
-pub data Written (bare : Bool) : List Piece → List Spelled → Type 0 where
-  nothing : Written bare [] []
-  line_end : {p : Place} → Written bare (word word_case.LineEnd p ∷ []) []
-  a_word : {w : Word} {p : Place} {row : List Piece} {ws : List Spelled} → is_free w ≡ false → Written bare row ws → Written bare (word w p ∷ row) (spelled.reserved w ∷ ws)
-  a_name : {n : List ℕ} {p : Place} {row : List Piece} {ws : List Spelled} → Written bare row ws → Written bare (name n p ∷ row) (spelled.name n ∷ ws)
-  a_text : {x : List ℕ} {p : Place} {row : List Piece} {ws : List Spelled} → Written bare row ws → Written bare (text x p ∷ row) (spelled.string x ∷ ws)
-  enclosed : {e : Tree} {p : Place} {row : List Piece} {ws : List Spelled} → begins_from row ≡ false → Written bare row ws → Written bare (tree e p ∷ row) (wrapped e ++ ws)
-  as_it_is : {e : Tree} {p : Place} {row : List Piece} {ws : List Spelled} → IsTrue bare → Written bare row ws → Written bare (tree e p ∷ row) (words_of e ++ ws)
+-- parentheses, unless it is a counter; where `bare` is set it may also stand without them. An action stands without them:
+-- the second flag says whether one may stand first.
+pub data Written (bare : Bool) : Bool → List Piece → List Spelled → Type 0 where
+  nothing : {action : Bool} → Written bare action [] []
+  line_end : {action : Bool} {p : Place} → Written bare action (word word_case.LineEnd p ∷ []) []
+  a_word : {action : Bool} {w : Word} {p : Place} {row : List Piece} {ws : List Spelled} → is_free w ≡ false → Written bare false row ws → Written bare action (word w p ∷ row) (spelled.reserved w ∷ ws)
+  a_name : {action : Bool} {n : List ℕ} {p : Place} {row : List Piece} {ws : List Spelled} → Written bare false row ws → Written bare action (name n p ∷ row) (spelled.name n ∷ ws)
+  a_text : {action : Bool} {x : List ℕ} {p : Place} {row : List Piece} {ws : List Spelled} → Written bare false row ws → Written bare action (text x p ∷ row) (spelled.string x ∷ ws)
+  enclosed : {action : Bool} {e : Tree} {p : Place} {row : List Piece} {ws : List Spelled} → IsTrue (not action) → begins_from row ≡ false → Written bare false row ws → Written bare action (tree e p ∷ row) (wrapped e ++ ws)
+  as_it_is : {action : Bool} {e : Tree} {p : Place} {row : List Piece} {ws : List Spelled} → IsTrue bare → Written bare false row ws → Written bare action (tree e p ∷ row) (words_of e ++ ws)
 
 -- whether a row ends with the end of its line; an item of a CASE ends with its colon
 abbrev pub ends_line : List Piece → Bool

@@ -4,7 +4,7 @@ ghost use Rattle.std.specs.Prelude.{◌≡◌, ℕ, IsTrue, List, All};
 ghost use Rattle.p8_lexer.specs.declared.token.Token as lexer_token;
 ghost use Rattle.p8_tree.specs.Expressions.{Tree};
 ghost use Rattle.p8_tree.specs.Forgetting.{IsSameTree};
-ghost use Rattle.p8_grammar.specs.Lexemes.{Setting, allows_index, Token};
+ghost use Rattle.p8_grammar.specs.Lexemes.{Setting, is_value, allows_index, Token};
 ghost use Rattle.p8_grammar.specs.Grammar.{IsExpression};
 ghost use Rattle.p8_grammar.specs.Heights.{height};
 ghost use Rattle.p8_expr.specs.Words.{lexeme_of_token};
@@ -18,11 +18,11 @@ ghost use Rattle.p8_printed.specs.Lexemes.{lexeme_of_spelled, AreWords, IsInCapi
 /// for its places.
 ///
 /// They are read so in the same setting, and the expression that is read has the same height. Where a bracket may begin
-/// an index, its words need no parentheses around them (`bare`).
+/// an index, its words need no parentheses around them (`bare`). An action is read so, but no action stands in parentheses.
 pub fn expression_reads_back()
     ensures readable { (s : Setting) (e : Tree) (ts : List Token) → IsExpression s e ts → AreLexemes ts → All IsReadable (wrapped e) }
     ensures capitals { (s : Setting) (e : Tree) (ts : List Token) → IsExpression s e ts → AreLexemes ts → All IsInCapitals (wrapped e) }
-    ensures same { (s : Setting) (e : Tree) (ts us : List Token) → IsExpression s e ts → AreLexemes ts → AreWords us (wrapped e)
+    ensures same { (s : Setting) (e : Tree) (ts us : List Token) → IsTrue (is_value s) → IsExpression s e ts → AreLexemes ts → AreWords us (wrapped e)
         → (e' : Tree) × IsExpression s e' us × IsSameTree e' e × (height e' ≡ height e) }
     ensures bare { (s : Setting) (e : Tree) (ts us : List Token) → IsTrue (allows_index s) → IsExpression s e ts → AreLexemes ts → AreWords us (words_of e)
         → (e' : Tree) × IsExpression s e' us × IsSameTree e' e × (height e' ≡ height e) }

@@ -9,15 +9,14 @@ ghost use Rattle.p8_lines.specs.Tokens.{LineToken};
 ghost use Rattle.p8_lines.specs.Lines.{Leads};
 ghost use Rattle.p8_statements.specs.Statements.{kind_of_row};
 ghost use Rattle.p8_rows.specs.Values.{begins_line};
-ghost use Rattle.p8_printed.specs.Written.{Written, IsSameRow};
-ghost use Rattle.p8_printed.specs.Rereading.{AreOfSource};
+ghost use Rattle.p8_printed.specs.Written.{Written, begins_action, IsSameRow};
 ghost use Rattle.p8_print.specs.StatementWords.{words_of_kind};
 ghost use Rattle.p8_printed.specs.Kinds.{kind_anywhere};
 
 /// The words of a line of a method are its row of pieces, so they are read back as that row, but for places
 /// ([`rows_read_back`](crate::rows_read_back)).
 pub fn lines_are_written()
-    ensures { (q : state.State) (us : List LineToken) (row : List Piece) (k : Kind) → IsTrue (begins_line q) → Leads q us row state_case.End → AreOfSource us → kind_of_row row ≡ Some k → Written true row (words_of_kind k) }
+    ensures { (q : state.State) (us : List LineToken) (row : List Piece) (k : Kind) → IsTrue (begins_line q) → Leads q us row state_case.End → kind_of_row row ≡ Some k → Written true (begins_action q) row (words_of_kind k) }
 {}
 
 /// What a row of pieces is as a line of a method doesn't depend on places.

@@ -4,10 +4,10 @@ ghost use Rattle.std.specs.Prelude.{◌≡◌, IsTrue, List};
 ghost use Rattle.p8_tree.specs.Expressions.{Tree};
 ghost use Rattle.p8_tree.specs.Sources.{Source};
 ghost use Rattle.p8_tree.specs.Forgetting.{IsSameTree, IsSameSource};
-ghost use Rattle.p8_tree.specs.Proper.{IsProperTree, IsProperFile};
+ghost use Rattle.p8_tree.specs.Proper.{IsProperTree, IsDone, IsProperFile};
 ghost use Rattle.p8_lexer.specs.declared.token.Token as token;
 ghost use Rattle.p8_lexer.specs.Lexing.{AreTokens};
-ghost use Rattle.p8_grammar.specs.Lexemes.{Setting, allows_index, is_dat, Token};
+ghost use Rattle.p8_grammar.specs.Lexemes.{Setting, in_action, is_value, allows_index, is_dat, Token};
 ghost use Rattle.p8_grammar.specs.Grammar.{IsExpression};
 ghost use Rattle.p8_expr.specs.Sources.{AreLexemes};
 ghost use Rattle.p8_lines.specs.Tokens.{all_tokens};
@@ -15,12 +15,15 @@ ghost use Rattle.p8_blocks.specs.Files.{IsFileWithinLimits};
 ghost use Rattle.p8_print.specs.Spelled.{text_of_lines};
 ghost use Rattle.p8_print.specs.Layout.{lines_of};
 
-/// Each proper expression is, but for its places, one that tokens of a source spell.
+/// Each proper expression, and each proper action, is, but for its places, one that tokens of a source spell.
 ///
-/// It is so in each setting in which a bracket may begin an index: in methods, in declarations and in `DAT`.
+/// An expression is so in each setting of values in which a bracket may begin an index: in methods, in declarations and
+/// in `DAT`.
 pub fn expressions_are_spelled()
-    ensures { (s : Setting) (e : Tree) → IsTrue (allows_index s) → IsProperTree (is_dat s) e
+    ensures value { (s : Setting) (e : Tree) → IsTrue (allows_index s) → IsTrue (is_value s) → IsProperTree (is_dat s) e
         → (e' : Tree) × (tokens : List Token) × IsExpression s e' tokens × AreLexemes tokens × IsSameTree e' e }
+    ensures action { (e : Tree) → IsDone e
+        → (e' : Tree) × (tokens : List Token) × IsExpression in_action e' tokens × AreLexemes tokens × IsSameTree e' e }
 {}
 
 /// What is printed of a tree doesn't depend on its places.

@@ -9,7 +9,7 @@ use Rattle.p8_lexer.specs.declared.word.Word.{Word}
 use Rattle.p8_lexer.specs.declared.word.Word.TheVariants as word
 use Rattle.p8_lexer.specs.declared.token.TokenKind.TheVariants as kind
 use Rattle.p8_grammar.specs.Lexemes as lexemes
-use Rattle.p8_grammar.specs.Lexemes.{Setting, in_dat, Lexeme, token}
+use Rattle.p8_grammar.specs.Lexemes.{in_dat, Lexeme, token}
 use Rattle.p8_grammar.specs.Grammar.{IsExpression, a_number, operand, a_word as spells_word, nothing}
 use Rattle.p8_expr.specs.Words.{lexeme_by_kind}
 use Rattle.p8_pieces.specs.Pieces as pieces
@@ -48,8 +48,8 @@ use Rattle.p8_read_back.proofs.Texts.{SourceOf, FromWord, LineOf, always, condit
 number_lexeme : (t : LineToken) (v : ℕ) → t.kind ≡ kind.Number v → lexeme t ≡ lexemes.number v
 number_lexeme t v e = ap (lexeme_by_kind t.text (tokens.word t)) e
 
-number_is : (s : Setting) (t : LineToken) (v : ℕ) → t.kind ≡ kind.Number v → IsExpression s (node t.place (Number v)) (terms (t ∷ []))
-number_is s t v e = subst (λ x. IsExpression s (node t.place (Number v)) (token t.place x ∷ [])) (sym (number_lexeme t v e)) (operand a_number (spells_word nothing))
+number_is : (t : LineToken) (v : ℕ) → t.kind ≡ kind.Number v → IsExpression in_dat (node t.place (Number v)) (terms (t ∷ []))
+number_is t v e = subst (λ x. IsExpression in_dat (node t.place (Number v)) (token t.place x ∷ [])) (sym (number_lexeme t v e)) (operand (a_number refl) (spells_word nothing))
 
 either_way : (b : Bool) (l : List Arrow) {t : LineToken} {r : State} → Follows l t r → Follows (if b then l else l) t r
 either_way true l f = f
@@ -59,7 +59,7 @@ either_way false l f = f
 behind_number : (q : State) (l : List Arrow) (v : ℕ) (t : LineToken) (us : List LineToken) {K : List Part → Type 0} (K' : List Part → Type 0) → (choices q).phrase ≡ Some (outer in_dat l) → t.kind ≡ kind.Number v → Going l us K → ((ps : List Part) → K ps → K' (tree (node t.place (Number v)) t.place ∷ ps)) → Leading q (t ∷ us) K'
 behind_number q l v t us K' some e g f =
     let row = pieces.tree (node t.place (Number v)) t.place ∷ piece g.token ∷ g.row in
-    let leads = by_phrase [] some (number_is in_dat t v e) (omega arith) (either_way (is_name (t ∷ [])) l g.follows) g.leads in
+    let leads = by_phrase [] some (number_is t v e) (omega arith) (either_way (is_name (t ∷ [])) l g.follows) g.leads in
     record { row = row; leads = subst (λ us. Leads q (t ∷ us) row state.End) (sym g.is) leads; value = f (parts (piece g.token ∷ g.row)) g.value }
 
 -- ---- operands
