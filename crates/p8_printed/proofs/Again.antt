@@ -68,7 +68,7 @@ same_piece t u like =
     ∙ ap (λ w. piece_anywhere (piece_from (lexeme t) w u.place)) like.same_word
     ∙ placeless (lexeme t) (word t) u.place t.place
 
-none_written : {bare acts : Bool} {row : List Piece} {words : List Spelled} → Written bare acts row words → row ≡ [] → words ≡ []
+none_written : {bare action : Bool} {row : List Piece} {words : List Spelled} → Written bare action row words → row ≡ [] → words ≡ []
 none_written nothing e = refl
 none_written line_end e = absurd cc
 none_written (a_word f y) e = absurd cc
@@ -83,17 +83,17 @@ next_printed : {bare : Bool} {t : LineToken} {row : List Piece} {words : List Sp
 next_printed (last e l n h) later = subst (All IsPrinted) (sym h) (All-nil IsPrinted)
 next_printed (more {w = w} {ws = ws} h readable capitals e l n y) later = subst (All IsPrinted) (sym h) (All-cons IsPrinted w ws (readable, capitals) (later ws y))
 
-pub row_printed : {bare : Bool} {q s : State} {row : List Piece} {us : List LineToken} {words : List Spelled} {acts : Bool} → Leads q us row s → AreOfSource us → Written bare acts row words → All IsPrinted words
+pub row_printed : {bare : Bool} {q s : State} {row : List Piece} {us : List LineToken} {words : List Spelled} {action : Bool} → Leads q us row s → AreOfSource us → Written bare action row words → All IsPrinted words
 row_printed nowhere source written = subst (All IsPrinted) (sym (none_written written refl)) (All-nil IsPrinted)
 row_printed {bare = bare} {words = words} (by_token {row = row} {t = t} {ts = us} f x) source written =
     next_printed (next_token t (first_source t us source).0 written) (λ ws y. row_printed x (first_source t us source).1 y)
-row_printed {bare = bare} {words = words} {acts = acts} (by_phrase {h = h} {e = e} {row = row} {first = first} {t = t} others {ts = us} p x l f z) source written =
+row_printed {bare = bare} {words = words} {action = action} (by_phrase {h = h} {e = e} {row = row} {first = first} {t = t} others {ts = us} p x l f z) source written =
     go (next_tree e first.place written) (λ ws y. row_printed z (first_source t us parts.1).1 y)
   where
     parts : AreOfSource (first ∷ others) × AreOfSource (t ∷ us)
     parts = parts_source (first ∷ others) (t ∷ us) source
 
-    go : NextTree bare acts e (piece t ∷ row) words → ((ws : List Spelled) → Written bare false row ws → All IsPrinted ws) → All IsPrinted words
+    go : NextTree bare action e (piece t ∷ row) words → ((ws : List Spelled) → Written bare false row ws → All IsPrinted ws) → All IsPrinted words
     go (in_parentheses {ws = ws} o n k y) later =
         subst (All IsPrinted) (sym k) (All-append IsPrinted (wrapped e) ws (wrapped_printed x parts.0) (next_printed (next_token t (first_source t us parts.1).0 y) later))
     go (without_them {ws = ws} b k y) later =

@@ -37,7 +37,7 @@ Lexemes = (bytes : List ℕ) (tokens : List lexer_token.Token) → EachIndex byt
 
 -- What is written of each line is read back.
 pub record Laws : Type 0 where
-  pub readable : (bare : Bool) (q : State) (row : List Piece) (us : List LineToken) (words : List Spelled) → Leads q us row state.End → AreOfSource us → Written bare (begins_action q) row words → All IsReadable words
+  pub readable : (bare action : Bool) (q : State) (row : List Piece) (us : List LineToken) (words : List Spelled) → Leads q us row state.End → AreOfSource us → Written bare action row words → All IsReadable words
   pub same : (bare : Bool) (q : State) (row : List Piece) (us ts : List LineToken) (words : List Spelled) (t : LineToken) → (IsTrue bare → setting_at q ≡ in_method) → Leads q us row state.End → AreOfSource us → Written bare (begins_action q) row words → AreSpelled words ts → word t ≡ word_case.LineEnd → (row' : List Piece) × Leads q (with_line_end row ts t) row' state.End × IsSameRow row' row
   pub lines_written : (q : State) (us : List LineToken) (row : List Piece) (k : Kind) → IsTrue (begins_line q) → Leads q us row state.End → kind_of_row row ≡ Some k → Written true (begins_action q) row (words_of_kind k)
   pub places : (row row' : List Piece) (k : Kind) → IsSameRow row' row → kind_of_row row ≡ Some k → (k' : Kind) × (kind_of_row row' ≡ Some k') × (kind_anywhere k' ≡ kind_anywhere k)

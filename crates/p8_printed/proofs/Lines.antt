@@ -16,7 +16,7 @@ use Rattle.p8_statements.specs.Statements.{kind_of_row}
 use Rattle.p8_rows.specs.Values.{begins_line}
 use Rattle.p8_blocks.specs.Files.{within_limits, begins_text, is_item, AreLines, a_blank, a_line}
 use Rattle.p8_print.specs.Spelled.{IsReadable}
-use Rattle.p8_printed.specs.Written.{ends_line}
+use Rattle.p8_printed.specs.Written.{begins_action, ends_line}
 use Rattle.p8_printed.specs.Rereading.{AreSpelled, AreOfSource}
 use Rattle.p8_print.specs.StatementWords.{words_of_kind}
 use Rattle.p8_printed.specs.Kinds.{kind_anywhere}
@@ -140,7 +140,7 @@ kind_reads_back laws {q} {row} {us} k begins leads of_source is =
     let written = laws.lines_written q us row k begins leads is in
     record {
       is_line = row_is_line row k is;
-      readable = laws.readable true q row us (words_of_kind k) leads of_source written;
+      readable = laws.readable true (begins_action q) q row us (words_of_kind k) leads of_source written;
       read =
           λ ts t spelled end.
           let again = laws.same true q row us ts (words_of_kind k) t (λ _. in_methods q begins) leads of_source written spelled end in

@@ -24,15 +24,15 @@ use Rattle.p8_printed.specs.Lexemes.{lexeme_of_spelled, IsInCapitals}
 use Rattle.p8_printed.specs.Written.{Written, nothing, line_end, a_word, a_name, a_text, enclosed, as_it_is, begins_from, ends_line}
 
 -- what is written of a row, by its first piece
-pub data First (bare acts : Bool) (x : Piece) (row : List Piece) (words : List Spelled) : Type 0 where
-  is_end : {p : Place} → x ≡ pieces.word word_case.LineEnd p → row ≡ [] → words ≡ [] → First bare acts x row words
-  is_word : {w : Word} {p : Place} {ws : List Spelled} → x ≡ pieces.word w p → is_free w ≡ false → words ≡ spelled.reserved w ∷ ws → Written bare false row ws → First bare acts x row words
-  is_name : {n : List ℕ} {p : Place} {ws : List Spelled} → x ≡ pieces.name n p → words ≡ spelled.name n ∷ ws → Written bare false row ws → First bare acts x row words
-  is_text : {n : List ℕ} {p : Place} {ws : List Spelled} → x ≡ pieces.text n p → words ≡ spelled.string n ∷ ws → Written bare false row ws → First bare acts x row words
-  is_enclosed : {e : Tree} {p : Place} {ws : List Spelled} → x ≡ pieces.tree e p → IsTrue (not acts) → begins_from row ≡ false → words ≡ wrapped e ++ ws → Written bare false row ws → First bare acts x row words
-  is_bare : {e : Tree} {p : Place} {ws : List Spelled} → x ≡ pieces.tree e p → IsTrue bare → words ≡ words_of e ++ ws → Written bare false row ws → First bare acts x row words
+pub data First (bare action : Bool) (x : Piece) (row : List Piece) (words : List Spelled) : Type 0 where
+  is_end : {p : Place} → x ≡ pieces.word word_case.LineEnd p → row ≡ [] → words ≡ [] → First bare action x row words
+  is_word : {w : Word} {p : Place} {ws : List Spelled} → x ≡ pieces.word w p → is_free w ≡ false → words ≡ spelled.reserved w ∷ ws → Written bare false row ws → First bare action x row words
+  is_name : {n : List ℕ} {p : Place} {ws : List Spelled} → x ≡ pieces.name n p → words ≡ spelled.name n ∷ ws → Written bare false row ws → First bare action x row words
+  is_text : {n : List ℕ} {p : Place} {ws : List Spelled} → x ≡ pieces.text n p → words ≡ spelled.string n ∷ ws → Written bare false row ws → First bare action x row words
+  is_enclosed : {e : Tree} {p : Place} {ws : List Spelled} → x ≡ pieces.tree e p → IsTrue (not action) → begins_from row ≡ false → words ≡ wrapped e ++ ws → Written bare false row ws → First bare action x row words
+  is_bare : {e : Tree} {p : Place} {ws : List Spelled} → x ≡ pieces.tree e p → IsTrue bare → words ≡ words_of e ++ ws → Written bare false row ws → First bare action x row words
 
-pub first_of_row : {bare acts : Bool} {whole : List Piece} {words : List Spelled} (x : Piece) (row : List Piece) → Written bare acts whole words → whole ≡ x ∷ row → First bare acts x row words
+pub first_of_row : {bare action : Bool} {whole : List Piece} {words : List Spelled} (x : Piece) (row : List Piece) → Written bare action whole words → whole ≡ x ∷ row → First bare action x row words
 first_of_row x row nothing e = absurd cc
 first_of_row x row (line_end {p = p}) e =
     let head : x ≡ pieces.word word_case.LineEnd p = cc in
@@ -146,8 +146,8 @@ pub data Next (bare : Bool) (t : LineToken) (row : List Piece) (words : List Spe
   last : word t ≡ word_case.LineEnd → ends_line (piece t ∷ []) ≡ true → row ≡ [] → words ≡ [] → Next bare t row words
   more : {w : Spelled} {ws : List Spelled} → words ≡ w ∷ ws → IsReadable w → IsInCapitals w → word_read w ≡ word t → lexeme_of_spelled w ≡ lexeme t → ends_line (piece t ∷ row) ≡ ends_line row → Written bare false row ws → Next bare t row words
 
-pub next_token : {bare acts : Bool} {row : List Piece} {words : List Spelled} (t : LineToken) → IsLexeme (lexeme t) → Written bare acts (piece t ∷ row) words → Next bare t row words
-next_token {bare = bare} {acts = acts} {row = row} {words = words} t is written = go (shape t) (first_of_row (piece t) row written refl)
+pub next_token : {bare action : Bool} {row : List Piece} {words : List Spelled} (t : LineToken) → IsLexeme (lexeme t) → Written bare action (piece t ∷ row) words → Next bare t row words
+next_token {bare = bare} {action = action} {row = row} {words = words} t is written = go (shape t) (first_of_row (piece t) row written refl)
   where
     ends : (x : Piece) → piece t ≡ x → ends_line (x ∷ row) ≡ ends_line row → ends_line (piece t ∷ row) ≡ ends_line row
     ends x e h = ap (λ x. ends_line (x ∷ row)) e ∙ h
@@ -167,7 +167,7 @@ next_token {bare = bare} {acts = acts} {row = row} {words = words} t is written 
     by_word : (w : Word) (p : Place) (ws : List Spelled) → piece t ≡ pieces.word w p → w ≡ word t → is_free w ≡ false → words ≡ spelled.reserved w ∷ ws → Written bare false row ws → Next bare t row words
     by_word w p ws s same f h y = more h f tt same (sym (plain_lexeme t w (taken_plain w f) (sym same))) (ends (pieces.word w p) s (word_ends w p row f)) y
 
-    go : Shape t → First bare acts (piece t) row words → Next bare t row words
+    go : Shape t → First bare action (piece t) row words → Next bare t row words
     go (a_name_piece n e s) (is_name {n = m} {p = p} {ws = ws} s' h y) =
         let z = sym s' ∙ s in
         let same : m ≡ n = cc in
@@ -200,14 +200,14 @@ next_token {bare = bare} {acts = acts} {row = row} {words = words} t is written 
     go (a_word_piece s) (is_bare s' b h y) = let z = sym s ∙ s' in absurd cc
 
 -- what is written of a row that begins with an expression
-pub data NextTree (bare acts : Bool) (e : Tree) (row : List Piece) (words : List Spelled) : Type 0 where
-  in_parentheses : {ws : List Spelled} → IsTrue (not acts) → begins_from row ≡ false → words ≡ wrapped e ++ ws → Written bare false row ws → NextTree bare acts e row words
-  without_them : {ws : List Spelled} → IsTrue bare → words ≡ words_of e ++ ws → Written bare false row ws → NextTree bare acts e row words
+pub data NextTree (bare action : Bool) (e : Tree) (row : List Piece) (words : List Spelled) : Type 0 where
+  in_parentheses : {ws : List Spelled} → IsTrue (not action) → begins_from row ≡ false → words ≡ wrapped e ++ ws → Written bare false row ws → NextTree bare action e row words
+  without_them : {ws : List Spelled} → IsTrue bare → words ≡ words_of e ++ ws → Written bare false row ws → NextTree bare action e row words
 
-pub next_tree : {bare acts : Bool} {row : List Piece} {words : List Spelled} (e : Tree) (p : Place) → Written bare acts (pieces.tree e p ∷ row) words → NextTree bare acts e row words
-next_tree {bare = bare} {acts = acts} {row = row} {words = words} e p written = go (first_of_row (pieces.tree e p) row written refl)
+pub next_tree : {bare action : Bool} {row : List Piece} {words : List Spelled} (e : Tree) (p : Place) → Written bare action (pieces.tree e p ∷ row) words → NextTree bare action e row words
+next_tree {bare = bare} {action = action} {row = row} {words = words} e p written = go (first_of_row (pieces.tree e p) row written refl)
   where
-    go : First bare acts (pieces.tree e p) row words → NextTree bare acts e row words
+    go : First bare action (pieces.tree e p) row words → NextTree bare action e row words
     go (is_enclosed {e = e'} {ws = ws} s o f h y) =
         let same : e' ≡ e = cc in
         in_parentheses o f (h ∙ ap (λ e. wrapped e ++ ws) same) y

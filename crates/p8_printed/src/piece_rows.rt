@@ -18,8 +18,8 @@ ghost use Rattle.p8_printed.specs.Rereading.{AreSpelled, AreOfSource, with_line_
 ///
 /// Expressions may be written without parentheses (`bare`) in the lines of methods alone; an action is.
 pub fn rows_read_back()
-    ensures readable { (bare : Bool) (q : state.State) (row : List Piece) (us : List LineToken) (words : List Spelled) → Leads q us row state_case.End → AreOfSource us → Written bare (begins_action q) row words → All IsReadable words }
-    ensures capitals { (bare : Bool) (q : state.State) (row : List Piece) (us : List LineToken) (words : List Spelled) → Leads q us row state_case.End → AreOfSource us → Written bare (begins_action q) row words → All IsInCapitals words }
+    ensures readable { (bare action : Bool) (q : state.State) (row : List Piece) (us : List LineToken) (words : List Spelled) → Leads q us row state_case.End → AreOfSource us → Written bare action row words → All IsReadable words }
+    ensures capitals { (bare action : Bool) (q : state.State) (row : List Piece) (us : List LineToken) (words : List Spelled) → Leads q us row state_case.End → AreOfSource us → Written bare action row words → All IsInCapitals words }
     ensures same { (bare : Bool) (q : state.State) (row : List Piece) (us ts : List LineToken) (words : List Spelled) (t : LineToken)
         → (IsTrue bare → setting_at q ≡ in_method) → Leads q us row state_case.End → AreOfSource us → Written bare (begins_action q) row words → AreSpelled words ts → word t ≡ word_case.LineEnd
         → (row' : List Piece) × Leads q (with_line_end row ts t) row' state_case.End × IsSameRow row' row }
