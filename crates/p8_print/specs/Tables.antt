@@ -1,6 +1,6 @@
 -- The word of each number in a tree (Propeller Manual v1.2, "Spin Language Reference"): operators, built-ins and changes
 -- have the numbers of their bytecodes and effect bytes, registers those of their addresses in a cog.
-use Rattle.std.specs.Prelude.{ℕ, ◌==◌, ◌||◌, Bool, if◌then◌else◌, List, [], ◌∷◌}
+use Rattle.std.specs.Prelude.{ℕ, ◌+◌, nat_le, ◌==◌, ◌&&◌, ◌||◌, Bool, if◌then◌else◌, List, [], ◌∷◌}
 use Rattle.p8_lexer.specs.declared.word.Word.{Word}
 use Rattle.p8_lexer.specs.declared.word.Word.TheVariants as word
 
@@ -81,7 +81,7 @@ assignments =
     (0xFE, word.GreaterOrEqualAssign) ∷
     []
 
--- changes before a variable and after it, and the operators that alone before a variable write it
+-- changes before a variable and after it
 unfoldable pub changes_of : List (ℕ × Word)
 changes_of =
     (0x20, word.PlusPlus) ∷
@@ -92,17 +92,11 @@ changes_of =
     (0x18, word.Tilde) ∷
     (0x14, word.TildeTilde) ∷
     (0x1C, word.TildeTilde) ∷
-    (0x46, word.Minus) ∷
-    (0x47, word.Invert) ∷
-    (0x49, word.Absolute) ∷
-    (0x51, word.EncodeBit) ∷
-    (0x53, word.DecodeBit) ∷
-    (0x58, word.SquareRoot) ∷
-    (0x5F, word.Not) ∷
     []
 
+-- an operator that alone before a variable writes it has an effect byte that is its bytecode less A0
 abbrev pub change_word : ℕ → Word
-change_word k = beside k changes_of
+change_word k = if nat_le 0x40 k && nat_le k 0x5F then operator_word (k + 0xA0) else beside k changes_of
 
 -- whether a change stands after its variable
 abbrev pub is_behind : ℕ → Bool

@@ -88,23 +88,19 @@ pub(crate) fn assignment_word(operator: u8) -> Word
     }
 }
 
-// A change, before its variable or after it.
+// A change, before its variable or after it, or an operator alone, whose effect byte is its bytecode less 0xA0.
 #[tactic(auto, unfolding(crate::specs::Tables::changes_of))]
 pub(crate) fn change_word(effect: u8) -> Word
     ensures { result ≡ change_word effect }
 {
+    if 0x40 <= effect && effect <= 0x5F {
+        return operator_word(effect + 0xA0);
+    }
     match effect {
         0x20 | 0x28 => Word::PlusPlus,
         0x30 | 0x38 => Word::MinusMinus,
         0x10 | 0x18 => Word::Tilde,
         0x14 | 0x1C => Word::TildeTilde,
-        0x46 => Word::Minus,
-        0x47 => Word::Invert,
-        0x49 => Word::Absolute,
-        0x51 => Word::EncodeBit,
-        0x53 => Word::DecodeBit,
-        0x58 => Word::SquareRoot,
-        0x5F => Word::Not,
         // No other number stands in a tree.
         _ => Word::Plus,
     }
