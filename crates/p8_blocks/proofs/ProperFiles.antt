@@ -1,5 +1,5 @@
 -- A file of proper words is proper.
-use Rattle.std.proofs.Common.{◌≡◌, ℕ, List, [], ◌∷◌, ◌++◌, All, Option, Some, None, Bool, true, false, refl, sym, ap, ◌∙◌, subst}
+use Rattle.std.proofs.Common.{◌≡◌, List, [], ◌∷◌, ◌++◌, All, Option, Some, None, Bool, true, false, refl, sym, ap, ◌∙◌, subst}
 use Rattle.std.specs.Prelude.{◌≢◌, IsTrue, option_map}
 use Rattle.std.specs.List.{AllByRecursion as Each}
 use Rattle.std.proofs.lemmas.List.Elements.{All-nil, All-append, All-push, All-pop, All-from_recursion, recursion_from_All}
@@ -20,7 +20,6 @@ use Rattle.p8_declarations.specs.Variables.{variables_of_row}
 use Rattle.p8_declarations.specs.Objects.{objects_of_row}
 use Rattle.p8_declarations.specs.Proper.{ConstantsAreProper, VariablesAreProper, ObjectsAreProper, HeadsAreProper}
 use Rattle.p8_data.specs.Lines.{line_of_row}
-use Rattle.p8_statements.specs.Statements.{kind_of_row}
 use Rattle.p8_statements.specs.Proper.{IsProperKind, KindsAreProper}
 use Rattle.p8_grammar.specs.Proper as words
 use Rattle.p8_grammar.specs.Proper.{IsProperLexeme, lexeme_in}

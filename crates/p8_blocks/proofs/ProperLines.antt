@@ -1,6 +1,5 @@
 -- Statements of proper lines are proper.
-use Rattle.std.proofs.Common.{◌≡◌, ℕ, List, [], ◌∷◌, ◌++◌, Bool, false, refl}
-use Rattle.std.specs.Prelude.{IsTrue}
+use Rattle.std.proofs.Common.{ℕ, List, [], ◌∷◌, ◌++◌, refl}
 use Rattle.std.specs.List.{AllByRecursion as Each}
 use Rattle.p8_tree.specs.Statements.{Statements}
 use Rattle.p8_tree.specs.Proper.{AreProperStatements, AreProperChoices, IsProperOtherwise}

@@ -6,7 +6,7 @@ use Rattle.p8_lexer.specs.declared.token.Token as lexer_token
 use Rattle.p8_grammar.specs.Proper as words
 use Rattle.p8_grammar.specs.Proper.{IsProperLexeme, lexeme_in}
 use Rattle.p8_expr.specs.Words.{token_of, lexeme_of_token}
-use Rattle.p8_lines.specs.Tokens.{LineToken, lexeme, terms, line_token, text_end, all_tokens}
+use Rattle.p8_lines.specs.Tokens.{lexeme, terms, line_token, text_end, all_tokens}
 use Rattle.p8_lines.proofs.Texts.{text_end_other}
 use Rattle.p8_blocks.proofs.ProperFiles.{IsProperToken, are_proper}
 

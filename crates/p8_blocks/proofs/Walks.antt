@@ -1,5 +1,5 @@
 -- Lines one after the other, of any height or within the limits, without their places in a text.
-use Rattle.std.proofs.Common.{◌≡◌, List, [], ◌∷◌, ◌++◌, Option, Some, true, false, refl, sym, ap, ◌∙◌, subst, append-nil, Bool}
+use Rattle.std.proofs.Common.{◌≡◌, List, [], ◌∷◌, ◌++◌, Option, Some, true, false, refl, sym, ap, ◌∙◌, append-nil, Bool}
 use Rattle.std.specs.Prelude.{◌≢◌}
 use Rattle.p8_tree.specs.Sources as trees
 use Rattle.p8_tree.specs.Sources.{Constant, Declared, Child, MethodTree}
@@ -11,7 +11,7 @@ use Rattle.p8_pieces.specs.Pieces.{Piece}
 use Rattle.p8_lines.specs.declared.state.State.{State}
 use Rattle.p8_lines.specs.declared.state.State.TheVariants as state
 use Rattle.p8_lines.specs.Tokens.{LineToken, word}
-use Rattle.p8_lines.specs.Lines.{Row, Leads, over}
+use Rattle.p8_lines.specs.Lines.{Row}
 use Rattle.p8_lines.proofs.Splits.{Compared, same, beyond, short, compare}
 use Rattle.p8_lines.proofs.Ways.{goes_on}
 use Rattle.p8_lines.proofs.Rows.{row_way, at_end}
