@@ -7,7 +7,9 @@ use Rattle.p8_access.specs.declared.lives.Next.{Next}
 use Rattle.p8_access.specs.declared.lives.Next.TheVariants.{At, Quiet, More}
 use Rattle.p8_access.specs.Lives.{Begun, Tells, announced_by, IsMadeNext, IsAnnounced}
 use Rattle.p8_access.specs.Proper.{IsProperOrigin}
+use Rattle.p8_bcog.specs.Stops as Bytecodes
 use Rattle.p8_cog.specs.Standing.{clock_of}
+use Rattle.p8_cog.specs.Stops as Instructions
 use Rattle.p8_access.specs.declared.states.CogState.{CogState}
 use Rattle.p8_access.specs.Worlds.{World}
 use Rattle.p8_access.specs.Hub.{cog_state, origin_of}
@@ -52,7 +54,9 @@ IsNear reached (More bound) = (bound ≤ reached + 1) × (reached ≤ bound + 81
 
 -- the access that a life has announced
 abbrev pub announced_in : CogLife → Option (ℕ × Access)
-announced_in life = access_of life.kind life.pasm.announced life.spin.announced
+announced_in life =
+    access_of life.kind (Instructions.announced_at life.pasm.asking life.pasm.cog life.pasm.code life.pasm.stage life.pasm.state)
+    (Bytecodes.announced_at life.spin.asking life.spin.cog life.spin.stage life.spin.state life.spin.clock)
 
 -- the life of a running cog: it stands for what it began with and its turns; what it has found is true, and goes
 -- on from what the cog has said last
