@@ -1,6 +1,6 @@
 // Worked projects: their files in order, and why there is none.
 use p8_io::{FailList, MemShelf};
-use p8_objects::{GatherFault, gather};
+use p8_objects::{GatherFault, Mention, gather};
 use p8_tree::{Project, Text};
 use p8_words::NoMemory;
 use std::alloc::{AllocError, Global};
@@ -43,6 +43,18 @@ fn write_files(out: &mut String, project: &Project) -> Result<(), AllocError> {
     Ok(())
 }
 
+// Where a file is mentioned, after its name.
+fn write_mention(out: &mut String, mention: Option<&Mention>) -> Result<(), AllocError> {
+    match mention {
+        Some(Mention { file, place }) => {
+            out.push_str(", at ")?;
+            write_name(out, file)?;
+            write!(out, ":{}:{}", place.line, place.column)
+        }
+        None => Ok(()),
+    }
+}
+
 fn write_fault(out: &mut String, fault: &GatherFault) -> Result<(), AllocError> {
     match fault {
         GatherFault::Source {
@@ -53,9 +65,10 @@ fn write_fault(out: &mut String, fault: &GatherFault) -> Result<(), AllocError> 
             write_name(out, file)?;
             write!(out, ":{}:{}: {number}", place.line, place.column)
         }
-        GatherFault::Missing { file } => {
+        GatherFault::Missing { file, mention } => {
             out.push_str("missing ")?;
-            write_name(out, file)
+            write_name(out, file)?;
+            write_mention(out, mention.as_ref())
         }
         GatherFault::ShelfFault { file } => {
             out.push_str("not read ")?;
@@ -97,7 +110,7 @@ static PROJECTS: [([&str; 4], u64, &str); 11] = [
         0,
         "a.spin b.spin d.spin c.spin ",
     ),
-    ([MENTIONS_B_AND_C, NO_MENTION, "", ""], 0, "missing c.spin"),
+    ([MENTIONS_B_AND_C, NO_MENTION, "", ""], 0, "missing c.spin, at a.spin:3:7"),
     ([MENTIONS_B_AND_C, FLOATING, "", ""], 0, "b.spin:2:7: 9"),
     (
         [MENTIONS_B_AND_C, MENTIONS_C, MENTIONS_B, ""],

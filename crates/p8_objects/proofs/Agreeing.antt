@@ -12,7 +12,8 @@ use Rattle.p8_blocks.specs.Reading.{Answer, Parses}
 use Rattle.p8_io.specs.Shelves.{AreStartOf}
 use Rattle.p8_objects.specs.Lists.{IsAt, HasOne, IsFirst}
 use Rattle.p8_objects.specs.Sources.{mentions, most_objects, ReadsAs, IsSource, IsRefused, no_tokens, no_file, too_many}
-use Rattle.p8_objects.specs.Projects.{IsIn, Mentions, Leads, there, over, ClosesRing, IsOpen, HasOpen, IsNext, Call, Calls, read, refuse, nothing, most_files}
+use Rattle.p8_objects.specs.declared.fault.Mention.{Mention}
+use Rattle.p8_objects.specs.Projects.{IsIn, Mentions, Leads, there, over, ClosesRing, IsOpen, HasOpen, IsNext, Call, Calls, read, refuse, nothing, most_files, mention_in, IsMentionedAt}
 use Rattle.p8_objects.specs.Projects as projects
 use Rattle.p8_objects.specs.Outcomes.{Shelved, shelved, HasBytes, IsAbsent, Outcome, ComesTo, project, refused, missing, failed, named}
 use Rattle.p8_objects.specs.Outcomes as outcomes
@@ -77,6 +78,15 @@ one_call (projects.whole l none) (projects.new_file g y m new room) = absurd (no
 one_call (projects.whole l none) (projects.file_too_many g y m new full) = absurd (none (next_has_open m))
 one_call (projects.whole l none) (projects.ring g y m r) = absurd (none (next_has_open m))
 one_call (projects.whole l none) (projects.whole l' none') = refl
+
+-- a file that is read next is mentioned at one place
+one_mention : (files : List NamedSource) (name : List ℕ) (a b : Option Mention) → IsMentionedAt files name a → IsMentionedAt files name b → a ≡ b
+one_mention files name None None p q = refl
+one_mention files name None (Some b) p q = absurd (next_not_empty q.2 p)
+one_mention files name (Some a) None p q = absurd (next_not_empty p.2 q)
+one_mention files name (Some a) (Some b) p q =
+    let same = same_next p.2 q.2 in
+    ap Some (p.4 ∙ (λ i. mention_in (same.0 i).name (same.1 i)) ∙ sym q.4)
 
 -- what bytes are by themselves
 
@@ -143,7 +153,7 @@ there_or_absent files before now name a h (inr e) = start_of_none (files name) a
 data Read (shelf : Shelved) (top : List ℕ) (files : List NamedSource) (name : List ℕ) : Outcome → Type 0 where
   went_on : {o : Outcome} (bytes : List ℕ) (s : Source) → HasBytes shelf.files name bytes → IsSource bytes s → ComesTo shelf top (files ++ named name s ∷ []) o → Read shelf top files name o
   was_refused : (bytes : List ℕ) (number : ℕ) (place : Place) → HasBytes shelf.files name bytes → IsRefused bytes number place → Read shelf top files name (refused name number place)
-  was_absent : IsAbsent shelf name → Read shelf top files name (missing name)
+  was_absent : (mention : Option Mention) → IsMentionedAt files name mention → IsAbsent shelf name → Read shelf top files name (missing name mention)
 
 same_read : {m n : List ℕ} → read m ≡ read n → n ≡ m
 same_read e = cc
@@ -163,7 +173,7 @@ refuse_nothing e = cc
 as_read : {shelf : Shelved} {top : List ℕ} {files : List NamedSource} {o : Outcome} (name : List ℕ) → Calls top files (read name) → IsOfFiles o → ComesTo shelf top files o → Read shelf top files name o
 as_read {shelf = shelf} {top = top} {files = files} {o = o} name c i (outcomes.one_more name' bytes s c' h src rest) = subst (λ n. Read shelf top files n o) (same_read (one_call c c')) (went_on bytes s h src rest)
 as_read {shelf = shelf} {top = top} {files = files} name c i (outcomes.file_refused name' bytes number place c' h r) = subst (λ n. Read shelf top files n (refused name' number place)) (same_read (one_call c c')) (was_refused bytes number place h r)
-as_read {shelf = shelf} {top = top} {files = files} name c i (outcomes.absent name' c' a) = subst (λ n. Read shelf top files n (missing name')) (same_read (one_call c c')) (was_absent a)
+as_read {shelf = shelf} {top = top} {files = files} name c i (outcomes.absent name' mention c' m a) = subst (λ n. Read shelf top files n (missing name' mention)) (same_read (one_call c c')) (was_absent mention m a)
 as_read name c i (outcomes.not_read name' c' r) = absurd i
 as_read name c i (outcomes.mention_refused name' number place c') = absurd (read_refuse (one_call c c'))
 as_read name c i (outcomes.whole c') = absurd (read_nothing (one_call c c'))
@@ -171,7 +181,7 @@ as_read name c i (outcomes.whole c') = absurd (read_nothing (one_call c c'))
 as_refused : {shelf : Shelved} {top : List ℕ} {files : List NamedSource} {o : Outcome} (name : List ℕ) (number : ℕ) (place : Place) → Calls top files (refuse name number place) → ComesTo shelf top files o → refused name number place ≡ o
 as_refused name number place c (outcomes.one_more name' bytes s c' h src rest) = absurd (read_refuse (one_call c' c))
 as_refused name number place c (outcomes.file_refused name' bytes m p c' h r) = absurd (read_refuse (one_call c' c))
-as_refused name number place c (outcomes.absent name' c' a) = absurd (read_refuse (one_call c' c))
+as_refused name number place c (outcomes.absent name' mention c' m a) = absurd (read_refuse (one_call c' c))
 as_refused name number place c (outcomes.not_read name' c' r) = absurd (read_refuse (one_call c' c))
 as_refused name number place c (outcomes.mention_refused name' m p c') = same_refuse (one_call c c')
 as_refused name number place c (outcomes.whole c') = absurd (refuse_nothing (one_call c c'))
@@ -179,7 +189,7 @@ as_refused name number place c (outcomes.whole c') = absurd (refuse_nothing (one
 as_whole : {shelf : Shelved} {top : List ℕ} {files : List NamedSource} {o : Outcome} → Calls top files nothing → ComesTo shelf top files o → project files ≡ o
 as_whole c (outcomes.one_more name' bytes s c' h src rest) = absurd (read_nothing (one_call c' c))
 as_whole c (outcomes.file_refused name' bytes m p c' h r) = absurd (read_nothing (one_call c' c))
-as_whole c (outcomes.absent name' c' a) = absurd (read_nothing (one_call c' c))
+as_whole c (outcomes.absent name' mention c' m a) = absurd (read_nothing (one_call c' c))
 as_whole c (outcomes.not_read name' c' r) = absurd (read_nothing (one_call c' c))
 as_whole c (outcomes.mention_refused name' m p c') = absurd (refuse_nothing (one_call c' c))
 as_whole c (outcomes.whole c') = refl
@@ -190,12 +200,12 @@ same_refused name (a, b) = cc
 refusal_agrees : (A : OneAnswer) (files : List ℕ → Option (List ℕ)) (before now : ℕ) {top : List ℕ} {sources : List NamedSource} (name bytes : List ℕ) (number : ℕ) (place : Place) {o : Outcome} → HasBytes (Some files) name bytes → IsRefused bytes number place → Read (shelved (Some files) before now) top sources name o → refused name number place ≡ o
 refusal_agrees A files before now name bytes number place h r (went_on bytes' s h' src rest) = absurd (source_or_refused A src (subst (λ b. IsRefused b number place) (one_bytes files name h h') r))
 refusal_agrees A files before now name bytes number place h r (was_refused bytes' m p h' r') = same_refused name (one_refusal A (subst (λ b. IsRefused b number place) (one_bytes files name h h') r) r')
-refusal_agrees A files before now name bytes number place h r (was_absent a) = absurd (there_or_absent files before now name bytes h a)
+refusal_agrees A files before now name bytes number place h r (was_absent mention m a) = absurd (there_or_absent files before now name bytes h a)
 
-absence_agrees : (files : List ℕ → Option (List ℕ)) (before now : ℕ) {top : List ℕ} {sources : List NamedSource} (name : List ℕ) {o : Outcome} → IsAbsent (shelved (Some files) before now) name → Read (shelved (Some files) before now) top sources name o → missing name ≡ o
-absence_agrees files before now name a (went_on bytes s h src rest) = absurd (there_or_absent files before now name bytes h a)
-absence_agrees files before now name a (was_refused bytes m p h r) = absurd (there_or_absent files before now name bytes h a)
-absence_agrees files before now name a (was_absent b) = refl
+absence_agrees : (files : List ℕ → Option (List ℕ)) (before now : ℕ) {top : List ℕ} {sources : List NamedSource} (name : List ℕ) (mention : Option Mention) {o : Outcome} → IsMentionedAt sources name mention → IsAbsent (shelved (Some files) before now) name → Read (shelved (Some files) before now) top sources name o → missing name mention ≡ o
+absence_agrees files before now name mention m a (went_on bytes s h src rest) = absurd (there_or_absent files before now name bytes h a)
+absence_agrees files before now name mention m a (was_refused bytes n p h r) = absurd (there_or_absent files before now name bytes h a)
+absence_agrees files before now {sources = sources} name mention m a (was_absent other n b) = ap (missing name) (one_mention sources name mention other m n)
 
 same_bytes_source : (A : OneAnswer) (files : List ℕ → Option (List ℕ)) (name bytes bytes' : List ℕ) (s s' : Source) → HasBytes (Some files) name bytes → HasBytes (Some files) name bytes' → IsSource bytes s → IsSource bytes' s' → s' ≡ s
 same_bytes_source A files name bytes bytes' s s' h h' i i' =
@@ -206,13 +216,13 @@ more_agrees : (A : OneAnswer) (files : List ℕ → Option (List ℕ)) (before n
 more_agrees A files before now {top = top} {sources = sources} {b = b} name bytes s rest j h i (went_on bytes' s' h' i' rest') =
     rest b (subst (λ u. ComesTo (shelved (Some files) before now) top (sources ++ named name u ∷ []) b) (same_bytes_source A files name bytes bytes' s s' h h' i i') rest') j
 more_agrees A files before now name bytes s rest j h i (was_refused bytes' m p h' r) = absurd (source_or_refused A i (subst (λ b. IsRefused b m p) (one_bytes files name h' h) r))
-more_agrees A files before now name bytes s rest j h i (was_absent b) = absurd (there_or_absent files before now name bytes h b)
+more_agrees A files before now name bytes s rest j h i (was_absent mention m b) = absurd (there_or_absent files before now name bytes h b)
 
 pub one_outcome : (A : OneAnswer) (files : List ℕ → Option (List ℕ)) (before now : ℕ) (top : List ℕ) {sources : List NamedSource} {a b : Outcome} → ComesTo (shelved (Some files) before now) top sources a → ComesTo (shelved (Some files) before now) top sources b → IsOfFiles a → IsOfFiles b → a ≡ b
 one_outcome A files before now top (outcomes.one_more name bytes s c h src rest) other i j =
     more_agrees A files before now name bytes s (λ o rest' k. one_outcome A files before now top rest rest' i k) j h src (as_read name c j other)
 one_outcome A files before now top (outcomes.file_refused name bytes number place c h r) other i j = refusal_agrees A files before now name bytes number place h r (as_read name c j other)
-one_outcome A files before now top (outcomes.absent name c a) other i j = absence_agrees files before now name a (as_read name c j other)
+one_outcome A files before now top (outcomes.absent name mention c m a) other i j = absence_agrees files before now name mention m a (as_read name c j other)
 one_outcome A files before now top (outcomes.not_read name c r) other i j = absurd i
 one_outcome A files before now top (outcomes.mention_refused name number place c) other i j = as_refused name number place c other
 one_outcome A files before now top (outcomes.whole c) other i j = as_whole c other

@@ -9,11 +9,13 @@ use Rattle.p8_tree.specs.Projects.{NamedSource}
 use Rattle.p8_tree.specs.Views.{source_of, named_source_of}
 use Rattle.p8_io.specs.Counts.{Rose}
 use Rattle.p8_io.specs.Shelves.{Files, IsLacking}
+use Rattle.p8_objects.specs.declared.fault.Mention.{Mention}
 use Rattle.p8_objects.specs.declared.fault.GatherFault.{GatherFault}
+use Rattle.p8_objects.specs.declared.next.Wanted.{Wanted}
 use Rattle.p8_objects.specs.declared.fault.GatherFault.TheVariants as fault
 use Rattle.p8_objects.specs.Lists.{IsAt}
 use Rattle.p8_objects.specs.Sources.{mentions}
-use Rattle.p8_objects.specs.Projects.{IsIn, ClosesRing, Calls, refuse, nothing, first_file, new_file, file_too_many, ring, whole, most_files}
+use Rattle.p8_objects.specs.Projects.{IsIn, ClosesRing, Calls, refuse, nothing, first_file, new_file, file_too_many, ring, whole, most_files, mention_in, IsMentionedAt}
 use Rattle.p8_objects.specs.Outcomes as outcomes
 use Rattle.p8_objects.specs.Outcomes.{Shelved, shelved, HasBytes, IsAbsent, Outcome, ComesTo, Answers, named}
 use Rattle.p8_objects.specs.Standing.{is_done, IsFinished, IsFirstLeft, AreFinished, Stands, DoneFrom, AllLeadTo}
@@ -78,18 +80,22 @@ refused_call {f = f} x r l (fault.Source file number place) (a, inl (b, c, h)) t
     same_call a b c (ring f x (next_is r.stands r.at r.left r.behind l (inr closing)) closing)
 refused_call {f = f} x r l (fault.Source file number place) (a, inr (b, c, n, m)) top =
     same_call a b c (file_too_many f x (next_is r.stands r.at r.left r.behind l (inl n)) n m)
-refused_call x r l (fault.Missing file) h top = absurd h
+refused_call x r l (fault.Missing file mention) h top = absurd h
 refused_call x r l (fault.ShelfFault file) h top = absurd h
 refused_call x r l fault.NoMemory h top = tt
 
-pub asked_is : {files : List NamedSource} {done : List ℕ} {i : ℕ} {f : NamedSource} (x : Child) (name : List ℕ) → Reached files done i f → IsFirstLeft files done (mentions f.tree) x → name ≡ x.file → ¬ IsIn files x.file → length files < most_files → (top : List ℕ) → IsAsked top files done name
-asked_is {files = files} {done = done} {f = f} x name r l e n m top =
-    subst (λ (y : List ℕ). IsAsked top files done y) (sym e) (record {
-      calls = new_file f x (next_is r.stands r.at r.left r.behind l (inl n)) n m;
-      new = n;
-      room = m;
-      led = all_lead_to r.stands r.at r.left r.behind (first_left_at l).1;
-    })
+pub asked_is : {files : List NamedSource} {done : List ℕ} {i : ℕ} {f : NamedSource} (x : Child) (asked : Wanted) → Reached files done i f → IsFirstLeft files done (mentions f.tree) x → asked.name ≡ x.file → asked.mention ≡ Some (mention_in f.name x) → ¬ IsIn files x.file → length files < most_files
+    → (top : List ℕ) → IsAsked top files done asked.name × IsMentionedAt files asked.name asked.mention
+asked_is {files = files} {done = done} {f = f} x asked r l e g n m top =
+    let next = next_is r.stands r.at r.left r.behind l (inl n) in (
+      subst (λ (y : List ℕ). IsAsked top files done y) (sym e) (record {
+        calls = new_file f x next n m;
+        new = n;
+        room = m;
+        led = all_lead_to r.stands r.at r.left r.behind (first_left_at l).1;
+      }),
+      subst (λ (o : Option Mention). IsMentionedAt files asked.name o) (sym g) (f, x, next, sym e, refl),
+    )
 
 pub nothing_left : {files : List NamedSource} {done : List ℕ} (n : ℕ) → Stands files done → DoneFrom files done n → n ≡ 0 → 0 < length files → (top : List ℕ) → Calls top files nothing
 nothing_left {files = files} {done = done} n s d e l top = whole l (nothing_open s (subst (λ (m : ℕ). DoneFrom files done m) e d))
@@ -101,13 +107,14 @@ finished_one {files = files} {done = done} {i = i} done' r a e =
 
 -- gathering begins
 
-pub begin : (files : Files) (before : ℕ) (top name : List ℕ) (fs : List ProjectFile) (done : List ℕ) → fs ≡ [] → done ≡ [] → name ≡ top → Stands (sources_of fs) done × IsAsked top (sources_of fs) done name × GoesOn files before top (sources_of fs)
+pub begin : (files : Files) (before : ℕ) (top name : List ℕ) (fs : List ProjectFile) (done : List ℕ) → fs ≡ [] → done ≡ [] → name ≡ top → Stands (sources_of fs) done × IsAsked top (sources_of fs) done name × IsMentionedAt (sources_of fs) name None × GoesOn files before top (sources_of fs)
 begin files before top name fs done a b e =
-    subst (λ (gs : List ProjectFile). Stands (sources_of gs) done × IsAsked top (sources_of gs) done name × GoesOn files before top (sources_of gs)) (sym a)
-    (subst (λ (ds : List ℕ). Stands [] ds × IsAsked top [] ds name × GoesOn files before top []) (sym b)
-    (subst (λ (n : List ℕ). Stands [] [] × IsAsked top [] [] n × GoesOn files before top []) (sym e) (
+    subst (λ (gs : List ProjectFile). Stands (sources_of gs) done × IsAsked top (sources_of gs) done name × IsMentionedAt (sources_of gs) name None × GoesOn files before top (sources_of gs)) (sym a)
+    (subst (λ (ds : List ℕ). Stands [] ds × IsAsked top [] ds name × IsMentionedAt [] name None × GoesOn files before top []) (sym b)
+    (subst (λ (n : List ℕ). Stands [] [] × IsAsked top [] [] n × IsMentionedAt [] n None × GoesOn files before top []) (sym e) (
       (nothing_stands top).0,
       record { calls = first_file refl; new = λ h. none_at h.stands; room = omega arith; led = (nothing_stands top).1 },
+      refl,
       record { on = λ now o c. c },
     )))
 
@@ -125,34 +132,34 @@ absent_within files files' before before' now name e l (inl n) = inl n
 absent_within files files' before before' now name e l (inr h) = inr (lacking_within files before before' now name l (subst (λ (fs : Files). IsLacking before' now fs name) e h))
 
 -- a file that can't be read, or is refused by itself
-pub file_fault : (files files' : Files) (before before' now : ℕ) (top name : List ℕ) {sources : List NamedSource} {done : List ℕ} → GoesOn files before top sources → IsAsked top sources done name → files' ≡ files → before ≤ before' → (e : GatherFault) → IsFileFault (shelved files' before' now) name e → Answers (shelved files before now) top (Err e)
-file_fault files files' before before' now top name {sources = sources} on a e l (fault.Source file number place) (n, h) =
+pub file_fault : (files files' : Files) (before before' now : ℕ) (top : List ℕ) (asked : Wanted) {sources : List NamedSource} {done : List ℕ} → GoesOn files before top sources → IsAsked top sources done asked.name × IsMentionedAt sources asked.name asked.mention → files' ≡ files → before ≤ before' → (e : GatherFault) → IsFileFault (shelved files' before' now) asked e → Answers (shelved files before now) top (Err e)
+file_fault files files' before before' now top asked {sources = sources} on a e l (fault.Source file number place) (n, h) =
     on.on now (outcomes.refused file number place)
     (subst (λ (m : List ℕ). ComesTo (shelved files before now) top sources (outcomes.refused m number place)) (sym n)
-    (outcomes.file_refused name h.bytes number place a.calls (subst (λ (fs : Files). HasBytes fs name h.bytes) e h.has) h.refused))
-file_fault files files' before before' now top name {sources = sources} on a e l (fault.Missing file) (n, h) =
-    on.on now (outcomes.missing file)
-    (subst (λ (m : List ℕ). ComesTo (shelved files before now) top sources (outcomes.missing m)) (sym n)
-    (outcomes.absent name a.calls (absent_within files files' before before' now name e l h)))
-file_fault files files' before before' now top name {sources = sources} on a e l (fault.ShelfFault file) (n, h) =
+    (outcomes.file_refused asked.name h.bytes number place a.0.calls (subst (λ (fs : Files). HasBytes fs asked.name h.bytes) e h.has) h.refused))
+file_fault files files' before before' now top asked {sources = sources} on a e l (fault.Missing file mention) (n, h, g) =
+    on.on now (outcomes.missing file mention)
+    (subst (λ (m : List ℕ). ComesTo (shelved files before now) top sources (outcomes.missing m mention)) (sym n)
+    (outcomes.absent asked.name mention a.0.calls (subst (λ (o : Option Mention). IsMentionedAt sources asked.name o) (sym g) a.1) (absent_within files files' before before' now asked.name e l h)))
+file_fault files files' before before' now top asked {sources = sources} on a e l (fault.ShelfFault file) (n, h) =
     on.on now (outcomes.failed file)
     (subst (λ (m : List ℕ). ComesTo (shelved files before now) top sources (outcomes.failed m)) (sym n)
-    (outcomes.not_read name a.calls (rose_within before before' now l h)))
-file_fault files files' before before' now top name on a e l fault.NoMemory h = tt
+    (outcomes.not_read asked.name a.0.calls (rose_within before before' now l h)))
+file_fault files files' before before' now top asked on a e l fault.NoMemory h = tt
 
 -- a mention that is refused
 pub call_fault : (files : Files) (before now : ℕ) (top : List ℕ) {sources : List NamedSource} → GoesOn files before top sources → (e : GatherFault) → IsRefusedCall top sources e → Answers (shelved files before now) top (Err e)
 call_fault files before now top on (fault.Source file number place) c = on.on now (outcomes.refused file number place) (outcomes.mention_refused file number place c)
-call_fault files before now top on (fault.Missing file) c = absurd c
+call_fault files before now top on (fault.Missing file mention) c = absurd c
 call_fault files before now top on (fault.ShelfFault file) c = absurd c
 call_fault files before now top on fault.NoMemory c = tt
 
 -- what is asked for
-pub asked_for : {top : List ℕ} {files : List NamedSource} {done : List ℕ} (o : Option (List ℕ)) (name : List ℕ) → CallsFor top files done o → o ≡ Some name → IsAsked top files done name
-asked_for {top = top} {files = files} {done = done} o name c e = subst (λ (x : Option (List ℕ)). CallsFor top files done x) e c
+pub asked_for : {top : List ℕ} {files : List NamedSource} {done : List ℕ} (o : Option Wanted) (asked : Wanted) → CallsFor top files done o → o ≡ Some asked → IsAsked top files done asked.name × IsMentionedAt files asked.name asked.mention
+asked_for {top = top} {files = files} {done = done} o asked c e = subst (λ (x : Option Wanted). CallsFor top files done x) e c
 
-pub asked_for_none : {top : List ℕ} {files : List NamedSource} (done : List ℕ) (o : Option (List ℕ)) → CallsFor top files done o → o ≡ None → Calls top files nothing
-asked_for_none {top = top} {files = files} done o c e = subst (λ (x : Option (List ℕ)). CallsFor top files done x) e c
+pub asked_for_none : {top : List ℕ} {files : List NamedSource} (done : List ℕ) (o : Option Wanted) → CallsFor top files done o → o ≡ None → Calls top files nothing
+asked_for_none {top = top} {files = files} done o c e = subst (λ (x : Option Wanted). CallsFor top files done x) e c
 
 -- one more file
 

@@ -2,7 +2,8 @@
 use Rattle.std.specs.Prelude.{ℕ, ◌<◌, List, [], Option, Some, None, length}
 use Rattle.p8_tree.specs.Projects.{NamedSource}
 use Rattle.p8_io.specs.Shelves.{Files}
-use Rattle.p8_objects.specs.Projects.{IsIn, Calls, read, refuse, nothing, most_files}
+use Rattle.p8_objects.specs.declared.next.Wanted.{Wanted}
+use Rattle.p8_objects.specs.Projects.{IsIn, Calls, read, refuse, nothing, most_files, IsMentionedAt}
 use Rattle.p8_objects.specs.Outcomes.{Outcome, shelved, ComesTo}
 use Rattle.p8_objects.specs.Standing.{AllLeadTo}
 use Rattle.p8_objects.specs.declared.fault.GatherFault.{GatherFault}
@@ -16,9 +17,9 @@ pub record IsAsked (top : List ℕ) (files : List NamedSource) (done : List ℕ)
   pub led : AllLeadTo files done name
 
 -- the files call for this one to be read, or for no more
-abbrev pub CallsFor : List ℕ → List NamedSource → List ℕ → Option (List ℕ) → Type 0
+abbrev pub CallsFor : List ℕ → List NamedSource → List ℕ → Option Wanted → Type 0
 CallsFor top files done None = Calls top files nothing
-CallsFor top files done (Some name) = IsAsked top files done name
+CallsFor top files done (Some asked) = IsAsked top files done asked.name × IsMentionedAt files asked.name asked.mention
 
 -- a mention is refused
 abbrev pub IsRefusedCall : List ℕ → List NamedSource → GatherFault → Type 0

@@ -1,5 +1,5 @@
 -- What gathering a project from a shelf comes to (this project's profile).
-use Rattle.std.specs.Prelude.{ℕ, ◌⊎◌, List, [], ◌∷◌, ◌++◌, Result, Ok, Err}
+use Rattle.std.specs.Prelude.{ℕ, ◌⊎◌, List, [], ◌∷◌, ◌++◌, Option, Result, Ok, Err}
 use Rattle.std.specs.Str.{IsUtf8}
 use Rattle.p8_tree.specs.declared.places.Place.{Place}
 use Rattle.p8_tree.specs.declared.projects.Project.{Project}
@@ -8,10 +8,11 @@ use Rattle.p8_tree.specs.Projects.{NamedSource}
 use Rattle.p8_tree.specs.Views.{named_sources_of}
 use Rattle.p8_io.specs.Counts.{Rose}
 use Rattle.p8_io.specs.Shelves.{Files, IsRead, IsLacking}
+use Rattle.p8_objects.specs.declared.fault.Mention.{Mention}
 use Rattle.p8_objects.specs.declared.fault.GatherFault.{GatherFault}
 use Rattle.p8_objects.specs.declared.fault.GatherFault.TheVariants as fault
 use Rattle.p8_objects.specs.Sources.{IsSource, IsRefused}
-use Rattle.p8_objects.specs.Projects.{Calls, read, refuse, nothing}
+use Rattle.p8_objects.specs.Projects.{Calls, read, refuse, nothing, IsMentionedAt}
 
 -- a shelf as a call sees it from outside: its files, and its count of faults before and now
 pub record Shelved : Type 0 where
@@ -33,7 +34,7 @@ IsAbsent shelf name = (¬ IsUtf8 name) ⊎ IsLacking shelf.before shelf.now shel
 pub data Outcome : Type 0 where
   project : List NamedSource → Outcome
   refused : List ℕ → ℕ → Place → Outcome
-  missing : List ℕ → Outcome
+  missing : List ℕ → (mention : Option Mention) → Outcome
   failed : List ℕ → Outcome
 
 abbrev pub named : List ℕ → Source → NamedSource
@@ -43,9 +44,9 @@ named name s = record { name = name; tree = s }
 pub data ComesTo (shelf : Shelved) (top : List ℕ) : List NamedSource → Outcome → Type 0 where
   -- the file that is read next is one more
   one_more : {files : List NamedSource} {o : Outcome} (name bytes : List ℕ) (s : Source) → Calls top files (read name) → HasBytes shelf.files name bytes → IsSource bytes s → ComesTo shelf top (files ++ named name s ∷ []) o → ComesTo shelf top files o
-  -- or it is refused by itself, isn't there, or can't be read
+  -- or it is refused by itself, isn't there, which is told with its mention, or can't be read
   file_refused : {files : List NamedSource} (name bytes : List ℕ) (number : ℕ) (place : Place) → Calls top files (read name) → HasBytes shelf.files name bytes → IsRefused bytes number place → ComesTo shelf top files (refused name number place)
-  absent : {files : List NamedSource} (name : List ℕ) → Calls top files (read name) → IsAbsent shelf name → ComesTo shelf top files (missing name)
+  absent : {files : List NamedSource} (name : List ℕ) (mention : Option Mention) → Calls top files (read name) → IsMentionedAt files name mention → IsAbsent shelf name → ComesTo shelf top files (missing name mention)
   not_read : {files : List NamedSource} (name : List ℕ) → Calls top files (read name) → Rose shelf.before shelf.now → ComesTo shelf top files (failed name)
   -- a mention is refused, or there is nothing more to read
   mention_refused : {files : List NamedSource} (name : List ℕ) (number : ℕ) (place : Place) → Calls top files (refuse name number place) → ComesTo shelf top files (refused name number place)
@@ -59,6 +60,6 @@ Gathers shelf top o = ComesTo shelf top [] o
 abbrev pub Answers : Shelved → List ℕ → Result Project GatherFault → Type 0
 Answers shelf top (Ok p) = Gathers shelf top (project (named_sources_of p))
 Answers shelf top (Err (fault.Source file number place)) = Gathers shelf top (refused file number place)
-Answers shelf top (Err (fault.Missing file)) = Gathers shelf top (missing file)
+Answers shelf top (Err (fault.Missing file mention)) = Gathers shelf top (missing file mention)
 Answers shelf top (Err (fault.ShelfFault file)) = Gathers shelf top (failed file)
 Answers shelf top (Err fault.NoMemory) = Unit {0}

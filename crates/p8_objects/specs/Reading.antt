@@ -11,6 +11,7 @@ use Rattle.p8_io.specs.Counts.{Rose}
 use Rattle.p8_io.specs.Shelves.{Log, WereRead}
 use Rattle.p8_io.specs.declared.shelf.ShelfError.{ShelfError}
 use Rattle.p8_io.specs.declared.shelf.ShelfError.TheVariants.{Missing, Failed, NoMemory}
+use Rattle.p8_objects.specs.declared.next.Wanted.{Wanted}
 use Rattle.p8_objects.specs.declared.source.FileFault.{FileFault}
 use Rattle.p8_objects.specs.declared.fault.GatherFault.{GatherFault}
 use Rattle.p8_objects.specs.declared.fault.GatherFault.TheVariants as fault
@@ -47,9 +48,9 @@ pub record IsRefusedBy (shelf : Shelved) (name : List ℕ) (f : FileFault) : Typ
   pub has : HasBytes shelf.files name bytes
   pub refused : IsRefused bytes f.number f.place
 
--- why the file of this name has no tree
-abbrev pub IsFileFault : Shelved → List ℕ → GatherFault → Type 0
-IsFileFault shelf name (fault.Source file number place) = (file ≡ name) × IsRefusedBy shelf name (record { number = number; place = place })
-IsFileFault shelf name (fault.Missing file) = (file ≡ name) × IsAbsent shelf name
-IsFileFault shelf name (fault.ShelfFault file) = (file ≡ name) × Rose shelf.before shelf.now
-IsFileFault shelf name fault.NoMemory = Unit {0}
+-- why the file that is asked for has no tree
+abbrev pub IsFileFault : Shelved → Wanted → GatherFault → Type 0
+IsFileFault shelf asked (fault.Source file number place) = (file ≡ asked.name) × IsRefusedBy shelf asked.name (record { number = number; place = place })
+IsFileFault shelf asked (fault.Missing file mention) = (file ≡ asked.name) × IsAbsent shelf asked.name × (mention ≡ asked.mention)
+IsFileFault shelf asked (fault.ShelfFault file) = (file ≡ asked.name) × Rose shelf.before shelf.now
+IsFileFault shelf asked fault.NoMemory = Unit {0}

@@ -43,5 +43,5 @@ EachTree P files = (i : ℕ) (f : NamedSource) → IsAt files i f → P f.tree
 abbrev pub IsOfFiles : Outcome → Type 0
 IsOfFiles (project files) = Unit {0}
 IsOfFiles (refused file number place) = Unit {0}
-IsOfFiles (missing file) = Unit {0}
+IsOfFiles (missing file mention) = Unit {0}
 IsOfFiles (failed file) = ⊥

@@ -5,6 +5,15 @@ ghost use Rattle.p8_objects.specs.declared.fault.GatherFault.TheVariants.{NoMemo
 use p8_tree::{Place, Text};
 use std::alloc::AllocError;
 
+/// Where a file is mentioned.
+#[derive(Drop)]
+pub struct Mention {
+    /// The file that mentions it.
+    pub file: Text,
+    /// Where its name stands there, in an item of `OBJ`.
+    pub place: Place,
+}
+
 /// Why a project can't be gathered. `file` is the name of a file of the project, as it is mentioned.
 #[derive(Drop)]
 pub enum GatherFault {
@@ -20,6 +29,8 @@ pub enum GatherFault {
     /// The shelf has no file of that name.
     Missing {
         file: Text,
+        /// Where it is mentioned. The top file is mentioned nowhere.
+        mention: Option<Mention>,
     },
     /// The shelf could not read the file, and has counted a fault.
     ShelfFault {

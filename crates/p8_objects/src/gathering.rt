@@ -8,7 +8,7 @@ ghost use Rattle.p8_objects.specs.Outcomes.{shelved, Answers};
 ghost use Rattle.p8_objects.specs.Whole.{IsFirstFile, AreDistinct, HaveMentioned, HaveNoRing, AreReadFrom, EachTree};
 
 use crate::fault::GatherFault;
-use crate::next::next_file;
+use crate::next::{Wanted, next_file};
 use crate::source::read_file;
 use p8_io::Shelf;
 use p8_tree::{List, Project, Text};
@@ -25,8 +25,8 @@ use std::alloc::Global;
 ///
 /// What comes first in that order:
 ///
-/// - `Missing` where the shelf lacks a file, or where a file's name isn't UTF-8; of a shelf that doesn't tell its files
-///   the count of faults rose then. `ShelfFault` where a file could not be read: the shelf's count of faults rose.
+/// - `Missing` where the shelf lacks a file, or where a file's name isn't UTF-8, with the place where the file is mentioned; of a shelf that doesn't
+///   tell its files the count of faults rose then. `ShelfFault` where a file could not be read: the shelf's count of faults rose.
 /// - `Source` with 30 for a file of more than 1,048,576 bytes, else with 1 to 5, else with 6 to 11, each where `lex`
 ///   and `parse` have it; else with 20 at the 256th item of `OBJ` of a file.
 /// - `Source`, in the file with the mention, with 20 at the item whose file would be the project's 256th, and with 19
@@ -50,9 +50,12 @@ pub fn gather<S: Shelf>(alloc: Global, shelf: &mut S, top: &str) -> Result<Proje
 {
     let mut files = List::new(alloc);
     let mut done = List::new(alloc);
-    let mut asked = Some(Text::copy_of(alloc, top.as_bytes())?);
-    'files: while let Some(name) = asked {
-        files.push(read_file(alloc, shelf, name)?)?;
+    let mut asked = Some(Wanted {
+        name: Text::copy_of(alloc, top.as_bytes())?,
+        mention: None,
+    });
+    'files: while let Some(next) = asked {
+        files.push(read_file(alloc, shelf, next)?)?;
         asked = next_file(alloc, files.as_slice(), &mut done)?;
     }
     Ok(Project { files })

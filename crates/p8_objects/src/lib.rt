@@ -8,6 +8,6 @@ mod mentions;
 mod next;
 mod source;
 
-pub use fault::GatherFault;
+pub use fault::{GatherFault, Mention};
 pub use gathering::{discard, gather};
 pub use laws::one_outcome;

@@ -1,18 +1,26 @@
 // Which file is read next.
-ghost use Rattle.std.specs.Prelude.{◌≡◌, ◌<◌, ◌≤◌, ℕ, List as list, length, IfOk, IfErr, MatchResult};
+ghost use Rattle.std.specs.Prelude.{◌≡◌, ◌<◌, ◌≤◌, ℕ, List as list, length, Some, IfOk, IfErr, MatchResult};
 ghost use Rattle.p8_tree.specs.Views.{child_of};
 ghost use Rattle.p8_lexer.specs.Refusals.{refusal_number};
 ghost use Rattle.p8_objects.specs.declared.fault.GatherFault.{GatherFault};
-ghost use Rattle.p8_objects.specs.Projects.{IsIn, most_files};
+ghost use Rattle.p8_objects.specs.Projects.{IsIn, most_files, mention_in};
 ghost use Rattle.p8_objects.specs.Mentioned.{sources_of, IsMentionFault, IsSourceFault};
 ghost use Rattle.p8_objects.specs.Standing.{Stands};
 ghost use Rattle.p8_objects.specs.Goings.{CallsFor, IsRefusedCall};
 
-use crate::fault::GatherFault;
+use crate::fault::{GatherFault, Mention};
 use crate::mentions::{first_left, number_of};
 use p8_lexer::Refusal;
 use p8_tree::{List, ObjItem, Place, ProjectFile, Text};
 use std::alloc::Global;
+
+/// A file that is read next.
+#[derive(Drop)]
+pub(crate) struct Wanted {
+    pub(crate) name: Text,
+    /// Where it is mentioned. The top file is mentioned nowhere.
+    pub(crate) mention: Option<Mention>,
+}
 
 /// How many files a project may have.
 const MOST_FILES: usize = 255;
@@ -31,15 +39,15 @@ fn refused(alloc: Global, file: &Text, refusal: Refusal, place: Place) -> Gather
     }
 }
 
-/// The name of a file that is mentioned in the file of the name `from` and isn't finished, if it is a new one and there
-/// is room for it.
+/// A file that is mentioned in the file of the name `from` and isn't finished, if it is a new one and there is room for it.
 fn asked(
     alloc: Global,
     files: &[ProjectFile],
     from: &Text,
     item: &ObjItem,
-) -> Result<Text, GatherFault>
-    ensures name { IfOk result (λ name. name ≡ item.now.file) }
+) -> Result<Wanted, GatherFault>
+    ensures name { IfOk result (λ asked. asked.name ≡ item.now.file) }
+    ensures mention { IfOk result (λ asked. asked.mention ≡ Some (mention_in from.now (child_of item.now))) }
     ensures new { IfOk result (λ _. ¬ IsIn (sources_of files.now) item.now.file) }
     ensures room { IfOk result (λ _. length (sources_of files.now) < most_files) }
     ensures refused { IfErr result (IsMentionFault (sources_of files.now) from.now (child_of item.now)) }
@@ -50,7 +58,16 @@ fn asked(
     if files.len() >= MOST_FILES {
         return Err(refused(alloc, from, Refusal::TooManyObjects, item.place));
     }
-    Ok(Text::copy_of(alloc, item.file.as_slice())?)
+    let name = Text::copy_of(alloc, item.file.as_slice())?;
+    let file = Text::copy_of(alloc, from.as_slice())?;
+    let mention = Mention {
+        file,
+        place: item.file_place,
+    };
+    Ok(Wanted {
+        name,
+        mention: Some(mention),
+    })
 }
 
 /// The file that is read next after these, if there is one. Those whose mentions are all finished are finished too, from
@@ -59,7 +76,7 @@ pub(crate) fn next_file(
     alloc: Global,
     files: &[ProjectFile],
     done: &mut List<usize>,
-) -> Result<Option<Text>, GatherFault>
+) -> Result<Option<Wanted>, GatherFault>
     requires stands { Stands (sources_of files.now) done.old }
     requires some { 0 < length (sources_of files.now) }
     ensures stands { IfOk result (λ _. Stands (sources_of files.now) done.new) }

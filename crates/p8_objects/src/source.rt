@@ -13,6 +13,7 @@ ghost use Rattle.p8_objects.specs.Reading.{IsRead, IsFileOf, IsFileFault, IfRefu
 
 use crate::fault::GatherFault;
 use crate::mentions::item_too_many;
+use crate::next::Wanted;
 use p8_blocks::{parse, tokens_are_proper};
 use p8_io::{Shelf, ShelfError};
 use p8_lexer::{Refusal, Tokens, lex};
@@ -106,22 +107,28 @@ fn read_source(alloc: Global, bytes: &[u8]) -> Result<SourceFile, Fail<FileFault
     }
 }
 
-/// The file of this name with its tree.
+/// The file that is asked for, with its tree.
 pub(crate) fn read_file<S: Shelf>(
     alloc: Global,
     shelf: &mut S,
-    name: Text,
+    asked: Wanted,
 ) -> Result<ProjectFile, GatherFault>
-    ensures file { IfOk result (IsFileOf (shelved (S.files shelf.old) (S.faults shelf.old) (S.faults shelf.new)) name) }
-    ensures fault { IfErr result (IsFileFault (shelved (S.files shelf.old) (S.faults shelf.old) (S.faults shelf.new)) name) }
-    ensures one { MayBeRead name (S.log shelf.old) (S.log shelf.new) }
-    ensures logged { IfOk result (λ _. WereRead (S.log shelf.old) (S.log shelf.new) (name ∷ [])) }
+    ensures file { IfOk result (IsFileOf (shelved (S.files shelf.old) (S.faults shelf.old) (S.faults shelf.new)) asked.name) }
+    ensures fault { IfErr result (IsFileFault (shelved (S.files shelf.old) (S.faults shelf.old) (S.faults shelf.new)) asked) }
+    ensures one { MayBeRead asked.name (S.log shelf.old) (S.log shelf.new) }
+    ensures logged { IfOk result (λ _. WereRead (S.log shelf.old) (S.log shelf.new) (asked.name ∷ [])) }
     ensures later { S.faults shelf.old ≤ S.faults shelf.new }
     ensures kept { S.files shelf.new ≡ S.files shelf.old }
 {
+    let Wanted { name, mention } = asked;
     let bytes = match read_bytes(alloc, shelf, &name) {
         Ok(bytes) => bytes,
-        Err(ShelfError::Missing) => return Err(GatherFault::Missing { file: name }),
+        Err(ShelfError::Missing) => {
+            return Err(GatherFault::Missing {
+                file: name,
+                mention,
+            });
+        }
         Err(ShelfError::Failed) => return Err(GatherFault::ShelfFault { file: name }),
         Err(ShelfError::NoMemory) => return Err(GatherFault::NoMemory),
     };

@@ -14,36 +14,36 @@ use Rattle.p8_objects.proofs.gathering.gather.Goals as goal
 pub files-init : goal.files-init
 files-init g c =
     let p = begin (g.S.Shelf.files c.args.shelf.now) (g.S.Shelf.faults c.args.shelf.now) c.args.top.now c.in_ok-copy_of.field-0 c.new-files.result c.new-done.result c.new-files.ensures c.new-done.ensures (c.in_ok-copy_of.ensures ∙ c.as_bytes.ensures.value) in
-    record { stands = p.0; asked = p.1; read = begin-reading (g.S.Shelf.files c.args.shelf.now) c.args.top.now (g.S.Shelf.log c.args.shelf.now) c.new-files.result c.new-files.ensures; on = p.2; proper = no_trees IsProperFile c.new-files.result c.new-files.ensures; later = omega arith; kept = refl }
+    record { stands = p.0; asked = (p.1, p.2); read = begin-reading (g.S.Shelf.files c.args.shelf.now) c.args.top.now (g.S.Shelf.log c.args.shelf.now) c.new-files.result c.new-files.ensures; on = p.3; proper = no_trees IsProperFile c.new-files.result c.new-files.ensures; later = omega arith; kept = refl }
 
 pub returns-in_err-read_file-clause-answers : goal.returns-in_err-read_file-clause-answers
 returns-in_err-read_file-clause-answers g c =
     told c.from_residual-in_err-read_file.result _ (λ o. Answers (shelved (g.S.Shelf.files c.args.shelf.now) (g.S.Shelf.faults c.args.shelf.now) (g.S.Shelf.faults c.read_file.new.shelf)) c.args.top.now o) c.from_residual-in_err-read_file.ensures.1
-    (file_fault (g.S.Shelf.files c.args.shelf.now) (g.S.Shelf.files c.files.shelf) (g.S.Shelf.faults c.args.shelf.now) (g.S.Shelf.faults c.files.shelf) (g.S.Shelf.faults c.read_file.new.shelf) c.args.top.now c.in-Some.name
-    c.files.invariant.on (asked_for c.files.asked c.in-Some.name c.files.invariant.asked c.in-Some.is) c.files.invariant.kept c.files.invariant.later _ c.in_err-read_file.ensures.fault)
+    (file_fault (g.S.Shelf.files c.args.shelf.now) (g.S.Shelf.files c.files.shelf) (g.S.Shelf.faults c.args.shelf.now) (g.S.Shelf.faults c.files.shelf) (g.S.Shelf.faults c.read_file.new.shelf) c.args.top.now c.in-Some.next
+    c.files.invariant.on (asked_for c.files.asked c.in-Some.next c.files.invariant.asked c.in-Some.is) c.files.invariant.kept c.files.invariant.later _ c.in_err-read_file.ensures.fault)
 
 pub next_file-requires-clause-stands : goal.next_file-requires-clause-stands
 next_file-requires-clause-stands g c =
-    (more (g.S.Shelf.files c.args.shelf.now) (g.S.Shelf.files c.files.shelf) (g.S.Shelf.faults c.args.shelf.now) (g.S.Shelf.faults c.files.shelf) (g.S.Shelf.faults c.read_file.new.shelf) c.args.top.now c.in-Some.name c.files.files c.as_slice.result.now c.files.done c.in_ok-read_file.field-0
-    c.files.invariant.stands (asked_for c.files.asked c.in-Some.name c.files.invariant.asked c.in-Some.is) c.files.invariant.on c.files.invariant.kept c.in_ok-read_file.ensures.file (c.as_slice.ensures ∙ c.in_ok-push.ensures.ok)).0
+    (more (g.S.Shelf.files c.args.shelf.now) (g.S.Shelf.files c.files.shelf) (g.S.Shelf.faults c.args.shelf.now) (g.S.Shelf.faults c.files.shelf) (g.S.Shelf.faults c.read_file.new.shelf) c.args.top.now c.in-Some.next.name c.files.files c.as_slice.result.now c.files.done c.in_ok-read_file.field-0
+    c.files.invariant.stands (asked_for c.files.asked c.in-Some.next c.files.invariant.asked c.in-Some.is).0 c.files.invariant.on c.files.invariant.kept c.in_ok-read_file.ensures.file (c.as_slice.ensures ∙ c.in_ok-push.ensures.ok)).0
 
 pub returns-in_err-asked-clause-answers : goal.returns-in_err-asked-clause-answers
 returns-in_err-asked-clause-answers g c =
     told c.from_residual-in_err-asked.result _ (λ o. Answers (shelved (g.S.Shelf.files c.args.shelf.now) (g.S.Shelf.faults c.args.shelf.now) (g.S.Shelf.faults c.read_file.new.shelf)) c.args.top.now o) c.from_residual-in_err-asked.ensures.1
     (call_fault (g.S.Shelf.files c.args.shelf.now) (g.S.Shelf.faults c.args.shelf.now) (g.S.Shelf.faults c.read_file.new.shelf) c.args.top.now
-    (more (g.S.Shelf.files c.args.shelf.now) (g.S.Shelf.files c.files.shelf) (g.S.Shelf.faults c.args.shelf.now) (g.S.Shelf.faults c.files.shelf) (g.S.Shelf.faults c.read_file.new.shelf) c.args.top.now c.in-Some.name c.files.files c.as_slice.result.now c.files.done c.in_ok-read_file.field-0
-    c.files.invariant.stands (asked_for c.files.asked c.in-Some.name c.files.invariant.asked c.in-Some.is) c.files.invariant.on c.files.invariant.kept c.in_ok-read_file.ensures.file (c.as_slice.ensures ∙ c.in_ok-push.ensures.ok)).1
+    (more (g.S.Shelf.files c.args.shelf.now) (g.S.Shelf.files c.files.shelf) (g.S.Shelf.faults c.args.shelf.now) (g.S.Shelf.faults c.files.shelf) (g.S.Shelf.faults c.read_file.new.shelf) c.args.top.now c.in-Some.next.name c.files.files c.as_slice.result.now c.files.done c.in_ok-read_file.field-0
+    c.files.invariant.stands (asked_for c.files.asked c.in-Some.next c.files.invariant.asked c.in-Some.is).0 c.files.invariant.on c.files.invariant.kept c.in_ok-read_file.ensures.file (c.as_slice.ensures ∙ c.in_ok-push.ensures.ok)).1
     _ (c.in_err-asked.ensures.refused c.args.top.now))
 
 pub files-preserved : goal.files-preserved
 files-preserved g c =
-    let p = more (g.S.Shelf.files c.args.shelf.now) (g.S.Shelf.files c.files.shelf) (g.S.Shelf.faults c.args.shelf.now) (g.S.Shelf.faults c.files.shelf) (g.S.Shelf.faults c.read_file.new.shelf) c.args.top.now c.in-Some.name c.files.files c.push.new.self c.files.done c.in_ok-read_file.field-0
-    c.files.invariant.stands (asked_for c.files.asked c.in-Some.name c.files.invariant.asked c.in-Some.is) c.files.invariant.on c.files.invariant.kept c.in_ok-read_file.ensures.file c.in_ok-push.ensures.ok in
+    let p = more (g.S.Shelf.files c.args.shelf.now) (g.S.Shelf.files c.files.shelf) (g.S.Shelf.faults c.args.shelf.now) (g.S.Shelf.faults c.files.shelf) (g.S.Shelf.faults c.read_file.new.shelf) c.args.top.now c.in-Some.next.name c.files.files c.push.new.self c.files.done c.in_ok-read_file.field-0
+    c.files.invariant.stands (asked_for c.files.asked c.in-Some.next c.files.invariant.asked c.in-Some.is).0 c.files.invariant.on c.files.invariant.kept c.in_ok-read_file.ensures.file c.in_ok-push.ensures.ok in
     record {
       stands = subst (λ (fs : List ProjectFile). Stands (sources_of fs) c.next_file.new.done) c.as_slice.ensures c.in_ok-asked.ensures.stands;
       asked = subst (λ (fs : List ProjectFile). CallsFor c.args.top.now (sources_of fs) c.next_file.new.done c.in_ok-asked.asked) c.as_slice.ensures (c.in_ok-asked.ensures.next c.args.top.now);
-      read = read-more (g.S.Shelf.files c.args.shelf.now) (g.S.Shelf.files c.files.shelf) (g.S.Shelf.faults c.files.shelf) (g.S.Shelf.faults c.read_file.new.shelf) (g.S.Shelf.log c.args.shelf.now) (g.S.Shelf.log c.files.shelf) (g.S.Shelf.log c.read_file.new.shelf) c.args.top.now c.in-Some.name c.files.files c.push.new.self c.files.done c.in_ok-read_file.field-0
-          c.files.invariant.read (asked_for c.files.asked c.in-Some.name c.files.invariant.asked c.in-Some.is) c.files.invariant.kept c.in_ok-read_file.ensures.file c.in_ok-read_file.ensures.logged c.in_ok-push.ensures.ok;
+      read = read-more (g.S.Shelf.files c.args.shelf.now) (g.S.Shelf.files c.files.shelf) (g.S.Shelf.faults c.files.shelf) (g.S.Shelf.faults c.read_file.new.shelf) (g.S.Shelf.log c.args.shelf.now) (g.S.Shelf.log c.files.shelf) (g.S.Shelf.log c.read_file.new.shelf) c.args.top.now c.in-Some.next.name c.files.files c.push.new.self c.files.done c.in_ok-read_file.field-0
+          c.files.invariant.read (asked_for c.files.asked c.in-Some.next c.files.invariant.asked c.in-Some.is).0 c.files.invariant.kept c.in_ok-read_file.ensures.file c.in_ok-read_file.ensures.logged c.in_ok-push.ensures.ok;
       on = p.1;
       proper = tree_more IsProperFile c.files.files c.push.new.self c.in_ok-read_file.field-0 c.files.invariant.proper c.in_ok-read_file.ensures.file.proper c.in_ok-push.ensures.ok;
       later = omega (arith, c.files.invariant.later, c.read_file.ensures.later);
@@ -81,17 +81,17 @@ returns-in_err-copy_of-clause-in_order g c = nothing-in_order (g.S.Shelf.files c
 pub returns-in_err-read_file-clause-in_order : goal.returns-in_err-read_file-clause-in_order
 returns-in_err-read_file-clause-in_order g c =
     with-one (g.S.Shelf.files c.args.shelf.now) c.args.top.now (g.S.Shelf.log c.args.shelf.now) (g.S.Shelf.log c.files.shelf) (g.S.Shelf.log c.read_file.new.shelf)
-    c.files.invariant.read c.in-Some.name (asked_for c.files.asked c.in-Some.name c.files.invariant.asked c.in-Some.is) c.read_file.ensures.one
+    c.files.invariant.read c.in-Some.next.name (asked_for c.files.asked c.in-Some.next c.files.invariant.asked c.in-Some.is).0 c.read_file.ensures.one
 
 pub returns-in_err-push-clause-in_order : goal.returns-in_err-push-clause-in_order
 returns-in_err-push-clause-in_order g c =
     with-one (g.S.Shelf.files c.args.shelf.now) c.args.top.now (g.S.Shelf.log c.args.shelf.now) (g.S.Shelf.log c.files.shelf) (g.S.Shelf.log c.read_file.new.shelf)
-    c.files.invariant.read c.in-Some.name (asked_for c.files.asked c.in-Some.name c.files.invariant.asked c.in-Some.is) c.read_file.ensures.one
+    c.files.invariant.read c.in-Some.next.name (asked_for c.files.asked c.in-Some.next c.files.invariant.asked c.in-Some.is).0 c.read_file.ensures.one
 
 pub returns-in_err-asked-clause-in_order : goal.returns-in_err-asked-clause-in_order
 returns-in_err-asked-clause-in_order g c =
     with-one (g.S.Shelf.files c.args.shelf.now) c.args.top.now (g.S.Shelf.log c.args.shelf.now) (g.S.Shelf.log c.files.shelf) (g.S.Shelf.log c.read_file.new.shelf)
-    c.files.invariant.read c.in-Some.name (asked_for c.files.asked c.in-Some.name c.files.invariant.asked c.in-Some.is) c.read_file.ensures.one
+    c.files.invariant.read c.in-Some.next.name (asked_for c.files.asked c.in-Some.next c.files.invariant.asked c.in-Some.is).0 c.read_file.ensures.one
 
 pub returns-clause-all_read : goal.returns-clause-all_read
 returns-clause-all_read g c = c.files.invariant.read.read

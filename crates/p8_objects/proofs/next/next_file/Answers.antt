@@ -24,7 +24,7 @@ returns-in-Some-clause-next c =
     reached c.args.files.now c.files.done c.as_slice.result.now c.files.at-counter c.index-files-at.result c.files.invariant.stands c.files.invariant.behind c.files-test.true c.files.invariant.within c.as_slice.ensures (sym c.contains.ensures.value ∙ c.if-contains.false) c.index-files-at.is in
     let l : IsFirstLeft (sources_of c.args.files.now) c.files.done (mentions (source_of c.index-files-at.result.tree)) (child_of c.in-Some.item.now) =
     subst (λ (ds : List ℕ). IsFirstLeft (sources_of c.args.files.now) ds (mentions (source_of c.index-files-at.result.tree)) (child_of c.in-Some.item.now)) c.as_slice-in-files.ensures c.in-Some.ensures in
-    asked_is (child_of c.in-Some.item.now) c.in_ok-asked-in-Some.field-0 r l c.in_ok-asked-in-Some.ensures.name c.in_ok-asked-in-Some.ensures.new c.in_ok-asked-in-Some.ensures.room
+    asked_is (child_of c.in-Some.item.now) c.in_ok-asked-in-Some.field-0 r l c.in_ok-asked-in-Some.ensures.name c.in_ok-asked-in-Some.ensures.mention c.in_ok-asked-in-Some.ensures.new c.in_ok-asked-in-Some.ensures.room
 
 pub files-preserved : goal.files-preserved
 files-preserved c =
