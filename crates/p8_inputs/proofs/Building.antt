@@ -8,18 +8,20 @@ use Rattle.p8_io.specs.Shelves.{Files}
 use Rattle.p8_objects.specs.Outcomes.{project}
 use Rattle.p8_inputs.specs.declared.program.Format.TheVariants.{Source}
 use Rattle.p8_inputs.specs.declared.stop.Stop.{Stop}
-use Rattle.p8_inputs.specs.declared.stop.Stop.TheVariants.{Unread, Missing, NoMemory, Refused, BadProgram, BadScript}
+use Rattle.p8_inputs.specs.declared.stop.Stop.TheVariants.{Unread, Missing, NoMemory, Refused, BadProgram, BadScript, Unnamed}
 use Rattle.p8_objects.specs.Whole.{EachTree}
 use Rattle.p8_tree.specs.Proper.{IsProperFile}
 use Rattle.p8_image.specs.declared.parts.ObjectPart.{ObjectPart}
 use Rattle.p8_image.specs.Loading.{ImageValue}
 use Rattle.p8_build.specs.declared.building.Built.{Built}
 use Rattle.p8_build.specs.Told.{IsImageBuilt, IsBuiltTo}
+use Rattle.p8_legend.specs.declared.legend.Legend.{Legend}
 use Rattle.p8_map.specs.Projects.{IsMapOf}
+use Rattle.p8_project_legend.specs.Projects.{IsLegendOf}
 use Rattle.p8_opt.specs.Shorts.{IsShortImageBuilt, IsShortBuiltTo}
 use Rattle.p8_inputs.specs.Gathered.{StopsAtBuilding, IsImageBuiltBy, AreBuiltBy, IsListingOf}
 use Rattle.p8_inputs.specs.Runs.{HasProperTrees}
-use Rattle.p8_inputs.specs.Sources.{GathersTo, IsImageFrom, IsListingFrom, IsMapFrom, when_built}
+use Rattle.p8_inputs.specs.Sources.{GathersTo, IsImageFrom, IsListingFrom, IsMapFrom, IsProjectLegend, when_built}
 use Rattle.p8_inputs.specs.Asks.{StopsAtProgram}
 
 -- what is built is built by the choice
@@ -46,13 +48,17 @@ module _ (files : Files) (short : Bool) (top : List ℕ) (sources : List NamedSo
   pub map-from : (text : List ℕ) → IsMapOf sources text → IsMapFrom files top text
   map-from text is = (sources, gathered, is)
 
+  pub legend-from : (legend : Legend) → IsLegendOf sources legend → IsProjectLegend files top legend
+  legend-from legend is = (sources, gathered, is)
+
   pub building-stops : (before now : ℕ) (stop : Stop) → StopsAtBuilding sources stop → StopsAtProgram files before now (Source short) top stop
   building-stops before now (Refused name number place) stops = when_built sources gathered stops
   building-stops before now NoMemory stops = tt
   building-stops before now (Unread name) stops = absurd stops
-  building-stops before now (Missing name) stops = absurd stops
+  building-stops before now (Missing name mention) stops = absurd stops
   building-stops before now (BadProgram name fault) stops = absurd stops
   building-stops before now (BadScript name line) stops = absurd stops
+  building-stops before now (Unnamed file name) stops = absurd stops
 
 -- the image of proper trees is an image of the project
 pub image-of-project : (files : Files) (short : Bool) (top bytes : List ℕ) → HasProperTrees files (Source short) top bytes → IsImageFrom files short top bytes

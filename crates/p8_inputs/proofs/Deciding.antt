@@ -1,5 +1,5 @@
 -- Where the shelf tells its files, asks come to one thing alone: what they are given, or one reason that stops them.
-use Rattle.std.proofs.Common.{◌≡◌, ◌<◌, ◌≤◌, ◌∙◌, ap, ap₂, sym, subst, arith, ℕ, Bool, false, inl, inr, refl, List, [], ◌∷◌, length, Option, Some, None}
+use Rattle.std.proofs.Common.{◌≡◌, ◌<◌, ◌≤◌, ◌∙◌, ap, ap₂, sym, subst, arith, ℕ, Bool, true, false, inl, inr, refl, List, [], ◌∷◌, length, Option, Some, None}
 use Rattle.p8_access.specs.Worlds.{Line}
 use Rattle.p8_tree.specs.declared.places.Place.{Place}
 use Rattle.p8_tree.specs.Projects.{NamedSource}
@@ -9,6 +9,8 @@ use Rattle.p8_image.specs.declared.parts.ObjectPart.{ObjectPart}
 use Rattle.p8_image.specs.Layout.{image_of}
 use Rattle.p8_io.specs.Counts.{Rose}
 use Rattle.p8_io.specs.Shelves.{Files, IsRead, AreStartOf}
+use Rattle.p8_legend.specs.declared.legend.Legend.{Legend}
+use Rattle.p8_objects.specs.declared.fault.Mention.{Mention}
 use Rattle.p8_objects.specs.Outcomes.{Outcome, failed, shelved, ComesTo}
 use Rattle.p8_objects.specs.Outcomes as outcomes
 use Rattle.p8_pins.specs.Scripts.{IsReadAs, IsFault}
@@ -20,12 +22,14 @@ use Rattle.std.specs.Prelude.{map}
 use Rattle.p8_inputs.specs.declared.program.Format.{Format}
 use Rattle.p8_inputs.specs.declared.program.Format.TheVariants.{Memory, Image, Eeprom, Source}
 use Rattle.p8_inputs.specs.declared.stop.Stop.{Stop}
-use Rattle.p8_inputs.specs.declared.stop.Stop.TheVariants.{Unread, Missing, NoMemory, Refused, BadProgram, BadScript}
+use Rattle.p8_inputs.specs.declared.stop.Stop.TheVariants.{Unread, Missing, NoMemory, Refused, BadProgram, BadScript, Unnamed}
 use Rattle.p8_inputs.specs.Programs.{fault_of}
 use Rattle.p8_inputs.specs.Sources.{HasOneOutcome, IsBuiltFrom, IsListingFrom, IsMapFrom}
 use Rattle.p8_inputs.specs.Inputs.{IsProgram, IsScriptFor, IsProgramUnread, HasFault}
-use Rattle.p8_inputs.specs.Asks.{most_sent, Ask, program, listing, mapping, script, history, message, Given, bytes, lines, Gives, Give, StopsAtFile, StopsAtMessage, StopsAtProgram, StopsAtScript, StopsAt, StopsFirst, Stops, IsOfFiles, HasOneReading}
+use Rattle.p8_inputs.specs.Asks.{most_sent, Ask, program, viewing, listing, mapping, script, history, message, Given, bytes, viewed, lines, Gives, Give, StopsAtFile, StopsAtMessage, StopsAtProgram, StopsAtScript, IsUnnamed, StopsAt, StopsFirst, Stops, IsOfFiles, HasOneReading}
+use Rattle.p8_inputs.specs.Legends.{IsLegendFrom, HasName, range_in}
 use Rattle.p8_inputs.proofs.Mapping.{map-built}
+use Rattle.p8_inputs.proofs.Naming.{same-nothing}
 use Rattle.p8_inputs.proofs.Stopping.{first-or_memory}
 
 start-one : (file : Option (List ℕ)) (a b : List ℕ) → AreStartOf file a → AreStartOf file b → a ≡ b
@@ -75,11 +79,14 @@ module _ (files : List ℕ → Option (List ℕ)) where
   refused-same : {a b : List ℕ} {m n : ℕ} {p q : Place} → (a ≡ b) × (m ≡ n) × (p ≡ q) → Refused a m p ≡ Refused b n q
   refused-same e = λ i. Refused (e.0 i) (e.1 i) (e.2 i)
 
+  missing-same : {a b : List ℕ} {k l : Option Mention} → (a ≡ b) × (k ≡ l) → Missing a k ≡ Missing b l
+  missing-same e = λ i. Missing (e.0 i) (e.1 i)
+
   faulty-same : {a b : List ℕ} {f g : LoadFault} → (a ≡ b) × (f ≡ g) → BadProgram a f ≡ BadProgram b g
   faulty-same e = λ i. BadProgram (e.0 i) (e.1 i)
 
   file-stop-one : (before now : ℕ) (file : List ℕ) (a b : Stop) → IsOfFiles a → IsOfFiles b → StopsAtFile (Some files) before now file a → StopsAtFile (Some files) before now file b → a ≡ b
-  file-stop-one before now file (Missing a) (Missing b) s t p q = ap Missing (p.0 ∙ sym q.0)
+  file-stop-one before now file (Missing a k) (Missing b l) s t p q = missing-same (p.0 ∙ sym q.0, p.2 ∙ sym q.2)
   file-stop-one before now file (Unread a) b s t p q = absurd s
   file-stop-one before now file NoMemory b s t p q = absurd s
   file-stop-one before now file (Refused a m x) b s t p q = absurd p
@@ -90,14 +97,17 @@ module _ (files : List ℕ → Option (List ℕ)) where
   file-stop-one before now file a (Refused b n y) s t p q = absurd q
   file-stop-one before now file a (BadProgram b g) s t p q = absurd q
   file-stop-one before now file a (BadScript b n) s t p q = absurd q
+  file-stop-one before now file (Unnamed a m) b s t p q = absurd p
+  file-stop-one before now file a (Unnamed b n) s t p q = absurd q
 
   file-never_both : (before now : ℕ) (file xs : List ℕ) (stop : Stop) → IsOfFiles stop → IsRead (Some files) file xs → StopsAtFile (Some files) before now file stop → ⊥
-  file-never_both before now file xs (Missing name) s is stops = read-some file name xs is stops.0 stops.1
+  file-never_both before now file xs (Missing name mention) s is stops = read-some file name xs is stops.0 stops.1
   file-never_both before now file xs (Unread name) s is stops = s
   file-never_both before now file xs NoMemory s is stops = s
   file-never_both before now file xs (Refused name number place) s is stops = stops
   file-never_both before now file xs (BadProgram name fault) s is stops = stops
   file-never_both before now file xs (BadScript name line) s is stops = stops
+  file-never_both before now file xs (Unnamed other name) s is stops = stops
 
   -- too many bytes are as many wherever they are read
   long-one : (file a b xs ys : List ℕ) (f g : LoadFault) → a ≡ file → IsRead (Some files) a xs → f ≡ BadLength (length xs) → b ≡ file → IsRead (Some files) b ys → g ≡ BadLength (length ys) → BadProgram a f ≡ BadProgram b g
@@ -107,9 +117,9 @@ module _ (files : List ℕ → Option (List ℕ)) where
       λ i. BadProgram ((a-is ∙ sym b-is) i) (fault i)
 
   message-stop-one : (before now : ℕ) (file : List ℕ) (a b : Stop) → IsOfFiles a → IsOfFiles b → StopsAtMessage (Some files) before now file a → StopsAtMessage (Some files) before now file b → a ≡ b
-  message-stop-one before now file (Missing a) (Missing b) s t p q = ap Missing (p.0 ∙ sym q.0)
-  message-stop-one before now file (Missing a) (BadProgram b g) s t p q = absurd (read-some b a q.1.0 q.1.1 (p.0 ∙ sym q.0) p.1)
-  message-stop-one before now file (BadProgram a f) (Missing b) s t p q = absurd (read-some a b p.1.0 p.1.1 (q.0 ∙ sym p.0) q.1)
+  message-stop-one before now file (Missing a k) (Missing b l) s t p q = missing-same (p.0 ∙ sym q.0, p.2 ∙ sym q.2)
+  message-stop-one before now file (Missing a k) (BadProgram b g) s t p q = absurd (read-some b a q.1.0 q.1.1 (p.0 ∙ sym q.0) p.1)
+  message-stop-one before now file (BadProgram a f) (Missing b l) s t p q = absurd (read-some a b p.1.0 p.1.1 (q.0 ∙ sym p.0) q.1)
   message-stop-one before now file (BadProgram a f) (BadProgram b g) s t p q = long-one file a b p.1.0 q.1.0 f g p.0 p.1.1 p.1.3 q.0 q.1.1 q.1.3
   message-stop-one before now file (Unread a) b s t p q = absurd s
   message-stop-one before now file NoMemory b s t p q = absurd s
@@ -119,9 +129,11 @@ module _ (files : List ℕ → Option (List ℕ)) where
   message-stop-one before now file a NoMemory s t p q = absurd t
   message-stop-one before now file a (Refused b n y) s t p q = absurd q
   message-stop-one before now file a (BadScript b n) s t p q = absurd q
+  message-stop-one before now file (Unnamed a m) b s t p q = absurd p
+  message-stop-one before now file a (Unnamed b n) s t p q = absurd q
 
   message-never_both : (before now : ℕ) (file xs : List ℕ) (stop : Stop) → IsOfFiles stop → IsRead (Some files) file xs → length xs ≤ most_sent → StopsAtMessage (Some files) before now file stop → ⊥
-  message-never_both before now file xs (Missing name) s is few stops = read-some file name xs is stops.0 stops.1
+  message-never_both before now file xs (Missing name mention) s is few stops = read-some file name xs is stops.0 stops.1
   message-never_both before now file xs (BadProgram name fault) s is few stops =
       let same : length xs ≡ length stops.1.0 = ap length (read-same_name file name xs stops.1.0 stops.0 is stops.1.1) in
       let many : most_sent < length stops.1.0 = stops.1.2 in
@@ -130,11 +142,12 @@ module _ (files : List ℕ → Option (List ℕ)) where
   message-never_both before now file xs NoMemory s is few stops = s
   message-never_both before now file xs (Refused name number place) s is few stops = stops
   message-never_both before now file xs (BadScript name line) s is few stops = stops
+  message-never_both before now file xs (Unnamed other name) s is few stops = stops
 
   script-stop-one : (before now : ℕ) (file : List ℕ) (a b : Stop) → IsOfFiles a → IsOfFiles b → StopsAtScript (Some files) before now file a → StopsAtScript (Some files) before now file b → a ≡ b
-  script-stop-one before now file (Missing a) (Missing b) s t p q = ap Missing (p.0 ∙ sym q.0)
-  script-stop-one before now file (Missing a) (BadScript b n) s t p q = absurd (read-some b a q.1.0 q.1.1 (p.0 ∙ sym q.0) p.1)
-  script-stop-one before now file (BadScript a m) (Missing b) s t p q = absurd (read-some a b p.1.0 p.1.1 (q.0 ∙ sym p.0) q.1)
+  script-stop-one before now file (Missing a k) (Missing b l) s t p q = missing-same (p.0 ∙ sym q.0, p.2 ∙ sym q.2)
+  script-stop-one before now file (Missing a k) (BadScript b n) s t p q = absurd (read-some b a q.1.0 q.1.1 (p.0 ∙ sym q.0) p.1)
+  script-stop-one before now file (BadScript a m) (Missing b l) s t p q = absurd (read-some a b p.1.0 p.1.1 (q.0 ∙ sym p.0) q.1)
   script-stop-one before now file (BadScript a m) (BadScript b n) s t p q =
       let xs : p.1.0 ≡ q.1.0 = read-same_name a b p.1.0 q.1.0 (q.0 ∙ sym p.0) p.1.1 q.1.1 in
       let line : m ≡ n = fault-one q.1.0 m n (subst (λ (text : List ℕ). IsFault text m) xs p.1.2) q.1.2 in
@@ -147,9 +160,11 @@ module _ (files : List ℕ → Option (List ℕ)) where
   script-stop-one before now file a NoMemory s t p q = absurd t
   script-stop-one before now file a (Refused b n y) s t p q = absurd q
   script-stop-one before now file a (BadProgram b g) s t p q = absurd q
+  script-stop-one before now file (Unnamed a m) b s t p q = absurd p
+  script-stop-one before now file a (Unnamed b n) s t p q = absurd q
 
   script-never_both : (before now : ℕ) (file : List ℕ) (xs : List Line) (stop : Stop) → IsOfFiles stop → IsScriptFor (Some files) (Some file) xs → StopsAtScript (Some files) before now file stop → ⊥
-  script-never_both before now file xs (Missing name) s is stops = read-some file name is.0 is.1 stops.0 stops.1
+  script-never_both before now file xs (Missing name mention) s is stops = read-some file name is.0 is.1 stops.0 stops.1
   script-never_both before now file xs (BadScript name line) s is stops =
       let same : is.0 ≡ stops.1.0 = read-same_name file name is.0 stops.1.0 stops.0 is.1 stops.1.1 in
       read-not_bad stops.1.0 xs line (subst (λ (text : List ℕ). IsReadAs text xs) same is.2) stops.1.2
@@ -157,6 +172,7 @@ module _ (files : List ℕ → Option (List ℕ)) where
   script-never_both before now file xs NoMemory s is stops = s
   script-never_both before now file xs (Refused name number place) s is stops = stops
   script-never_both before now file xs (BadProgram name fault) s is stops = stops
+  script-never_both before now file xs (Unnamed other name) s is stops = stops
 
   module _ (one : HasOneOutcome files) where
     -- ---- a program
@@ -182,24 +198,24 @@ module _ (files : List ℕ → Option (List ℕ)) where
         (image_of map.clock objects, (is.0, map.clock, objects, record { gathered = is.1; built = map-built is.0 text map }, refl))
 
     program-stop-one : (before now : ℕ) (format : Format) (file : List ℕ) (a b : Stop) → IsOfFiles a → IsOfFiles b → StopsAtProgram (Some files) before now format file a → StopsAtProgram (Some files) before now format file b → a ≡ b
-    program-stop-one before now (Source short) file (Missing a) (Missing b) s t p q = ap Missing (one.one_missing before now file a b p q)
-    program-stop-one before now (Source short) file (Missing a) (Refused b n y) s t p q = absurd (one.missing_or_refused before now file a b n y p q)
-    program-stop-one before now (Source short) file (Refused a m x) (Missing b) s t p q = absurd (one.missing_or_refused before now file b a m x q p)
+    program-stop-one before now (Source short) file (Missing a k) (Missing b l) s t p q = missing-same (one.one_missing before now file a b k l p q)
+    program-stop-one before now (Source short) file (Missing a k) (Refused b n y) s t p q = absurd (one.missing_or_refused before now file a b k n y p q)
+    program-stop-one before now (Source short) file (Refused a m x) (Missing b l) s t p q = absurd (one.missing_or_refused before now file b a l m x q p)
     program-stop-one before now (Source short) file (Refused a m x) (Refused b n y) s t p q = refused-same (one.one_refusal file a b m n x y p q)
     program-stop-one before now (Source short) file (BadProgram a f) b s t p q = absurd p
     program-stop-one before now (Source short) file a (BadProgram b g) s t p q = absurd q
-    program-stop-one before now Memory file (Missing a) (Missing b) s t p q = ap Missing (p.0 ∙ sym q.0)
-    program-stop-one before now Memory file (Missing a) (BadProgram b g) s t p q = absurd (read-some b a q.0 q.2 (p.0 ∙ sym q.1) p.1)
-    program-stop-one before now Memory file (BadProgram a f) (Missing b) s t p q = absurd (read-some a b p.0 p.2 (q.0 ∙ sym p.1) q.1)
+    program-stop-one before now Memory file (Missing a k) (Missing b l) s t p q = missing-same (p.0 ∙ sym q.0, p.2 ∙ sym q.2)
+    program-stop-one before now Memory file (Missing a k) (BadProgram b g) s t p q = absurd (read-some b a q.0 q.2 (p.0 ∙ sym q.1) p.1)
+    program-stop-one before now Memory file (BadProgram a f) (Missing b l) s t p q = absurd (read-some a b p.0 p.2 (q.0 ∙ sym p.1) q.1)
     program-stop-one before now Memory file (BadProgram a f) (BadProgram b g) s t p q = faulty-same (one-fault Memory file a b f g p.0 q.0 p.1 p.2 p.3 q.1 q.2 q.3)
     program-stop-one before now Memory file (Refused a m x) b s t p q = absurd p
     program-stop-one before now Memory file a (Refused b n y) s t p q = absurd q
-    program-stop-one before now Image file (Missing a) (Missing b) s t p q = ap Missing (p.0 ∙ sym q.0)
-    program-stop-one before now Eeprom file (Missing a) (Missing b) s t p q = ap Missing (p.0 ∙ sym q.0)
-    program-stop-one before now Image file (Missing a) (BadProgram b g) s t p q = absurd (read-some b a q.0 q.2 (p.0 ∙ sym q.1) p.1)
-    program-stop-one before now Eeprom file (Missing a) (BadProgram b g) s t p q = absurd (read-some b a q.0 q.2 (p.0 ∙ sym q.1) p.1)
-    program-stop-one before now Image file (BadProgram a f) (Missing b) s t p q = absurd (read-some a b p.0 p.2 (q.0 ∙ sym p.1) q.1)
-    program-stop-one before now Eeprom file (BadProgram a f) (Missing b) s t p q = absurd (read-some a b p.0 p.2 (q.0 ∙ sym p.1) q.1)
+    program-stop-one before now Image file (Missing a k) (Missing b l) s t p q = missing-same (p.0 ∙ sym q.0, p.2 ∙ sym q.2)
+    program-stop-one before now Eeprom file (Missing a k) (Missing b l) s t p q = missing-same (p.0 ∙ sym q.0, p.2 ∙ sym q.2)
+    program-stop-one before now Image file (Missing a k) (BadProgram b g) s t p q = absurd (read-some b a q.0 q.2 (p.0 ∙ sym q.1) p.1)
+    program-stop-one before now Eeprom file (Missing a k) (BadProgram b g) s t p q = absurd (read-some b a q.0 q.2 (p.0 ∙ sym q.1) p.1)
+    program-stop-one before now Image file (BadProgram a f) (Missing b l) s t p q = absurd (read-some a b p.0 p.2 (q.0 ∙ sym p.1) q.1)
+    program-stop-one before now Eeprom file (BadProgram a f) (Missing b l) s t p q = absurd (read-some a b p.0 p.2 (q.0 ∙ sym p.1) q.1)
     program-stop-one before now Image file (BadProgram a f) (BadProgram b g) s t p q = faulty-same (one-fault Image file a b f g p.0 q.0 p.1 p.2 p.3 q.1 q.2 q.3)
     program-stop-one before now Eeprom file (BadProgram a f) (BadProgram b g) s t p q = faulty-same (one-fault Eeprom file a b f g p.0 q.0 p.1 p.2 p.3 q.1 q.2 q.3)
     program-stop-one before now Image file (Refused a m x) b s t p q = absurd p
@@ -212,16 +228,18 @@ module _ (files : List ℕ → Option (List ℕ)) where
     program-stop-one before now format file a (Unread b) s t p q = absurd t
     program-stop-one before now format file a NoMemory s t p q = absurd t
     program-stop-one before now format file a (BadScript b n) s t p q = absurd q
+    program-stop-one before now format file (Unnamed a m) b s t p q = absurd p
+    program-stop-one before now format file a (Unnamed b n) s t p q = absurd q
 
     program-never_both : (before now : ℕ) (format : Format) (file xs : List ℕ) (stop : Stop) → IsOfFiles stop → IsProgram (Some files) format file xs → StopsAtProgram (Some files) before now format file stop → ⊥
-    program-never_both before now (Source short) file xs (Missing name) s is stops = one.not_missing before now short file name is.0 is.1 is.2 is.3 stops
+    program-never_both before now (Source short) file xs (Missing name mention) s is stops = one.not_missing before now short file name mention is.0 is.1 is.2 is.3 stops
     program-never_both before now (Source short) file xs (Refused name number place) s is stops = one.not_refused short file name number place is.0 is.1 is.2 is.3 stops
     program-never_both before now (Source short) file xs (BadProgram name fault) s is stops = stops
-    program-never_both before now Memory file xs (Missing name) s is stops = read-some file name xs is.0 stops.0 stops.1
+    program-never_both before now Memory file xs (Missing name mention) s is stops = read-some file name xs is.0 stops.0 stops.1
     program-never_both before now Memory file xs (Refused name number place) s is stops = stops
     program-never_both before now Memory file xs (BadProgram name fault) s is stops = there-not_faulty Memory file xs name fault is.0 is.1 stops.0 stops.1 stops.2 stops.3
-    program-never_both before now Image file xs (Missing name) s is stops = read-some file name xs is.0 stops.0 stops.1
-    program-never_both before now Eeprom file xs (Missing name) s is stops = read-some file name xs is.0 stops.0 stops.1
+    program-never_both before now Image file xs (Missing name mention) s is stops = read-some file name xs is.0 stops.0 stops.1
+    program-never_both before now Eeprom file xs (Missing name mention) s is stops = read-some file name xs is.0 stops.0 stops.1
     program-never_both before now Image file xs (Refused name number place) s is stops = stops
     program-never_both before now Eeprom file xs (Refused name number place) s is stops = stops
     program-never_both before now Image file xs (BadProgram name fault) s is stops = there-not_faulty Image file xs name fault is.0 is.1 stops.0 stops.1 stops.2 stops.3
@@ -229,31 +247,81 @@ module _ (files : List ℕ → Option (List ℕ)) where
     program-never_both before now format file xs (Unread name) s is stops = s
     program-never_both before now format file xs NoMemory s is stops = s
     program-never_both before now format file xs (BadScript name line) s is stops = stops
+    program-never_both before now format file xs (Unnamed other name) s is stops = stops
+
+    -- ---- a program with its legend
+
+    legend-of_one : (format : Format) (file : List ℕ) (a b : Legend) → IsLegendFrom (Some files) format file a → IsLegendFrom (Some files) format file b → a ≡ b
+    legend-of_one (Source false) file a b p q = one.one_legend file a b p q
+    legend-of_one (Source true) file a b p q = same-nothing a b p q
+    legend-of_one Memory file a b p q = same-nothing a b p q
+    legend-of_one Image file a b p q = same-nothing a b p q
+    legend-of_one Eeprom file a b p q = same-nothing a b p q
+
+    unnamed-one : (format : Format) (file : List ℕ) (name : Option (List ℕ)) (a b : Stop) → IsUnnamed (Some files) format file name a → IsUnnamed (Some files) format file name b → a ≡ b
+    unnamed-one format file name (Unnamed a m) (Unnamed b n) p q =
+        let text : m ≡ n = same-some name m n p.1 q.1 in
+        λ i. Unnamed ((p.0 ∙ sym q.0) i) (text i)
+    unnamed-one format file name (Unnamed a m) b p q = absurd q
+    unnamed-one format file name a b p q = absurd p
+
+    unnamed-program : (format : Format) (file : List ℕ) (name : Option (List ℕ)) (stop : Stop) → IsUnnamed (Some files) format file name stop → (xs : List ℕ) × IsProgram (Some files) format file xs
+    unnamed-program format file name (Unnamed a m) p = p.2
+    unnamed-program format file name stop p = absurd p
+
+    unnamed-never_both : (format : Format) (file : List ℕ) (legend : Legend) (name : Option (List ℕ)) (stop : Stop) → IsLegendFrom (Some files) format file legend → HasName legend name → IsUnnamed (Some files) format file name stop → ⊥
+    unnamed-never_both format file legend (Some text) (Unnamed a m) from has p =
+        let same : text ≡ m = same-some (Some text) text m refl p.1 in
+        let none : range_in legend text ≡ None = subst (λ (t : List ℕ). range_in legend t ≡ None) (sym same) (subst (λ (l : Legend). range_in l m ≡ None) (legend-of_one format file p.3.0 legend p.3.1 from) p.3.2) in
+        none-not_some (range_in legend text) has.0 none has.1
+    unnamed-never_both format file legend None (Unnamed a m) from has p = none-not_some None m refl p.1
+    unnamed-never_both format file legend name stop from has p = absurd p
+
+    viewing-stop-one : (before now : ℕ) (format : Format) (file : List ℕ) (name : Option (List ℕ)) (a b : Stop) → IsOfFiles a → IsOfFiles b → StopsAt (Some files) before now (viewing format file name) a → StopsAt (Some files) before now (viewing format file name) b → a ≡ b
+    viewing-stop-one before now format file name a b s t (inl p) (inl q) = program-stop-one before now format file a b s t p q
+    viewing-stop-one before now format file name a b s t (inl p) (inr q) =
+        let there = unnamed-program format file name b q in
+        absurd (program-never_both before now format file there.0 a s there.1 p)
+    viewing-stop-one before now format file name a b s t (inr p) (inl q) =
+        let there = unnamed-program format file name a p in
+        absurd (program-never_both before now format file there.0 b t there.1 q)
+    viewing-stop-one before now format file name a b s t (inr p) (inr q) = unnamed-one format file name a b p q
+
+    viewing-never_both : (before now : ℕ) (format : Format) (file xs : List ℕ) (legend : Legend) (name : Option (List ℕ)) (stop : Stop) → IsOfFiles stop → Gives (Some files) (viewing format file name) (viewed xs legend) → StopsAt (Some files) before now (viewing format file name) stop → ⊥
+    viewing-never_both before now format file xs legend name stop s is (inl p) = program-never_both before now format file xs stop s is.0 p
+    viewing-never_both before now format file xs legend name stop s is (inr p) = unnamed-never_both format file legend name stop is.1 is.2 p
 
     -- ---- an ask
 
     gives-one : (ask : Ask) (a b : Given) → Gives (Some files) ask a → Gives (Some files) ask b → a ≡ b
     gives-one (program format file) (bytes xs) (bytes ys) p q = ap bytes (program-one format file xs ys p q)
+    gives-one (viewing format file name) (viewed xs k) (viewed ys l) p q =
+        let text : xs ≡ ys = program-one format file xs ys p.0 q.0 in
+        let legend : k ≡ l = legend-of_one format file k l p.1 q.1 in
+        λ i. viewed (text i) (legend i)
     gives-one (listing short file) (bytes xs) (bytes ys) p q = ap bytes (listing-one short file xs ys p q)
     gives-one (mapping file) (bytes xs) (bytes ys) p q = ap bytes (one.one_map file xs ys p q)
     gives-one (script file) (lines xs) (lines ys) p q = ap lines (script-one file xs ys p q)
     gives-one (history file) (bytes xs) (bytes ys) p q = ap bytes (read-one file xs ys p q)
     gives-one (message file) (bytes xs) (bytes ys) p q = ap bytes (read-one file xs ys p.0 q.0)
-    gives-one (message file) (lines xs) b p q = absurd p
-    gives-one (message file) (bytes xs) (lines ys) p q = absurd q
-    gives-one (history file) (lines xs) b p q = absurd p
-    gives-one (history file) (bytes xs) (lines ys) p q = absurd q
-    gives-one (program format file) (lines xs) b p q = absurd p
-    gives-one (program format file) (bytes xs) (lines ys) p q = absurd q
-    gives-one (listing short file) (lines xs) b p q = absurd p
-    gives-one (listing short file) (bytes xs) (lines ys) p q = absurd q
-    gives-one (mapping file) (lines xs) b p q = absurd p
-    gives-one (mapping file) (bytes xs) (lines ys) p q = absurd q
-    gives-one (script file) (bytes xs) b p q = absurd p
-    gives-one (script file) (lines xs) (bytes ys) p q = absurd q
+    gives-one (program format file) (bytes xs) b p q = absurd q
+    gives-one (program format file) a b p q = absurd p
+    gives-one (viewing format file name) (viewed xs k) b p q = absurd q
+    gives-one (viewing format file name) a b p q = absurd p
+    gives-one (listing short file) (bytes xs) b p q = absurd q
+    gives-one (listing short file) a b p q = absurd p
+    gives-one (mapping file) (bytes xs) b p q = absurd q
+    gives-one (mapping file) a b p q = absurd p
+    gives-one (script file) (lines xs) b p q = absurd q
+    gives-one (script file) a b p q = absurd p
+    gives-one (history file) (bytes xs) b p q = absurd q
+    gives-one (history file) a b p q = absurd p
+    gives-one (message file) (bytes xs) b p q = absurd q
+    gives-one (message file) a b p q = absurd p
 
     stop-one : (before now : ℕ) (ask : Ask) (a b : Stop) → IsOfFiles a → IsOfFiles b → StopsAt (Some files) before now ask a → StopsAt (Some files) before now ask b → a ≡ b
     stop-one before now (program format file) a b s t p q = program-stop-one before now format file a b s t p q
+    stop-one before now (viewing format file name) a b s t p q = viewing-stop-one before now format file name a b s t p q
     stop-one before now (listing short file) a b s t p q = program-stop-one before now (Source short) file a b s t p q
     stop-one before now (mapping file) a b s t p q = program-stop-one before now (Source false) file a b s t p q
     stop-one before now (script file) a b s t p q = script-stop-one before now file a b s t p q
@@ -266,15 +334,17 @@ module _ (files : List ℕ → Option (List ℕ)) where
     never-both before now (mapping file) (bytes xs) stop s is stops =
         let built = image-of_map file xs is in
         program-never_both before now (Source false) file built.0 stop s built.1 stops
-    never-both before now (mapping file) (lines xs) stop s is stops = is
+    never-both before now (viewing format file name) (viewed xs legend) stop s is stops = viewing-never_both before now format file xs legend name stop s is stops
     never-both before now (script file) (lines xs) stop s is stops = script-never_both before now file xs stop s is stops
-    never-both before now (program format file) (lines xs) stop s is stops = is
-    never-both before now (listing short file) (lines xs) stop s is stops = is
-    never-both before now (script file) (bytes xs) stop s is stops = is
     never-both before now (history file) (bytes xs) stop s is stops = file-never_both before now file xs stop s is stops
-    never-both before now (history file) (lines xs) stop s is stops = is
     never-both before now (message file) (bytes xs) stop s is stops = message-never_both before now file xs stop s is.0 is.1 stops
-    never-both before now (message file) (lines xs) stop s is stops = is
+    never-both before now (program format file) given stop s is stops = is
+    never-both before now (viewing format file name) given stop s is stops = is
+    never-both before now (listing short file) given stop s is stops = is
+    never-both before now (mapping file) given stop s is stops = is
+    never-both before now (script file) given stop s is stops = is
+    never-both before now (history file) given stop s is stops = is
+    never-both before now (message file) given stop s is stops = is
 
     -- ---- all asks
 
@@ -326,7 +396,7 @@ module _ (files : List ℕ → Option (List ℕ)) where
 gather-rose : (files : Files) (before now : ℕ) (top name : List ℕ) {sources : List NamedSource} (o : Outcome) → o ≡ failed name → ComesTo (shelved files before now) top sources o → Rose before now
 gather-rose files before now top name o is (outcomes.one_more other xs s calls has source rest) = gather-rose files before now top name o is rest
 gather-rose files before now top name o is (outcomes.file_refused other xs number place calls has refusal) = absurd cc
-gather-rose files before now top name o is (outcomes.absent other calls lacks) = absurd cc
+gather-rose files before now top name o is (outcomes.absent other mention calls m lacks) = absurd cc
 gather-rose files before now top name o is (outcomes.not_read other calls rose) = rose
 gather-rose files before now top name o is (outcomes.mention_refused other number place calls) = absurd cc
 gather-rose files before now top name o is (outcomes.whole calls) = absurd cc
@@ -339,6 +409,8 @@ program-unread-rose files before now Eeprom file name unread = unread.1
 
 ask-unread-rose : (files : Files) (before now : ℕ) (ask : Ask) (name : List ℕ) → StopsAt files before now ask (Unread name) → Rose before now
 ask-unread-rose files before now (program format file) name unread = program-unread-rose files before now format file name unread
+ask-unread-rose files before now (viewing format file other) name (inl unread) = program-unread-rose files before now format file name unread
+ask-unread-rose files before now (viewing format file other) name (inr none) = absurd none
 ask-unread-rose files before now (listing short file) name unread = program-unread-rose files before now (Source short) file name unread
 ask-unread-rose files before now (mapping file) name unread = program-unread-rose files before now (Source false) file name unread
 ask-unread-rose files before now (script file) name unread = unread.1

@@ -24,13 +24,13 @@ use Rattle.p8_inputs.specs.Sources.{GathersTo}
 abbrev pub IsOfContents : Outcome → Type 0
 IsOfContents (project files) = Unit {0}
 IsOfContents (refused name number place) = Unit {0}
-IsOfContents (missing name) = ⊥
+IsOfContents (missing name mention) = ⊥
 IsOfContents (failed name) = ⊥
 
 recounted : (files : Files) (before now b n : ℕ) (top : List ℕ) {sources : List NamedSource} (o : Outcome) → IsOfContents o → ComesTo (shelved files before now) top sources o → ComesTo (shelved files b n) top sources o
 recounted files before now b n top o of (outcomes.one_more name bytes s calls has source rest) = outcomes.one_more name bytes s calls has source (recounted files before now b n top o of rest)
 recounted files before now b n top o of (outcomes.file_refused name bytes number place calls has is) = outcomes.file_refused name bytes number place calls has is
-recounted files before now b n top o of (outcomes.absent name calls is) = absurd of
+recounted files before now b n top o of (outcomes.absent name mention calls m is) = absurd of
 recounted files before now b n top o of (outcomes.not_read name calls rose) = absurd of
 recounted files before now b n top o of (outcomes.mention_refused name number place calls) = outcomes.mention_refused name number place calls
 recounted files before now b n top o of (outcomes.whole calls) = outcomes.whole calls

@@ -7,3 +7,5 @@ pub mod Stopping
 mod Refusals
 mod Outcomes
 mod Mapping
+mod Naming
+mod Viewing

@@ -8,6 +8,8 @@ use Rattle.p8_kinds.specs.declared.children.Children.{Children}
 use Rattle.p8_names.specs.Children.{AreChildren}
 use Rattle.p8_image.specs.declared.clocks.Clock.{Clock}
 use Rattle.p8_image.specs.declared.parts.ObjectPart.{ObjectPart}
+use Rattle.p8_legend.specs.declared.legend.Legend.{Legend}
+use Rattle.p8_objects.specs.declared.fault.Mention.{Mention}
 use Rattle.p8_objects.specs.Outcomes.{Outcome, project, refused, missing, shelved, Gathers}
 use Rattle.p8_objects.specs.Whole.{IsOfFiles}
 use Rattle.p8_objects.proofs.Wholes.{whole_project}
@@ -15,26 +17,28 @@ use Rattle.p8_names.specs.Mentions as seen
 use Rattle.p8_build.specs.Builds.{IsBuilt, IsRefusedWith, objects_of}
 use Rattle.p8_map.specs.Projects.{IsMapOf}
 use Rattle.p8_opt.specs.Shorts.{IsShortBuilt}
-use Rattle.p8_inputs.specs.Sources.{GathersTo, IsBuiltBy, IsBuiltFrom, IsMapFrom, IsRefusedFrom, while_gathered, when_built, HasOneOutcome}
+use Rattle.p8_project_legend.specs.Projects.{AreSame, IsLegendOf}
+use Rattle.p8_inputs.specs.Sources.{GathersTo, IsBuiltBy, IsBuiltFrom, IsMapFrom, IsProjectLegend, IsRefusedFrom, while_gathered, when_built, HasOneOutcome}
 use Rattle.p8_inputs.proofs.Gathering.{distinct, no_ring}
 use Rattle.p8_inputs.proofs.Mapping.{map-one}
+use Rattle.p8_inputs.proofs.Naming.{same-legend}
 
 same-project : {a b : List NamedSource} → project a ≡ project b → a ≡ b
 same-project e = cc
 
-project-not_missing : {a : List NamedSource} {name : List ℕ} → project a ≡ missing name → ⊥
+project-not_missing : {a : List NamedSource} {name : List ℕ} {mention : Option Mention} → project a ≡ missing name mention → ⊥
 project-not_missing e = cc
 
 project-not_refused : {a : List NamedSource} {name : List ℕ} {number : ℕ} {place : Place} → project a ≡ refused name number place → ⊥
 project-not_refused e = cc
 
-same-missing : {a b : List ℕ} → missing a ≡ missing b → a ≡ b
-same-missing e = cc
+same-missing : {a b : List ℕ} {m n : Option Mention} → missing a m ≡ missing b n → (a ≡ b) × (m ≡ n)
+same-missing e = (cc, cc)
 
 same-refused : {a b : List ℕ} {m n : ℕ} {p q : Place} → refused a m p ≡ refused b n q → (a ≡ b) × (m ≡ n) × (p ≡ q)
 same-refused e = (cc, cc, cc)
 
-missing-not_refused : {a name : List ℕ} {number : ℕ} {place : Place} → missing a ≡ refused name number place → ⊥
+missing-not_refused : {a name : List ℕ} {mention : Option Mention} {number : ℕ} {place : Place} → missing a mention ≡ refused name number place → ⊥
 missing-not_refused e = cc
 
 -- a project with short code is accepted as it stands
@@ -60,10 +64,14 @@ OneShortBuilt = (files : List NamedSource) → seen.AreDistinct files → seen.H
 abbrev pub OneView : Type 0
 OneView = (files : List NamedSource) → seen.AreDistinct files → seen.HaveNoRing files → (a b : List Children) → AreChildren files a → AreChildren files b → a ≡ b
 
+-- a project has one legend
+abbrev pub OneLegend : Type 0
+OneLegend = (files : List NamedSource) → seen.AreDistinct files → seen.HaveNoRing files → (a b : Legend) → IsLegendOf files a → IsLegendOf files b → AreSame a b
+
 abbrev pub OneRefused : Type 0
 OneRefused = (files : List NamedSource) → seen.AreDistinct files → seen.HaveNoRing files → (a b : List ℕ) (f g : Fault) → IsRefusedWith files a f → IsRefusedWith files b g → (a ≡ b) × (f ≡ g)
 
-module _ (one : OneGathered) (same : OneBuilt) (refusal : OneRefused) (either : BuiltOrRefused) (short_same : OneShortBuilt) (views : OneView) (files : List ℕ → Option (List ℕ)) where
+module _ (one : OneGathered) (same : OneBuilt) (refusal : OneRefused) (either : BuiltOrRefused) (short_same : OneShortBuilt) (views : OneView) (legends : OneLegend) (files : List ℕ → Option (List ℕ)) where
   -- what building by a choice comes to is one thing
   built-one : (short : Bool) (sources : List NamedSource) → seen.AreDistinct sources → seen.HaveNoRing sources → (c d : Clock) (a b : List ObjectPart) → IsBuiltBy short sources c a → IsBuiltBy short sources d b → (c ≡ d) × (a ≡ b)
   built-one false sources different none c d a b p q = same sources different none c d a b p q
@@ -89,6 +97,12 @@ module _ (one : OneGathered) (same : OneBuilt) (refusal : OneRefused) (either : 
       let whole = whole_project (q.1 0 0) in
       map-one q.0 (views q.0 (distinct q.0 whole.distinct) (no_ring q.0 whole.no_ring)) a b (subst (λ s. IsMapOf s a) e p.2) q.2
 
+  one-legend : (top : List ℕ) (a b : Legend) → IsProjectLegend (Some files) top a → IsProjectLegend (Some files) top b → a ≡ b
+  one-legend top a b p q =
+      let e : p.0 ≡ q.0 = one-project top p.0 q.0 p.1 q.1 in
+      let whole = whole_project (q.1 0 0) in
+      same-legend a b (legends q.0 (distinct q.0 whole.distinct) (no_ring q.0 whole.no_ring) a b (subst (λ s. IsLegendOf s a) e p.2) q.2)
+
   not-refused : (short : Bool) (top name : List ℕ) (number : ℕ) (place : Place) (sources : List NamedSource) (clock : Clock) (objects : List ObjectPart) → IsBuiltFrom (Some files) short top sources clock objects → IsRefusedFrom (Some files) top name number place → ⊥
   not-refused short top name number place sources clock objects g (while_gathered h) =
       project-not_refused (one files 0 0 top (project sources) (refused name number place) (g.gathered 0 0) (h 0 0) tt tt)
@@ -97,11 +111,11 @@ module _ (one : OneGathered) (same : OneBuilt) (refusal : OneRefused) (either : 
       let whole = whole_project (g.gathered 0 0) in
       built-or_refused short sources (distinct sources whole.distinct) (no_ring sources whole.no_ring) clock objects name (fault number place) g.built (subst (λ s. IsRefusedWith s name (fault number place)) e told)
 
-  missing-or-refused : (before now : ℕ) (top name other : List ℕ) (number : ℕ) (place : Place) → Gathers (shelved (Some files) before now) top (missing name) → IsRefusedFrom (Some files) top other number place → ⊥
-  missing-or-refused before now top name other number place g (while_gathered h) =
-      missing-not_refused (one files before now top (missing name) (refused other number place) g (h before now) tt tt)
-  missing-or-refused before now top name other number place g (when_built sources h refusal) =
-      project-not_missing (one files before now top (project sources) (missing name) (h before now) g tt tt)
+  missing-or-refused : (before now : ℕ) (top name other : List ℕ) (mention : Option Mention) (number : ℕ) (place : Place) → Gathers (shelved (Some files) before now) top (missing name mention) → IsRefusedFrom (Some files) top other number place → ⊥
+  missing-or-refused before now top name other mention number place g (while_gathered h) =
+      missing-not_refused (one files before now top (missing name mention) (refused other number place) g (h before now) tt tt)
+  missing-or-refused before now top name other mention number place g (when_built sources h refusal) =
+      project-not_missing (one files before now top (project sources) (missing name mention) (h before now) g tt tt)
 
   one-refusal : (top a b : List ℕ) (m n : ℕ) (p q : Place) → IsRefusedFrom (Some files) top a m p → IsRefusedFrom (Some files) top b n q → (a ≡ b) × (m ≡ n) × (p ≡ q)
   one-refusal top a b m n p q (while_gathered g) (while_gathered h) =
@@ -120,9 +134,10 @@ module _ (one : OneGathered) (same : OneBuilt) (refusal : OneRefused) (either : 
   one-outcome = record {
     one_image = one-image;
     one_map = one-map;
-    not_missing = λ before now short top name sources clock objects g h. project-not_missing (one files before now top (project sources) (missing name) (g.gathered before now) h tt tt);
+    one_legend = one-legend;
+    not_missing = λ before now short top name mention sources clock objects g h. project-not_missing (one files before now top (project sources) (missing name mention) (g.gathered before now) h tt tt);
     not_refused = not-refused;
     missing_or_refused = missing-or-refused;
-    one_missing = λ before now top a b g h. same-missing (one files before now top (missing a) (missing b) g h tt tt);
+    one_missing = λ before now top a b m n g h. same-missing (one files before now top (missing a m) (missing b n) g h tt tt);
     one_refusal = one-refusal;
   }

@@ -7,9 +7,9 @@ use Rattle.p8_io.specs.Shelves.{Files, IsLacking}
 use Rattle.p8_inputs.specs.declared.inputs.Inputs.{Inputs}
 use Rattle.p8_inputs.specs.declared.program.Format.{Format}
 use Rattle.p8_inputs.specs.declared.stop.Stop.{Stop}
-use Rattle.p8_inputs.specs.declared.stop.Stop.TheVariants.{Unread, Missing, NoMemory, Refused, BadProgram, BadScript}
-use Rattle.p8_inputs.specs.Inputs.{IsProgram, IsScriptFor}
-use Rattle.p8_inputs.specs.Asks.{Ask, program, script_ask, run_asks, check_asks, history, Given, bytes, lines, Give, StopsAtFile, StopsAtProgram, StopsAtScript, StopsFirst, Stops}
+use Rattle.p8_inputs.specs.declared.stop.Stop.TheVariants.{Unread, Missing, NoMemory, Refused, BadProgram, BadScript, Unnamed}
+use Rattle.p8_inputs.specs.Inputs.{IsScriptFor}
+use Rattle.p8_inputs.specs.Asks.{Ask, program, script_ask, run_asks, check_asks, history, Given, bytes, lines, Gives, Give, StopsAtFile, StopsAtProgram, StopsAtScript, StopsFirst, Stops}
 use Rattle.p8_inputs.specs.Runs.{Begins}
 
 -- an error that is handed on
@@ -28,20 +28,22 @@ lacking-since before between now (Some files) name later lacks = lacks
 
 script-since : (files : Files) (before between now : ℕ) (file : List ℕ) (stop : Stop) → before ≤ between → StopsAtScript files between now file stop → StopsAtScript files before now file stop
 script-since files before between now file (Unread name) later stops = (stops.0, since before between now later stops.1)
-script-since files before between now file (Missing name) later stops = (stops.0, lacking-since before between now files name later stops.1)
+script-since files before between now file (Missing name mention) later stops = (stops.0, lacking-since before between now files name later stops.1, stops.2)
 script-since files before between now file NoMemory later stops = tt
 script-since files before between now file (Refused name number place) later stops = absurd stops
 script-since files before between now file (BadProgram name fault) later stops = absurd stops
 script-since files before between now file (BadScript name line) later stops = stops
+script-since files before between now file (Unnamed other name) later stops = absurd stops
 
 -- the reason of the first ask that stops is one
 pub first-stops : (files : Files) (before now : ℕ) (asks : List Ask) (stop : Stop) → StopsFirst files before now asks stop → Stops files before now asks stop
 first-stops files before now asks (Unread name) stops = stops
-first-stops files before now asks (Missing name) stops = stops
+first-stops files before now asks (Missing name mention) stops = stops
 first-stops files before now asks NoMemory stops = tt
 first-stops files before now asks (Refused name number place) stops = stops
 first-stops files before now asks (BadProgram name fault) stops = stops
 first-stops files before now asks (BadScript name line) stops = stops
+first-stops files before now asks (Unnamed file name) stops = stops
 
 -- the program stops
 pub program-stops : (files : Files) (before now : ℕ) (format : Format) (file : List ℕ) (asks : List Ask) (stop : Stop) → StopsAtProgram files before now format file stop → Stops files before now (program format file ∷ asks) stop
@@ -49,11 +51,12 @@ program-stops files before now format file asks stop stops = first-stops files b
 
 pub first-or_memory : (files : Files) (before now : ℕ) (asks : List Ask) (stop : Stop) → Stops files before now asks stop → (stop ≡ NoMemory) ⊎ StopsFirst files before now asks stop
 first-or_memory files before now asks (Unread name) stops = inr stops
-first-or_memory files before now asks (Missing name) stops = inr stops
+first-or_memory files before now asks (Missing name mention) stops = inr stops
 first-or_memory files before now asks NoMemory stops = inl refl
 first-or_memory files before now asks (Refused name number place) stops = inr stops
 first-or_memory files before now asks (BadProgram name fault) stops = inr stops
 first-or_memory files before now asks (BadScript name line) stops = inr stops
+first-or_memory files before now asks (Unnamed file name) stops = inr stops
 
 asked-since : (files : Files) (before between now : ℕ) (named : Option (List ℕ)) (stop : Stop) → before ≤ between → StopsFirst files between now (script_ask named) stop → StopsFirst files before now (script_ask named) stop
 asked-since files before between now None stop later stops = absurd stops
@@ -62,31 +65,33 @@ asked-since files before between now (Some file) stop later stops = elim stops [
   | inr more ↦ inr more
 ]
 
--- the program is there, and the pin script stops
-pub script-stops : (files : Files) (before between now : ℕ) (format : Format) (file xs : List ℕ) (named : Option (List ℕ)) (stop : Stop) → before ≤ between → IsProgram files format file xs → Stops files between now (script_ask named) stop → Stops files before now (program format file ∷ script_ask named) stop
-script-stops files before between now format file xs named stop later there stops = elim (first-or_memory files between now (script_ask named) stop stops) [
-  | inl memory ↦ subst (λ (s : Stop). Stops files before now (program format file ∷ script_ask named) s) (sym memory) tt
-  | inr first ↦ first-stops files before now (program format file ∷ script_ask named) stop (inr ((bytes xs, there), asked-since files before between now named stop later first))
+-- the first ask is given something, and the pin script stops
+pub script-stops : (files : Files) (before between now : ℕ) (ask : Ask) (given : Given) (named : Option (List ℕ)) (stop : Stop) → before ≤ between → Gives files ask given → Stops files between now (script_ask named) stop → Stops files before now (ask ∷ script_ask named) stop
+script-stops files before between now ask given named stop later there stops = elim (first-or_memory files between now (script_ask named) stop stops) [
+  | inl memory ↦ subst (λ (s : Stop). Stops files before now (ask ∷ script_ask named) s) (sym memory) tt
+  | inr first ↦ first-stops files before now (ask ∷ script_ask named) stop (inr ((given, there), asked-since files before between now named stop later first))
 ]
 
 -- the bytes of a pin script stop it
 pub file-stops : (files : Files) (before now : ℕ) (file : List ℕ) (stop : Stop) → StopsAtFile files before now file stop → StopsAtScript files before now file stop
 file-stops files before now file (Unread name) stops = stops
-file-stops files before now file (Missing name) stops = stops
+file-stops files before now file (Missing name mention) stops = stops
 file-stops files before now file NoMemory stops = tt
 file-stops files before now file (Refused name number place) stops = absurd stops
 file-stops files before now file (BadProgram name fault) stops = absurd stops
 file-stops files before now file (BadScript name line) stops = absurd stops
+file-stops files before now file (Unnamed other name) stops = absurd stops
 
 -- ---- asks behind others
 
 file-since : (files : Files) (before between now : ℕ) (file : List ℕ) (stop : Stop) → before ≤ between → StopsAtFile files between now file stop → StopsAtFile files before now file stop
 file-since files before between now file (Unread name) later stops = (stops.0, since before between now later stops.1)
-file-since files before between now file (Missing name) later stops = (stops.0, lacking-since before between now files name later stops.1)
+file-since files before between now file (Missing name mention) later stops = (stops.0, lacking-since before between now files name later stops.1, stops.2)
 file-since files before between now file NoMemory later stops = tt
 file-since files before between now file (Refused name number place) later stops = absurd stops
 file-since files before between now file (BadProgram name fault) later stops = absurd stops
 file-since files before between now file (BadScript name line) later stops = absurd stops
+file-since files before between now file (Unnamed other name) later stops = absurd stops
 
 module _ (files : Files) (before now : ℕ) where
   -- asks are given something, and what is behind them stops

@@ -6,6 +6,7 @@ use Rattle.p8_image.specs.declared.faults.LoadFault.{LoadFault}
 use Rattle.p8_pins.specs.Scripts.{IsReadAs}
 use Rattle.p8_io.specs.Counts.{Rose}
 use Rattle.p8_io.specs.Shelves.{Files, IsLacking, IsRead}
+use Rattle.p8_objects.specs.declared.fault.Mention.{Mention}
 use Rattle.p8_objects.specs.Outcomes.{missing, failed, shelved, Gathers}
 use Rattle.p8_inputs.specs.declared.program.Format.{Format}
 use Rattle.p8_inputs.specs.declared.program.Format.TheVariants.{Source}
@@ -22,10 +23,11 @@ abbrev pub IsScriptFor : Files → Option (List ℕ) → List Line → Type 0
 IsScriptFor files None script = script ≡ []
 IsScriptFor files (Some name) script = (bytes : List ℕ) × IsRead files name bytes × IsReadAs bytes script
 
--- the file to run is missing, or one of its project, by what the shelf tells, with its counts before and now
-abbrev pub IsProgramMissing : Files → (before now : ℕ) → Format → (file name : List ℕ) → Type 0
-IsProgramMissing files before now (Source short) file name = Gathers (shelved files before now) file (missing name)
-IsProgramMissing files before now format file name = (name ≡ file) × IsLacking before now files name
+-- the file to run is missing, which is mentioned nowhere, or one of its project, which is mentioned there, by what the shelf tells, with its counts
+-- before and now
+abbrev pub IsProgramMissing : Files → (before now : ℕ) → Format → (file name : List ℕ) → Option Mention → Type 0
+IsProgramMissing files before now (Source short) file name mention = Gathers (shelved files before now) file (missing name mention)
+IsProgramMissing files before now format file name mention = (name ≡ file) × IsLacking before now files name × (mention ≡ None)
 
 -- the file to run could not be read, or one of its project: the shelf has counted a fault
 abbrev pub IsProgramUnread : Files → (before now : ℕ) → Format → (file name : List ℕ) → Type 0

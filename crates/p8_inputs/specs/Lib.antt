@@ -1,6 +1,7 @@
 -- What public contracts cite.
 pub mod Programs
 pub mod Sources
+pub mod Legends
 pub mod Inputs
 pub mod Asks
 pub mod Orders

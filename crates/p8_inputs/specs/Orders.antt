@@ -6,17 +6,22 @@ use Rattle.p8_objects.specs.Outcomes.{project}
 use Rattle.p8_objects.specs.Orders.{AreAllRead as FilesAreRead, ReadsInOrder}
 use Rattle.p8_inputs.specs.declared.program.Format.{Format}
 use Rattle.p8_inputs.specs.declared.program.Format.TheVariants.{Source}
-use Rattle.p8_inputs.specs.Asks.{Ask, program, listing, mapping, script, history, message, Given, Gives}
+use Rattle.p8_inputs.specs.Asks.{Ask, program, viewing, listing, mapping, script, history, message, Given, Gives}
 use Rattle.p8_inputs.specs.Sources.{GathersTo}
 
 -- the files of the project of a top file were read, each once, in their order
 abbrev pub IsProjectRead : Files → (top : List ℕ) → (before now : Log) → Type 0
 IsProjectRead files top before now = (sources : List NamedSource) × GathersTo files top (project sources) × FilesAreRead sources before now
 
+-- all of a program was read: the files of a project, or the one file
+abbrev pub IsProgramRead : Files → Format → (file : List ℕ) → (before now : Log) → Type 0
+IsProgramRead files (Source short) file before now = IsProjectRead files file before now
+IsProgramRead files format file before now = WereRead before now (file ∷ [])
+
 -- all that an ask reads was read between two logs: the one file, or those of a project
 abbrev pub IsAllRead : Files → Ask → (before now : Log) → Type 0
-IsAllRead files (program (Source short) file) before now = IsProjectRead files file before now
-IsAllRead files (program format file) before now = WereRead before now (file ∷ [])
+IsAllRead files (program format file) before now = IsProgramRead files format file before now
+IsAllRead files (viewing format file name) before now = IsProgramRead files format file before now
 IsAllRead files (listing short file) before now = IsProjectRead files file before now
 IsAllRead files (mapping file) before now = IsProjectRead files file before now
 IsAllRead files (script file) before now = WereRead before now (file ∷ [])
@@ -27,10 +32,15 @@ IsAllRead files (message file) before now = WereRead before now (file ∷ [])
 abbrev pub MayBeRead : (file : List ℕ) → (before now : Log) → Type 0
 MayBeRead file before now = WereRead before now [] ⊎ WereRead before now (file ∷ [])
 
+-- a beginning of a program was read
+abbrev pub IsProgramBegun : Files → Format → (file : List ℕ) → (before now : Log) → Type 0
+IsProgramBegun files (Source short) file before now = ReadsInOrder files file before now
+IsProgramBegun files format file before now = MayBeRead file before now
+
 -- a beginning of what an ask reads was read
 abbrev pub IsReadSoFar : Files → Ask → (before now : Log) → Type 0
-IsReadSoFar files (program (Source short) file) before now = ReadsInOrder files file before now
-IsReadSoFar files (program format file) before now = MayBeRead file before now
+IsReadSoFar files (program format file) before now = IsProgramBegun files format file before now
+IsReadSoFar files (viewing format file name) before now = IsProgramBegun files format file before now
 IsReadSoFar files (listing short file) before now = ReadsInOrder files file before now
 IsReadSoFar files (mapping file) before now = ReadsInOrder files file before now
 IsReadSoFar files (script file) before now = MayBeRead file before now

@@ -7,9 +7,12 @@ use Rattle.p8_image.specs.declared.clocks.Clock.{Clock}
 use Rattle.p8_image.specs.declared.parts.ObjectPart.{ObjectPart}
 use Rattle.p8_image.specs.Layout.{image_of}
 use Rattle.p8_io.specs.Shelves.{Files}
+use Rattle.p8_legend.specs.declared.legend.Legend.{Legend}
+use Rattle.p8_objects.specs.declared.fault.Mention.{Mention}
 use Rattle.p8_objects.specs.Outcomes.{Outcome, project, refused, missing, shelved, Gathers}
 use Rattle.p8_build.specs.Builds.{IsBuilt, IsRefusedWith}
 use Rattle.p8_map.specs.Projects.{IsMapOf}
+use Rattle.p8_project_legend.specs.Projects.{IsLegendOf}
 use Rattle.p8_opt.specs.Shorts.{IsShortBuilt}
 use Rattle.p8_texts.specs.Listing.{listing_of}
 
@@ -43,6 +46,10 @@ IsListingFrom files short top text =
 abbrev pub IsMapFrom : Files → (top text : List ℕ) → Type 0
 IsMapFrom files top text = (sources : List NamedSource) × GathersTo files top (project sources) × IsMapOf sources text
 
+-- this legend is that of the project of a top file
+abbrev pub IsProjectLegend : Files → (top : List ℕ) → Legend → Type 0
+IsProjectLegend files top legend = (sources : List NamedSource) × GathersTo files top (project sources) × IsLegendOf sources legend
+
 -- the project of a top file is refused: this file of it, with this number, at this place; while it is gathered, or else when it is built
 pub data IsRefusedFrom (files : Files) (top name : List ℕ) (number : ℕ) (place : Place) : Type 0 where
   while_gathered : GathersTo files top (refused name number place) → IsRefusedFrom files top name number place
@@ -55,13 +62,14 @@ pub record HasOneOutcome (files : List ℕ → Option (List ℕ)) : Type 0 where
       → IsBuiltFrom (Some files) short top some clock objects → IsBuiltFrom (Some files) short top others other parts
       → (some ≡ others) × (clock ≡ other) × (objects ≡ parts)
   pub one_map : (top a b : List ℕ) → IsMapFrom (Some files) top a → IsMapFrom (Some files) top b → a ≡ b
-  pub not_missing : (before now : ℕ) (short : Bool) (top name : List ℕ) (sources : List NamedSource) (clock : Clock) (objects : List ObjectPart)
-      → IsBuiltFrom (Some files) short top sources clock objects → ¬ Gathers (shelved (Some files) before now) top (missing name)
+  pub one_legend : (top : List ℕ) (a b : Legend) → IsProjectLegend (Some files) top a → IsProjectLegend (Some files) top b → a ≡ b
+  pub not_missing : (before now : ℕ) (short : Bool) (top name : List ℕ) (mention : Option Mention) (sources : List NamedSource) (clock : Clock) (objects : List ObjectPart)
+      → IsBuiltFrom (Some files) short top sources clock objects → ¬ Gathers (shelved (Some files) before now) top (missing name mention)
   pub not_refused : (short : Bool) (top name : List ℕ) (number : ℕ) (place : Place) (sources : List NamedSource) (clock : Clock) (objects : List ObjectPart)
       → IsBuiltFrom (Some files) short top sources clock objects → ¬ IsRefusedFrom (Some files) top name number place
-  pub missing_or_refused : (before now : ℕ) (top name other : List ℕ) (number : ℕ) (place : Place)
-      → Gathers (shelved (Some files) before now) top (missing name) → ¬ IsRefusedFrom (Some files) top other number place
-  pub one_missing : (before now : ℕ) (top a b : List ℕ)
-      → Gathers (shelved (Some files) before now) top (missing a) → Gathers (shelved (Some files) before now) top (missing b) → a ≡ b
+  pub missing_or_refused : (before now : ℕ) (top name other : List ℕ) (mention : Option Mention) (number : ℕ) (place : Place)
+      → Gathers (shelved (Some files) before now) top (missing name mention) → ¬ IsRefusedFrom (Some files) top other number place
+  pub one_missing : (before now : ℕ) (top a b : List ℕ) (m n : Option Mention)
+      → Gathers (shelved (Some files) before now) top (missing a m) → Gathers (shelved (Some files) before now) top (missing b n) → (a ≡ b) × (m ≡ n)
   pub one_refusal : (top a b : List ℕ) (m n : ℕ) (p q : Place)
       → IsRefusedFrom (Some files) top a m p → IsRefusedFrom (Some files) top b n q → (a ≡ b) × (m ≡ n) × (p ≡ q)

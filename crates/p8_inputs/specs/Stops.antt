@@ -4,7 +4,7 @@ use Rattle.std.specs.Fmt.{decimal}
 use Rattle.p8_tree.specs.declared.places.Place.{Place}
 use Rattle.p8_image.specs.Messages.{fault_text}
 use Rattle.p8_inputs.specs.declared.stop.Stop.{Stop}
-use Rattle.p8_inputs.specs.declared.stop.Stop.TheVariants.{Unread, Missing, NoMemory, Refused, BadProgram, BadScript}
+use Rattle.p8_inputs.specs.declared.stop.Stop.TheVariants.{Unread, Missing, NoMemory, Refused, BadProgram, BadScript, Unnamed}
 use Rattle.p8_inputs.specs.Refusals.{name_numbered}
 
 -- a place in a file, and what is wrong there
@@ -16,8 +16,9 @@ refusal_line name number place =
 -- the line that tells it
 abbrev pub line_of : Stop → List ℕ
 line_of (Unread name) = codes "prop: cannot read " ++ name ++ 10 ∷ []
-line_of (Missing name) = codes "prop: " ++ name ++ codes " is missing" ++ 10 ∷ []
+line_of (Missing name mention) = codes "prop: " ++ name ++ codes " is missing" ++ 10 ∷ []
 line_of NoMemory = codes "prop: out of memory" ++ 10 ∷ []
 line_of (Refused name number place) = refusal_line name number place
 line_of (BadProgram name fault) = codes "prop: " ++ name ++ codes ": " ++ fault_text fault ++ 10 ∷ []
 line_of (BadScript name line) = codes "prop: " ++ name ++ codes ": line " ++ decimal line ++ 10 ∷ []
+line_of (Unnamed file name) = codes "prop: " ++ file ++ codes ": nothing is named " ++ name ++ 10 ∷ []

@@ -53,7 +53,10 @@ pub(crate) fn bytes_in<S: Shelf>(alloc: Global, file: &str, shelf: &mut S) -> Re
     let name = Text::copy_of(alloc, file.as_bytes())?;
     match shelf.read(alloc, file) {
         Ok(bytes) => Ok(bytes),
-        Err(ShelfError::Missing) => Err(Stop::Missing { file: name }),
+        Err(ShelfError::Missing) => Err(Stop::Missing {
+            file: name,
+            mention: None,
+        }),
         Err(ShelfError::Failed) => Err(Stop::Unread { file: name }),
         Err(ShelfError::NoMemory) => Err(Stop::NoMemory),
     }
@@ -95,7 +98,7 @@ fn source_in<S: Shelf>(alloc: Global, short: bool, file: &str, shelf: &mut S) ->
 }
 
 /// The boot of what is run.
-fn boot_in<S: Shelf>(alloc: Global, program: Program<'_>, shelf: &mut S) -> Result<Boot, Stop>
+pub(crate) fn boot_in<S: Shelf>(alloc: Global, program: Program<'_>, shelf: &mut S) -> Result<Boot, Stop>
     ensures boot { IfOk result (IsBootOf (S.files shelf.old) program.entry.format program.entry.file.now) }
     ensures proper { IfOk result (λ boot. IsProperOrigin boot.first) }
     ensures stopped { IfErr result (StopsAtProgram (S.files shelf.old) (S.faults shelf.old) (S.faults shelf.new) program.entry.format program.entry.file.now) }
@@ -132,7 +135,7 @@ fn script_in<S: Shelf>(alloc: Global, file: &str, shelf: &mut S) -> Result<PinSc
 }
 
 /// The pin script of a run: that of a file, where one is named, and else one without lines.
-fn script_for<S: Shelf>(
+pub(crate) fn script_for<S: Shelf>(
     alloc: Global,
     script: Option<&str>,
     shelf: &mut S,

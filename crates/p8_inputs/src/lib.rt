@@ -10,6 +10,7 @@ mod program;
 mod sources;
 mod stop;
 mod telling;
+mod view;
 
 pub use convert::other_image;
 pub use inputs::{Inputs, Recorded, read_inputs, read_message, read_recorded};
@@ -18,3 +19,4 @@ pub use program::{Format, Program};
 pub use sources::{image_of_source, listing_of_source, map_of_source};
 pub use stop::Stop;
 pub use telling::tell_refused;
+pub use view::{Viewed, read_viewed};

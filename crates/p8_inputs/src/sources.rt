@@ -8,23 +8,33 @@ ghost use Rattle.p8_objects.specs.Outcomes.{shelved, Answers};
 ghost use Rattle.p8_build.specs.Told.{IsRefusal};
 ghost use Rattle.p8_image.specs.Loading.{image_in as image_of_file};
 ghost use Rattle.p8_map.specs.Projects.{IsMapOf};
+ghost use Rattle.p8_project_legend.specs.Projects.{IsLegendOf};
 ghost use Rattle.p8_inputs.specs.Asks.{StopsAtProgram, Stops, program as program_ask, listing as listing_ask, mapping as mapping_ask};
 ghost use Rattle.p8_inputs.specs.Gathered.{IsProject, IsWhole, IsImageBuiltBy, AreBuiltBy, IsListingOf, StopsAtBuilding};
 ghost use Rattle.p8_inputs.specs.Orders.{IsProjectRead, AreAllRead, AreReadSoFar};
 ghost use Rattle.p8_inputs.specs.Runs.{HasProperTrees};
-ghost use Rattle.p8_inputs.specs.Sources.{IsImageFrom, IsListingFrom, IsMapFrom};
+ghost use Rattle.p8_inputs.specs.Sources.{IsImageFrom, IsListingFrom, IsMapFrom, IsProjectLegend};
 ghost use Rattle.p8_inputs.specs.declared.program.Format.TheVariants.{Source};
 
 use crate::stop::Stop;
 use p8_build::{BuildFault, Built, build, build_parts};
 use p8_image::Image;
 use p8_io::Shelf;
+use p8_legend::Legend;
 use p8_map::project_map;
 use p8_objects::{GatherFault, discard, gather};
 use p8_opt::{build_short, build_short_parts};
+use p8_project_legend::project_legend;
 use p8_texts::listing;
 use p8_tree::{List, Project, ProjectFile, Text};
 use std::alloc::{AllocError, Global};
+
+/// An image with its legend.
+#[derive(Drop)]
+pub(crate) struct Explained {
+    pub(crate) image: Image,
+    pub(crate) legend: Legend,
+}
 
 /// The project of a top file.
 fn project_in<S: Shelf>(alloc: Global, file: &str, shelf: &mut S) -> Result<Project, Stop>
@@ -56,7 +66,7 @@ fn stop_of_gathering(fault: GatherFault) -> Stop
             number,
             place,
         },
-        GatherFault::Missing { file } => Stop::Missing { file },
+        GatherFault::Missing { file, mention } => Stop::Missing { file, mention },
         GatherFault::ShelfFault { file } => Stop::Unread { file },
         GatherFault::NoMemory => Stop::NoMemory,
     }
@@ -156,6 +166,30 @@ fn map_of_project(alloc: Global, project: &Project) -> Result<Vec<u8>, Stop>
     }
 }
 
+/// The legend of a project.
+fn legend_of_project(alloc: Global, project: &Project) -> Result<Legend, Stop>
+    requires { IsWhole (named_sources_of project.now) }
+    ensures legend { IfOk result (IsLegendOf (named_sources_of project.now)) }
+    ensures stopped { IfErr result (StopsAtBuilding (named_sources_of project.now)) }
+{
+    match project_legend(alloc, project) {
+        Ok(legend) => Ok(legend),
+        Err(fault) => Err(stop_of_building(fault)),
+    }
+}
+
+/// The image of a project with its legend.
+fn explained_project(alloc: Global, project: &Project) -> Result<Explained, Stop>
+    requires { IsWhole (named_sources_of project.now) }
+    ensures image { IfOk result (λ read. IsImageBuiltBy false (named_sources_of project.now) read.image) }
+    ensures legend { IfOk result (λ read. IsLegendOf (named_sources_of project.now) read.legend) }
+    ensures stopped { IfErr result (StopsAtBuilding (named_sources_of project.now)) }
+{
+    let image = image_of_project(alloc, false, project)?;
+    let legend = legend_of_project(alloc, project)?;
+    Ok(Explained { image, legend })
+}
+
 /// The image of the project of a top file.
 pub(crate) fn image_in<S: Shelf>(
     alloc: Global,
@@ -175,6 +209,27 @@ pub(crate) fn image_in<S: Shelf>(
     let image = image_of_project(alloc, short, &project);
     discard(project);
     image
+}
+
+/// The image of the project of a top file with its legend.
+pub(crate) fn explained_in<S: Shelf>(
+    alloc: Global,
+    file: &str,
+    shelf: &mut S,
+) -> Result<Explained, Stop>
+    ensures image { IfOk result (λ read. HasProperTrees (S.files shelf.old) (Source false) file.now read.image.file) }
+    ensures memory { IfOk result (λ read. read.image ≡ image_of_file read.image.file) }
+    ensures legend { IfOk result (λ read. IsProjectLegend (S.files shelf.old) file.now read.legend) }
+    ensures stopped { IfErr result (StopsAtProgram (S.files shelf.old) (S.faults shelf.old) (S.faults shelf.new) (Source false) file.now) }
+    ensures all_read { IfOk result (λ _. IsProjectRead (S.files shelf.old) file.now (S.log shelf.old) (S.log shelf.new)) }
+    ensures in_order { ReadsInOrder (S.files shelf.old) file.now (S.log shelf.old) (S.log shelf.new) }
+    ensures later { S.faults shelf.old ≤ S.faults shelf.new }
+    ensures kept { S.files shelf.new ≡ S.files shelf.old }
+{
+    let project = project_in(alloc, file, shelf)?;
+    let read = explained_project(alloc, &project);
+    discard(project);
+    read
 }
 
 /// The listing of the project of a top file.

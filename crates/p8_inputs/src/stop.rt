@@ -5,10 +5,12 @@ ghost use Rattle.p8_inputs.specs.Stops.{line_of};
 ghost use Rattle.p8_inputs.specs.declared.stop.Stop.TheVariants.{NoMemory as OutOfMemory};
 
 use crate::telling::{
-    tell_bad_program, tell_bad_script, tell_missing, tell_no_memory, tell_refused, tell_unread,
+    tell_bad_program, tell_bad_script, tell_missing, tell_no_memory, tell_refused, tell_unnamed,
+    tell_unread,
 };
 use p8_image::LoadFault;
 use p8_io::Sink;
+use p8_objects::Mention;
 use p8_tree::{Place, Text};
 use p8_words::NoMemory;
 use std::alloc::AllocError;
@@ -23,6 +25,8 @@ pub enum Stop {
     /// This file doesn't exist.
     Missing {
         file: Text,
+        /// Where a source of the project mentions it, where one does.
+        mention: Option<Mention>,
     },
     /// There was no memory.
     NoMemory,
@@ -43,6 +47,11 @@ pub enum Stop {
     BadScript {
         file: Text,
         line: u32,
+    },
+    /// Nothing of the program has a name that is asked for.
+    Unnamed {
+        file: Text,
+        name: Text,
     },
 }
 
@@ -70,7 +79,7 @@ impl Stop {
     {
         match self {
             Stop::Unread { file } => tell_unread(file.as_slice(), faults),
-            Stop::Missing { file } => tell_missing(file.as_slice(), faults),
+            Stop::Missing { file, .. } => tell_missing(file.as_slice(), faults),
             Stop::NoMemory => tell_no_memory(faults),
             Stop::Refused {
                 file,
@@ -79,6 +88,7 @@ impl Stop {
             } => tell_refused(file.as_slice(), *number, *place, faults),
             Stop::BadProgram { file, fault } => tell_bad_program(file.as_slice(), *fault, faults),
             Stop::BadScript { file, line } => tell_bad_script(file.as_slice(), *line, faults),
+            Stop::Unnamed { file, name } => tell_unnamed(file.as_slice(), name.as_slice(), faults),
         }
     }
 }

@@ -168,3 +168,15 @@ pub fn tell_bad_script<E: Sink>(file: &[u8], line: u32, faults: &mut E)
         ],
     );
 }
+
+/// Writes the line of a program of which nothing has a name.
+pub fn tell_unnamed<E: Sink>(file: &[u8], name: &[u8], faults: &mut E)
+    ensures wrote { Wrote (E.faults faults.old) (E.faults faults.new) (E.taken faults.old) (E.taken faults.new)
+        (codes "prop: " ++ file.now ++ codes ": nothing is named " ++ name.now ++ 10 ∷ []) }
+    ensures later { E.faults faults.old ≤ E.faults faults.new }
+{
+    let _ = write_pieces(
+        faults,
+        &[b"prop: ", file, b": nothing is named ", name, b"\n"],
+    );
+}

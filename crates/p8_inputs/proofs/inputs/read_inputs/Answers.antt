@@ -15,7 +15,7 @@ returns-in_err-script-clause-stopped g c =
     let named = name_of c.args.script in
     let stops = subst (λ (f : Files). Stops f between now (script_ask named) c.in_err-script.field-0.0) c.in_ok-boot.ensures.kept c.in_err-script.ensures.stopped in
     handed-on c.from_residual-in_err-script.result _ (Stops files before now (program c.args.program.format c.args.program.file.now ∷ script_ask named)) c.from_residual-in_err-script.ensures.1
-    (script-stops files before between now c.args.program.format c.args.program.file.now c.in_ok-boot.ensures.boot.0 named c.in_err-script.field-0.0 c.in_ok-boot.ensures.later c.in_ok-boot.ensures.boot.1 stops)
+    (script-stops files before between now (program c.args.program.format c.args.program.file.now) (bytes c.in_ok-boot.ensures.boot.0) named c.in_err-script.field-0.0 c.in_ok-boot.ensures.later c.in_ok-boot.ensures.boot.1 stops)
 
 pub returns-in_err-boot-clause-so_far : goal.returns-in_err-boot-clause-so_far
 returns-in_err-boot-clause-so_far g c = inl c.boot_in.ensures.so_far

@@ -1,0 +1,41 @@
+use Rattle.std.proofs.Common.{false}
+use Rattle.std.proofs.lemmas.Result.{IfOk-weaker, IfErr-weaker}
+use Rattle.p8_tree.specs.Views.{named_sources_of}
+use Rattle.p8_inputs.proofs.Stopping.{handed-on}
+use Rattle.p8_inputs.proofs.Building.{image-from, legend-from, building-stops}
+use Rattle.p8_inputs.proofs.sources.explained_in.Goals as goal
+
+pub returns-clause-image : goal.returns-clause-image
+returns-clause-image g c =
+    let files = g.S.Shelf.files c.args.shelf.now in
+    let top = c.args.file.now in
+    let sources = named_sources_of c.in_ok-project.project in
+    let gathered = c.in_ok-project.ensures.project.gathered in
+    IfOk-weaker c.explained_project-read.result _ _ (λ read is. image-from files false top sources gathered c.in_ok-project.ensures.project.whole.proper read.image is) c.explained_project-read.ensures.image
+
+pub returns-clause-memory : goal.returns-clause-memory
+returns-clause-memory g c = IfOk-weaker c.explained_project-read.result _ _ (λ read is. is.1) c.explained_project-read.ensures.image
+
+pub returns-clause-legend : goal.returns-clause-legend
+returns-clause-legend g c =
+    let files = g.S.Shelf.files c.args.shelf.now in
+    let top = c.args.file.now in
+    let sources = named_sources_of c.in_ok-project.project in
+    let gathered = c.in_ok-project.ensures.project.gathered in
+    IfOk-weaker c.explained_project-read.result _ _ (λ read is. legend-from files false top sources gathered read.legend is) c.explained_project-read.ensures.legend
+
+pub returns-clause-stopped : goal.returns-clause-stopped
+returns-clause-stopped g c =
+    let files = g.S.Shelf.files c.args.shelf.now in
+    let top = c.args.file.now in
+    let sources = named_sources_of c.in_ok-project.project in
+    let gathered = c.in_ok-project.ensures.project.gathered in
+    IfErr-weaker c.explained_project-read.result _ _ (λ stop stops. building-stops files false top sources gathered _ _ stop stops) c.explained_project-read.ensures.stopped
+
+pub returns-clause-all_read : goal.returns-clause-all_read
+returns-clause-all_read g c =
+    IfOk-weaker c.explained_project-read.result _ _ (λ _ is. (named_sources_of c.in_ok-project.project, c.in_ok-project.ensures.project.gathered, c.in_ok-project.ensures.all_read)) c.explained_project-read.ensures.image
+
+pub returns-in_err-project-clause-stopped : goal.returns-in_err-project-clause-stopped
+returns-in_err-project-clause-stopped g c =
+    handed-on c.from_residual.result _ _ c.from_residual.ensures.1 (c.in_err-project.ensures.stopped false)

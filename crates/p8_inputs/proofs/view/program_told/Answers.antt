@@ -1,0 +1,11 @@
+use Rattle.std.proofs.Common.{◌≡◌, ◌∙◌, ap, subst, sym, false}
+use Rattle.std.specs.Prelude.{IfOk}
+use Rattle.p8_inputs.specs.declared.program.Format.{Format}
+use Rattle.p8_inputs.specs.declared.program.Format.TheVariants.{Source}
+use Rattle.p8_inputs.specs.Steps.{IsBootOf}
+use Rattle.p8_inputs.proofs.view.program_told.Goals as goal
+
+pub returns-else-short-clause-boot : goal.returns-else-short-clause-boot
+returns-else-short-clause-boot g c =
+    let same : c.args.program.format ≡ Source false = c.in-Source.is ∙ ap Source c.if-short.false in
+    subst (λ (format : Format). IfOk c.source_told.result (λ read. IsBootOf (g.S.Shelf.files c.args.shelf.now) format c.args.program.file.now read.boot)) (sym same) c.source_told.ensures.boot
