@@ -98,7 +98,11 @@ fn source_in<S: Shelf>(alloc: Global, short: bool, file: &str, shelf: &mut S) ->
 }
 
 /// The boot of what is run.
-pub(crate) fn boot_in<S: Shelf>(alloc: Global, program: Program<'_>, shelf: &mut S) -> Result<Boot, Stop>
+pub(crate) fn boot_in<S: Shelf>(
+    alloc: Global,
+    program: Program<'_>,
+    shelf: &mut S,
+) -> Result<Boot, Stop>
     ensures boot { IfOk result (IsBootOf (S.files shelf.old) program.entry.format program.entry.file.now) }
     ensures proper { IfOk result (λ boot. IsProperOrigin boot.first) }
     ensures stopped { IfErr result (StopsAtProgram (S.files shelf.old) (S.faults shelf.old) (S.faults shelf.new) program.entry.format program.entry.file.now) }

@@ -110,7 +110,11 @@ static PROJECTS: [([&str; 4], u64, &str); 11] = [
         0,
         "a.spin b.spin d.spin c.spin ",
     ),
-    ([MENTIONS_B_AND_C, NO_MENTION, "", ""], 0, "missing c.spin, at a.spin:3:7"),
+    (
+        [MENTIONS_B_AND_C, NO_MENTION, "", ""],
+        0,
+        "missing c.spin, at a.spin:3:7",
+    ),
     ([MENTIONS_B_AND_C, FLOATING, "", ""], 0, "b.spin:2:7: 9"),
     (
         [MENTIONS_B_AND_C, MENTIONS_C, MENTIONS_B, ""],
