@@ -1,5 +1,5 @@
 -- A pass over tries that make no turn.
-use Rattle.std.proofs.Common.{◌≡◌, ◌⊎◌, inl, inr, ◌∙◌, ap, sym, subst, refl, ℕ, List, [], ◌∷◌, ◌++◌}
+use Rattle.std.proofs.Common.{◌≡◌, ◌≤◌, ◌⊎◌, inl, inr, ◌∙◌, ap, sym, subst, refl, ℕ, suc, List, [], ◌∷◌, ◌++◌, arith}
 use Rattle.p8_access.specs.declared.order.Turn.{Turn}
 use Rattle.p8_access.specs.declared.lives.Next.{Next}
 use Rattle.p8_access.specs.Worlds.{World}
@@ -19,13 +19,14 @@ begins-on : (a b c : Record) → Begins a b → Begins b c → Begins a c
 begins-on a b c x y = (y.0 ++ x.0, assoc y.0 x.0 a ∙ ap (λ (l : Record). y.0 ++ l) x.1 ∙ y.1)
 
 pub waited-none : (a : PassSteps) → Waited a a
-waited-none a = record { own = ([], refl); seen = ([], refl); turns_kept = refl }
+waited-none a = record { own = ([], refl); seen = ([], refl); turns_kept = refl; won = omega arith }
 
 waited-both : (a b c : PassSteps) → Waited a b → Waited b c → Waited a c
 waited-both a b c x y = record {
   own = begins-on a.own b.own c.own x.own y.own;
   seen = begins-on a.seen b.seen c.seen x.seen y.seen;
   turns_kept = y.turns_kept ∙ x.turns_kept;
+  won = omega (arith, x.won, y.won);
 }
 
 -- a record after what a cog has said, if anything, and the cog's own steps of it
@@ -54,12 +55,13 @@ waited-got w n b c answer g still =
       own = subst (λ (l : Record). Begins l (mine n g.s)) g.own k.own;
       seen = begins-on b.seen g.r g.s g.began k.all;
       turns_kept = k.turns_kept ∙ ap turns g.own;
+      won = omega (arith, g.won);
     } in
     subst (λ (y : Record × Record). Waited b (record { own = y.0; seen = y.1; won = c.won; found = c.found })) (λ i. (sym own i, sym seen i)) on
 
 module _ (w : World) (n : ℕ) (a b c : PassSteps) (was : Waited a b) where
   pub waited-held : (by : ℕ) → Tried w n b c (Held by) → Waited a c
-  waited-held by t = subst (Waited a) (sym t.0) (record { own = was.own; seen = was.seen; turns_kept = was.turns_kept })
+  waited-held by t = subst (Waited a) (sym t.0) (record { own = was.own; seen = was.seen; turns_kept = was.turns_kept; won = was.won })
 
   pub waited-after : (other bound : ℕ) → Tried w n b c (After other bound) → Waited a c
   waited-after other bound t = waited-both a b c was (waited-got w n b c (After other bound) t refl)

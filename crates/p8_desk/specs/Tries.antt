@@ -103,8 +103,10 @@ Tried w n before after (After other bound) = Got w n before after (After other b
 Tried w n before after (Ahead bound) = Got w n before after (Ahead bound)
 Tried w n before after Over = Got w n before after Over
 
--- a pass after tries that made no turn: its own steps and the record that it has seen have gone on, with no turn of its own
+-- a pass after tries that made no turn: its own steps and the record that it has seen have gone on, with no turn of its own, and
+-- so has the number of tries that took the desk
 pub record Waited (before after : PassSteps) : Type 0 where
   pub own : Begins before.own after.own
   pub seen : Begins before.seen after.seen
   pub turns_kept : turns after.own ≡ turns before.own
+  pub won : before.won ≤ after.won
