@@ -1,4 +1,4 @@
--- What a refusal says to a person: where it is, the line with a mark under the place, what stands there, what is wrong and what often mends it. Places are
+-- What a refusal or a missing file says to a person: where it is, the line with a mark under the place, what stands there, what is wrong and what often mends it. Places are
 -- those of refusals: a line ends at LF, CR LF or CR, and a tab goes to the next column of the form 8k + 1.
 use Rattle.std.specs.Prelude.{ℕ, ◌-◌, ◌==◌, nat_le, List, [], ◌∷◌, ◌++◌, take, drop, replicate, codes, Option, Some, None, if◌then◌else◌}
 use Rattle.std.specs.Fmt.{decimal}
@@ -120,6 +120,12 @@ explanation_of file bytes number place =
   where
     shown_with : (line : List ℕ) → List ℕ
     shown_with line = marked line place.column ++ found (numbered number) bytes line place
+
+-- what is told of a file that is missing, which a file with these bytes mentions at a place
+abbrev pub absence_of : (file bytes : List ℕ) → Place → (missing : List ℕ) → List ℕ
+absence_of file bytes place missing =
+    place_text file place ++ missing ++ codes " is missing\n" ++ marked (line_of bytes place.line) place.column
+    ++ codes "There is no file of this name. Capitals and small letters differ, and a name without a dot gets .spin.\n"
 
 abbrev pub entry_of : (number : ℕ) → List ℕ
 entry_of number = title number ++ advice (numbered number) ++ sample (numbered number)

@@ -1,6 +1,6 @@
 // What a refusal says to a person.
 ghost use Rattle.std.specs.Prelude.{◌≡◌, ◌++◌, OnOk, IfOk};
-ghost use Rattle.p8_explain.specs.Explaining.{numbered, name, advice, found, sample, title, position, place_text, explanation_of, entry_of};
+ghost use Rattle.p8_explain.specs.Explaining.{numbered, name, advice, found, sample, title, position, place_text, explanation_of, absence_of, entry_of};
 
 use crate::causes::{push_seen, token_at};
 use crate::entries::{example, mends, says};
@@ -11,6 +11,10 @@ use p8_lexer::Refusal;
 use p8_tree::{Place, Text};
 use p8_words::NoMemory;
 use std::alloc::Global;
+
+// What is said of each missing file.
+const NO_SUCH_FILE: &[u8] =
+    b"There is no file of this name. Capitals and small letters differ, and a name without a dot gets .spin.\n";
 
 // The refusal of a number.
 #[tactic(auto, unfolding(crate::specs::Explaining::numbers))]
@@ -162,6 +166,28 @@ pub fn explanation(
     push_marked(&mut out, line.as_slice(), place.column)?;
     push_found(&mut out, numbered(number), bytes, line.as_slice(), place)?;
     push_advice(&mut out, numbered(number))?;
+    Ok(out)
+}
+
+/// What a missing file says to a person, which a file of this name and these bytes mentions at a place: the name of that file, the place and
+/// the name of the missing one, and the line with a mark under the place. Of a long line some 100 columns are shown. The only
+/// error is want of memory.
+pub fn absence(
+    alloc: Global,
+    name: &Text,
+    bytes: &[u8],
+    place: Place,
+    missing: &Text,
+) -> Result<Vec<u8>, NoMemory>
+    ensures { IfOk result (λ text. text.items ≡ absence_of name.now bytes.now place missing.now) }
+{
+    let mut out = Vec::new(alloc);
+    let shown = line_of(alloc, bytes, place.line)?;
+    push_place(&mut out, name, place)?;
+    push_text(&mut out, missing.as_slice())?;
+    push_text(&mut out, b" is missing\n")?;
+    push_marked(&mut out, shown.as_slice(), place.column)?;
+    push_text(&mut out, NO_SUCH_FILE)?;
     Ok(out)
 }
 

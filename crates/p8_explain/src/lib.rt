@@ -1,4 +1,4 @@
-//! What a refusal says to a person: the line with a mark under the place, what is wrong and what often mends it.
+//! What a refusal or a missing file says to a person: the line with a mark under the place, what is wrong and what often mends it.
 #![tactic(auto)]
 
 mod causes;
@@ -10,4 +10,4 @@ mod standing;
 mod tests;
 mod texts;
 
-pub use explaining::{entry, explanation};
+pub use explaining::{absence, entry, explanation};

@@ -1,5 +1,5 @@
 // Whole explanations, of sources with their refusals.
-use crate::{entry, explanation};
+use crate::{absence, entry, explanation};
 use p8_tree::{Place, Text};
 use p8_words::NoMemory;
 use std::alloc::Global;
@@ -234,5 +234,23 @@ fn entries(rt: HostRuntime) -> Result<(), Fail> {
         text.as_slice(),
         b"31 \nNo refusal has this number.\n".as_slice()
     );
+    Ok(())
+}
+
+/// A missing file, at the place that mentions it.
+#[test]
+fn absent(rt: HostRuntime) -> Result<(), Fail> {
+    let name = Text::copy_of(rt.alloc(), b"m.spin")?;
+    let missing = Text::copy_of(rt.alloc(), b"Ser.spin")?;
+    let place = Place {
+        line: 2,
+        column: 13,
+    };
+    let text = absence(rt.alloc(), &name, b"OBJ\n\tt : \"Ser\"\n", place, &missing)?;
+    let expected = b"m.spin:2:13: Ser.spin is missing\n\
+        \x20       t : \"Ser\"\n\
+        \x20           ^\n\
+        There is no file of this name. Capitals and small letters differ, and a name without a dot gets .spin.\n";
+    assert_eq!(rt; text.as_slice(), expected.as_slice());
     Ok(())
 }
