@@ -1,11 +1,13 @@
 -- Where the shelf tells its files, there is one verdict.
-use Rattle.std.proofs.Common.{◌≡◌, ◌∙◌, ap, sym, subst, refl, ℕ, inl, inr, List, Option, Some, None}
+use Rattle.std.proofs.Common.{◌≡◌, ◌∙◌, ap, sym, subst, refl, ℕ, inl, inr, List, [], ◌∷◌, Option, Some, None, reverse}
+use Rattle.std.proofs.lemmas.List.{reverse-reverse}
 use Rattle.p8_access.specs.declared.memory.Boot.{Boot}
 use Rattle.p8_access.specs.declared.order.Turn.{Turn}
 use Rattle.p8_access.specs.Worlds.{Line, World}
 use Rattle.p8_access.proofs.OneHistory.{one-history}
 use Rattle.p8_lives.specs.Lives.{asks}
 use Rattle.p8_lives.specs.Laws.{one-asked}
+use Rattle.p8_legend.specs.declared.legend.Legend.{Legend}
 use Rattle.p8_tree.specs.declared.places.Place.{Place}
 use Rattle.p8_verify.specs.declared.verdicts.Cause.{Cause}
 use Rattle.p8_verify.specs.declared.verdicts.Cause.TheVariants.{Form}
@@ -20,10 +22,13 @@ use Rattle.p8_io.specs.Counts.{Rose}
 use Rattle.p8_io.specs.Shelves.{Files, IsRead as IsFileRead, AreStartOf}
 use Rattle.p8_inputs.specs.declared.stop.Stop.{Stop}
 use Rattle.p8_inputs.specs.declared.stop.Stop.TheVariants as stop
-use Rattle.p8_inputs.specs.Asks.{Given, HasOneReading, IsOfFiles}
+use Rattle.p8_inputs.specs.Asks.{Given, bytes, viewed, lines, HasOneReading, IsLegendIn, IsOfFiles}
 use Rattle.p8_inputs.proofs.Deciding.{unread-rose}
-use Rattle.p8_commands.specs.Commands.{Command, BuildSource, ListSource, MapSource, ExplainFile, ExplainNumber, RunMemory, RunProgram, Save, Check, Serial as ReadPin, TypeFile, Wave as ShowWave, Plot as DrawPins, Convert, Make, Help}
-use Rattle.p8_work.specs.Texts.{selection_of, view_of, asks_of, IsToldOf, IsTextOf, IsAskedFor, IsBadBy, IsBadHistory}
+use Rattle.p8_commands.specs.Commands.{Command, BuildSource, ListSource, MapSource, ExplainFile, ExplainNumber, RunMemory, RunProgram, Save, Check, Serial as ReadPin, TypeFile, Wave as ShowWave, Plot as DrawPins, ViewRun, Convert, Make, Help}
+use Rattle.p8_view.specs.declared.turns.ViewOptions.{ViewOptions}
+use Rattle.p8_view.specs.Ending.{view_of}
+use Rattle.p8_work.specs.Texts.{selection_of, picture_of, options_of, dumped_range, asks_of, IsToldOf, IsViewOf, IsViewed, IsTextOf, IsAskedFor, IsBadBy, IsBadHistory}
+use Rattle.p8_prop.proofs.OneCount.{asked-one, counters-one}
 use Rattle.p8_prop.specs.Verdicts.{Outside, Verdict, unsaid, stopped, explained, bad, written, unwritten, Explains, StopsCommand, IsReadAgain, HasExplanation, IsVerdict, IsCertain, IsUnexplained, status_of, HasOneVerdict, IsComplete}
 
 some-not_none : {A : Type 0} {a : A} → Some a ≡ None → ⊥
@@ -53,6 +58,27 @@ told-one w finish a b p q =
     let past : p.0 ≡ q.0 = one-history asks w one-asked p.0 q.0 p.1 q.1 in
     p.2 ∙ ap (told_by finish w) past ∙ sym q.2
 
+-- and one view
+view-one : (w : World) (past : List Turn) (options : ViewOptions) (legend : Legend) (dump : Option (ℕ × ℕ)) (a b : List ℕ)
+    → IsViewOf w past options legend dump a → IsViewOf w past options legend dump b → a ≡ b
+view-one w past options legend dump a b (counters, asked, are, ask, is) (others, other, are', ask', is') =
+    let turned : reverse counters ≡ reverse others = counters-one w past (reverse counters) (reverse others) are are' in
+    let same : counters ≡ others = sym (reverse-reverse counters) ∙ ap reverse turned ∙ reverse-reverse others in
+    let next : asked ≡ other = asked-one w past asked other ask ask' in
+    is ∙ (λ i. view_of options legend w (same i) (next i) past dump) ∙ sym is'
+
+viewed-one : (w : World) (options : ViewOptions) (legend : Legend) (dump : Option (ℕ × ℕ)) (a b : List ℕ)
+    → IsViewed w options legend dump a → IsViewed w options legend dump b → a ≡ b
+viewed-one w options legend dump a b p q =
+    let past : p.0 ≡ q.0 = one-history asks w one-asked p.0 q.0 p.1 q.1 in
+    view-one w q.0 options legend dump a b (subst (λ (past : List Turn). IsViewOf w past options legend dump a) past p.2) q.2
+
+legend-one : (given : List Given) (a b : Legend) → IsLegendIn given a → IsLegendIn given b → a ≡ b
+legend-one [] a b p q = absurd p
+legend-one (bytes xs ∷ given) a b p q = legend-one given a b p q
+legend-one (viewed xs legend ∷ given) a b p q = p ∙ sym q
+legend-one (lines xs ∷ given) a b p q = legend-one given a b p q
+
 module _ (one_check : HasOneCheck) where
   text-one : (command : Command) (given : List Given) (a b : List ℕ) → IsTextOf command given a → IsTextOf command given b → a ≡ b
   text-one (BuildSource short file) given a b p q = p ∙ sym q
@@ -68,7 +94,11 @@ module _ (one_check : HasOneCheck) where
       p.2 ∙ ap good_line (ap number-of same) ∙ sym q.2
   text-one (ReadPin raw run pin bits) given a b p q = told-one _ (Serial pin bits) a b p q
   text-one (ShowWave alone raw all pins_only run) given a b p q = told-one _ (Wave (selection_of all pins_only)) a b p q
-  text-one (DrawPins alone raw ascii run pins from to) given a b p q = told-one _ (Plot (view_of pins from to ascii)) a b p q
+  text-one (DrawPins alone raw ascii run pins from to) given a b p q = told-one _ (Plot (picture_of pins from to ascii)) a b p q
+  text-one (ViewRun raw pins_only quiet run cog from to dump) given a b p q =
+      let options = options_of pins_only quiet cog from to in
+      let legend : p.0 ≡ q.0 = legend-one given p.0 q.0 p.1 q.1 in
+      viewed-one _ options q.0 (dumped_range q.0 dump) a b (subst (λ (l : Legend). IsViewed _ options l (dumped_range l dump) a) legend p.2) q.2
   text-one (TypeFile file pin bits start) given a b p q = p ∙ sym q
   text-one (Convert kind file) given a b p q = p ∙ sym q
   text-one (Make alone seed) given a b p q = told-one _ (Summary seed) a b p q

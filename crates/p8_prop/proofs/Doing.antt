@@ -8,15 +8,18 @@ use Rattle.p8_commands.specs.Commands.{Command}
 use Rattle.p8_work.specs.declared.work.Answer.{Answer}
 use Rattle.p8_work.specs.declared.work.Answer.TheVariants.{Text, Bad}
 use Rattle.p8_work.specs.declared.work.Work.{Work}
-use Rattle.p8_work.specs.declared.work.Work.TheVariants.{Done, Run}
+use Rattle.p8_work.specs.declared.work.Work.TheVariants.{Done, Run, View}
 use Rattle.p8_work.specs.Works.{IsAnswerTo, IsText, IsWork}
 use Rattle.p8_prop.specs.Answers.{CanBeDone, IsDone}
 
 pub can-be-done : (files : Files) (command : Command) (work : Work) → IsWork files command work → CanBeDone work
 can-be-done files command (Done answer) work = tt
 can-be-done files command (Run start finish) work = work.0
+can-be-done files command (View start view) work = work.0
 
 pub answer-comes : (files : Files) (command : Command) (work : Work) (answer : Answer) → IsWork files command work → IsDone work answer → IsAnswerTo files command answer
 answer-comes files command (Done answer) other work is = subst (IsAnswerTo files command) (sym is) work
 answer-comes files command (Run start finish) (Text text) work is = subst (IsText files command) (sym is.2) (work.1 is.0 is.1)
 answer-comes files command (Run start finish) (Bad history turn cause) work is = absurd is
+answer-comes files command (View start view) (Text text) work is = work.1 text.items is
+answer-comes files command (View start view) (Bad history turn cause) work is = absurd is

@@ -1,3 +1,4 @@
+mod OneCount
 mod Completing
 mod Doing
 mod Answering

@@ -14,9 +14,9 @@ use Rattle.p8_commands.specs.Commands.{Command, explains}
 use Rattle.p8_work.specs.declared.work.Answer.{Answer}
 use Rattle.p8_work.specs.declared.work.Answer.TheVariants.{Text, Bad}
 use Rattle.p8_work.specs.declared.work.Work.{Work}
-use Rattle.p8_work.specs.declared.work.Work.TheVariants.{Done, Run}
-use Rattle.p8_work.specs.Texts.{IsToldOf}
-use Rattle.p8_work.specs.Works.{IsRunnable, world_in}
+use Rattle.p8_work.specs.declared.work.Work.TheVariants.{Done, Run, View}
+use Rattle.p8_work.specs.Texts.{IsToldOf, IsViewed}
+use Rattle.p8_work.specs.Works.{IsRunnable, IsViewable, world_in}
 use Rattle.p8_prop.specs.declared.status.Status.{Status}
 use Rattle.p8_prop.specs.Verdicts.{ShelfSeen, SinkSeen, Verdict, stopped, explained, bad, written, unwritten, status_of, explanation, Explains, IsReadAgain, IsOnceMore, IsOut, IsTold}
 
@@ -24,12 +24,15 @@ use Rattle.p8_prop.specs.Verdicts.{ShelfSeen, SinkSeen, Verdict, stopped, explai
 abbrev pub CanBeDone : Work → Type 0
 CanBeDone (Done answer) = Unit {0}
 CanBeDone (Run start finish) = IsRunnable start finish
+CanBeDone (View start view) = IsViewable start view
 
 -- this comes of the work
 abbrev pub IsDone : Work → Answer → Type 0
 IsDone (Done answer) other = other ≡ answer
 IsDone (Run start finish) (Text text) = IsToldOf (world_in start) finish text.items
 IsDone (Run start finish) (Bad history turn cause) = ⊥
+IsDone (View start view) (Text text) = IsViewed (world_in start) view.options view.legend view.dump text.items
+IsDone (View start view) (Bad history turn cause) = ⊥
 
 -- the verdict on what came of a command: its text may not be written
 abbrev pub IsFrom : Answer → SinkSeen → Verdict → Type 0

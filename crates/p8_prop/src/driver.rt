@@ -5,17 +5,19 @@ ghost use Rattle.p8_access.specs.Histories.{Ended as HasEnded};
 ghost use Rattle.p8_hub.specs.Standing.{IsHub};
 ghost use Rattle.p8_lives.specs.Lives.{asks};
 ghost use Rattle.p8_ledger.specs.Worlds.{world_of};
-ghost use Rattle.p8_work.specs.Texts.{IsToldOf};
+ghost use Rattle.p8_work.specs.Texts.{IsToldOf, IsViewed};
 ghost use Rattle.p8_prop.specs.Answers.{CanBeDone, IsDone};
-ghost use Rattle.p8_work.specs.Works.{world_in, IsRunnable};
+ghost use Rattle.p8_work.specs.Works.{world_in, IsRunnable, IsViewable};
 
+use p8_counters::run_counted;
 use p8_crew::{Starter, run_crew};
 use p8_desk::Desk;
 use p8_finish::{Finish, told};
 use p8_ledger::{Ended, Start};
 use p8_machine::run_alone;
+use p8_view::view as view_text;
 use p8_words::NoMemory;
-use p8_work::{Answer, Work};
+use p8_work::{Answer, Viewing, Work};
 use std::alloc::Global;
 use std::sync::Wait;
 use std::thread::Threads;
@@ -31,6 +33,24 @@ fn told_alone(alloc: Global, start: Start, finish: Finish) -> Result<Vec<u8>, No
     Ok(text)
 }
 
+/// The view of a run. One thread makes it in any case, since it looks at the machine before each turn.
+fn viewed(alloc: Global, start: Start, view: &Viewing) -> Result<Vec<u8>, NoMemory>
+    requires { IsViewable start view.now }
+    ensures { IfOk result (λ text. IsViewed (world_in start) view.now.options view.now.legend view.now.dump text.items) }
+{
+    let counted = run_counted(alloc, start.boot, start.script, start.limits)?;
+    let text = view_text(
+        alloc,
+        &counted.ended,
+        &counted.counters,
+        &counted.asked,
+        &view.legend,
+        &view.options,
+        view.dump,
+    )?;
+    Ok(text)
+}
+
 /// What comes of a command, where one thread makes all turns.
 pub fn done_alone(alloc: Global, work: Work) -> Result<Answer, NoMemory>
     requires { CanBeDone work }
@@ -39,6 +59,7 @@ pub fn done_alone(alloc: Global, work: Work) -> Result<Answer, NoMemory>
     match work {
         Work::Done(answer) => Ok(answer),
         Work::Run { start, finish } => Ok(Answer::Text(told_alone(alloc, start, finish)?)),
+        Work::View { start, view } => Ok(Answer::Text(viewed(alloc, start, &view)?)),
     }
 }
 
@@ -77,7 +98,7 @@ fn told_by_crew<R: Threads + Wait + Clone + Send + Drop + 'static, F: Starter>(
     Ok(text)
 }
 
-/// What comes of a command, where a crew makes all turns.
+/// What comes of a command, where a crew makes all turns but those of a view.
 pub fn done_by_crew<R: Threads + Wait + Clone + Send + Drop + 'static, F: Starter>(
     rt: &R,
     alloc: Global,
@@ -93,5 +114,6 @@ pub fn done_by_crew<R: Threads + Wait + Clone + Send + Drop + 'static, F: Starte
             let text = told_by_crew(rt, alloc, starter, start, finish)?;
             Ok(Answer::Text(text))
         }
+        Work::View { start, view } => Ok(Answer::Text(viewed(alloc, start, &view)?)),
     }
 }

@@ -26,7 +26,8 @@ use std::thread::Threads;
 /// - `raw` and `run` write the trace of a run, `save` its history as a file, and `check` how many turns a history file has that is the one of
 ///   a run;
 /// - `serial` writes the bytes that stand on a pin of a run, and `type` a pin script that sends the bytes of a file;
-/// - `wave` writes the wave of a run, and `plot` draws the levels of some of its pins;
+/// - `wave` writes the wave of a run, `plot` draws the levels of some of its pins, and `view` writes its history for reading, with the names and the
+///   lines of a source;
 /// - `convert` writes an image as the other kind of file, and `make` the summary of a run of a made program.
 ///
 /// A file is taken for an image where its name ends in `.binary` or `.eeprom`, and else for the top file of a project of sources, which is built
@@ -47,7 +48,8 @@ use std::thread::Threads;
 ///   ([`gather`](p8_objects::gather)), or else when it is built ([`build`](p8_build::build)); `explain` tells it by its explanation
 ///   ([`explanation`](p8_explain::explanation)), or by the line where the refused file can't be read once more or there is no memory for that;
 /// - `ShelfFault` only where the shelf has counted a fault;
-/// - `Missing` where the shelf has no file of that name, which the words or the project ask for;
+/// - `Missing` where the shelf has no file of that name, which the words or the project ask for, and exactly where nothing of the program has the name that a
+///   view is to dump;
 /// - `BadImage` exactly where the file is no image, with its first fault: of its length, of the sum of its bytes, of the places in its header; for
 ///   hub memory exactly where it has more than 32,768 bytes, and for `type` exactly where it has more than 5,000;
 /// - `BadScript` exactly where the pin script has a bad line, or more than 1,048,576 bytes;

@@ -57,6 +57,21 @@ const MAP: &[u8] =
     0010 object main.spin\n0018 method 1 MAIN\n+0000 result RESULT 1\n\
     0024 stack\n0028 free 32728\n";
 
+/// The view of `PUB main`.
+const VIEW: &[u8] =
+    b"16 1.333 us cog 0 begin of spin MAIN 0024\n8224 685.333 us cog 0 write long 0024 = 00000000\n\
+    8272 689.333 us cog 0 cogstop 0 main.spin:1 MAIN\n\
+    cog 0 is stopped at clock 8272\ncog 1 is idle\ncog 2 is idle\ncog 3 is idle\n\
+    cog 4 is idle\ncog 5 is idle\ncog 6 is idle\ncog 7 is idle\n\
+    3 turns are made, the last at clock 8272\nno cog makes another before clock 20000\n";
+
+/// The end of the view of a method that writes 5 to the variable `x` at clock 8304, with the variable.
+const WRITTEN: &[u8] =
+    b"cog 0 is stopped at clock 8352\ncog 1 is idle\ncog 2 is idle\ncog 3 is idle\n\
+    cog 4 is idle\ncog 5 is idle\ncog 6 is idle\ncog 7 is idle\n\
+    4 turns are made, the last at clock 8352\nno cog makes another before clock 20000\n\
+    001C: 05 00 00 00\n";
+
 /// The page of `make`.
 const PAGE: &[u8] =
     b"prop make SEED [--alone]\nRuns a made program for eight cogs, and writes a summary.\n\
@@ -67,15 +82,16 @@ const PAGE: &[u8] =
 const USAGE: &str =
     "prop: usage: prop build|list FILE, prop raw|run FILE CLOCKS [--pins F] [--turns K] [--dump A:N] [--alone]\n";
 
-/// The files of the shelf: an image, an empty file, a bad pin script, two good sources, two bad ones and one that mentions a bad
+/// The files of the shelf: an image, an empty file, a bad pin script, three good sources, two bad ones and one that mentions a bad
 /// one, a message and the script that sends it, and two history files.
-static FILES: [(&str, &[u8]); 12] = [
+static FILES: [(&str, &[u8]); 13] = [
     ("a.binary", IMAGE),
     ("empty.binary", b""),
     ("a.pins", b"9000 1"),
     ("main.spin", b"PUB main\n"),
     ("bad.spin", b"CON\n  a = 1\n"),
     ("loop.spin", b"PUB main\n  repeat\n"),
+    ("five.spin", b"VAR\n  long x\nPUB main\n  x := 5\n"),
     ("next.spin", b"PUB main\n\ta := next\n"),
     ("outer.spin", b"OBJ\n  n : \"next\"\nPUB main\n"),
     ("a.txt", b"A"),
@@ -158,7 +174,7 @@ fn is_refused(alloc: Global, refusal: &Refusal) -> Result<bool, NoMemory> {
 }
 
 /// Calls and what they write. An option stands before FILE, and another one between FILE and CLOCKS.
-static ANSWERS: [(&str, &[u8]); 16] = [
+static ANSWERS: [(&str, &[u8]); 18] = [
     ("run --alone a.binary --dump=0000:2 20000", TEXT),
     ("build main.spin", IMAGE),
     ("list main.spin", LISTING),
@@ -184,6 +200,8 @@ static ANSWERS: [(&str, &[u8]); 16] = [
     ("explain main.spin", b"main.spin: nothing is refused\n"),
     ("explain 26", ENTRY),
     ("map main.spin", MAP),
+    ("view main.spin 20000 --alone", VIEW),
+    ("view five.spin 20000 --quiet --dump x", WRITTEN),
 ];
 
 #[test]
@@ -198,7 +216,7 @@ fn carries_commands_out(rt: HostRuntime) {
 
 /// Calls whose files or whose text are at fault. The refused file that is explained stands below the top file, and is the one
 /// that is read once more: where that read fails the refusal's line is told.
-static FAULTS: [Refusal; 12] = [
+static FAULTS: [Refusal; 13] = [
     (
         "build bad.spin",
         0,
@@ -271,6 +289,13 @@ static FAULTS: [Refusal; 12] = [
         "prop: none.spin is missing\n",
     ),
     (
+        "view five.spin 20000 --dump y",
+        0,
+        0,
+        Status::Missing,
+        "prop: five.spin: nothing is named y\n",
+    ),
+    (
         "map next.spin",
         0,
         0,
@@ -292,8 +317,8 @@ fn tells_faults(rt: HostRuntime) {
 
 /// Too many turns, pin 32, an option given twice, a call for help as an option, help on another word, a run by a crew, which is no
 /// command for one thread, too great a seed and none, no words, too many clocks, short code of an image, pins and clocks that there
-/// aren't, numbers of digits alone that are none of a refusal, and words that these commands don't have.
-static NO_COMMANDS: [&str; 22] = [
+/// aren't, numbers of digits alone that are none of a refusal, words that these commands don't have, and a cog and a clock that there aren't.
+static NO_COMMANDS: [&str; 25] = [
     "save a.binary 17 --turns 40001",
     "serial a.binary 1951 32 100",
     "raw a.binary 1 --turns 2 --turns=2",
@@ -316,6 +341,9 @@ static NO_COMMANDS: [&str; 22] = [
     "explain 026",
     "explain main.spin --short",
     "map main.spin 20000",
+    "view main.spin 20000 --short",
+    "view main.spin 20000 --cog 8",
+    "view main.spin 20000 --to 20001",
 ];
 
 #[test]

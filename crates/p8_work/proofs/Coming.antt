@@ -11,6 +11,7 @@ use Rattle.p8_io.specs.Shelves.{Files, IsRead}
 use Rattle.p8_lives.specs.Lives.{asks}
 use Rattle.p8_lives.specs.Laws.{one-asked, asked-first, asked-later}
 use Rattle.p8_ledger.specs.Worlds as machine
+use Rattle.p8_legend.specs.declared.legend.Legend.{Legend}
 use Rattle.p8_finish.specs.Summary.{made_world}
 use Rattle.p8_verify.specs.declared.verdicts.Verdict as checking
 use Rattle.p8_verify.specs.declared.verdicts.Verdict.TheVariants as verdict
@@ -19,26 +20,29 @@ use Rattle.p8_verify.specs.Verdicts.{IsVerdict}
 use Rattle.p8_finish.specs.declared.finish.Finish.{Finish}
 use Rattle.p8_finish.specs.declared.finish.Finish.TheVariants.{Summary}
 use Rattle.p8_finish.specs.Finishes.{told_by}
+use Rattle.p8_view.specs.declared.turns.ViewOptions.{ViewOptions}
 use Rattle.p8_serial.specs.Typed.{typed_text}
 use Rattle.p8_inputs.specs.declared.inputs.Inputs.{Inputs}
 use Rattle.p8_inputs.specs.declared.inputs.Recorded.{Recorded}
 use Rattle.p8_inputs.specs.declared.program.Format.{Format}
-use Rattle.p8_inputs.specs.Asks.{most_sent, Given, bytes, lines, Give, history, script_ask, check_asks, bytes_in, lines_in, later_bytes_in}
+use Rattle.p8_inputs.specs.Asks.{most_sent, Given, bytes, viewed, lines, Give, history, script_ask, check_asks, bytes_in, lines_in, later_bytes_in}
 use Rattle.p8_inputs.specs.Inputs.{IsProgram, IsScriptFor}
+use Rattle.p8_inputs.specs.Legends.{HasName, IsLegendFrom}
 use Rattle.p8_inputs.specs.Naming as inputs
 use Rattle.p8_inputs.specs.Programs.{format_for, world_of, memory_by, first_by, boot_by, format_of, other_file}
 use Rattle.p8_inputs.specs.Runs.{Begins, HasProperTrees}
 use Rattle.p8_inputs.specs.Sources.{IsImageFrom, IsListingFrom, IsMapFrom}
 use Rattle.p8_commands.specs.declared.kind.ImageKind.{ImageKind}
-use Rattle.p8_commands.specs.Commands.{Command, Running, BuildSource, ListSource, MapSource, ExplainFile, Check, TypeFile, Convert, Make}
+use Rattle.p8_commands.specs.Commands.{Command, Dump, Running, BuildSource, ListSource, MapSource, ExplainFile, Check, TypeFile, Convert, Make}
 use Rattle.p8_commands.specs.Naming as commands
 use Rattle.p8_work.specs.declared.work.Answer.{Answer}
 use Rattle.p8_work.specs.declared.work.Answer.TheVariants.{Text, Bad}
 use Rattle.p8_work.specs.declared.work.Work.{Work}
-use Rattle.p8_work.specs.declared.work.Work.TheVariants.{Done, Run}
-use Rattle.p8_work.specs.Headline.{IsToldBySource, IsBuild}
-use Rattle.p8_work.specs.Texts.{accepted_line, HasVerdict}
-use Rattle.p8_work.specs.Works.{IsAnswerTo, IsCheckedBy, IsRunWork, IsText, IsTextOfRun, IsWork}
+use Rattle.p8_work.specs.declared.work.Work.TheVariants.{Done, Run, View}
+use Rattle.p8_work.specs.declared.view.Viewing.{Viewing}
+use Rattle.p8_work.specs.Headline.{IsToldBySource, IsHistoryOf, IsBuild}
+use Rattle.p8_work.specs.Texts.{accepted_line, dumped_range, name_in, HasVerdict, IsViewed}
+use Rattle.p8_work.specs.Works.{IsAnswerTo, IsCheckedBy, IsRunWork, IsText, IsTextOfRun, IsTextOfView, IsViewWork, IsWork}
 
 -- a borrowed name is the same, wherever it is read
 pub same-name : (name : Option (Bor (List ℕ))) → inputs.name_of name ≡ commands.name_of name
@@ -79,35 +83,46 @@ given-for files (Some file) script is = (lines script ∷ [], (is, tt), refl)
 abbrev pub RunsAreTold : Type 0
 RunsAreTold = (files : Files) (format : Format) (file xs : List ℕ) → HasProperTrees files format file xs → (w : World) → w.memory ≡ memory_by format xs → w.first ≡ first_by format xs → (past : List Turn) → Ended asks w past → IsToldBySource files format file xs w past
 
-module _ (told : RunsAreTold) (files : Files) (format : Format) (run : Running) (finish : Finish) (inputs : Inputs) (begins : Begins files format run.file run.script inputs) where
-  -- the world of the run, and that of the code
-  abbrev world : World
-  world = world_of format begins.0 inputs.script run.clocks run.turns
-
+module _ (told : RunsAreTold) (files : Files) (format : Format) (run : Running) (inputs : Inputs) (begins : Begins files format run.file run.script inputs) where
+  -- the world of the run
   abbrev pub begun : World
   begun = machine.world_of inputs.boot inputs.script (record { clocks = run.clocks; turns = run.turns })
 
-  same-world : begun ≡ world
+  abbrev world_by : List Line → World
+  world_by script = world_of format begins.0 script run.clocks run.turns
+
+  same-world : begun ≡ world_by inputs.script
   same-world = λ i. record { memory = begins.3 i; first = begins.4 i; script = inputs.script; clocks = run.clocks; turns = run.turns }
 
-  of-world : (past : List Turn) → Ended asks world past → IsTextOfRun files format run finish (told_by finish world past)
-  of-world past ended =
-      let given = given-for files run.script inputs.script begins.5 in (
-        (bytes begins.0 ∷ given.0, (begins.1, given.1), (past, subst (λ (script : List Line). Ended asks (world_of format begins.0 script run.clocks run.turns) past) (sym given.2) ended, ap (λ (script : List Line). told_by finish (world_of format begins.0 script run.clocks run.turns) past) (sym given.2))),
-        record {
-          bytes = begins.0;
-          script = inputs.script;
-          past = past;
-          program = begins.1;
-          pins = begins.5;
-          history = record { ended = ended; rises = rises asks world one-asked asked-first asked-later past ended.legal; only = λ other other-ended. one-history asks world one-asked other past other-ended ended };
-          source = told files format run.file begins.0 begins.2 world refl refl past ended;
-          printed = refl;
-        },
-      )
+  abbrev scripted : (given : List Given) × Give files (script_ask run.script) given × (lines_in given ≡ inputs.script)
+  scripted = given-for files run.script inputs.script begins.5
 
-  pub run-told : (past : List Turn) → Ended asks begun past → IsTextOfRun files format run finish (told_by finish begun past)
-  run-told = subst (λ (w : World). (past : List Turn) → Ended asks w past → IsTextOfRun files format run finish (told_by finish w past)) (sym same-world) of-world
+  given-world : begun ≡ world_by (lines_in scripted.0)
+  given-world = same-world ∙ ap world_by (sym scripted.2)
+
+  history-of : (past : List Turn) → Ended asks begun past → IsHistoryOf files format run begun past
+  history-of past ended = record {
+    bytes = begins.0;
+    script = inputs.script;
+    program = begins.1;
+    pins = begins.5;
+    world = same-world;
+    history = record { ended = ended; rises = rises asks begun one-asked asked-first asked-later past ended.legal; only = λ other other-ended. one-history asks begun one-asked other past other-ended ended };
+    source = told files format run.file begins.0 begins.2 begun begins.3 begins.4 past ended;
+  }
+
+  pub run-told : (finish : Finish) (past : List Turn) → Ended asks begun past → IsTextOfRun files format run finish (told_by finish begun past)
+  run-told finish past ended = (
+    (bytes begins.0 ∷ scripted.0, (begins.1, scripted.1), (past, subst (λ (w : World). Ended asks w past) given-world ended, ap (λ (w : World). told_by finish w past) given-world)),
+    (begun, past, history-of past ended, refl),
+  )
+
+  pub view-told : (options : ViewOptions) (dump : Option Dump) (legend : Legend) → IsLegendFrom files format run.file legend → HasName legend (name_in dump)
+      → (text : List ℕ) → IsViewed begun options legend (dumped_range legend dump) text → IsTextOfView files format run options dump text
+  view-told options dump legend from named text is = (
+    (viewed begins.0 legend ∷ scripted.0, ((begins.1, from, named), scripted.1), (legend, refl, subst (λ (w : World). IsViewed w options legend (dumped_range legend dump) text) given-world is)),
+    (begun, is.0, legend, history-of is.0 is.1, from, is.2),
+  )
 
 -- ---- a made program
 
@@ -156,3 +171,11 @@ pub run-work : (files : Files) (command : Command) (format : Format) (run : Runn
     → (work : Work) → IsRunWork files format run finish work → IsWork files command work
 run-work files command format run finish is (Done answer) work = absurd work
 run-work files command format run finish is (Run start other) work = (work.0, λ past ended. is _ (work.1 past ended))
+run-work files command format run finish is (View start view) work = absurd work
+
+-- and so is a view
+pub view-work : (files : Files) (command : Command) (format : Format) (run : Running) (options : ViewOptions) (dump : Option Dump) → ((text : List ℕ) → IsTextOfView files format run options dump text → IsText files command text)
+    → (work : Work) → IsViewWork files format run options dump work → IsWork files command work
+view-work files command format run options dump is (Done answer) work = absurd work
+view-work files command format run options dump is (Run start finish) work = absurd work
+view-work files command format run options dump is (View start view) work = (work.0, λ text seen. is text (work.1 text seen))

@@ -1,10 +1,13 @@
 -- What each command reads, and the text that it asks for (this project's profile).
-use Rattle.std.specs.Prelude.{ℕ, ◌≡◌, Bool, false, List, [], ◌∷◌, ◌++◌, codes}
+use Rattle.std.specs.Prelude.{ℕ, ◌+◌, ◌≡◌, nat_le, if◌then◌else◌, Bool, false, List, [], ◌∷◌, ◌++◌, Option, Some, None, option_and_then, reverse, codes}
+use Rattle.p8_access.specs.declared.lives.Next.{Next}
 use Rattle.p8_access.specs.declared.memory.Boot.{Boot}
 use Rattle.p8_access.specs.declared.order.Turn.{Turn}
 use Rattle.p8_access.specs.Worlds.{World}
 use Rattle.p8_access.specs.Histories.{Ended}
 use Rattle.p8_lives.specs.Lives.{asks}
+use Rattle.p8_counters.specs.Counted.{AreAsked, AreCounters}
+use Rattle.p8_legend.specs.declared.legend.Legend.{Legend}
 use Rattle.p8_io.specs.Shelves.{Files}
 use Rattle.p8_finish.specs.Summary.{made_world}
 use Rattle.p8_verify.specs.declared.verdicts.Cause.{Cause}
@@ -18,26 +21,49 @@ use Rattle.p8_finish.specs.Checks.{good_line}
 use Rattle.p8_explain.specs.Explaining.{entry_of}
 use Rattle.p8_plot.specs.declared.view.View.{View}
 use Rattle.p8_serial.specs.Typed.{typed_text}
+use Rattle.p8_view.specs.declared.turns.ViewOptions.{ViewOptions}
+use Rattle.p8_view.specs.Ending.{view_of}
 use Rattle.p8_wave.specs.declared.variables.Selection.{Selection}
 use Rattle.p8_inputs.specs.declared.program.Format.{Format}
 use Rattle.p8_inputs.specs.declared.program.Format.TheVariants.{Memory, Source}
 use Rattle.p8_inputs.specs.Programs.{format_for, format_named, format_of, other_file, boot_by, world_of}
-use Rattle.p8_inputs.specs.Asks.{Ask, program, listing, mapping, message, run_asks, check_asks, Given, bytes_in, lines_in, later_bytes_in, Give}
-use Rattle.p8_commands.specs.Commands.{Command, Running, BuildSource, ListSource, MapSource, ExplainFile, ExplainNumber, RunMemory, RunProgram, Save, Check, Serial as ReadPin, TypeFile, Wave as ShowWave, Plot as DrawPins, Convert, Make, Help}
+use Rattle.p8_inputs.specs.Asks.{Ask, program, listing, mapping, message, run_asks, view_asks, check_asks, Given, bytes_in, lines_in, later_bytes_in, IsLegendIn, Give}
+use Rattle.p8_inputs.specs.Legends.{range_in}
+use Rattle.p8_commands.specs.Commands.{Command, Dump, RangeOf, Named, Running, BuildSource, ListSource, MapSource, ExplainFile, ExplainNumber, RunMemory, RunProgram, Save, Check, Serial as ReadPin, TypeFile, Wave as ShowWave, Plot as DrawPins, ViewRun, Convert, Make, Help}
 use Rattle.p8_commands.specs.Pages.{help_text}
 
 -- what a wave shows, and what a picture of pins
 abbrev pub selection_of : (all pins_only : Bool) → Selection
 selection_of all pins_only = record { all = all; pins_only = pins_only }
 
-abbrev pub view_of : (pins from to : ℕ) (ascii : Bool) → View
-view_of pins from to ascii = record { pins = pins; from = from; to = to; ascii = ascii }
+abbrev pub picture_of : (pins from to : ℕ) (ascii : Bool) → View
+picture_of pins from to ascii = record { pins = pins; from = from; to = to; ascii = ascii }
+
+-- which turns a view shows
+abbrev pub options_of : (pins_only quiet : Bool) (cog : Option ℕ) (from to : ℕ) → ViewOptions
+options_of pins_only quiet cog from to = record { cog = cog; from = from; to = to; pins_only = pins_only; quiet = quiet }
+
+-- the name of what is to be dumped, where it is told by one
+abbrev pub name_in : Option Dump → Option (List ℕ)
+name_in (Some (Named name)) = Some name
+name_in _ = None
+
+-- a range, where it lies in hub RAM
+abbrev pub in_ram : ℕ × ℕ → Option (ℕ × ℕ)
+in_ram range = if nat_le (range.0 + range.1) 32768 then Some range else None
+
+-- the range that a view dumps: the one that is told, or all of what the legend says has the name
+abbrev pub dumped_range : Legend → Option Dump → Option (ℕ × ℕ)
+dumped_range legend None = None
+dumped_range legend (Some (RangeOf range)) = Some range
+dumped_range legend (Some (Named name)) = option_and_then in_ram (range_in legend name)
 
 -- the line of a source of which nothing is refused
 abbrev pub accepted_line : (file : List ℕ) → List ℕ
 accepted_line file = file ++ codes ": nothing is refused" ++ 10 ∷ []
 
--- what a command reads, in this order: a run its program and then its pin script, where one is named, and a check a history after both
+-- what a command reads, in this order: a run its program, a view with its legend, and then its pin script, where one is named, and a check a history
+-- after both
 abbrev pub asks_of : Command → List Ask
 asks_of (BuildSource short file) = program (Source short) file ∷ []
 asks_of (ListSource short file) = listing short file ∷ []
@@ -51,6 +77,7 @@ asks_of (Check raw file history script) = check_asks (format_for raw file) file 
 asks_of (ReadPin raw run pin bits) = run_asks (format_for raw run.file) run.file run.script
 asks_of (ShowWave alone raw all pins_only run) = run_asks (format_for raw run.file) run.file run.script
 asks_of (DrawPins alone raw ascii run pins from to) = run_asks (format_for raw run.file) run.file run.script
+asks_of (ViewRun raw pins_only quiet run cog from to dump) = view_asks (format_for raw run.file) run.file (name_in dump) run.script
 asks_of (TypeFile file pin bits start) = message file ∷ []
 asks_of (Convert kind file) = program (format_of kind) file ∷ []
 asks_of (Make alone seed) = []
@@ -63,6 +90,22 @@ IsToldOf world finish text = (past : List Turn) × Ended asks world past × (tex
 -- the text that is told of a run of what is given, by what it is taken for
 abbrev pub IsToldOfRun : Format → Running → Finish → List Given → List ℕ → Type 0
 IsToldOfRun format run finish given text = IsToldOf (world_of format (bytes_in given) (lines_in given) run.clocks run.turns) finish text
+
+-- the view of a past: its turns with the counter of each, the oldest first, what each cog asks next, and the dump
+abbrev pub IsViewOf : World → List Turn → ViewOptions → Legend → (dump : Option (ℕ × ℕ)) → List ℕ → Type 0
+IsViewOf w past options legend dump text =
+    (counters : List (Option ℕ)) × (asked : List Next)
+    × AreCounters w past (reverse counters) × AreAsked w past asked × (text ≡ view_of options legend w counters asked past dump)
+
+-- the view of the ended history of a world
+abbrev pub IsViewed : World → ViewOptions → Legend → (dump : Option (ℕ × ℕ)) → List ℕ → Type 0
+IsViewed w options legend dump text = (past : List Turn) × Ended asks w past × IsViewOf w past options legend dump text
+
+-- the view of a run of what is given, by the legend that is given with it
+abbrev pub IsViewOfRun : Format → Running → ViewOptions → Option Dump → List Given → List ℕ → Type 0
+IsViewOfRun format run options dump given text =
+    (legend : Legend) × IsLegendIn given legend
+    × IsViewed (world_of format (bytes_in given) (lines_in given) run.clocks run.turns) options legend (dumped_range legend dump) text
 
 -- the verdict on a history file, by what is given: its program, by what that is taken for, its pin script, and its bytes
 abbrev pub HasVerdict : Format → List Given → checked.Verdict → Type 0
@@ -81,7 +124,9 @@ IsTextOf (Save raw run) given text = IsToldOfRun (format_for raw run.file) run S
 IsTextOf (Check raw file history script) given text = (count : ℕ) × HasVerdict (format_for raw file) given (Good count) × (text ≡ good_line count)
 IsTextOf (ReadPin raw run pin bits) given text = IsToldOfRun (format_for raw run.file) run (Serial pin bits) given text
 IsTextOf (ShowWave alone raw all pins_only run) given text = IsToldOfRun (format_for raw run.file) run (Wave (selection_of all pins_only)) given text
-IsTextOf (DrawPins alone raw ascii run pins from to) given text = IsToldOfRun (format_for raw run.file) run (Plot (view_of pins from to ascii)) given text
+IsTextOf (DrawPins alone raw ascii run pins from to) given text = IsToldOfRun (format_for raw run.file) run (Plot (picture_of pins from to ascii)) given text
+IsTextOf (ViewRun raw pins_only quiet run cog from to dump) given text =
+    IsViewOfRun (format_for raw run.file) run (options_of pins_only quiet cog from to) dump given text
 IsTextOf (TypeFile file pin bits start) given text = text ≡ typed_text (bytes_in given) pin bits start
 IsTextOf (Convert kind file) given text = text ≡ other_file kind (bytes_in given)
 IsTextOf (Make alone seed) given text = IsToldOf (made_world seed) (Summary seed) text

@@ -2,6 +2,8 @@
 #![tactic(auto)]
 
 mod laws;
+mod view;
 mod work;
 
+pub use view::Viewing;
 pub use work::{Answer, Work, work_of};

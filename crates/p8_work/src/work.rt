@@ -24,6 +24,7 @@ ghost use Rattle.p8_work.specs.Texts.{accepted_line as accepted_line_of, asks_of
 ghost use Rattle.p8_work.specs.Works.{IsCheckedBy, IsRunWork, IsWork, world_in};
 
 use crate::laws::{builds_keep_meaning, runs_are_told};
+use crate::view::{Viewing, view_work};
 use p8_access::Boot;
 use p8_commands::{Command, ImageKind, Run, Subcommand, help_page};
 use p8_explain::entry;
@@ -35,10 +36,11 @@ use p8_inputs::{
 use p8_io::Shelf;
 use p8_ledger::{Limits, Start};
 use p8_pins::PinScript;
-use p8_plot::View;
+use p8_plot::View as Picture;
 use p8_serial::typed;
 use p8_tree::Text;
 use p8_verify::{Cause, VerifyFault, verify};
+use p8_view::ViewOptions;
 use p8_wave::Selection;
 use p8_words::NoMemory;
 use std::alloc::Global;
@@ -64,6 +66,8 @@ pub enum Work {
     Done(Answer),
     /// A run, and what is told of it.
     Run { start: Start, finish: Finish },
+    /// A run, and the view of it.
+    View { start: Start, view: Viewing },
 }
 
 /// The limits of a run of a made program.
@@ -434,13 +438,32 @@ pub fn work_of<S: Shelf>(alloc: Global, command: Command<'_>, shelf: &mut S) -> 
             to,
             ..
         } => {
-            let view = View {
+            let view = Picture {
                 pins,
                 from,
                 to,
                 ascii,
             };
             chosen_work(alloc, raw, run, Finish::Plot { view }, shelf)
+        }
+        Command::View {
+            raw,
+            pins_only,
+            quiet,
+            run,
+            cog,
+            from,
+            to,
+            dump,
+        } => {
+            let options = ViewOptions {
+                cog,
+                from,
+                to,
+                pins_only,
+                quiet,
+            };
+            view_work(alloc, raw, run, options, dump, shelf)
         }
         Command::TypeFile {
             file,

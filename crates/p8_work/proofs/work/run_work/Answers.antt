@@ -12,7 +12,7 @@ pub returns-clause-work : goal.returns-clause-work
 returns-clause-work g c =
     let files = g.S.Shelf.files c.args.shelf.now in
     let begins = subst (λ (script : Option (List ℕ)). Begins files c.args.format c.args.run.file.now script c.in_ok-inputs.inputs) (same-name c.args.run.script) c.in_ok-inputs.ensures.begins in
-    (record { clocks = c.requires.within.0; turns = c.requires.within.1; first = c.in_ok-inputs.ensures.proper; can_be_told = c.requires.can }, run-told c.runs_are_told.ensures files c.args.format (running c.args.run) c.args.finish c.in_ok-inputs.inputs begins)
+    (record { clocks = c.requires.within.0; turns = c.requires.within.1; first = c.in_ok-inputs.ensures.proper; can_be_told = c.requires.can }, run-told c.runs_are_told.ensures files c.args.format (running c.args.run) c.in_ok-inputs.inputs begins c.args.finish)
 
 pub returns-in_err-inputs-clause-stopped : goal.returns-in_err-inputs-clause-stopped
 returns-in_err-inputs-clause-stopped g c =

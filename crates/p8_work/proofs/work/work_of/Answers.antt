@@ -4,12 +4,12 @@ use Rattle.p8_finish.specs.declared.finish.Finish.TheVariants.{Trace, Saved, Ser
 use Rattle.p8_inputs.specs.declared.program.Format.{Format}
 use Rattle.p8_inputs.specs.declared.program.Format.TheVariants.{Memory}
 use Rattle.p8_inputs.specs.Programs.{format_for, format_named}
-use Rattle.p8_commands.specs.Commands.{RunMemory, RunProgram, Save, Serial as ReadPin, Wave as ShowWave, Plot as DrawPins}
+use Rattle.p8_commands.specs.Commands.{RunMemory, RunProgram, Save, Serial as ReadPin, Wave as ShowWave, Plot as DrawPins, ViewRun}
 use Rattle.p8_commands.specs.declared.command.Command.{Command}
-use Rattle.p8_commands.specs.Seen.{command_read, running}
-use Rattle.p8_work.specs.Texts.{selection_of, view_of}
+use Rattle.p8_commands.specs.Seen.{command_read, dump_if_any, running}
+use Rattle.p8_work.specs.Texts.{options_of, picture_of, selection_of}
 use Rattle.p8_work.specs.Works.{IsRunWork, IsWork}
-use Rattle.p8_work.proofs.Coming.{run-work}
+use Rattle.p8_work.proofs.Coming.{run-work, view-work}
 use Rattle.p8_work.proofs.work.work_of.Goals as goal
 
 pub returns-in-Raw-clause-work : goal.returns-in-Raw-clause-work
@@ -58,7 +58,17 @@ returns-in-Plot-clause-work g c =
     let run = running c.in-Plot.run' in
     let result = c.chosen_work-in-Plot.result in
     subst (λ (command : Command). IfOk result (IsWork files (command_read command))) (sym c.in-Plot.is)
-    (IfOk-weaker result _ _ (run-work files (DrawPins c.in-Plot.alone c.in-Plot.raw c.in-Plot.ascii run c.in-Plot.pins c.in-Plot.from c.in-Plot.to) (format_for c.in-Plot.raw run.file) run (Plot (view_of c.in-Plot.pins c.in-Plot.from c.in-Plot.to c.in-Plot.ascii)) (λ text is. is)) c.chosen_work-in-Plot.ensures.work)
+    (IfOk-weaker result _ _ (run-work files (DrawPins c.in-Plot.alone c.in-Plot.raw c.in-Plot.ascii run c.in-Plot.pins c.in-Plot.from c.in-Plot.to) (format_for c.in-Plot.raw run.file) run (Plot (picture_of c.in-Plot.pins c.in-Plot.from c.in-Plot.to c.in-Plot.ascii)) (λ text is. is)) c.chosen_work-in-Plot.ensures.work)
+
+pub returns-in-View-clause-work : goal.returns-in-View-clause-work
+returns-in-View-clause-work g c =
+    let files = g.S.Shelf.files c.args.shelf.now in
+    let run = running c.in-View.run' in
+    let dump = dump_if_any c.in-View.dump in
+    let options = options_of c.in-View.pins_only c.in-View.quiet c.in-View.cog c.in-View.from c.in-View.to in
+    let result = c.view_work.result in
+    subst (λ (command : Command). IfOk result (IsWork files (command_read command))) (sym c.in-View.is)
+    (IfOk-weaker result _ _ (view-work files (ViewRun c.in-View.raw c.in-View.pins_only c.in-View.quiet run c.in-View.cog c.in-View.from c.in-View.to dump) (format_for c.in-View.raw run.file) run options dump (λ text is. is)) c.view_work.ensures.work)
 
 pub returns-in_ok-work-in-ExplainNumber-clause-work : goal.returns-in_ok-work-in-ExplainNumber-clause-work
 returns-in_ok-work-in-ExplainNumber-clause-work g c =
