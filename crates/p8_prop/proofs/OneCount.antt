@@ -34,8 +34,8 @@ before-asking : (e : Entered) (turns : List Turn) (m n begin clock : ℕ) (s : S
 before-asking e turns m n begin clock s left access asking going le =
     let sum : n ≡ n - m + m = omega (arith, le) in
     let stays : lived n e turns ≡ Asks clock access =
-        ap (λ (k : ℕ). lived k e turns) sum ∙ after-plus (engine_of e.memory e.cog) (n - m) m _
-        ∙ ap (after (engine_of e.memory e.cog) (n - m)) asking ∙ after-asks (engine_of e.memory e.cog) (n - m) clock access in
+    ap (λ (k : ℕ). lived k e turns) sum ∙ after-plus (engine_of e.memory e.cog) (n - m) m _
+    ∙ ap (after (engine_of e.memory e.cog) (n - m)) asking ∙ after-asks (engine_of e.memory e.cog) (n - m) clock access in
     goes-not_asks (sym going ∙ stays)
 
 abbrev at-of : ℕ → Outcome State → ℕ

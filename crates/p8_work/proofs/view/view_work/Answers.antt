@@ -25,9 +25,10 @@ returns-clause-work g c =
     (subst (λ (f : Format). Begins files f file (inputs.name_of c.args.run.script) read.inputs) c.chosen.ensures e.begins) in
     let from = subst (λ (f : Format). IsLegendFrom files f file read.legend) c.chosen.ensures e.legend in
     let named = subst (HasName read.legend) name e.named in
-    let told = view-told c.runs_are_told.ensures files format (running c.args.run) read.inputs begins c.args.options (dump_if_any c.args.dump) read.legend from named in
-    (record { clocks = c.requires.within.0; turns = c.requires.within.1; first = e.proper; dump = c.dumped_range-dump.ensures.in_ram },
-    λ text is. told text (subst (λ (range : Option (ℕ × ℕ)). IsViewed (begun c.runs_are_told.ensures files format (running c.args.run) read.inputs begins) c.args.options read.legend range text) c.dumped_range-dump.ensures.range is))
+    let told = view-told c.runs_are_told.ensures files format (running c.args.run) read.inputs begins c.args.options (dump_if_any c.args.dump) read.legend from named in (
+      record { clocks = c.requires.within.0; turns = c.requires.within.1; first = e.proper; dump = c.dumped_range-dump.ensures.in_ram },
+      λ text is. told text (subst (λ (range : Option (ℕ × ℕ)). IsViewed (begun c.runs_are_told.ensures files format (running c.args.run) read.inputs begins) c.args.options read.legend range text) c.dumped_range-dump.ensures.range is),
+    )
 
 pub returns-clause-so_far : goal.returns-clause-so_far
 returns-clause-so_far g c =
