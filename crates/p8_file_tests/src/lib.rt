@@ -1,4 +1,4 @@
-//! Tests of files: of shelves and sinks, of what a run begins with, of images, of listings and of maps.
+//! Tests of files: of shelves and sinks, of what a run begins with, of images, of listings, of maps and of legends.
 //!
 //! They stand apart from the crates that they test, because a crate with tests is proved twice.
 #![tactic(auto)]
@@ -11,6 +11,8 @@ mod inputs;
 mod io;
 #[cfg(test)]
 mod layouts;
+#[cfg(test)]
+mod legends;
 #[cfg(test)]
 mod listings;
 #[cfg(test)]

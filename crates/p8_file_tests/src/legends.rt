@@ -1,0 +1,99 @@
+// The legend of a small project, name for name.
+use p8_io::MemShelf;
+use p8_legend::Legend;
+use p8_objects::{discard, gather};
+use p8_project_legend::project_legend;
+use p8_words::NoMemory;
+use std::alloc::Global;
+
+/// Two instances of one child, which has an object inside it.
+const TOP: &str = "VAR
+  byte flag
+  long count[2]
+OBJ
+  ser[2] : \"serial\"
+PUB main
+";
+
+const SERIAL: &str = "VAR
+  word width
+OBJ
+  buf : \"ring\"
+DAT
+entry long 5
+PUB start
+";
+
+const RING: &str = "VAR
+  long head
+PUB init
+";
+
+/// Names, where their bytes begin and how many there are.
+///
+/// The top object begins at 0010, with 4 bytes, 4 for its method and 8 for the objects inside, and its code, a single RETURN, at 0020; the
+/// next one at 0024, with its DAT at 0030 and its code at 0034; the last one at 0038, with its code at 0040. Variables begin at 0044:
+/// those of the top object, in 12 bytes, and then twice 4 bytes of the child, the last 2 of them unused, and 4 of the object inside it.
+static NAMES: [(&str, u16, u16); 10] = [
+    ("main", 0x20, 1),
+    ("ser[0].entry", 0x30, 4),
+    ("ser[0].start", 0x34, 1),
+    ("ser[0].buf.init", 0x40, 1),
+    ("count", 0x44, 8),
+    ("FLAG", 0x4C, 1),
+    ("ser[0].width", 0x50, 2),
+    ("Ser[0].Buf.Head", 0x54, 4),
+    ("ser[1].width", 0x58, 2),
+    ("ser[1].buf.head", 0x5C, 4),
+];
+
+/// The shelf with the project.
+fn shelf(alloc: Global) -> Result<MemShelf, NoMemory> {
+    let mut shelf = MemShelf::new(alloc);
+    shelf.add("top.spin", TOP.as_bytes())?;
+    shelf.add("serial.spin", SERIAL.as_bytes())?;
+    shelf.add("ring.spin", RING.as_bytes())?;
+    Ok(shelf)
+}
+
+/// The legend of the project of `top.spin`.
+fn legend_on(alloc: Global, shelf: &mut MemShelf) -> Option<Legend> {
+    let Ok(project) = gather(alloc, shelf, "top.spin") else {
+        return None;
+    };
+    let legend = project_legend(alloc, &project);
+    discard(project);
+    match legend {
+        Ok(legend) => Some(legend),
+        Err(_) => None,
+    }
+}
+
+/// Whether a legend has these names, and none without its path.
+fn has_all(legend: &Legend) -> bool {
+    let mut all = legend.range_of(b"width").is_none();
+    for (name, address, size) in &NAMES {
+        all = all && legend.range_of(name.as_bytes()) == Some((*address, *size));
+    }
+    all
+}
+
+/// Whether an address inside an array is told with its offset.
+fn tells_offset(alloc: Global, legend: &Legend) -> bool {
+    let mut text = Vec::new(alloc);
+    match legend.push_address(&mut text, 0x4A) {
+        Ok(()) => text.as_slice() == b"COUNT+6".as_slice(),
+        Err(_) => false,
+    }
+}
+
+fn holds(alloc: Global) -> Option<bool> {
+    let mut shelf = shelf(alloc).ok()?;
+    let legend = legend_on(alloc, &mut shelf)?;
+    Some(has_all(&legend) && tells_offset(alloc, &legend))
+}
+
+#[test]
+fn tells_the_variables_of_two_instances(rt: HostRuntime) {
+    assert!(rt; matches!(holds(rt.alloc()), Some(true)));
+}
