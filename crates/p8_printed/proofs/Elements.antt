@@ -19,10 +19,6 @@ module _ {X : Type 0} (P : X → Type 0) where
   each_weaker Q f [] h = tt
   each_weaker Q f (x ∷ xs) h = (f x h.0, each_weaker Q f xs h.1)
 
-pub each_unmap : {X Y : Type 0} (P : Y → Type 0) (f : X → Y) (xs : List X) → Each P (map f xs) → Each (λ x. P (f x)) xs
-each_unmap P f [] h = tt
-each_unmap P f (x ∷ xs) h = (h.0, each_unmap P f xs h.1)
-
 pub each_map : {X Y : Type 0} (P : Y → Type 0) (f : X → Y) (xs : List X) → Each (λ x. P (f x)) xs → Each P (map f xs)
 each_map P f [] h = tt
 each_map P f (x ∷ xs) h = (h.0, each_map P f xs h.1)

@@ -1,8 +1,8 @@
--- A tree that a file has is read from what is printed of it, but for places.
+-- A tree whose blocks can be printed is read from what is printed of it, but for places.
 use Rattle.std.proofs.Common.{◌≡◌, ℕ, ◌<◌, List, [], ◌∷◌, map, EachIndex, refl, sym, subst}
 use Rattle.std.specs.Prelude.{slice_index}
 use Rattle.std.specs.List.{AllByRecursion as Each}
-use Rattle.std.proofs.lemmas.List.Elements.{recursion_from_All}
+use Rattle.std.proofs.lemmas.List.Elements.{recursion_from_All, All-from_recursion}
 use Rattle.p8_tree.specs.Sources.{Source}
 use Rattle.p8_tree.specs.Forgetting.{IsSameSource}
 use Rattle.p8_lexer.specs.declared.token.Token as lexer_token
@@ -10,21 +10,28 @@ use Rattle.p8_lexer.specs.declared.word.Word.TheVariants as word_case
 use Rattle.p8_lexer.specs.Lexing.{AreTokens}
 use Rattle.p8_grammar.specs.Lexemes.{other}
 use Rattle.p8_expr.specs.Words.{token_of, lexeme_of_token, lexeme_of_word}
-use Rattle.p8_lines.specs.Tokens.{LineToken, lexeme, line_token, text_end, all_tokens}
+use Rattle.p8_lines.specs.Tokens.{LineToken, lexeme, term, terms, line_token, text_end, all_tokens}
 use Rattle.p8_blocks.specs.Trees.{IsShallow}
 use Rattle.p8_blocks.specs.Files.{IsFileWithinLimits}
 use Rattle.p8_lines.proofs.Texts.{text_end_other}
 use Rattle.p8_print.specs.Spelled.{text_of_lines}
 use Rattle.p8_printed.proofs.SpelledLines.{read_back}
 use Rattle.p8_grammar.specs.Proper.{lexeme_in}
-use Rattle.p8_expr.specs.Sources.{IsLexeme}
+use Rattle.p8_expr.specs.Sources.{IsLexeme, AreLexemes}
 use Rattle.p8_print.specs.Layout.{lines_of}
+use Rattle.p8_printed.specs.Rereading.{AreOfSource}
 use Rattle.p8_printed.specs.Trees.{IsOfFile}
-use Rattle.p8_printed.proofs.Elements.{each_append}
-use Rattle.p8_printed.proofs.Below.{Lexemes, Laws}
+use Rattle.p8_printed.proofs.Elements.{each_append, each_map}
 use Rattle.p8_printed.proofs.Spelt.{spelled_lines}
-use Rattle.p8_printed.proofs.Printable.{IsPrintable, IsOfSource, of_source, each_of_source, file_printable, source_readable}
+use Rattle.p8_printed.proofs.Printable.{IsPrintable, source_readable}
 use Rattle.p8_printed.proofs.Reread.{reread}
+
+-- a token that a source can have
+abbrev IsOfSource : LineToken → Type 0
+IsOfSource t = IsLexeme (lexeme t)
+
+of_source : (ts : List LineToken) → Each IsOfSource ts → AreOfSource ts
+of_source ts h = All-from_recursion (λ t. IsLexeme (lexeme_in t)) (terms ts) (each_map (λ t. IsLexeme (lexeme_in t)) term ts h)
 
 same_lexeme : (bytes : List ℕ) (t : lexer_token.Token) → lexeme_in (token_of bytes t) ≡ lexeme (line_token bytes t)
 unfolding token_of lexeme_of_token
@@ -41,7 +48,11 @@ other_word = (word_case.LineEnd, refl)
 end_of_source : (ts : List LineToken) → IsOfSource (text_end ts)
 end_of_source ts = subst IsLexeme (sym (text_end_other ts)) other_word
 
-pub tree_of_file : Lexemes → (bytes : List ℕ) (tokens : List lexer_token.Token) (s : Source) → EachIndex bytes (λ i. slice_index bytes i < 256) → AreTokens bytes tokens → IsFileWithinLimits s (all_tokens bytes tokens) → IsOfFile s
+-- the tokens of a file are those that a source can have
+abbrev AreLexemesRead : Type 0
+AreLexemesRead = (bytes : List ℕ) (tokens : List lexer_token.Token) → EachIndex bytes (λ i. slice_index bytes i < 256) → AreTokens bytes tokens → AreLexemes (map (token_of bytes) tokens)
+
+pub tree_of_file : AreLexemesRead → (bytes : List ℕ) (tokens : List lexer_token.Token) (s : Source) → EachIndex bytes (λ i. slice_index bytes i < 256) → AreTokens bytes tokens → IsFileWithinLimits s (all_tokens bytes tokens) → IsOfFile s
 tree_of_file are_lexemes bytes tokens s small are file =
     let ts = map (line_token bytes) tokens in
     let lexemes = of_tokens bytes tokens (recursion_from_All (λ t. IsLexeme (lexeme_in t)) (map (token_of bytes) tokens) (are_lexemes bytes tokens small are)) in
@@ -55,6 +66,3 @@ printable_again s printable shallow =
     let us = map (line_token text) again.0 in
     let read = reread s us (text_end us) printable shallow (spelled_lines text 1 (lines_of s) again.0 again.2) refl in
     (again.0, read.source, again.1, (read.file, read.shallow), read.same)
-
-pub printed_again : Laws → (s : Source) → IsOfFile s → (tokens : List lexer_token.Token) × (s' : Source) × AreTokens (text_of_lines (lines_of s)) tokens × IsFileWithinLimits s' (all_tokens (text_of_lines (lines_of s)) tokens) × IsSameSource s' s
-printed_again laws s is = printable_again s (file_printable laws is.file.0 (each_of_source is.tokens is.of_source)) is.file.1

@@ -24,7 +24,8 @@ use Rattle.p8_print.specs.DeclarationWords.{more_names, words_of_result, words_o
 use Rattle.p8_printed.proofs.Readings.{IsName}
 use Rattle.p8_printed.proofs.PartSources.{AreGood, methods_closed, leads_good}
 use Rattle.p8_printed.proofs.Variables.{IsVariable, items, Names, names_back}
-use Rattle.p8_printed.proofs.Steps.{Back, weaker, same_words, LeadsTo, ends, a_word, a_name, reads_back}
+use Rattle.p8_printed.proofs.RowSteps.{LeadsTo}
+use Rattle.p8_printed.proofs.Steps.{Back, weaker, same_words, ends, a_word, a_name, reads_back}
 
 -- a method with this head and without lines, anywhere
 abbrev pub made : Bool → List ℕ → List (List ℕ) → Option (List ℕ) → List Declared → MethodTree

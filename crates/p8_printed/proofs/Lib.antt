@@ -1,10 +1,6 @@
-pub mod ForgettingLines
-pub mod ActionPlaces
-pub mod RoleWords
-pub mod WrittenRows
-pub mod WrittenLines
 pub mod Readings
 pub mod PartSources
+pub mod RowSteps
 pub mod Steps
 pub mod Constants
 pub mod Variables
@@ -34,19 +30,12 @@ pub mod OperandWords
 pub mod Heights
 pub mod Printed
 pub mod ReadWords
-pub mod Following
-pub mod Taken
-pub mod Tokens
-pub mod Names
-pub mod Again
 pub mod Elements
 pub mod Found
 pub mod Forgotten
 pub mod Rebuilt
-pub mod Below
 pub mod Keeping
 pub mod Values
-pub mod ItemEnds
 pub mod Spelt
 pub mod Lines
 pub mod Printable
@@ -58,10 +47,9 @@ mod Rows
 mod Expressions
 mod Placeless
 mod PlacelessLines
-mod LineTokens
-mod ProperLines
-mod MethodLines
 mod ProperAgain
+mod MethodLines
+mod AgainLines
 mod AgainData
 mod AgainStatements
 mod ProperFiles

@@ -28,7 +28,8 @@ use Rattle.p8_printed.specs.Rereading.{IsSpelled, AreOfSource, ReadsBack}
 use Rattle.p8_print.specs.DeclarationWords.{words_of_child}
 use Rattle.p8_printed.proofs.Readings.{IsRead, IsName}
 use Rattle.p8_printed.proofs.PartSources.{IsText, AreGood, declarations_closed, leads_good, each_unless}
-use Rattle.p8_printed.proofs.Steps.{Back, same_words, ends, one, a_word, a_name, before, token_lexeme, reads_back}
+use Rattle.p8_printed.proofs.RowSteps.{token_lexeme}
+use Rattle.p8_printed.proofs.Steps.{Back, same_words, ends, one, a_word, a_name, before, reads_back}
 
 -- a file's name
 

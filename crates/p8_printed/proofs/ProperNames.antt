@@ -1,5 +1,5 @@
 -- Names, numbers and strings of proper trees are such as a source has.
-use Rattle.std.proofs.Common.{◌≡◌, ℕ, ◌<◌, List, [], ◌∷◌, length, map, get_or, None, refl, arith}
+use Rattle.std.proofs.Common.{◌≡◌, ℕ, ◌<◌, List, [], ◌∷◌, length, map, get_or, refl, arith}
 use Rattle.std.specs.Prelude.{IsTrue, All}
 use Rattle.std.proofs.lemmas.Bool.Decides.{nat_tests}
 use Rattle.std.proofs.lemmas.List.Elements.{All-head, All-tail}
@@ -7,7 +7,7 @@ use Rattle.p8_tree.specs.Names.{is_capital, is_in_name, begins_name, IsName, IsQ
 use Rattle.p8_lexer.proofs.ReservedWords.{name_free}
 use Rattle.p8_lexer.specs.declared.piece.Class.TheVariants as class
 use Rattle.p8_lexer.specs.Lexing.{is_letter, is_in}
-use Rattle.p8_lexer.specs.Words.{capital, word_spelled}
+use Rattle.p8_lexer.specs.Words.{capital}
 use Rattle.p8_grammar.specs.Lexemes.{name, string}
 use Rattle.p8_expr.specs.Sources.{IsLexeme}
 
@@ -33,9 +33,6 @@ name_lexeme n h =
     let capitals = in_capitals n h.characters in
     let first = begins n h.begins in
     ((first.0, h.short, first.1, λ i from to. in_name (get_or n i 0) (h.characters i 0 to), name_free n h.begins capitals h.free), capitals)
-
-pub name_unreserved : (n : List ℕ) → IsName n → word_spelled n ≡ None
-name_unreserved n h = (name_lexeme n h).0.4
 
 quoted : (c : ℕ) → IsQuoted c → IsTrue (is_in class.Quoted c)
 quoted c h = let a = h.1 in let b = h.2 in let d = h.3 in grind (arith, nat_tests)

@@ -3,7 +3,7 @@ use Rattle.std.proofs.Common.{ℕ, ◌≤◌, List}
 use Rattle.std.specs.Prelude.{IsTrue}
 use Rattle.p8_tree.specs.Expressions.{Tree}
 use Rattle.p8_grammar.specs.Lexemes as lexemes
-use Rattle.p8_grammar.specs.Lexemes.{Setting, is_value, Token}
+use Rattle.p8_grammar.specs.Lexemes.{Setting, in_action, is_value, Token}
 use Rattle.p8_grammar.specs.Grammar.{IsExpression}
 use Rattle.p8_grammar.specs.Heights.{height}
 use Rattle.p8_expr.specs.Sources.{IsLexeme, AreLexemes}
@@ -15,6 +15,13 @@ pub record IsRead (s : Setting) (e : Tree) : Type 0 where
   pub good : AreLexemes tokens
   pub low : height e ≤ 64
   pub value : IsTrue (is_value s)
+
+-- an action that was read from tokens of a source
+pub record IsReadAction (e : Tree) : Type 0 where
+  pub tokens : List Token
+  pub is : IsExpression in_action e tokens
+  pub good : AreLexemes tokens
+  pub low : height e ≤ 64
 
 -- a name that isn't reserved, in capitals
 abbrev pub IsName : List ℕ → Type 0

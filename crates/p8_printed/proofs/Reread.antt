@@ -40,7 +40,8 @@ use Rattle.p8_printed.proofs.Rebuilt.{is_line, statements_again}
 use Rattle.p8_printed.proofs.Keeping.{leave_loops_alike, depth_alike}
 use Rattle.p8_printed.proofs.Spelt.{BeginsAt, AreSpelledLines, parted}
 use Rattle.p8_printed.proofs.Spelt as spelt
-use Rattle.p8_printed.proofs.Lines.{KindReadsBack}
+use Rattle.p8_printed.proofs.MethodLines.{IsLine}
+use Rattle.p8_printed.proofs.Lines.{line_is, line_again}
 use Rattle.p8_printed.proofs.Printable.{ItemReadsBack, IsPrintable, constants, variables, objects, assembly, a_method, printed_kinds}
 
 -- the end of a line
@@ -118,10 +119,10 @@ record Rewritten (xs : List Indented) (us : List LineToken) : Type 0 where
   adds : (ls : List Line) (ts : List LineToken) → AreLines within_limits ls false ts → AreLines within_limits (ls ++ lines) false (ts ++ us)
   found : AreFound xs lines
 
-rewritten : (xs : List Indented) {us : List LineToken} → Each (λ x. KindReadsBack x.kind) xs → AreSpelledLines (map spelled_line xs) us → Rewritten xs us
+rewritten : (xs : List Indented) {us : List LineToken} → Each (λ x. IsLine x.kind) xs → AreSpelledLines (map spelled_line xs) us → Rewritten xs us
 rewritten [] h spelt.no_line = record { lines = []; adds = λ ls ts r. subst₂ (λ ls ts. AreLines within_limits ls false ts) (sym (append-nil ls)) (sym (append-nil ts)) r; found = tt }
 rewritten (x ∷ xs) h (spelt.a_line {us = us} l own t s b e r) =
-    let again = h.0.read own t s e in
+    let again = line_again x.kind h.0 own t s e in
     let rest = rewritten xs h.1 r in
     let this = columns.line again.first.place again.kind in
     record {
@@ -141,12 +142,12 @@ word_of_method : (public : Bool) → (if public then word_case.Pub else word_cas
 word_of_method true = refl
 word_of_method false = refl
 
-method_again : (m : MethodTree) (ss : Statements) (ls : List Line) {us : List LineToken} → ReadsBack (method_of_row m.public) method_anywhere state.MethodName (words_of_head m) m → AreStatements ss ls → Each (λ l. KindReadsBack l.kind) ls → IsTrue (leave_loops false ss) → AreSpelledLines (lines_of_method (with_body m ss)) us → BlockAgain (sources.Method (with_body m ss)) us
+method_again : (m : MethodTree) (ss : Statements) (ls : List Line) {us : List LineToken} → ReadsBack (method_of_row m.public) method_anywhere state.MethodName (words_of_head m) m → AreStatements ss ls → Each (λ l. IsLine l.kind) ls → IsTrue (leave_loops false ss) → AreSpelledLines (lines_of_method (with_body m ss)) us → BlockAgain (sources.Method (with_body m ss)) us
 method_again m ss ls r are h loops spelled =
     let x = headed (if m.public then word_case.Pub else word_case.Pri) (words_of_head m) (map spelled_line (lines_of_statements 2 ss)) spelled in
     let again = r.read x.own x.end x.spelled x.ends in
     let body = rewritten (lines_of_statements 2 ss) (printed_kinds 2 ss ls are h) x.of_rest in
-    let statements = statements_again 2 ss ls are (each_weaker (λ l. KindReadsBack l.kind) (λ l. IsTrue (is_line l.kind)) (λ l k. k.is_line) ls h) body.lines body.found in
+    let statements = statements_again 2 ss ls are (each_weaker (λ l. IsLine l.kind) (λ l. IsTrue (is_line l.kind)) (λ l k. line_is l.kind k) ls h) body.lines body.found in
     record {
       block = sources.Method (with_body again.1 statements.statements);
       is = subst (IsBlock within_limits (sources.Method (with_body again.1 statements.statements))) (ap (λ z. x.token ∷ z) (append_assoc x.own (x.end ∷ []) x.rest) ∙ sym x.split)

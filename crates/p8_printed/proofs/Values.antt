@@ -1,16 +1,11 @@
--- What rows of pieces have as values: lines that can be printed, and heads of methods with the word before them.
-use Rattle.std.proofs.Common.{◌≡◌, ℕ, List, [], ◌∷◌, Option, Some, None, Bool, true, false, IsTrue, refl, subst}
+-- What rows of pieces have as values: lines that can be printed.
+use Rattle.std.proofs.Common.{◌≡◌, ℕ, List, ◌∷◌, Option, Some, None, Bool, true, false, IsTrue, refl, subst}
 use Rattle.std.specs.Prelude.{if◌then◌else◌, option_map, option_and_then}
 use Rattle.p8_tree.specs.declared.places.Place.{Place}
 use Rattle.p8_tree.specs.Expressions.{Tree}
 use Rattle.p8_tree.specs.Statements.{Course, Forever, Count, Before, From, Do, Next, Quit, Return, Abort}
-use Rattle.p8_tree.specs.Sources.{MethodTree}
 use Rattle.p8_columns.specs.Lines.{Kind, Plain, If, ElseIf, Else, Repeat, End, Case, Item, Other}
 use Rattle.p8_pieces.specs.Pieces.{Piece, word, tree}
-use Rattle.p8_declarations.specs.Parts as parts
-use Rattle.p8_declarations.specs.Parts.{Part}
-use Rattle.p8_declarations.specs.Variables.{variables}
-use Rattle.p8_declarations.specs.Methods.{bare, with_parameter, with_result, with_locals, behind_result, result_named, behind_parameters, parameters, behind_parameter, behind_name, head, method_of_row}
 use Rattle.p8_statements.specs.declared.role.Role.{Role}
 use Rattle.p8_statements.specs.declared.role.Role.TheVariants as role
 use Rattle.p8_statements.specs.Roles.{role_of, is_to, is_step, is_from}
@@ -104,48 +99,3 @@ statements row = tt
 
 pub row_is_line : (row : List Piece) (k : Kind) → kind_of_row row ≡ Some k → IsTrue (is_line k)
 row_is_line row k e = where_is IsLineKind (kind_of_row row) k (where_if IsLineKind (is_item row) _ _ (where_map IsLineKind Item (λ ts. refl) (tests_after _ None row)) (statements row)) e
-
--- heads of methods
-
-module _ (b : Bool) where
-  abbrev HasWord : MethodTree → Type 0
-  HasWord m = m.public ≡ b
-
-  behind : (m : MethodTree) (rest : List Part) → HasWord m → Where HasWord (behind_result m rest)
-  behind m (parts.bar ∷ rest) h = where_map HasWord (with_locals m) (λ xs. h) (variables 4 rest)
-  behind m (parts.line_end ∷ []) h = h
-  behind m rest h = tt
-
-  result : (m : MethodTree) (rest : List Part) → HasWord m → Where HasWord (result_named m rest)
-  result m (parts.name n p ∷ rest) h = behind (with_result m n p) rest h
-  result m rest h = tt
-
-  results : (m : MethodTree) (rest : List Part) → HasWord m → Where HasWord (behind_parameters m rest)
-  results m (parts.colon ∷ rest) h = result m rest h
-  results m (parts.bar ∷ rest) h = behind m (parts.bar ∷ rest) h
-  results m (parts.line_end ∷ rest) h = behind m (parts.line_end ∷ rest) h
-  results m rest h = tt
-
-  mutual
-    more : (m : MethodTree) (rest : List Part) → HasWord m → Where HasWord (parameters m rest)
-    more m (parts.name n p ∷ rest) h = further (with_parameter m n p) rest h
-    more m rest h = tt
-
-    further : (m : MethodTree) (rest : List Part) → HasWord m → Where HasWord (behind_parameter m rest)
-    further m (parts.comma ∷ rest) h = more m rest h
-    further m (parts.right_parenthesis ∷ rest) h = results m rest h
-    further m rest h = tt
-
-  named : (m : MethodTree) (rest : List Part) → HasWord m → Where HasWord (behind_name m rest)
-  named m (parts.left_parenthesis ∷ rest) h = more m rest h
-  named m (parts.colon ∷ rest) h = results m (parts.colon ∷ rest) h
-  named m (parts.bar ∷ rest) h = results m (parts.bar ∷ rest) h
-  named m (parts.line_end ∷ rest) h = results m (parts.line_end ∷ rest) h
-  named m rest h = tt
-
-  headed : (rest : List Part) → Where HasWord (head b rest)
-  headed (parts.name n p ∷ rest) = named (bare b n p) rest refl
-  headed rest = tt
-
-pub word_is : (b : Bool) (row : List Piece) (m : MethodTree) → method_of_row b row ≡ Some m → m.public ≡ b
-word_is b row m e = where_is (λ m. m.public ≡ b) (method_of_row b row) m (headed b (parts.parts row)) e

@@ -27,7 +27,8 @@ use Rattle.p8_printed.specs.Rereading.{AreOfSource, ReadsBack}
 use Rattle.p8_print.specs.DeclarationWords.{words_of_name_and_count, words_of_variable, more_locals}
 use Rattle.p8_printed.proofs.Readings.{IsRead, IsName, IsSize, byte_size, word_size, long_size}
 use Rattle.p8_printed.proofs.PartSources.{AreGood, declarations_closed, leads_good, each_with_first, each_ended, each_unless}
-use Rattle.p8_printed.proofs.Steps.{Back, weaker, same_words, LeadsTo, Expects, ends, a_word, a_name, before, reads_back}
+use Rattle.p8_printed.proofs.RowSteps.{LeadsTo}
+use Rattle.p8_printed.proofs.Steps.{Back, weaker, same_words, Expects, ends, a_word, a_name, before, reads_back}
 
 -- a variable of this size that was read from tokens of a source
 pub data IsVariable (s : Setting) (z : ℕ) : Declared → Type 0 where

@@ -2,6 +2,5 @@
 pub mod Kinds
 pub mod Reading
 pub mod Lexemes
-pub mod Written
 pub mod Rereading
 pub mod Trees

@@ -27,12 +27,7 @@ pub fn printed_reads_back()
     ensures { (s : Source) → IsOfFile s
         → (tokens : List token.Token) × (s' : Source) × AreTokens (text_of_lines (lines_of s)) tokens × IsFileWithinLimits s' (all_tokens (text_of_lines (lines_of s)) tokens) × IsSameSource s' s }
 {
-    crate::piece_rows::rows_read_back();
-    crate::methods::lines_are_written();
-    crate::methods::places_do_not_matter();
-    crate::declarations::constants_read_back();
-    crate::declarations::variables_read_back();
-    crate::declarations::objects_read_back();
-    crate::declarations::heads_read_back();
-    crate::assembly::data_read_back();
+    p8_expr::lexemes_are_proper();
+    p8_blocks::files_are_proper();
+    crate::proper_laws::proper_reads_back();
 }

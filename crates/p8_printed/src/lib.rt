@@ -1,8 +1,8 @@
 //! What is printed is read back. The functions of this crate do nothing: their contracts are its laws.
 //!
 //! A printer writes words, and what it wrote is read as it was: lines of words as tokens, the words of an expression as the
-//! same expression, the words of a row of pieces as the same row, and those of each line of a source as the same line, but for
-//! places. So the text of each tree that a file has, as [`print_tree`](p8_print::print_tree) writes it, is read as the same tree.
+//! same expression, and those of each line of a source as the same line, but for places. So the text of each tree that a file
+//! has, as [`print_tree`](p8_print::print_tree) writes it, is read as the same tree.
 //!
 //! A tree of a source is proper where its numbers, names, operators, operands, heights and depths are such as a source has. This
 //! is enough: what is printed of any proper tree is read as the same tree. So a proper tree may be made in any way, and need
@@ -14,7 +14,6 @@ mod declarations;
 mod expression_words;
 mod laws;
 mod methods;
-mod piece_rows;
 mod proper_laws;
 mod reading;
 
@@ -24,7 +23,6 @@ pub use declarations::{
 };
 pub use expression_words::{expression_reads_back, word_is_lexeme};
 pub use laws::{printed_reads_back, trees_are_of_files};
-pub use methods::{lines_are_written, places_do_not_matter};
-pub use piece_rows::rows_read_back;
+pub use methods::lines_read_back;
 pub use proper_laws::{expressions_are_spelled, places_are_not_printed, proper_reads_back};
 pub use reading::{plain_columns, reads_back};

