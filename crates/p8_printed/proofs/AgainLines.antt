@@ -29,7 +29,7 @@ use Rattle.p8_printed.proofs.Rebuilt.{is_simple, is_headed, is_line}
 use Rattle.p8_printed.proofs.Values.{row_is_line}
 use Rattle.p8_printed.proofs.Readings.{IsReadAction}
 use Rattle.p8_printed.proofs.MethodLines.{IsValue, IsCourse, AreTests, AreSomeTests, IsAction, IsLine, read_back}
-use Rattle.p8_printed.proofs.ProperAgain.{Again, method_again, there_again}
+use Rattle.p8_printed.proofs.ProperAgain.{Again, alike, method_again, there_again}
 
 maybe_again : (o : Option Tree) → IfThere (IsProperExpression false) o → Again (IfThere IsValue) (option_map tree_anywhere) o
 maybe_again = there_again false IsValue method_again
@@ -104,24 +104,20 @@ item_kept : (k : Kind) → is_item (kind_anywhere k) ≡ is_item k
 item_kept (Item xs) = refl
 item_kept k = refl
 
--- what holds of a kind and of it without its places
-alike : {X : Type 0} (f : Kind → X) → ((k : Kind) → f (kind_anywhere k) ≡ f k) → (k' k : Kind) → kind_anywhere k' ≡ kind_anywhere k → f k' ≡ f k
-alike f kept k' k e = sym (kept k') ∙ ap f e ∙ kept k
-
 -- whether a line is an item doesn't depend on places
 pub item_anywhere : (k' k : Kind) → kind_anywhere k' ≡ kind_anywhere k → is_item k' ≡ is_item k
-item_anywhere = alike is_item item_kept
+item_anywhere = alike kind_anywhere is_item item_kept
 
 reads_alike : (k' k : Kind) → kind_anywhere k' ≡ kind_anywhere k → LineReadsBack k' → LineReadsBack k
 reads_alike k' k e b =
-    let words = alike words_of_kind kind_words k' k e in
+    let words = alike kind_anywhere words_of_kind kind_words k' k e in
     record {
       readable = subst (All IsReadable) words b.readable;
       capitals = subst (All IsInCapitals) words b.capitals;
       read =
           λ ts t s end.
           let x = b.read ts t (subst (λ ws. AreSpelled ws ts) (sym words) s) end in
-          (x.0, x.1, subst₂ (λ q b. Leads q (with_line_end (not b) ts t) x.0 state.End) (alike begin_of begin_kept k' k e) (item_anywhere k' k e) x.2, x.3, x.4 ∙ e);
+          (x.0, x.1, subst₂ (λ q b. Leads q (with_line_end (not b) ts t) x.0 state.End) (alike kind_anywhere begin_of begin_kept k' k e) (item_anywhere k' k e) x.2, x.3, x.4 ∙ e);
     }
 
 pub of_row : (us : List LineToken) (row : List Piece) (k : Kind) → ((ts : List LineToken) → AreOfSource ts → grammar.AreProper (terms ts)) → KindsAreProper → (q : State) → MethodRowsAreProper q → Leads q us row state.End → AreOfSource us → kind_of_row row ≡ Some k → LineReadsBack k

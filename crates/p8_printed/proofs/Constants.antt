@@ -1,24 +1,18 @@
 -- Each item of a line of CON is read back.
 use Rattle.std.proofs.Common.{◌≡◌, ℕ, List, [], ◌∷◌, map, Option, Some, None, refl, ap}
-use Rattle.std.specs.Prelude.{if◌then◌else◌, All}
-use Rattle.std.specs.List.{AllByRecursion}
-use Rattle.std.proofs.lemmas.List.Elements.{All-weaker, All-from_recursion}
+use Rattle.std.specs.Prelude.{if◌then◌else◌}
 use Rattle.p8_tree.specs.declared.places.Place.{Place}
 use Rattle.p8_tree.specs.Expressions.{Tree}
 use Rattle.p8_tree.specs.Sources.{Constant}
 use Rattle.p8_tree.specs.Forgetting.{anywhere, constant_anywhere}
 use Rattle.p8_lexer.specs.declared.word.Word.TheVariants as word_case
 use Rattle.p8_grammar.specs.Lexemes.{in_declaration}
-use Rattle.p8_pieces.specs.Pieces.{Piece}
 use Rattle.p8_lines.specs.declared.state.State.TheVariants as state
-use Rattle.p8_lines.specs.Tokens.{LineToken}
-use Rattle.p8_lines.specs.Lines.{Leads}
-use Rattle.p8_declarations.specs.Parts.{Part, line_end, comma, equals, hash, left_bracket, right_bracket, name, tree, part_of_word, parts, is_line_end, ended}
-use Rattle.p8_declarations.specs.Constants.{setting, constant, constants, constants_named, constants_behind, constants_of_row}
-use Rattle.p8_printed.specs.Rereading.{AreOfSource, ReadsBack}
+use Rattle.p8_declarations.specs.Parts.{Part, part_of_word, is_line_end}
+use Rattle.p8_declarations.specs.Constants.{setting, constant, constants, constants_of_row}
+use Rattle.p8_printed.specs.Rereading.{ReadsBack}
 use Rattle.p8_print.specs.DeclarationWords.{words_of_constant}
 use Rattle.p8_printed.proofs.Readings.{IsRead, IsName}
-use Rattle.p8_printed.proofs.PartSources.{AreGood, declarations_closed, leads_good, each_with_first, each_ended, each_unless}
 use Rattle.p8_printed.proofs.Steps.{Back, ends, a_word, a_name, last, before, reads_back}
 
 -- an item that was read from tokens of a source
@@ -27,25 +21,6 @@ pub data IsItem : Constant → Type 0 where
   alone : {n : List ℕ} {p : Place} → IsName n → IsItem (constant n p None None)
   valued : {n : List ℕ} {p : Place} {e : Tree} → IsName n → IsRead in_declaration e → IsItem (constant n p (Some e) None)
   stepped : {n : List ℕ} {p : Place} {e : Tree} → IsName n → IsRead in_declaration e → IsItem (constant n p None (Some e))
-
-mutual
-  items : (ps : List Part) (xs : List Constant) → AreGood in_declaration ps → constants ps ≡ Some xs → AllByRecursion IsItem xs
-  items (hash p ∷ tree e ∷ rest) xs g h = each_with_first IsItem (setting p e) (constants_behind rest) xs (sets g.1.0) (λ ys k. items_behind rest ys g.1.1 k) h
-  items (name n p ∷ rest) xs g h = items_named n p rest xs g.0 g.1 h
-  items _ xs g h = absurd cc
-
-  items_named : (n : List ℕ) (p : Place) (ps : List Part) (xs : List Constant) → IsName n → AreGood in_declaration ps → constants_named n p ps ≡ Some xs → AllByRecursion IsItem xs
-  items_named n p (equals ∷ tree e ∷ rest) xs y g h = each_with_first IsItem (constant n p (Some e) None) (constants_behind rest) xs (valued y g.1.0) (λ ys k. items_behind rest ys g.1.1 k) h
-  items_named n p (left_bracket ∷ tree e ∷ right_bracket ∷ rest) xs y g h =
-      each_with_first IsItem (constant n p None (Some e)) (constants_behind rest) xs (stepped y g.1.0) (λ ys k. items_behind rest ys g.1.1.1 k) h
-  items_named n p (comma ∷ rest) xs y g h = each_with_first IsItem (constant n p None None) (constants rest) xs (alone y) (λ ys k. items rest ys g.1 k) h
-  items_named n p (line_end ∷ rest) xs y g h = each_with_first IsItem (constant n p None None) (ended rest) xs (alone y) (λ ys k. each_ended IsItem rest ys k) h
-  items_named n p _ xs y g h = absurd cc
-
-  items_behind : (ps : List Part) (xs : List Constant) → AreGood in_declaration ps → constants_behind ps ≡ Some xs → AllByRecursion IsItem xs
-  items_behind (comma ∷ rest) xs g h = items rest xs g.1 h
-  items_behind (line_end ∷ rest) xs g h = each_ended IsItem rest xs h
-  items_behind _ xs g h = absurd cc
 
 -- what the parts of a line declare
 abbrev constants_of_parts : List Part → Option (List Constant)
@@ -78,14 +53,3 @@ IsReadBack x = ReadsBack constants_of_row (map constant_anywhere) state.ConItem 
 
 pub read_back : (x : Constant) → IsItem x → IsReadBack x
 read_back x y = reads_back constants_of_row constants_of_parts (map constant_anywhere) state.ConItem (words_of_constant x) (x ∷ []) (λ row. refl) (item_back x y)
-
-of_line : (row : List Piece) (xs : List Constant) → AreGood in_declaration (parts row) → constants_of_row row ≡ Some xs → All IsReadBack xs
-of_line row xs g h =
-    All-weaker IsItem IsReadBack read_back xs
-    (All-from_recursion IsItem xs (each_unless IsItem (is_line_end (parts row)) (constants (parts row)) xs h (λ k. items (parts row) xs g k)))
-
-pub from_head : (us : List LineToken) (row : List Piece) (xs : List Constant) → Leads state.ConHead us row state.End → AreOfSource us → constants_of_row row ≡ Some xs → All IsReadBack xs
-from_head us row xs w g h = of_line row xs (leads_good in_declaration refl declarations_closed w refl g) h
-
-pub from_item : (us : List LineToken) (row : List Piece) (xs : List Constant) → Leads state.ConItem us row state.End → AreOfSource us → constants_of_row row ≡ Some xs → All IsReadBack xs
-from_item us row xs w g h = of_line row xs (leads_good in_declaration refl declarations_closed w refl g) h

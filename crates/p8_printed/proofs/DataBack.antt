@@ -1,18 +1,14 @@
 -- A line of DAT that was read is read back from its words, but for places.
-use Rattle.std.proofs.Common.{◌≡◌, List, Some, option_map, ap}
+use Rattle.std.proofs.Common.{Some, option_map, ap}
 use Rattle.p8_tree.specs.Sources.{Line}
 use Rattle.p8_tree.specs.Forgetting.{line_anywhere}
-use Rattle.p8_pieces.specs.Pieces.{Piece}
 use Rattle.p8_lines.specs.declared.state.State.TheVariants as state
-use Rattle.p8_lines.specs.Tokens.{LineToken}
-use Rattle.p8_lines.specs.Lines.{Leads}
 use Rattle.p8_data.specs.Lines.{line_of_row}
 use Rattle.p8_print.specs.Spelled.{IsReadable}
 use Rattle.p8_printed.specs.Lexemes.{IsInCapitals}
-use Rattle.p8_printed.specs.Rereading.{AreOfSource, ReadsBack}
+use Rattle.p8_printed.specs.Rereading.{ReadsBack}
 use Rattle.p8_print.specs.DataWords.{words_of_line}
 use Rattle.p8_printed.proofs.Made.{IsLine}
-use Rattle.p8_printed.proofs.DataRows.{from_head, from_line}
 use Rattle.p8_printed.proofs.Printed.{wrapped_printed}
 use Rattle.p8_printed.proofs.DataLinesRead.{reread}
 use Rattle.p8_printed.proofs.DataWordsAll.{all_line}
@@ -23,9 +19,3 @@ reads_back x is = record {
   capitals = all_line IsInCapitals (λ w free. tt) (λ n named. named.1) (λ s e was. λ k d lt. (wrapped_printed was.is was.good k d lt).1) x is;
   read = λ ts t are e. let y = reread x ts t is are e in (y.row, Some y.other, y.leads, y.is, ap (λ x. Some x) y.same);
 }
-
-pub back_from_head : (us : List LineToken) (row : List Piece) (x : Line) → Leads state.DatHead us row state.End → AreOfSource us → line_of_row row ≡ Some (Some x) → ReadsBack line_of_row (option_map line_anywhere) state.DatLine (words_of_line x) (Some x)
-back_from_head us row x l s e = reads_back x (from_head us row x l s e)
-
-pub back_from_line : (us : List LineToken) (row : List Piece) (x : Line) → Leads state.DatLine us row state.End → AreOfSource us → line_of_row row ≡ Some (Some x) → ReadsBack line_of_row (option_map line_anywhere) state.DatLine (words_of_line x) (Some x)
-back_from_line us row x l s e = reads_back x (from_line us row x l s e)

@@ -1,7 +1,6 @@
 -- Ways along words to the line's end, and what stands along them.
-use Rattle.std.proofs.Common.{◌≡◌, ℕ, ◌≤◌, List, [], ◌∷◌, ◌++◌, map, Some, Bool, true, false, All, refl, sym, ap, ap₂, ◌∙◌, subst}
+use Rattle.std.proofs.Common.{◌≡◌, ℕ, ◌≤◌, List, [], ◌∷◌, ◌++◌, map, Some, Bool, true, false, All, refl, sym, ap, ◌∙◌, subst}
 use Rattle.std.specs.Prelude.{if◌then◌else◌}
-use Rattle.std.proofs.lemmas.List.Elements.{All-head, All-tail}
 use Rattle.p8_tree.specs.Expressions.{Tree}
 use Rattle.p8_tree.specs.Forgetting.{IsSameTree}
 use Rattle.p8_lexer.specs.declared.word.Word.{Word}
@@ -21,13 +20,13 @@ use Rattle.p8_lines.specs.Lines.{Follows, is_name, Leads, nowhere, by_token, by_
 use Rattle.p8_lines.proofs.Matching.{target, follows}
 use Rattle.p8_data.specs.Parts.{Part, line_end, tree, part_of_word, part_of_piece, before_end, parts}
 use Rattle.p8_print.specs.Spelled.{Spelled, IsReadable}
-use Rattle.p8_printed.specs.Lexemes.{AreWords, IsInCapitals}
+use Rattle.p8_printed.specs.Lexemes.{IsInCapitals}
 use Rattle.p8_printed.proofs.Printed.{wrapped_printed, wrapped_back}
-use Rattle.p8_printed.proofs.ReadWords.{lexeme_is}
 use Rattle.p8_print.specs.Wording.{wrapped}
 use Rattle.p8_printed.specs.Rereading.{IsSpelled, AreSpelled}
 use Rattle.p8_printed.proofs.Readings.{IsRead}
 use Rattle.p8_printed.proofs.DataParts.{plain_part}
+use Rattle.p8_printed.proofs.RowSteps.{spelled_words}
 
 -- tokens are these words, with their line's end
 abbrev pub AreEnded : List Spelled → List LineToken → Type 0
@@ -136,15 +135,6 @@ behind_tree q s l {ts = ts} K' some y g f =
     let leads = by_phrase y.others some y.reads y.low (either_way (is_name us) l g.follows) g.leads in
     record { row = row; leads = subst (λ ts. Leads q ts row state.End) (sym (y.is ∙ ap (λ vs. us ++ vs) g.is)) leads; value = f (parts (piece g.token ∷ g.row)) g.value }
 
-as_words : (ws : List Spelled) (ts : List LineToken) → All IsReadable ws → All IsInCapitals ws → AreSpelled ws ts → AreWords (terms ts) ws
-as_words [] [] r c are = refl
-as_words [] (t ∷ ts) r c are = absurd are
-as_words (w ∷ ws) [] r c are = absurd are
-as_words (w ∷ ws) (t ∷ ts) r c are =
-    ap₂ (λ x xs. x ∷ xs)
-    (lexeme_is w t.text t.kind (All-head IsReadable w ws r) (All-head IsInCapitals w ws c) are.0.kind are.0.word are.0.text)
-    (as_words ws ts (All-tail IsReadable w ws r) (All-tail IsInCapitals w ws c) are.1)
-
 pub tree_read : (s : Setting) (e : Tree) (ys : List Spelled) (ts : List LineToken) → IsRead s e → AreEnded (wrapped e ++ ys) ts → TreeRead s e ys ts
 tree_read s e ys ts was are = go y.left y.is y.words
   where
@@ -156,7 +146,7 @@ tree_read s e ys ts was are = go y.left y.is y.words
     go (first ∷ others) is are =
         let readable : All IsReadable (wrapped e) = λ k d lt. (wrapped_printed was.is was.good k d lt).0 in
         let capitals : All IsInCapitals (wrapped e) = λ k d lt. (wrapped_printed was.is was.good k d lt).1 in
-        let z = wrapped_back was.value was.is was.good (as_words (wrapped e) (first ∷ others) readable capitals are) in
+        let z = wrapped_back was.value was.is was.good (spelled_words (wrapped e) (first ∷ others) readable capitals are) in
         let low : height z.0 ≤ 64 = subst (λ n. n ≤ 64) (sym z.3) was.low in
         record { first = first; others = others; right = y.right; is = is; other = z.0; reads = z.1; low = low; same = z.2; rest = y.rest }
 

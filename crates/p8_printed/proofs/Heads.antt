@@ -13,17 +13,15 @@ use Rattle.p8_pieces.specs.Pieces.{Piece}
 use Rattle.p8_lines.specs.declared.state.State.{State}
 use Rattle.p8_lines.specs.declared.state.State.TheVariants as state
 use Rattle.p8_lines.specs.Diagram.{choices}
-use Rattle.p8_lines.specs.Tokens.{LineToken}
-use Rattle.p8_lines.specs.Lines.{Leads}
 use Rattle.p8_declarations.specs.Parts.{Part, line_end, comma, colon, bar, left_parenthesis, right_parenthesis, name, part_of_word, parts}
 use Rattle.p8_declarations.specs.Variables.{variables}
 use Rattle.p8_declarations.specs.Methods.{bare, with_parameter, with_result, with_locals, behind_result, result_named, behind_parameters, parameters, behind_parameter, behind_name, head, method_of_row}
 use Rattle.p8_print.specs.Spelled as spelled
-use Rattle.p8_printed.specs.Rereading.{AreOfSource, ReadsBack}
+use Rattle.p8_printed.specs.Rereading.{ReadsBack}
 use Rattle.p8_print.specs.DeclarationWords.{more_names, words_of_result, words_of_parameters, words_of_locals, words_of_head}
 use Rattle.p8_printed.proofs.Readings.{IsName}
-use Rattle.p8_printed.proofs.PartSources.{AreGood, methods_closed, leads_good}
-use Rattle.p8_printed.proofs.Variables.{IsVariable, items, Names, names_back}
+use Rattle.p8_printed.proofs.Values.{Where, where_is, where_map}
+use Rattle.p8_printed.proofs.Variables.{IsVariable, Names, names_back}
 use Rattle.p8_printed.proofs.RowSteps.{LeadsTo}
 use Rattle.p8_printed.proofs.Steps.{Back, weaker, same_words, ends, a_word, a_name, reads_back}
 
@@ -47,7 +45,7 @@ made_parameter public n ns r xs m k p h =
     ∙ ap (λ m. with_parameter m k anywhere) h
     ∙ ap (λ ps. record (made public n (ns ++ k ∷ []) r xs) { param_places = ps }) (sym (map-append (λ n. anywhere) ns (k ∷ [])))
 
--- heads that were read from tokens of a source
+-- heads that are such as are read from tokens of a source
 
 abbrev pub IsMaybeName : Option (List ℕ) → Type 0
 IsMaybeName None = Unit {0}
@@ -59,74 +57,6 @@ pub record IsHead (public : Bool) (m : MethodTree) : Type 0 where
   pub result : IsMaybeName m.result_name
   pub locals : AllByRecursion (IsVariable in_method 4) m.locals
   pub same : method_anywhere m ≡ made public m.name m.params m.result_name m.locals
-
-each_push : {X : Type 0} (P : X → Type 0) (xs : List X) (x : X) → AllByRecursion P xs → P x → AllByRecursion P (xs ++ x ∷ [])
-each_push P [] x h p = (p, tt)
-each_push P (y ∷ ys) x h p = (h.0, each_push P ys x h.1 p)
-
-one_parameter : (public : Bool) (m : MethodTree) (n : List ℕ) (p : Place) → IsHead public m → IsName n → IsHead public (with_parameter m n p)
-one_parameter public m n p h y = record {
-  name = h.name;
-  params = each_push IsName m.params n h.params y;
-  result = h.result;
-  locals = h.locals;
-  same = made_parameter public m.name m.params m.result_name m.locals m n p h.same;
-}
-
-one_result : (public : Bool) (m : MethodTree) (n : List ℕ) (p : Place) → IsHead public m → IsName n → IsHead public (with_result m n p)
-one_result public m n p h y = record {
-  name = h.name;
-  params = h.params;
-  result = y;
-  locals = h.locals;
-  same = ap (λ m. with_result m n anywhere) h.same;
-}
-
-these_locals : (public : Bool) (m : MethodTree) (xs : List Declared) → IsHead public m → AllByRecursion (IsVariable in_method 4) xs → IsHead public (with_locals m xs)
-these_locals public m xs h y = record {
-  name = h.name;
-  params = h.params;
-  result = h.result;
-  locals = y;
-  same = ap (λ m. with_locals m (map declared_anywhere xs)) h.same;
-}
-
--- what stands after the result, the parameters and the name of the method as it is so far
-
-result_is : (public : Bool) (m v : MethodTree) (ps : List Part) → IsHead public m → AreGood in_method ps → behind_result m ps ≡ Some v → IsHead public v
-result_is public m v (bar ∷ rest) y g h = go (variables 4 rest) refl h
-  where
-    go : (o : Option (List Declared)) → variables 4 rest ≡ o → option_map (with_locals m) o ≡ Some v → IsHead public v
-    go None e h = absurd cc
-    go (Some xs) e h = let is : with_locals m xs ≡ v = cc in subst (IsHead public) is (these_locals public m xs y (items in_method 4 rest xs g.1 e))
-result_is public m v (line_end ∷ []) y g h = let is : m ≡ v = cc in subst (IsHead public) is y
-result_is public m v _ y g h = absurd cc
-
-named_result_is : (public : Bool) (m v : MethodTree) (ps : List Part) → IsHead public m → AreGood in_method ps → result_named m ps ≡ Some v → IsHead public v
-named_result_is public m v (name n p ∷ rest) y g h = result_is public (with_result m n p) v rest (one_result public m n p y g.0) g.1 h
-named_result_is public m v _ y g h = absurd cc
-
-parameters_are : (public : Bool) (m v : MethodTree) (ps : List Part) → IsHead public m → AreGood in_method ps → behind_parameters m ps ≡ Some v → IsHead public v
-parameters_are public m v (colon ∷ rest) y g h = named_result_is public m v rest y g.1 h
-parameters_are public m v ps y g h = result_is public m v ps y g h
-
-mutual
-  parameter_is : (public : Bool) (m v : MethodTree) (ps : List Part) → IsHead public m → AreGood in_method ps → parameters m ps ≡ Some v → IsHead public v
-  parameter_is public m v (name n p ∷ rest) y g h = more_are public (with_parameter m n p) v rest (one_parameter public m n p y g.0) g.1 h
-  parameter_is public m v _ y g h = absurd cc
-
-  more_are : (public : Bool) (m v : MethodTree) (ps : List Part) → IsHead public m → AreGood in_method ps → behind_parameter m ps ≡ Some v → IsHead public v
-  more_are public m v (comma ∷ rest) y g h = parameter_is public m v rest y g.1 h
-  more_are public m v (right_parenthesis ∷ rest) y g h = parameters_are public m v rest y g.1 h
-  more_are public m v _ y g h = absurd cc
-
-name_is : (public : Bool) (m v : MethodTree) (ps : List Part) → IsHead public m → AreGood in_method ps → behind_name m ps ≡ Some v → IsHead public v
-name_is public m v (left_parenthesis ∷ rest) y g h = parameter_is public m v rest y g.1 h
-name_is public m v ps y g h = parameters_are public m v ps y g h
-
-head_is : (public : Bool) (v : MethodTree) (ps : List Part) → AreGood in_method ps → head public ps ≡ Some v → IsHead public v
-head_is public v (name n p ∷ rest) g h = name_is public (bare public n p) v rest (record { name = g.0; params = tt; result = tt; locals = tt; same = refl }) g.1 h
-head_is public v _ g h = absurd cc
 
 -- reading them back
 
@@ -209,5 +139,47 @@ head_back public m h =
 pub read_back : (public : Bool) (m : MethodTree) → IsHead public m → ReadsBack (method_of_row public) method_anywhere state.MethodName (words_of_head m) m
 read_back public m h = reads_back (method_of_row public) (head public) method_anywhere state.MethodName (words_of_head m) m (λ row. refl) (head_back public m h)
 
-pub from_name : (public : Bool) (us : List LineToken) (row : List Piece) (m : MethodTree) → Leads state.MethodName us row state.End → AreOfSource us → method_of_row public row ≡ Some m → ReadsBack (method_of_row public) method_anywhere state.MethodName (words_of_head m) m
-from_name public us row m w g h = read_back public m (head_is public m (parts row) (leads_good in_method refl methods_closed w refl g) h)
+-- a head that was read has the word before it, and no lines
+
+module _ (b : Bool) where
+  abbrev IsHeadOf : MethodTree → Type 0
+  IsHeadOf m = (m.public ≡ b) × (m.body ≡ no_statements)
+
+  behind : (m : MethodTree) (rest : List Part) → IsHeadOf m → Where IsHeadOf (behind_result m rest)
+  behind m (bar ∷ rest) h = where_map IsHeadOf (with_locals m) (λ xs. h) (variables 4 rest)
+  behind m (line_end ∷ []) h = h
+  behind m rest h = tt
+
+  result : (m : MethodTree) (rest : List Part) → IsHeadOf m → Where IsHeadOf (result_named m rest)
+  result m (name n p ∷ rest) h = behind (with_result m n p) rest h
+  result m rest h = tt
+
+  results : (m : MethodTree) (rest : List Part) → IsHeadOf m → Where IsHeadOf (behind_parameters m rest)
+  results m (colon ∷ rest) h = result m rest h
+  results m (bar ∷ rest) h = behind m (bar ∷ rest) h
+  results m (line_end ∷ rest) h = behind m (line_end ∷ rest) h
+  results m rest h = tt
+
+  mutual
+    more : (m : MethodTree) (rest : List Part) → IsHeadOf m → Where IsHeadOf (parameters m rest)
+    more m (name n p ∷ rest) h = further (with_parameter m n p) rest h
+    more m rest h = tt
+
+    further : (m : MethodTree) (rest : List Part) → IsHeadOf m → Where IsHeadOf (behind_parameter m rest)
+    further m (comma ∷ rest) h = more m rest h
+    further m (right_parenthesis ∷ rest) h = results m rest h
+    further m rest h = tt
+
+  named : (m : MethodTree) (rest : List Part) → IsHeadOf m → Where IsHeadOf (behind_name m rest)
+  named m (left_parenthesis ∷ rest) h = more m rest h
+  named m (colon ∷ rest) h = results m (colon ∷ rest) h
+  named m (bar ∷ rest) h = results m (bar ∷ rest) h
+  named m (line_end ∷ rest) h = results m (line_end ∷ rest) h
+  named m rest h = tt
+
+  headed : (rest : List Part) → Where IsHeadOf (head b rest)
+  headed (name n p ∷ rest) = named (bare b n p) rest (refl, refl)
+  headed rest = tt
+
+pub head_of : (b : Bool) (row : List Piece) (m : MethodTree) → method_of_row b row ≡ Some m → (m.public ≡ b) × (m.body ≡ no_statements)
+head_of b row m e = where_is (IsHeadOf b) (method_of_row b row) m (headed b (parts row)) e

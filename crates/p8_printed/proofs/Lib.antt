@@ -1,5 +1,4 @@
 pub mod Readings
-pub mod PartSources
 pub mod RowSteps
 pub mod Steps
 pub mod Constants
@@ -9,7 +8,6 @@ pub mod Heads
 pub mod Made
 pub mod DataParts
 pub mod DataReading
-pub mod DataRows
 pub mod Going
 pub mod Effects
 pub mod DataNames
@@ -51,5 +49,6 @@ mod ProperAgain
 mod MethodLines
 mod AgainLines
 mod AgainData
+mod ReadLines
 mod AgainStatements
 mod ProperFiles

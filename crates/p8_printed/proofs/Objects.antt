@@ -1,8 +1,8 @@
 -- The object of a line of OBJ is read back.
 use Rattle.std.proofs.Common.{◌≡◌, ℕ, ◌<◌, List, [], ◌∷◌, ◌++◌, length, map, Option, Some, None, Bool, true, false, refl, sym, ap, ◌∙◌, subst, append_assoc, arith}
 use Rattle.std.specs.Prelude.{IsTrue, ◌==◌, ◌||◌, if◌then◌else◌, All, codes}
-use Rattle.std.specs.List.{AllByRecursion, list_any}
-use Rattle.std.proofs.lemmas.List.Elements.{All-weaker, All-from_recursion, All-append, All-from_get_or}
+use Rattle.std.specs.List.{list_any}
+use Rattle.std.proofs.lemmas.List.Elements.{All-from_recursion, All-append, All-from_get_or}
 use Rattle.std.proofs.lemmas.List.Folds.{list_any-append}
 use Rattle.p8_tree.specs.declared.places.Place.{Place}
 use Rattle.p8_tree.specs.Expressions.{Tree}
@@ -14,20 +14,18 @@ use Rattle.p8_lexer.specs.Lexing.{is_in}
 use Rattle.p8_grammar.specs.Lexemes as lexemes
 use Rattle.p8_grammar.specs.Lexemes.{in_declaration}
 use Rattle.p8_expr.specs.Words.{between_quotes}
-use Rattle.p8_pieces.specs.Pieces.{Piece}
 use Rattle.p8_lines.specs.declared.state.State.TheVariants as state
 use Rattle.p8_lines.specs.Diagram.{choices}
 use Rattle.p8_lines.specs.Tokens.{LineToken}
-use Rattle.p8_lines.specs.Lines.{Follows, here, Leads}
+use Rattle.p8_lines.specs.Lines.{Follows, here}
 use Rattle.p8_lines.proofs.Lexemes.{string_lexeme}
-use Rattle.p8_declarations.specs.Parts.{Part, line_end, colon, left_bracket, right_bracket, name, text, tree, part_of_word, parts, is_line_end}
-use Rattle.p8_declarations.specs.Objects.{file_of, child, in_file, object_named, object, alone, objects_of_row}
+use Rattle.p8_declarations.specs.Parts.{Part, line_end, text, part_of_word, is_line_end}
+use Rattle.p8_declarations.specs.Objects.{file_of, child, object, alone, objects_of_row}
 use Rattle.p8_print.specs.Spelled as spelled
 use Rattle.p8_print.specs.Wording.{wrapped}
-use Rattle.p8_printed.specs.Rereading.{IsSpelled, AreOfSource, ReadsBack}
+use Rattle.p8_printed.specs.Rereading.{IsSpelled, ReadsBack}
 use Rattle.p8_print.specs.DeclarationWords.{words_of_child}
-use Rattle.p8_printed.proofs.Readings.{IsRead, IsName}
-use Rattle.p8_printed.proofs.PartSources.{IsText, AreGood, declarations_closed, leads_good, each_unless}
+use Rattle.p8_printed.proofs.Readings.{IsRead, IsName, IsText}
 use Rattle.p8_printed.proofs.RowSteps.{token_lexeme}
 use Rattle.p8_printed.proofs.Steps.{Back, same_words, ends, one, a_word, a_name, before, reads_back}
 
@@ -95,28 +93,6 @@ pub data IsObject : Child → Type 0 where
   single : {n : List ℕ} {p : Place} (t : List ℕ) {q : Place} → IsName n → IsText t → IsObject (child n p None t q)
   counted : {n : List ℕ} {p : Place} {e : Tree} (t : List ℕ) {q : Place} → IsName n → IsRead in_declaration e → IsText t → IsObject (child n p (Some e) t q)
 
--- what is true of the object of a line that has one
-alone_is : (P : Child → Type 0) (o : Option Child) (xs : List Child) → ((x : Child) → o ≡ Some x → P x) → alone o ≡ Some xs → AllByRecursion P xs
-alone_is P None xs f h = absurd cc
-alone_is P (Some x) xs f h = let e : x ∷ [] ≡ xs = cc in subst (AllByRecursion P) e (f x refl, tt)
-
-in_single : (n : List ℕ) (p : Place) (ps : List Part) (x : Child) → IsName n → AreGood in_declaration ps → in_file n p None ps ≡ Some x → IsObject x
-in_single n p (text t q ∷ line_end ∷ []) x y g h = let e : child n p None t q ≡ x = cc in subst IsObject e (single t y g.0)
-in_single n p _ x y g h = absurd cc
-
-in_counted : (n : List ℕ) (p : Place) (e : Tree) (ps : List Part) (x : Child) → IsName n → IsRead in_declaration e → AreGood in_declaration ps → in_file n p (Some e) ps ≡ Some x → IsObject x
-in_counted n p e (text t q ∷ line_end ∷ []) x y r g h = let e : child n p (Some e) t q ≡ x = cc in subst IsObject e (counted t y r g.0)
-in_counted n p e _ x y r g h = absurd cc
-
-item_named : (n : List ℕ) (p : Place) (ps : List Part) (x : Child) → IsName n → AreGood in_declaration ps → object_named n p ps ≡ Some x → IsObject x
-item_named n p (colon ∷ rest) x y g h = in_single n p rest x y g.1 h
-item_named n p (left_bracket ∷ tree e ∷ right_bracket ∷ colon ∷ rest) x y g h = in_counted n p e rest x y g.1.0 g.1.1.1.1 h
-item_named n p _ x y g h = absurd cc
-
-item : (ps : List Part) (x : Child) → AreGood in_declaration ps → object ps ≡ Some x → IsObject x
-item (name n p ∷ rest) x g h = item_named n p rest x g.0 g.1 h
-item _ x g h = absurd cc
-
 -- a line of OBJ
 
 abbrev objects_of_parts : List Part → Option (List Child)
@@ -154,14 +130,3 @@ IsReadBack x = ReadsBack objects_of_row (map child_anywhere) state.ObjLine (word
 
 pub read_back : (x : Child) → IsObject x → IsReadBack x
 read_back x y = reads_back objects_of_row objects_of_parts (map child_anywhere) state.ObjLine (words_of_child x) (x ∷ []) (λ row. refl) (object_back x y)
-
-of_line : (row : List Piece) (xs : List Child) → AreGood in_declaration (parts row) → objects_of_row row ≡ Some xs → All IsReadBack xs
-of_line row xs g h =
-    All-weaker IsObject IsReadBack read_back xs
-    (All-from_recursion IsObject xs (each_unless IsObject (is_line_end (parts row)) (alone (object (parts row))) xs h (λ k. alone_is IsObject (object (parts row)) xs (λ x l. item (parts row) x g l) k)))
-
-pub from_head : (us : List LineToken) (row : List Piece) (xs : List Child) → Leads state.ObjHead us row state.End → AreOfSource us → objects_of_row row ≡ Some xs → All IsReadBack xs
-from_head us row xs w g h = of_line row xs (leads_good in_declaration refl declarations_closed w refl g) h
-
-pub from_line : (us : List LineToken) (row : List Piece) (xs : List Child) → Leads state.ObjLine us row state.End → AreOfSource us → objects_of_row row ≡ Some xs → All IsReadBack xs
-from_line us row xs w g h = of_line row xs (leads_good in_declaration refl declarations_closed w refl g) h

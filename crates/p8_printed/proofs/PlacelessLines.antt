@@ -159,16 +159,16 @@ item_words (Some n) None step = ap (λ ws. name n ∷ ws) (count_words step)
 item_words None None step = refl
 item_words None (Some e) step = ap (λ ws. reserved word.Hash ∷ ws) (wrapped_words e)
 
-constant_words : (x : Constant) → words_of_constant (constant_anywhere x) ≡ words_of_constant x
+pub constant_words : (x : Constant) → words_of_constant (constant_anywhere x) ≡ words_of_constant x
 constant_words x = item_words x.name x.value x.step
 
 counted_words : (x : Declared) → words_of_name_and_count (declared_anywhere x) ≡ words_of_name_and_count x
 counted_words x = ap (λ ws. name x.name ∷ ws) (count_words x.count)
 
-variable_words : (x : Declared) → words_of_variable (declared_anywhere x) ≡ words_of_variable x
+pub variable_words : (x : Declared) → words_of_variable (declared_anywhere x) ≡ words_of_variable x
 variable_words x = ap (λ ws. reserved (size_word x.size) ∷ ws) (counted_words x)
 
-child_words : (x : Child) → words_of_child (child_anywhere x) ≡ words_of_child x
+pub child_words : (x : Child) → words_of_child (child_anywhere x) ≡ words_of_child x
 child_words x = ap (λ ws. name x.name ∷ (ws ++ reserved word.Colon ∷ string x.file ∷ [])) (count_words x.count)
 
 more_words : (xs : List Declared) → more_locals (map declared_anywhere xs) ≡ more_locals xs
@@ -179,7 +179,7 @@ locals_words : (xs : List Declared) → words_of_locals (map declared_anywhere x
 locals_words [] = refl
 locals_words (x ∷ xs) = λ i. reserved word.BitOr ∷ (counted_words x i ++ more_words xs i)
 
-head_words : (m : MethodTree) → words_of_head (method_anywhere m) ≡ words_of_head m
+pub head_words : (m : MethodTree) → words_of_head (method_anywhere m) ≡ words_of_head m
 head_words m = ap (λ ws. name m.name ∷ (words_of_parameters m.params ++ (words_of_result m.result_name ++ ws))) (locals_words m.locals)
 
 -- DAT
@@ -217,7 +217,7 @@ contents_words (sources.Res v) = ap (λ ws. reserved word.Res ∷ ws) (value_wor
 contents_words (sources.Fit v) = ap (λ ws. reserved word.Fit ∷ ws) (value_words v)
 contents_words (sources.Instr x) = instruction_words x
 
-line_words : (x : Line) → words_of_line (line_anywhere x) ≡ words_of_line x
+pub line_words : (x : Line) → words_of_line (line_anywhere x) ≡ words_of_line x
 line_words x = ap (λ ws. words_of_label x.label ++ ws) (contents_words x.contents)
 
 -- sources

@@ -10,11 +10,12 @@ use Rattle.p8_tree.specs.Sources.{Constant, Declared, Child, MethodTree}
 use Rattle.p8_tree.specs.Forgetting.{anywhere, tree_anywhere, constant_anywhere, declared_anywhere, child_anywhere}
 use Rattle.p8_tree.specs.Heights.{height}
 use Rattle.p8_tree.specs.Names.{IsName, has_dot}
-use Rattle.p8_tree.specs.Proper.{IfThere, is_nothing, is_size, IsProperExpression, IsProperConstant, setting, with_value, counted, IsProperDeclared, IsProperLocal, IsProperChild, IsProperMethod}
+use Rattle.p8_tree.specs.Proper.{IfThere, is_nothing, is_size, IsProperExpression, IsProperConstant, setting, with_value, counted, IsProperDeclared, IsProperLocal, IsProperChild}
 use Rattle.p8_grammar.specs.Lexemes.{Setting, in_method, in_declaration, in_dat, in_data_item, is_value}
 use Rattle.p8_declarations.specs.Constants as constants
 use Rattle.p8_declarations.specs.Variables.{variable}
 use Rattle.p8_declarations.specs.Objects.{file_of, child}
+use Rattle.p8_declarations.specs.Proper.{IsProperHead}
 use Rattle.p8_printed.proofs.Readings as readings
 use Rattle.p8_printed.proofs.Readings.{IsRead}
 use Rattle.p8_printed.proofs.Constants.{IsItem, sets, alone, valued, stepped}
@@ -34,6 +35,10 @@ pub record Again {X : Type 0} (P : X → Type 0) (forget : X → X) (x : X) : Ty
   pub other : X
   pub holds : P other
   pub same : forget other ≡ forget x
+
+-- what doesn't depend on places is the same
+pub alike : {X Y : Type 0} (forget : X → X) (f : X → Y) → ((x : X) → f (forget x) ≡ f x) → (x' x : X) → forget x' ≡ forget x → f x' ≡ f x
+alike forget f kept x' x e = sym (kept x') ∙ ap f e ∙ kept x
 
 -- all of them
 pub each_again : {X : Type 0} (Q P : X → Type 0) (forget : X → X) → ((x : X) → Q x → Again P forget x) → (xs : List X) → Each Q xs → Again (Each P) (map forget) xs
@@ -172,7 +177,7 @@ pub record HeadAgain (x : MethodTree) : Type 0 where
   pub same : map declared_anywhere locals ≡ map declared_anywhere x.locals
   pub is : IsHead x.public (record x { locals = locals; body = no_statements })
 
-pub head_again : (x : MethodTree) → IsProperMethod x → HeadAgain x
+pub head_again : (x : MethodTree) → IsProperHead x → HeadAgain x
 head_again x h =
     let y = each_again IsProperLocal (IsVariable in_method 4) declared_anywhere local_again x.locals (recursion_from_All IsProperLocal x.locals h.locals) in
     record {

@@ -37,7 +37,7 @@ record Prints (b : BlockTree) : Type 0 where
 
 method_again : (x : MethodTree) → IsProperMethod x → Again Prints block_anywhere (sources.Method x)
 method_again x h =
-    let head = head_again x h in
+    let head = head_again x (record { name = h.name; params = h.params; param_places = h.param_places; result_name = h.result_name; result_place = h.result_place; locals = h.locals }) in
     let lines = body_again 0 x.body h.body in
     let m : MethodTree = record x { locals = head.locals; body = no_statements } in
     record {

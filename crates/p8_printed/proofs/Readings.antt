@@ -27,6 +27,9 @@ pub record IsReadAction (e : Tree) : Type 0 where
 abbrev pub IsName : List ℕ → Type 0
 IsName n = IsLexeme (lexemes.name n)
 
+abbrev pub IsText : List ℕ → Type 0
+IsText t = IsLexeme (lexemes.string t)
+
 -- BYTE, WORD and LONG
 pub data IsSize : ℕ → Type 0 where
   byte_size : IsSize 1

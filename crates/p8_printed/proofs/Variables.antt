@@ -1,8 +1,7 @@
 -- Each variable of a line of VAR is read back, and so are the names of locals with their counts.
 use Rattle.std.proofs.Common.{◌≡◌, ℕ, List, [], ◌∷◌, ◌++◌, map, Option, Some, None, false, refl, sym, ap, ◌∙◌, subst, append_assoc, append-nil}
-use Rattle.std.specs.Prelude.{if◌then◌else◌, All}
+use Rattle.std.specs.Prelude.{if◌then◌else◌}
 use Rattle.std.specs.List.{AllByRecursion}
-use Rattle.std.proofs.lemmas.List.Elements.{All-from_recursion}
 use Rattle.p8_tree.specs.declared.places.Place.{Place}
 use Rattle.p8_tree.specs.Expressions.{Tree}
 use Rattle.p8_tree.specs.Sources.{Declared}
@@ -10,23 +9,19 @@ use Rattle.p8_tree.specs.Forgetting.{anywhere, declared_anywhere}
 use Rattle.p8_lexer.specs.declared.word.Word.{Word}
 use Rattle.p8_lexer.specs.declared.word.Word.TheVariants as word_case
 use Rattle.p8_grammar.specs.Lexemes.{Setting, in_declaration}
-use Rattle.p8_pieces.specs.Pieces.{Piece}
 use Rattle.p8_lines.specs.declared.arrow.Arrow.{Arrow}
 use Rattle.p8_lines.specs.declared.state.State.{State}
 use Rattle.p8_lines.specs.declared.state.State.TheVariants as state
 use Rattle.p8_lines.specs.Diagram.{choices}
-use Rattle.p8_lines.specs.Tokens.{LineToken}
-use Rattle.p8_lines.specs.Lines.{Leads}
-use Rattle.p8_declarations.specs.Parts.{Part, line_end, comma, left_bracket, right_bracket, size, name, tree, part_of_word, parts, is_line_end, ended, with_first}
-use Rattle.p8_declarations.specs.Variables.{variable, variables, variables_named, variables_behind, sized_variables, variables_of_row}
+use Rattle.p8_declarations.specs.Parts.{Part, comma, left_bracket, right_bracket, size, name, tree, part_of_word, is_line_end, with_first}
+use Rattle.p8_declarations.specs.Variables.{variable, variables, sized_variables, variables_of_row}
 use Rattle.p8_print.specs.Spelled as spelled
 use Rattle.p8_print.specs.Spelled.{is_free}
 use Rattle.p8_print.specs.Tables.{sizes, size_word}
 use Rattle.p8_print.specs.Wording.{wrapped}
-use Rattle.p8_printed.specs.Rereading.{AreOfSource, ReadsBack}
+use Rattle.p8_printed.specs.Rereading.{ReadsBack}
 use Rattle.p8_print.specs.DeclarationWords.{words_of_name_and_count, words_of_variable, more_locals}
 use Rattle.p8_printed.proofs.Readings.{IsRead, IsName, IsSize, byte_size, word_size, long_size}
-use Rattle.p8_printed.proofs.PartSources.{AreGood, declarations_closed, leads_good, each_with_first, each_ended, each_unless}
 use Rattle.p8_printed.proofs.RowSteps.{LeadsTo}
 use Rattle.p8_printed.proofs.Steps.{Back, weaker, same_words, Expects, ends, a_word, a_name, before, reads_back}
 
@@ -34,23 +29,6 @@ use Rattle.p8_printed.proofs.Steps.{Back, weaker, same_words, Expects, ends, a_w
 pub data IsVariable (s : Setting) (z : ℕ) : Declared → Type 0 where
   alone : {n : List ℕ} {p : Place} → IsName n → IsVariable s z (variable z n p None)
   counted : {n : List ℕ} {p : Place} {e : Tree} → IsName n → IsRead s e → IsVariable s z (variable z n p (Some e))
-
-mutual
-  pub items : (s : Setting) (z : ℕ) (ps : List Part) (xs : List Declared) → AreGood s ps → variables z ps ≡ Some xs → AllByRecursion (IsVariable s z) xs
-  items s z (name n p ∷ rest) xs g h = items_named s z n p rest xs g.0 g.1 h
-  items s z _ xs g h = absurd cc
-
-  items_named : (s : Setting) (z : ℕ) (n : List ℕ) (p : Place) (ps : List Part) (xs : List Declared) → IsName n → AreGood s ps → variables_named z n p ps ≡ Some xs → AllByRecursion (IsVariable s z) xs
-  items_named s z n p (left_bracket ∷ tree e ∷ right_bracket ∷ rest) xs y g h =
-      each_with_first (IsVariable s z) (variable z n p (Some e)) (variables_behind z rest) xs (counted y g.1.0) (λ ys k. items_behind s z rest ys g.1.1.1 k) h
-  items_named s z n p (comma ∷ rest) xs y g h = each_with_first (IsVariable s z) (variable z n p None) (variables z rest) xs (alone y) (λ ys k. items s z rest ys g.1 k) h
-  items_named s z n p (line_end ∷ rest) xs y g h = each_with_first (IsVariable s z) (variable z n p None) (ended rest) xs (alone y) (λ ys k. each_ended (IsVariable s z) rest ys k) h
-  items_named s z n p _ xs y g h = absurd cc
-
-  items_behind : (s : Setting) (z : ℕ) (ps : List Part) (xs : List Declared) → AreGood s ps → variables_behind z ps ≡ Some xs → AllByRecursion (IsVariable s z) xs
-  items_behind s z (comma ∷ rest) xs g h = items s z rest xs g.1 h
-  items_behind s z (line_end ∷ rest) xs g h = each_ended (IsVariable s z) rest xs h
-  items_behind s z _ xs g h = absurd cc
 
 -- names with their counts
 
@@ -146,20 +124,3 @@ IsReadBack x = ReadsBack variables_of_row (map declared_anywhere) state.VarLine 
 
 pub read_back : {z : ℕ} (x : Declared) → IsSize z → IsVariable in_declaration z x → IsReadBack x
 read_back x k y = reads_back variables_of_row variables_of_parts (map declared_anywhere) state.VarLine (words_of_variable x) (x ∷ []) (λ row. refl) (variable_back x k y)
-
-all_read_back : {z : ℕ} (xs : List Declared) → IsSize z → AllByRecursion (IsVariable in_declaration z) xs → AllByRecursion IsReadBack xs
-all_read_back [] k h = tt
-all_read_back (x ∷ xs) k h = (read_back x k h.0, all_read_back xs k h.1)
-
-sized_items : (ps : List Part) (xs : List Declared) → AreGood in_declaration ps → sized_variables ps ≡ Some xs → AllByRecursion IsReadBack xs
-sized_items (size z ∷ rest) xs g h = all_read_back xs g.0 (items in_declaration z rest xs g.1 h)
-sized_items _ xs g h = absurd cc
-
-of_line : (row : List Piece) (xs : List Declared) → AreGood in_declaration (parts row) → variables_of_row row ≡ Some xs → All IsReadBack xs
-of_line row xs g h = All-from_recursion IsReadBack xs (each_unless IsReadBack (is_line_end (parts row)) (sized_variables (parts row)) xs h (λ k. sized_items (parts row) xs g k))
-
-pub from_head : (us : List LineToken) (row : List Piece) (xs : List Declared) → Leads state.VarHead us row state.End → AreOfSource us → variables_of_row row ≡ Some xs → All IsReadBack xs
-from_head us row xs w g h = of_line row xs (leads_good in_declaration refl declarations_closed w refl g) h
-
-pub from_line : (us : List LineToken) (row : List Piece) (xs : List Declared) → Leads state.VarLine us row state.End → AreOfSource us → variables_of_row row ≡ Some xs → All IsReadBack xs
-from_line us row xs w g h = of_line row xs (leads_good in_declaration refl declarations_closed w refl g) h

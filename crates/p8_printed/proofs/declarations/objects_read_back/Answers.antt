@@ -1,8 +1,13 @@
-use Rattle.p8_printed.proofs.Objects.{from_head, from_line}
+use Rattle.std.proofs.lemmas.List.Elements.{All-weaker}
+use Rattle.p8_tree.specs.Proper.{IsProperChild}
+use Rattle.p8_lines.specs.declared.state.State.TheVariants as state
+use Rattle.p8_lines.specs.Tokens.{terms}
+use Rattle.p8_printed.proofs.Objects.{IsReadBack}
+use Rattle.p8_printed.proofs.ReadLines.{object_back}
 use Rattle.p8_printed.proofs.declarations.objects_read_back.Goals as goal
 
 pub returns-clause-head : goal.returns-clause-head
-returns-clause-head c = from_head
+returns-clause-head c us row xs w g e = All-weaker IsProperChild IsReadBack object_back xs (c.declarations_are_proper.ensures.objects row xs (c.rows_are_proper.ensures.pieces state.ObjHead (λ h. cc) us row w (c.lexemes_are_proper.ensures (terms us) g)) e)
 
 pub returns-clause-line : goal.returns-clause-line
-returns-clause-line c = from_line
+returns-clause-line c us row xs w g e = All-weaker IsProperChild IsReadBack object_back xs (c.declarations_are_proper.ensures.objects row xs (c.rows_are_proper.ensures.pieces state.ObjLine (λ h. cc) us row w (c.lexemes_are_proper.ensures (terms us) g)) e)
