@@ -1,0 +1,9 @@
+use Rattle.p8_tree.specs.Views.{named_sources_of}
+use Rattle.p8_inputs.proofs.Gathering.{mentioned, no_ring}
+use Rattle.p8_file_tests.proofs.legends.legend_on.Goals as goal
+
+pub project_legend-legend-requires-clause-mentioned : goal.project_legend-legend-requires-clause-mentioned
+project_legend-legend-requires-clause-mentioned c = mentioned (named_sources_of c.in-Ok.project) c.in-Ok.ensures.mentioned
+
+pub project_legend-legend-requires-clause-no_ring : goal.project_legend-legend-requires-clause-no_ring
+project_legend-legend-requires-clause-no_ring c = no_ring (named_sources_of c.in-Ok.project) c.in-Ok.ensures.no_ring
