@@ -37,7 +37,8 @@ maybe_again = there_again false IsValue method_again
 done_again : (e : Tree) → IsDone e → Again IsReadAction tree_anywhere e
 done_again e h =
     let x = action_spelled e h in
-    record { other = x.tree; holds = record { tokens = x.tokens; is = x.reads; good = x.lexemes; low = subst (λ n. n ≤ 64) (sym (same_height x.tree e x.same)) (low e h) }; same = x.same }
+    let small = subst (λ n. n ≤ 64) (sym (same_height x.tree e x.same)) (low e h) in
+    record { other = x.tree; holds = record { tokens = x.tokens; is = x.reads; good = x.lexemes; low = small }; same = x.same }
   where
     low : (e : Tree) → IsDone e → height e ≤ 64
     low (node p f) h = h.1
@@ -117,7 +118,8 @@ reads_alike k' k e b =
       read =
           λ ts t s end.
           let x = b.read ts t (subst (λ ws. AreSpelled ws ts) (sym words) s) end in
-          (x.0, x.1, subst₂ (λ q b. Leads q (with_line_end (not b) ts t) x.0 state.End) (alike kind_anywhere begin_of begin_kept k' k e) (item_anywhere k' k e) x.2, x.3, x.4 ∙ e);
+          let leads = subst₂ (λ q b. Leads q (with_line_end (not b) ts t) x.0 state.End) (alike kind_anywhere begin_of begin_kept k' k e) (item_anywhere k' k e) x.2 in
+          (x.0, x.1, leads, x.3, x.4 ∙ e);
     }
 
 pub of_row : (us : List LineToken) (row : List Piece) (k : Kind) → ((ts : List LineToken) → AreOfSource ts → grammar.AreProper (terms ts)) → KindsAreProper → (q : State) → MethodRowsAreProper q → Leads q us row state.End → AreOfSource us → kind_of_row row ≡ Some k → LineReadsBack k

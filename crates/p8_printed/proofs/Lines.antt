@@ -90,7 +90,8 @@ of_text true = refl
 of_text false = refl
 
 module _ (k : Kind) {k' : Kind} {row : List Piece} (t : LineToken) (end : word t ≡ word_case.LineEnd) (is : kind_of_row row ≡ Some k') (same : kind_anywhere k' ≡ kind_anywhere k) where
-  added : (b : Bool) → is_item k ≡ b → (first : LineToken) (others : List LineToken) → Leads (begin_of k) (with_line_end (not b) (first ∷ others) t) row state.End → (ls : List Line) (us : List LineToken) → AreLines within_limits ls false us → AreLines within_limits (ls ++ line first.place k' ∷ []) false (us ++ ((first ∷ others) ++ t ∷ []))
+  added : (b : Bool) → is_item k ≡ b → (first : LineToken) (others : List LineToken) → Leads (begin_of k) (with_line_end (not b) (first ∷ others) t) row state.End
+      → (ls : List Line) (us : List LineToken) → AreLines within_limits ls false us → AreLines within_limits (ls ++ line first.place k' ∷ []) false (us ++ ((first ∷ others) ++ t ∷ []))
   added false e first others leads ls us r =
       subst (λ b. AreLines within_limits (ls ++ line first.place k' ∷ []) b (us ++ ((first ∷ others) ++ t ∷ []))) (item_anywhere k' k same ∙ e)
       (a_line (begin_of k) row first (others ++ t ∷ []) (begins k) (of_text (begins_text (begin_of k))) leads is r)
@@ -106,7 +107,9 @@ module _ (k : Kind) {k' : Kind} {row : List Piece} (t : LineToken) (end : word t
     are = e;
     kind = k';
     same = same;
-    adds = λ ls us r. subst (λ ts. AreLines within_limits (ls ++ line first.place k' ∷ []) false (us ++ (ts ++ t ∷ []))) (sym e) (added (is_item k) refl first others leads ls us r);
+    adds =
+        λ ls us r.
+        subst (λ ts. AreLines within_limits (ls ++ line first.place k' ∷ []) false (us ++ (ts ++ t ∷ []))) (sym e) (added (is_item k) refl first others leads ls us r);
   }
 
 pub line_again : (k : Kind) → IsLine k → (ts : List LineToken) (t : LineToken) → AreSpelled (words_of_kind k) ts → word t ≡ word_case.LineEnd → IsReadAs k ts t

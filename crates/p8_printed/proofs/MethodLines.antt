@@ -81,20 +81,37 @@ IsLine (Case e) = IsValue e
 IsLine (ItemLine xs) = AreSomeTests xs
 IsLine Other = Unit {0}
 
+abbrev from_word : Spelled
+from_word = reserved word_case.From
+
+abbrev to_word : Spelled
+to_word = reserved word_case.To
+
+abbrev comma_word : Spelled
+comma_word = reserved word_case.Comma
+
+abbrev dots_word : Spelled
+dots_word = reserved word_case.DotDot
+
+abbrev colon_word : Spelled
+colon_word = reserved word_case.Colon
+
 -- a row is this line, but for places
 abbrev Is : Kind → List Piece → Type 0
 Is k row = (k' : Kind) × (kind_of_row row ≡ Some k') × (kind_anywhere k' ≡ kind_anywhere k)
 
 -- a word alone, and a word with a value
 
-alone : (q r : State) (w : Word) (k : Kind) → is_free w ≡ false → LeadsTo (choices q).arrows w r → LeadsTo (choices r).arrows word_case.LineEnd state.End → ((p o : Place) → kind_of_row (word w p ∷ word word_case.LineEnd o ∷ []) ≡ Some k) → RowBack true q (reserved w ∷ []) (Is k)
+alone : (q r : State) (w : Word) (k : Kind) → is_free w ≡ false → LeadsTo (choices q).arrows w r → LeadsTo (choices r).arrows word_case.LineEnd state.End
+    → ((p o : Place) → kind_of_row (word w p ∷ word word_case.LineEnd o ∷ []) ≡ Some k) → RowBack true q (reserved w ∷ []) (Is k)
 alone q r w k free to end is = a_word q r w free to (ends r end (λ o p. (k, is p o, refl)))
 
 abbrev AtEnd : Phrase
 AtEnd = outer in_method (word_case.LineEnd ⇒ state.End ∷ [])
 
 valued : (q r : State) (w : Word) (f : Tree → Kind) (e : Tree) → is_free w ≡ false → LeadsTo (choices q).arrows w r → (choices r).phrase ≡ Some AtEnd → IsValue e
-    → ((e' : Tree) (p p' o : Place) → kind_of_row (word w p ∷ tree e' p' ∷ word word_case.LineEnd o ∷ []) ≡ Some (f e')) → ((e' : Tree) → tree_anywhere e' ≡ tree_anywhere e → kind_anywhere (f e') ≡ kind_anywhere (f e)) → RowBack true q (reserved w ∷ wrapped e) (Is (f e))
+    → ((e' : Tree) (p p' o : Place) → kind_of_row (word w p ∷ tree e' p' ∷ word word_case.LineEnd o ∷ []) ≡ Some (f e'))
+    → ((e' : Tree) → tree_anywhere e' ≡ tree_anywhere e → kind_anywhere (f e') ≡ kind_anywhere (f e)) → RowBack true q (reserved w ∷ wrapped e) (Is (f e))
 valued q r w f e free to some y is same = a_word q r w free to (last r AtEnd e some y (λ n. refl) (λ e' s p o p'. (f e', is e' p' p o, same e' s)))
 
 -- actions
@@ -125,7 +142,8 @@ module _ (e : Tree) (r : IsReadAction e) where
       go (u ∷ us) x = (
         tree x.0 u.place ∷ piece t ∷ [],
         by_phrase {first = u} us refl x.1 (subst (λ n. n ≤ 64) (sym x.3) r.low) (behind_action (u ∷ us) t end) nowhere,
-        subst (λ y. Is (Plain (Do e)) (tree x.0 u.place ∷ y ∷ [])) (sym (word_piece t word_case.LineEnd refl end)) (Plain (Do x.0), refl, ap (λ e. Plain (Do e)) x.2),
+        subst (λ y. Is (Plain (Do e)) (tree x.0 u.place ∷ y ∷ [])) (sym (word_piece t word_case.LineEnd refl end))
+            (Plain (Do x.0), refl, ap (λ e. Plain (Do e)) x.2),
       )
 
   done_back : RowBack true state.Statement (words_of e) (Is (Plain (Do e)))
@@ -137,9 +155,11 @@ action_back (Do e) h = done_back e h
 action_back Next h = alone state.Statement state.LineEnd word_case.Next (Plain Next) refl (λ n. refl) (λ n. refl) (λ p o. refl)
 action_back Quit h = alone state.Statement state.LineEnd word_case.Quit (Plain Quit) refl (λ n. refl) (λ n. refl) (λ p o. refl)
 action_back (Return None) h = alone state.Statement state.MaybeValue word_case.Return (Plain (Return None)) refl (λ n. refl) (λ n. refl) (λ p o. refl)
-action_back (Return (Some e)) h = valued state.Statement state.MaybeValue word_case.Return (λ e. Plain (Return (Some e))) e refl (λ n. refl) refl h (λ e' p p' o. refl) (λ e' s. ap (λ e. Plain (Return (Some e))) s)
+action_back (Return (Some e)) h =
+    valued state.Statement state.MaybeValue word_case.Return (λ e. Plain (Return (Some e))) e refl (λ n. refl) refl h (λ e' p p' o. refl) (λ e' s. ap (λ e. Plain (Return (Some e))) s)
 action_back (Abort None) h = alone state.Statement state.MaybeValue word_case.Abort (Plain (Abort None)) refl (λ n. refl) (λ n. refl) (λ p o. refl)
-action_back (Abort (Some e)) h = valued state.Statement state.MaybeValue word_case.Abort (λ e. Plain (Abort (Some e))) e refl (λ n. refl) refl h (λ e' p p' o. refl) (λ e' s. ap (λ e. Plain (Abort (Some e))) s)
+action_back (Abort (Some e)) h =
+    valued state.Statement state.MaybeValue word_case.Abort (λ e. Plain (Abort (Some e))) e refl (λ n. refl) refl h (λ e' p p' o. refl) (λ e' s. ap (λ e. Plain (Abort (Some e))) s)
 action_back a h = absurd h
 
 -- REPEAT
@@ -153,15 +173,13 @@ UpTo = outer in_method (word_case.To ⇒ state.To ∷ [])
 abbrev AfterTo : Phrase
 AfterTo = outer in_method (word_case.Step ⇒ state.LastValue ∷ word_case.LineEnd ⇒ state.End ∷ [])
 
-abbrev from_word : Spelled
-from_word = reserved word_case.From
-
 -- one word that is a variable's name, as an expression
 abbrev counter : List ℕ → Place → Tree
 counter n p = node p (Var (Named n no_index p))
 
 -- a counter, in front of FROM
-counter_word : (w : Spelled) (n : List ℕ) {ws : List Spelled} {P : List Piece → Type 0} → IsReadable w → IsInCapitals w → is_name_word (lexeme_of_spelled w) ≡ true → ((p : Place) → IsExpression in_method (counter n p) (token p (lexeme_of_spelled w) ∷ []))
+counter_word : (w : Spelled) (n : List ℕ) {ws : List Spelled} {P : List Piece → Type 0} → IsReadable w → IsInCapitals w → is_name_word (lexeme_of_spelled w) ≡ true
+    → ((p : Place) → IsExpression in_method (counter n p) (token p (lexeme_of_spelled w) ∷ []))
     → RowBack true state.From ws (λ row. (p o : Place) → P (tree (counter n p) p ∷ word word_case.From o ∷ row)) → RowBack true state.Repeat (w ∷ from_word ∷ ws) P
 counter_word w n {ws = ws} {P = P} readable capitals one is b = record {
   readable = All-cons IsReadable w (from_word ∷ ws) readable (All-cons IsReadable from_word ws refl b.readable);
@@ -177,7 +195,8 @@ counter_word w n {ws = ws} {P = P} readable capitals one is b = record {
         let same = token_lexeme w u readable capitals h.0 in
         let follows = takes Counting.behind_name word_case.From state.From v (λ n. refl) h.1.0.word in (
           tree (counter n u.place) u.place ∷ piece v ∷ x.0,
-          by_phrase {h = Counting} {first = u} [] refl (subst (λ l. IsExpression in_method (counter n u.place) (token u.place l ∷ [])) (sym same) (is u.place)) (omega arith)
+          by_phrase {h = Counting} {first = u} [] refl
+              (subst (λ l. IsExpression in_method (counter n u.place) (token u.place l ∷ [])) (sym same) (is u.place)) (omega arith)
               (subst (λ b. Follows (if b then Counting.behind_name else Counting.behind_other) v state.From) (sym (ap is_name_word same ∙ one)) follows) x.1,
           subst (λ y. P (tree (counter n u.place) u.place ∷ y ∷ x.0)) (sym (token_piece from_word v refl tt h.1.0)) (x.2 u.place v.place),
         )
@@ -189,9 +208,12 @@ result_lexeme = refl
 counter_back : (n : List ℕ) {ws : List Spelled} {P : List Piece → Type 0} → IsVariableName false n → RowBack true state.From ws (λ row. (p o : Place) → P (tree (counter n p) p ∷ word word_case.From o ∷ row)) → RowBack true state.Repeat (words_of_name n ++ from_word ∷ ws) P
 counter_back n {ws = ws} (plain_name h) b =
     let good = name_lexeme n h in
-    same_words (ap (λ l. l ++ from_word ∷ ws) (plain_words n good.0)) (counter_word (name n) n good.0 good.1 refl (λ p. operand (variable refl (named grammar.plain_name)) (grammar.a_word nothing)) b)
+    same_words (ap (λ l. l ++ from_word ∷ ws) (plain_words n good.0))
+    (counter_word (name n) n good.0 good.1 refl (λ p. operand (variable refl (named grammar.plain_name)) (grammar.a_word nothing)) b)
 counter_back n result_name b =
-    counter_word (reserved word_case.Result) grammar.result_name refl tt (ap is_name_word result_lexeme) (λ p. subst (λ l. IsExpression in_method (counter grammar.result_name p) (token p l ∷ [])) (sym result_lexeme) (operand (variable refl (named grammar.result_word)) (grammar.a_word nothing))) b
+    counter_word (reserved word_case.Result) grammar.result_name refl tt (ap is_name_word result_lexeme)
+    (λ p. subst (λ l. IsExpression in_method (counter grammar.result_name p) (token p l ∷ [])) (sym result_lexeme)
+    (operand (variable refl (named grammar.result_word)) (grammar.a_word nothing))) b
 counter_back n (local_label d h) b = absurd cc
 
 course_back : (c : Course) → IsCourse c → RowBack true state.Statement (reserved word_case.Repeat ∷ words_of_course c) (Is (Repeat c))
@@ -210,17 +232,19 @@ course_back (Before true e) h =
     (last state.LastValue AtEnd e refl h (λ n. refl) (λ e' s p o p' q. (Repeat (Before true e'), refl, ap (λ e. Repeat (Before true e)) s))))
 course_back (After until e) h = absurd h
 course_back (From n a b None p) h =
-    same_words (ap (λ l. reserved word_case.Repeat ∷ (words_of_name n ++ from_word ∷ (wrapped a ++ reserved word_case.To ∷ l))) (append-nil (wrapped b)))
+    same_words (ap (λ l. reserved word_case.Repeat ∷ (words_of_name n ++ from_word ∷ (wrapped a ++ to_word ∷ l))) (append-nil (wrapped b)))
     (a_word state.Statement state.Repeat word_case.Repeat refl (λ n. refl)
     (counter_back n h.0
     (before state.From state.To UpTo a word_case.To refl h.1 refl (λ n. refl)
-    (last state.To AfterTo b refl h.2 (λ n. refl) (λ b' t p o o' a' s p' q q' r. (Repeat (From n a' b' None q), refl, λ i. Repeat (From n (s i) (t i) None anywhere)))))))
+    (last state.To AfterTo b refl h.2 (λ n. refl)
+    (λ b' t p o o' a' s p' q q' r. (Repeat (From n a' b' None q), refl, λ i. Repeat (From n (s i) (t i) None anywhere)))))))
 course_back (From n a b (Some c) p) h =
     a_word state.Statement state.Repeat word_case.Repeat refl (λ n. refl)
     (counter_back n h.0
     (before state.From state.To UpTo a word_case.To refl h.1 refl (λ n. refl)
     (before state.To state.LastValue AfterTo b word_case.Step refl h.2 refl (λ n. refl)
-    (last state.LastValue AtEnd c refl h.3 (λ n. refl) (λ c' u p o o' b' t p' o'' a' s q r r' v. (Repeat (From n a' b' (Some c') r), refl, λ i. Repeat (From n (s i) (t i) (Some (u i)) anywhere)))))))
+    (last state.LastValue AtEnd c refl h.3 (λ n. refl)
+    (λ c' u p o o' b' t p' o'' a' s q r r' v. (Repeat (From n a' b' (Some c') r), refl, λ i. Repeat (From n (s i) (t i) (Some (u i)) anywhere)))))))
 
 -- the tests of a CASE's item
 
@@ -236,16 +260,17 @@ BeginsTest q = (choices q).phrase ≡ Some Tested
 
 -- after tests that are these but for places, a row goes on so that it has all of them
 abbrev Gives : Items → Items → List Piece → Type 0
-Gives all xs row = (ys : Items) → items_anywhere ys ≡ items_anywhere xs → (is_item row ≡ true) × (zs : Items) × (tests_after ys None row ≡ Some zs) × (items_anywhere zs ≡ items_anywhere all)
+Gives all xs row = (ys : Items) → items_anywhere ys ≡ items_anywhere xs
+    → (is_item row ≡ true) × (zs : Items) × (tests_after ys None row ≡ Some zs) × (items_anywhere zs ≡ items_anywhere all)
 
 -- a test, a mark and what stands after them
-single_back : (all xs : Items) (e : Tree) (ws : List Spelled) → IsValue e → RowBack false state.CaseTest ws (Gives all (xs ▸ single e)) → (q : State) → BeginsTest q → RowBack false q (wrapped e ++ reserved word_case.Comma ∷ ws) (Gives all xs)
+single_back : (all xs : Items) (e : Tree) (ws : List Spelled) → IsValue e → RowBack false state.CaseTest ws (Gives all (xs ▸ single e)) → (q : State) → BeginsTest q → RowBack false q (wrapped e ++ comma_word ∷ ws) (Gives all xs)
 unfolding role_of
 single_back all xs e ws h b q at =
     before q state.CaseTest Tested e word_case.Comma at h refl (λ n. refl)
     (weaker (λ row g o e' s p ys same. let x = g (ys ▸ single e') (λ i. same i ▸ single (s i)) in (refl, x.1, x.2, x.3)) b)
 
-range_back : (all xs : Items) (low high : Tree) (ws : List Spelled) → IsValue low → IsValue high → RowBack false state.CaseTest ws (Gives all (xs ▸ range low high)) → (q : State) → BeginsTest q → RowBack false q (wrapped low ++ reserved word_case.DotDot ∷ (wrapped high ++ reserved word_case.Comma ∷ ws)) (Gives all xs)
+range_back : (all xs : Items) (low high : Tree) (ws : List Spelled) → IsValue low → IsValue high → RowBack false state.CaseTest ws (Gives all (xs ▸ range low high)) → (q : State) → BeginsTest q → RowBack false q (wrapped low ++ dots_word ∷ (wrapped high ++ comma_word ∷ ws)) (Gives all xs)
 unfolding role_of
 range_back all xs low high ws h k b q at =
     before q state.CaseRange Tested low word_case.DotDot at h refl (λ n. refl)
@@ -255,51 +280,61 @@ range_back all xs low high ws h k b q at =
 tests_back : (all xs : Items) (ws : List Spelled) → AreTests xs → ((q : State) → BeginsTest q → RowBack false q ws (Gives all xs)) → (q : State) → BeginsTest q → RowBack false q (tests_before xs ++ ws) (Gives all no_items)
 tests_back all no_items ws h k q at = k q at
 tests_back all (xs ▸ single e) ws h k q at =
-    same_words (append_assoc (tests_before xs) (wrapped e ++ reserved word_case.Comma ∷ []) ws ∙ ap (λ l. tests_before xs ++ l) (append_assoc (wrapped e) (reserved word_case.Comma ∷ []) ws))
-    (tests_back all xs (wrapped e ++ reserved word_case.Comma ∷ ws) h.0 (single_back all xs e ws h.1 (k state.CaseTest refl)) q at)
+    same_words
+    (append_assoc (tests_before xs) (wrapped e ++ comma_word ∷ []) ws
+    ∙ ap (λ l. tests_before xs ++ l) (append_assoc (wrapped e) (comma_word ∷ []) ws))
+    (tests_back all xs (wrapped e ++ comma_word ∷ ws) h.0 (single_back all xs e ws h.1 (k state.CaseTest refl)) q at)
 tests_back all (xs ▸ range low high) ws h k q at =
-    same_words (append_assoc (tests_before xs) (words_of_test (range low high) ++ reserved word_case.Comma ∷ []) ws ∙ ap (λ l. tests_before xs ++ l) (test_words low high ws))
-    (tests_back all xs (wrapped low ++ reserved word_case.DotDot ∷ (wrapped high ++ reserved word_case.Comma ∷ ws)) h.0 (range_back all xs low high ws h.1 h.2 (k state.CaseTest refl)) q at)
+    same_words
+    (append_assoc (tests_before xs) (words_of_test (range low high) ++ comma_word ∷ []) ws
+    ∙ ap (λ l. tests_before xs ++ l) (test_words low high ws))
+    (tests_back all xs (wrapped low ++ dots_word ∷ (wrapped high ++ comma_word ∷ ws)) h.0
+    (range_back all xs low high ws h.1 h.2 (k state.CaseTest refl)) q at)
   where
-    test_words : (low high : Tree) (ws : List Spelled) → (words_of_test (range low high) ++ reserved word_case.Comma ∷ []) ++ ws ≡ wrapped low ++ reserved word_case.DotDot ∷ (wrapped high ++ reserved word_case.Comma ∷ ws)
+    test_words : (low high : Tree) (ws : List Spelled) → (words_of_test (range low high) ++ comma_word ∷ []) ++ ws ≡ wrapped low ++ dots_word ∷ (wrapped high ++ comma_word ∷ ws)
     test_words low high ws =
-        append_assoc (words_of_test (range low high)) (reserved word_case.Comma ∷ []) ws
-        ∙ append_assoc (wrapped low) (reserved word_case.DotDot ∷ wrapped high) (reserved word_case.Comma ∷ ws)
+        append_assoc (words_of_test (range low high)) (comma_word ∷ []) ws
+        ∙ append_assoc (wrapped low) (dots_word ∷ wrapped high) (comma_word ∷ ws)
 
 -- the last test, and the colon
-last_test : (xs : Items) → AreSomeTests xs → RowBack false state.CaseItem (words_of_tests xs ++ reserved word_case.Colon ∷ []) (Gives xs no_items)
+last_test : (xs : Items) → AreSomeTests xs → RowBack false state.CaseItem (words_of_tests xs ++ colon_word ∷ []) (Gives xs no_items)
 unfolding role_of
 last_test no_items h = absurd (let z = h.0 in cc)
 last_test (xs ▸ single e) h =
-    same_words (append_assoc (tests_before xs) (wrapped e) (reserved word_case.Colon ∷ []))
-    (tests_back (xs ▸ single e) xs (wrapped e ++ reserved word_case.Colon ∷ []) h.1.0
-    (λ q at. before q state.End Tested e word_case.Colon at h.1.1 refl (λ n. refl) (over (λ o e' s p ys same. (refl, ys ▸ single e', refl, λ i. same i ▸ single (s i)))))
+    same_words (append_assoc (tests_before xs) (wrapped e) (colon_word ∷ []))
+    (tests_back (xs ▸ single e) xs (wrapped e ++ colon_word ∷ []) h.1.0
+    (λ q at. before q state.End Tested e word_case.Colon at h.1.1 refl (λ n. refl)
+    (over (λ o e' s p ys same. (refl, ys ▸ single e', refl, λ i. same i ▸ single (s i)))))
     state.CaseItem refl)
 last_test (xs ▸ range low high) h =
-    same_words (append_assoc (tests_before xs) (words_of_test (range low high)) (reserved word_case.Colon ∷ []) ∙ ap (λ l. tests_before xs ++ l) (append_assoc (wrapped low) (reserved word_case.DotDot ∷ wrapped high) (reserved word_case.Colon ∷ [])))
-    (tests_back (xs ▸ range low high) xs (wrapped low ++ reserved word_case.DotDot ∷ (wrapped high ++ reserved word_case.Colon ∷ [])) h.1.0
+    same_words
+    (append_assoc (tests_before xs) (words_of_test (range low high)) (colon_word ∷ [])
+    ∙ ap (λ l. tests_before xs ++ l) (append_assoc (wrapped low) (dots_word ∷ wrapped high) (colon_word ∷ [])))
+    (tests_back (xs ▸ range low high) xs (wrapped low ++ dots_word ∷ (wrapped high ++ colon_word ∷ [])) h.1.0
     (λ q at. before q state.CaseRange Tested low word_case.DotDot at h.1.1 refl (λ n. refl)
-    (before state.CaseRange state.End LastOfRange high word_case.Colon refl h.1.2 refl (λ n. refl) (over (λ o' high' t p' o low' s p ys same. (refl, ys ▸ range low' high', refl, λ i. same i ▸ range (s i) (t i))))))
+    (before state.CaseRange state.End LastOfRange high word_case.Colon refl h.1.2 refl (λ n. refl)
+    (over (λ o' high' t p' o low' s p ys same. (refl, ys ▸ range low' high', refl, λ i. same i ▸ range (s i) (t i))))))
     state.CaseItem refl)
 
 item_is : (xs : Items) (row : List Piece) → Gives xs no_items row → Is (ItemLine xs) row
 item_is xs row g =
     let x = g no_items refl in
-    (ItemLine x.1, ap (λ b. if b then option_map ItemLine (tests_after no_items None row) else statement row) x.0 ∙ ap (option_map ItemLine) x.2, ap ItemLine x.3)
+    let kind = ap (λ b. if b then option_map ItemLine (tests_after no_items None row) else statement row) x.0 in
+    (ItemLine x.1, kind ∙ ap (option_map ItemLine) x.2, ap ItemLine x.3)
 
 -- all lines
 
 pub line_back : (k : Kind) → IsLine k → RowBack (not (files.is_item k)) (begin_of k) (words_of_kind k) (Is k)
 unfolding role_of
 line_back (Plain a) h = action_back a h
-line_back (If false e) h = valued state.Statement state.LastValue word_case.If (If false) e refl (λ n. refl) refl h (λ e' p p' o. refl) (λ e' s. ap (If false) s)
-line_back (If true e) h = valued state.Statement state.LastValue word_case.Ifnot (If true) e refl (λ n. refl) refl h (λ e' p p' o. refl) (λ e' s. ap (If true) s)
-line_back (ElseIf false e) h = valued state.ChainLine state.LastValue word_case.Elseif (ElseIf false) e refl (λ n. refl) refl h (λ e' p p' o. refl) (λ e' s. ap (ElseIf false) s)
-line_back (ElseIf true e) h = valued state.ChainLine state.LastValue word_case.Elseifnot (ElseIf true) e refl (λ n. refl) refl h (λ e' p p' o. refl) (λ e' s. ap (ElseIf true) s)
+line_back (If false e) h = valued state.Statement state.LastValue word_case.If (If false) e refl (λ n. refl) refl h (λ e' p p' o. refl) (λ e'. ap (If false))
+line_back (If true e) h = valued state.Statement state.LastValue word_case.Ifnot (If true) e refl (λ n. refl) refl h (λ e' p p' o. refl) (λ e'. ap (If true))
+line_back (ElseIf false e) h = valued state.ChainLine state.LastValue word_case.Elseif (ElseIf false) e refl (λ n. refl) refl h (λ e' p p' o. refl) (λ e'. ap (ElseIf false))
+line_back (ElseIf true e) h = valued state.ChainLine state.LastValue word_case.Elseifnot (ElseIf true) e refl (λ n. refl) refl h (λ e' p p' o. refl) (λ e'. ap (ElseIf true))
 line_back Else h = alone state.ChainLine state.LineEnd word_case.Else Else refl (λ n. refl) (λ n. refl) (λ p o. refl)
 line_back (Repeat c) h = course_back c h
-line_back (End false e) h = valued state.LoopEndLine state.LastValue word_case.While (End false) e refl (λ n. refl) refl h (λ e' p p' o. refl) (λ e' s. ap (End false) s)
-line_back (End true e) h = valued state.LoopEndLine state.LastValue word_case.Until (End true) e refl (λ n. refl) refl h (λ e' p p' o. refl) (λ e' s. ap (End true) s)
+line_back (End false e) h = valued state.LoopEndLine state.LastValue word_case.While (End false) e refl (λ n. refl) refl h (λ e' p p' o. refl) (λ e'. ap (End false))
+line_back (End true e) h = valued state.LoopEndLine state.LastValue word_case.Until (End true) e refl (λ n. refl) refl h (λ e' p p' o. refl) (λ e'. ap (End true))
 line_back (Case e) h = valued state.Statement state.LastValue word_case.Case Case e refl (λ n. refl) refl h (λ e' p p' o. refl) (λ e' s. ap Case s)
 line_back (ItemLine xs) h = weaker (λ row. item_is xs row) (last_test xs h)
 line_back Other h =

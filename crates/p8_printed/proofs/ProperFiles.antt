@@ -9,6 +9,7 @@ use Rattle.p8_tree.specs.Proper.{IsProperConstant, IsProperDeclared, IsProperChi
 use Rattle.p8_lexer.specs.declared.token.Token as lexer_token
 use Rattle.p8_lexer.specs.Lexing.{AreTokens}
 use Rattle.p8_lines.specs.Tokens.{all_tokens}
+use Rattle.p8_declarations.specs.Proper.{IsProperHead}
 use Rattle.p8_blocks.specs.Trees.{IsShallowBlock}
 use Rattle.p8_blocks.specs.Files.{with_body, IsFileWithinLimits}
 use Rattle.p8_print.specs.Spelled.{text_of_lines}
@@ -37,7 +38,15 @@ record Prints (b : BlockTree) : Type 0 where
 
 method_again : (x : MethodTree) → IsProperMethod x → Again Prints block_anywhere (sources.Method x)
 method_again x h =
-    let head = head_again x (record { name = h.name; params = h.params; param_places = h.param_places; result_name = h.result_name; result_place = h.result_place; locals = h.locals }) in
+    let proper : IsProperHead x = record {
+      name = h.name;
+      params = h.params;
+      param_places = h.param_places;
+      result_name = h.result_name;
+      result_place = h.result_place;
+      locals = h.locals;
+    } in
+    let head = head_again x proper in
     let lines = body_again 0 x.body h.body in
     let m : MethodTree = record x { locals = head.locals; body = no_statements } in
     record {

@@ -35,17 +35,20 @@ reads_alike v' v words same b = record {
 pub constant_back : (x : Constant) → IsProperConstant x → constants.IsReadBack x
 constant_back x h =
     let y = constant_again x h in
-    reads_alike (y.other ∷ []) (x ∷ []) (alike constant_anywhere words_of_constant constant_words y.other x y.same) (ap (λ x. x ∷ []) y.same) (constants.read_back y.other y.holds)
+    let words = alike constant_anywhere words_of_constant constant_words y.other x y.same in
+    reads_alike (y.other ∷ []) (x ∷ []) words (ap (λ x. x ∷ []) y.same) (constants.read_back y.other y.holds)
 
 pub variable_back : (x : Declared) → IsProperDeclared x → variables.IsReadBack x
 variable_back x h =
     let y = sized_again x h in
-    reads_alike (y.other ∷ []) (x ∷ []) (alike declared_anywhere words_of_variable variable_words y.other x y.same) (ap (λ x. x ∷ []) y.same) (variables.read_back y.other y.holds.size y.holds.is)
+    let words = alike declared_anywhere words_of_variable variable_words y.other x y.same in
+    reads_alike (y.other ∷ []) (x ∷ []) words (ap (λ x. x ∷ []) y.same) (variables.read_back y.other y.holds.size y.holds.is)
 
 pub object_back : (x : Child) → IsProperChild x → objects.IsReadBack x
 object_back x h =
     let y = child_again x h in
-    reads_alike (y.other ∷ []) (x ∷ []) (alike child_anywhere words_of_child child_words y.other x y.same) (ap (λ x. x ∷ []) y.same) (objects.read_back y.other y.holds)
+    let words = alike child_anywhere words_of_child child_words y.other x y.same in
+    reads_alike (y.other ∷ []) (x ∷ []) words (ap (λ x. x ∷ []) y.same) (objects.read_back y.other y.holds)
 
 pub head_back : (public : Bool) (row : List Piece) (m : MethodTree) → IsProperHead m → method_of_row public row ≡ Some m → ReadsBack (method_of_row public) method_anywhere state.MethodName (words_of_head m) m
 head_back public row m h e =
@@ -53,9 +56,11 @@ head_back public row m h e =
     let y = head_again m h in
     let other : MethodTree = record m { locals = y.locals; body = no_statements } in
     let same : method_anywhere other ≡ method_anywhere m = λ i. record (method_anywhere m) { locals = y.same i; body = sym (ap statements_anywhere of.1) i } in
-    subst (λ b. ReadsBack (method_of_row b) method_anywhere state.MethodName (words_of_head m) m) of.0 (reads_alike other m (alike method_anywhere words_of_head head_words other m same) same (heads.read_back m.public other y.is))
+    let words = alike method_anywhere words_of_head head_words other m same in
+    subst (λ b. ReadsBack (method_of_row b) method_anywhere state.MethodName (words_of_head m) m) of.0 (reads_alike other m words same (heads.read_back m.public other y.is))
 
 pub line_back : (x : Line) → IsProperLine x → ReadsBack line_of_row (option_map line_anywhere) state.DatLine (words_of_line x) (Some x)
 line_back x h =
     let y = line_again x h in
-    reads_alike (Some y.other) (Some x) (alike line_anywhere words_of_line line_words y.other x y.same) (ap (λ x. Some x) y.same) (data_lines.reads_back y.other y.holds)
+    let words = alike line_anywhere words_of_line line_words y.other x y.same in
+    reads_alike (Some y.other) (Some x) words (ap (λ x. Some x) y.same) (data_lines.reads_back y.other y.holds)

@@ -77,7 +77,11 @@ pub ends : (q : State) {P : List Piece → Type 0} → LeadsTo (choices q).arrow
 ends q {P = P} h p = record { readable = All-nil IsReadable; capitals = All-nil IsInCapitals; read = go }
   where
     go : (ts : List LineToken) (t : LineToken) → AreSpelled [] ts → tokens.word t ≡ word_case.LineEnd → (row : List Piece) × Leads q (ts ++ t ∷ []) row state.End × P row
-    go [] t h' e = (piece t ∷ [], by_token (takes (choices q).arrows word_case.LineEnd state.End t h e) nowhere, subst (λ x. P (x ∷ [])) (sym (word_piece t word_case.LineEnd refl e)) (p t.place))
+    go [] t h' e = (
+      piece t ∷ [],
+      by_token (takes (choices q).arrows word_case.LineEnd state.End t h e) nowhere,
+      subst (λ x. P (x ∷ [])) (sym (word_piece t word_case.LineEnd refl e)) (p t.place),
+    )
     go (u ∷ ts) t h' e = absurd h'
 
 -- the end of a line that ends with a word of its own
@@ -104,8 +108,11 @@ one {ended} q r w {ws = ws} {P = P} readable capitals f b = record {
     go [] t h e = absurd h
     go (u ∷ ts) t h e =
         let x = b.read ts t h.1 e in
-        let row : List Piece = piece u ∷ x.0 in
-        (row, subst (λ l. Leads q l row state.End) (sym (in_front ended (u ∷ []) ts t)) (by_token (f u h.0) x.1), subst (λ y. P (y ∷ x.0)) (sym (token_piece w u readable capitals h.0)) (x.2 u.place))
+        let row : List Piece = piece u ∷ x.0 in (
+          row,
+          subst (λ l. Leads q l row state.End) (sym (in_front ended (u ∷ []) ts t)) (by_token (f u h.0) x.1),
+          subst (λ y. P (y ∷ x.0)) (sym (token_piece w u readable capitals h.0)) (x.2 u.place),
+        )
 
 pub a_word : {ended : Bool} (q r : State) (w : Word) {ws : List Spelled} {P : List Piece → Type 0} → is_free w ≡ false → LeadsTo (choices q).arrows w r → RowBack ended r ws (λ row. (p : Place) → P (word w p ∷ row)) → RowBack ended q (spelled.reserved w ∷ ws) P
 a_word q r w free h b = one q r (spelled.reserved w) free tt (λ t is. takes (choices q).arrows w r t h is.word) b
@@ -152,7 +159,8 @@ reread : (s : Setting) (e : Tree) (us : List LineToken) → IsRead s e → AreSp
 reread s e [] r h = absurd h
 reread s e (u ∷ []) r h = absurd (no_words _ (spelled.reserved word_case.RightParenthesis) h.1)
 reread s e (u ∷ v ∷ us) r h =
-    let x = wrapped_back {us = terms (u ∷ v ∷ us)} r.value r.is r.good (spelled_words (wrapped e) (u ∷ v ∷ us) (wrapped_readable s e r) (wrapped_capitals s e r) h) in
+    let words = spelled_words (wrapped e) (u ∷ v ∷ us) (wrapped_readable s e r) (wrapped_capitals s e r) h in
+    let x = wrapped_back {us = terms (u ∷ v ∷ us)} r.value r.is r.good words in
     let y = r.low in
     let z = x.3 in
     record { first = u; second = v; others = us; tokens = refl; other = x.0; is = x.1; same = x.2; low = subst (λ n. n ≤ 64) (sym z) y }
@@ -171,7 +179,8 @@ last q h e {P = P} some r f p = record {
         let x = reread h.setting e ts r h' in
         let row : List Piece = tree x.other x.first.place ∷ piece t ∷ [] in (
           row,
-          subst (λ ts. Leads q (ts ++ t ∷ []) row state.End) (sym x.tokens) (by_phrase {first = x.first} (x.second ∷ x.others) some x.is x.low (takes h.behind_other word_case.LineEnd state.End t f end) nowhere),
+          subst (λ ts. Leads q (ts ++ t ∷ []) row state.End) (sym x.tokens)
+              (by_phrase {first = x.first} (x.second ∷ x.others) some x.is x.low (takes h.behind_other word_case.LineEnd state.End t f end) nowhere),
           subst (λ y. P (tree x.other x.first.place ∷ y ∷ [])) (sym (word_piece t word_case.LineEnd refl end)) (p x.other x.same x.first.place t.place),
         )
 
@@ -179,8 +188,12 @@ last q h e {P = P} some r f p = record {
 pub before : {ended : Bool} (q r : State) (h : Phrase) (e : Tree) (w : Word) {ws : List Spelled} {P : List Piece → Type 0} → (choices q).phrase ≡ Some h → IsRead h.setting e → is_free w ≡ false → LeadsTo h.behind_other w r
     → RowBack ended r ws (λ row. (p' : Place) (e' : Tree) → IsSameTree e' e → (p : Place) → P (tree e' p ∷ word w p' ∷ row)) → RowBack ended q (wrapped e ++ spelled.reserved w ∷ ws) P
 before {ended} q r h e w {ws = ws} {P = P} some y free f b = record {
-  readable = All-append IsReadable (wrapped e) (spelled.reserved w ∷ ws) (wrapped_readable h.setting e y) (All-cons IsReadable (spelled.reserved w) ws free b.readable);
-  capitals = All-append IsInCapitals (wrapped e) (spelled.reserved w ∷ ws) (wrapped_capitals h.setting e y) (All-cons IsInCapitals (spelled.reserved w) ws tt b.capitals);
+  readable =
+      All-append IsReadable (wrapped e) (spelled.reserved w ∷ ws) (wrapped_readable h.setting e y)
+      (All-cons IsReadable (spelled.reserved w) ws free b.readable);
+  capitals =
+      All-append IsInCapitals (wrapped e) (spelled.reserved w ∷ ws) (wrapped_capitals h.setting e y)
+      (All-cons IsInCapitals (spelled.reserved w) ws tt b.capitals);
   read = λ ts t h' end. let z = split_spelled (wrapped e) (spelled.reserved w ∷ ws) ts h' in go ts z.0 z.1 t z.2 z.3 z.4 end;
 }
   where
@@ -190,9 +203,15 @@ before {ended} q r h e w {ws = ws} {P = P} some y free f b = record {
         let x = reread h.setting e us y hu in
         let z = b.read vs t hv.1 end in
         let row : List Piece = tree x.other x.first.place ∷ piece v ∷ z.0 in
-        let front : List LineToken = x.first ∷ x.second ∷ x.others in (
+        let front : List LineToken = x.first ∷ x.second ∷ x.others in
+        let is : with_line_end ended ts t ≡ front ++ v ∷ with_line_end ended vs t =
+        ap (λ l. with_line_end ended l t) (split ∙ ap (λ us. us ++ v ∷ vs) x.tokens)
+        ∙ in_front ended front (v ∷ vs) t
+        ∙ ap (λ l. front ++ l) (in_front ended (v ∷ []) vs t)
+        in (
           row,
-          subst (λ l. Leads q l row state.End) (sym (ap (λ l. with_line_end ended l t) (split ∙ ap (λ us. us ++ v ∷ vs) x.tokens) ∙ in_front ended front (v ∷ vs) t ∙ ap (λ l. front ++ l) (in_front ended (v ∷ []) vs t)))
+          subst (λ l. Leads q l row state.End) (sym is)
               (by_phrase {first = x.first} (x.second ∷ x.others) some x.is x.low (takes h.behind_other w r v f hv.0.word) z.1),
-          subst (λ p. P (tree x.other x.first.place ∷ p ∷ z.0)) (sym (token_piece (spelled.reserved w) v free tt hv.0)) (z.2 v.place x.other x.same x.first.place),
+          subst (λ p. P (tree x.other x.first.place ∷ p ∷ z.0)) (sym (token_piece (spelled.reserved w) v free tt hv.0))
+              (z.2 v.place x.other x.same x.first.place),
         )

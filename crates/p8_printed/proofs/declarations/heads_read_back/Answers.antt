@@ -4,4 +4,6 @@ use Rattle.p8_printed.proofs.ReadLines.{head_back}
 use Rattle.p8_printed.proofs.declarations.heads_read_back.Goals as goal
 
 pub returns : goal.returns
-returns c public us row m w g e = head_back public row m (c.declarations_are_proper.ensures.heads public row m (c.rows_are_proper.ensures.pieces state.MethodName (λ h. cc) us row w (c.lexemes_are_proper.ensures (terms us) g)) e) e
+returns c public us row m w g e =
+    let pieces = c.rows_are_proper.ensures.pieces state.MethodName (λ h. cc) us row w (c.lexemes_are_proper.ensures (terms us) g) in
+    head_back public row m (c.declarations_are_proper.ensures.heads public row m pieces e) e

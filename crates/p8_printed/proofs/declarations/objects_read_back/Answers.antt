@@ -7,7 +7,11 @@ use Rattle.p8_printed.proofs.ReadLines.{object_back}
 use Rattle.p8_printed.proofs.declarations.objects_read_back.Goals as goal
 
 pub returns-clause-head : goal.returns-clause-head
-returns-clause-head c us row xs w g e = All-weaker IsProperChild IsReadBack object_back xs (c.declarations_are_proper.ensures.objects row xs (c.rows_are_proper.ensures.pieces state.ObjHead (λ h. cc) us row w (c.lexemes_are_proper.ensures (terms us) g)) e)
+returns-clause-head c us row xs w g e =
+    let pieces = c.rows_are_proper.ensures.pieces state.ObjHead (λ h. cc) us row w (c.lexemes_are_proper.ensures (terms us) g) in
+    All-weaker IsProperChild IsReadBack object_back xs (c.declarations_are_proper.ensures.objects row xs pieces e)
 
 pub returns-clause-line : goal.returns-clause-line
-returns-clause-line c us row xs w g e = All-weaker IsProperChild IsReadBack object_back xs (c.declarations_are_proper.ensures.objects row xs (c.rows_are_proper.ensures.pieces state.ObjLine (λ h. cc) us row w (c.lexemes_are_proper.ensures (terms us) g)) e)
+returns-clause-line c us row xs w g e =
+    let pieces = c.rows_are_proper.ensures.pieces state.ObjLine (λ h. cc) us row w (c.lexemes_are_proper.ensures (terms us) g) in
+    All-weaker IsProperChild IsReadBack object_back xs (c.declarations_are_proper.ensures.objects row xs pieces e)

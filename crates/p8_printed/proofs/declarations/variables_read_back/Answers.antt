@@ -7,7 +7,11 @@ use Rattle.p8_printed.proofs.ReadLines.{variable_back}
 use Rattle.p8_printed.proofs.declarations.variables_read_back.Goals as goal
 
 pub returns-clause-head : goal.returns-clause-head
-returns-clause-head c us row xs w g e = All-weaker IsProperDeclared IsReadBack variable_back xs (c.declarations_are_proper.ensures.variables row xs (c.rows_are_proper.ensures.pieces state.VarHead (λ h. cc) us row w (c.lexemes_are_proper.ensures (terms us) g)) e)
+returns-clause-head c us row xs w g e =
+    let pieces = c.rows_are_proper.ensures.pieces state.VarHead (λ h. cc) us row w (c.lexemes_are_proper.ensures (terms us) g) in
+    All-weaker IsProperDeclared IsReadBack variable_back xs (c.declarations_are_proper.ensures.variables row xs pieces e)
 
 pub returns-clause-line : goal.returns-clause-line
-returns-clause-line c us row xs w g e = All-weaker IsProperDeclared IsReadBack variable_back xs (c.declarations_are_proper.ensures.variables row xs (c.rows_are_proper.ensures.pieces state.VarLine (λ h. cc) us row w (c.lexemes_are_proper.ensures (terms us) g)) e)
+returns-clause-line c us row xs w g e =
+    let pieces = c.rows_are_proper.ensures.pieces state.VarLine (λ h. cc) us row w (c.lexemes_are_proper.ensures (terms us) g) in
+    All-weaker IsProperDeclared IsReadBack variable_back xs (c.declarations_are_proper.ensures.variables row xs pieces e)
