@@ -8,7 +8,6 @@ use Rattle.p8_access.proofs.OneHistory.{one-history}
 use Rattle.p8_lives.specs.Lives.{asks}
 use Rattle.p8_lives.specs.Laws.{one-asked}
 use Rattle.p8_legend.specs.declared.legend.Legend.{Legend}
-use Rattle.p8_tree.specs.declared.places.Place.{Place}
 use Rattle.p8_verify.specs.declared.verdicts.Cause.{Cause}
 use Rattle.p8_verify.specs.declared.verdicts.Cause.TheVariants.{Form}
 use Rattle.p8_verify.specs.declared.verdicts.Verdict as checking
@@ -19,7 +18,7 @@ use Rattle.p8_finish.specs.declared.finish.Finish.TheVariants.{Trace, Summary, S
 use Rattle.p8_finish.specs.Finishes.{told_by}
 use Rattle.p8_finish.specs.Checks.{good_line}
 use Rattle.p8_io.specs.Counts.{Rose}
-use Rattle.p8_io.specs.Shelves.{Files, IsRead as IsFileRead, AreStartOf}
+use Rattle.p8_io.specs.Shelves.{Files, AreStartOf}
 use Rattle.p8_inputs.specs.declared.stop.Stop.{Stop}
 use Rattle.p8_inputs.specs.declared.stop.Stop.TheVariants as stop
 use Rattle.p8_inputs.specs.Asks.{Given, bytes, viewed, lines, HasOneReading, IsLegendIn, IsOfFiles}
@@ -29,7 +28,7 @@ use Rattle.p8_view.specs.declared.turns.ViewOptions.{ViewOptions}
 use Rattle.p8_view.specs.Ending.{view_of}
 use Rattle.p8_work.specs.Texts.{selection_of, picture_of, options_of, dumped_range, asks_of, IsToldOf, IsViewOf, IsViewed, IsTextOf, IsAskedFor, IsBadBy, IsBadHistory}
 use Rattle.p8_prop.proofs.OneCount.{asked-one, counters-one}
-use Rattle.p8_prop.specs.Verdicts.{Outside, Verdict, unsaid, stopped, explained, bad, written, unwritten, Explains, StopsCommand, IsReadAgain, HasExplanation, IsVerdict, IsCertain, IsUnexplained, status_of, HasOneVerdict, IsComplete}
+use Rattle.p8_prop.specs.Verdicts.{Outside, Verdict, unsaid, stopped, explained, bad, written, unwritten, shown_file, Explains, StopsCommand, IsReadAgain, HasExplanation, IsVerdict, IsCertain, IsUnexplained, status_of, HasOneVerdict, IsComplete}
 
 some-not_none : {A : Type 0} {a : A} → Some a ≡ None → ⊥
 some-not_none e = cc
@@ -123,19 +122,20 @@ start-one : (file : Option (List ℕ)) (a b : List ℕ) → AreStartOf file a �
 start-one None a b p q = absurd p
 start-one (Some file) a b p q = p ∙ sym q
 
-abbrev file-of : (otherwise : List ℕ) → Stop → List ℕ
-file-of otherwise (stop.Refused file number place) = file
-file-of otherwise _ = otherwise
+-- what is read once more is there, and so is its name
+pub shown : (files : Files) (file : Option (List ℕ)) (text : Option (List ℕ)) → IsReadAgain files file text → ¬ (file ≡ None)
+shown files None text p = λ none. p
+shown files (Some file) text p = λ (none : Some file ≡ None). some-not_none none
 
--- the verdict on a refused source without an explanation
-abbrev unexplained-of : Stop → Verdict
-unexplained-of (stop.Refused file number place) = explained file number place None
-unexplained-of reason = stopped reason
-
--- the verdict on a refused source that is explained by these bytes
-abbrev explained-of : Stop → (bytes : List ℕ) → Verdict
-explained-of (stop.Refused file number place) bytes = explained file number place (Some bytes)
-explained-of reason bytes = stopped reason
+-- a reason that shows in a file lies in the files
+shown-certain : (reason : Stop) → ¬ (shown_file reason ≡ None) → IsOfFiles reason
+shown-certain (stop.Refused name number place) shows = tt
+shown-certain (stop.Missing name mention) shows = tt
+shown-certain (stop.Unread name) shows = absurd (shows refl)
+shown-certain stop.NoMemory shows = absurd (shows refl)
+shown-certain (stop.BadProgram name fault) shows = tt
+shown-certain (stop.BadScript name line) shows = tt
+shown-certain (stop.Unnamed file name) shows = tt
 
 -- ---- one verdict
 
@@ -144,8 +144,8 @@ abbrev with_files : Outside → Files → Outside
 with_files o files = record o { shelf = record o.shelf { files = files } }
 
 module _ (one_check : HasOneCheck) (files : List ℕ → Option (List ℕ)) (one : HasOneReading files) where
-  asked-one : (command : Command) (a b : List ℕ) → IsAskedFor (Some files) command a → IsAskedFor (Some files) command b → a ≡ b
-  asked-one command a b p q =
+  text-asked : (command : Command) (a b : List ℕ) → IsAskedFor (Some files) command a → IsAskedFor (Some files) command b → a ≡ b
+  text-asked command a b p q =
       let same : p.0 ≡ q.0 = one.one_given (asks_of command) p.0 q.0 p.1 q.1 in
       text-one one_check command q.0 a b (subst (λ (given : List Given). IsTextOf command given a) same p.2) q.2
 
@@ -159,31 +159,34 @@ module _ (one_check : HasOneCheck) (files : List ℕ → Option (List ℕ)) (one
       let same : p.0 ≡ q.0 = one.one_given (asks_of command) p.0 q.0 p.1 q.1 in
       bad-or_text one_check command q.0 text name turn cause (subst (λ (given : List Given). IsTextOf command given text) same p.2) q.2
 
-  -- one refusal is explained by one file
-  explanation-one : (a b : List ℕ) (m n : ℕ) (x y : Place) (xs ys : List ℕ) → stop.Refused a m x ≡ stop.Refused b n y → IsFileRead (Some files) a xs → IsFileRead (Some files) b ys
-      → explained a m x (Some xs) ≡ explained b n y (Some ys)
-  explanation-one a b m n x y xs ys same p q =
-      let name : a ≡ b = ap (file-of a) same in
-      let bytes : xs ≡ ys = start-one (files b) xs ys (subst (λ (file : List ℕ). AreStartOf (files file) xs) name p) q in
-      ap (λ (reason : Stop). explained-of reason xs) same ∙ ap (λ (zs : List ℕ). explained b n y (Some zs)) bytes
+  -- one reason is explained by one file
+  again-one : (file : Option (List ℕ)) (xs ys : List ℕ) → IsReadAgain (Some files) file (Some xs) → IsReadAgain (Some files) file (Some ys) → xs ≡ ys
+  again-one None xs ys p q = absurd p
+  again-one (Some file) xs ys p q = start-one (files file) xs ys p q
+
+  explanation-one : (a b : Stop) (xs ys : List ℕ) → a ≡ b → IsReadAgain (Some files) (shown_file a) (Some xs) → IsReadAgain (Some files) (shown_file b) (Some ys) → explained a (Some xs) ≡ explained b (Some ys)
+  explanation-one a b xs ys same p q =
+      let text : xs ≡ ys = again-one (shown_file b) xs ys (subst (λ (reason : Stop). IsReadAgain (Some files) (shown_file reason) (Some xs)) same p) q in
+      λ i. explained (same i) (Some (text i))
 
   -- what stops a command isn't what it explains
-  explained-or_stopped : (o : Outside) (command : Command) (reason : Stop) (file : List ℕ) (number : ℕ) (place : Place) (bytes : Option (List ℕ)) → IsOfFiles reason
-      → StopsCommand (with_files o (Some files)) (Some command) reason → HasExplanation (with_files o (Some files)) (Some command) file number place bytes → ⊥
-  explained-or_stopped o command reason file number place bytes certain p q =
-      let same : reason ≡ stop.Refused file number place = one.one_stop o.shelf.before o.shelf.now (asks_of command) reason (stop.Refused file number place) certain tt p.0 q.1 in
-      subst (λ (x : Stop). ¬ Explains command x) same p.1 q.0
+  explained-or_stopped : (o : Outside) (command : Command) (reason other : Stop) (text : Option (List ℕ)) → IsOfFiles reason
+      → StopsCommand (with_files o (Some files)) (Some command) reason → HasExplanation (with_files o (Some files)) (Some command) other text → ⊥
+  explained-or_stopped o command reason other text certain p q =
+      let shows = shown (Some files) (shown_file other) text q.2 in
+      let same : reason ≡ other = one.one_stop o.shelf.before o.shelf.now (asks_of command) reason other certain (shown-certain other shows) p.0 q.1 in
+      subst (λ (x : Stop). ¬ Explains command x) same p.1 (q.0, shows)
 
   verdict-one : (o : Outside) (command : Command) (a b : Verdict) → IsCertain a → IsCertain b → IsVerdict (with_files o (Some files)) (Some command) a → IsVerdict (with_files o (Some files)) (Some command) b → a ≡ b
   verdict-one o command (stopped x) (stopped y) s t p q = ap stopped (one.one_stop o.shelf.before o.shelf.now (asks_of command) x y s t p.0 q.0)
-  verdict-one o command (stopped x) (explained b n y (Some ys)) s t p q = absurd (explained-or_stopped o command x b n y (Some ys) s p q)
-  verdict-one o command (explained a m x (Some xs)) (stopped y) s t p q = absurd (explained-or_stopped o command y a m x (Some xs) t q p)
-  verdict-one o command (explained a m x (Some xs)) (explained b n y (Some ys)) s t p q =
-      explanation-one a b m n x y xs ys (one.one_stop o.shelf.before o.shelf.now (asks_of command) (stop.Refused a m x) (stop.Refused b n y) tt tt p.1 q.1) p.2 q.2
-  verdict-one o command (explained a m x (Some xs)) (bad b n y) s t p q = absurd (one.never_both o.shelf.before o.shelf.now (asks_of command) q.0 (stop.Refused a m x) tt q.1 p.1)
-  verdict-one o command (explained a m x (Some xs)) (written y) s t p q = absurd (one.never_both o.shelf.before o.shelf.now (asks_of command) q.0 (stop.Refused a m x) tt q.1 p.1)
-  verdict-one o command (bad a m x) (explained b n y (Some ys)) s t p q = absurd (one.never_both o.shelf.before o.shelf.now (asks_of command) p.0 (stop.Refused b n y) tt p.1 q.1)
-  verdict-one o command (written x) (explained b n y (Some ys)) s t p q = absurd (one.never_both o.shelf.before o.shelf.now (asks_of command) p.0 (stop.Refused b n y) tt p.1 q.1)
+  verdict-one o command (stopped x) (explained y (Some ys)) s t p q = absurd (explained-or_stopped o command x y (Some ys) s p q)
+  verdict-one o command (explained x (Some xs)) (stopped y) s t p q = absurd (explained-or_stopped o command y x (Some xs) t q p)
+  verdict-one o command (explained x (Some xs)) (explained y (Some ys)) s t p q =
+      explanation-one x y xs ys (one.one_stop o.shelf.before o.shelf.now (asks_of command) x y s t p.1 q.1) p.2 q.2
+  verdict-one o command (explained x (Some xs)) (bad b n y) s t p q = absurd (one.never_both o.shelf.before o.shelf.now (asks_of command) q.0 x s q.1 p.1)
+  verdict-one o command (explained x (Some xs)) (written y) s t p q = absurd (one.never_both o.shelf.before o.shelf.now (asks_of command) q.0 x s q.1 p.1)
+  verdict-one o command (bad a m x) (explained y (Some ys)) s t p q = absurd (one.never_both o.shelf.before o.shelf.now (asks_of command) p.0 y t p.1 q.1)
+  verdict-one o command (written x) (explained y (Some ys)) s t p q = absurd (one.never_both o.shelf.before o.shelf.now (asks_of command) p.0 y t p.1 q.1)
   verdict-one o command (stopped x) (bad b n y) s t p q = absurd (one.never_both o.shelf.before o.shelf.now (asks_of command) q.0 x s q.1 p.0)
   verdict-one o command (stopped x) (written y) s t p q = absurd (one.never_both o.shelf.before o.shelf.now (asks_of command) q.0 x s q.1 p.0)
   verdict-one o command (bad a m x) (stopped y) s t p q = absurd (one.never_both o.shelf.before o.shelf.now (asks_of command) p.0 y t p.1 q.0)
@@ -191,27 +194,28 @@ module _ (one_check : HasOneCheck) (files : List ℕ → Option (List ℕ)) (one
   verdict-one o command (bad a m x) (written y) s t p q = absurd (history-or_text command y a m x q p)
   verdict-one o command (written x) (stopped y) s t p q = absurd (one.never_both o.shelf.before o.shelf.now (asks_of command) p.0 y t p.1 q.0)
   verdict-one o command (written x) (bad b n y) s t p q = absurd (history-or_text command x b n y p q)
-  verdict-one o command (written x) (written y) s t p q = ap written (asked-one command x y p q)
+  verdict-one o command (written x) (written y) s t p q = ap written (text-asked command x y p q)
   verdict-one o command unsaid b s t p q = absurd (some-not_none p)
   verdict-one o command (unwritten x) b s t p q = absurd s
-  verdict-one o command (explained a m x None) b s t p q = absurd s
+  verdict-one o command (explained x None) b s t p q = absurd s
   verdict-one o command a unsaid s t p q = absurd (some-not_none q)
   verdict-one o command a (unwritten y) s t p q = absurd t
-  verdict-one o command a (explained b n y None) s t p q = absurd t
+  verdict-one o command a (explained y None) s t p q = absurd t
 
 -- no words but those of a command are stopped by what lies in files
 none-stopped : (o : Outside) (reason : Stop) → IsCertain (stopped reason) → StopsCommand o None reason → ⊥
 none-stopped o (stop.Unread name) s p = p
-none-stopped o (stop.Missing name) s p = p
+none-stopped o (stop.Missing name mention) s p = p
 none-stopped o stop.NoMemory s p = s
 none-stopped o (stop.Refused name number place) s p = p
 none-stopped o (stop.BadProgram name fault) s p = p
 none-stopped o (stop.BadScript name line) s p = p
+none-stopped o (stop.Unnamed file name) s p = p
 
 none-one : (o : Outside) (a : Verdict) → IsCertain a → IsVerdict o None a → a ≡ unsaid
 none-one o unsaid s p = refl
 none-one o (stopped reason) s p = absurd (none-stopped o reason s p)
-none-one o (explained file number place bytes) s p = absurd p
+none-one o (explained reason text) s p = absurd p
 none-one o (bad history turn cause) s p = absurd p
 none-one o (written text) s p = absurd p
 none-one o (unwritten text) s p = absurd s
@@ -228,25 +232,32 @@ module _ (one_check : HasOneCheck) (one : (files : List ℕ → Option (List ℕ
   unread-risen o None name p = absurd p
   unread-risen o (Some command) name p = unread-rose o.shelf.files o.shelf.before o.shelf.now (asks_of command) name p.0
 
-  -- where a refusal is told without its explanation, that is due
-  with-explanation : (files : List ℕ → Option (List ℕ)) (o : Outside) (command : Command) (file : List ℕ) (number : ℕ) (place : Place) (due : Verdict) → IsCertain due
-      → HasExplanation (with_files o (Some files)) (Some command) file number place None → IsVerdict (with_files o (Some files)) (Some command) due → IsUnexplained due (explained file number place None)
-  with-explanation files o command file number place (explained b n y (Some ys)) certain p is =
-      let same = (one files).one_stop o.shelf.before o.shelf.now (asks_of command) (stop.Refused file number place) (stop.Refused b n y) tt tt p.1 is.1 in
-      ap unexplained-of same
-  with-explanation files o command file number place (stopped reason) certain p is = absurd (explained-or_stopped one_check files (one files) o command reason file number place None certain is p)
-  with-explanation files o command file number place (bad b n y) certain p is = absurd ((one files).never_both o.shelf.before o.shelf.now (asks_of command) is.0 (stop.Refused file number place) tt is.1 p.1)
-  with-explanation files o command file number place (written y) certain p is = absurd ((one files).never_both o.shelf.before o.shelf.now (asks_of command) is.0 (stop.Refused file number place) tt is.1 p.1)
-  with-explanation files o command file number place unsaid certain p is = absurd (some-not_none is)
-  with-explanation files o command file number place (explained b n y None) certain p is = absurd certain
-  with-explanation files o command file number place (unwritten y) certain p is = absurd certain
+  -- where a reason is told without its explanation, that is due
+  with-explanation : (files : List ℕ → Option (List ℕ)) (o : Outside) (command : Command) (reason : Stop) (due : Verdict) → IsCertain due
+      → HasExplanation (with_files o (Some files)) (Some command) reason None → IsVerdict (with_files o (Some files)) (Some command) due → IsUnexplained due (explained reason None)
+  with-explanation files o command reason (explained other (Some ys)) certain p is =
+      let of = shown-certain reason (shown (Some files) (shown_file reason) None p.2) in
+      let same : reason ≡ other = (one files).one_stop o.shelf.before o.shelf.now (asks_of command) reason other of certain p.1 is.1 in
+      ap (λ (x : Stop). explained x None) same
+  with-explanation files o command reason (stopped other) certain p is = absurd (explained-or_stopped one_check files (one files) o command other reason None certain is p)
+  with-explanation files o command reason (bad b n y) certain p is =
+      absurd ((one files).never_both o.shelf.before o.shelf.now (asks_of command) is.0 reason (shown-certain reason (shown (Some files) (shown_file reason) None p.2)) is.1 p.1)
+  with-explanation files o command reason (written y) certain p is =
+      absurd ((one files).never_both o.shelf.before o.shelf.now (asks_of command) is.0 reason (shown-certain reason (shown (Some files) (shown_file reason) None p.2)) is.1 p.1)
+  with-explanation files o command reason unsaid certain p is = absurd (some-not_none is)
+  with-explanation files o command reason (explained other None) certain p is = absurd certain
+  with-explanation files o command reason (unwritten y) certain p is = absurd certain
 
-  unexplained : (o : Outside) (command : Option Command) (files : List ℕ → Option (List ℕ)) (file : List ℕ) (number : ℕ) (place : Place) (due : Verdict) → o.shelf.files ≡ Some files → IsCertain due
-      → HasExplanation o command file number place None → IsVerdict o command due → IsUnexplained due (explained file number place None)
-  unexplained o None files file number place due told certain p is = absurd p
-  unexplained o (Some command) files file number place due told certain p is =
-      subst (λ (f : Files). HasExplanation (with_files o f) (Some command) file number place None → IsVerdict (with_files o f) (Some command) due → IsUnexplained due (explained file number place None)) (sym told)
-      (with-explanation files o command file number place due certain) p is
+  unexplained : (o : Outside) (command : Option Command) (files : List ℕ → Option (List ℕ)) (reason : Stop) (due : Verdict) → o.shelf.files ≡ Some files → IsCertain due
+      → HasExplanation o command reason None → IsVerdict o command due → IsUnexplained due (explained reason None)
+  unexplained o None files reason due told certain p is = absurd p
+  unexplained o (Some command) files reason due told certain p is =
+      subst (λ (f : Files). HasExplanation (with_files o f) (Some command) reason None → IsVerdict (with_files o f) (Some command) due → IsUnexplained due (explained reason None)) (sym told)
+      (with-explanation files o command reason due certain) p is
+
+  explained-certain : (o : Outside) (command : Option Command) (reason : Stop) (text : Option (List ℕ)) → HasExplanation o command reason text → IsOfFiles reason
+  explained-certain o None reason text p = absurd p
+  explained-certain o (Some command) reason text p = shown-certain reason (shown o.shelf.files (shown_file reason) text p.2)
 
   -- what comes is due, or a count rose, or there was no memory
   pub complete : (o : Outside) (command : Option Command) (verdict : Verdict) → IsVerdict o command verdict → IsComplete o command verdict
@@ -256,11 +267,13 @@ module _ (one_check : HasOneCheck) (one : (files : List ℕ → Option (List ℕ
   complete o command (unwritten text) p files due told certain is quiet out_quiet =
       let same : written text ≡ due = one-verdict o command files (written text) due told tt certain p.0 is in
       absurd (out_quiet (ap status_of (sym same)) p.1)
-  complete o command (explained file number place (Some bytes)) p files due told certain is quiet out_quiet = inl (one-verdict o command files (explained file number place (Some bytes)) due told tt certain p is)
-  complete o command (explained file number place None) p files due told certain is quiet out_quiet = inr (inr (unexplained o command files file number place due told certain p is))
+  complete o command (explained reason (Some text)) p files due told certain is quiet out_quiet =
+      inl (one-verdict o command files (explained reason (Some text)) due told (explained-certain o command reason (Some text) p) certain p is)
+  complete o command (explained reason None) p files due told certain is quiet out_quiet = inr (inr (unexplained o command files reason due told certain p is))
   complete o command (stopped (stop.Unread name)) p files due told certain is quiet out_quiet = absurd (quiet (unread-risen o command name p))
-  complete o command (stopped (stop.Missing name)) p files due told certain is quiet out_quiet = inl (one-verdict o command files (stopped (stop.Missing name)) due told tt certain p is)
+  complete o command (stopped (stop.Missing name mention)) p files due told certain is quiet out_quiet = inl (one-verdict o command files (stopped (stop.Missing name mention)) due told tt certain p is)
   complete o command (stopped stop.NoMemory) p files due told certain is quiet out_quiet = inr (inl refl)
   complete o command (stopped (stop.Refused name number place)) p files due told certain is quiet out_quiet = inl (one-verdict o command files (stopped (stop.Refused name number place)) due told tt certain p is)
   complete o command (stopped (stop.BadProgram name fault)) p files due told certain is quiet out_quiet = inl (one-verdict o command files (stopped (stop.BadProgram name fault)) due told tt certain p is)
   complete o command (stopped (stop.BadScript name line)) p files due told certain is quiet out_quiet = inl (one-verdict o command files (stopped (stop.BadScript name line)) due told tt certain p is)
+  complete o command (stopped (stop.Unnamed file name)) p files due told certain is quiet out_quiet = inl (one-verdict o command files (stopped (stop.Unnamed file name)) due told tt certain p is)

@@ -1,8 +1,5 @@
 -- What comes of the work of a command is what comes of the command.
-use Rattle.std.proofs.Common.{sym, subst, ap, ◌≡◌, ◌≤◌, List}
-use Rattle.p8_access.specs.declared.memory.Boot.{Boot}
-use Rattle.p8_access.specs.declared.order.Turn.{Turn}
-use Rattle.p8_access.specs.Worlds.{Line, World}
+use Rattle.std.proofs.Common.{sym, subst}
 use Rattle.p8_io.specs.Shelves.{Files}
 use Rattle.p8_commands.specs.Commands.{Command}
 use Rattle.p8_work.specs.declared.work.Answer.{Answer}

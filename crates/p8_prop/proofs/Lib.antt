@@ -1,4 +1,5 @@
 mod OneCount
 mod Completing
+mod Later
 mod Doing
 mod Answering

@@ -1,15 +1,12 @@
 -- internal
 -- What is made of the work of a command, and what is answered of it.
-use Rattle.std.specs.Prelude.{ℕ, ◌≡◌, true, List, [], ◌∷◌, Option, Some, None, Result, Ok, Err}
+use Rattle.std.specs.Prelude.{ℕ, ◌≡◌, ◌≤◌, true, List, Option, Some, None, Result, Ok, Err}
 use Rattle.p8_io.specs.Counts.{Rose}
+use Rattle.std.specs.Borrow.{Bor}
 use Rattle.std.specs.declared.vec.Vec.{Vec}
 use Rattle.std.specs.declared.alloc.Global.{Global}
-use Rattle.p8_tree.specs.declared.places.Place.{Place}
-use Rattle.p8_io.specs.Shelves.{Files, Log, WereRead, IsRead as IsFileRead}
-use Rattle.p8_inputs.specs.Orders.{MayBeRead}
-use Rattle.p8_inputs.specs.Stops.{refusal_line}
+use Rattle.p8_inputs.specs.Stops.{line_of as stop_line}
 use Rattle.p8_inputs.specs.declared.stop.Stop.{Stop}
-use Rattle.p8_inputs.specs.declared.stop.Stop.TheVariants as stop
 use Rattle.p8_commands.specs.Commands.{Command, explains}
 use Rattle.p8_work.specs.declared.work.Answer.{Answer}
 use Rattle.p8_work.specs.declared.work.Answer.TheVariants.{Text, Bad}
@@ -18,7 +15,7 @@ use Rattle.p8_work.specs.declared.work.Work.TheVariants.{Done, Run, View}
 use Rattle.p8_work.specs.Texts.{IsToldOf, IsViewed}
 use Rattle.p8_work.specs.Works.{IsRunnable, IsViewable, world_in}
 use Rattle.p8_prop.specs.declared.status.Status.{Status}
-use Rattle.p8_prop.specs.Verdicts.{ShelfSeen, SinkSeen, Verdict, stopped, explained, bad, written, unwritten, status_of, explanation, Explains, IsReadAgain, IsOnceMore, IsOut, IsTold}
+use Rattle.p8_prop.specs.Verdicts.{ShelfSeen, SinkSeen, Verdict, stopped, explained, bad, written, unwritten, status_of, shown_file, explanation, Explains, IsReadAgain, IsOnceMore, IsOut, IsTold}
 
 -- the work can be done
 abbrev pub CanBeDone : Work → Type 0
@@ -49,23 +46,28 @@ pub record IsGiven (answer : Answer) (out faults : SinkSeen) (status : Status) :
   pub told : IsTold faults verdict
   pub written_out : IsOut out verdict
 
--- the explanation of a refused file, which was read once more for it; where there is none the file may have been read
-abbrev pub IsExplanation : ShelfSeen → (file : List ℕ) (number : ℕ) → Place → Option (Vec ℕ Global) → Type 0
-IsExplanation shelf file number place None = MayBeRead file shelf.log shelf.log_now
-IsExplanation shelf file number place (Some text) =
-    ((bytes : List ℕ) × IsFileRead shelf.files file bytes × (text.items ≡ explanation file bytes number place)) × WereRead shelf.log shelf.log_now (file ∷ [])
+-- a name that is borrowed
+abbrev pub seen_name : Option (Bor (List ℕ)) → Option (List ℕ)
+seen_name None = None
+seen_name (Some name) = Some name.now
 
--- what is told of a refusal, with its explanation where there is one
-abbrev pub told_with : (file : List ℕ) (number : ℕ) → Place → Option (Vec ℕ Global) → List ℕ
-told_with file number place None = refusal_line file number place
-told_with file number place (Some text) = text.items
+-- the explanation of a reason that shows in a file, which was read once more for it; where there is none the file may have been read
+abbrev pub IsExplanation : ShelfSeen → Stop → (file : List ℕ) → Option (Vec ℕ Global) → Type 0
+IsExplanation shelf reason file None = IsOnceMore (Some file) None shelf.log shelf.log_now
+IsExplanation shelf reason file (Some text) =
+    (bytes : List ℕ) × IsReadAgain shelf.files (Some file) (Some bytes) × (text.items ≡ explanation reason bytes) × IsOnceMore (Some file) (Some bytes) shelf.log shelf.log_now
+
+-- what is told of a reason, with its explanation where there is one
+abbrev pub told_with : Stop → Option (Vec ℕ Global) → List ℕ
+told_with reason None = stop_line reason
+told_with reason (Some text) = text.items
 
 -- the verdict on why nothing came of a command: it is stopped, or explains that, for which a file is read once more
 abbrev pub IsFor : ShelfSeen → Command → Stop → Verdict → Type 0
 IsFor shelf command reason (stopped other) = (other ≡ reason) × (¬ Explains command reason) × (shelf.log_now ≡ shelf.log) × (shelf.now ≡ shelf.before)
-IsFor shelf command reason (explained file number place bytes) =
-    (explains command ≡ true) × (reason ≡ stop.Refused file number place) × IsReadAgain shelf.files file bytes
-    × IsOnceMore file bytes shelf.log shelf.log_now
+IsFor shelf command reason (explained other bytes) =
+    (explains command ≡ true) × (other ≡ reason) × IsReadAgain shelf.files (shown_file reason) bytes × IsOnceMore (shown_file reason) bytes shelf.log shelf.log_now
+    × (shelf.before ≤ shelf.now)
 IsFor shelf command reason _ = ⊥
 
 -- what is answered of why nothing came of a command, and what was told and read

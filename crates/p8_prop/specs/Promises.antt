@@ -1,5 +1,5 @@
 -- What a call of the program promises (this project's profile).
-use Rattle.std.specs.Prelude.{ℕ, ◌≡◌, ◌≤◌, List, Option, Some}
+use Rattle.std.specs.Prelude.{◌≡◌, ◌≤◌, Option, Some}
 use Rattle.p8_io.specs.Shelves.{Files}
 use Rattle.p8_commands.specs.Commands.{Command}
 use Rattle.p8_prop.specs.declared.status.Status.{Status}

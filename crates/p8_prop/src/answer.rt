@@ -1,24 +1,24 @@
 // Writes what came of a command, and tells how it ended.
-ghost use Rattle.std.specs.Prelude.{◌≡◌, ◌≤◌, ◌++◌, ◌∷◌, [], codes, true};
+ghost use Rattle.std.specs.Prelude.{◌≡◌, ◌≤◌, ◌++◌, ◌∷◌, [], codes, true, Some, IfOk};
 ghost use Rattle.p8_commands.specs.Commands.{Command as CommandSaid, explains};
 ghost use Rattle.p8_commands.specs.Pages.{usage_line};
 ghost use Rattle.p8_commands.specs.Seen.{command_read};
 ghost use Rattle.p8_finish.specs.Checks.{bad_line};
 ghost use Rattle.p8_inputs.specs.Stops.{line_of as stop_line};
-ghost use Rattle.p8_inputs.specs.declared.stop.Stop.TheVariants.{Refused as Refusal};
 ghost use Rattle.p8_io.specs.Sinks.{Wrote};
-ghost use Rattle.p8_prop.specs.Verdicts.{stop_status};
-ghost use Rattle.p8_prop.specs.Answers.{told_with, IsAnswer, IsEnded, IsExplanation, IsGiven};
+ghost use Rattle.p8_prop.specs.Verdicts.{explanation, shown_file, stop_status};
+ghost use Rattle.p8_prop.specs.Answers.{seen_name, told_with, IsAnswer, IsEnded, IsExplanation, IsGiven};
 ghost use Rattle.p8_prop.specs.declared.status.Status.TheVariants.{Usage, SinkFault, BadHistory};
 
 use crate::status::Status;
 use p8_commands::Command;
-use p8_explain::explanation;
+use p8_explain::{absence, explanation};
 use p8_finish::tell_bad_history;
-use p8_inputs::{Stop, tell_refused};
+use p8_inputs::Stop;
 use p8_io::{Shelf, Sink, write_pieces};
-use p8_tree::{Place, Text};
+use p8_tree::Text;
 use p8_verify::Cause;
+use p8_words::NoMemory;
 use p8_work::Answer;
 use std::alloc::Global;
 use std::str;
@@ -48,6 +48,7 @@ fn status_of_stop(stop: &Stop) -> Status
         Stop::Refused { .. } => Status::Refused,
         Stop::BadProgram { .. } => Status::BadImage,
         Stop::BadScript { .. } => Status::BadScript,
+        Stop::Unnamed { .. } => Status::Missing,
     }
 }
 
@@ -113,13 +114,48 @@ fn given<K: Sink, E: Sink>(answer: &Answer, out: &mut K, faults: &mut E) -> Stat
     }
 }
 
-/// The explanation of the refusal of a file, which is read once more, or None where it can't be read or there is no memory.
+/// The file in which a reason shows: a refused source, or the source that mentions a missing file.
+fn shown_file(stop: &Stop) -> Option<&Text>
+    ensures { seen_name result ≡ shown_file stop.now }
+{
+    match stop {
+        Stop::Refused { file, .. } => Some(file),
+        Stop::Missing { mention, .. } => match mention {
+            Some(mention) => Some(&mention.file),
+            None => None,
+        },
+        Stop::Unread { .. } | Stop::NoMemory => None,
+        Stop::BadProgram { .. } | Stop::BadScript { .. } | Stop::Unnamed { .. } => None,
+    }
+}
+
+/// The explanation of a reason that shows in a file with these bytes.
 #[tactic(auto, unfolding(crate::specs::Verdicts::explanation))]
+fn explanation_of(alloc: Global, stop: &Stop, bytes: &[u8]) -> Result<Vec<u8>, NoMemory>
+    ensures { IfOk result (λ text. text.items ≡ explanation stop.now bytes.now) }
+{
+    match stop {
+        Stop::Refused {
+            file,
+            number,
+            place,
+        } => explanation(alloc, file, bytes, *number, *place),
+        Stop::Missing { file, mention } => match mention {
+            Some(mention) => absence(alloc, &mention.file, bytes, mention.place, file),
+            None => Ok(Vec::new(alloc)),
+        },
+        Stop::Unread { .. } | Stop::NoMemory => Ok(Vec::new(alloc)),
+        Stop::BadProgram { .. } | Stop::BadScript { .. } | Stop::Unnamed { .. } => Ok(Vec::new(
+            alloc,
+        )),
+    }
+}
+
+/// The explanation of a reason that shows in a file, which is read once more, or None where it can't be read or there is no memory.
 fn explanation_in<S: Shelf>(
     alloc: Global,
+    stop: &Stop,
     file: &Text,
-    number: u8,
-    place: Place,
     shelf: &mut S,
 ) -> Option<Vec<u8>>
     ensures explanation { IsExplanation
@@ -131,7 +167,7 @@ fn explanation_in<S: Shelf>(
           before = S.faults shelf.old;
           now = S.faults shelf.new;
         })
-        file.now number place result }
+        stop.now file.now result }
     ensures later { S.faults shelf.old ≤ S.faults shelf.new }
     ensures kept { S.files shelf.new ≡ S.files shelf.old }
 {
@@ -141,34 +177,34 @@ fn explanation_in<S: Shelf>(
     let Ok(bytes) = shelf.read(alloc, name) else {
         return None;
     };
-    match explanation(alloc, file, &bytes, number, place) {
+    match explanation_of(alloc, stop, &bytes) {
         Ok(text) => Some(text),
         Err(_) => None,
     }
 }
 
-/// Tells a refusal by its explanation, or by its line where there is none.
-fn tell_with<E: Sink>(file: &Text, number: u8, place: Place, text: &Option<Vec<u8>>, faults: &mut E)
-    ensures wrote { Wrote (E.faults faults.old) (E.faults faults.new) (E.taken faults.old) (E.taken faults.new) (told_with file.now number place text.now) }
+/// Tells a reason by its explanation, or by its line where there is none.
+fn tell_with<E: Sink>(stop: &Stop, text: &Option<Vec<u8>>, faults: &mut E)
+    ensures wrote { Wrote (E.faults faults.old) (E.faults faults.new) (E.taken faults.old) (E.taken faults.new) (told_with stop.now text.now) }
     ensures later { E.faults faults.old ≤ E.faults faults.new }
 {
     match text {
         Some(text) => {
             let _ = write_pieces(faults, &[text.as_slice()]);
         }
-        None => tell_refused(file.as_slice(), number, place, faults),
+        None => stop.tell(faults),
     }
 }
 
-/// Explains the refusal of a file, which is read once more for that.
+/// Explains a reason by the file in which it shows, which is read once more for that.
 fn explained<S: Shelf, E: Sink>(
     alloc: Global,
+    stop: &Stop,
     file: &Text,
-    number: u8,
-    place: Place,
     shelf: &mut S,
     faults: &mut E,
 ) -> Status
+    requires { shown_file stop.now ≡ Some file.now }
     ensures ended { (command : CommandSaid) → explains command ≡ true → IsEnded
         (record {
           files = S.files shelf.old;
@@ -178,7 +214,7 @@ fn explained<S: Shelf, E: Sink>(
           before = S.faults shelf.old;
           now = S.faults shelf.new;
         })
-        command (Refusal file.now number place)
+        command stop.now
         (record {
           before = E.faults faults.old;
           now = E.faults faults.new;
@@ -190,12 +226,12 @@ fn explained<S: Shelf, E: Sink>(
     ensures kept { S.files shelf.new ≡ S.files shelf.old }
     ensures faults_later { E.faults faults.old ≤ E.faults faults.new }
 {
-    let text = explanation_in(alloc, file, number, place, shelf);
-    tell_with(file, number, place, &text, faults);
-    Status::Refused
+    let text = explanation_in(alloc, stop, file, shelf);
+    tell_with(stop, &text, faults);
+    status_of_stop(stop)
 }
 
-/// Tells why there is no text of a command; the refusal of a source is explained where the command asks for that.
+/// Tells why there is no text of a command; what shows in a file is explained where the command asks for that.
 fn ended<S: Shelf, E: Sink>(
     alloc: Global,
     command: Command<'_>,
@@ -224,22 +260,17 @@ fn ended<S: Shelf, E: Sink>(
     ensures kept { S.files shelf.new ≡ S.files shelf.old }
     ensures faults_later { E.faults faults.old ≤ E.faults faults.new }
 {
-    if command.explains() {
-        match stop {
-            Stop::Refused {
-                file,
-                number,
-                place,
-            } => explained(alloc, file, *number, *place, shelf, faults),
-            _ => stopped(stop, faults),
-        }
-    } else {
-        stopped(stop, faults)
+    if !command.explains() {
+        return stopped(stop, faults);
+    }
+    match shown_file(stop) {
+        Some(file) => explained(alloc, stop, file, shelf, faults),
+        None => stopped(stop, faults),
     }
 }
 
-/// Writes what came of a command, where anything did, and tells how that ended. A source that is refused is read once more where the command explains
-/// that.
+/// Writes what came of a command, where anything did, and tells how that ended. Where the command explains why there is no text, the
+/// file in which that shows is read once more.
 pub fn answered<S: Shelf, K: Sink, E: Sink>(
     alloc: Global,
     command: Command<'_>,

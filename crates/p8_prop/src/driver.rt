@@ -39,7 +39,7 @@ fn viewed(alloc: Global, start: Start, view: &Viewing) -> Result<Vec<u8>, NoMemo
     ensures { IfOk result (λ text. IsViewed (world_in start) view.now.options view.now.legend view.now.dump text.items) }
 {
     let counted = run_counted(alloc, start.boot, start.script, start.limits)?;
-    let text = view_text(
+    view_text(
         alloc,
         &counted.ended,
         &counted.counters,
@@ -47,8 +47,7 @@ fn viewed(alloc: Global, start: Start, view: &Viewing) -> Result<Vec<u8>, NoMemo
         &view.legend,
         &view.options,
         view.dump,
-    )?;
-    Ok(text)
+    )
 }
 
 /// What comes of a command, where one thread makes all turns.

@@ -13,7 +13,7 @@ pub enum Status {
     Refused,
     /// A file could not be read.
     ShelfFault,
-    /// A file doesn't exist.
+    /// A file doesn't exist, or nothing of a program has a name that is asked for.
     Missing,
     /// The text could not be written, or only a part of it.
     SinkFault,

@@ -1,6 +1,8 @@
-use Rattle.std.proofs.Common.{◌≡◌, ap, sym, reverse}
+use Rattle.std.proofs.Common.{◌≡◌, ap, subst, sym, reverse, ℕ, List, Option}
+use Rattle.std.proofs.lemmas.Result.{IfOk-weaker}
 use Rattle.p8_access.specs.Worlds.{World}
 use Rattle.p8_ledger.specs.Worlds.{world_of}
+use Rattle.p8_view.specs.Ending.{view_of}
 use Rattle.p8_work.specs.Works.{world_in}
 use Rattle.p8_prop.proofs.driver.viewed.Goals as goal
 
@@ -8,13 +10,16 @@ pub returns : goal.returns
 returns c =
     let w = world_in c.args.start in
     let made = c.in_ok-counted.ensures in
-    let history = c.in_ok-counted.counted.ended.history in
-    let same : w ≡ world_of history.boot c.args.start.script history.limits = sym made.world in (
-      reverse history.turns.list,
+    let counted = c.in_ok-counted.counted in
+    let history = counted.ended.history in
+    let past = reverse history.turns.list in
+    let view = c.args.view.now in
+    let same : w ≡ world_of history.boot c.args.start.script history.limits = sym made.world in
+    let told = c.view.ensures w (ap (λ (v : World). v.memory) same) (ap (λ (v : World). v.first) same) (ap (λ (v : World). v.turns) same) (ap (λ (v : World). v.clocks) same) made.hub in
+    IfOk-weaker c.view.result _ _
+    (λ text is. (
+      past,
       made.ended,
-      c.in_ok-counted.counted.counters.items,
-      c.in_ok-counted.counted.asked,
-      made.counters,
-      made.asked,
-      c.in_ok-text.ensures w (ap (λ (v : World). v.memory) same) (ap (λ (v : World). v.first) same) (ap (λ (v : World). v.turns) same) (ap (λ (v : World). v.clocks) same) made.hub,
-    )
+      (counted.counters.items, counted.asked, made.counters, made.asked, subst (λ (counters : List (Option ℕ)). text.items ≡ view_of view.options view.legend w counters counted.asked past view.dump) c.deref.ensures.value is),
+    ))
+    told

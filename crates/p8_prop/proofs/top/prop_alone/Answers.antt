@@ -22,7 +22,7 @@ returns-in-Ok-Some g c =
     let later = c.answered.ensures.later in
     let answer = subst (λ (files : Files). IsAnswer (record { files = files; files_now = o.shelf.files_now; log = between; log_now = o.shelf.log_now; before = middle; now = o.shelf.now }) said c.answer_alone-answer.result o.out o.faults c.answered.result) c.answer_alone-answer.ensures.kept c.answered.ensures.answer in
     subst (λ (command : Option Command). Keeps o command c.answered.result) (ap command_if_any (sym c.in-Ok-Some.field-0-is) ∙ c.in-Ok-Some.ensures.seen)
-    (command-keeps c.one_verdict.ensures c.one_reading.ensures o between middle said c.answer_alone-answer.result c.answered.result answer c.answer_alone-answer.ensures.answer c.answer_alone-answer.ensures.stopped c.answer_alone-answer.ensures.all_read c.answer_alone-answer.ensures.so_far (c.answered.ensures.kept ∙ c.answer_alone-answer.ensures.kept, omega (arith, earlier, later), c.answered.ensures.out_later, c.answered.ensures.faults_later))
+    (command-keeps c.one_verdict.ensures c.one_reading.ensures o between middle said c.answer_alone-answer.result c.answered.result answer c.answer_alone-answer.ensures.answer c.answer_alone-answer.ensures.stopped c.answer_alone-answer.ensures.all_read c.answer_alone-answer.ensures.so_far earlier (c.answered.ensures.kept ∙ c.answer_alone-answer.ensures.kept, omega (arith, earlier, later), c.answered.ensures.out_later, c.answered.ensures.faults_later))
 
 pub returns-in-Ok-None : goal.returns-in-Ok-None
 returns-in-Ok-None g c =
