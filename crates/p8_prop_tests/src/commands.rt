@@ -44,6 +44,12 @@ const EXPLANATION: &str = "next.spin:2:14: 6 Unexpected\n\
     No line begins or goes on so, or the file ends here and more must follow.\n\
     Look at what stands before it: a missing operator, bracket, comma or colon is told at the token after it.\n";
 
+/// The explanation of a file that is missing.
+const ABSENCE: &str = "lost.spin:2:7: kid.spin is missing\n\
+    \x20 k : \"kid\"\n\
+    \x20     ^\n\
+    There is no file of this name. Capitals and small letters differ, and a name without a dot gets .spin.\n";
+
 /// What is told of the refusal 26.
 const ENTRY: &[u8] = b"26 FrameTooLarge\n\
     The method's result, parameters and locals are more than 2,048 longs, or it holds more than 128 values at once.\n\
@@ -82,9 +88,9 @@ const PAGE: &[u8] =
 const USAGE: &str =
     "prop: usage: prop build|list FILE, prop raw|run FILE CLOCKS [--pins F] [--turns K] [--dump A:N] [--alone]\n";
 
-/// The files of the shelf: an image, an empty file, a bad pin script, three good sources, two bad ones and one that mentions a bad
-/// one, a message and the script that sends it, and two history files.
-static FILES: [(&str, &[u8]); 13] = [
+/// The files of the shelf: an image, an empty file, a bad pin script, three good sources, two bad ones, one that mentions a bad
+/// one and one that mentions none, a message and the script that sends it, and two history files.
+static FILES: [(&str, &[u8]); 14] = [
     ("a.binary", IMAGE),
     ("empty.binary", b""),
     ("a.pins", b"9000 1"),
@@ -94,6 +100,7 @@ static FILES: [(&str, &[u8]); 13] = [
     ("five.spin", b"VAR\n  long x\nPUB main\n  x := 5\n"),
     ("next.spin", b"PUB main\n\ta := next\n"),
     ("outer.spin", b"OBJ\n  n : \"next\"\nPUB main\n"),
+    ("lost.spin", b"OBJ\n  k : \"kid\"\nPUB main\n"),
     ("a.txt", b"A"),
     ("sent.pins", SENT),
     ("a.history", HISTORY),
@@ -216,7 +223,7 @@ fn carries_commands_out(rt: HostRuntime) {
 
 /// Calls whose files or whose text are at fault. The refused file that is explained stands below the top file, and is the one
 /// that is read once more: where that read fails the refusal's line is told.
-static FAULTS: [Refusal; 13] = [
+static FAULTS: [Refusal; 16] = [
     (
         "build bad.spin",
         0,
@@ -287,6 +294,21 @@ static FAULTS: [Refusal; 13] = [
         0,
         Status::Missing,
         "prop: none.spin is missing\n",
+    ),
+    (
+        "build lost.spin",
+        0,
+        0,
+        Status::Missing,
+        "prop: kid.spin is missing\n",
+    ),
+    ("explain lost.spin", 0, 0, Status::Missing, ABSENCE),
+    (
+        "explain lost.spin",
+        3,
+        0,
+        Status::Missing,
+        "prop: kid.spin is missing\n",
     ),
     (
         "view five.spin 20000 --dump y",
