@@ -137,6 +137,17 @@ class Trace:
         return [(clock, cog) for clock, cog, _ in self.turns]
 
 
+def shown_keys(trace):
+    """The clocks and cogs of the turns that a view shows: all but the reads of a load, which are the 496 accesses behind it."""
+    left, keys = [0] * 8, []
+    for clock, cog, (access, *_) in trace.turns:
+        is_read = left[cog] > 0 and access in (b"rdbyte", b"rdword", b"rdlong")
+        left[cog] = 496 if access == b"load" else 0 if access == b"begin" else max(left[cog] - 1, 0)
+        if not is_read:
+            keys.append((clock, cog))
+    return keys
+
+
 def dump_of(text):
     """The bytes of the dump at the end of a trace."""
     rows = re.findall(rb"^[0-9A-F]{4}:((?: [0-9A-F]{2})+)$", text, re.M)
