@@ -1,6 +1,11 @@
 //! `prop`: compiles programs of the Parallax Propeller P8X32A, runs them, and prints the history of the eight cogs.
 #![tactic(auto)]
 
+mod asked;
+mod places;
+
+use crate::asked::AskedShelf;
+use crate::places::tell_places;
 use p8_crew::ThreadStarter;
 use p8_inputs::Stop;
 use p8_io::{FileShelf, StdSink};
@@ -51,24 +56,31 @@ fn folders_of(rt: &HostRuntime) -> Result<Vec<PathBuf>, NoMemory> {
     }
 }
 
+/// Whether the words ask for explanations.
+fn explains(words: &[String]) -> bool {
+    words.first().is_some_and(|word| word.as_str() == "explain")
+}
+
 fn main(rt: HostRuntime) -> ExitCode {
     let mut out = StdSink::new(rt.stdout());
     let mut faults = StdSink::new(rt.stderr());
     let mut starter = ThreadStarter::new();
-    let status = match (words_of(&rt), folders_of(&rt)) {
-        (Ok(words), Ok(folders)) => prop(
-            &rt,
-            rt.alloc(),
-            &words,
-            &mut FileShelf::new(&rt, folders),
-            &mut out,
-            &mut faults,
-            &mut starter,
-        ),
-        _ => {
-            Stop::NoMemory.tell(&mut faults);
-            Status::NoMemory
-        }
+    let (Ok(words), Ok(folders)) = (words_of(&rt), folders_of(&rt)) else {
+        Stop::NoMemory.tell(&mut faults);
+        return ExitCode::from(Status::NoMemory.code());
     };
+    let mut shelf = AskedShelf::new(FileShelf::new(&rt, folders));
+    let status = prop(
+        &rt,
+        rt.alloc(),
+        &words,
+        &mut shelf,
+        &mut out,
+        &mut faults,
+        &mut starter,
+    );
+    if let (Status::Missing, true, Ok(folders)) = (status, explains(&words), folders_of(&rt)) {
+        let _ = tell_places(&rt, &shelf, folders, &mut faults);
+    }
     ExitCode::from(status.code())
 }
