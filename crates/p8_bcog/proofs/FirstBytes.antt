@@ -11,7 +11,7 @@ use Rattle.p8_bytecode.specs.Reading.{bare, sign_extended, offset_in, jump_in, c
 use Rattle.p8_bcog.specs.declared.state.State.{State}
 use Rattle.p8_bcog.specs.Operands.{tested, pushed}
 use Rattle.p8_access.specs.declared.kinds.Width.TheVariants.{Long}
-use Rattle.p8_operators.specs.Operators.{is_unary}
+use Rattle.p8_words.specs.Operators.{is_unary}
 use Rattle.p8_bcog.specs.declared.place.Place.{Place}
 use Rattle.p8_bcog.specs.declared.place.Place.TheVariants.{Memory}
 use Rattle.p8_bcog.specs.Changes.{pushes, pops, changes_alone, is_binary_effect, changes}

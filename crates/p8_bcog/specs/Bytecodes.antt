@@ -12,7 +12,7 @@ use Rattle.p8_bytecode.specs.declared.op.Op.{Op}
 use Rattle.p8_bcog.specs.declared.state.State.{State}
 use Rattle.p8_bcog.specs.Code.{fetched}
 use Rattle.p8_bcog.specs.Operands.{operand, pushed, replaced, tested, difference}
-use Rattle.p8_operators.specs.Operators.{is_unary, unary_value, binary_value}
+use Rattle.p8_words.specs.Operators.{is_unary, unary_value, binary_value}
 use Rattle.p8_bcog.specs.Variables.{short_variable, variable, one_pin, some_pins, whole_register}
 use Rattle.p8_bcog.specs.Control.{jump, loop_begins, loop_ends, jump_if_zero, jump_unless_zero, drops, case_value, case_range, look_fails, lookup_value, lookdown_value, lookup_range, lookdown_range}
 use Rattle.p8_bcog.specs.Calls.{opens, call_own, call_object, call_indexed, return_result, return_value, abort_result, abort_value}

@@ -8,7 +8,7 @@ use Rattle.p8_bcog.specs.declared.state.State.{State}
 use Rattle.p8_bcog.specs.declared.place.Place.{Place}
 use Rattle.p8_bcog.specs.declared.step.Wanted.TheVariants.{Pushed, Changed, Replaced, Stepped}
 use Rattle.p8_bcog.specs.Operands.{operand, taken, tested}
-use Rattle.p8_operators.specs.Operators.{is_unary}
+use Rattle.p8_words.specs.Operators.{is_unary}
 use Rattle.p8_bcog.specs.Places.{writes_place, reads_place, left_of}
 
 unfoldable pub pushes : (named : ℕ) → Place → State → Course State

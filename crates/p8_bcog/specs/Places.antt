@@ -12,7 +12,7 @@ use Rattle.p8_bcog.specs.declared.place.Place.TheVariants.{Memory, Pins}
 use Rattle.p8_bcog.specs.declared.step.Wanted.{Wanted}
 use Rattle.p8_bcog.specs.declared.step.Wanted.TheVariants.{Pushed, Changed, Replaced, Stepped}
 use Rattle.p8_bcog.specs.Operands.{pushed, left_by, is_between, is_at_most, sum_of, difference}
-use Rattle.p8_operators.specs.Operators.{is_unary, unary_value, binary_value}
+use Rattle.p8_words.specs.Operators.{is_unary, unary_value, binary_value}
 use Rattle.p8_bcog.specs.Accesses.{word_in, ends, read_of, is_readable, rom_halt, write_of}
 
 -- ---- some pins of a register

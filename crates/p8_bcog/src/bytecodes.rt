@@ -25,7 +25,7 @@ use crate::state::State;
 use crate::step::Step;
 use p8_access::{Access, Origin, Reason, Test, Width};
 use p8_bytecode::{Op, take_op};
-use p8_operators::{binary, is_unary, rotated_left, unary};
+use p8_words::{binary, is_unary, rotated_left, unary};
 
 /// A value less 1, where the flag is set.
 fn less_one_if(flag: bool, value: u32) -> u32

@@ -10,7 +10,7 @@ use crate::state::State;
 use crate::step::{Step, Wanted};
 use p8_access::Reason;
 use p8_bytecode::Op;
-use p8_operators::is_unary;
+use p8_words::is_unary;
 
 /// How many longs an effect leaves.
 fn leaves(effect: u8) -> usize

@@ -13,8 +13,7 @@ use crate::place::Place;
 use crate::state::State;
 use crate::step::{Later, Step, Wanted};
 use p8_access::{Access, Reason, Width};
-use p8_operators::{binary, is_unary, unary};
-use p8_words::reverse;
+use p8_words::{binary, is_unary, reverse, unary};
 
 /// The addresses of registers.
 const PAR: u16 = 0x1F0;

@@ -4,7 +4,7 @@ use Rattle.p8_tree.specs.Proper as proper
 use Rattle.p8_access.specs.Courses.{Course}
 use Rattle.p8_bytecode.specs.declared.op.Op.{Op}
 use Rattle.p8_bytecode.specs.Table.{is_effect, is_step}
-use Rattle.p8_operators.specs.Operators.{is_unary, binary_value}
+use Rattle.p8_words.specs.Operators.{is_unary, binary_value}
 use Rattle.p8_bcog.specs.declared.state.State.{State}
 use Rattle.p8_bcog.specs.declared.place.Place as place
 use Rattle.p8_bcog.specs.declared.step.Wanted.TheVariants as wanted_case

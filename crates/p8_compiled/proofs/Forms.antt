@@ -8,7 +8,7 @@ use Rattle.p8_access.specs.Replays.{Engine}
 use Rattle.p8_tree.specs.declared.places.Place.{Place}
 use Rattle.p8_tree.specs.Names.{result_word}
 use Rattle.p8_tree.specs.Expressions.{Tree, Variable, Named, Part, Memory, Register, Index, no_index, index, Bits, whole, bits, Item, single, range, Trees, Items}
-use Rattle.p8_operators.specs.Operators.{unary_value, unary_values, binary_value}
+use Rattle.p8_words.specs.Operators.{unary_value, unary_values, binary_value}
 use Rattle.p8_kinds.specs.declared.name_kinds.NameKind.{NameKind}
 use Rattle.p8_kinds.specs.declared.name_kinds.NameKind.TheVariants as kind_case
 use Rattle.p8_bcog.specs.declared.marks.Mark.{Mark}

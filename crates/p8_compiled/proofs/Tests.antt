@@ -7,7 +7,7 @@ use Rattle.p8_bytecode.specs.declared.operands.Operands.{Operands}
 use Rattle.p8_bytecode.specs.declared.operands.Operands.TheVariants.{Nothing}
 use Rattle.p8_bytecode.specs.Table.{rows, operands_of}
 use Rattle.p8_bytecode.specs.Reading.{bare}
-use Rattle.p8_operators.specs.Operators.{is_unary}
+use Rattle.p8_words.specs.Operators.{is_unary}
 use Rattle.p8_bcog.specs.declared.state.State.{State}
 use Rattle.p8_bcog.specs.Operands.{operand, pushed, replaced, jumped, is_between, sum_of, distance, difference}
 use Rattle.p8_bcog.specs.Control as control

@@ -12,7 +12,7 @@ use Rattle.p8_faults.proofs.Firsts.{IsFirstFault-along, IsFirstFault-earlier}
 use Rattle.p8_fold.specs.declared.meanings.Meaning.{Meaning}
 use Rattle.p8_fold.specs.declared.meanings.Meaning.TheVariants as meaning_case
 use Rattle.p8_fold.specs.Meanings.{Setting, value_of_meaning, given}
-use Rattle.p8_operators.specs.Operators.{beside, unary_values, binary_values, unary_result, binary_result, divides}
+use Rattle.p8_words.specs.Operators.{beside, unary_values, binary_values, unary_result, binary_result, divides}
 use Rattle.p8_fold.specs.Values.{constant_of, before, between, fault_of_name, unless, where_so, fault_of_constant, fault_before, fault_between}
 use Rattle.p8_fold.specs.Verdicts.{with_further, first_of_two, or_fault, verdict_before, verdict_of_values, verdict_between, verdict_of_constant}
 

@@ -13,7 +13,7 @@ use Rattle.p8_fold.specs.declared.meanings.Here.{Here as Surroundings}
 use Rattle.p8_fold.specs.declared.meanings.Meaning.{Meaning}
 use Rattle.p8_fold.specs.declared.meanings.Meaning.TheVariants as meaning_case
 use Rattle.p8_fold.specs.Meanings.{Setting, meaning_of, value_of_meaning, address_of_meaning, given}
-use Rattle.p8_operators.specs.Operators.{unary_result, binary_result, divides}
+use Rattle.p8_words.specs.Operators.{unary_result, binary_result, divides}
 
 -- ---- values
 

@@ -11,7 +11,7 @@ use Rattle.p8_faults.specs.Faults.{fault, earlier}
 use Rattle.p8_fold.specs.declared.meanings.Meaning.{Meaning}
 use Rattle.p8_fold.specs.declared.meanings.Meaning.TheVariants as meaning_case
 use Rattle.p8_fold.specs.Meanings.{Setting, meaning_of, value_of_meaning, given}
-use Rattle.p8_operators.specs.Operators.{unary_result, binary_result}
+use Rattle.p8_words.specs.Operators.{unary_result, binary_result}
 use Rattle.p8_fold.specs.Values.{value_of_variable, address_of, fault_of_name, fault_of_call, fault_before, fault_between}
 
 -- the earlier of a fault and a further one, if there is one

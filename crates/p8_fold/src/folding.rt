@@ -12,8 +12,8 @@ ghost use Rattle.p8_fold.specs.Verdicts.{with_further, first_of_two, or_fault, v
 use crate::consts::Consts;
 use crate::meanings::Meaning;
 use p8_faults::Fault;
-use p8_operators::{binary_result, divides, unary_result};
 use p8_tree::{Call, Expr, ExprKind, Item, Place, Target, Text};
+use p8_words::{binary_result, divides, unary_result};
 
 // What isn't constant, at its place.
 fn not_constant(place: Place) -> Fault

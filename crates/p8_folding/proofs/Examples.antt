@@ -6,7 +6,7 @@ use Rattle.p8_tree.specs.declared.places.Place.{Place}
 use Rattle.p8_tree.specs.Expressions as expressions
 use Rattle.p8_tree.specs.Expressions.{Tree, node, Var, Unary, Binary, Built, Change, Named, no_index, no_trees, ◌▷◌, single, no_items, ◌▸◌}
 use Rattle.p8_tree.specs.Statements.{statement, Action, Do, If, Repeat, Next, Forever, Count, Before, After, Arm, arm, nothing_else, otherwise, Statements, no_statements, ◌▹◌, no_arms, ◌⊳◌}
-use Rattle.p8_operators.specs.Operators.{unary_values, binary_values}
+use Rattle.p8_words.specs.Operators.{unary_values, binary_values}
 use Rattle.p8_folding.specs.Constants.{Constants}
 use Rattle.p8_folding.specs.Folding.{folded, folded_body}
 

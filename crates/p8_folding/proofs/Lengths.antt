@@ -3,7 +3,7 @@ use Rattle.std.proofs.lemmas.Bool.Decides.{nat_tests}
 use Rattle.std.proofs.Common.{◌≡◌, refl, ap, ap₂, ◌∙◌, ℕ, ◌+◌, ◌-◌, ◌≤◌, ◌^◌, ◌==◌, ◌||◌, nat_le, nat_lt, Bool, true, false, if◌then◌else◌, Option, Some, None, option_map, arith}
 use Rattle.std.specs.Prelude.{min}
 use Rattle.p8_tree.specs.Expressions.{Tree, node, Number, Str, Here, Var, Call, Unary, Binary, Assign, Change, Address, ObjectAddress, ObjConst, Built, Look}
-use Rattle.p8_operators.specs.Operators.{unary_value, binary_value, or_zero}
+use Rattle.p8_words.specs.Operators.{unary_value, binary_value, or_zero}
 use Rattle.p8_folding.specs.Constants.{Constants, value_of_name, both, constant_value, number_length, unary_length, code_length, within}
 use Rattle.p8_folding.specs.declared.known.Numbers.{Numbers}
 use Rattle.p8_folding.specs.declared.known.Numbers.TheVariants.{Shorter, Kept}

@@ -5,7 +5,7 @@ use Rattle.p8_tree.specs.Names.{result_word}
 use Rattle.p8_tree.specs.Sources.{Source, MethodTree}
 use Rattle.p8_kinds.specs.declared.name_kinds.NameKind.{NameKind}
 use Rattle.p8_kinds.specs.declared.name_kinds.NameKind.TheVariants as kind_case
-use Rattle.p8_operators.specs.Operators.{binary_value}
+use Rattle.p8_words.specs.Operators.{binary_value}
 use Rattle.p8_meaning.specs.Values.{changed, gives_old}
 use Rattle.p8_meaning.specs.Programs.{Program, Scope, Target, File, kind_of, own_target, locals_size, setting_of}
 use Rattle.p8_access.specs.declared.kinds.Origin.TheVariants.{Spin}

@@ -1,7 +1,7 @@
 -- What is known of a tree while it is copied: its value, and how long its code is, up to 5 bytes. Internal.
 use Rattle.std.specs.Prelude.{ℕ, ◌+◌, ◌==◌, ◌&&◌, min, Option, Some, None, if◌then◌else◌}
 use Rattle.p8_tree.specs.Expressions.{Tree, node, Number, Var, Unary, Binary, ObjConst}
-use Rattle.p8_operators.specs.Operators.{unary_value, binary_value}
+use Rattle.p8_words.specs.Operators.{unary_value, binary_value}
 use Rattle.p8_folding.specs.Constants.{Constants, value_of_name, number_length, unary_length, within, shorter_number}
 use Rattle.p8_folding.specs.declared.known.Numbers.{Numbers}
 use Rattle.p8_folding.specs.declared.known.Numbers.TheVariants.{Shorter, Kept}

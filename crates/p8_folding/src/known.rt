@@ -3,12 +3,12 @@ ghost use Rattle.std.specs.Prelude.{◌≡◌};
 ghost use Rattle.p8_tree.specs.Views.{tree_of, variable_of};
 ghost use Rattle.p8_fold.specs.Entries.{setting_of};
 ghost use Rattle.p8_folding.specs.Constants.{value_meant, value_of_name, constants_in, both, constant_value, number_length, unary_length};
-ghost use Rattle.p8_operators.specs.Operators.{binary_value};
+ghost use Rattle.p8_words.specs.Operators.{binary_value};
 ghost use Rattle.p8_folding.specs.Known.{longer, known_number, known_before, known_between, shorter_known, for_arguments};
 
 use p8_fold::{Consts, Meaning};
-use p8_operators::{binary, unary};
 use p8_tree::{Expr, ExprKind, Target, Text};
+use p8_words::{binary, unary};
 
 /// Which constant trees become numbers in a copy: those whose number isn't longer, or none.
 #[derive(Clone, Copy)]

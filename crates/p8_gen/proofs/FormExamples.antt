@@ -5,7 +5,7 @@ use Rattle.std.specs.Map.{lookup}
 use Rattle.std.specs.Str.{bytes_eq}
 use Rattle.p8_tree.specs.declared.places.Place.{Place}
 use Rattle.p8_tree.specs.Expressions.{Tree, node, Number, Str, Var, Call, Unary, Binary, Assign, Change, Address, ObjectAddress, Built, Look, Named, Part, Memory, Register, no_index, index, whole, bits, single, range, no_trees, ◌▷◌, no_items, ◌▸◌}
-use Rattle.p8_operators.specs.Operators.{binary_values}
+use Rattle.p8_words.specs.Operators.{binary_values}
 use Rattle.p8_kinds.specs.declared.name_kinds.NameKind.{NameKind}
 use Rattle.p8_kinds.specs.declared.name_kinds.NameKind.TheVariants as kinds
 use Rattle.p8_fold.specs.declared.meanings.Meaning.{Meaning}

@@ -7,7 +7,7 @@ use Rattle.p8_tree.specs.Expressions.{Tree, node, Form, Number, Str, Here, Var, 
 use Rattle.p8_bytecode.specs.Reading.{bare}
 use Rattle.p8_kinds.specs.declared.name_kinds.NameKind.{NameKind}
 use Rattle.p8_kinds.specs.declared.name_kinds.NameKind.TheVariants as kinds
-use Rattle.p8_operators.specs.Operators.{or_zero}
+use Rattle.p8_words.specs.Operators.{or_zero}
 use Rattle.p8_fold.specs.Values as constants
 use Rattle.p8_gen.specs.Names.{Names}
 use Rattle.p8_gen.specs.Pieces.{Piece, nothing, one, ◌⨾◌, up_to_end, byte, with_number, text, jump}

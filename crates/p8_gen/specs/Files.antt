@@ -4,7 +4,7 @@ use Rattle.std.specs.Option.{option_or}
 use Rattle.std.specs.Str.{bytes_eq}
 use Rattle.p8_tree.specs.declared.places.Place.{Place}
 use Rattle.p8_tree.specs.Names.{result_word}
-use Rattle.p8_operators.specs.Operators.{or_zero}
+use Rattle.p8_words.specs.Operators.{or_zero}
 use Rattle.p8_kinds.specs.declared.children.Children.{Children}
 use Rattle.p8_kinds.specs.declared.kinds.Kinds.{Kinds}
 use Rattle.p8_kinds.specs.declared.name_kinds.Label.{Label}

@@ -1,7 +1,7 @@
 -- What a coder's tables say of names: internal.
 use Rattle.std.specs.Prelude.{ℕ}
 use Rattle.p8_tree.specs.declared.places.Place.{Place}
-use Rattle.p8_operators.specs.Operators.{or_zero}
+use Rattle.p8_words.specs.Operators.{or_zero}
 use Rattle.p8_fold.specs.Entries.{setting_of}
 use Rattle.p8_kinds.specs.declared.kinds.Kinds.{Kinds}
 use Rattle.p8_kinds.specs.Kinds.{own}

@@ -1,7 +1,7 @@
 // What code is written by.
 ghost use Rattle.std.specs.Prelude.{◌≡◌, ℕ, List, IfOk};
 ghost use Rattle.p8_tree.specs.Views.{tree_of};
-ghost use Rattle.p8_operators.specs.Operators.{or_zero};
+ghost use Rattle.p8_words.specs.Operators.{or_zero};
 ghost use Rattle.p8_fold.specs.Entries.{setting_of};
 ghost use Rattle.p8_fold.specs.Values.{value};
 ghost use Rattle.p8_kinds.specs.Kinds.{own};

@@ -18,7 +18,7 @@ use Rattle.p8_tree.specs.Statements.{Statement, statement, Action, Do, If, Case,
 use Rattle.p8_tree.specs.Sources.{MethodTree, Method, Declared}
 use Rattle.p8_kinds.specs.declared.name_kinds.NameKind.{NameKind}
 use Rattle.p8_kinds.specs.declared.name_kinds.NameKind.TheVariants as kind
-use Rattle.p8_operators.specs.Operators.{unary_values, binary_values}
+use Rattle.p8_words.specs.Operators.{unary_values, binary_values}
 use Rattle.p8_meaning.specs.Programs.{File, Program, Addresses, Instance, Target}
 use Rattle.p8_meaning.specs.Lives.{says}
 

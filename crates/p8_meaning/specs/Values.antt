@@ -3,7 +3,7 @@
 -- Every sum and difference is taken mod 2 ^ 32.
 use Rattle.std.specs.Prelude.{ℕ, ◌+◌, ◌-◌, ◌*◌, ◌/◌, ◌%◌, ◌^◌, ◌==◌, min, not, ◌&&◌, ◌||◌, Bool, int_le, nat_lt, nat_le, bit_and, bit_or, if◌then◌else◌}
 use Rattle.p8_words.specs.Words.{signed_value, reversed}
-use Rattle.p8_operators.specs.Operators.{is_unary, unary_value, binary_value}
+use Rattle.p8_words.specs.Operators.{is_unary, unary_value, binary_value}
 
 -- ---- signed values
 

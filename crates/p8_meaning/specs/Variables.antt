@@ -10,7 +10,7 @@ use Rattle.p8_access.specs.Proper.{bytes_in}
 use Rattle.p8_tree.specs.Names.{result_word}
 use Rattle.p8_kinds.specs.declared.name_kinds.NameKind.{NameKind}
 use Rattle.p8_kinds.specs.declared.name_kinds.NameKind.TheVariants.{Local, Global, Label}
-use Rattle.p8_operators.specs.Operators.{binary_value}
+use Rattle.p8_words.specs.Operators.{binary_value}
 use Rattle.p8_meaning.specs.Values.{ones, pins_in, pins_of, with_pins, changed, gives_old}
 use Rattle.p8_meaning.specs.Programs.{Scope, kind_of}
 use Rattle.p8_meaning.specs.Doing.{Rest, Gives, Registers, owns, asks, tells, reads, writes}

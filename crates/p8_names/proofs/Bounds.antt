@@ -6,7 +6,7 @@ use Rattle.std.proofs.Math.Nat.{div-add-mod', div-le_self, mod-lt, pow-le-pow_ri
 use Rattle.std.specs.Int.{int_div_euclid, reverse_bits_onto}
 use Rattle.p8_words.specs.Words.{word_of, signed_value, greatest, square_root, shifted_right, rotated_left, rotated_right, reversed, highest_one, power_of_two}
 use Rattle.p8_words.proofs.Bits.{reversed-onto}
-use Rattle.p8_operators.specs.Operators.{truth, is_true, is_below, beside, unary_values, binary_values, unary_result, binary_result}
+use Rattle.p8_words.specs.Operators.{truth, is_true, is_below, beside, unary_values, binary_values, unary_result, binary_result}
 
 -- ---- formulas
 

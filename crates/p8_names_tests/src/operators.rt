@@ -1,5 +1,5 @@
 // Worked values of operators.
-use p8_operators::{binary, is_unary, unary};
+use p8_words::{binary, is_unary, unary};
 
 #[test]
 fn worked_values(rt: HostRuntime) {

@@ -4,7 +4,7 @@ use Rattle.std.specs.Str.{bytes_eq}
 use Rattle.p8_tree.specs.Names.{result_word}
 use Rattle.p8_tree.specs.Expressions.{Tree, node, Form, Number, Str, Here, Var, Call, Unary, Binary, Assign, Change, Address, ObjectAddress, ObjConst, Built, Look, Variable, Named, Part, Memory, Register, no_index, index, whole, bits, Trees, no_trees, ◌▷◌}
 use Rattle.p8_tree.specs.Proper.{IsProperTree, IsProperForm, AreProperTrees}
-use Rattle.p8_operators.specs.Operators.{or_zero, divides, unary_result, binary_result}
+use Rattle.p8_words.specs.Operators.{or_zero, divides, unary_result, binary_result}
 use Rattle.p8_fold.specs.declared.meanings.Meaning.{Meaning}
 use Rattle.p8_fold.specs.declared.meanings.Meaning.TheVariants as meaning_case
 use Rattle.p8_fold.specs.Meanings.{Setting, meaning_of, value_of_meaning, address_of_meaning, given}

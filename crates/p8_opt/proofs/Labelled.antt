@@ -11,7 +11,7 @@ use Rattle.p8_tree.specs.Sources as trees
 use Rattle.p8_tree.specs.Sources.{Contents, Datum, Line, MethodTree, BlockTree, Source}
 use Rattle.p8_tree.specs.Projects.{NamedSource}
 use Rattle.p8_tree.specs.Proper.{IsSize, IfThere, IsProperFile, IsProperBlock, IsProperLine, IsProperDatum, AreProperContents}
-use Rattle.p8_operators.specs.Operators.{or_zero}
+use Rattle.p8_words.specs.Operators.{or_zero}
 use Rattle.p8_fold.specs.Meanings.{Setting}
 use Rattle.p8_fold.specs.Values.{value}
 use Rattle.p8_dat.specs.Encoding.{long_of_line}

@@ -12,7 +12,7 @@ use Rattle.p8_tree.specs.Sources.{Contents, Datum, Declared, MethodTree, BlockTr
 use Rattle.p8_tree.specs.Proper.{is_size, IsSize, IfThere, IsProperFile, IsProperBlock, IsProperDatum, AreProperContents}
 use Rattle.p8_faults.specs.declared.faults.Fault.{Fault}
 use Rattle.p8_faults.specs.Faults.{fault}
-use Rattle.p8_operators.specs.Operators.{or_zero}
+use Rattle.p8_words.specs.Operators.{or_zero}
 use Rattle.p8_fold.specs.Meanings.{Setting}
 use Rattle.p8_fold.specs.Values.{value, is_zero}
 use Rattle.p8_fold.proofs.Judged.{one_outcome}

@@ -2,7 +2,7 @@
 use Rattle.std.specs.Prelude.{ℕ, zero, suc, ◌+◌, ◌-◌, ◌%◌, List, [], ◌∷◌, length, map, slice_get, slice_index, Option, option_map, unwrap_or, nat_le, if◌then◌else◌}
 use Rattle.p8_tree.specs.Sources.{Child, Source}
 use Rattle.p8_tree.specs.Projects.{NamedSource}
-use Rattle.p8_operators.specs.Operators.{or_zero}
+use Rattle.p8_words.specs.Operators.{or_zero}
 use Rattle.p8_constants.specs.FileItems.{items}
 use Rattle.p8_kinds.specs.declared.children.Children.{Children}
 use Rattle.p8_kinds.specs.declared.kinds.Kinds.{Kinds}

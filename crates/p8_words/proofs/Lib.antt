@@ -1,2 +1,3 @@
 pub mod Greatest
 pub mod Bits
+mod Rotations

@@ -1,2 +1,4 @@
 -- What the public contracts cite.
 pub mod Words
+-- What public contracts cite.
+pub mod Operators

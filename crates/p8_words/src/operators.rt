@@ -1,9 +1,11 @@
 // The values of operators on words.
 ghost use Rattle.std.specs.Prelude.{◌≡◌, ◌<◌, ◌-◌, ◌^◌, pos, neg_ℤ, ◌-ℤ◌, unsigned_abs};
 ghost use Rattle.p8_words.specs.Words.{word_of, signed_value, shifted_right_signed, rotated_left, rotated_right};
-ghost use Rattle.p8_operators.specs.Operators.{truth, is_below, unary_result, binary_result, is_unary, unary_value, binary_value, divides};
+ghost use Rattle.p8_words.specs.Operators.{truth, is_below, unary_result, binary_result, is_unary, unary_value, binary_value, divides};
 
-use p8_words::{add_wrap, decode, divide, encode, high_signed, remainder, reverse, root, signed};
+use crate::words::{
+    add_wrap, decode, divide, encode, high_signed, remainder, reverse, root, signed,
+};
 
 // -1 for true, 0 for false.
 fn truth(is_so: bool) -> u32

@@ -1,6 +1,6 @@
 use Rattle.std.proofs.Common.{◌∙◌}
-use Rattle.p8_operators.proofs.Rotations.{rotate_left-is}
-use Rattle.p8_operators.proofs.operators.rotated_left.Goals as goal
+use Rattle.p8_words.proofs.Rotations.{rotate_left-is}
+use Rattle.p8_words.proofs.operators.rotated_left.Goals as goal
 
 pub returns : goal.returns
 returns c = c.rotate_left.ensures ∙ rotate_left-is c.args.a c.args.n c.ranges.a.fits c.requires
