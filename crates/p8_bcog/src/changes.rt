@@ -9,7 +9,7 @@ use crate::places::left_of;
 use crate::state::State;
 use crate::step::{Step, Wanted};
 use p8_access::Reason;
-use p8_bytecode::Op;
+use p8_instr::Op;
 use p8_words::is_unary;
 
 /// How many longs an effect leaves.

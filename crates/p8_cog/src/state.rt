@@ -10,8 +10,7 @@ use crate::hub::value_in;
 use crate::kind::{INB, PAR, source_access};
 use crate::registers::{LOADED_LONGS, Registers};
 use p8_access::{Access, Turn};
-use p8_alu::{Effect, execute};
-use p8_instr::{ALWAYS, FLAG_C, Instr};
+use p8_instr::{ALWAYS, Effect, FLAG_C, Instr, execute};
 use p8_words::NoMemory;
 use std::alloc::Global;
 

@@ -10,7 +10,7 @@ use Rattle.p8_access.specs.declared.order.Turn.{Turn}
 use Rattle.p8_access.specs.Boots.{ram_of}
 use Rattle.p8_access.specs.Worlds.{World}
 use Rattle.p8_access.specs.Hub.{value_at}
-use Rattle.p8_disassembly.specs.Numerals.{hex}
+use Rattle.p8_instr.specs.Numerals.{hex}
 use Rattle.p8_finish.specs.Made.{made_bytes}
 
 -- the run: the made program as PASM in cog 0 with code $0000 and PAR $0000, without a pin script, below clock 100,000

@@ -3,13 +3,13 @@ ghost use Rattle.std.specs.Prelude.{◌≡◌, ◌++◌, ◌∷◌, [], codes, r
 ghost use Rattle.std.specs.Fmt.{decimal};
 ghost use Rattle.p8_access.specs.Worlds.{World};
 ghost use Rattle.p8_hub.specs.Standing.{IsHub};
-ghost use Rattle.p8_disassembly.specs.Numerals.{hex};
+ghost use Rattle.p8_instr.specs.Numerals.{hex};
 ghost use Rattle.p8_finish.specs.Summary.{last_key, last_line, summary_of};
 
 use crate::hub_words::sum_of_words;
 use itoa::Buffer;
 use p8_access::{Key, Turn};
-use p8_disassembly::{long_digits, push_text};
+use p8_instr::{long_digits, push_text};
 use p8_ledger::Ended;
 use p8_words::NoMemory;
 use std::alloc::Global;

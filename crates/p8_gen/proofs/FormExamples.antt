@@ -11,8 +11,8 @@ use Rattle.p8_kinds.specs.declared.name_kinds.NameKind.TheVariants as kinds
 use Rattle.p8_fold.specs.declared.meanings.Meaning.{Meaning}
 use Rattle.p8_fold.specs.declared.meanings.Meaning.TheVariants as meaning
 use Rattle.p8_fold.specs.Meanings.{outside_operands}
-use Rattle.p8_bytecode.specs.Spelling.{spelled}
-use Rattle.p8_bytecode.specs.Table.{rows}
+use Rattle.p8_instr.specs.Spelling.{spelled}
+use Rattle.p8_instr.specs.Table.{rows}
 use Rattle.p8_gen.specs.Names.{Names, all_wide}
 use Rattle.p8_gen.specs.Pieces.{empty}
 use Rattle.p8_gen.specs.Expressions.{alone}

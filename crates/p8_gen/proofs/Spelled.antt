@@ -6,10 +6,10 @@ use Rattle.p8_tree.specs.declared.places.Place.{Place}
 use Rattle.p8_tree.specs.Expressions.{Tree, node, Form, Number, Str, Here, Var, Call, Unary, Binary, Assign, Change, Address, ObjectAddress, ObjConst, Built, Look, Variable, Named, Part, Memory, Register, Index, no_index, index, whole, bits, single, range, Trees, no_trees, ◌▷◌, Items, no_items, ◌▸◌}
 use Rattle.p8_tree.specs.Lists.{tree_list, count_of_trees}
 use Rattle.p8_tree.specs.Proper.{IfThere, is_binary, is_change, is_operator_alone, gives_value, gives_no_value, arguments_fit, arguments_fit_alone, IsProperTree, IsProperForm, IsProperVariable, IsProperIndex, AreProperTrees, AreProperItems, IsDoneForm, IsDone}
-use Rattle.p8_bytecode.specs.Table.{rows, operands_of}
-use Rattle.p8_bytecode.specs.Reading.{bare, has_base, changes_variable}
-use Rattle.p8_bytecode.specs.Spelling.{IsPlace, IsChange}
-use Rattle.p8_bytecode.specs.declared.operands.Operands.TheVariants as operands
+use Rattle.p8_instr.specs.Table.{rows, operands_of}
+use Rattle.p8_instr.specs.Reading.{bare, has_base, changes_variable}
+use Rattle.p8_instr.specs.Spelling.{IsPlace, IsChange}
+use Rattle.p8_instr.specs.declared.operands.Operands.TheVariants as operands
 use Rattle.p8_faults.specs.declared.faults.Fault.{Fault}
 use Rattle.p8_faults.specs.Faults.{fault}
 use Rattle.p8_words.specs.Operators.{or_zero}

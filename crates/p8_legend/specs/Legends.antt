@@ -1,7 +1,7 @@
 -- Addresses and places in the words of a program (this project's profile).
 use Rattle.std.specs.Prelude.{ℕ, nat_eq, if◌then◌else◌, List, [], ◌++◌, Option, Some, None, codes}
 use Rattle.std.specs.Fmt.{decimal}
-use Rattle.p8_disassembly.specs.Numerals.{hex}
+use Rattle.p8_instr.specs.Numerals.{hex}
 use Rattle.p8_legend.specs.declared.ranges.Found.{Found}
 use Rattle.p8_legend.specs.declared.ranges.Ranges.{Ranges}
 use Rattle.p8_legend.specs.Ranges.{found_at, text_of}

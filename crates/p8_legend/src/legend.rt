@@ -5,7 +5,7 @@ ghost use Rattle.p8_legend.specs.Ranges.{range_named};
 
 use crate::ranges::Ranges;
 use itoa::Buffer;
-use p8_disassembly::{push_text, word_digits};
+use p8_instr::{push_text, word_digits};
 use p8_words::NoMemory;
 use std::alloc::Global;
 

@@ -5,8 +5,8 @@ use Rattle.std.proofs.lemmas.Option.{none-some, same_Some, slice_get_within}
 use Rattle.p8_tree.specs.declared.places.Place.{Place}
 use Rattle.p8_tree.specs.Projects.{NamedSource}
 use Rattle.p8_tree.specs.Sources.{MethodTree, Source}
-use Rattle.p8_bytecode.specs.declared.op.Op.{Op}
-use Rattle.p8_bytecode.specs.Spelling.{spelled}
+use Rattle.p8_instr.specs.declared.op.Op.{Op}
+use Rattle.p8_instr.specs.Spelling.{spelled}
 use Rattle.p8_kinds.specs.declared.children.Children.{Children}
 use Rattle.p8_constants.specs.FileItems.{items}
 use Rattle.p8_names.specs.Kinds.{numbered}

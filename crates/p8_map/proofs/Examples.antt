@@ -8,7 +8,7 @@ use Rattle.p8_image.specs.declared.parts.Variable.{Variable}
 use Rattle.p8_image.specs.declared.parts.MethodPart.{MethodPart}
 use Rattle.p8_image.specs.declared.parts.ObjectPart.{ObjectPart}
 use Rattle.p8_image.specs.Layout.{variables_within}
-use Rattle.p8_disassembly.specs.Numerals.{hex}
+use Rattle.p8_instr.specs.Numerals.{hex}
 use Rattle.p8_map.specs.declared.names.LocalName.{LocalName}
 use Rattle.p8_map.specs.declared.names.MethodNames.{MethodNames}
 use Rattle.p8_map.specs.declared.names.FileNames.{FileNames}

@@ -1,11 +1,11 @@
 // The lines of an image's header, and of the memory after the variables.
 ghost use Rattle.std.specs.Prelude.{◌≡◌, ◌++◌, ◌<◌, slice_index, codes, OnOk};
-ghost use Rattle.p8_disassembly.specs.Numerals.{hex};
+ghost use Rattle.p8_instr.specs.Numerals.{hex};
 ghost use Rattle.p8_image.specs.Headers.{word_at as word_in};
 ghost use Rattle.p8_map.specs.Map.{byte_line, clock_lines, field_line, header_lines, memory_lines, place_lines, word_line};
 
 use crate::text::{push_number, push_place};
-use p8_disassembly::{byte_digits, push_text, word_digits};
+use p8_instr::{byte_digits, push_text, word_digits};
 use p8_words::NoMemory;
 
 /// How many bytes the hub's memory has.

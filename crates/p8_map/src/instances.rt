@@ -6,8 +6,8 @@ ghost use Rattle.p8_map.specs.Map.{all_inside, further as further_by, instances_
 use crate::names::FileNames;
 use crate::plan::{number_at, own_variables, sizes};
 use crate::text::further;
-use p8_disassembly::push_text;
 use p8_image::{ObjectPart, Variable};
+use p8_instr::push_text;
 use p8_tree::{List, Text};
 use p8_words::NoMemory;
 use std::alloc::Global;

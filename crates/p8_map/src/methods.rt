@@ -4,8 +4,8 @@ ghost use Rattle.p8_map.specs.Map.{frame_line, frame_lines, local_lines, method_
 
 use crate::names::{LocalName, MethodNames};
 use crate::text::{further, push_number, push_place};
-use p8_disassembly::push_text;
 use p8_image::MethodPart;
+use p8_instr::push_text;
 use p8_tree::Text;
 use p8_words::NoMemory;
 

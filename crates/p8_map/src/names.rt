@@ -10,8 +10,8 @@ ghost use Rattle.p8_map.specs.Names.{element_name, element_names, file_names, in
 
 use itoa::Buffer;
 use p8_constants::{Item, count_value, items_of};
-use p8_disassembly::push_text;
 use p8_fold::Consts;
+use p8_instr::push_text;
 use p8_kinds::Label;
 use p8_names::numbered;
 use p8_tree::{Expr, List, Method, ProjectFile, Text, VarItem};

@@ -8,8 +8,8 @@ use crate::names::FileNames;
 use crate::plan::number_at;
 use crate::text::push_place;
 use crate::variables::push_variables;
-use p8_disassembly::push_text;
 use p8_image::ObjectPart;
+use p8_instr::push_text;
 use p8_words::NoMemory;
 
 /// Appends what the line of an instance has after what its names begin with: its file, and where its object stands.

@@ -1,11 +1,11 @@
 // Texts that are appended.
 ghost use Rattle.std.specs.Prelude.{◌≡◌, ◌++◌, codes, OnOk};
 ghost use Rattle.std.specs.Fmt.{decimal};
-ghost use Rattle.p8_disassembly.specs.Numerals.{hex};
+ghost use Rattle.p8_instr.specs.Numerals.{hex};
 ghost use Rattle.p8_map.specs.Map.{further as further_by, size_word as word_of_size};
 
 use itoa::Buffer;
-use p8_disassembly::{push_text, word_digits};
+use p8_instr::{push_text, word_digits};
 use p8_words::NoMemory;
 
 /// Appends an address.

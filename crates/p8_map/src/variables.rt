@@ -4,8 +4,8 @@ ghost use Rattle.p8_map.specs.Map.{after_size as after_variables, elements, size
 
 use crate::plan::variable_bytes;
 use crate::text::{further, push_number, push_place, size_word};
-use p8_disassembly::push_text;
 use p8_image::Variable;
+use p8_instr::push_text;
 use p8_tree::Text;
 use p8_words::NoMemory;
 

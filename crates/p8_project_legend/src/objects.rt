@@ -5,8 +5,8 @@ ghost use Rattle.p8_image.specs.Layout.{codes_offset};
 ghost use Rattle.p8_project_legend.specs.Legends.{and_one, label_end, with_labels, with_methods, with_object, with_objects};
 
 use crate::paths::push_path;
-use p8_disassembly::push_text;
 use p8_image::{MethodPart, ObjectPart, Offsets};
+use p8_instr::push_text;
 use p8_kinds::Label;
 use p8_legend::{Range, Ranges};
 use p8_map::{FileNames, MethodNames};

@@ -2,8 +2,8 @@
 ghost use Rattle.std.specs.Prelude.{◌≡◌, ◌++◌, None, Some, MatchOption, OnOk};
 ghost use Rattle.p8_project_legend.specs.Legends.{first_inside, name_inside as name_among, path_behind, path_of};
 
-use p8_disassembly::push_text;
 use p8_image::ObjectPart;
+use p8_instr::push_text;
 use p8_map::FileNames;
 use p8_tree::Text;
 use p8_words::NoMemory;

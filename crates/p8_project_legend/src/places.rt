@@ -4,7 +4,7 @@ ghost use Rattle.p8_legend.specs.Ranges.{with_range};
 ghost use Rattle.p8_project_legend.specs.Legends.{and_one, method_name as name_of_method, row_text, with_rows};
 
 use itoa::Buffer;
-use p8_disassembly::push_text;
+use p8_instr::push_text;
 use p8_legend::{Range, Ranges};
 use p8_line_table::Row;
 use p8_map::{FileNames, MethodNames};

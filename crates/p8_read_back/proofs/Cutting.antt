@@ -18,7 +18,7 @@ use Rattle.p8_lexer.proofs.RunLemmas.{digits_longest}
 use Rattle.p8_lexer.proofs.Pieces.{number_cut}
 use Rattle.p8_lexer.proofs.Symbols.{passes_at, at_tag}
 use Rattle.p8_lexer.proofs.Cuts.{name_cut, no_float_at, other_only, symbol_cut}
-use Rattle.p8_disassembly.specs.Numerals.{glyph}
+use Rattle.p8_instr.specs.Numerals.{glyph}
 
 -- names
 

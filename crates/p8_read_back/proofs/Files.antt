@@ -27,7 +27,7 @@ use Rattle.p8_printed.proofs.Going.{Going}
 use Rattle.p8_printed.proofs.Going.{so as going_so}
 use Rattle.p8_instr.specs.Instruction.{instr_of, FitsFields}
 use Rattle.p8_dat.specs.Printed.{printed_line}
-use Rattle.p8_disassembly.specs.Instructions.{instruction_text}
+use Rattle.p8_instr.specs.Instructions.{instruction_text}
 use Rattle.p8_read_back.specs.ReadBack.{source_with, source_text, nop_line, read_line, IsLineOf, file_with}
 use Rattle.p8_read_back.proofs.Words.{Lettered, lettered}
 use Rattle.p8_read_back.proofs.Reading.{Found, Reads, so, Worded, AtFront, blanks_read, line_end_read, end_read, word_read, first_read}

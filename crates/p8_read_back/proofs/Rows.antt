@@ -37,7 +37,7 @@ use Rattle.p8_printed.proofs.InstructionsRead.{Starts, line_starts, conditioned_
 use Rattle.p8_instr.specs.declared.instruction.Instr as instr
 use Rattle.p8_instr.specs.Instruction.{writes_z, writes_c, writes_result, is_immediate}
 use Rattle.p8_dat.specs.Printed.{effects_of, printed_line}
-use Rattle.p8_disassembly.specs.Instructions.{word_text}
+use Rattle.p8_instr.specs.Instructions.{word_text}
 use Rattle.p8_read_back.specs.ReadBack.{read_line}
 use Rattle.p8_read_back.proofs.Words.{has_class, WordFor, condition_is}
 use Rattle.p8_read_back.proofs.Reading.{Worded, Numbered}

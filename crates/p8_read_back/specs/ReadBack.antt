@@ -7,7 +7,7 @@ use Rattle.p8_tree.specs.declared.places.Place.{Place}
 use Rattle.p8_tree.specs.Sources.{Instruction, Instr, Line, Dat, Source}
 use Rattle.p8_instr.specs.Instruction.{instr_of}
 use Rattle.p8_dat.specs.Printed.{printed_line}
-use Rattle.p8_disassembly.specs.Instructions.{long_text}
+use Rattle.p8_instr.specs.Instructions.{long_text}
 
 -- a source that has this text as the only line of its DAT
 abbrev pub source_with : List ℕ → List ℕ

@@ -13,7 +13,7 @@ ghost use Rattle.p8_names.specs.Faults.{IsNameFault};
 ghost use Rattle.p8_dat.specs.Blocks.{dat_bytes, IsDatFault};
 ghost use Rattle.p8_read_back.specs.ReadBack.{source_text, IsLineOf, file_with, start};
 
-/// Law: the text that [`instr_text`](p8_disassembly::instr_text) gives for a long, as the only line of a source's `DAT`, has tokens, and
+/// Law: the text that [`instr_text`](p8_instr::instr_text) gives for a long, as the only line of a source's `DAT`, has tokens, and
 /// they are the file with the line of this long. It is no longer than a source may be.
 ///
 /// So [`lex`](p8_lexer::lex) and [`parse`](p8_blocks::parse) give these tokens and this file by their contracts, or answer that there

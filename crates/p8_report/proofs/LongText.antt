@@ -1,6 +1,6 @@
 -- The eight digits of a long, two at a time.
 use Rattle.std.proofs.Common.{◌≡◌, ℕ, suc, ◌/◌, List, ◌++◌, refl, ap, ◌∙◌, arith, append_assoc}
-use Rattle.p8_disassembly.specs.Numerals.{hex}
+use Rattle.p8_instr.specs.Numerals.{hex}
 
 -- the last two digits after the others
 last_two : (width n : ℕ) → hex (suc (suc width)) n ≡ hex width (n / 256) ++ hex 2 n

@@ -22,7 +22,7 @@ use Rattle.p8_access.specs.declared.states.CogState.TheVariants.{Stopped, Starti
 use Rattle.p8_access.specs.Worlds.{World}
 use Rattle.p8_access.specs.Hub.{byte_at, is_taken, is_set, cog_state, origin_of, cogs, locks}
 use Rattle.p8_access.specs.Pins.{dira, outputs}
-use Rattle.p8_disassembly.specs.Numerals.{hex}
+use Rattle.p8_instr.specs.Numerals.{hex}
 
 -- the number or the previous state in an answer
 abbrev pub number_text : Answer → List ℕ

@@ -1,7 +1,7 @@
 // The text of an access with its answer, in a line.
 ghost use Rattle.std.specs.Prelude.{◌≡◌, ◌≤◌, ◌+◌, ◌++◌, List, codes, length, take};
 ghost use Rattle.std.specs.Fmt.{decimal};
-ghost use Rattle.p8_disassembly.specs.Numerals.{hex};
+ghost use Rattle.p8_instr.specs.Numerals.{hex};
 ghost use Rattle.p8_access.specs.declared.order.Turn.{Turn};
 ghost use Rattle.p8_access.specs.Worlds.{World};
 ghost use Rattle.p8_access.specs.Hub.{cog_state, origin_of};
@@ -14,7 +14,7 @@ use crate::line::{
 use crate::origins::Origins;
 use crate::words::{code_in, kind_name, parameter_in, value_in};
 use p8_access::{Access, Answer, Origin, Reason, Test, Width};
-use p8_disassembly::register_digits;
+use p8_instr::register_digits;
 
 /// A text, and where a cog's code begins, with PAR or the frame.
 fn write_origin(page: &mut [u8; PAGE], at: usize, text: &[u8], origin: &Origin) -> usize

@@ -6,12 +6,12 @@ ghost use Rattle.p8_access.specs.declared.order.Turn.{Turn};
 ghost use Rattle.p8_access.specs.Worlds.{World};
 ghost use Rattle.p8_access.specs.Hub.{byte_at};
 ghost use Rattle.p8_hub.specs.Standing.{IsHub};
-ghost use Rattle.p8_disassembly.specs.Numerals.{hex};
+ghost use Rattle.p8_instr.specs.Numerals.{hex};
 ghost use Rattle.p8_report.specs.Text.{dump_line, dump_text};
 
 use crate::phrases::push_byte;
-use p8_disassembly::{push_text, word_digits};
 use p8_hub::Hub;
+use p8_instr::{push_text, word_digits};
 use p8_words::NoMemory;
 
 /// Appends the bytes from an address on, each after a space.

@@ -14,6 +14,6 @@ mod words;
 
 pub use dump::push_dump;
 pub use history_text::trace;
-pub use p8_disassembly::instr_text;
+pub use p8_instr::instr_text;
 pub use phrases::{push_longs, push_numbered};
 pub use words::{code_in, kind_name, parameter_in, value_in};

@@ -1,10 +1,10 @@
 // Lines that are made on a page. Each call writes after what stands before `at`, and answers where that ends.
 ghost use Rattle.std.specs.Prelude.{◌≡◌, ◌<◌, ◌≤◌, ◌+◌, ◌++◌, length, take};
 ghost use Rattle.std.specs.Fmt.{decimal};
-ghost use Rattle.p8_disassembly.specs.Numerals.{hex};
+ghost use Rattle.p8_instr.specs.Numerals.{hex};
 
 use itoa::Buffer;
-use p8_disassembly::{byte_digits, word_digits};
+use p8_instr::{byte_digits, word_digits};
 
 /// How many bytes a page has. Lines are appended to a text a page at a time.
 pub const PAGE: usize = 4096;

@@ -1,10 +1,10 @@
 // Texts that are appended, with the numbers after them.
 ghost use Rattle.std.specs.Prelude.{◌≡◌, ◌++◌, codes, OnOk};
 ghost use Rattle.std.specs.Fmt.{decimal};
-ghost use Rattle.p8_disassembly.specs.Numerals.{hex};
+ghost use Rattle.p8_instr.specs.Numerals.{hex};
 
 use itoa::Buffer;
-use p8_disassembly::{byte_digits, long_digits, push_text};
+use p8_instr::{byte_digits, long_digits, push_text};
 use p8_words::NoMemory;
 
 /// A text and a number in decimal digits, without leading zeros.

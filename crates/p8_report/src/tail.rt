@@ -9,8 +9,8 @@ ghost use Rattle.p8_report.specs.Text.{ended_text, lock_glyph, locks_text, pins_
 use crate::phrases::{push_longs, push_numbered};
 use crate::words::kind_name;
 use p8_access::CogState;
-use p8_disassembly::push_text;
 use p8_hub::Hub;
+use p8_instr::push_text;
 use p8_words::NoMemory;
 
 /// Why a history of `count` turns ended, where there were to be at most `limit`.

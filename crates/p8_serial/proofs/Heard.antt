@@ -7,7 +7,7 @@ use Rattle.std.proofs.Math.Nat.{mul-suc, suc-mul}
 use Rattle.std.proofs.lemmas.Nat.{mod-pow-add}
 use Rattle.std.proofs.lemmas.Nat.Bits.{bit_at-lt}
 use Rattle.std.proofs.lemmas.List.Elements.{All-head, All-tail}
-use Rattle.p8_disassembly.specs.Numerals.{hex}
+use Rattle.p8_instr.specs.Numerals.{hex}
 use Rattle.p8_pins.specs.Levels.{is_high}
 use Rattle.p8_serial.specs.Serial.{stop_of, frames, number_at, byte_at, is_good, frame_text, frames_text}
 use Rattle.p8_serial.specs.Typed.{has_bit, frame_of, line_at, lines_from}

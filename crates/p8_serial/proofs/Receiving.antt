@@ -4,7 +4,7 @@ use Rattle.std.specs.Fmt.{decimal}
 use Rattle.std.proofs.lemmas.Nat.{pow-add, pow_below}
 use Rattle.std.proofs.lemmas.Bool.{cases_lt}
 use Rattle.p8_access.specs.Worlds.{Line, levels_after}
-use Rattle.p8_disassembly.specs.Numerals.{hex}
+use Rattle.p8_instr.specs.Numerals.{hex}
 use Rattle.p8_pins.specs.Levels.{is_high}
 use Rattle.p8_pins.specs.LevelChanges.{RiseFrom, Within, IsLater, Ahead, pins_from, pins_after, HasPassed}
 use Rattle.p8_pins.proofs.Passing.{passes, passed-both, passed-agrees, passed-rise, rise-later, rise-from}

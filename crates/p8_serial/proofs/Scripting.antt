@@ -14,7 +14,7 @@ use Rattle.std.proofs.lemmas.Bool.Decides.{nat_tests}
 use Rattle.std.proofs.lemmas.List.{length-map}
 use Rattle.p8_access.specs.Worlds.{Line}
 use Rattle.p8_pins.specs.Scripts.{is_skipped, Carries, clocks_of, most_lines, most_bytes, IsScript, IsReadAs}
-use Rattle.p8_disassembly.specs.Numerals.{glyph, hex}
+use Rattle.p8_instr.specs.Numerals.{glyph, hex}
 use Rattle.p8_pins.specs.LevelChanges.{RiseFrom}
 use Rattle.p8_pins.proofs.Passing.{rise-from}
 use Rattle.p8_serial.specs.Typed.{frame_of, line_at, line_text, lines_from, sent, typed_text}

@@ -4,7 +4,7 @@ use Rattle.std.specs.Fmt.{decimal}
 use Rattle.p8_access.specs.declared.order.Turn.{Turn}
 use Rattle.p8_access.specs.Worlds.{World}
 use Rattle.p8_access.specs.Pins.{dira}
-use Rattle.p8_disassembly.specs.Numerals.{hex}
+use Rattle.p8_instr.specs.Numerals.{hex}
 use Rattle.p8_pins.specs.Levels.{by, is_high, end_of}
 use Rattle.p8_serial.specs.Typed.{sent}
 

@@ -3,7 +3,7 @@
 use Rattle.std.specs.Prelude.{ℕ, ◌+◌, ◌≡◌, ◌≤◌, ◌&&◌, if◌then◌else◌, Bool, not, List, [], ◌∷◌, ◌++◌, codes, filter, flat_map, length}
 use Rattle.std.specs.Fmt.{decimal}
 use Rattle.p8_access.specs.Worlds.{Line}
-use Rattle.p8_disassembly.specs.Numerals.{hex}
+use Rattle.p8_instr.specs.Numerals.{hex}
 use Rattle.p8_pins.specs.Levels.{is_high}
 use Rattle.p8_pins.specs.LevelChanges.{Ahead, RiseFrom, pins_from}
 use Rattle.p8_serial.specs.Serial.{stop_of, frames, falling_edges, is_good, frame_text}

@@ -8,7 +8,7 @@ ghost use Rattle.p8_serial.specs.Serial.{stop_of, byte_at, frames, serial_by};
 ghost use Rattle.p8_serial.specs.Receiving.{falls_in, level_in, IsPast, IsReceiving, IsNext, line_of_frame};
 
 use crate::numbers::push_decimal;
-use p8_disassembly::{byte_digits, push_text};
+use p8_instr::{byte_digits, push_text};
 use p8_pins::{Change, Cursor};
 use p8_words::NoMemory;
 use std::alloc::Global;

@@ -3,7 +3,7 @@ ghost use Rattle.std.specs.Prelude.{◌≡◌, ◌++◌, OnOk};
 ghost use Rattle.std.specs.Fmt.{decimal};
 
 use itoa::Buffer;
-use p8_disassembly::push_text;
+use p8_instr::push_text;
 use p8_words::NoMemory;
 
 /// Appends a number in decimal digits.

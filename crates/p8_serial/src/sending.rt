@@ -4,7 +4,7 @@ ghost use Rattle.p8_serial.specs.Laws.{IsRate};
 ghost use Rattle.p8_serial.specs.Typed.{frame_of, has_bit, line_at, line_text, lines_from, typed_text};
 
 use crate::numbers::push_decimal;
-use p8_disassembly::{long_digits, push_text};
+use p8_instr::{long_digits, push_text};
 use p8_words::NoMemory;
 use std::alloc::Global;
 

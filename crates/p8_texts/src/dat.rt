@@ -3,7 +3,7 @@ ghost use Rattle.std.specs.Prelude.{◌≡◌, ◌<◌, ◌++◌, ◌∷◌, [],
 ghost use Rattle.p8_texts.specs.Listing.{long_by, long_line, long_lines, longs_of};
 
 use crate::text::{further, push_place};
-use p8_disassembly::{instr_text, long_digits, push_text};
+use p8_instr::{instr_text, long_digits, push_text};
 use p8_words::NoMemory;
 use std::alloc::Global;
 

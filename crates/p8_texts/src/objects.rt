@@ -8,8 +8,8 @@ use crate::code::push_code_lines;
 use crate::dat::push_dat_lines;
 use crate::text::{behind, further, push_place};
 use itoa::Buffer;
-use p8_disassembly::push_text;
 use p8_image::{MethodPart, ObjectPart, Offsets, linked_codes};
+use p8_instr::push_text;
 use p8_words::NoMemory;
 use std::alloc::Global;
 

@@ -1,9 +1,9 @@
 // Texts that are appended.
 ghost use Rattle.std.specs.Prelude.{◌≡◌, ◌≤◌, ◌++◌, length, drop, OnOk};
-ghost use Rattle.p8_disassembly.specs.Numerals.{hex};
+ghost use Rattle.p8_instr.specs.Numerals.{hex};
 ghost use Rattle.p8_texts.specs.Listing.{further as further_by};
 
-use p8_disassembly::{push_text, word_digits};
+use p8_instr::{push_text, word_digits};
 use p8_words::NoMemory;
 
 /// Appends an address.

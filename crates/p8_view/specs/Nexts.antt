@@ -8,7 +8,7 @@ use Rattle.p8_access.specs.declared.kinds.Test.TheVariants.{Count, PinsEqual, Pi
 use Rattle.p8_access.specs.declared.lives.Next.{Next}
 use Rattle.p8_access.specs.declared.lives.Next.TheVariants.{At, Quiet, More}
 use Rattle.p8_access.specs.Hub.{or_else}
-use Rattle.p8_disassembly.specs.Numerals.{hex}
+use Rattle.p8_instr.specs.Numerals.{hex}
 use Rattle.p8_legend.specs.declared.ranges.Ranges.{Ranges}
 use Rattle.p8_view.specs.Words.{asked_text}
 

@@ -10,7 +10,7 @@ use Rattle.p8_access.specs.declared.kinds.Access.{Access}
 use Rattle.p8_access.specs.declared.kinds.Access.TheVariants.{Begin, Load, Read, Write, CogId, CogInit, CogStop, LockNew, LockRet, LockSet, LockClr, ClkSet, PinsIn, OutSet, DirSet, Wait, Clock, Halt}
 use Rattle.p8_access.specs.declared.kinds.Answer.{Answer}
 use Rattle.p8_access.specs.Proper.{value_of}
-use Rattle.p8_disassembly.specs.Numerals.{hex}
+use Rattle.p8_instr.specs.Numerals.{hex}
 use Rattle.p8_legend.specs.declared.ranges.Ranges.{Ranges}
 use Rattle.p8_legend.specs.Legends.{address_text}
 use Rattle.p8_report.specs.Text.{number_text, previous_text, width_text, digits_of, code_of, parameter_of, kind_text, reason_text}

@@ -7,7 +7,7 @@ ghost use Rattle.p8_legend.specs.Legends.{address_text};
 use crate::starts::{push_reason, push_start};
 use crate::words::{push_lock, push_long, push_number, push_value, width_name};
 use p8_access::{Access, Answer, Origin, Test, Width};
-use p8_disassembly::{byte_digits, push_text};
+use p8_instr::{byte_digits, push_text};
 use p8_legend::Legend;
 use p8_report::{code_in, push_longs, push_numbered, value_in};
 use p8_words::NoMemory;

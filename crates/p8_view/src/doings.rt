@@ -8,7 +8,7 @@ ghost use Rattle.p8_view.specs.Ending.{cog_line, doing, doing_text, last_of};
 use crate::nexts::Nexts;
 use crate::starts::push_reason;
 use p8_access::{Access, Answer, Next, Reason, Turn};
-use p8_disassembly::push_text;
+use p8_instr::push_text;
 use p8_report::push_numbered;
 use p8_words::NoMemory;
 

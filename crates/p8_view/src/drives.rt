@@ -3,7 +3,7 @@ ghost use Rattle.std.specs.Prelude.{◌≡◌, ◌<◌, ◌++◌, OnOk};
 ghost use Rattle.p8_pins.specs.Levels.{is_high};
 ghost use Rattle.p8_view.specs.Drives.{pin_changes, pin_text, pin_word as word_of_pin, pins_text};
 
-use p8_disassembly::push_text;
+use p8_instr::push_text;
 use p8_report::push_numbered;
 use p8_words::NoMemory;
 

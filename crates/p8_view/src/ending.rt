@@ -10,7 +10,7 @@ ghost use Rattle.p8_view.specs.Ending.{cog_line, end_text, last_clock as clock_o
 use crate::doings::Doings;
 use crate::nexts::Nexts;
 use p8_access::{Next, Turn};
-use p8_disassembly::push_text;
+use p8_instr::push_text;
 use p8_ledger::Limits;
 use p8_legend::Legend;
 use p8_report::push_numbered;

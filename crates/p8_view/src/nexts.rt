@@ -7,7 +7,7 @@ use crate::accesses::push_asked;
 use crate::words::push_long;
 use itoa::Buffer;
 use p8_access::{Access, Next, Test};
-use p8_disassembly::push_text;
+use p8_instr::push_text;
 use p8_legend::Legend;
 use p8_report::push_numbered;
 use p8_words::NoMemory;

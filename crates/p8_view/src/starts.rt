@@ -5,7 +5,7 @@ ghost use Rattle.p8_view.specs.Words.{start_text};
 
 use crate::words::push_long;
 use p8_access::{Origin, Reason};
-use p8_disassembly::{push_text, register_digits, word_digits};
+use p8_instr::{push_text, register_digits, word_digits};
 use p8_legend::Legend;
 use p8_report::{code_in, kind_name, parameter_in};
 use p8_words::NoMemory;

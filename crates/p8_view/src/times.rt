@@ -6,7 +6,7 @@ ghost use Rattle.p8_view.specs.View.{micro_text, rate, three_digits, time_text};
 use byteorder::{ByteOrder, LittleEndian};
 use itoa::Buffer;
 use p8_access::{Boot, Origin};
-use p8_disassembly::push_text;
+use p8_instr::push_text;
 use p8_words::NoMemory;
 
 /// The long at the begin of a memory.

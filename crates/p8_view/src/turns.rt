@@ -12,7 +12,7 @@ use crate::cogs::Cogs;
 use crate::drives::{Drives, push_pins};
 use crate::times::{push_time, rate_of};
 use p8_access::{Access, Origin, Turn};
-use p8_disassembly::push_text;
+use p8_instr::push_text;
 use p8_ledger::History;
 use p8_legend::Legend;
 use p8_report::push_numbered;

@@ -2,11 +2,11 @@
 ghost use Rattle.std.specs.Prelude.{◌≡◌, ◌++◌, codes, OnOk};
 ghost use Rattle.std.specs.Fmt.{decimal};
 ghost use Rattle.p8_access.specs.declared.kinds.Width.{Width};
-ghost use Rattle.p8_disassembly.specs.Numerals.{hex};
+ghost use Rattle.p8_instr.specs.Numerals.{hex};
 ghost use Rattle.p8_report.specs.Text.{digits_of, number_text, previous_text, width_text};
 
 use p8_access::{Answer, Width};
-use p8_disassembly::{byte_digits, long_digits, push_text, word_digits};
+use p8_instr::{byte_digits, long_digits, push_text, word_digits};
 use p8_report::push_numbered;
 use p8_words::NoMemory;
 

@@ -9,7 +9,7 @@ use crate::pictures::Picture;
 use crate::scale::Scale;
 use crate::texts::{push_declarations, push_scope_head, push_values};
 use crate::variables::Scope;
-use p8_disassembly::push_text;
+use p8_instr::push_text;
 use p8_words::NoMemory;
 use std::alloc::Global;
 

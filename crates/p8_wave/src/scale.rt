@@ -6,7 +6,7 @@ ghost use Rattle.p8_wave.specs.Scale.{frequency, period_of as period_in, power_o
 use crate::texts::push_numbered;
 use byteorder::{ByteOrder, LittleEndian};
 use p8_access::{Boot, Origin};
-use p8_disassembly::push_text;
+use p8_instr::push_text;
 use p8_words::NoMemory;
 
 /// The frequency in Hz where no image tells one.

@@ -8,7 +8,7 @@ use crate::entries::{Entry, entries, mark_changes};
 use crate::pictures::Picture;
 use crate::texts::push_changes;
 use itoa::Buffer;
-use p8_disassembly::push_text;
+use p8_instr::push_text;
 use p8_words::NoMemory;
 use std::alloc::Global;
 

@@ -9,7 +9,7 @@ use crate::entries::Entry;
 use crate::pictures::Picture;
 use crate::variables::{Scope, Variable};
 use itoa::Buffer;
-use p8_disassembly::push_text;
+use p8_instr::push_text;
 use p8_words::NoMemory;
 
 /// A text and a number in decimal digits.

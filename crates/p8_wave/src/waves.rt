@@ -14,7 +14,7 @@ use crate::heads::{push_first, push_head};
 use crate::scale::Scale;
 use crate::variables::Selection;
 use crate::walks::{Walk, walk_along};
-use p8_disassembly::push_text;
+use p8_instr::push_text;
 use p8_ledger::History;
 use p8_pins::{PinScript, run_end};
 use p8_words::NoMemory;

@@ -1,6 +1,6 @@
 use Rattle.std.proofs.Common.{◌∷◌, ◌+◌, ℕ, arith}
 use Rattle.p8_access.specs.Hub.{byte_at}
-use Rattle.p8_disassembly.specs.Numerals.{hex}
+use Rattle.p8_instr.specs.Numerals.{hex}
 use Rattle.p8_report.proofs.Ranges.{flat_map_step, in_ram}
 use Rattle.p8_report.proofs.dump.push_bytes.Goals as goal
 

@@ -4,7 +4,7 @@ use Rattle.p8_access.specs.declared.order.Turn.{Turn}
 use Rattle.p8_access.specs.Worlds.{World}
 use Rattle.p8_access.specs.Hub.{byte_at}
 use Rattle.p8_hub.specs.Standing.{IsHub}
-use Rattle.p8_disassembly.specs.Numerals.{hex}
+use Rattle.p8_instr.specs.Numerals.{hex}
 use Rattle.p8_report.proofs.dump.push_bytes.Given as goal
 
 abbrev pub invariant-loop-i : goal.invariant-loop-i

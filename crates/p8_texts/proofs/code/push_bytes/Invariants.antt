@@ -1,6 +1,6 @@
 use Rattle.std.proofs.Common.{◌≡◌, ◌++◌, ◌∷◌, ℕ, drop}
 use Rattle.std.specs.List.{flat_map}
-use Rattle.p8_disassembly.specs.Numerals.{hex}
+use Rattle.p8_instr.specs.Numerals.{hex}
 use Rattle.p8_texts.proofs.code.push_bytes.Given as goal
 
 abbrev pub invariant-loop-byte : goal.invariant-loop-byte

@@ -2,7 +2,7 @@ use Rattle.std.proofs.Common.{◌∙◌, sym, ap, ℕ, ◌++◌, codes}
 use Rattle.std.specs.Fmt.{decimal}
 use Rattle.std.proofs.lemmas.Result.{on_ok_weaker}
 use Rattle.p8_access.specs.declared.kinds.Test.{Test}
-use Rattle.p8_disassembly.specs.Numerals.{hex}
+use Rattle.p8_instr.specs.Numerals.{hex}
 use Rattle.p8_view.specs.Nexts.{awaited_text, missed_text}
 use Rattle.p8_view.proofs.Joined.{then_one, then_pair}
 use Rattle.p8_view.proofs.nexts.push_awaited.Goals as goal

@@ -1,6 +1,6 @@
 use Rattle.std.proofs.Common.{◌-◌, ◌∙◌, ◌^◌, ap, refl, sym, arith}
 use Rattle.p8_access.specs.Courses.{Finish}
-use Rattle.p8_bytecode.specs.Reading.{sign_extended}
+use Rattle.p8_instr.specs.Reading.{sign_extended}
 use Rattle.p8_bcog.specs.Bytecodes.{packed}
 use Rattle.p8_bcog.specs.Control.{jump, loop_begins, loop_ends, jump_if_zero, jump_unless_zero}
 use Rattle.p8_bcog.proofs.FirstBytes as quick

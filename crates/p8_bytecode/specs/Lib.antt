@@ -1,4 +1,0 @@
--- What the public contracts cite.
-pub mod Table
-pub mod Reading
-pub mod Spelling
