@@ -1,8 +1,8 @@
 -- The first refusal of a project.
 use Rattle.std.proofs.Common.{◌≡◌, ◌⊎◌, inl, inr, ℕ, ◌<◌, refl, ap, sym, ◌∙◌, subst, arith}
 use Rattle.p8_tree.specs.declared.places.Place.{Place}
-use Rattle.p8_faults.specs.declared.faults.Fault.{Fault}
-use Rattle.p8_faults.specs.Faults.{FaultBefore, Refusal, IsFirstRefusal}
+use Rattle.p8_tree.specs.declared.faults.Fault.{Fault}
+use Rattle.p8_tree.specs.Faults.{FaultBefore, Refusal, IsFirstRefusal}
 
 abbrev pub refusal : ℕ → ℕ → Fault → Refusal
 refusal phase file f = record { phase = phase; file = file; fault = f }

@@ -6,7 +6,7 @@ use Rattle.std.proofs.lemmas.List.Elements.{All-nil, All-cons, All-append, All-h
 use Rattle.p8_tree.specs.Sources as trees
 use Rattle.p8_tree.specs.Sources.{MethodTree, BlockTree, Source}
 use Rattle.p8_tree.specs.Proper.{IsProperMethod, IsProperBlock, IsProperFile}
-use Rattle.p8_faults.specs.declared.faults.Fault.{Fault}
+use Rattle.p8_tree.specs.declared.faults.Fault.{Fault}
 use Rattle.p8_constants.specs.FileItems.{Item, constant, variable, object, method, line, block_items, items}
 use Rattle.p8_constants.specs.Rules.{has_public}
 use Rattle.p8_names.specs.Kinds.{public_in, private_in, methods, publics, privates, numbered}

@@ -10,7 +10,7 @@ use Rattle.std.specs.declared.cmp.Ordering.TheVariants.{Less, Equal, Greater}
 use Rattle.std.proofs.lemmas.Bool.{cases_Bool}
 use Rattle.std.proofs.lemmas.Bool.Decides.{nat_tests}
 use Rattle.p8_tree.specs.declared.places.Place.{Place}
-use Rattle.p8_faults.specs.Faults.{is_same_place}
+use Rattle.p8_tree.specs.Faults.{is_same_place}
 use Rattle.p8_build.specs.declared.string_texts.StringText.{StringText}
 use Rattle.p8_constants.proofs.Listed.{rest_is_empty}
 use Rattle.p8_build.specs.Numbers.{text_of, place_cmp, at_place, number_in}

@@ -5,8 +5,8 @@ use Rattle.std.proofs.lemmas.Bool.Decides.{nat_tests}
 use Rattle.std.proofs.lemmas.Option.{slice_get_within}
 use Rattle.p8_tree.specs.declared.places.Place.{Place}
 use Rattle.p8_tree.specs.Sources.{MethodTree}
-use Rattle.p8_faults.specs.declared.faults.Fault.{Fault}
-use Rattle.p8_faults.specs.Faults.{fault, FaultBefore, IsFirstFault}
+use Rattle.p8_tree.specs.declared.faults.Fault.{Fault}
+use Rattle.p8_tree.specs.Faults.{fault, FaultBefore, IsFirstFault}
 use Rattle.p8_fold.specs.Verdicts.{first_of_two}
 use Rattle.p8_constants.specs.Standing.{IsFirstOf}
 use Rattle.p8_constants.proofs.FirstFaults.{IsSoFar, so_far_begin, so_far_same, so_far_then, so_far_end}

@@ -2,8 +2,8 @@
 use Rattle.std.proofs.Common.{◌≡◌, ◌⊎◌, inl, inr, ℕ, ◌<◌, ◌≤◌, ◌==◌, List, length, slice_get, Option, Some, None, refl, ap, sym, ◌∙◌, subst, arith}
 use Rattle.std.proofs.lemmas.Option.{slice_get_within, same_Some}
 use Rattle.p8_tree.specs.Projects.{NamedSource}
-use Rattle.p8_faults.specs.declared.faults.Fault.{Fault}
-use Rattle.p8_faults.specs.Faults.{Refusal, IsFirstRefusal}
+use Rattle.p8_tree.specs.declared.faults.Fault.{Fault}
+use Rattle.p8_tree.specs.Faults.{Refusal, IsFirstRefusal}
 use Rattle.p8_kinds.specs.declared.children.Children.{Children}
 use Rattle.p8_names.specs.Resolution.{IsNamed}
 use Rattle.p8_dat.specs.Blocks.{IsDatFault}

@@ -10,8 +10,8 @@ use Rattle.p8_tree.specs.Sources.{MethodTree, Source}
 use Rattle.p8_tree.specs.Projects.{NamedSource}
 use Rattle.p8_instr.specs.declared.op.Op.{Op}
 use Rattle.p8_instr.specs.Spelling.{spelled}
-use Rattle.p8_faults.specs.declared.faults.Fault.{Fault}
-use Rattle.p8_faults.specs.Faults.{fault, IsFirstFault, Refusal, IsFirstRefusal}
+use Rattle.p8_tree.specs.declared.faults.Fault.{Fault}
+use Rattle.p8_tree.specs.Faults.{fault, IsFirstFault, Refusal, IsFirstRefusal}
 use Rattle.p8_constants.specs.FileItems.{items}
 use Rattle.p8_constants.specs.Rules.{has_public}
 use Rattle.p8_kinds.specs.declared.children.Children.{Children}

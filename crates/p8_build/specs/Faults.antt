@@ -3,7 +3,7 @@ use Rattle.std.specs.Prelude.{◌≡◌, ℕ}
 use Rattle.p8_tree.specs.Projects.{NamedSource}
 use Rattle.p8_words.specs.declared.failure.Fail.{Fail}
 use Rattle.p8_words.specs.declared.failure.Fail.TheVariants as fail_case
-use Rattle.p8_faults.specs.declared.faults.Fault.{Fault}
+use Rattle.p8_tree.specs.declared.faults.Fault.{Fault}
 use Rattle.p8_build.specs.declared.fault.BuildFault.{BuildFault}
 use Rattle.p8_build.specs.declared.fault.BuildFault.TheVariants as build_case
 use Rattle.p8_build.specs.declared.fault.FileFault.{FileFault}

@@ -2,8 +2,8 @@
 use Rattle.std.specs.Prelude.{◌≡◌, ◌⊎◌, ℕ, ◌+◌, ◌<◌, ◌==◌, Bool, true, false, nat_lt, ◌||◌, List, length, slice_get, Some}
 use Rattle.p8_tree.specs.Sources.{MethodTree, Source}
 use Rattle.p8_tree.specs.Projects.{NamedSource}
-use Rattle.p8_faults.specs.declared.faults.Fault.{Fault}
-use Rattle.p8_faults.specs.Faults.{fault}
+use Rattle.p8_tree.specs.declared.faults.Fault.{Fault}
+use Rattle.p8_tree.specs.Faults.{fault}
 use Rattle.p8_fold.specs.Meanings.{Setting}
 use Rattle.p8_constants.specs.FileItems.{items}
 use Rattle.p8_kinds.specs.declared.children.Children.{Children}

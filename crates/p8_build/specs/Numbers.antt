@@ -4,7 +4,7 @@ use Rattle.std.specs.declared.cmp.Ordering.{Ordering}
 use Rattle.std.specs.BTreeMap.{BTreeMap, get}
 use Rattle.std.specs.Ordering.{nat_cmp, ordering_then}
 use Rattle.p8_tree.specs.declared.places.Place.{Place}
-use Rattle.p8_faults.specs.Faults.{is_same_place}
+use Rattle.p8_tree.specs.Faults.{is_same_place}
 use Rattle.p8_tree.specs.Sources.{MethodTree}
 use Rattle.p8_image.specs.declared.parts.TextUse.{TextUse}
 use Rattle.p8_image.specs.declared.parts.MethodPart.{MethodPart}

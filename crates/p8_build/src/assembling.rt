@@ -2,7 +2,7 @@
 ghost use Rattle.std.specs.Prelude.{◌≡◌, ◌+◌, ◌*◌, length, IfOk, IfErr, List as list};
 ghost use Rattle.p8_tree.specs.Projects.{NamedSource};
 ghost use Rattle.p8_tree.specs.Views.{source_of};
-ghost use Rattle.p8_faults.specs.Faults.{IsFirstFault};
+ghost use Rattle.p8_tree.specs.Faults.{IsFirstFault};
 ghost use Rattle.p8_fold.specs.Entries.{setting_of};
 ghost use Rattle.p8_constants.specs.Standing.{item_of as item_tree, items_of as item_trees};
 ghost use Rattle.p8_kinds.specs.FileSettings.{file_setting};

@@ -9,12 +9,11 @@ ghost use Rattle.p8_build.specs.Coding.{part_by, parts_by, names_by, AreReady, I
 
 use crate::texts::TextNumbers;
 use p8_constants::first_of_two;
-use p8_faults::Fault;
 use p8_gen::Tables;
 use p8_image::MethodPart;
 use p8_kinds::Kinds;
 use p8_stmt::{MethodCode, method_code};
-use p8_tree::{List, Method, Text};
+use p8_tree::{Fault, List, Method, Text};
 use p8_words::{Fail, NoMemory};
 use std::alloc::{AllocError, Global};
 

@@ -4,8 +4,7 @@ ghost use Rattle.p8_tree.specs.Views.{named_source_of};
 ghost use Rattle.p8_build.specs.Faults.{in_file, IsToldOf};
 ghost use Rattle.p8_build.specs.declared.fault.BuildFault.TheVariants.{NoMemory as OutOfMemory};
 
-use p8_faults::Fault;
-use p8_tree::{Place, ProjectFile, Text};
+use p8_tree::{Fault, Place, ProjectFile, Text};
 use p8_words::{Fail, NoMemory};
 use std::alloc::Global;
 

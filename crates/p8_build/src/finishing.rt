@@ -1,16 +1,15 @@
 // The image of a project, from its objects.
 ghost use Rattle.std.specs.Prelude.{◌≡◌, None, IfOk, IfErr};
 ghost use Rattle.p8_words.specs.declared.failure.Fail.TheVariants as fail_case;
-ghost use Rattle.p8_faults.specs.Faults.{fault};
+ghost use Rattle.p8_tree.specs.Faults.{fault};
 ghost use Rattle.p8_image.specs.Projects.{BeginsWithMain};
 ghost use Rattle.p8_build.specs.Builds.{constant_named, start};
 ghost use Rattle.p8_build.specs.Phases.{clock_in, IsFinished, IfFirstImageFault};
 
 use crate::building::Built;
-use p8_faults::Fault;
 use p8_image::{Clock, ObjectPart, layout};
 use p8_kinds::{Kinds, NameKind};
-use p8_tree::{List, Place, Text};
+use p8_tree::{Fault, List, Place, Text};
 use p8_words::{Fail, NoMemory};
 use std::alloc::{AllocError, Global};
 

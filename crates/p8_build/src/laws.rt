@@ -1,7 +1,7 @@
 // What holds of building.
 ghost use Rattle.std.specs.Prelude.{◌≡◌, ℕ, List};
 ghost use Rattle.p8_tree.specs.Projects.{NamedSource};
-ghost use Rattle.p8_faults.specs.declared.faults.Fault.{Fault};
+ghost use Rattle.p8_tree.specs.declared.faults.Fault.{Fault};
 ghost use Rattle.p8_names.specs.Mentions.{AreDistinct, HaveNoRing};
 ghost use Rattle.p8_image.specs.declared.clocks.Clock.{Clock};
 ghost use Rattle.p8_image.specs.declared.parts.ObjectPart.{ObjectPart};

@@ -3,7 +3,7 @@ ghost use Rattle.std.specs.Prelude.{◌≡◌, ◌≤◌, ◌++◌, length, map,
 ghost use Rattle.std.specs.List.{flat_map};
 ghost use Rattle.p8_tree.specs.Proper.{IsProperFile};
 ghost use Rattle.p8_tree.specs.Views.{source_of, child_of, declared_of, named_source_of};
-ghost use Rattle.p8_faults.specs.Faults.{IsFirstFault};
+ghost use Rattle.p8_tree.specs.Faults.{IsFirstFault};
 ghost use Rattle.p8_fold.specs.Entries.{setting_of};
 ghost use Rattle.p8_constants.specs.Standing.{item_of as item_tree, items_of as item_trees};
 ghost use Rattle.p8_constants.specs.FileItems.{items};
@@ -20,14 +20,13 @@ use crate::string_texts::StringText;
 use crate::texts::{TextNumbers, copies_of, strings_of_all};
 use p8_constants::{Item, count_value, first_of_two, items_of};
 use p8_dat::Dat;
-use p8_faults::Fault;
 use p8_fold::Consts;
 use p8_gen::Tables;
 use p8_image::{MethodPart, ObjectPart, Variable};
 use p8_kinds::{Named, consts_of};
 use p8_names::numbered;
 use p8_stmt::MethodCode;
-use p8_tree::{List, ProjectFile, Text};
+use p8_tree::{Fault, List, ProjectFile, Text};
 use p8_words::{Fail, NoMemory};
 use std::alloc::{AllocError, Global};
 

@@ -4,7 +4,7 @@ ghost use Rattle.std.specs.List.{flat_map};
 ghost use Rattle.std.specs.Option.{option_or};
 ghost use Rattle.p8_tree.specs.declared.places.Place.{Place as PlaceOf};
 ghost use Rattle.p8_tree.specs.Views.{method_of};
-ghost use Rattle.p8_faults.specs.Faults.{is_same_place};
+ghost use Rattle.p8_tree.specs.Faults.{is_same_place};
 ghost use Rattle.p8_build.specs.Parts.{strings_in_method};
 ghost use Rattle.p8_build.specs.Numbers.{text_of, at_place, number_by, AreNumbers, use_by};
 

@@ -7,7 +7,7 @@ use Rattle.p8_tree.specs.Statements.{Forever, Count, Before, After, From, Statem
 use Rattle.p8_tree.specs.Proper as proper
 use Rattle.p8_tree.specs.Proper.{IsProperTree, IsProperCourse, IsProperAction, IsProperStatement, AreProperStatements, AreProperArms, AreProperChoices, AreProperTests, IsProperOtherwise, IsDone, IfThere, IsProperExpression}
 use Rattle.p8_tree.specs.Nesting.{leave_loops, leaves_loop, action_leaves, arms_leave, other_leaves}
-use Rattle.p8_faults.specs.declared.faults.Fault.{Fault}
+use Rattle.p8_tree.specs.declared.faults.Fault.{Fault}
 use Rattle.p8_kinds.specs.Misuses.{MisuseDone, name_alone, MisuseInOption, MisuseInItems, MisuseInStatements, MisuseInStatement, MisuseInAction, MisuseInArms, MisuseInOtherwise}
 use Rattle.p8_gen.specs.Names.{Names}
 use Rattle.p8_gen.specs.Pieces.{Written, from_place, Piece, nothing, ◌⨾◌, byte, jump, jumping}

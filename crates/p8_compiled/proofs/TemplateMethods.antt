@@ -3,7 +3,7 @@ use Rattle.std.proofs.Common.{◌≡◌, subst, arith, ℕ, ◌+◌, false, [], 
 use Rattle.p8_tree.specs.Statements.{Statements}
 use Rattle.p8_tree.specs.Proper.{AreProperStatements}
 use Rattle.p8_tree.specs.Nesting.{leave_loops}
-use Rattle.p8_faults.specs.declared.faults.Fault.{Fault}
+use Rattle.p8_tree.specs.declared.faults.Fault.{Fault}
 use Rattle.p8_kinds.specs.Misuses.{MisuseInStatements}
 use Rattle.p8_gen.specs.Names.{Names}
 use Rattle.p8_gen.specs.Pieces.{empty}

@@ -8,8 +8,8 @@ use Rattle.p8_tree.specs.Expressions.{Tree, node, Form, Number, Str, Here, Var, 
 use Rattle.p8_tree.specs.Lists.{count_of_trees}
 use Rattle.p8_tree.specs.Proper as proper
 use Rattle.p8_tree.specs.Proper.{IsProperTree, IsProperForm, IsProperVariable, IsProperIndex, AreProperBits, IsProperItem, AreProperTrees, AreProperItems, IfThere}
-use Rattle.p8_faults.specs.declared.faults.Fault.{Fault}
-use Rattle.p8_faults.specs.Faults.{fault}
+use Rattle.p8_tree.specs.declared.faults.Fault.{Fault}
+use Rattle.p8_tree.specs.Faults.{fault}
 use Rattle.p8_words.specs.Operators.{or_zero}
 use Rattle.p8_fold.specs.Values as constants
 use Rattle.p8_kinds.specs.declared.name_kinds.NameKind.{NameKind}

@@ -3,7 +3,7 @@ ghost use Rattle.std.specs.Prelude.{◌≡◌, ℕ, Bool, false, length, IsTrue}
 ghost use Rattle.p8_tree.specs.Statements.{Statements};
 ghost use Rattle.p8_tree.specs.Proper.{AreProperStatements};
 ghost use Rattle.p8_tree.specs.Nesting.{leave_loops};
-ghost use Rattle.p8_faults.specs.declared.faults.Fault.{Fault};
+ghost use Rattle.p8_tree.specs.declared.faults.Fault.{Fault};
 ghost use Rattle.p8_kinds.specs.Misuses.{MisuseInStatements};
 ghost use Rattle.p8_gen.specs.Methods.{bytes_of, method_code};
 ghost use Rattle.p8_gen.specs.Names.{Names, widened};

@@ -7,9 +7,9 @@ use Rattle.std.proofs.Math.Logic.{⊎_elim}
 use Rattle.p8_constants.specs.Graphs.{IsEdge}
 use Rattle.p8_constants.proofs.Numbers.{edge_within}
 use Rattle.p8_tree.specs.Sources.{Source}
-use Rattle.p8_faults.specs.declared.faults.Fault.{Fault}
-use Rattle.p8_faults.specs.Faults.{IsFirstFault}
-use Rattle.p8_faults.proofs.Firsts.{IsFirstFault-along, IsFirstFault-earlier}
+use Rattle.p8_tree.specs.declared.faults.Fault.{Fault}
+use Rattle.p8_tree.specs.Faults.{IsFirstFault}
+use Rattle.p8_tree.proofs.Firsts.{IsFirstFault-along, IsFirstFault-earlier}
 use Rattle.p8_fold.specs.declared.meanings.Meaning.{Meaning}
 use Rattle.p8_fold.specs.declared.meanings.Meaning.TheVariants.{Value, Other}
 use Rattle.p8_fold.specs.Meanings.{Setting}

@@ -4,9 +4,9 @@ use Rattle.std.specs.Prelude.{MatchOption}
 use Rattle.std.proofs.lemmas.List.{get_or_default}
 use Rattle.std.proofs.lemmas.List.Elements.{Contains-get_or}
 use Rattle.p8_tree.specs.Sources.{Source}
-use Rattle.p8_faults.specs.declared.faults.Fault.{Fault}
-use Rattle.p8_faults.specs.Faults.{IsFirstFault}
-use Rattle.p8_faults.proofs.Firsts.{IsFirstFault-along}
+use Rattle.p8_tree.specs.declared.faults.Fault.{Fault}
+use Rattle.p8_tree.specs.Faults.{IsFirstFault}
+use Rattle.p8_tree.proofs.Firsts.{IsFirstFault-along}
 use Rattle.p8_fold.specs.declared.meanings.Meaning.TheVariants.{Value}
 use Rattle.p8_fold.specs.Meanings.{Setting}
 use Rattle.p8_constants.specs.Items.{definition, definitions}

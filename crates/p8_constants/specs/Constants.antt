@@ -6,7 +6,7 @@
 -- "CON" of the Spin chapter; that what is refused counts as 0 is this project's profile.
 use Rattle.std.specs.Prelude.{◌≡◌, ℕ, ◌+◌, ◌%◌, ◌^◌, List, [], ◌∷◌, ◌<◌, ◌≤◌, Option, Some, None, IsSome, Contains}
 use Rattle.p8_tree.specs.Sources.{Source}
-use Rattle.p8_faults.specs.declared.faults.Fault.{Fault}
+use Rattle.p8_tree.specs.declared.faults.Fault.{Fault}
 use Rattle.p8_fold.specs.declared.meanings.Meaning.{Meaning}
 use Rattle.p8_fold.specs.declared.meanings.Meaning.TheVariants as meaning_case
 use Rattle.p8_fold.specs.Meanings.{Setting}

@@ -3,8 +3,8 @@
 -- chapter; numbers and places are this project's profile.
 use Rattle.std.specs.Prelude.{◌≡◌, ◌⊎◌, ℕ, List, [], ◌∷◌, ◌++◌, Option, Some, None, IsTrue, Contains, if◌then◌else◌}
 use Rattle.p8_tree.specs.declared.places.Place.{Place}
-use Rattle.p8_faults.specs.declared.faults.Fault.{Fault}
-use Rattle.p8_faults.specs.Faults.{fault}
+use Rattle.p8_tree.specs.declared.faults.Fault.{Fault}
+use Rattle.p8_tree.specs.Faults.{fault}
 use Rattle.p8_constants.specs.FileItems.{Item, method, line}
 use Rattle.p8_constants.specs.Names.{Defined, is_local, place_of, predefined_names, names_of, own_names}
 

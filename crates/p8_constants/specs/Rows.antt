@@ -8,8 +8,8 @@ use Rattle.p8_tree.specs.Expressions.{Tree}
 use Rattle.p8_tree.specs.Sources.{Constant, Source, Con}
 use Rattle.p8_constants.specs.Graphs.{IsEdge, Reaches}
 use Rattle.p8_constants.specs.Orders.{ComesNoLater}
-use Rattle.p8_faults.specs.declared.faults.Fault.{Fault}
-use Rattle.p8_faults.specs.Faults.{earlier, IsFirstFault}
+use Rattle.p8_tree.specs.declared.faults.Fault.{Fault}
+use Rattle.p8_tree.specs.Faults.{earlier, IsFirstFault}
 use Rattle.p8_fold.specs.declared.meanings.Meaning.{Meaning}
 use Rattle.p8_fold.specs.declared.meanings.Meaning.TheVariants.{Value, Other}
 use Rattle.p8_fold.specs.Meanings.{Setting}

@@ -2,8 +2,8 @@
 -- chapter; the limits, numbers and places are this project's profile.
 use Rattle.std.specs.Prelude.{◌≡◌, ◌⊎◌, ℕ, ◌+◌, ◌<◌, nat_le, nat_lt, Bool, false, ◌&&◌, ◌||◌, not, IsTrue, List, [], ◌∷◌, length, Option, Some, None}
 use Rattle.p8_tree.specs.Expressions.{Tree}
-use Rattle.p8_faults.specs.declared.faults.Fault.{Fault}
-use Rattle.p8_faults.specs.Faults.{fault}
+use Rattle.p8_tree.specs.declared.faults.Fault.{Fault}
+use Rattle.p8_tree.specs.Faults.{fault}
 use Rattle.p8_fold.specs.Meanings.{Setting}
 use Rattle.p8_fold.specs.Values.{value, FaultIn, is_zero}
 use Rattle.p8_constants.specs.Constants.{counted}

@@ -1,8 +1,8 @@
 -- internal: what the code's values stand for.
 use Rattle.std.specs.Prelude.{◌≡◌, ◌⊎◌, ◌≤◌, ℕ, List, map, Option, MatchOption, is_some, IsTrue, Contains, ◌↔◌}
 use Rattle.p8_tree.specs.Views.{constant_of, declared_of, child_of, method_of, line_of}
-use Rattle.p8_faults.specs.declared.faults.Fault.{Fault}
-use Rattle.p8_faults.specs.Faults.{IsFirstFault}
+use Rattle.p8_tree.specs.declared.faults.Fault.{Fault}
+use Rattle.p8_tree.specs.Faults.{IsFirstFault}
 use Rattle.p8_fold.specs.Entries.{at_bytes}
 use Rattle.p8_constants.specs.declared.items.Item.{Item}
 use Rattle.p8_constants.specs.declared.items.Item.TheVariants as item_case

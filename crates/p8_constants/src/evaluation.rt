@@ -12,9 +12,8 @@ ghost use Rattle.p8_constants.specs.Rows.{rows_from, rows_of, meaning_in, moved,
 use crate::mentions::names_in;
 use crate::plan::Plan;
 use crate::rows::{Move, move_of};
-use p8_faults::Fault;
 use p8_fold::{Consts, Meaning, value_of};
-use p8_tree::{Expr, Text};
+use p8_tree::{Expr, Fault, Text};
 use p8_words::NoMemory;
 use std::alloc::Global;
 

@@ -3,7 +3,7 @@ ghost use Rattle.std.specs.Prelude.{◌≡◌};
 ghost use Rattle.p8_fold.specs.Values.{where_so};
 ghost use Rattle.p8_fold.specs.Verdicts.{first_of_two};
 
-use p8_faults::Fault;
+use p8_tree::Fault;
 
 /// The earlier of two faults, of those that there are.
 pub fn first_of_two(first: Option<Fault>, second: Option<Fault>) -> Option<Fault>

@@ -1,8 +1,8 @@
 // The constants of a file.
 ghost use Rattle.std.specs.Prelude.{◌≡◌, ℕ, List, IfOk, IsSome, Some, None, MatchOption};
 ghost use Rattle.p8_tree.specs.Views.{source_of};
-ghost use Rattle.p8_faults.specs.declared.faults.Fault.{Fault};
-ghost use Rattle.p8_faults.specs.Faults.{IsFirstFault};
+ghost use Rattle.p8_tree.specs.declared.faults.Fault.{Fault};
+ghost use Rattle.p8_tree.specs.Faults.{IsFirstFault};
 ghost use Rattle.p8_fold.specs.declared.meanings.Meaning.TheVariants.{Value};
 ghost use Rattle.p8_fold.specs.Entries.{setting_of};
 ghost use Rattle.p8_constants.specs.Items.{definitions, definition};
@@ -10,9 +10,8 @@ ghost use Rattle.p8_constants.specs.Constants.{scope_of, Has, IsConstant, IsCons
 
 use crate::evaluation::Evaluation;
 use crate::plan::plan_of;
-use p8_faults::Fault;
 use p8_fold::Consts;
-use p8_tree::SourceFile;
+use p8_tree::{Fault, SourceFile};
 use p8_words::NoMemory;
 use std::alloc::Global;
 

@@ -10,9 +10,8 @@ ghost use Rattle.p8_tree.specs.Views.{tree_of};
 use crate::first_faults::{first_of_two, where_so};
 use crate::items::Item;
 use crate::rules::count_value;
-use p8_faults::Fault;
 use p8_fold::{Consts, value_of};
-use p8_tree::{Expr, ObjItem};
+use p8_tree::{Expr, Fault, ObjItem};
 
 /// How many instances of objects a file may have.
 const MOST_INSTANCES: u32 = 255;

@@ -7,8 +7,7 @@ use crate::first_faults::{first_of_two, where_so};
 use crate::items::Item;
 use crate::name_set::NameSet;
 use crate::names::is_local;
-use p8_faults::Fault;
-use p8_tree::{Place, Text};
+use p8_tree::{Fault, Place, Text};
 use std::alloc::{AllocError, Global};
 
 impl<'a> Item<'a> {

@@ -1,6 +1,6 @@
 // What holds of the constants of every file.
 ghost use Rattle.std.specs.Prelude.{◌≡◌, ◌↔◌, ℕ, ◌+◌, ◌%◌, ◌^◌, ◌<◌, Some, Contains, List, [], ◌∷◌, ◌++◌};
-ghost use Rattle.p8_faults.specs.declared.faults.Fault.{Fault};
+ghost use Rattle.p8_tree.specs.declared.faults.Fault.{Fault};
 ghost use Rattle.p8_fold.specs.Meanings.{Setting};
 ghost use Rattle.p8_fold.specs.Values.{value, FaultIn};
 ghost use Rattle.p8_constants.specs.Items.{Term, Sum, definition};

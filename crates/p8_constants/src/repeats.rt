@@ -12,8 +12,7 @@ use crate::items::Item;
 use crate::language::{NamedConstant, predefined};
 use crate::name_set::NameSet;
 use crate::names::{Defined, names_of, own_names};
-use p8_faults::Fault;
-use p8_tree::Method;
+use p8_tree::{Fault, Method};
 use std::alloc::{AllocError, Global};
 
 // Whether a name is in one of two sets.

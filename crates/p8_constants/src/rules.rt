@@ -8,9 +8,8 @@ ghost use Rattle.p8_constants.specs.Standing.{item_of, items_of, IsFirstOf};
 
 use crate::first_faults::{first_of_two, where_so};
 use crate::items::Item;
-use p8_faults::Fault;
 use p8_fold::{Consts, value_of};
-use p8_tree::{Expr, Method, Place};
+use p8_tree::{Expr, Fault, Method, Place};
 
 /// How many parameters a method may have.
 const MOST_PARAMS: usize = 15;

@@ -1,8 +1,8 @@
 // The DAT of a file, as the compiler takes it.
 ghost use Rattle.std.specs.Prelude.{◌≡◌, ◌++◌, [], Some, None, IfOk, IfErr, OnOk, map};
 ghost use Rattle.p8_tree.specs.Views.{source_of};
-ghost use Rattle.p8_faults.specs.declared.faults.Fault.{Fault};
-ghost use Rattle.p8_faults.specs.Faults.{IsFirstFault};
+ghost use Rattle.p8_tree.specs.declared.faults.Fault.{Fault};
+ghost use Rattle.p8_tree.specs.Faults.{IsFirstFault};
 ghost use Rattle.p8_fold.specs.Entries.{setting_of};
 ghost use Rattle.p8_fold.specs.Meanings.{outside_operands};
 ghost use Rattle.p8_kinds.specs.FileSettings.{file_setting};
@@ -15,10 +15,9 @@ use crate::labels::is_local;
 use crate::output::Output;
 use crate::placing::Placed;
 use crate::spots::Spot;
-use p8_faults::Fault;
 use p8_fold::Consts;
 use p8_kinds::{Kinds, Label, NameKind, Named, consts_of};
-use p8_tree::{List, SourceFile, Text};
+use p8_tree::{Fault, List, SourceFile, Text};
 use p8_words::Fail;
 use std::alloc::{AllocError, Global};
 

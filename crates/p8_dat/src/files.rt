@@ -1,8 +1,8 @@
 // All DAT blocks of a file.
 ghost use Rattle.std.specs.Prelude.{◌≡◌, ◌++◌, MatchOption, OnOk, IfOk, None, map, fold};
 ghost use Rattle.p8_tree.specs.Views.{block_of, source_of};
-ghost use Rattle.p8_faults.specs.declared.faults.Fault.{Fault};
-ghost use Rattle.p8_faults.specs.Faults.{IsFirstFault};
+ghost use Rattle.p8_tree.specs.declared.faults.Fault.{Fault};
+ghost use Rattle.p8_tree.specs.Faults.{IsFirstFault};
 ghost use Rattle.p8_fold.specs.Entries.{setting_of};
 ghost use Rattle.p8_fold.specs.Meanings.{outside_operands};
 ghost use Rattle.p8_dat.specs.Spots.{placed, behind_lines};

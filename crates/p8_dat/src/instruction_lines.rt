@@ -2,8 +2,8 @@
 ghost use Rattle.std.specs.Prelude.{◌≡◌, ◌<◌, MatchOption, IfOk};
 ghost use Rattle.std.specs.Str.{bytes_eq};
 ghost use Rattle.p8_tree.specs.Views.{instruction_of};
-ghost use Rattle.p8_faults.specs.declared.faults.Fault.{Fault};
-ghost use Rattle.p8_faults.specs.Faults.{IsFirstFault};
+ghost use Rattle.p8_tree.specs.declared.faults.Fault.{Fault};
+ghost use Rattle.p8_tree.specs.Faults.{IsFirstFault};
 ghost use Rattle.p8_fold.specs.Entries.{setting_of};
 ghost use Rattle.p8_fold.specs.Verdicts.{first_of_two};
 ghost use Rattle.p8_instr.specs.Instruction.{FitsFields};
@@ -12,10 +12,9 @@ ghost use Rattle.p8_dat.specs.FirstOfLine.{first_in_instruction};
 
 use crate::calls::called;
 use crate::operands::operand_of;
-use p8_faults::Fault;
 use p8_fold::Consts;
 use p8_instr::{FLAG_C, FLAG_I, FLAG_R, FLAG_Z, Instr, default_of, encode};
-use p8_tree::InstrLine;
+use p8_tree::{Fault, InstrLine};
 use p8_words::NoMemory;
 use std::alloc::Global;
 

@@ -1,6 +1,6 @@
 // The bytes of whole lines, and what is wrong with them.
 ghost use Rattle.std.specs.Prelude.{◌≡◌, ◌+◌, ◌/◌, ◌++◌, nat_lt, OnOk, map, option_map};
-ghost use Rattle.p8_faults.specs.Faults.{fault};
+ghost use Rattle.p8_tree.specs.Faults.{fault};
 ghost use Rattle.p8_fold.specs.Values.{where_so};
 ghost use Rattle.p8_tree.specs.Views.{tree_of, contents_of, instruction_of};
 ghost use Rattle.p8_fold.specs.Entries.{setting_of};
@@ -18,9 +18,8 @@ use crate::output::{Output, first_of_two};
 use crate::placing::Placed;
 use crate::spots::Spot;
 use crate::values::number;
-use p8_faults::Fault;
 use p8_fold::{Consts, value_of};
-use p8_tree::{DatBody, Expr, InstrLine, Place};
+use p8_tree::{DatBody, Expr, Fault, InstrLine, Place};
 use p8_words::NoMemory;
 use std::alloc::Global;
 

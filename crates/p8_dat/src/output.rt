@@ -5,7 +5,7 @@ ghost use Rattle.p8_dat.specs.Spots.{limit};
 ghost use Rattle.p8_dat.specs.Bytes.{element, zeros};
 
 use crate::spots::{LIMIT, Spot};
-use p8_faults::Fault;
+use p8_tree::Fault;
 use std::alloc::AllocError;
 
 // The bytes so far, and the first fault so far.

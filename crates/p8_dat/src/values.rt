@@ -6,9 +6,8 @@ ghost use Rattle.p8_fold.specs.Values.{value};
 ghost use Rattle.p8_dat.specs.Spots.{number, string};
 ghost use Rattle.p8_dat.specs.First.{first_in, first_in_number};
 
-use p8_faults::Fault;
 use p8_fold::{Consts, value_of};
-use p8_tree::{Expr, ExprKind, Text};
+use p8_tree::{Expr, ExprKind, Fault, Text};
 
 // A value, 0 where it is refused, and the first reason for that.
 #[derive(Clone, Copy)]

@@ -6,9 +6,9 @@ use Rattle.std.specs.Prelude.{IfOk, IfErr, OnOk, OnErr, MatchOption, if◌then�
 use Rattle.std.specs.Result.{result_err}
 use Rattle.std.proofs.Math.Logic.{⊎_elim}
 use Rattle.p8_tree.specs.declared.places.Place.{Place}
-use Rattle.p8_faults.specs.declared.faults.Fault.{Fault}
-use Rattle.p8_faults.specs.Faults.{FaultBefore, IsFirstFault, fault, earlier}
-use Rattle.p8_faults.proofs.Firsts.{IsFirstFault-along, IsFirstFault-earlier}
+use Rattle.p8_tree.specs.declared.faults.Fault.{Fault}
+use Rattle.p8_tree.specs.Faults.{FaultBefore, IsFirstFault, fault, earlier}
+use Rattle.p8_tree.proofs.Firsts.{IsFirstFault-along, IsFirstFault-earlier}
 use Rattle.p8_fold.specs.declared.meanings.Meaning.{Meaning}
 use Rattle.p8_fold.specs.declared.meanings.Meaning.TheVariants as meaning_case
 use Rattle.p8_fold.specs.Meanings.{Setting, value_of_meaning, given}

@@ -3,7 +3,7 @@ ghost use Rattle.std.specs.Prelude.{◌≡◌, Some, None, Err};
 ghost use Rattle.std.specs.Result.{result_err};
 ghost use Rattle.p8_tree.specs.Views.{tree_of, variable_of, call_of, trees_of, items_of, item_of};
 ghost use Rattle.p8_tree.specs.Bridges.{boxed_index};
-ghost use Rattle.p8_faults.specs.Faults.{fault};
+ghost use Rattle.p8_tree.specs.Faults.{fault};
 ghost use Rattle.p8_fold.specs.Meanings.{meaning_of, value_of_meaning, address_of_meaning, given};
 ghost use Rattle.p8_fold.specs.Entries.{setting_of};
 ghost use Rattle.p8_fold.specs.Values.{value_of_variable, address_of, fault_of_name, fault_of_call, fault_before, fault_between};
@@ -11,8 +11,7 @@ ghost use Rattle.p8_fold.specs.Verdicts.{with_further, first_of_two, or_fault, v
 
 use crate::consts::Consts;
 use crate::meanings::Meaning;
-use p8_faults::Fault;
-use p8_tree::{Call, Expr, ExprKind, Item, Place, Target, Text};
+use p8_tree::{Call, Expr, ExprKind, Fault, Item, Place, Target, Text};
 use p8_words::{binary_result, divides, unary_result};
 
 // What isn't constant, at its place.

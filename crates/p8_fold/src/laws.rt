@@ -2,8 +2,8 @@
 ghost use Rattle.std.specs.Prelude.{◌≡◌, ◌⊎◌, ℕ, List, Some, None};
 ghost use Rattle.p8_tree.specs.declared.places.Place.{Place};
 ghost use Rattle.p8_tree.specs.Expressions.{Tree, node, Var, Named, no_index};
-ghost use Rattle.p8_faults.specs.declared.faults.Fault.{Fault};
-ghost use Rattle.p8_faults.specs.Faults.{fault, IsFirstFault};
+ghost use Rattle.p8_tree.specs.declared.faults.Fault.{Fault};
+ghost use Rattle.p8_tree.specs.Faults.{fault, IsFirstFault};
 ghost use Rattle.p8_fold.specs.declared.meanings.Meaning.TheVariants.{Other as Variable};
 ghost use Rattle.p8_fold.specs.Meanings.{Setting, meaning_of};
 ghost use Rattle.p8_fold.specs.Values.{value, FaultIn, HasValue, IsRefused};

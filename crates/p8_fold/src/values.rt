@@ -1,8 +1,8 @@
 // The value of an expression where a constant is needed.
 ghost use Rattle.std.specs.Prelude.{◌≡◌, ◌↔◌, List, ℕ, IfOk, IfErr, OnOk, OnErr, Some, None};
 ghost use Rattle.p8_tree.specs.Views.{tree_of};
-ghost use Rattle.p8_faults.specs.declared.faults.Fault.{Fault};
-ghost use Rattle.p8_faults.specs.Faults.{IsFirstFault};
+ghost use Rattle.p8_tree.specs.declared.faults.Fault.{Fault};
+ghost use Rattle.p8_tree.specs.Faults.{IsFirstFault};
 ghost use Rattle.p8_fold.specs.Meanings.{Setting};
 ghost use Rattle.p8_fold.specs.Entries.{setting_of};
 ghost use Rattle.p8_fold.specs.Values.{value, FaultIn};
@@ -11,8 +11,7 @@ ghost use Rattle.p8_fold.specs.Agreement.{AgreeOn};
 
 use crate::consts::Consts;
 use crate::folding::verdict;
-use p8_faults::Fault;
-use p8_tree::Expr;
+use p8_tree::{Expr, Fault};
 
 /// Why an expression has no value: 12 where something isn't constant, 13 at the operator of a division by 0, 15 at a name
 /// without an entry, 16 at a name before `#` that isn't an object's.

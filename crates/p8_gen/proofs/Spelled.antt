@@ -10,8 +10,8 @@ use Rattle.p8_instr.specs.Table.{rows, operands_of}
 use Rattle.p8_instr.specs.Reading.{bare, has_base, changes_variable}
 use Rattle.p8_instr.specs.Spelling.{IsPlace, IsChange}
 use Rattle.p8_instr.specs.declared.operands.Operands.TheVariants as operands
-use Rattle.p8_faults.specs.declared.faults.Fault.{Fault}
-use Rattle.p8_faults.specs.Faults.{fault}
+use Rattle.p8_tree.specs.declared.faults.Fault.{Fault}
+use Rattle.p8_tree.specs.Faults.{fault}
 use Rattle.p8_words.specs.Operators.{or_zero}
 use Rattle.p8_fold.specs.Values as constants
 use Rattle.p8_kinds.specs.declared.name_kinds.NameKind.{NameKind}

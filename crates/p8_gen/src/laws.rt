@@ -2,7 +2,7 @@
 ghost use Rattle.std.specs.Prelude.{◌≡◌, ℕ, ◌+◌, false, List, Option, length};
 ghost use Rattle.p8_tree.specs.declared.places.Place.{Place};
 ghost use Rattle.p8_tree.specs.Proper.{IsProperTree, IsDone};
-ghost use Rattle.p8_faults.specs.declared.faults.Fault.{Fault};
+ghost use Rattle.p8_tree.specs.declared.faults.Fault.{Fault};
 ghost use Rattle.p8_kinds.specs.Environments.{Environment, kind_in};
 ghost use Rattle.p8_kinds.specs.Misuses.{MisuseIn, MisuseDone, name_alone};
 ghost use Rattle.p8_tree.specs.Expressions.{Tree};

@@ -2,7 +2,7 @@
 ghost use Rattle.std.specs.Prelude.{◌≡◌, ◌≤◌, map, length};
 ghost use Rattle.p8_tree.specs.Sources.{MethodTree};
 ghost use Rattle.p8_tree.specs.Statements.{Statements};
-ghost use Rattle.p8_faults.specs.declared.faults.Fault.{Fault};
+ghost use Rattle.p8_tree.specs.declared.faults.Fault.{Fault};
 ghost use Rattle.p8_gen.specs.Names.{Names, widened, all_wide, wide_in};
 ghost use Rattle.p8_gen.specs.Uses.{line_of, use_of};
 ghost use Rattle.p8_stmt.specs.Methods.{IsCodeOf, IsMethodFault, rebodied};

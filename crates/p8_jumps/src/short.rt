@@ -1,7 +1,7 @@
 // The short code of a method.
 ghost use Rattle.std.specs.Prelude.{IfOk};
 ghost use Rattle.p8_tree.specs.Views.{method_of, statements_of};
-ghost use Rattle.p8_faults.specs.declared.faults.Fault.{Fault};
+ghost use Rattle.p8_tree.specs.declared.faults.Fault.{Fault};
 ghost use Rattle.p8_gen.specs.Scopes.{names_from};
 ghost use Rattle.p8_stmt.specs.Methods.{AreResolved, IsMethodFault, rebodied};
 ghost use Rattle.p8_jumps.specs.Jumps.{IsShortCode};

@@ -9,8 +9,8 @@ use Rattle.p8_tree.specs.declared.expressions.Item as item
 use Rattle.p8_tree.specs.Lists.{count_of_trees}
 use Rattle.p8_tree.specs.Views.{tree_of, trees_of, item_of, items_of}
 use Rattle.p8_tree.specs.Bridges.{trees_of-push, items_of-push, tree_list_of}
-use Rattle.p8_faults.specs.declared.faults.Fault.{Fault}
-use Rattle.p8_faults.specs.Faults.{IsFirstFault}
+use Rattle.p8_tree.specs.declared.faults.Fault.{Fault}
+use Rattle.p8_tree.specs.Faults.{IsFirstFault}
 use Rattle.p8_fold.specs.Verdicts.{first_of_two}
 use Rattle.p8_fold.proofs.Judging.{Tells}
 use Rattle.p8_kinds.specs.Misuses.{Rule}

@@ -12,9 +12,8 @@ ghost use Rattle.p8_kinds.specs.FirstMisuses.{rule_of, first_in, first_inside, f
 use crate::rules::Rules;
 use crate::scope::Scope;
 use crate::single::{is_constant, own_fault};
-use p8_faults::Fault;
 use p8_fold::{Consts, value_of};
-use p8_tree::{Call, Expr, ExprKind, Item, Target};
+use p8_tree::{Call, Expr, ExprKind, Fault, Item, Target};
 
 // The earlier of two faults, of those that there are.
 pub(crate) fn first_of_two(fault: Option<Fault>, other: Option<Fault>) -> Option<Fault>

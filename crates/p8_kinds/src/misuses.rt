@@ -1,8 +1,8 @@
 // What is wrong with the names of a method, and of an expression of DAT.
 ghost use Rattle.std.specs.Prelude.{◌≡◌, MatchOption};
 ghost use Rattle.p8_tree.specs.Views.{tree_of, statements_of};
-ghost use Rattle.p8_faults.specs.declared.faults.Fault.{Fault};
-ghost use Rattle.p8_faults.specs.Faults.{IsFirstFault};
+ghost use Rattle.p8_tree.specs.declared.faults.Fault.{Fault};
+ghost use Rattle.p8_tree.specs.Faults.{IsFirstFault};
 ghost use Rattle.p8_kinds.specs.Environments.{environment_of};
 ghost use Rattle.p8_kinds.specs.Misuses.{MisuseInStatements, UnknownIn};
 
@@ -10,8 +10,7 @@ use crate::expressions::first_in;
 use crate::rules::Rules;
 use crate::scope::Scope;
 use crate::statements::first_in_statements;
-use p8_faults::Fault;
-use p8_tree::{Expr, Stmt};
+use p8_tree::{Expr, Fault, Stmt};
 
 /// The first fault of a method's statements, by place and then by number: a name without a definition, 15, or of a kind that
 /// doesn't fit its use, 16, a call with another number of arguments, 17, and in `CONSTANT` what isn't constant, 12, or divides

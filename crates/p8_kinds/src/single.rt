@@ -11,8 +11,7 @@ use crate::name_kinds::NameKind;
 use crate::rules::Rules;
 use crate::scope::Scope;
 use crate::uses::{Use, argument_count};
-use p8_faults::Fault;
-use p8_tree::{Call, Expr, ExprKind, Place, Target, Text};
+use p8_tree::{Call, Expr, ExprKind, Fault, Place, Target, Text};
 
 // The fault of a name at its place.
 pub(crate) fn misuse(way: Use, kind: Option<NameKind>, place: Place) -> Option<Fault>

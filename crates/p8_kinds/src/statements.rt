@@ -10,8 +10,7 @@ use crate::rules::Rules;
 use crate::scope::Scope;
 use crate::single::misuse;
 use crate::uses::Use;
-use p8_faults::Fault;
-use p8_tree::{Arm, Expr, ExprKind, Loop, Stmt, StmtKind, Target};
+use p8_tree::{Arm, Expr, ExprKind, Fault, Loop, Stmt, StmtKind, Target};
 
 // A whole statement that is a variable.
 fn first_in_variable_alone(scope: &Scope, variable: &Target, expr: &Expr) -> Option<Fault>

@@ -4,7 +4,7 @@ use Rattle.std.specs.Prelude.{IsTrue, is_some}
 use Rattle.p8_tree.specs.Nesting.{leaves_loop}
 use Rattle.p8_tree.specs.Proper.{IsProperStatement}
 use Rattle.p8_tree.specs.Statements.{Statement}
-use Rattle.p8_faults.specs.declared.faults.Fault.{Fault}
+use Rattle.p8_tree.specs.declared.faults.Fault.{Fault}
 use Rattle.p8_kinds.specs.Misuses.{MisuseInStatement}
 use Rattle.p8_gen.specs.Names.{Names}
 use Rattle.p8_gen.specs.Pieces.{Written}

@@ -3,7 +3,7 @@ ghost use Rattle.std.specs.Prelude.{ℕ, Option, IsTrue, is_some};
 ghost use Rattle.p8_tree.specs.Nesting.{leaves_loop};
 ghost use Rattle.p8_tree.specs.Proper.{IsProperStatement};
 ghost use Rattle.p8_tree.specs.Statements.{Statement};
-ghost use Rattle.p8_faults.specs.declared.faults.Fault.{Fault};
+ghost use Rattle.p8_tree.specs.declared.faults.Fault.{Fault};
 ghost use Rattle.p8_kinds.specs.Misuses.{MisuseInStatement};
 ghost use Rattle.p8_gen.specs.Names.{Names};
 ghost use Rattle.p8_gen.specs.Pieces.{Written};

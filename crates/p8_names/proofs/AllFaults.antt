@@ -4,7 +4,7 @@ use mathlib.Core.Path.{fun_ext}
 use Rattle.std.specs.Map.{lookup}
 use Rattle.std.specs.Str.{bytes_eq}
 use Rattle.p8_tree.specs.Sources.{MethodTree, Source}
-use Rattle.p8_faults.specs.declared.faults.Fault.{Fault}
+use Rattle.p8_tree.specs.declared.faults.Fault.{Fault}
 use Rattle.p8_fold.specs.Meanings.{Setting}
 use Rattle.p8_fold.specs.Verdicts.{first_of_two}
 use Rattle.p8_constants.specs.Constants.{IsConstantFault}

@@ -11,7 +11,7 @@ use Rattle.p8_constants.specs.Names.{spelled, own_names}
 use Rattle.p8_kinds.specs.declared.kinds.Kinds.{Kinds}
 use Rattle.p8_kinds.specs.FileSettings.{meaning_of_kind}
 use Rattle.p8_kinds.specs.Kinds.{own, or_else, kind_of}
-use Rattle.p8_faults.specs.declared.faults.Fault.{Fault}
+use Rattle.p8_tree.specs.declared.faults.Fault.{Fault}
 use Rattle.p8_constants.specs.Standing.{IsFirstOf}
 use Rattle.p8_kinds.specs.Environments.{Environment}
 use Rattle.p8_kinds.specs.Misuses.{MisuseInStatements}

@@ -1,7 +1,7 @@
 -- internal: what is known while the names of a file are resolved.
 use Rattle.std.specs.Prelude.{◌≡◌, ◌⊎◌, ℕ, suc, ◌<◌, Bool, List, [], length, slice_get}
 use Rattle.p8_tree.specs.Sources.{MethodTree}
-use Rattle.p8_faults.specs.declared.faults.Fault.{Fault}
+use Rattle.p8_tree.specs.declared.faults.Fault.{Fault}
 use Rattle.p8_fold.specs.Meanings.{Setting}
 use Rattle.p8_constants.specs.FileItems.{Item}
 use Rattle.p8_constants.specs.Names.{file_names}

@@ -13,10 +13,9 @@ ghost use Rattle.p8_names.specs.Beginning.{IsBegun};
 use crate::file_kinds::file_kinds;
 use crate::outside::outside;
 use p8_constants::{Found, Item, NamedConstant, constants_of, items_of, predefined};
-use p8_faults::Fault;
 use p8_fold::Consts;
 use p8_kinds::{Children, Scope, publics_of};
-use p8_tree::SourceFile;
+use p8_tree::{Fault, SourceFile};
 use p8_words::NoMemory;
 use std::alloc::Global;
 

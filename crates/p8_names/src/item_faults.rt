@@ -9,8 +9,8 @@ use p8_constants::{
     Item, NamedConstant, file_names, first_count_fault, first_instance_fault, first_label_repeat,
     first_of_two, first_own_repeat, first_params_fault, lacks_pub,
 };
-use p8_faults::Fault;
 use p8_fold::Consts;
+use p8_tree::Fault;
 use std::alloc::{AllocError, Global};
 
 /// The first name that is defined twice: one of the file, one of a method's own, or a local label.

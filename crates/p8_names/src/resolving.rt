@@ -3,8 +3,8 @@ ghost use Rattle.std.specs.Prelude.{◌≡◌, ◌<◌, ℕ, List, None, Bool, I
 ghost use Rattle.p8_tree.specs.Proper.{IsProperFile};
 ghost use Rattle.p8_tree.specs.Sources.{Source};
 ghost use Rattle.p8_tree.specs.Views.{source_of};
-ghost use Rattle.p8_faults.specs.declared.faults.Fault.{Fault};
-ghost use Rattle.p8_faults.specs.Faults.{IsFirstFault};
+ghost use Rattle.p8_tree.specs.declared.faults.Fault.{Fault};
+ghost use Rattle.p8_tree.specs.Faults.{IsFirstFault};
 ghost use Rattle.p8_fold.specs.Entries.{setting_of};
 ghost use Rattle.p8_constants.specs.Names.{predefined as table};
 ghost use Rattle.p8_constants.specs.Standing.{items_of, valued, IsFirstOf};
@@ -23,9 +23,8 @@ use crate::item_faults::{first_broken, first_repeat};
 use crate::method_list::{look_at_all, number_behind};
 use crate::own_kinds::numbered;
 use p8_constants::{Item, first_of_two};
-use p8_faults::Fault;
 use p8_kinds::{Children, Named, Scope};
-use p8_tree::SourceFile;
+use p8_tree::{Fault, SourceFile};
 use p8_words::{Fail, NoMemory};
 use std::alloc::Global;
 

@@ -1,6 +1,5 @@
 // Which of several faults is told.
-use p8_faults::Fault;
-use p8_tree::Place;
+use p8_tree::{Fault, Place};
 
 fn fault(number: u8, line: u32, column: u32) -> Fault {
     Fault {

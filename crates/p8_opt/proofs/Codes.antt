@@ -3,8 +3,8 @@ use Rattle.std.proofs.Common.{◌≡◌, ◌≤◌, ℕ, List, [], ◌∷◌, �
 use Rattle.std.specs.Prelude.{Contains}
 use Rattle.p8_tree.specs.declared.places.Place.{Place}
 use Rattle.p8_tree.specs.Sources.{MethodTree}
-use Rattle.p8_faults.specs.declared.faults.Fault.{Fault}
-use Rattle.p8_faults.specs.Faults.{fault}
+use Rattle.p8_tree.specs.declared.faults.Fault.{Fault}
+use Rattle.p8_tree.specs.Faults.{fault}
 use Rattle.p8_instr.specs.Reading.{bare}
 use Rattle.p8_image.specs.Layout.{linked}
 use Rattle.p8_image.specs.Loading.{memory_of}

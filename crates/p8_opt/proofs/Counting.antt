@@ -11,8 +11,8 @@ use Rattle.p8_tree.specs.declared.places.Place.{Place}
 use Rattle.p8_tree.specs.Expressions.{Tree}
 use Rattle.p8_tree.specs.Sources.{Child, MethodTree, Source}
 use Rattle.p8_tree.specs.Projects.{NamedSource}
-use Rattle.p8_faults.specs.declared.faults.Fault.{Fault}
-use Rattle.p8_faults.specs.Faults.{fault}
+use Rattle.p8_tree.specs.declared.faults.Fault.{Fault}
+use Rattle.p8_tree.specs.Faults.{fault}
 use Rattle.p8_fold.specs.Meanings.{Setting}
 use Rattle.p8_constants.specs.Constants.{counted}
 use Rattle.p8_constants.specs.FileItems.{Item, constant, variable, object, method, line, items}

@@ -7,7 +7,7 @@ use Rattle.p8_tree.specs.Names.{result_word}
 use Rattle.p8_tree.specs.Sources.{MethodTree}
 use Rattle.p8_tree.specs.Projects.{NamedSource}
 use Rattle.p8_tree.specs.Proper.{IsProperFile}
-use Rattle.p8_faults.specs.declared.faults.Fault.{Fault}
+use Rattle.p8_tree.specs.declared.faults.Fault.{Fault}
 use Rattle.p8_fold.specs.declared.meanings.Meaning.{Meaning}
 use Rattle.p8_fold.specs.declared.meanings.Meaning.TheVariants as meaning_case
 use Rattle.p8_fold.specs.Meanings.{Setting, meaning_of, value_of_meaning, address_of_meaning, given}

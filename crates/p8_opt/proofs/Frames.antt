@@ -10,7 +10,7 @@ use Rattle.p8_opt.specs.Recoding.{IsRecoded, HaveCodes}
 use Rattle.p8_tree.specs.Expressions.{Tree}
 use Rattle.p8_tree.specs.Sources.{Declared, MethodTree, Source}
 use Rattle.p8_tree.specs.Projects.{NamedSource}
-use Rattle.p8_faults.specs.Faults.{fault}
+use Rattle.p8_tree.specs.Faults.{fault}
 use Rattle.p8_instr.specs.Reading.{bare}
 use Rattle.p8_instr.specs.Spelling.{spelled}
 use Rattle.p8_instr.specs.Table.{rows}

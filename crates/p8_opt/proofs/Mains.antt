@@ -3,7 +3,7 @@ use Rattle.std.proofs.Common.{◌≡◌, ◌∙◌, ◌<◌, ap, sym, subst, ref
 use Rattle.std.proofs.lemmas.Option.{slice_get_within}
 use Rattle.p8_tree.specs.Projects.{NamedSource}
 use Rattle.p8_tree.specs.Sources.{Source}
-use Rattle.p8_faults.specs.Faults.{fault}
+use Rattle.p8_tree.specs.Faults.{fault}
 use Rattle.p8_constants.specs.FileItems.{items}
 use Rattle.p8_constants.specs.Rules.{has_public}
 use Rattle.p8_kinds.specs.declared.children.Children.{Children}

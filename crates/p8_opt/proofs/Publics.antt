@@ -10,7 +10,7 @@ use Rattle.p8_stmt.specs.Methods.{rebodied}
 use Rattle.p8_tree.specs.Sources as trees
 use Rattle.p8_tree.specs.Sources.{MethodTree, Source}
 use Rattle.p8_tree.specs.Projects.{NamedSource}
-use Rattle.p8_faults.specs.Faults.{fault}
+use Rattle.p8_tree.specs.Faults.{fault}
 use Rattle.p8_constants.specs.FileItems.{Item, constant, variable, object, method, line, items}
 use Rattle.p8_constants.specs.Names.{predefined_names}
 use Rattle.p8_constants.specs.Rules.{HasTooManyParams}

@@ -10,8 +10,8 @@ use Rattle.p8_tree.specs.Expressions.{Tree}
 use Rattle.p8_tree.specs.Sources as trees
 use Rattle.p8_tree.specs.Sources.{Contents, Datum, Declared, MethodTree, BlockTree, Source}
 use Rattle.p8_tree.specs.Proper.{is_size, IsSize, IfThere, IsProperFile, IsProperBlock, IsProperDatum, AreProperContents}
-use Rattle.p8_faults.specs.declared.faults.Fault.{Fault}
-use Rattle.p8_faults.specs.Faults.{fault}
+use Rattle.p8_tree.specs.declared.faults.Fault.{Fault}
+use Rattle.p8_tree.specs.Faults.{fault}
 use Rattle.p8_words.specs.Operators.{or_zero}
 use Rattle.p8_fold.specs.Meanings.{Setting}
 use Rattle.p8_fold.specs.Values.{value, is_zero}

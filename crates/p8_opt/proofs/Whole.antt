@@ -6,7 +6,7 @@ use Rattle.std.proofs.lemmas.Option.{same_Some, none-some, slice_get_within}
 use Rattle.p8_tree.specs.Names.{result_word}
 use Rattle.p8_tree.specs.Sources.{MethodTree}
 use Rattle.p8_tree.specs.Projects.{NamedSource}
-use Rattle.p8_faults.specs.Faults.{fault}
+use Rattle.p8_tree.specs.Faults.{fault}
 use Rattle.p8_access.specs.declared.kinds.Origin.{Origin}
 use Rattle.p8_access.specs.declared.kinds.Origin.TheVariants.{Spin}
 use Rattle.p8_access.specs.Worlds.{World}

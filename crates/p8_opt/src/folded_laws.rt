@@ -6,7 +6,7 @@ ghost use Rattle.p8_tree.specs.Projects.{NamedSource};
 ghost use Rattle.p8_tree.specs.Proper.{AreProperStatements, IsProperMethod};
 ghost use Rattle.p8_tree.specs.Sources.{MethodTree, Source};
 ghost use Rattle.p8_tree.specs.Statements.{Statements};
-ghost use Rattle.p8_faults.specs.declared.faults.Fault.{Fault};
+ghost use Rattle.p8_tree.specs.declared.faults.Fault.{Fault};
 ghost use Rattle.p8_constants.specs.FileItems.{items};
 ghost use Rattle.p8_kinds.specs.declared.children.Children.{Children};
 ghost use Rattle.p8_kinds.specs.declared.kinds.Kinds.{Kinds};

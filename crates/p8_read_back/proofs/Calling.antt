@@ -3,8 +3,8 @@ use Rattle.std.proofs.Common.{◌≡◌, ℕ, ◌^◌, ◌<◌, List, refl, sym,
 use Rattle.p8_words.specs.declared.failure.Fail.{Fail}
 use Rattle.p8_words.specs.declared.failure.Fail.TheVariants as fail_case
 use Rattle.p8_tree.specs.Sources.{Line}
-use Rattle.p8_faults.specs.declared.faults.Fault.{Fault}
-use Rattle.p8_faults.specs.Faults.{IsFirstFault}
+use Rattle.p8_tree.specs.declared.faults.Fault.{Fault}
+use Rattle.p8_tree.specs.Faults.{IsFirstFault}
 use Rattle.p8_lexer.specs.declared.token.Token.{Token}
 use Rattle.p8_lexer.specs.declared.token.LexFault.{LexFault}
 use Rattle.p8_lexer.specs.Lexing.{AreTokens, IsFault}

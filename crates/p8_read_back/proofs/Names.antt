@@ -3,7 +3,7 @@ use Rattle.std.proofs.Common.{◌≡◌, ℕ, inl, inr, Bool, true, false, [], N
 use Rattle.std.specs.Prelude.{◌==◌, if◌then◌else◌}
 use Rattle.p8_tree.specs.declared.places.Place.{Place}
 use Rattle.p8_tree.specs.Sources.{Instruction, Instr, Line}
-use Rattle.p8_faults.specs.declared.faults.Fault.{Fault}
+use Rattle.p8_tree.specs.declared.faults.Fault.{Fault}
 use Rattle.p8_instr.specs.Instruction.{instr_of}
 use Rattle.p8_dat.specs.Printed.{printed_line}
 use Rattle.p8_constants.specs.FileItems.{items}

@@ -9,12 +9,11 @@ ghost use Rattle.p8_read_back.specs.ReadBack.{source_text, IsFileOf, IsNotRefuse
 
 use p8_blocks::{parse, tokens_are_proper};
 use p8_dat::{Dat, assemble};
-use p8_faults::Fault;
 use p8_instr::instr_text;
 use p8_kinds::{Children, Named};
 use p8_lexer::{Tokens, lex};
 use p8_names::resolve;
-use p8_tree::{List, SourceFile, Text};
+use p8_tree::{Fault, List, SourceFile, Text};
 use p8_words::{Fail, NoMemory};
 use std::alloc::Global;
 

@@ -6,7 +6,7 @@ ghost use Rattle.p8_lexer.specs.declared.token.Token as token;
 ghost use Rattle.p8_lexer.specs.Lexing.{longest_file, AreTokens};
 ghost use Rattle.p8_lines.specs.Tokens.{all_tokens};
 ghost use Rattle.p8_blocks.specs.Files.{IsFileWithinLimits};
-ghost use Rattle.p8_faults.specs.declared.faults.Fault.{Fault};
+ghost use Rattle.p8_tree.specs.declared.faults.Fault.{Fault};
 ghost use Rattle.p8_fold.specs.Meanings.{Setting};
 ghost use Rattle.p8_kinds.specs.declared.children.Children.{Children};
 ghost use Rattle.p8_names.specs.Faults.{IsNameFault};

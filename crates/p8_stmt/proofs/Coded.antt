@@ -6,9 +6,9 @@ use Rattle.p8_tree.specs.declared.places.Place.{Place}
 use Rattle.p8_tree.specs.Sources.{MethodTree}
 use Rattle.p8_tree.specs.Statements.{Statements}
 use Rattle.p8_instr.specs.declared.op.Op.{Op}
-use Rattle.p8_faults.specs.declared.faults.Fault.{Fault}
-use Rattle.p8_faults.specs.Faults.{IsFirstFault}
-use Rattle.p8_faults.proofs.Firsts.{IsFirstFault-along}
+use Rattle.p8_tree.specs.declared.faults.Fault.{Fault}
+use Rattle.p8_tree.specs.Faults.{IsFirstFault}
+use Rattle.p8_tree.proofs.Firsts.{IsFirstFault-along}
 use Rattle.p8_gen.specs.Depths.{held_in}
 use Rattle.p8_gen.specs.Methods.{method_code}
 use Rattle.p8_gen.specs.Names.{Names, widened}

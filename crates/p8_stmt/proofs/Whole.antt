@@ -5,7 +5,7 @@ use Rattle.p8_tree.specs.Expressions.{Tree, Items, no_items, ◌▸◌, single, 
 use Rattle.p8_tree.specs.Statements.{Forever, Count, Before, After, From, Statement, statement, Action, Do, If, Case, Repeat, Next, Quit, Return, Abort, arm, Otherwise, nothing_else, otherwise, Statements, no_statements, ◌▹◌, Arms, no_arms, ◌⊳◌}
 use Rattle.p8_tree.specs.Proper.{IfThere, IsProperExpression, IsCondition, AreProperTests, IsProperStatement, IsProperAction, AreProperArms, AreProperChoices, IsProperOtherwise, AreProperStatements}
 use Rattle.p8_instr.specs.Table.{rows}
-use Rattle.p8_faults.specs.declared.faults.Fault.{Fault}
+use Rattle.p8_tree.specs.declared.faults.Fault.{Fault}
 use Rattle.p8_kinds.specs.Environments.{Environment, kind_in}
 use Rattle.p8_kinds.specs.Misuses.{MisuseInOption, MisuseInItems, MisuseInStatements, MisuseInStatement, MisuseInAction, MisuseInArms, MisuseInOtherwise}
 use Rattle.p8_gen.specs.Names.{Names}

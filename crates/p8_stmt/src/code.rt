@@ -2,8 +2,8 @@
 ghost use Rattle.std.specs.Prelude.{◌≡◌, ◌*◌, ◌<◌, map, flat_map, IfOk, IfErr, OnOk, All};
 ghost use Rattle.p8_tree.specs.Views.{method_of, statements_of};
 ghost use Rattle.p8_instr.specs.Spelling.{spelled};
-ghost use Rattle.p8_faults.specs.declared.faults.Fault.{Fault};
-ghost use Rattle.p8_faults.specs.Faults.{IsFirstFault};
+ghost use Rattle.p8_tree.specs.declared.faults.Fault.{Fault};
+ghost use Rattle.p8_tree.specs.Faults.{IsFirstFault};
 ghost use Rattle.p8_gen.specs.Methods as methods;
 ghost use Rattle.p8_gen.specs.Operations.{IsWhole};
 ghost use Rattle.p8_gen.specs.Scopes.{names_from, names_of};
@@ -17,10 +17,9 @@ use crate::faults::first_fault;
 use crate::frames::{is_too_large, longs_in};
 use crate::spelling::{place_uses, put_ops};
 use crate::statement_depths::held_in;
-use p8_faults::Fault;
 use p8_gen::{Coder, Kept, Line, StringUse, Tables, Way, Writer};
 use p8_kinds::Kinds;
-use p8_tree::{List, Method, Stmt, Text};
+use p8_tree::{Fault, List, Method, Stmt, Text};
 use p8_words::{Fail, NoMemory};
 use std::alloc::{AllocError, Global};
 

@@ -1,10 +1,9 @@
 // Why a method can't be compiled.
 ghost use Rattle.std.specs.Prelude.{◌≡◌, ◌++◌, [], ◌∷◌, IfOk, OnOk, MatchOption, Contains};
-ghost use Rattle.p8_faults.specs.Faults.{fault, IsFirstFault};
+ghost use Rattle.p8_tree.specs.Faults.{fault, IsFirstFault};
 ghost use Rattle.p8_stmt.specs.Telling.{faults_of};
 
-use p8_faults::Fault;
-use p8_tree::Place;
+use p8_tree::{Fault, Place};
 use std::alloc::{AllocError, Global};
 
 /// The first of a method's faults: 25 for each jump that goes too far, and 26 at the method's name where it is too large.

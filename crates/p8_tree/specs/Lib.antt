@@ -14,3 +14,5 @@ pub mod Names
 pub mod Proper
 -- Facts on these for the proofs of the crates above: internal.
 pub mod Bridges
+-- What a refusal is.
+pub mod Faults

@@ -1,7 +1,10 @@
-//! The trees of a source: what every part of the compiler after the lexer speaks of.
+//! The trees of a source, what every part of the compiler after the lexer speaks of, and why a source is refused: faults, and
+//! which of several is told.
 #![tactic(auto)]
 
 mod expressions;
+mod faults;
+mod laws;
 mod places;
 mod projects;
 mod sequences;
@@ -9,6 +12,8 @@ mod sources;
 mod statements;
 
 pub use expressions::{Call, Expr, ExprKind, Item, Target};
+pub use faults::Fault;
+pub use laws::{FaultSet, earlier_is_first, first_of_file_is_first, one_first};
 pub use places::Place;
 pub use projects::{Project, ProjectFile};
 pub use sequences::{List, Text};

@@ -1,7 +1,7 @@
 use Rattle.std.proofs.Common.{length, refl, ◌∙◌, arith}
 use Rattle.std.proofs.lemmas.Option.{slice_get_read}
 use Rattle.p8_tree.specs.Views.{source_of}
-use Rattle.p8_faults.specs.Faults.{IsFirstFault}
+use Rattle.p8_tree.specs.Faults.{IsFirstFault}
 use Rattle.p8_kinds.specs.FileSettings.{file_setting}
 use Rattle.p8_dat.specs.Blocks.{IsDatFault}
 use Rattle.p8_build.specs.Parts.{data_start}

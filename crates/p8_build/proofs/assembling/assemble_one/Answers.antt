@@ -1,6 +1,6 @@
 use Rattle.std.proofs.Common.{sym, subst}
 use Rattle.p8_tree.specs.Views.{source_of}
-use Rattle.p8_faults.specs.Faults.{IsFirstFault}
+use Rattle.p8_tree.specs.Faults.{IsFirstFault}
 use Rattle.p8_kinds.specs.FileSettings.{file_setting}
 use Rattle.p8_dat.specs.Blocks.{IsDatFault}
 use Rattle.p8_build.specs.Parts.{data_start}

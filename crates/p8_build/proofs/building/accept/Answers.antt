@@ -2,7 +2,7 @@ use Rattle.std.proofs.Common.{◌≡◌, ◌<◌, List, length, map, slice_get, 
 use Rattle.std.proofs.lemmas.List.{length-map}
 use Rattle.std.proofs.lemmas.Option.{slice_get_read}
 use Rattle.p8_tree.specs.Views.{named_source_of}
-use Rattle.p8_faults.specs.Faults.{IsFirstFault}
+use Rattle.p8_tree.specs.Faults.{IsFirstFault}
 use Rattle.p8_kinds.specs.declared.named.Named.{Named}
 use Rattle.p8_build.specs.Builds.{IsImageFault}
 use Rattle.p8_build.specs.Phases.{IfFirst, IfFirstRefused, AreNamed, AreAssembled, AreObjects, IfFault, IsFinished, seen_by, clock_in}

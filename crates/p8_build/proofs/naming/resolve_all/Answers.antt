@@ -1,7 +1,7 @@
 use Rattle.std.proofs.Common.{◌==◌, map, ◌∙◌, arith}
 use Rattle.std.proofs.lemmas.List.{length-map}
 use Rattle.p8_tree.specs.Views.{source_of, named_source_of}
-use Rattle.p8_faults.specs.Faults.{IsFirstFault}
+use Rattle.p8_tree.specs.Faults.{IsFirstFault}
 use Rattle.p8_names.specs.Faults.{IsNameFault}
 use Rattle.p8_build.specs.Phases.{IfFirst, IsNamedAt}
 use Rattle.p8_build.proofs.Lists.{mapped, told, each_more, count_more}

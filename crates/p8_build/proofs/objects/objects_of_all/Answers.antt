@@ -3,7 +3,7 @@ use Rattle.std.proofs.lemmas.List.{length-map}
 use Rattle.std.proofs.lemmas.Option.{slice_get_read}
 use Rattle.p8_tree.specs.Proper.{IsProperFile}
 use Rattle.p8_tree.specs.Views.{source_of, named_source_of}
-use Rattle.p8_faults.specs.Faults.{IsFirstFault}
+use Rattle.p8_tree.specs.Faults.{IsFirstFault}
 use Rattle.p8_kinds.specs.declared.named.Named.{Named}
 use Rattle.p8_build.specs.Phases.{seen_by, IfFirst, IsCodeFaultOf}
 use Rattle.p8_build.proofs.Lists.{each_more, count_more}

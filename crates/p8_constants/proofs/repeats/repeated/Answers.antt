@@ -1,6 +1,6 @@
 use Rattle.std.proofs.Common.{◌++◌, sym, subst}
 use Rattle.std.specs.Prelude.{IsTrue, Contains, ◌↔◌}
-use Rattle.p8_faults.specs.Faults.{fault}
+use Rattle.p8_tree.specs.Faults.{fault}
 use Rattle.p8_constants.specs.Repeats.{Repeats}
 use Rattle.p8_constants.specs.Standing.{defined_of, IsFirstOf}
 use Rattle.p8_constants.proofs.FirstFaults.{where_so_first}

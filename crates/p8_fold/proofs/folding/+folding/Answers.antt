@@ -3,7 +3,7 @@ use Rattle.std.specs.Result.{result_err}
 use Rattle.std.proofs.lemmas.Grind.{common_steps}
 use Rattle.p8_tree.specs.Views.{form_of, tree_of, trees_of, item_of, items_of}
 use Rattle.p8_tree.specs.Bridges.{built_is, look_is}
-use Rattle.p8_faults.specs.Faults.{fault}
+use Rattle.p8_tree.specs.Faults.{fault}
 use Rattle.p8_fold.specs.Entries.{setting_of}
 use Rattle.p8_fold.specs.Verdicts.{verdict_of_form, verdict, first_in_item, first_in_items, with_further, first_of_two, built, first_in_trees}
 use Rattle.p8_fold.proofs.Rows.{call_form, trees_next, items_next, not_one}

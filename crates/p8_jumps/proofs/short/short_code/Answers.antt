@@ -1,6 +1,6 @@
 use Rattle.std.proofs.Common.{subst, List, Bool}
 use Rattle.p8_tree.specs.Views.{method_of, statements_of}
-use Rattle.p8_faults.specs.Faults.{IsFirstFault}
+use Rattle.p8_tree.specs.Faults.{IsFirstFault}
 use Rattle.p8_gen.specs.Names.{widened, wide_in}
 use Rattle.p8_gen.specs.Scopes.{names_from}
 use Rattle.p8_stmt.specs.Methods.{IsMethodFault, IfRefused, rebodied}

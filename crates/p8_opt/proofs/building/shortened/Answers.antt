@@ -1,7 +1,7 @@
 use Rattle.std.proofs.Common.{◌≡◌, List, length, map, slice_get, Some, refl, ap, sym, ◌∙◌, subst, arith}
 use Rattle.std.proofs.lemmas.Option.{slice_get_read}
 use Rattle.p8_tree.specs.Views.{named_source_of}
-use Rattle.p8_faults.specs.Faults.{IsFirstFault}
+use Rattle.p8_tree.specs.Faults.{IsFirstFault}
 use Rattle.p8_kinds.specs.declared.named.Named.{Named}
 use Rattle.p8_dat.specs.declared.assembling.Dat.{Dat}
 use Rattle.p8_build.specs.Builds.{IsImageFault}

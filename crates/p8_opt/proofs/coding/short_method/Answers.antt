@@ -1,6 +1,6 @@
 use Rattle.std.proofs.Common.{◌≡◌, ℕ, ◌+◌, ap, sym, ◌∙◌, subst}
 use Rattle.std.specs.Prelude.{IfOk}
-use Rattle.p8_faults.specs.declared.faults.Fault.{Fault}
+use Rattle.p8_tree.specs.declared.faults.Fault.{Fault}
 use Rattle.p8_tree.specs.Statements.{Statements}
 use Rattle.p8_tree.specs.Views.{method_of, statements_of}
 use Rattle.p8_gen.specs.Names.{Names}

@@ -1,7 +1,7 @@
 use Rattle.std.proofs.Common.{◌≡◌, [], ◌+◌, ◌||◌, nat_lt, map, ap, ◌∙◌, subst}
 use Rattle.std.specs.Prelude.{MatchOption, Contains}
 use Rattle.p8_tree.specs.Views.{method_of, declared_of, statements_of}
-use Rattle.p8_faults.specs.Faults.{IsFirstFault}
+use Rattle.p8_tree.specs.Faults.{IsFirstFault}
 use Rattle.p8_gen.specs.Depths.{held_in}
 use Rattle.p8_gen.specs.Names.{widened, wide_in}
 use Rattle.p8_gen.specs.Scopes.{names_from}

@@ -1,5 +1,5 @@
 use Rattle.std.proofs.Common.{◌≡◌, take, map}
-use Rattle.p8_faults.specs.Faults.{fault}
+use Rattle.p8_tree.specs.Faults.{fault}
 use Rattle.p8_stmt.proofs.faults.faults_of.Given as goal
 
 abbrev pub invariant-loop-place : goal.invariant-loop-place

@@ -1,7 +1,7 @@
 use Rattle.std.proofs.Common.{◌∙◌, ap, Some}
-use Rattle.p8_faults.proofs.Firsts.{IsFirstOf-one, IsFirstOf-more}
-use Rattle.p8_faults.proofs.faults.Fault.first_of.Goals as goal
-use Rattle.p8_faults.proofs.faults.Fault.first_of.Goals.{in-None, in-Some}
+use Rattle.p8_tree.proofs.Firsts.{IsFirstOf-one, IsFirstOf-more}
+use Rattle.p8_tree.proofs.faults.Fault.first_of.Goals as goal
+use Rattle.p8_tree.proofs.faults.Fault.first_of.Goals.{in-None, in-Some}
 
 pub loop-fault-preserved : goal.loop-fault-preserved
 loop-fault-preserved c =

@@ -1,7 +1,7 @@
 // What holds of every set of faults and of refusals.
 ghost use Rattle.std.specs.Prelude.{◌≡◌, ◌⊎◌, ℕ};
-ghost use Rattle.p8_faults.specs.declared.faults.Fault.{Fault};
-ghost use Rattle.p8_faults.specs.Faults.{earlier, IsFirstFault, Refusal, IsFirstRefusal, ComesEarlier, in_file};
+ghost use Rattle.p8_tree.specs.declared.faults.Fault.{Fault};
+ghost use Rattle.p8_tree.specs.Faults.{earlier, IsFirstFault, Refusal, IsFirstRefusal, ComesEarlier, in_file};
 
 /// A set of faults, by the fact that a fault is in it.
 pub trait FaultSet {

@@ -1,6 +1,6 @@
 use Rattle.std.proofs.Common.{◌≡◌, [], Contains, MatchOption, take}
-use Rattle.p8_faults.specs.Faults.{IsFirstFault}
-use Rattle.p8_faults.proofs.faults.Fault.first_of.Given as goal
+use Rattle.p8_tree.specs.Faults.{IsFirstFault}
+use Rattle.p8_tree.proofs.faults.Fault.first_of.Given as goal
 
 abbrev pub invariant-loop-fault : goal.invariant-loop-fault
 invariant-loop-fault l =

@@ -5,8 +5,8 @@ use Rattle.std.proofs.lemmas.Bool.Decides.{nat_tests}
 use Rattle.std.proofs.lemmas.List.{take_more}
 use Rattle.std.proofs.Math.Logic.{⊎_elim}
 use Rattle.std.proofs.lemmas.List.Elements.{Contains-append_left, Contains-append_right, Contains-append_cases}
-use Rattle.p8_faults.specs.declared.faults.Fault.{Fault}
-use Rattle.p8_faults.specs.Faults.{FaultBefore, earlier, IsFirstFault}
+use Rattle.p8_tree.specs.declared.faults.Fault.{Fault}
+use Rattle.p8_tree.specs.Faults.{FaultBefore, earlier, IsFirstFault}
 
 pub IsFirstFault-along : {S T : Fault → Type 0} {f : Fault} → ((x : Fault) → S x → T x) → ((x : Fault) → T x → S x) → IsFirstFault S f → IsFirstFault T f
 IsFirstFault-along to from h = record { holds = to _ h.holds; first = λ g t. h.first g (from g t) }

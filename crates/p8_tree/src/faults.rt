@@ -1,8 +1,8 @@
 // Faults and their order.
 ghost use Rattle.std.specs.Prelude.{◌≡◌, [], IsTrue, ◌↔◌, Contains, MatchOption};
-ghost use Rattle.p8_faults.specs.Faults.{FaultBefore, IsFirstFault, comes_before, earlier};
+ghost use Rattle.p8_tree.specs.Faults.{FaultBefore, IsFirstFault, comes_before, earlier};
 
-use p8_tree::Place;
+use crate::places::Place;
 
 /// One reason for which a source is refused: the number of the rule that it breaks, and where.
 #[derive(Clone, Copy, Debug, PartialEq, Eq)]

@@ -1,2 +1,0 @@
--- What a refusal is.
-pub mod Faults
