@@ -13,3 +13,5 @@ pub mod Replays
 -- Machinery that only proofs need.
 pub mod Replaying
 pub mod Agreeing
+-- What the laws speak of.
+pub mod Fitting

@@ -6,6 +6,7 @@
 #![tactic(auto)]
 
 mod course_laws;
+mod fitting_laws;
 mod history_laws;
 mod kinds;
 mod lives;
@@ -14,6 +15,9 @@ mod order;
 mod states;
 
 pub use course_laws::readings_agree;
+pub use fitting_laws::{
+    a_course_ends_its_list, lists_that_fit_are_told, lives_that_fit_are_retold,
+};
 pub use history_laws::{each_legal_past_begins_it, keys_rise, one_history};
 pub use kinds::{Access, Answer, Origin, Reason, Test, Width};
 pub use lives::{Life, Next};

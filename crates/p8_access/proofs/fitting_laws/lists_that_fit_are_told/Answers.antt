@@ -1,5 +1,5 @@
-use Rattle.p8_fitting.proofs.Agreeing.{is-told, only-told}
-use Rattle.p8_fitting.proofs.told_laws.lists_that_fit_are_told.Goals as goal
+use Rattle.p8_access.proofs.Agreeing.{is-told, only-told}
+use Rattle.p8_access.proofs.fitting_laws.lists_that_fit_are_told.Goals as goal
 
 pub returns-clause-told : goal.returns-clause-told
 returns-clause-told g c = λ cog made course answers fit. is-told cog made course answers fit

@@ -4,7 +4,7 @@ ghost use Rattle.p8_access.specs.Courses.{Course, Told, told};
 ghost use Rattle.p8_access.specs.Replays.{Engine, retold};
 ghost use Rattle.p8_access.specs.declared.kinds.Access.{Access};
 ghost use Rattle.p8_access.specs.declared.kinds.Answer.{Answer};
-ghost use Rattle.p8_fitting.specs.Fitting.{IsToldFitting, TakesFitting, IsRetoldFitting, LivesFitting};
+ghost use Rattle.p8_access.specs.Fitting.{IsToldFitting, TakesFitting, IsRetoldFitting, LivesFitting};
 
 /// Where each answer that a course takes fits its access, the reading that takes any answer and the one that ends the list at
 /// the first that doesn't fit are the same.

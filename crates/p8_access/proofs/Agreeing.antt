@@ -6,7 +6,7 @@ use Rattle.p8_access.specs.Lives.{is_last}
 use Rattle.p8_access.specs.Proper.{Fits}
 use Rattle.p8_access.specs.Courses.{Course, Finish, Stop, Ask, Told, Wants, Leaves, Closes, told}
 use Rattle.p8_access.specs.Replays.{Engine, told_step, told_after, retold}
-use Rattle.p8_fitting.specs.Fitting.{IsToldFitting, TakesFitting, IsStepFitting, StepsFitting, IsRetoldFitting, LivesFitting}
+use Rattle.p8_access.specs.Fitting.{IsToldFitting, TakesFitting, IsStepFitting, StepsFitting, IsRetoldFitting, LivesFitting}
 
 either : (b : Bool) → (b ≡ true) ⊎ (b ≡ false)
 either true = inl refl

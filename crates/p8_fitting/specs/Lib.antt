@@ -1,2 +1,0 @@
--- What the laws speak of.
-pub mod Fitting
