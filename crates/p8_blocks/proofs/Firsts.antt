@@ -8,7 +8,7 @@ use Rattle.p8_grammar.specs.Grammar.{IsFront}
 use Rattle.p8_grammar.specs.Machine.{step, walk, start}
 use Rattle.p8_grammar.proofs.Live.{dead}
 use Rattle.p8_expr.specs.Words.{lexeme_of_word}
-use Rattle.p8_pieces.specs.Pieces.{Piece}
+use Rattle.p8_lexer.specs.Pieces.{Piece}
 use Rattle.p8_lines.specs.declared.sign.Sign.{Sign}
 use Rattle.p8_lines.specs.declared.sign.Sign.TheVariants as sign
 use Rattle.p8_lines.specs.declared.state.State.{State}

@@ -11,7 +11,7 @@ use Rattle.p8_grammar.specs.Machine as machine
 use Rattle.p8_grammar.specs.Machine.{reading, addressing, changing, used, Shape, using, fresh, grow, go_on, Frame, infix_frame, if_fresh, step, walk, start, tree, beyond}
 use Rattle.p8_grammar.proofs.Complete.{complete}
 use Rattle.p8_expr.specs.Words.{lexeme_of_word}
-use Rattle.p8_pieces.specs.Pieces.{Piece}
+use Rattle.p8_lexer.specs.Pieces.{Piece}
 use Rattle.p8_lines.specs.declared.sign.Sign.{Sign}
 use Rattle.p8_lines.specs.declared.sign.Sign.TheVariants as sign
 use Rattle.p8_lines.specs.declared.arrow.Arrow.{Arrow}

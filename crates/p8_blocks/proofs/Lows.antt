@@ -21,7 +21,7 @@ use Rattle.p8_grammar.proofs.Live as live
 use Rattle.p8_grammar.proofs.Live.{IsEnding, AreEndings, dead, not_too_high}
 use Rattle.p8_grammar.proofs.Readings.{shows}
 use Rattle.p8_expr.specs.Words.{lexeme_of_word}
-use Rattle.p8_pieces.specs.Pieces.{Piece, tree}
+use Rattle.p8_lexer.specs.Pieces.{Piece, tree}
 use Rattle.p8_lines.specs.declared.state.State.{State}
 use Rattle.p8_lines.specs.declared.state.State.TheVariants as state
 use Rattle.p8_lines.specs.Diagram.{Phrase, choices, setting_at}

@@ -8,8 +8,8 @@ use Rattle.p8_tree.specs.Sources.{Constant, Declared, Child, MethodTree, BlockTr
 use Rattle.p8_tree.specs.Proper.{IsProperConstant, IsProperDeclared, IsProperChild, IsProperLine, IsProperBlock, IsProperFile}
 use Rattle.p8_columns.specs.Lines as lines
 use Rattle.p8_columns.specs.Lines.{Kind}
-use Rattle.p8_pieces.specs.Pieces.{Piece}
-use Rattle.p8_pieces.specs.Proper.{AreProper}
+use Rattle.p8_lexer.specs.Pieces.{Piece}
+use Rattle.p8_lexer.specs.Proper.{AreProper}
 use Rattle.p8_lines.specs.declared.state.State.{State}
 use Rattle.p8_lines.specs.declared.state.State.TheVariants as state
 use Rattle.p8_lines.specs.Tokens.{LineToken, lexeme, terms}

@@ -12,7 +12,7 @@ use Rattle.p8_grammar.specs.Lexemes.{in_method}
 use Rattle.p8_columns.specs.declared.room.Room.TheVariants as room
 use Rattle.p8_columns.specs.Lines as lines
 use Rattle.p8_columns.specs.Columns.{open_for, innermost, HasRoom}
-use Rattle.p8_pieces.specs.Pieces.{Piece}
+use Rattle.p8_lexer.specs.Pieces.{Piece}
 use Rattle.p8_lines.specs.declared.state.State.{State}
 use Rattle.p8_lines.specs.declared.state.State.TheVariants as state
 use Rattle.p8_lines.specs.Diagram.{setting_at}

@@ -13,7 +13,7 @@ use Rattle.p8_grammar.specs.Machine.{step, walk, start}
 use Rattle.p8_grammar.proofs.Live.{dead}
 use Rattle.p8_expr.specs.Words.{lexeme_of_word}
 use Rattle.p8_columns.specs.Lines.{Kind, Plain, If, ElseIf, Else, Repeat, End, Case, Item, Other}
-use Rattle.p8_pieces.specs.Pieces.{Piece, tree}
+use Rattle.p8_lexer.specs.Pieces.{Piece, tree}
 use Rattle.p8_lines.specs.declared.state.State.{State}
 use Rattle.p8_lines.specs.declared.state.State.TheVariants as state
 use Rattle.p8_lines.specs.Diagram.{choices}

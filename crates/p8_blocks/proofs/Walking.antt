@@ -10,7 +10,7 @@ use Rattle.p8_columns.specs.Lines.{Kind, Plain, If, ElseIf, Else, Repeat, End, C
 use Rattle.p8_columns.specs.declared.room.Room.TheVariants as room
 use Rattle.p8_columns.specs.Columns.{FitsAs, Fits, FitAfter, AllFit, innermost, HasRoom}
 use Rattle.p8_columns.proofs.Meaning.{fit_together}
-use Rattle.p8_pieces.specs.Pieces.{Piece}
+use Rattle.p8_lexer.specs.Pieces.{Piece}
 use Rattle.p8_lines.specs.declared.state.State.{State}
 use Rattle.p8_lines.specs.declared.state.State.TheVariants as state
 use Rattle.p8_lines.specs.Tokens.{LineToken, word}

@@ -3,7 +3,7 @@ use Rattle.std.specs.Prelude.{◌≡◌, List, [], ◌∷◌, Option, Some, None
 use Rattle.std.specs.Vec.Iter.{into_iter_items}
 use Rattle.p8_tree.specs.Views.{tree_of}
 use Rattle.p8_tree.specs.Sources.{Datum, Instruction, Line}
-use Rattle.p8_pieces.specs.Pieces.{pieces_of}
+use Rattle.p8_lexer.specs.Pieces.{pieces_of}
 use Rattle.p8_data.specs.declared.part.Part as code
 use Rattle.p8_data.specs.declared.part.Part.TheVariants as code_case
 use Rattle.p8_data.specs.declared.row.Row.{Row}

@@ -1,7 +1,7 @@
 // Lines of DAT.
 ghost use Rattle.std.specs.Prelude.{◌≡◌, ◌∷◌, None, IfOk, option_map};
 ghost use Rattle.p8_tree.specs.Views.{tree_of, contents_of, line_of};
-ghost use Rattle.p8_pieces.specs.Pieces.{pieces_of};
+ghost use Rattle.p8_lexer.specs.Pieces.{pieces_of};
 ghost use Rattle.p8_data.specs.Lines.{value, filled, instruction, body, blank, line, line_of_row};
 ghost use Rattle.p8_data.specs.Rows.{outcome_of};
 ghost use Rattle.p8_data.specs.Views.{part_of, rest, begun};
@@ -10,8 +10,7 @@ use crate::instructions::{bare, local, operands, source};
 use crate::items::all_items;
 use crate::part::{Part, place_of};
 use crate::row::Row;
-use p8_lexer::Word;
-use p8_pieces::Piece;
+use p8_lexer::{Piece, Word};
 use p8_tree::{DatBody, DatLine, Expr, Place, Text};
 use p8_words::NoMemory;
 use std::alloc::Global;

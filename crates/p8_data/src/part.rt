@@ -1,11 +1,10 @@
 // What a piece is to a line of DAT.
 ghost use Rattle.std.specs.Prelude.{◌≡◌};
-ghost use Rattle.p8_pieces.specs.Pieces.{piece_of};
+ghost use Rattle.p8_lexer.specs.Pieces.{piece_of};
 ghost use Rattle.p8_data.specs.Parts.{part_of_word, part_of_piece, place_of};
 ghost use Rattle.p8_data.specs.Views.{part_of};
 
-use p8_lexer::Word;
-use p8_pieces::Piece;
+use p8_lexer::{Piece, Word};
 use p8_tree::{Expr, Place, Text};
 
 // A part of a line of DAT.

@@ -3,7 +3,7 @@ ghost use Rattle.std.specs.Prelude.{◌≡◌, [], ◌∷◌, length, MatchOptio
 ghost use Rattle.std.specs.Vec.Iter.{into_iter_items, into_iter_len};
 
 use crate::part::{Part, part_of_piece};
-use p8_pieces::Piece;
+use p8_lexer::Piece;
 use std::vec::IntoIter;
 
 // The pieces of a row that aren't read yet.
@@ -14,7 +14,7 @@ pub struct Row {
 }
 
 impl Row {
-    ghost use Rattle.p8_pieces.specs.Pieces.{pieces_of};
+    ghost use Rattle.p8_lexer.specs.Pieces.{pieces_of};
     ghost use Rattle.p8_data.specs.Parts.{parts};
     ghost use Rattle.p8_data.specs.Views.{part_of, rest};
 

@@ -12,9 +12,9 @@ use Rattle.p8_tree.specs.Proper as proper
 use Rattle.p8_tree.specs.Proper.{IfThere, is_size, IsProperExpression, IsProperConstant, IsProperDeclared, IsProperLocal, IsProperChild}
 use Rattle.p8_lexer.specs.declared.word.Word.{Word}
 use Rattle.p8_lexer.specs.declared.word.Word.TheVariants as word_case
-use Rattle.p8_pieces.specs.Pieces as pieces
-use Rattle.p8_pieces.specs.Pieces.{Piece}
-use Rattle.p8_pieces.specs.Proper.{AreProper}
+use Rattle.p8_lexer.specs.Pieces as pieces
+use Rattle.p8_lexer.specs.Pieces.{Piece}
+use Rattle.p8_lexer.specs.Proper.{AreProper}
 use Rattle.p8_declarations.specs.Parts.{Part, line_end, comma, equals, hash, colon, bar, left_parenthesis, right_parenthesis, left_bracket, right_bracket, size, name, text, tree, part_of_word, parts, is_line_end, ended, with_first}
 use Rattle.p8_declarations.specs.Constants.{setting, constant, constants, constants_named, constants_behind}
 use Rattle.p8_declarations.specs.Variables.{variable, variables, variables_named, variables_behind, sized_variables}

@@ -4,7 +4,7 @@ use Rattle.std.specs.Prelude.{ℕ, Bool, List, [], ◌∷◌, ◌++◌, Option, 
 use Rattle.p8_tree.specs.declared.places.Place.{Place}
 use Rattle.p8_tree.specs.Statements.{no_statements}
 use Rattle.p8_tree.specs.Sources.{Declared, MethodTree}
-use Rattle.p8_pieces.specs.Pieces.{Piece}
+use Rattle.p8_lexer.specs.Pieces.{Piece}
 use Rattle.p8_declarations.specs.Parts.{Part, line_end, comma, colon, bar, left_parenthesis, right_parenthesis, name, parts}
 use Rattle.p8_declarations.specs.Variables.{variables}
 

@@ -4,7 +4,7 @@ use Rattle.std.specs.List.{list_any}
 use Rattle.p8_tree.specs.declared.places.Place.{Place}
 use Rattle.p8_tree.specs.Expressions.{Tree}
 use Rattle.p8_tree.specs.Sources.{Child}
-use Rattle.p8_pieces.specs.Pieces.{Piece}
+use Rattle.p8_lexer.specs.Pieces.{Piece}
 use Rattle.p8_declarations.specs.Parts.{Part, line_end, colon, left_bracket, right_bracket, name, text, tree, parts, is_line_end}
 
 -- a file's name as the string has it, with `.spin` where it has no dot, which is the character 46

@@ -3,8 +3,8 @@ use Rattle.std.specs.Prelude.{◌≡◌, Bool, false, List, length, Some, All}
 use Rattle.p8_tree.specs.Sources.{Constant, Declared, Child, MethodTree}
 use Rattle.p8_tree.specs.Names.{IsName}
 use Rattle.p8_tree.specs.Proper.{IfThere, is_nothing, IsProperConstant, IsProperDeclared, IsProperLocal, IsProperChild}
-use Rattle.p8_pieces.specs.Pieces.{Piece}
-use Rattle.p8_pieces.specs.Proper.{AreProper}
+use Rattle.p8_lexer.specs.Pieces.{Piece}
+use Rattle.p8_lexer.specs.Proper.{AreProper}
 use Rattle.p8_declarations.specs.Constants.{constants_of_row}
 use Rattle.p8_declarations.specs.Variables.{variables_of_row}
 use Rattle.p8_declarations.specs.Objects.{objects_of_row}

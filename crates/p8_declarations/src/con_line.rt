@@ -1,14 +1,14 @@
 // The lines of CON.
 ghost use Rattle.std.specs.Prelude.{◌≡◌, ◌<◌, IfOk, IfSome, map, option_map, length, ◌∷◌, None};
 ghost use Rattle.p8_tree.specs.Views.{tree_of, constant_of};
-ghost use Rattle.p8_pieces.specs.Pieces.{pieces_of};
+ghost use Rattle.p8_lexer.specs.Pieces.{pieces_of};
 ghost use Rattle.p8_declarations.specs.Parts.{hash, equals, left_bracket, ended, with_first};
 ghost use Rattle.p8_declarations.specs.Constants.{constant, constants, constants_named, constants_behind, constants_of_row};
 ghost use Rattle.p8_declarations.specs.Views.{parts_in, with_constant};
 
 use crate::part::{Part, is_line_end};
 use crate::row::{Behind, Row};
-use p8_pieces::Piece;
+use p8_lexer::Piece;
 use p8_tree::{ConItem, Expr, List, Place, Text};
 use p8_words::NoMemory;
 use std::alloc::Global;

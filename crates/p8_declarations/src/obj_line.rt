@@ -2,14 +2,14 @@
 ghost use Rattle.std.specs.Prelude.{◌≡◌, ◌==◌, ◌∷◌, [], ◌++◌, codes, IfOk, map, option_map};
 ghost use Rattle.std.specs.List.{list_any};
 ghost use Rattle.p8_tree.specs.Views.{tree_of, child_of};
-ghost use Rattle.p8_pieces.specs.Pieces.{pieces_of};
+ghost use Rattle.p8_lexer.specs.Pieces.{pieces_of};
 ghost use Rattle.p8_declarations.specs.Parts.{left_bracket};
 ghost use Rattle.p8_declarations.specs.Objects.{file_of, in_file, object_named, object, alone, objects_of_row};
 ghost use Rattle.p8_declarations.specs.Views.{parts_in, child_in};
 
 use crate::part::{Part, is_line_end};
 use crate::row::Row;
-use p8_pieces::Piece;
+use p8_lexer::Piece;
 use p8_tree::{Expr, List, ObjItem, Place, Text};
 use p8_words::NoMemory;
 use std::alloc::{AllocError, Global};

@@ -1,11 +1,10 @@
 // The parts of a line.
 ghost use Rattle.std.specs.Prelude.{◌≡◌, ◌↔◌, IsTrue};
-ghost use Rattle.p8_pieces.specs.Pieces.{piece_of, pieces_of};
+ghost use Rattle.p8_lexer.specs.Pieces.{piece_of, pieces_of};
 ghost use Rattle.p8_declarations.specs.Parts.{line_end, colon, right_bracket, part_of_word, part_of_piece, parts, is_line_end};
 ghost use Rattle.p8_declarations.specs.Views.{part_of};
 
-use p8_lexer::Word;
-use p8_pieces::Piece;
+use p8_lexer::{Piece, Word};
 use p8_tree::{Expr, Place, Text};
 
 /// A piece of a line, as declarations tell it apart.

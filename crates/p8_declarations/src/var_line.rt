@@ -2,14 +2,14 @@
 ghost use Rattle.std.specs.Prelude.{◌≡◌, ◌<◌, IfOk, IfSome, map, option_map, length, ◌∷◌, None, Option, List};
 ghost use Rattle.p8_tree.specs.Sources.{Declared};
 ghost use Rattle.p8_tree.specs.Views.{tree_of, declared_of};
-ghost use Rattle.p8_pieces.specs.Pieces.{pieces_of};
+ghost use Rattle.p8_lexer.specs.Pieces.{pieces_of};
 ghost use Rattle.p8_declarations.specs.Parts.{left_bracket, ended, with_first};
 ghost use Rattle.p8_declarations.specs.Variables.{variable, variables, variables_named, variables_behind, sized_variables, variables_of_row};
 ghost use Rattle.p8_declarations.specs.Views.{parts_in, with_variable};
 
 use crate::part::{Part, is_line_end};
 use crate::row::{Behind, Row};
-use p8_pieces::Piece;
+use p8_lexer::Piece;
 use p8_tree::{Expr, List, Place, Text, VarItem};
 use p8_words::NoMemory;
 use std::alloc::Global;

@@ -4,6 +4,8 @@ pub mod Places
 pub mod Refusals
 pub mod Words
 pub mod Lexing
+pub mod Pieces
+pub mod Proper
 -- What only proofs need.
 pub mod Table
 pub mod Cutting

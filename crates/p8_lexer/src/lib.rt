@@ -1,10 +1,12 @@
-//! Cutting a Spin source into tokens.
+//! Cutting a Spin source into tokens, and the pieces of a line: what stands in it one after the other, words, names, strings
+//! and whole expressions.
 #![tactic(auto)]
 
 mod characters;
 mod comment;
 mod cut;
 mod lexer;
+mod line_piece;
 mod lookup;
 mod number;
 mod piece;
@@ -17,6 +19,7 @@ mod word;
 
 pub use characters::Characters;
 pub use lexer::{lex, one_answer};
+pub use line_piece::Piece;
 pub use lookup::{named, one_word, reserved_words, word_of};
 pub use p8_tree::Place;
 pub use refusal::{Refusal, refusal_name};

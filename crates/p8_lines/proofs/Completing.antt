@@ -10,7 +10,7 @@ use Rattle.p8_lexer.specs.Words.{spelling, symbols, capital, is_spelled}
 use Rattle.p8_lexer.proofs.Searches.{read_back, empty_is_none}
 use Rattle.p8_grammar.specs.Lexemes.{is_value}
 use Rattle.p8_grammar.specs.Grammar.{operand, a_number, a_word, nothing}
-use Rattle.p8_pieces.specs.Pieces.{Piece, tree}
+use Rattle.p8_lexer.specs.Pieces.{Piece, tree}
 use Rattle.p8_lines.specs.declared.sign.Sign.{Sign}
 use Rattle.p8_lines.specs.declared.sign.Sign.TheVariants as sign
 use Rattle.p8_lines.specs.declared.arrow.Arrow.{Arrow}

@@ -5,7 +5,7 @@ use Rattle.p8_tree.specs.Expressions.{Tree}
 use Rattle.p8_grammar.specs.Grammar.{IsExpression, IsFront}
 use Rattle.p8_grammar.specs.Heights as heights
 use Rattle.p8_grammar.specs.Heights.{height}
-use Rattle.p8_pieces.specs.Pieces.{Piece, tree}
+use Rattle.p8_lexer.specs.Pieces.{Piece, tree}
 use Rattle.p8_lines.specs.declared.state.State.{State}
 use Rattle.p8_lines.specs.declared.state.State.TheVariants as state
 use Rattle.p8_lines.specs.Diagram.{Phrase, choices}

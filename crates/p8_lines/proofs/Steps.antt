@@ -12,8 +12,8 @@ use Rattle.p8_lexer.specs.declared.token.Token as lexer_token
 use Rattle.p8_grammar.specs.Lexemes.{Setting}
 use Rattle.p8_expr.specs.declared.fault.ParseFault.{ParseFault}
 use Rattle.p8_expr.specs.Parsing.{tree, Parses, IsFault, IfRefused}
-use Rattle.p8_pieces.specs.Pieces as pieces
-use Rattle.p8_pieces.specs.Pieces.{Piece}
+use Rattle.p8_lexer.specs.Pieces as pieces
+use Rattle.p8_lexer.specs.Pieces.{Piece}
 use Rattle.p8_lines.specs.declared.arrow.Arrow.{Arrow}
 use Rattle.p8_lines.specs.declared.state.State.{State}
 use Rattle.p8_lines.specs.declared.state.State.TheVariants as state

@@ -22,8 +22,8 @@ use Rattle.p8_expr.specs.declared.fault.ParseFault.{ParseFault}
 use Rattle.p8_expr.specs.Refusals.{refusal_of}
 use Rattle.p8_expr.specs.Parsing as parsing
 use Rattle.p8_expr.specs.Parsing.{tree, refused, Ends, whole, unfit, broken_off, Parses, refusal_at, IsFault}
-use Rattle.p8_pieces.specs.Pieces as pieces
-use Rattle.p8_pieces.specs.Pieces.{Piece}
+use Rattle.p8_lexer.specs.Pieces as pieces
+use Rattle.p8_lexer.specs.Pieces.{Piece}
 use Rattle.p8_lines.specs.declared.state.State.{State}
 use Rattle.p8_lines.specs.declared.state.State.TheVariants as state
 use Rattle.p8_lines.specs.Diagram.{Phrase, choices}

@@ -17,8 +17,8 @@ use Rattle.p8_lines.specs.Tokens as line_tokens
 use Rattle.p8_lines.specs.Tokens.{LineToken, lexeme, string_length, piece, piece_from, line_token, text_end, tokens_from}
 use Rattle.p8_lines.specs.Diagram.{Phrase, choices, behind_in, behind_name_in}
 use Rattle.p8_lines.specs.Stopping.{token_at, run}
-use Rattle.p8_pieces.specs.Pieces as pieces
-use Rattle.p8_pieces.specs.Pieces.{Piece}
+use Rattle.p8_lexer.specs.Pieces as pieces
+use Rattle.p8_lexer.specs.Pieces.{Piece}
 use Rattle.p8_grammar.specs.Lexemes.{Lexeme}
 use Rattle.p8_lines.specs.Lines.{IsOn, Follows, here, further, is_name_word, is_name, behind}
 use Rattle.p8_lines.proofs.Lexemes.{name_lexeme, result_lexeme}

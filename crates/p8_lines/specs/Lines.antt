@@ -11,7 +11,7 @@ use Rattle.p8_grammar.specs.Heights as heights
 use Rattle.p8_grammar.specs.Heights.{height}
 use Rattle.p8_expr.specs.Refusals.{refusal_of}
 pub use Rattle.p8_expr.specs.Parsing.{greatest_height}
-use Rattle.p8_pieces.specs.Pieces.{Piece, tree}
+use Rattle.p8_lexer.specs.Pieces.{Piece, tree}
 use Rattle.p8_lines.specs.Signs.{Matches}
 use Rattle.p8_lines.specs.declared.arrow.Arrow.{Arrow}
 use Rattle.p8_lines.specs.declared.state.State.{State}

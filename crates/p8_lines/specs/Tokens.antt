@@ -10,8 +10,8 @@ use Rattle.p8_lexer.specs.Words.{word_of_kind}
 use Rattle.p8_grammar.specs.Lexemes as lexemes
 use Rattle.p8_grammar.specs.Lexemes.{Lexeme, token}
 use Rattle.p8_expr.specs.Words.{lexeme_by_kind, between_quotes}
-use Rattle.p8_pieces.specs.Pieces as pieces
-use Rattle.p8_pieces.specs.Pieces.{Piece}
+use Rattle.p8_lexer.specs.Pieces as pieces
+use Rattle.p8_lexer.specs.Pieces.{Piece}
 
 -- a token's characters, its kind and its place
 pub record LineToken : Type 0 where

@@ -3,7 +3,7 @@ ghost use Rattle.std.specs.Prelude.{◌≡◌, ◌≢◌, ℕ, ◌+◌, ◌-◌,
 ghost use Rattle.p8_tree.specs.Views.{tree_of};
 ghost use Rattle.p8_grammar.specs.Views.{setting_of, lexeme_of};
 ghost use Rattle.p8_expr.specs.Parsing.{tree, Parses, IfRefused};
-ghost use Rattle.p8_pieces.specs.Pieces.{piece_of, pieces_of};
+ghost use Rattle.p8_lexer.specs.Pieces.{piece_of, pieces_of};
 ghost use Rattle.p8_lines.specs.declared.state.State as line_state;
 ghost use Rattle.p8_lines.specs.declared.state.State.TheVariants as state_case;
 ghost use Rattle.p8_lines.specs.Diagram.{Phrase, choices};
@@ -16,8 +16,7 @@ use crate::arrow::Arrow;
 use crate::state::State;
 use p8_expr::{GREATEST_HEIGHT, ParseFault, lexeme, parse_expr_in, refusal_of};
 use p8_grammar::{Lexeme, Setting, Term};
-use p8_lexer::{Characters, Refusal, Tokens, Word, word_of};
-use p8_pieces::Piece;
+use p8_lexer::{Characters, Piece, Refusal, Tokens, Word, word_of};
 use p8_tree::{Expr, Place};
 use p8_words::{Fail, NoMemory};
 use std::alloc::{AllocError, Global};

@@ -8,7 +8,7 @@ use Rattle.p8_tree.specs.Proper.{IfThere, IsProperExpression, IsProperCourse, Is
 use Rattle.p8_grammar.specs.Heights.{height}
 use Rattle.p8_grammar.specs.Proper as grammar
 use Rattle.p8_columns.specs.Lines.{Kind, Plain, If, ElseIf, Else, Repeat, End, Case, Item, Other}
-use Rattle.p8_pieces.specs.Pieces.{Piece}
+use Rattle.p8_lexer.specs.Pieces.{Piece}
 use Rattle.p8_lines.specs.declared.state.State.{State}
 use Rattle.p8_lines.specs.declared.state.State.TheVariants as state
 use Rattle.p8_lines.specs.Tokens.{LineToken, terms}

@@ -9,7 +9,7 @@ use Rattle.p8_tree.specs.Sources.{Declared, MethodTree}
 use Rattle.p8_tree.specs.Forgetting.{anywhere, declared_anywhere, method_anywhere}
 use Rattle.p8_lexer.specs.declared.word.Word.TheVariants as word_case
 use Rattle.p8_grammar.specs.Lexemes.{in_method}
-use Rattle.p8_pieces.specs.Pieces.{Piece}
+use Rattle.p8_lexer.specs.Pieces.{Piece}
 use Rattle.p8_lines.specs.declared.state.State.{State}
 use Rattle.p8_lines.specs.declared.state.State.TheVariants as state
 use Rattle.p8_lines.specs.Diagram.{choices}

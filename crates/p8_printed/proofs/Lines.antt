@@ -3,7 +3,7 @@ use Rattle.std.proofs.Common.{◌≡◌, List, [], ◌∷◌, ◌++◌, Some, Bo
 use Rattle.std.specs.Prelude.{◌&&◌}
 use Rattle.p8_tree.specs.Statements.{Do, Next, Quit, Return, Abort, After}
 use Rattle.p8_lexer.specs.declared.word.Word.TheVariants as word_case
-use Rattle.p8_pieces.specs.Pieces.{Piece}
+use Rattle.p8_lexer.specs.Pieces.{Piece}
 use Rattle.p8_columns.specs.Lines.{Kind, Plain, Repeat, Line, line}
 use Rattle.p8_lines.specs.declared.arrow.Arrow.{Arrow}
 use Rattle.p8_lines.specs.declared.state.State.{State}

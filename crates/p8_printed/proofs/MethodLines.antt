@@ -17,7 +17,7 @@ use Rattle.p8_grammar.specs.Grammar.{IsExpression, operand, variable, named, not
 use Rattle.p8_grammar.specs.Heights.{height}
 use Rattle.p8_expr.specs.Words.{lexeme_of_word}
 use Rattle.p8_columns.specs.Lines.{Kind, Plain, If, ElseIf, Else, Repeat, End, Case, Item as ItemLine, Other}
-use Rattle.p8_pieces.specs.Pieces.{Piece, word, tree}
+use Rattle.p8_lexer.specs.Pieces.{Piece, word, tree}
 use Rattle.p8_lines.specs.declared.arrow.Arrow.{Arrow}
 use Rattle.p8_lines.specs.declared.state.State.{State}
 use Rattle.p8_lines.specs.declared.state.State.TheVariants as state

@@ -9,7 +9,7 @@ use Rattle.p8_tree.specs.Statements.{Statements}
 use Rattle.p8_tree.specs.Forgetting.{constant_anywhere, declared_anywhere, child_anywhere, method_anywhere, line_anywhere}
 use Rattle.p8_lexer.specs.declared.word.Word.{Word}
 use Rattle.p8_lexer.specs.declared.word.Word.TheVariants as word_case
-use Rattle.p8_pieces.specs.Pieces.{Piece}
+use Rattle.p8_lexer.specs.Pieces.{Piece}
 use Rattle.p8_columns.specs.Lines.{Line}
 use Rattle.p8_columns.specs.Blocks.{AreStatements}
 use Rattle.p8_columns.proofs.Made.{made}

@@ -4,7 +4,7 @@ use Rattle.p8_tree.specs.Statements.{no_statements}
 use Rattle.p8_tree.specs.Sources.{Constant, Declared, Child, MethodTree, Line}
 use Rattle.p8_tree.specs.Forgetting.{constant_anywhere, declared_anywhere, child_anywhere, statements_anywhere, method_anywhere, line_anywhere}
 use Rattle.p8_tree.specs.Proper.{IsProperConstant, IsProperDeclared, IsProperChild, IsProperLine}
-use Rattle.p8_pieces.specs.Pieces.{Piece}
+use Rattle.p8_lexer.specs.Pieces.{Piece}
 use Rattle.p8_lines.specs.declared.state.State.{State}
 use Rattle.p8_lines.specs.declared.state.State.TheVariants as state
 use Rattle.p8_declarations.specs.Proper.{IsProperHead}

@@ -10,8 +10,8 @@ use Rattle.p8_tree.specs.Forgetting.{constant_anywhere, declared_anywhere, child
 use Rattle.p8_lexer.specs.declared.word.Word.{Word}
 use Rattle.p8_lexer.specs.declared.word.Word.TheVariants as word_case
 use Rattle.p8_expr.specs.Words.{lexeme_of_word}
-use Rattle.p8_pieces.specs.Pieces as pieces
-use Rattle.p8_pieces.specs.Pieces.{Piece}
+use Rattle.p8_lexer.specs.Pieces as pieces
+use Rattle.p8_lexer.specs.Pieces.{Piece}
 use Rattle.p8_columns.specs.Lines.{Line}
 use Rattle.p8_columns.specs.Lines as columns
 use Rattle.p8_columns.specs.Blocks.{AreStatements}

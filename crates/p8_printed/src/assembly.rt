@@ -3,7 +3,7 @@
 ghost use Rattle.std.specs.Prelude.{◌≡◌, ℕ, List, Some, option_map};
 ghost use Rattle.p8_tree.specs.Sources.{Line};
 ghost use Rattle.p8_tree.specs.Forgetting.{line_anywhere};
-ghost use Rattle.p8_pieces.specs.Pieces.{Piece};
+ghost use Rattle.p8_lexer.specs.Pieces.{Piece};
 ghost use Rattle.p8_lines.specs.declared.state.State as state;
 ghost use Rattle.p8_lines.specs.declared.state.State.TheVariants as state_case;
 ghost use Rattle.p8_lines.specs.Tokens.{LineToken};

@@ -2,7 +2,7 @@
 
 ghost use Rattle.std.specs.Prelude.{◌≡◌, IsTrue, List, Some};
 ghost use Rattle.p8_columns.specs.Lines.{Kind};
-ghost use Rattle.p8_pieces.specs.Pieces.{Piece};
+ghost use Rattle.p8_lexer.specs.Pieces.{Piece};
 ghost use Rattle.p8_lines.specs.declared.state.State as state;
 ghost use Rattle.p8_lines.specs.declared.state.State.TheVariants as state_case;
 ghost use Rattle.p8_lines.specs.Tokens.{LineToken};

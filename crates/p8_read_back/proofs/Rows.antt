@@ -12,8 +12,8 @@ use Rattle.p8_grammar.specs.Lexemes as lexemes
 use Rattle.p8_grammar.specs.Lexemes.{in_dat, Lexeme, token}
 use Rattle.p8_grammar.specs.Grammar.{IsExpression, a_number, operand, a_word as spells_word, nothing}
 use Rattle.p8_expr.specs.Words.{lexeme_by_kind}
-use Rattle.p8_pieces.specs.Pieces as pieces
-use Rattle.p8_pieces.specs.Pieces.{Piece}
+use Rattle.p8_lexer.specs.Pieces as pieces
+use Rattle.p8_lexer.specs.Pieces.{Piece}
 use Rattle.p8_lines.specs.contracts.state.State.{the_type}
 use Rattle.p8_lines.specs.declared.arrow.Arrow.{Arrow}
 use Rattle.p8_lines.specs.declared.state.State.{State}

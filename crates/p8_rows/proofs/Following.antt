@@ -7,7 +7,7 @@ use Rattle.p8_grammar.specs.Lexemes as lexemes
 use Rattle.p8_grammar.specs.Lexemes.{Setting, Lexeme, is_value}
 use Rattle.p8_grammar.specs.Grammar.{IsExpression, operand, variable, named, plain_name, result_word, result_name, nothing, a_word}
 use Rattle.p8_grammar.proofs.Live.{one_tree}
-use Rattle.p8_pieces.specs.Pieces.{Piece, tree}
+use Rattle.p8_lexer.specs.Pieces.{Piece, tree}
 use Rattle.p8_lines.specs.declared.sign.Sign.{Sign}
 use Rattle.p8_lines.specs.declared.arrow.Arrow.{Arrow}
 use Rattle.p8_lines.specs.declared.state.State.{State}

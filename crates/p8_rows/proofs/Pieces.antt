@@ -6,7 +6,7 @@ use Rattle.p8_lexer.specs.declared.word.Word.{Word}
 use Rattle.p8_lexer.specs.declared.word.Word.TheVariants as word
 use Rattle.p8_lexer.specs.Words.{capital}
 use Rattle.p8_expr.specs.Words.{between_quotes, lexeme_of_word}
-use Rattle.p8_pieces.specs.Pieces as pieces
+use Rattle.p8_lexer.specs.Pieces as pieces
 use Rattle.p8_lines.specs.Tokens as tokens
 use Rattle.p8_lines.specs.Tokens.{LineToken, piece_from, piece}
 use Rattle.p8_lines.proofs.Lexemes.{is_plain, plain_lexeme, name_lexeme, string_lexeme}

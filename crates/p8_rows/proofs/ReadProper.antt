@@ -15,9 +15,9 @@ use Rattle.p8_grammar.specs.Proper as grammar
 use Rattle.p8_grammar.specs.Proper.{IsProperLexeme, lexeme_in, IsProperAction}
 use Rattle.p8_grammar.specs.Grammar.{IsExpression}
 use Rattle.p8_expr.specs.Words.{between_quotes, lexeme_of_word}
-use Rattle.p8_pieces.specs.Pieces as pieces
-use Rattle.p8_pieces.specs.Pieces.{Piece}
-use Rattle.p8_pieces.specs.Proper.{AreProper}
+use Rattle.p8_lexer.specs.Pieces as pieces
+use Rattle.p8_lexer.specs.Pieces.{Piece}
+use Rattle.p8_lexer.specs.Proper.{AreProper}
 use Rattle.p8_lines.specs.declared.sign.Sign.{Sign}
 use Rattle.p8_lines.specs.declared.sign.Sign.TheVariants as sign
 use Rattle.p8_lines.specs.declared.arrow.Arrow.{Arrow}

@@ -6,7 +6,7 @@ use Rattle.p8_tree.specs.Expressions.{Tree, single, range, Items, no_items, â—Œâ
 use Rattle.p8_tree.specs.Statements.{Before, From, Do, Next, Quit, Return, Abort}
 use Rattle.p8_lexer.specs.declared.word.Word.TheVariants as words
 use Rattle.p8_columns.specs.Lines.{Kind, Plain, If, ElseIf, Else, Repeat, End, Case, Item as ItemLine, Other}
-use Rattle.p8_pieces.specs.Pieces.{Piece, word}
+use Rattle.p8_lexer.specs.Pieces.{Piece, word}
 use Rattle.p8_lines.specs.declared.state.State.{State}
 use Rattle.p8_lines.specs.declared.state.State.TheVariants as state
 use Rattle.p8_lines.specs.Tokens.{LineToken}

@@ -3,8 +3,8 @@ use Rattle.std.proofs.Common.{◌≡◌, refl, sym, subst}
 use Rattle.p8_tree.specs.declared.places.Place.{Place}
 use Rattle.p8_lexer.specs.declared.word.Word.{Word}
 use Rattle.p8_lexer.specs.declared.word.Word.TheVariants as word
-use Rattle.p8_pieces.specs.Pieces as pieces
-use Rattle.p8_pieces.specs.Pieces.{Piece}
+use Rattle.p8_lexer.specs.Pieces as pieces
+use Rattle.p8_lexer.specs.Pieces.{Piece}
 use Rattle.p8_lines.specs.declared.sign.Sign.{Sign}
 use Rattle.p8_lines.specs.declared.sign.Sign.TheVariants as sign
 use Rattle.p8_lines.specs.Signs.{Matches}

@@ -4,8 +4,8 @@ use Rattle.p8_tree.specs.Sources.{Line}
 use Rattle.p8_tree.specs.Proper.{IsProperLine}
 use Rattle.p8_grammar.specs.Lexemes.{is_dat}
 use Rattle.p8_grammar.specs.Proper as grammar
-use Rattle.p8_pieces.specs.Pieces.{Piece}
-use Rattle.p8_pieces.specs.Proper.{AreProper}
+use Rattle.p8_lexer.specs.Pieces.{Piece}
+use Rattle.p8_lexer.specs.Proper.{AreProper}
 use Rattle.p8_lines.specs.declared.state.State.{State}
 use Rattle.p8_lines.specs.declared.state.State.TheVariants as state
 use Rattle.p8_lines.specs.Diagram.{setting_at}

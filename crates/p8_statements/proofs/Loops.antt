@@ -2,7 +2,7 @@
 use Rattle.std.specs.Prelude.{◌≡◌, List, ◌∷◌, Option, None, Some, true, false, refl}
 use Rattle.std.proofs.Common.{ap, sym, ◌∙◌}
 use Rattle.p8_tree.specs.Expressions.{Tree, Items, ◌▸◌, single, range}
-use Rattle.p8_pieces.specs.Pieces.{Piece, word, tree}
+use Rattle.p8_lexer.specs.Pieces.{Piece, word, tree}
 use Rattle.p8_statements.specs.declared.role.Role.{Role}
 use Rattle.p8_statements.specs.declared.role.Role.TheVariants as role
 use Rattle.p8_statements.specs.Roles.{is_dot_dot}

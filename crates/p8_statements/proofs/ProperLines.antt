@@ -7,13 +7,13 @@ use Rattle.p8_tree.specs.Statements.{Forever, Count, Before, From, Do, Next, Qui
 use Rattle.p8_tree.specs.Names.{IsVariableName}
 use Rattle.p8_tree.specs.Proper.{greatest_height, IfThere, IsProperTree, IsProperExpression, IsProperTest, AreProperTests, IsProperCourse, is_no_item, IsDone}
 use Rattle.p8_columns.specs.Lines.{Plain, If, ElseIf, Else, Repeat, End, Case, Item as ItemLine, Other}
-use Rattle.p8_pieces.specs.Pieces.{Piece, word, tree}
+use Rattle.p8_lexer.specs.Pieces.{Piece, word, tree}
 use Rattle.p8_statements.specs.declared.role.Role.{Role}
 use Rattle.p8_statements.specs.declared.role.Role.TheVariants as role
 use Rattle.p8_statements.specs.Roles.{role_of, is_comma, is_dot_dot, is_from, is_to, is_step}
 use Rattle.p8_statements.specs.Rows.{◌▶◌, word_in, phrase, is_empty, ended, value_in}
 use Rattle.p8_statements.specs.Statements.{maybe_value, counted, counting, counter, course_by, course_before, course, test, unless_in_range, is_last_colon, tests_after, line, is_item, statement, kind_of_row}
-use Rattle.p8_pieces.specs.Proper.{AreProper}
+use Rattle.p8_lexer.specs.Proper.{AreProper}
 use Rattle.p8_statements.specs.Proper.{IsProperBy, IsProperRow, IsProperKind, KindsAreProper}
 use Rattle.p8_statements.proofs.ProperRows.{Gives, after, mapped, and_then, either, ended_gives, ending_gives, SignIs, word_gives, PhraseIs, phrase_gives, value_gives}
 

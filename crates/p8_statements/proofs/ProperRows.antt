@@ -3,12 +3,12 @@ use Rattle.std.proofs.Common.{◌≡◌, ℕ, Bool, true, false, List, ◌∷◌
 use Rattle.std.specs.Prelude.{IsTrue, if◌then◌else◌, option_map, option_and_then, ◌&&◌, ◌||◌}
 use Rattle.p8_tree.specs.declared.places.Place.{Place}
 use Rattle.p8_tree.specs.Expressions.{Tree}
-use Rattle.p8_pieces.specs.Pieces.{Piece, word, tree}
+use Rattle.p8_lexer.specs.Pieces.{Piece, word, tree}
 use Rattle.p8_statements.specs.declared.role.Role.{Role}
 use Rattle.p8_statements.specs.declared.row.Sign.{Sign}
 use Rattle.p8_statements.specs.Roles.{role_of}
 use Rattle.p8_statements.specs.Rows.{Reading, ◌▶◌, word_in, phrase, is_end, ended, ends, ending, value_in}
-use Rattle.p8_pieces.specs.Proper.{IsProperUpTo, AreProper}
+use Rattle.p8_lexer.specs.Proper.{IsProperUpTo, AreProper}
 
 -- what is read has this property
 abbrev pub Gives : {X : Type 0} → (X → Type 0) → Option X → Type 0

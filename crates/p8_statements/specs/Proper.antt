@@ -3,8 +3,8 @@ use Rattle.std.specs.Prelude.{◌≡◌, ℕ, Bool, true, false, if◌then◌els
 use Rattle.p8_tree.specs.Expressions.{Tree}
 use Rattle.p8_tree.specs.Proper.{greatest_height, IsDone, IsProperExpression, IsProperAction, IsProperCourse, AreProperTests, is_no_item}
 use Rattle.p8_columns.specs.Lines.{Kind, Plain, If, ElseIf, Else, Repeat, End, Case, Item, Other}
-use Rattle.p8_pieces.specs.Pieces.{Piece, tree}
-use Rattle.p8_pieces.specs.Proper.{AreProper}
+use Rattle.p8_lexer.specs.Pieces.{Piece, tree}
+use Rattle.p8_lexer.specs.Proper.{AreProper}
 use Rattle.p8_statements.specs.Statements.{is_item, kind_of_row}
 
 -- the pieces of a line of a method: its names and expressions are proper, and the tree of an action is that of one

@@ -3,7 +3,7 @@ use Rattle.std.specs.Prelude.{ℕ, Bool, true, false, if◌then◌else◌, List,
 use Rattle.p8_tree.specs.declared.places.Place.{Place}
 use Rattle.p8_tree.specs.Expressions.{Tree}
 use Rattle.p8_lexer.specs.declared.word.Word.{Word}
-use Rattle.p8_pieces.specs.Pieces.{Piece, word, tree}
+use Rattle.p8_lexer.specs.Pieces.{Piece, word, tree}
 use Rattle.p8_statements.specs.declared.role.Role.{Role}
 use Rattle.p8_statements.specs.declared.row.Sign.{Sign}
 use Rattle.p8_statements.specs.Roles.{role_of, is_line_end}

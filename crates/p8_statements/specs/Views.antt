@@ -3,7 +3,7 @@ use Rattle.std.specs.Prelude.{if◌then◌else◌, List, Option, None, Some, opt
 use Rattle.p8_tree.specs.Expressions.{Tree, Items, ◌▸◌}
 use Rattle.p8_tree.specs.Views.{tree_of, item_of}
 use Rattle.std.specs.Vec.Iter.{into_iter_items}
-use Rattle.p8_pieces.specs.Pieces.{Piece, pieces_of}
+use Rattle.p8_lexer.specs.Pieces.{Piece, pieces_of}
 use Rattle.p8_statements.specs.declared.role.Role.{Role}
 use Rattle.p8_statements.specs.declared.row.Row.{Row}
 use Rattle.p8_statements.specs.declared.row.Phrase.{Phrase}

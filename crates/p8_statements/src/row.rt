@@ -1,13 +1,12 @@
 // A row of pieces that is read from the left.
 ghost use Rattle.std.specs.Prelude.{◌≡◌, [], ◌∷◌, MatchOption, option_map};
 ghost use Rattle.p8_tree.specs.Views.{tree_of};
-ghost use Rattle.p8_pieces.specs.Pieces.{piece_of, pieces_of, tree};
+ghost use Rattle.p8_lexer.specs.Pieces.{piece_of, pieces_of, tree};
 ghost use Rattle.p8_statements.specs.Rows.{sign, word_in, phrase, is_empty, is_end, ended, ends, value_in};
 ghost use Rattle.p8_statements.specs.Views.{rest_of, reading, phrase_of};
 
 use crate::role::{Role, role_of};
-use p8_lexer::Word;
-use p8_pieces::Piece;
+use p8_lexer::{Piece, Word};
 use p8_tree::{Expr, Place};
 use std::vec::IntoIter;
 

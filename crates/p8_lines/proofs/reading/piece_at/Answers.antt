@@ -1,6 +1,6 @@
 use Rattle.std.proofs.Common.{◌∙◌, sym}
 use Rattle.p8_grammar.specs.Views.{lexeme_of}
-use Rattle.p8_pieces.specs.Pieces.{piece_of}
+use Rattle.p8_lexer.specs.Pieces.{piece_of}
 use Rattle.p8_lines.proofs.Targets.{piece_there, piece_end}
 use Rattle.p8_lines.proofs.reading.piece_at.Goals as goal
 

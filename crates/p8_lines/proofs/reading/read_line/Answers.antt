@@ -4,7 +4,7 @@ use Rattle.std.proofs.lemmas.Grind.{common_steps}
 use Rattle.p8_expr.specs.Parsing.{IfRefused}
 use Rattle.p8_grammar.specs.Views.{setting_of}
 use Rattle.p8_expr.specs.declared.fault.ParseFault.{ParseFault}
-use Rattle.p8_pieces.specs.Pieces.{pieces_of}
+use Rattle.p8_lexer.specs.Pieces.{pieces_of}
 use Rattle.p8_lines.specs.declared.state.State.TheVariants as state
 use Rattle.p8_lines.specs.Tokens.{tokens_from}
 use Rattle.p8_lines.specs.Lines.{Reads, refused}

@@ -1,5 +1,5 @@
 use Rattle.std.proofs.Common.{subst}
-use Rattle.p8_pieces.specs.Pieces.{piece_of, pieces_of}
+use Rattle.p8_lexer.specs.Pieces.{piece_of, pieces_of}
 use Rattle.p8_lines.specs.Tokens.{piece}
 use Rattle.p8_lines.specs.Lines.{Follows}
 use Rattle.p8_lines.specs.Stopping.{token_at}

@@ -2,8 +2,8 @@ use Rattle.std.proofs.Common.{◌∙◌, sym, ap, arith}
 use Rattle.std.specs.Prelude.{option_map}
 use Rattle.p8_tree.specs.Views.{tree_of}
 use Rattle.p8_grammar.specs.Views.{setting_of}
-use Rattle.p8_pieces.specs.Pieces as pieces
-use Rattle.p8_pieces.specs.Pieces.{piece_of, pieces_of}
+use Rattle.p8_lexer.specs.Pieces as pieces
+use Rattle.p8_lexer.specs.Pieces.{piece_of, pieces_of}
 use Rattle.p8_lines.specs.Tokens.{piece}
 use Rattle.p8_lines.specs.Stopping.{token_at}
 use Rattle.p8_lines.proofs.Targets.{follow, no_follow}

@@ -1,5 +1,5 @@
 use Rattle.p8_columns.specs.Views.{kind_of}
-use Rattle.p8_pieces.specs.Pieces.{pieces_of}
+use Rattle.p8_lexer.specs.Pieces.{pieces_of}
 use Rattle.p8_rows.proofs.StatementReads.{read_kind, is_read, suited}
 use Rattle.p8_rows.proofs.statements.read_statement.Goals as goal
 

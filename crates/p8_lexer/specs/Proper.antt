@@ -4,7 +4,7 @@ use Rattle.p8_tree.specs.Expressions.{Tree}
 use Rattle.p8_tree.specs.Heights.{height}
 use Rattle.p8_tree.specs.Names.{IsName, IsString}
 use Rattle.p8_tree.specs.Proper.{IsProperTree}
-use Rattle.p8_pieces.specs.Pieces.{Piece, word, name, text, tree}
+use Rattle.p8_lexer.specs.Pieces.{Piece, word, name, text, tree}
 
 -- a proper expression of at most this height, in DAT or elsewhere
 abbrev pub IsProperUpTo : Bool → ℕ → Tree → Type 0

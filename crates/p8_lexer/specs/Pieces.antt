@@ -4,8 +4,8 @@ use Rattle.p8_tree.specs.declared.places.Place.{Place}
 use Rattle.p8_tree.specs.Expressions.{Tree}
 use Rattle.p8_tree.specs.Views.{tree_of}
 use Rattle.p8_lexer.specs.declared.word.Word.{Word}
-use Rattle.p8_pieces.specs.declared.piece.Piece as code
-use Rattle.p8_pieces.specs.declared.piece.Piece.TheVariants as code_case
+use Rattle.p8_lexer.specs.declared.line_piece.Piece as code
+use Rattle.p8_lexer.specs.declared.line_piece.Piece.TheVariants as code_case
 
 pub data Piece : Type 0 where
   -- a symbol, a reserved word or the end of the line

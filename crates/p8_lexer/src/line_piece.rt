@@ -1,5 +1,5 @@
 // Pieces.
-use p8_lexer::Word;
+use crate::word::Word;
 use p8_tree::{Expr, Place, Text};
 
 /// A piece of a line of a source.
