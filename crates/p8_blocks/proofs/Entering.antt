@@ -23,7 +23,7 @@ use Rattle.p8_lines.specs.declared.state.State.TheVariants as state
 use Rattle.p8_lines.specs.Tokens.{LineToken, word}
 use Rattle.p8_lines.specs.Lines.{Outcome, read, refused, number_of, Reads}
 use Rattle.p8_lexer.specs.Pieces.{Piece}
-use Rattle.p8_rows.specs.Values.{suits}
+use Rattle.p8_blocks.specs.Values.{suits}
 use Rattle.p8_blocks.specs.Reading.{Part, Position, method, at, from, barred, Enters, goes_on, chain_over, no_chain, loop_end, no_loop, statement, item, after_other, opens, leaves_loop, HasNoLoop, IsTooDeep, IsRefusedAt, Fails, entry_fails, no_loop_fails, too_deep_fails, line_fails, is_begun, goes_on_chain, ends_loop}
 use Rattle.p8_blocks.specs.Standing.{Inner, MayRead, TellsTooDeep, too_deep, refused_there}
 use Rattle.p8_blocks.specs.declared.first.First.{First}

@@ -21,7 +21,7 @@ use Rattle.p8_lines.specs.Lines.{Follows, Row, over}
 use Rattle.p8_lines.proofs.Arrows.{all_good, taken}
 use Rattle.p8_lines.proofs.Lexemes.{plain_lexeme}
 use Rattle.p8_lines.proofs.Ways.{begins}
-use Rattle.p8_rows.specs.Values.{begins_line}
+use Rattle.p8_blocks.specs.Values.{begins_line}
 use Rattle.p8_blocks.specs.Reading.{is_block_word}
 use Rattle.p8_blocks.specs.Files.{is_chain_word, is_loop_end_word}
 

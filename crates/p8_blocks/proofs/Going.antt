@@ -16,7 +16,7 @@ use Rattle.p8_lines.specs.declared.state.State.TheVariants as state
 use Rattle.p8_lines.specs.Tokens.{LineToken, word}
 use Rattle.p8_lines.specs.Lines.{read, Reads, line}
 use Rattle.p8_statements.specs.Statements.{kind_of_row}
-use Rattle.p8_rows.specs.Values.{ReadsAs, begins_line}
+use Rattle.p8_blocks.specs.Values.{ReadsAs, begins_line}
 use Rattle.p8_lines.proofs.Readings.{leads_row}
 use Rattle.p8_blocks.specs.Reading as blocks
 use Rattle.p8_blocks.specs.Reading.{Part, constants, variables, objects, assembly, method, Position, at, start, IsHead, opens, IsTooDeep, HasNoLoop, Enters, from, begin, begun_by, is_begun, Opens, Extends, Step, Goes, stay, go_on, AreBlocks, no_blocks, con_block, var_block, obj_block, dat_block, method_block}

@@ -15,7 +15,7 @@ use Rattle.p8_lines.specs.declared.state.State.TheVariants as state
 use Rattle.p8_lines.specs.Tokens.{LineToken, word}
 use Rattle.p8_lines.specs.Lines.{Row}
 use Rattle.p8_statements.specs.Statements.{kind_of_row}
-use Rattle.p8_rows.specs.Values.{suits, HaveKinds, begins_line}
+use Rattle.p8_blocks.specs.Values.{suits, HaveKinds, begins_line}
 use Rattle.p8_blocks.specs.Reading.{Part, constants, variables, objects, assembly, method, Enters, goes_on, loop_end, statement, item, from, HasNoLoop, leaves_loop, goes_on_chain, ends_loop, IsBlock, con_block, var_block, obj_block, dat_block, method_block, AreBlocks, no_blocks, one_more}
 use Rattle.p8_blocks.proofs.Entering.{fits}
 use Rattle.p8_blocks.specs.Files.{Heights, with_body, begins_text}

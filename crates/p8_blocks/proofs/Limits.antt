@@ -17,7 +17,7 @@ use Rattle.p8_lines.specs.Diagram.{setting_at}
 use Rattle.p8_lines.specs.Tokens.{LineToken, word}
 use Rattle.p8_lines.specs.Lines as line_specs
 use Rattle.p8_lines.specs.Lines.{Row, Outcome, Reads, refused, too_high, stopped}
-use Rattle.p8_rows.specs.Values.{suits, begins_line}
+use Rattle.p8_blocks.specs.Values.{suits, begins_line}
 use Rattle.p8_blocks.specs.Reading as reading
 use Rattle.p8_blocks.specs.Reading.{Part, method, Position, at, start, IsHead, head_state, line_state, declares, is_begun, begin, begun_by, Enters, chain_over, no_chain, no_loop, after_other, from, barred, HasNoLoop, IsTooDeep, IsRefusedAt, Step, Goes, stay, go_on, Fails, head_fails, declaration_fails, entry_fails, no_loop_fails, too_deep_fails, line_fails, Parses, fails, source, fault}
 use Rattle.p8_blocks.specs.Trees.{IsShallow}

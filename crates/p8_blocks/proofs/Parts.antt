@@ -16,7 +16,7 @@ use Rattle.p8_declarations.specs.Objects.{objects_of_row}
 use Rattle.p8_declarations.specs.Methods.{method_of_row}
 use Rattle.p8_data.specs.Lines.{line_of_row}
 use Rattle.p8_statements.specs.Statements.{kind_of_row}
-use Rattle.p8_rows.specs.Values.{begins_line}
+use Rattle.p8_blocks.specs.Values.{begins_line}
 use Rattle.p8_blocks.specs.Reading as blocks
 use Rattle.p8_blocks.specs.Reading.{Part, constants, variables, objects, assembly, method, AreBlocks, no_blocks, con_block, var_block, obj_block, dat_block, method_block}
 use Rattle.p8_blocks.specs.Files as files

@@ -23,8 +23,8 @@ use Rattle.p8_data.specs.Lines.{line_of_row}
 use Rattle.p8_statements.specs.Proper.{IsProperKind, KindsAreProper}
 use Rattle.p8_grammar.specs.Proper as words
 use Rattle.p8_grammar.specs.Proper.{IsProperLexeme, lexeme_in}
-use Rattle.p8_rows.specs.Values.{begins_line}
-use Rattle.p8_rows.specs.Proper.{is_in_dat, RowsAreProper, MethodRowsAreProper, LinesAreProper}
+use Rattle.p8_blocks.specs.Values.{begins_line}
+use Rattle.p8_blocks.specs.Proper.{is_in_dat, RowsAreProper, MethodRowsAreProper, LinesAreProper}
 use Rattle.p8_blocks.specs.Trees.{IsShallowBlock, IsShallow}
 use Rattle.p8_blocks.specs.Files.{within_limits, lines_in, lines_of_row, Declare, no_line, a_blank, a_line, AreLines, IsBlock, con, var, obj, dat, method, first_block, IsFile, first, one_more, IsFileWithinLimits}
 use Rattle.p8_blocks.specs.Files as files

@@ -28,7 +28,7 @@ use Rattle.p8_statements.specs.declared.row.Sign.{Sign}
 use Rattle.p8_statements.specs.Roles.{role_of}
 use Rattle.p8_statements.specs.Rows.{Reading, ◌▶◌, word_in, ends, ending, value_in}
 use Rattle.p8_statements.specs.Statements.{maybe_value, course, is_last_colon, line, tests_after, is_item, statement, kind_of_row}
-use Rattle.p8_rows.specs.Values.{suits, begins_line}
+use Rattle.p8_blocks.specs.Values.{suits, begins_line}
 use Rattle.p8_blocks.specs.Reading.{is_opener_word, leaves_loop, opens}
 use Rattle.p8_blocks.proofs.Loops.{line_leaves}
 use Rattle.p8_blocks.proofs.Depths.{line_depth}

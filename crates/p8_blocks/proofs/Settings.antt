@@ -10,7 +10,7 @@ use Rattle.p8_lines.specs.Diagram.{setting_at}
 use Rattle.p8_lines.specs.Tokens.{LineToken, word}
 use Rattle.p8_lines.specs.Lines as line_specs
 use Rattle.p8_lines.specs.Lines.{Row}
-use Rattle.p8_rows.specs.Values.{begins_line}
+use Rattle.p8_blocks.specs.Values.{begins_line}
 use Rattle.p8_blocks.specs.Reading.{Part, constants, variables, objects, assembly, method, IsHead, is_block_word, head_state, line_state, declares}
 use Rattle.p8_blocks.specs.Files.{any_height}
 use Rattle.p8_blocks.specs.Refusals.{block_setting, setting_with, setting_from, setting_behind}

@@ -19,7 +19,7 @@ use Rattle.p8_lines.specs.declared.state.State.{State}
 use Rattle.p8_lines.specs.Tokens.{LineToken, word}
 use Rattle.p8_lines.specs.Lines.{refused, Reads}
 use Rattle.p8_statements.specs.Statements.{kind_of_row}
-use Rattle.p8_rows.specs.Values.{ReadsAs}
+use Rattle.p8_blocks.specs.Values.{ReadsAs}
 use Rattle.p8_blocks.specs.Reading.{Part, method, Position, at, is_block_word, head_state, line_state, declares, begun_by, Opens, Extends, Step, blank, head, declaration, method_line, Fails, head_fails, declaration_fails, is_begun}
 use Rattle.p8_blocks.specs.Standing.{IsOpen, ArePartsOf, StandsFor, word_of_head, Starts, Inner, IsHeadAt, MayRead, Added, Grown, Begins, Continues}
 use Rattle.p8_blocks.specs.declared.words.Head as head_type

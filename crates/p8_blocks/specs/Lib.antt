@@ -1,4 +1,6 @@
 -- What public contracts cite.
+pub mod Values
+pub mod Proper
 pub mod Trees
 pub mod Files
 pub mod Reading

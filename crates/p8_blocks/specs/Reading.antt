@@ -29,7 +29,7 @@ use Rattle.p8_declarations.specs.Objects.{objects_of_row}
 use Rattle.p8_declarations.specs.Methods.{method_of_row}
 use Rattle.p8_data.specs.Lines.{line_of_row}
 use Rattle.p8_statements.specs.Statements.{kind_of_row}
-use Rattle.p8_rows.specs.Values.{ReadsAs}
+use Rattle.p8_blocks.specs.Values.{ReadsAs}
 use Rattle.p8_blocks.specs.Files.{lines_in, with_body, is_item, is_chain_word, is_loop_end_word, is_loop_word}
 
 -- A block so far. A method has its head, with no body, and its lines.

@@ -11,18 +11,18 @@ ghost use Rattle.p8_lexer.specs.declared.refusal.Refusal.TheVariants.{TooNested}
 ghost use Rattle.p8_lexer.specs.Refusals.{refusal_number};
 ghost use Rattle.p8_lines.specs.declared.state.State as line_state;
 ghost use Rattle.p8_lines.specs.Lines.{number_of, refused, Reads};
-ghost use Rattle.p8_rows.specs.Values.{begins_line};
+ghost use Rattle.p8_blocks.specs.Values.{begins_line};
 ghost use Rattle.p8_blocks.specs.Reading.{Part, method, at as position, from, Enters, HasNoLoop, IsTooDeep, Fails, goes_on_chain, ends_loop};
 ghost use Rattle.p8_blocks.specs.Standing.{Inner, MayRead, TellsTooDeep, begins_entry, entry_of};
 
 use crate::first::First;
+use crate::statements::read_statement;
 use crate::words::{ends_loop, goes_on_chain, leaves_loop, opens};
 use p8_columns::{Blocks, Chain, Room};
 use p8_expr::{ParseFault, refusal_of};
 use p8_grammar::Setting;
 use p8_lexer::{Refusal, Tokens, Word};
 use p8_lines::State;
-use p8_rows::read_statement;
 use p8_tree::Place;
 use p8_words::Fail;
 use std::alloc::Global;

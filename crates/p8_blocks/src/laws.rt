@@ -12,7 +12,7 @@ ghost use Rattle.p8_lexer.specs.Lexing.{AreTokens};
 ghost use Rattle.p8_lines.specs.declared.state.State.{State};
 ghost use Rattle.p8_lines.specs.Tokens.{LineToken, terms, all_tokens};
 ghost use Rattle.p8_statements.specs.Statements.{kind_of_row};
-ghost use Rattle.p8_rows.specs.Values.{HaveKinds, begins_line};
+ghost use Rattle.p8_blocks.specs.Values.{HaveKinds, begins_line};
 ghost use Rattle.p8_blocks.specs.Reading.{Answer, source, fault, Parses};
 ghost use Rattle.p8_blocks.specs.Files.{IsFileWithinLimits, StopsAt, PassesLimits, PassesAt};
 ghost use Rattle.p8_blocks.specs.Refusals.{IsRefused};
@@ -21,10 +21,10 @@ ghost use Rattle.p8_blocks.specs.Refusals.{IsRefused};
 fn lines_have_kinds()
     ensures { (q : State) → IsTrue (begins_line q) → HaveKinds kind_of_row q }
 {
-    p8_rows::statements_have_kinds();
-    p8_rows::chain_lines_have_kinds();
-    p8_rows::loop_ends_have_kinds();
-    p8_rows::case_items_have_kinds();
+    crate::row_laws::statements_have_kinds();
+    crate::row_laws::chain_lines_have_kinds();
+    crate::row_laws::loop_ends_have_kinds();
+    crate::row_laws::case_items_have_kinds();
 }
 
 /// Reading gives a tree exactly where the tokens are a file with that tree, within the limits on heights and on how
@@ -44,11 +44,11 @@ pub fn one_answer()
 pub fn refusals_stand_first()
     ensures { (ts : List LineToken) (n : ℕ) (p : place.Place) → Parses ts (fault n p) → n ≢ refusal_number TooNested → StopsAt ts n p }
 {
-    p8_rows::constants_have_values();
-    p8_rows::variables_have_values();
-    p8_rows::objects_have_values();
-    p8_rows::data_have_values();
-    p8_rows::methods_have_values();
+    crate::row_laws::constants_have_values();
+    crate::row_laws::variables_have_values();
+    crate::row_laws::objects_have_values();
+    crate::row_laws::data_have_values();
+    crate::row_laws::methods_have_values();
     lines_have_kinds();
 }
 
@@ -58,11 +58,11 @@ pub fn refusals_pass_limits()
     ensures passes { (ts : List LineToken) (n : ℕ) (p : place.Place) → Parses ts (fault n p) → n ≡ refusal_number TooNested → PassesLimits ts }
     ensures there { (ts : List LineToken) (n : ℕ) (p : place.Place) → Parses ts (fault n p) → n ≡ refusal_number TooNested → PassesAt ts p }
 {
-    p8_rows::constants_have_values();
-    p8_rows::variables_have_values();
-    p8_rows::objects_have_values();
-    p8_rows::data_have_values();
-    p8_rows::methods_have_values();
+    crate::row_laws::constants_have_values();
+    crate::row_laws::variables_have_values();
+    crate::row_laws::objects_have_values();
+    crate::row_laws::data_have_values();
+    crate::row_laws::methods_have_values();
     lines_have_kinds();
 }
 
@@ -70,11 +70,11 @@ pub fn refusals_pass_limits()
 pub fn refusals_are_read()
     ensures { (ts : List LineToken) (n : ℕ) (p : place.Place) → Parses ts (fault n p) → IsRefused ts n p }
 {
-    p8_rows::constants_have_values();
-    p8_rows::variables_have_values();
-    p8_rows::objects_have_values();
-    p8_rows::data_have_values();
-    p8_rows::methods_have_values();
+    crate::row_laws::constants_have_values();
+    crate::row_laws::variables_have_values();
+    crate::row_laws::objects_have_values();
+    crate::row_laws::data_have_values();
+    crate::row_laws::methods_have_values();
     lines_have_kinds();
 }
 
@@ -83,11 +83,11 @@ pub fn one_refusal()
     ensures number { (ts : List LineToken) (n k : ℕ) (p q : place.Place) → IsRefused ts n p → IsRefused ts k q → n ≡ k }
     ensures place { (ts : List LineToken) (n k : ℕ) (p q : place.Place) → IsRefused ts n p → IsRefused ts k q → p ≡ q }
 {
-    p8_rows::constants_have_values();
-    p8_rows::variables_have_values();
-    p8_rows::objects_have_values();
-    p8_rows::data_have_values();
-    p8_rows::methods_have_values();
+    crate::row_laws::constants_have_values();
+    crate::row_laws::variables_have_values();
+    crate::row_laws::objects_have_values();
+    crate::row_laws::data_have_values();
+    crate::row_laws::methods_have_values();
     lines_have_kinds();
 }
 
@@ -100,10 +100,10 @@ pub fn files_are_not_refused()
 pub fn files_are_proper()
     ensures { (ts : List LineToken) (s : Source) → IsFileWithinLimits s ts → AreProper (terms ts) → IsProperFile s }
 {
-    p8_rows::rows_are_proper();
+    crate::row_laws::rows_are_proper();
     p8_declarations::declarations_are_proper();
     p8_statements::kinds_are_proper();
-    p8_rows::data_are_proper();
+    crate::row_laws::data_are_proper();
 }
 
 /// The tokens of a file of bytes are proper words.

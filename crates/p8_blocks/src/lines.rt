@@ -13,17 +13,16 @@ ghost use Rattle.p8_blocks.specs.Reading.{Part, constants, variables, objects, a
 ghost use Rattle.p8_blocks.specs.Files.{lines_in, is_item};
 ghost use Rattle.p8_blocks.specs.Standing.{Added, Begins, Grown, Inner, IsOpen, IsToken, word_of_head};
 
+use crate::declarations::{read_constants, read_data, read_method, read_objects, read_variables};
 use crate::entry::state_of_line;
 use crate::first::First;
 use crate::growing::Open;
+use crate::statements::read_statement;
 use crate::words::Head;
 use p8_columns::{Blocks, Line, LineKind};
 use p8_expr::ParseFault;
 use p8_lexer::Tokens;
 use p8_lines::State;
-use p8_rows::{
-    read_constants, read_data, read_method, read_objects, read_statement, read_variables,
-};
 use p8_tree::{ConItem, DatLine, List, Method, ObjItem, Place, VarItem};
 use p8_words::Fail;
 use std::alloc::{AllocError, Global};

@@ -15,7 +15,7 @@ use Rattle.p8_lines.specs.Tokens.{LineToken, terms}
 use Rattle.p8_lines.specs.Lines.{Leads}
 use Rattle.p8_statements.specs.Statements.{kind_of_row}
 use Rattle.p8_statements.specs.Proper.{IsProperKind, KindsAreProper}
-use Rattle.p8_rows.specs.Proper.{MethodRowsAreProper}
+use Rattle.p8_blocks.specs.Proper.{MethodRowsAreProper}
 use Rattle.p8_blocks.specs.Files.{is_item}
 use Rattle.p8_print.specs.Spelled.{IsReadable}
 use Rattle.p8_print.specs.StatementWords.{words_of_kind}

@@ -12,7 +12,7 @@ use Rattle.p8_lines.specs.Diagram.{choices}
 use Rattle.p8_lines.specs.Tokens.{LineToken, word}
 use Rattle.p8_lines.specs.Lines.{Follows, Leads, nowhere, by_token, by_phrase}
 use Rattle.p8_lines.proofs.Arrows.{all_good, taken}
-use Rattle.p8_rows.specs.Values.{begins_line}
+use Rattle.p8_blocks.specs.Values.{begins_line}
 use Rattle.p8_blocks.specs.Files.{within_limits, begins_text, is_item, AreLines, a_blank, a_line}
 use Rattle.p8_statements.specs.Statements.{kind_of_row}
 use Rattle.p8_print.specs.StatementWords.{words_of_kind}

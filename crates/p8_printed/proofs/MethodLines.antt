@@ -26,7 +26,7 @@ use Rattle.p8_lines.specs.Tokens as tokens
 use Rattle.p8_lines.specs.Tokens.{LineToken, terms, piece}
 use Rattle.p8_lines.specs.Lines.{Follows, is_name_word, is_name, behind, Leads, nowhere, by_phrase}
 use Rattle.p8_lines.proofs.Begun.{not_nothing}
-use Rattle.p8_rows.proofs.Pieces.{word_piece}
+use Rattle.p8_blocks.proofs.Pieces.{word_piece}
 use Rattle.p8_statements.specs.Roles.{role_of}
 use Rattle.p8_statements.specs.Statements.{tests_after, is_item, statement, kind_of_row}
 use Rattle.p8_blocks.specs.Files as files

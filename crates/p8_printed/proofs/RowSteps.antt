@@ -19,7 +19,7 @@ use Rattle.p8_lines.specs.Tokens as tokens
 use Rattle.p8_lines.specs.Tokens.{LineToken, string_length, lexeme, terms, piece_from, piece}
 use Rattle.p8_lines.specs.Lines.{Follows, Leads, nowhere, by_token, by_phrase}
 use Rattle.p8_lines.proofs.Matching.{target, follows}
-use Rattle.p8_rows.proofs.Pieces.{is_word, word_piece}
+use Rattle.p8_blocks.proofs.Pieces.{is_word, word_piece}
 use Rattle.p8_print.specs.Spelled as spelled
 use Rattle.p8_print.specs.Spelled.{Spelled, IsReadable, is_free}
 use Rattle.p8_print.specs.Wording.{wrapped}

@@ -18,6 +18,6 @@ pub fn data_read_back()
     ensures line { (us : List LineToken) (row : List Piece) (x : Line) → Leads state_case.DatLine us row state_case.End → AreOfSource us → line_of_row row ≡ Some (Some x) → ReadsBack line_of_row (option_map line_anywhere) state_case.DatLine (words_of_line x) (Some x) }
 {
     p8_expr::lexemes_are_proper();
-    p8_rows::rows_are_proper();
-    p8_rows::data_are_proper();
+    p8_blocks::rows_are_proper();
+    p8_blocks::data_are_proper();
 }

@@ -1,7 +1,7 @@
 use Rattle.std.proofs.Common.{◌≡◌, sym, subst}
 use Rattle.std.specs.Prelude.{IsTrue}
 use Rattle.std.proofs.lemmas.Result.{IfOk-weaker}
-use Rattle.p8_rows.specs.Values.{begins_line}
+use Rattle.p8_blocks.specs.Values.{begins_line}
 use Rattle.p8_blocks.specs.Reading.{Enters, barred}
 use Rattle.p8_blocks.specs.Standing.{begins_entry, entry_of}
 use Rattle.p8_blocks.proofs.Entering.{barred_fails}

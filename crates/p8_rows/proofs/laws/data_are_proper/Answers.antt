@@ -1,8 +1,0 @@
-use Rattle.p8_rows.proofs.ProperData.{head_proper, lines_proper}
-use Rattle.p8_rows.proofs.laws.data_are_proper.Goals as goal
-
-pub returns-clause-head : goal.returns-clause-head
-returns-clause-head c = head_proper
-
-pub returns-clause-line : goal.returns-clause-line
-returns-clause-line c = lines_proper
