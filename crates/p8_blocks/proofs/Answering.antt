@@ -19,7 +19,7 @@ use Rattle.p8_declarations.specs.Constants.{constants_of_row}
 use Rattle.p8_declarations.specs.Variables.{variables_of_row}
 use Rattle.p8_declarations.specs.Objects.{objects_of_row}
 use Rattle.p8_declarations.specs.Methods.{method_of_row}
-use Rattle.p8_data.specs.Lines.{line_of_row}
+use Rattle.p8_declarations.specs.Lines.{line_of_row}
 use Rattle.p8_statements.specs.Statements.{kind_of_row}
 use Rattle.p8_blocks.specs.Values.{ReadsAs}
 use Rattle.p8_blocks.specs.Reading.{Part, constants, variables, objects, assembly, method, Position, at, start, IsHead, is_block_word, head_state, line_state, opens, leaves_loop, IsTooDeep, HasNoLoop, begun_by, Opens, con, var, obj, pub_method, pri_method, dat, Extends, first_constants, more_constants, more_variables, more_objects, more_assembly, Step, blank, head, declaration, method_line, Goes, stay, go_on, IsRefusedAt, Fails, head_fails, declaration_fails, entry_fails, no_loop_fails, too_deep_fails, line_fails, IsBlock, con_block, var_block, obj_block, dat_block, method_block, AreBlocks, no_blocks, one_more, Answer, source, fault, Parses, whole, fails}

@@ -10,8 +10,8 @@ use Rattle.p8_lexer.specs.declared.word.Word.TheVariants as word
 use Rattle.p8_lexer.specs.Words.{spelling}
 use Rattle.p8_grammar.specs.Lexemes.{Setting, in_dat, in_data_item}
 use Rattle.p8_lines.specs.Signs.{takes_two, is_on_memory, takes_one, is_condition}
-use Rattle.p8_data.specs.Parts.{Part, condition, part_of_word}
-use Rattle.p8_data.specs.Lines.{local, label}
+use Rattle.p8_declarations.specs.DataParts.{Part, condition, part_of_word}
+use Rattle.p8_declarations.specs.Lines.{local, label}
 
 -- what is known of the expressions, the names and the strings of a line
 pub record Facts : Type 1 where

@@ -22,7 +22,7 @@ use Rattle.p8_lines.specs.Tokens as tokens
 use Rattle.p8_lines.specs.Tokens.{LineToken, string_length, piece}
 use Rattle.p8_lines.specs.Lines.{Follows, here, further, is_name, behind, Row, over, token, phrase}
 use Rattle.p8_lines.proofs.Lexemes.{is_plain}
-use Rattle.p8_data.specs.Parts.{Part, line_end, colon, comma, hash, left_bracket, right_bracket, size, org, res, fit, condition, effect, jump, other, name, text, tree, part_of_word, part_of_piece}
+use Rattle.p8_declarations.specs.DataParts.{Part, line_end, colon, comma, hash, left_bracket, right_bracket, size, org, res, fit, condition, effect, jump, other, name, text, tree, part_of_word, part_of_piece}
 use Rattle.p8_blocks.proofs.Closed.{is_closed, halves, own_next, own_behind}
 use Rattle.p8_blocks.proofs.Pieces.{word_piece, name_piece, text_piece}
 use Rattle.p8_blocks.proofs.DataMade.{Facts, IsSize, byte_size, word_size, long_size, condition_number}

@@ -14,7 +14,7 @@ use Rattle.p8_declarations.specs.Constants.{constants_of_row}
 use Rattle.p8_declarations.specs.Variables.{variables_of_row}
 use Rattle.p8_declarations.specs.Objects.{objects_of_row}
 use Rattle.p8_declarations.specs.Methods.{method_of_row}
-use Rattle.p8_data.specs.Lines.{line_of_row}
+use Rattle.p8_declarations.specs.Lines.{line_of_row}
 use Rattle.p8_statements.specs.Statements.{kind_of_row}
 use Rattle.p8_blocks.specs.Values.{begins_line}
 use Rattle.p8_blocks.specs.Reading as blocks

@@ -15,8 +15,8 @@ use Rattle.p8_lexer.specs.Pieces.{Piece}
 use Rattle.p8_lexer.specs.Proper.{AreProper}
 use Rattle.p8_lines.specs.declared.state.State.TheVariants as state
 use Rattle.p8_lines.specs.Signs.{is_condition, takes_two, is_on_memory, takes_one}
-use Rattle.p8_data.specs.Parts.{part_of_word}
-use Rattle.p8_data.specs.Lines.{line_of_row}
+use Rattle.p8_declarations.specs.DataParts.{part_of_word}
+use Rattle.p8_declarations.specs.Lines.{line_of_row}
 use Rattle.p8_blocks.specs.Values.{HaveValues}
 use Rattle.p8_blocks.specs.Proper.{LinesAreProper}
 use Rattle.p8_blocks.proofs.DataMade as made

@@ -19,7 +19,7 @@ use Rattle.p8_declarations.specs.Constants.{constants_of_row}
 use Rattle.p8_declarations.specs.Variables.{variables_of_row}
 use Rattle.p8_declarations.specs.Objects.{objects_of_row}
 use Rattle.p8_declarations.specs.Proper.{ConstantsAreProper, VariablesAreProper, ObjectsAreProper, HeadsAreProper}
-use Rattle.p8_data.specs.Lines.{line_of_row}
+use Rattle.p8_declarations.specs.Lines.{line_of_row}
 use Rattle.p8_statements.specs.Proper.{IsProperKind, KindsAreProper}
 use Rattle.p8_grammar.specs.Proper as words
 use Rattle.p8_grammar.specs.Proper.{IsProperLexeme, lexeme_in}

@@ -6,9 +6,9 @@ use Rattle.p8_lexer.specs.Pieces.{Piece}
 use Rattle.p8_lines.specs.declared.state.State.{State}
 use Rattle.p8_lines.specs.Tokens.{LineToken}
 use Rattle.p8_lines.specs.Lines.{read, line, Reads, Row}
-use Rattle.p8_data.specs.declared.lines.DatRow.{DatRow}
-use Rattle.p8_data.specs.declared.lines.DatRow.TheVariants as row_case
-use Rattle.p8_data.specs.Rows.{outcome_of}
+use Rattle.p8_declarations.specs.declared.lines.DatRow.{DatRow}
+use Rattle.p8_declarations.specs.declared.lines.DatRow.TheVariants as row_case
+use Rattle.p8_declarations.specs.Rows.{outcome_of}
 use Rattle.p8_blocks.specs.Values.{HaveValues}
 use Rattle.p8_lines.proofs.Readings.{leads_row}
 use Rattle.p8_blocks.proofs.Following.{Has}

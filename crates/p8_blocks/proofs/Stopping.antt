@@ -23,7 +23,7 @@ use Rattle.p8_declarations.specs.Constants.{constants_of_row}
 use Rattle.p8_declarations.specs.Variables.{variables_of_row}
 use Rattle.p8_declarations.specs.Objects.{objects_of_row}
 use Rattle.p8_declarations.specs.Methods.{method_of_row}
-use Rattle.p8_data.specs.Lines.{line_of_row}
+use Rattle.p8_declarations.specs.Lines.{line_of_row}
 use Rattle.p8_blocks.specs.Values.{HaveValues}
 use Rattle.p8_blocks.specs.Reading.{Part, constants, variables, objects, assembly, method, Position, IsHead, is_block_word, head_state, line_state, declares, is_begun, leaves_loop, Enters, chain_over, no_chain, no_loop, after_other, from, barred, HasNoLoop, Fails, head_fails, declaration_fails, entry_fails, no_loop_fails, too_deep_fails, line_fails, Parses, fails, fault}
 use Rattle.p8_blocks.specs.Files.{any_height, within_limits, is_item, IsFile, Begins, is_chain_word, is_loop_end_word, is_loop_word, NumberOf, no_opener, outside_loop, by_word, StopsAt, lines_in}

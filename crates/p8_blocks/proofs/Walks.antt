@@ -20,7 +20,7 @@ use Rattle.p8_declarations.specs.Constants.{constants_of_row}
 use Rattle.p8_declarations.specs.Variables.{variables_of_row}
 use Rattle.p8_declarations.specs.Objects.{objects_of_row}
 use Rattle.p8_declarations.specs.Methods.{method_of_row}
-use Rattle.p8_data.specs.Lines.{line_of_row}
+use Rattle.p8_declarations.specs.Lines.{line_of_row}
 use Rattle.p8_statements.specs.Statements.{kind_of_row}
 use Rattle.p8_blocks.specs.Reading.{Part, constants, variables, objects, assembly, method, IsHead, Enters, from, HasNoLoop}
 use Rattle.p8_blocks.specs.Files.{Heights, any_height, within_limits, IsLine, lines_in, is_item}

@@ -12,7 +12,7 @@ use Rattle.p8_lines.specs.Diagram.{setting_at}
 use Rattle.p8_lines.specs.Tokens.{LineToken, terms}
 use Rattle.p8_lines.specs.Lines.{Row, Leads}
 use Rattle.p8_statements.specs.Proper.{IsProperRow}
-use Rattle.p8_data.specs.Lines.{line_of_row}
+use Rattle.p8_declarations.specs.Lines.{line_of_row}
 
 -- whether a state is one of a line of DAT
 abbrev pub is_in_dat : State → Bool

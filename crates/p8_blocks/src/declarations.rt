@@ -9,11 +9,10 @@ ghost use Rattle.p8_declarations.specs.Constants.{constants_of_row};
 ghost use Rattle.p8_declarations.specs.Variables.{variables_of_row};
 ghost use Rattle.p8_declarations.specs.Objects.{objects_of_row};
 ghost use Rattle.p8_declarations.specs.Methods.{method_of_row};
-ghost use Rattle.p8_data.specs.Lines.{line_of_row};
+ghost use Rattle.p8_declarations.specs.Lines.{line_of_row};
 ghost use Rattle.p8_blocks.specs.Values.{ReadsAs};
 
-use p8_data::{DatRow, dat_line};
-use p8_declarations::{constants, method, object, variables};
+use p8_declarations::{DatRow, constants, dat_line, method, object, variables};
 use p8_expr::ParseFault;
 use p8_lexer::Tokens;
 use p8_lines::{State, read_line};

@@ -6,7 +6,7 @@ ghost use Rattle.p8_declarations.specs.Constants.{constants_of_row};
 ghost use Rattle.p8_declarations.specs.Variables.{variables_of_row};
 ghost use Rattle.p8_declarations.specs.Objects.{objects_of_row};
 ghost use Rattle.p8_declarations.specs.Methods.{method_of_row};
-ghost use Rattle.p8_data.specs.Lines.{line_of_row};
+ghost use Rattle.p8_declarations.specs.Lines.{line_of_row};
 ghost use Rattle.p8_statements.specs.Statements.{kind_of_row};
 ghost use Rattle.p8_blocks.specs.Proper.{is_in_dat, LinesAreProper, RowsAreProper, MethodRowsAreProper};
 ghost use Rattle.p8_blocks.specs.Values.{HaveKinds, HaveValues, begins_line};

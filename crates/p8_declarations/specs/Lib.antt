@@ -7,3 +7,9 @@ pub mod Methods
 pub mod Proper
 -- What the code's values stand for: internal.
 pub mod Views
+-- What public contracts cite.
+pub mod DataParts
+pub mod Lines
+pub mod Rows
+-- What only proofs need.
+pub mod DataViews

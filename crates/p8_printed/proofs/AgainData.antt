@@ -16,8 +16,8 @@ use Rattle.p8_lexer.specs.declared.word.Word.TheVariants as word
 use Rattle.p8_lexer.specs.Words.{spelling}
 use Rattle.p8_lexer.proofs.Searches.{same-true}
 use Rattle.p8_grammar.specs.Lexemes.{in_dat}
-use Rattle.p8_data.specs.Parts.{part_of_word}
-use Rattle.p8_data.specs.Lines.{label}
+use Rattle.p8_declarations.specs.DataParts.{part_of_word}
+use Rattle.p8_declarations.specs.Lines.{label}
 use Rattle.p8_lines.specs.Signs.{takes_two, is_on_memory, takes_one}
 use Rattle.p8_printed.proofs.Readings as readings
 use Rattle.p8_printed.proofs.Readings.{IsRead}

@@ -17,8 +17,8 @@ use Rattle.p8_lines.specs.Tokens as tokens
 use Rattle.p8_lines.specs.Tokens.{LineToken, piece}
 use Rattle.p8_lines.specs.Lines.{Leads}
 use Rattle.p8_lines.proofs.Matching.{target}
-use Rattle.p8_data.specs.Parts.{Part, tree, colon, name, size, org, res, fit, condition, place_of, part_of_word, part_of_piece, parts}
-use Rattle.p8_data.specs.Lines.{value, filled, instruction, body, blank, maybe_line, line_of_row}
+use Rattle.p8_declarations.specs.DataParts.{Part, tree, colon, name, size, org, res, fit, condition, place_of, part_of_word, part_of_piece, parts}
+use Rattle.p8_declarations.specs.Lines.{value, filled, instruction, body, blank, maybe_line, line_of_row}
 use Rattle.p8_print.specs.Spelled as spelled
 use Rattle.p8_print.specs.Spelled.{Spelled, reserved}
 use Rattle.p8_print.specs.Tables.{size_word, sizes}

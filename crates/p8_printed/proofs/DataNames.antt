@@ -2,7 +2,7 @@
 use Rattle.std.proofs.Common.{◌≡◌, ℕ, List, [], ◌∷◌, map, ap, ◌∙◌}
 use Rattle.p8_lexer.specs.Words.{capital}
 use Rattle.p8_lines.specs.Tokens.{LineToken, piece}
-use Rattle.p8_data.specs.Parts.{name, part_of_piece}
+use Rattle.p8_declarations.specs.DataParts.{name, part_of_piece}
 use Rattle.p8_print.specs.Spelled as spelled
 use Rattle.p8_print.specs.Spelled.{spell}
 use Rattle.p8_printed.proofs.OperandWords.{plain_words}

@@ -9,7 +9,7 @@ use Rattle.p8_lines.specs.Tokens as tokens
 use Rattle.p8_lines.specs.Tokens.{LineToken, piece}
 use Rattle.p8_lines.proofs.Lexemes.{is_plain}
 use Rattle.p8_blocks.proofs.Pieces.{word_piece, name_piece, text_piece}
-use Rattle.p8_data.specs.Parts.{name, text, part_of_word, part_of_piece}
+use Rattle.p8_declarations.specs.DataParts.{name, text, part_of_word, part_of_piece}
 
 pub plain_part : (t : LineToken) (w : Word) → IsTrue (is_plain w) → tokens.word t ≡ w → part_of_piece (piece t) ≡ part_of_word w t.place
 plain_part t w plain h = ap part_of_piece (word_piece t w plain h)

@@ -8,7 +8,7 @@ use Rattle.p8_lines.specs.Signs.{is_condition, takes_two, is_on_memory, takes_on
 use Rattle.p8_lines.specs.Tokens as tokens
 use Rattle.p8_lines.specs.Tokens.{LineToken, lexeme, term, terms, string_length, piece}
 use Rattle.p8_lines.proofs.Lexemes.{is_plain}
-use Rattle.p8_data.specs.Parts.{Part, condition, other, part_of_word, part_of_piece}
+use Rattle.p8_declarations.specs.DataParts.{Part, condition, other, part_of_word, part_of_piece}
 use Rattle.p8_printed.proofs.DataParts.{plain_part}
 use Rattle.p8_printed.proofs.Made.{condition_number}
 

@@ -16,8 +16,8 @@ use Rattle.p8_lines.specs.Diagram.{◌⇒◌, any, choices}
 use Rattle.p8_lines.specs.Tokens as tokens
 use Rattle.p8_lines.specs.Tokens.{LineToken, piece}
 use Rattle.p8_lines.proofs.Matching.{target}
-use Rattle.p8_data.specs.Parts.{Part, effect, part_of_word, part_of_piece}
-use Rattle.p8_data.specs.Lines.{effects, behind_destination, operands}
+use Rattle.p8_declarations.specs.DataParts.{Part, effect, part_of_word, part_of_piece}
+use Rattle.p8_declarations.specs.Lines.{effects, behind_destination, operands}
 use Rattle.p8_print.specs.Spelled.{Spelled, reserved, is_free}
 use Rattle.p8_print.specs.DataWords.{words_of_effects}
 use Rattle.p8_printed.proofs.Made.{effects_number, IsEffects, some_effects, IsFlags, some_flags, sixteen, made}

@@ -18,7 +18,7 @@ use Rattle.p8_lines.specs.Tokens as tokens
 use Rattle.p8_lines.specs.Tokens.{LineToken, terms, string_length, piece}
 use Rattle.p8_lines.specs.Lines.{Follows, is_name, Leads, nowhere, by_token, by_phrase}
 use Rattle.p8_lines.proofs.Matching.{target, follows}
-use Rattle.p8_data.specs.Parts.{Part, line_end, tree, part_of_word, part_of_piece, before_end, parts}
+use Rattle.p8_declarations.specs.DataParts.{Part, line_end, tree, part_of_word, part_of_piece, before_end, parts}
 use Rattle.p8_print.specs.Spelled.{Spelled, IsReadable}
 use Rattle.p8_printed.specs.Lexemes.{IsInCapitals}
 use Rattle.p8_printed.proofs.Printed.{wrapped_printed, wrapped_back}

@@ -18,8 +18,8 @@ use Rattle.p8_lines.specs.Diagram.{choices}
 use Rattle.p8_lines.specs.Tokens as tokens
 use Rattle.p8_lines.specs.Tokens.{LineToken, piece}
 use Rattle.p8_lines.proofs.Matching.{target}
-use Rattle.p8_data.specs.Parts.{Part, other, jump, part_of_word, part_of_piece}
-use Rattle.p8_data.specs.Lines.{label, bare, operands, filled, instruction, body, blank, maybe_line}
+use Rattle.p8_declarations.specs.DataParts.{Part, other, jump, part_of_word, part_of_piece}
+use Rattle.p8_declarations.specs.Lines.{label, bare, operands, filled, instruction, body, blank, maybe_line}
 use Rattle.p8_print.specs.Spelled.{reserved, is_free}
 use Rattle.p8_printed.proofs.SpelledWords.{reserved_is, spelled_back}
 use Rattle.p8_print.specs.Wording.{wrapped}

@@ -13,8 +13,8 @@ use Rattle.p8_lines.specs.Diagram.{◌⇒◌, outer, choices}
 use Rattle.p8_lines.specs.Tokens as tokens
 use Rattle.p8_lines.specs.Tokens.{LineToken, piece}
 use Rattle.p8_lines.proofs.Matching.{target}
-use Rattle.p8_data.specs.Parts.{Part, tree, comma, left_bracket, right_bracket, size, part_of_word, part_of_piece}
-use Rattle.p8_data.specs.Lines.{Stage, before, behind, open_bracket, counted, over, datum, items, all_items}
+use Rattle.p8_declarations.specs.DataParts.{Part, tree, comma, left_bracket, right_bracket, size, part_of_word, part_of_piece}
+use Rattle.p8_declarations.specs.Lines.{Stage, before, behind, open_bracket, counted, over, datum, items, all_items}
 use Rattle.p8_print.specs.Spelled.{reserved}
 use Rattle.p8_print.specs.Tables.{size_word, sizes}
 use Rattle.p8_print.specs.Wording.{wrapped, words_of_count}

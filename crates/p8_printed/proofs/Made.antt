@@ -9,8 +9,8 @@ use Rattle.p8_lexer.specs.declared.word.Word.TheVariants as word
 use Rattle.p8_lexer.specs.Words.{spelling}
 use Rattle.p8_grammar.specs.Lexemes.{in_dat, in_data_item}
 use Rattle.p8_lines.specs.Signs.{takes_two, is_on_memory, takes_one, is_condition}
-use Rattle.p8_data.specs.Parts.{Part, condition, part_of_word}
-use Rattle.p8_data.specs.Lines.{local, label}
+use Rattle.p8_declarations.specs.DataParts.{Part, condition, part_of_word}
+use Rattle.p8_declarations.specs.Lines.{local, label}
 use Rattle.p8_printed.proofs.Readings.{IsRead, IsName, IsSize}
 
 -- what there is, if there is anything, is so

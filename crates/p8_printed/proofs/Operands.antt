@@ -14,8 +14,8 @@ use Rattle.p8_lines.specs.Diagram.{◌⇒◌, outer, choices}
 use Rattle.p8_lines.specs.Tokens as tokens
 use Rattle.p8_lines.specs.Tokens.{LineToken, piece}
 use Rattle.p8_lines.proofs.Matching.{target}
-use Rattle.p8_data.specs.Parts.{Part, hash, comma, colon, name, part_of_word, part_of_piece}
-use Rattle.p8_data.specs.Lines.{local, behind_destination, operands, source, behind_hash, label}
+use Rattle.p8_declarations.specs.DataParts.{Part, hash, comma, colon, name, part_of_word, part_of_piece}
+use Rattle.p8_declarations.specs.Lines.{local, behind_destination, operands, source, behind_hash, label}
 use Rattle.p8_print.specs.Spelled as spelled
 use Rattle.p8_print.specs.Spelled.{reserved}
 use Rattle.p8_print.specs.Wording.{words_of_name, wrapped}

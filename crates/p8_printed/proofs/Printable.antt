@@ -21,7 +21,7 @@ use Rattle.p8_declarations.specs.Constants.{constants_of_row}
 use Rattle.p8_declarations.specs.Variables.{variables_of_row}
 use Rattle.p8_declarations.specs.Objects.{objects_of_row}
 use Rattle.p8_declarations.specs.Methods.{method_of_row}
-use Rattle.p8_data.specs.Lines.{line_of_row}
+use Rattle.p8_declarations.specs.Lines.{line_of_row}
 use Rattle.p8_tree.specs.Nesting.{leave_loops}
 use Rattle.p8_blocks.specs.Files.{lines_of_row, lines_in, with_body}
 use Rattle.p8_print.specs.Spelled.{Spelled, reserved, IsReadable, IsReadableLine}

@@ -9,7 +9,7 @@ use Rattle.p8_lines.specs.declared.state.State.{State}
 use Rattle.p8_lines.specs.declared.state.State.TheVariants as state
 use Rattle.p8_declarations.specs.Proper.{IsProperHead}
 use Rattle.p8_declarations.specs.Methods.{method_of_row}
-use Rattle.p8_data.specs.Lines.{line_of_row}
+use Rattle.p8_declarations.specs.Lines.{line_of_row}
 use Rattle.p8_print.specs.Spelled.{Spelled, IsReadable}
 use Rattle.p8_print.specs.DeclarationWords.{words_of_constant, words_of_variable, words_of_child, words_of_head}
 use Rattle.p8_print.specs.DataWords.{words_of_line}

@@ -25,7 +25,7 @@ use Rattle.p8_declarations.specs.Variables.{variables_of_row}
 use Rattle.p8_declarations.specs.Objects.{objects_of_row}
 use Rattle.p8_declarations.specs.Methods.{method_of_row}
 use Rattle.p8_declarations.specs.Parts.{part_of_word}
-use Rattle.p8_data.specs.Parts as data_parts
+use Rattle.p8_declarations.specs.DataParts as data_parts
 use Rattle.p8_tree.specs.Nesting.{leave_loops}
 use Rattle.p8_blocks.specs.Trees.{IsShallowBlock, IsShallow}
 use Rattle.p8_blocks.specs.Files.{Heights, within_limits, lines_of_row, Declare, AreLines, IsHead, method_word, IsBlock, con, var, obj, dat, method, IsFile, first, one_more, no_line, a_blank, a_line, with_body}

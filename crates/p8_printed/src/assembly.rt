@@ -8,7 +8,7 @@ ghost use Rattle.p8_lines.specs.declared.state.State as state;
 ghost use Rattle.p8_lines.specs.declared.state.State.TheVariants as state_case;
 ghost use Rattle.p8_lines.specs.Tokens.{LineToken};
 ghost use Rattle.p8_lines.specs.Lines.{Leads};
-ghost use Rattle.p8_data.specs.Lines.{line_of_row};
+ghost use Rattle.p8_declarations.specs.Lines.{line_of_row};
 ghost use Rattle.p8_printed.specs.Rereading.{AreOfSource, ReadsBack};
 ghost use Rattle.p8_print.specs.DataWords.{words_of_line};
 

@@ -18,8 +18,8 @@ use Rattle.p8_lines.specs.Tokens as tokens
 use Rattle.p8_lines.specs.Tokens.{LineToken, line_token, string_length, text_end, all_tokens, piece}
 use Rattle.p8_lines.specs.Lines.{Leads, nowhere, by_token}
 use Rattle.p8_lines.proofs.Matching.{target, follows}
-use Rattle.p8_data.specs.Parts.{Part, part_of_word, place_of, before_end, parts}
-use Rattle.p8_data.specs.Lines.{filled, blank, maybe_line}
+use Rattle.p8_declarations.specs.DataParts.{Part, part_of_word, place_of, before_end, parts}
+use Rattle.p8_declarations.specs.Lines.{filled, blank, maybe_line}
 use Rattle.p8_blocks.specs.Files.{within_limits, Declare, no_line, a_blank, a_line, lines_in, lines_of_row, IsBlock, dat, IsFile, first, one_more, IsFileWithinLimits}
 use Rattle.p8_blocks.specs.Trees.{IsShallowBlock}
 use Rattle.p8_printed.proofs.DataParts.{plain_part}

@@ -24,8 +24,8 @@ use Rattle.p8_lines.specs.Tokens as tokens
 use Rattle.p8_lines.specs.Tokens.{LineToken, term, terms, lexeme, piece}
 use Rattle.p8_lines.specs.Lines.{Follows, is_name, Leads, by_phrase}
 use Rattle.p8_lines.proofs.Matching.{target}
-use Rattle.p8_data.specs.Parts.{Part, tree, comma, hash, condition, other, part_of_word, part_of_piece, parts}
-use Rattle.p8_data.specs.Lines.{bare, operands, source, behind_hash, behind_destination, filled, instruction, body, blank, maybe_line}
+use Rattle.p8_declarations.specs.DataParts.{Part, tree, comma, hash, condition, other, part_of_word, part_of_piece, parts}
+use Rattle.p8_declarations.specs.Lines.{bare, operands, source, behind_hash, behind_destination, filled, instruction, body, blank, maybe_line}
 use Rattle.p8_print.specs.DataWords.{words_of_effects}
 use Rattle.p8_printed.proofs.Made.{made, condition_number, IsEffects, some_effects, IsFlags, some_flags, sixteen}
 use Rattle.p8_printed.proofs.DataParts.{plain_part}

@@ -11,7 +11,7 @@ use Rattle.p8_lexer.specs.Lexing.{is_letter, is_in, AllIn}
 use Rattle.p8_lexer.specs.Words.{spelling, same, word_spelled, every_word, symbols, reserved_words}
 use Rattle.p8_lexer.proofs.Searches.{same-true}
 use Rattle.p8_lines.specs.Signs.{takes_two, is_on_memory, is_condition}
-use Rattle.p8_data.specs.Parts.{part_of_word}
+use Rattle.p8_declarations.specs.DataParts.{part_of_word}
 use Rattle.p8_instr.specs.Conditions.{conditions}
 use Rattle.p8_instr.specs.Mnemonics.{mnemonics, word_where, is_named_by}
 use Rattle.p8_print.specs.Spelled.{is_free}

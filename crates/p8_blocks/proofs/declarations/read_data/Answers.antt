@@ -1,5 +1,5 @@
 use Rattle.p8_lines.specs.declared.state.State.TheVariants as state_case
-use Rattle.p8_data.specs.Lines.{line_of_row}
+use Rattle.p8_declarations.specs.Lines.{line_of_row}
 use Rattle.p8_blocks.proofs.Reading.{value_read, known}
 use Rattle.p8_blocks.proofs.ProperData.{head_has_value, line_has_value}
 use Rattle.p8_blocks.proofs.declarations.read_data.Goals as goal

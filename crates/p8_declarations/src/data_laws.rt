@@ -8,7 +8,7 @@ ghost use Rattle.p8_instr.specs.declared.instruction.Instr.{Instr};
 ghost use Rattle.p8_instr.specs.Mnemonics as instructions;
 ghost use Rattle.p8_instr.specs.Mnemonics.{entry_of};
 ghost use Rattle.p8_instr.specs.Conditions.{conditions};
-ghost use Rattle.p8_data.specs.Parts.{part_of_word, field_of};
+ghost use Rattle.p8_declarations.specs.DataParts.{part_of_word, field_of};
 
 /// The words of conditions are those of the instruction set, each with its field; no other word has
 /// one. The function does nothing, and its contract is the law.

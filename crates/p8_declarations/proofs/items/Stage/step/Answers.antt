@@ -1,6 +1,6 @@
 use Rattle.std.proofs.Common.{map}
 use Rattle.p8_tree.specs.Views.{datum_of}
-use Rattle.p8_data.proofs.items.Stage.step.Goals as goal
+use Rattle.p8_declarations.proofs.items.Stage.step.Goals as goal
 
 pub returns-in-Before : goal.returns-in-Before
 returns-in-Before c = rw c.in-Before.is (c.from_size.ensures (map datum_of c.args.read.now))

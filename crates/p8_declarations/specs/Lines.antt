@@ -9,7 +9,7 @@ use Rattle.p8_lexer.specs.declared.word.Word.{Word}
 use Rattle.p8_lexer.specs.declared.word.Word.TheVariants.{Jmp}
 use Rattle.p8_lexer.specs.Words.{spelling}
 use Rattle.p8_lexer.specs.Pieces.{Piece}
-use Rattle.p8_data.specs.Parts.{Part, colon, comma, hash, left_bracket, right_bracket, size, org, res, fit, condition, effect, jump, other, name, text, tree, place_of, parts}
+use Rattle.p8_declarations.specs.DataParts.{Part, colon, comma, hash, left_bracket, right_bracket, size, org, res, fit, condition, effect, jump, other, name, text, tree, place_of, parts}
 
 -- a local label's name: `:` and its letters
 abbrev pub local : List ℕ → List ℕ

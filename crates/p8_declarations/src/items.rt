@@ -3,11 +3,11 @@ ghost use Rattle.std.specs.Prelude.{◌≡◌, [], ◌∷◌, ◌++◌, List, On
 ghost use Rattle.p8_tree.specs.Sources.{Datum};
 ghost use Rattle.p8_tree.specs.Views.{datum_of, tree_of};
 ghost use Rattle.p8_tree.specs.Expressions.{node, Str};
-ghost use Rattle.p8_data.specs.Lines.{before, behind, open_bracket, counted, over, datum, all_items, items};
-ghost use Rattle.p8_data.specs.Views.{part_of, rest, stage_of, Steps};
+ghost use Rattle.p8_declarations.specs.Lines.{before, behind, open_bracket, counted, over, datum, all_items, items};
+ghost use Rattle.p8_declarations.specs.DataViews.{part_of, rest, stage_of, Steps};
 
-use crate::part::Part;
-use crate::row::Row;
+use crate::data_part::Part;
+use crate::data_row::Row;
 use p8_tree::{DatItem, Expr, ExprKind, List, Place, Text};
 use p8_words::NoMemory;
 use std::alloc::Global;

@@ -1,8 +1,8 @@
 // What a piece is to a line of DAT.
 ghost use Rattle.std.specs.Prelude.{◌≡◌};
 ghost use Rattle.p8_lexer.specs.Pieces.{piece_of};
-ghost use Rattle.p8_data.specs.Parts.{part_of_word, part_of_piece, place_of};
-ghost use Rattle.p8_data.specs.Views.{part_of};
+ghost use Rattle.p8_declarations.specs.DataParts.{part_of_word, part_of_piece, place_of};
+ghost use Rattle.p8_declarations.specs.DataViews.{part_of};
 
 use p8_lexer::{Piece, Word};
 use p8_tree::{Expr, Place, Text};
@@ -35,7 +35,7 @@ pub enum Part {
 }
 
 // What a word is.
-#[tactic(auto, unfolding(crate::specs::Parts::part_of_word))]
+#[tactic(auto, unfolding(crate::specs::DataParts::part_of_word))]
 fn part_of_word(word: Word, place: Place) -> Part
     ensures { part_of result ≡ part_of_word word place }
 {

@@ -2,8 +2,8 @@
 use Rattle.std.specs.Prelude.{Option, Some, None}
 use Rattle.p8_tree.specs.Sources.{Line}
 use Rattle.p8_tree.specs.Views.{line_of}
-use Rattle.p8_data.specs.declared.lines.DatRow.{DatRow}
-use Rattle.p8_data.specs.declared.lines.DatRow.TheVariants as row_case
+use Rattle.p8_declarations.specs.declared.lines.DatRow.{DatRow}
+use Rattle.p8_declarations.specs.declared.lines.DatRow.TheVariants as row_case
 
 -- a line, no line, or no row of DAT
 abbrev pub outcome_of : DatRow → Option (Option Line)

@@ -4,14 +4,14 @@ use Rattle.std.specs.Vec.Iter.{into_iter_items}
 use Rattle.p8_tree.specs.Views.{tree_of}
 use Rattle.p8_tree.specs.Sources.{Datum, Instruction, Line}
 use Rattle.p8_lexer.specs.Pieces.{pieces_of}
-use Rattle.p8_data.specs.declared.part.Part as code
-use Rattle.p8_data.specs.declared.part.Part.TheVariants as code_case
-use Rattle.p8_data.specs.declared.row.Row.{Row}
-use Rattle.p8_data.specs.declared.lines.Head.{Head}
-use Rattle.p8_data.specs.declared.items.Stage as code_stage
-use Rattle.p8_data.specs.declared.items.Stage.TheVariants as stage_case
-use Rattle.p8_data.specs.Parts.{Part, line_end, colon, comma, hash, left_bracket, right_bracket, size, org, res, fit, condition, effect, jump, other, name, text, tree, parts}
-use Rattle.p8_data.specs.Lines.{Stage, before, behind, open_bracket, counted, over, items, effects, blank}
+use Rattle.p8_declarations.specs.declared.data_part.Part as code
+use Rattle.p8_declarations.specs.declared.data_part.Part.TheVariants as code_case
+use Rattle.p8_declarations.specs.declared.data_row.Row.{Row}
+use Rattle.p8_declarations.specs.declared.lines.Head.{Head}
+use Rattle.p8_declarations.specs.declared.items.Stage as code_stage
+use Rattle.p8_declarations.specs.declared.items.Stage.TheVariants as stage_case
+use Rattle.p8_declarations.specs.DataParts.{Part, line_end, colon, comma, hash, left_bracket, right_bracket, size, org, res, fit, condition, effect, jump, other, name, text, tree, parts}
+use Rattle.p8_declarations.specs.Lines.{Stage, before, behind, open_bracket, counted, over, items, effects, blank}
 
 abbrev pub part_of : code.Part → Part
 part_of code_case.LineEnd = line_end

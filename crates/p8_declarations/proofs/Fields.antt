@@ -6,7 +6,7 @@ use Rattle.p8_lexer.specs.declared.word.Word.TheVariants as word
 use Rattle.p8_lexer.specs.Words.{spelling}
 use Rattle.p8_instr.specs.Mnemonics.{entry_of}
 use Rattle.p8_instr.specs.Conditions.{conditions}
-use Rattle.p8_data.specs.Parts.{part_of_word, field_of}
+use Rattle.p8_declarations.specs.DataParts.{part_of_word, field_of}
 
 pub fields_agree : (w : Word) (p : Place) → field_of (part_of_word w p) ≡ entry_of conditions (spelling w)
 unfolding part_of_word conditions

@@ -2,14 +2,14 @@
 ghost use Rattle.std.specs.Prelude.{◌≡◌, ◌∷◌, None, IfOk, option_map};
 ghost use Rattle.p8_tree.specs.Views.{tree_of, contents_of, line_of};
 ghost use Rattle.p8_lexer.specs.Pieces.{pieces_of};
-ghost use Rattle.p8_data.specs.Lines.{value, filled, instruction, body, blank, line, line_of_row};
-ghost use Rattle.p8_data.specs.Rows.{outcome_of};
-ghost use Rattle.p8_data.specs.Views.{part_of, rest, begun};
+ghost use Rattle.p8_declarations.specs.Lines.{value, filled, instruction, body, blank, line, line_of_row};
+ghost use Rattle.p8_declarations.specs.Rows.{outcome_of};
+ghost use Rattle.p8_declarations.specs.DataViews.{part_of, rest, begun};
 
+use crate::data_part::{Part, place_of};
+use crate::data_row::Row;
 use crate::instructions::{bare, local, operands, source};
 use crate::items::all_items;
-use crate::part::{Part, place_of};
-use crate::row::Row;
 use p8_lexer::{Piece, Word};
 use p8_tree::{DatBody, DatLine, Expr, Place, Text};
 use p8_words::NoMemory;

@@ -1,10 +1,10 @@
 use Rattle.std.proofs.Common.{map, ap, ◌∙◌, subst}
 use Rattle.std.specs.Prelude.{option_map}
 use Rattle.p8_tree.specs.Views.{datum_of}
-use Rattle.p8_data.specs.Lines.{items}
-use Rattle.p8_data.specs.Views.{part_of, rest, from, stage_of, Steps}
-use Rattle.p8_data.proofs.Stepping.{stops, goes_on, next_from, no_stage}
-use Rattle.p8_data.proofs.items.items_from.Goals as goal
+use Rattle.p8_declarations.specs.Lines.{items}
+use Rattle.p8_declarations.specs.DataViews.{part_of, rest, from, stage_of, Steps}
+use Rattle.p8_declarations.proofs.Stepping.{stops, goes_on, next_from, no_stage}
+use Rattle.p8_declarations.proofs.items.items_from.Goals as goal
 
 pub returns-in_default-2 : goal.returns-in_default-2
 returns-in_default-2 c =

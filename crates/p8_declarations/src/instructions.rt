@@ -1,11 +1,11 @@
 // Instructions.
 ghost use Rattle.std.specs.Prelude.{◌≡◌, ◌∷◌, IfOk, option_map};
 ghost use Rattle.p8_tree.specs.Views.{tree_of, instruction_of};
-ghost use Rattle.p8_data.specs.Lines.{local, label, bare, direct, immediate, effects, behind_hash, source, behind_destination, operands};
-ghost use Rattle.p8_data.specs.Views.{part_of, rest, from, Affects};
+ghost use Rattle.p8_declarations.specs.Lines.{local, label, bare, direct, immediate, effects, behind_hash, source, behind_destination, operands};
+ghost use Rattle.p8_declarations.specs.DataViews.{part_of, rest, from, Affects};
 
-use crate::part::Part;
-use crate::row::Row;
+use crate::data_part::Part;
+use crate::data_row::Row;
 use p8_lexer::Word;
 use p8_tree::{Expr, ExprKind, InstrLine, Place, Target, Text};
 use p8_words::NoMemory;

@@ -2,7 +2,7 @@
 ghost use Rattle.std.specs.Prelude.{◌≡◌, [], ◌∷◌, length, MatchOption};
 ghost use Rattle.std.specs.Vec.Iter.{into_iter_items, into_iter_len};
 
-use crate::part::{Part, part_of_piece};
+use crate::data_part::{Part, part_of_piece};
 use p8_lexer::Piece;
 use std::vec::IntoIter;
 
@@ -15,8 +15,8 @@ pub struct Row {
 
 impl Row {
     ghost use Rattle.p8_lexer.specs.Pieces.{pieces_of};
-    ghost use Rattle.p8_data.specs.Parts.{parts};
-    ghost use Rattle.p8_data.specs.Views.{part_of, rest};
+    ghost use Rattle.p8_declarations.specs.DataParts.{parts};
+    ghost use Rattle.p8_declarations.specs.DataViews.{part_of, rest};
 
     // The whole row.
     pub fn new(pieces: Vec<Piece>) -> Row

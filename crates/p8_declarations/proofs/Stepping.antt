@@ -2,12 +2,12 @@
 use Rattle.std.proofs.Common.{◌≡◌, ◌≢◌, [], ◌∷◌, List, Option, Some, None, refl, sym, ◌∙◌}
 use Rattle.std.specs.Prelude.{option_map, MatchOption}
 use Rattle.p8_tree.specs.Sources.{Datum}
-use Rattle.p8_data.specs.declared.part.Part as code
-use Rattle.p8_data.specs.declared.row.Row.{Row}
-use Rattle.p8_data.specs.declared.items.Stage as code_stage
-use Rattle.p8_data.specs.Parts.{Part}
-use Rattle.p8_data.specs.Lines.{Stage, items}
-use Rattle.p8_data.specs.Views.{part_of, rest, from, stage_of, Steps}
+use Rattle.p8_declarations.specs.declared.data_part.Part as code
+use Rattle.p8_declarations.specs.declared.data_row.Row.{Row}
+use Rattle.p8_declarations.specs.declared.items.Stage as code_stage
+use Rattle.p8_declarations.specs.DataParts.{Part}
+use Rattle.p8_declarations.specs.Lines.{Stage, items}
+use Rattle.p8_declarations.specs.DataViews.{part_of, rest, from, stage_of, Steps}
 
 -- a part that can't stand there
 pub stops : (whole : Option (List Datum)) (read after : List Datum) (s : Stage) (x : Part) (row : List Part) → whole ≡ items read s (x ∷ row) → Steps read s x after None → None ≡ whole
