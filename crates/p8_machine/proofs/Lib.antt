@@ -2,3 +2,5 @@ pub mod Settled
 pub mod Rows
 pub mod Announced
 pub mod Counting
+pub mod Turning
+pub mod Eight

@@ -1,10 +1,15 @@
 //! The machine: eight cogs on one thread, turn by turn in the order of their keys.
 //!
 //! It is a ledger with the eight lives beside it. After each turn the life of its cog runs on to its next access, and
-//! the cog says at once which that is.
+//! the cog says at once which that is. A counted run also has the program counter of each turn: for a cog that runs Spin, where the
+//! bytecode stands that asks the turn's access.
 #![tactic(auto)]
 
+mod counted;
 mod run;
 mod seats;
+#[cfg(test)]
+mod worked;
 
+pub use counted::{Counted, run_counted};
 pub use run::{Machine, run_alone};

@@ -21,7 +21,7 @@ use Rattle.p8_lives.specs.Laws.{one-asked}
 use Rattle.p8_lives.specs.Lives.{asks}
 use Rattle.p8_machine.specs.Asked.{IsNextAsked}
 use Rattle.p8_machine.specs.Places.{IsSpoken}
-use Rattle.p8_counters.specs.Counted.{AreAsked, AreCounters, IsCounterIn}
+use Rattle.p8_machine.specs.Counted.{AreAsked, AreCounters, IsCounterIn}
 
 -- ---- counters
 

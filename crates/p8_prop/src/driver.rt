@@ -9,12 +9,11 @@ ghost use Rattle.p8_work.specs.Texts.{IsToldOf, IsViewed};
 ghost use Rattle.p8_prop.specs.Answers.{CanBeDone, IsDone};
 ghost use Rattle.p8_work.specs.Works.{world_in, IsRunnable, IsViewable};
 
-use p8_counters::run_counted;
 use p8_crew::{Starter, run_crew};
 use p8_desk::Desk;
 use p8_finish::{Finish, told};
 use p8_ledger::{Ended, Start};
-use p8_machine::run_alone;
+use p8_machine::{run_alone, run_counted};
 use p8_view::view as view_text;
 use p8_words::NoMemory;
 use p8_work::{Answer, Viewing, Work};

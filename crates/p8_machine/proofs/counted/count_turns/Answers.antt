@@ -3,9 +3,9 @@ use Rattle.std.proofs.Math.ListN.{get_or}
 use Rattle.std.proofs.lemmas.Option.{slice_get-get_or}
 use Rattle.p8_access.specs.declared.order.Turn.{Turn}
 use Rattle.p8_access.specs.Worlds.{World}
-use Rattle.p8_counters.proofs.Turning.{turn-counter, cog-below, counted-more}
+use Rattle.p8_machine.proofs.Turning.{turn-counter, cog-below, counted-more}
 use Rattle.p8_machine.specs.Machines.{world_in, past_in}
-use Rattle.p8_counters.proofs.counted.count_turns.Goals as goal
+use Rattle.p8_machine.proofs.counted.count_turns.Goals as goal
 
 pub steps-preserved : goal.steps-preserved
 steps-preserved c = record {

@@ -10,11 +10,11 @@ ghost use Rattle.p8_ledger.specs.Worlds.{world_of};
 ghost use Rattle.p8_machine.specs.Asked.{IsNextAsked};
 ghost use Rattle.p8_machine.specs.Counters.{IsNextCounter};
 ghost use Rattle.p8_machine.specs.Machines.{world_in, past_in, IsStanding};
-ghost use Rattle.p8_counters.specs.Counted.{AreAsked, AreCounters};
+ghost use Rattle.p8_machine.specs.Counted.{AreAsked, AreCounters};
 
+use crate::run::Machine;
 use p8_access::{Boot, Next};
 use p8_ledger::{Ended, Limits};
-use p8_machine::Machine;
 use p8_pins::PinScript;
 use p8_words::NoMemory;
 use std::alloc::Global;
@@ -89,7 +89,7 @@ fn count_turns(alloc: Global, machine: &mut Machine) -> Result<Vec<Option<u16>>,
 }
 
 /// The whole history of a boot up to the limits, on one thread, with the counter of each turn and what each cog asks next. It is the history
-/// that `p8_machine::run_alone` gives.
+/// that `crate::run_alone` gives.
 ///
 /// # Errors
 ///

@@ -15,7 +15,7 @@ use Rattle.p8_ledger.specs.declared.ledger.Ledger.{Ledger}
 use Rattle.p8_ledger.specs.Ledgers.{Found}
 use Rattle.p8_ledger.specs.Records.{Record, turns}
 use Rattle.p8_machine.specs.Counters.{IsNextCounter}
-use Rattle.p8_counters.specs.Counted.{IsCounterIn, AreCounters}
+use Rattle.p8_machine.specs.Counted.{IsCounterIn, AreCounters}
 
 counter-in : (w : World) (past : List Turn) (n : ℕ) (state : CogState) (clock : ℕ) (access : Access) (counter : Option ℕ) → IsNextIn asks w past n state clock access → clock < w.clocks → IsNextCounter w past n state counter → IsCounterIn w past n state counter
 counter-in w past n Stopped clock access counter next below is = is

@@ -5,8 +5,8 @@ use Rattle.p8_access.specs.Histories.{Ended as HasEnded}
 use Rattle.p8_lives.specs.Lives.{asks}
 use Rattle.p8_ledger.specs.Worlds.{world_of}
 use Rattle.p8_machine.specs.Machines.{world_in}
-use Rattle.p8_counters.specs.Counted.{AreAsked}
-use Rattle.p8_counters.proofs.counted.run_counted.Goals as goal
+use Rattle.p8_machine.specs.Counted.{AreAsked}
+use Rattle.p8_machine.proofs.counted.run_counted.Goals as goal
 
 pub returns-clause-ended : goal.returns-clause-ended
 returns-clause-ended c =

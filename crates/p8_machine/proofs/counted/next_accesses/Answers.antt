@@ -3,8 +3,8 @@ use Rattle.p8_access.specs.declared.lives.Next.{Next}
 use Rattle.p8_access.specs.Hub.{cog_state}
 use Rattle.p8_machine.specs.Asked.{IsNextAsked}
 use Rattle.p8_machine.specs.Machines.{world_in, past_in}
-use Rattle.p8_counters.proofs.Eight.{first-at, none-at}
-use Rattle.p8_counters.proofs.counted.next_accesses.Goals as goal
+use Rattle.p8_machine.proofs.Eight.{first-at, none-at}
+use Rattle.p8_machine.proofs.counted.next_accesses.Goals as goal
 
 pub returns-clause-each : goal.returns-clause-each
 returns-clause-each c = λ stands.

@@ -1,7 +1,7 @@
 use Rattle.std.proofs.Common.{◌≡◌, ◌-◌, length, reverse}
 use Rattle.p8_machine.specs.Machines.{world_in, past_in, IsStanding}
-use Rattle.p8_counters.specs.Counted.{AreCounters}
-use Rattle.p8_counters.proofs.counted.count_turns.Given as goal
+use Rattle.p8_machine.specs.Counted.{AreCounters}
+use Rattle.p8_machine.proofs.counted.count_turns.Given as goal
 
 abbrev pub invariant-steps : goal.invariant-steps
 invariant-steps l = record {

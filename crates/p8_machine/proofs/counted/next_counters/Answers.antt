@@ -2,8 +2,8 @@ use Rattle.std.proofs.Common.{ℕ, suc, Option, List, [], ◌∷◌}
 use Rattle.p8_access.specs.Hub.{cog_state}
 use Rattle.p8_machine.specs.Counters.{IsNextCounter}
 use Rattle.p8_machine.specs.Machines.{world_in, past_in}
-use Rattle.p8_counters.proofs.Eight.{first-at, none-at}
-use Rattle.p8_counters.proofs.counted.next_counters.Goals as goal
+use Rattle.p8_machine.proofs.Eight.{first-at, none-at}
+use Rattle.p8_machine.proofs.counted.next_counters.Goals as goal
 
 pub returns-clause-each : goal.returns-clause-each
 returns-clause-each c = λ stands.
