@@ -21,8 +21,8 @@ use Rattle.p8_build.proofs.One.{AreAlike, alike, same_setting, same_dat, same_la
 use Rattle.p8_build.proofs.Wholes.{objects_same, one_clock}
 use Rattle.p8_folding.specs.Constants.{constants_in}
 use Rattle.p8_folding.specs.Folding.{folded_body}
-use Rattle.p8_jumps.specs.Jumps.{IsShortCode}
-use Rattle.p8_jumps.proofs.Least.{one-choice}
+use Rattle.p8_stmt.specs.Jumps.{IsShortCode}
+use Rattle.p8_stmt.proofs.Least.{one-choice}
 use Rattle.p8_opt.specs.Shorts.{IsShort, AreShort, IsShortBuilt}
 
 -- a method has one short code

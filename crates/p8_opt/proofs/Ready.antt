@@ -23,8 +23,8 @@ use Rattle.p8_opt.proofs.Proper.{body-proper}
 use Rattle.p8_opt.proofs.Misuse.{body-misused}
 use Rattle.p8_opt.proofs.Resolved.{hide-none}
 use Rattle.p8_opt.proofs.Methods.{method-short, method-faultless}
-use Rattle.p8_jumps.specs.Jumps.{IsShortCode}
-use Rattle.p8_jumps.proofs.Choices.{method-ends, method-measured}
+use Rattle.p8_stmt.specs.Jumps.{IsShortCode}
+use Rattle.p8_stmt.proofs.Choices.{method-ends, method-measured}
 use Rattle.p8_opt.specs.Steps.{CanBeFolded}
 
 module _ (file : NamedSource) (seen : Children) (top : Bool) (x : CompiledFile) (is : IsCompiled file.tree seen top x) (proper : IsProperFile file.tree) (k : ℕ) (m : MethodTree) (at : slice_get (numbered (items file.tree)) k ≡ Some m) where

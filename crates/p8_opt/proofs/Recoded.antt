@@ -33,7 +33,7 @@ use Rattle.p8_opt.specs.Asked.{AreWords}
 use Rattle.p8_opt.proofs.Proper.{body-proper}
 use Rattle.p8_opt.proofs.Nesting.{body-leaves, body-shallow}
 use Rattle.p8_opt.proofs.Misuse.{body-misused}
-use Rattle.p8_jumps.proofs.Least.{no-fault}
+use Rattle.p8_stmt.proofs.Least.{no-fault}
 use Rattle.p8_opt.specs.Shorts.{IsShort, AreShort}
 use Rattle.p8_opt.proofs.Ready.{foldable}
 

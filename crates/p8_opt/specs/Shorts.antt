@@ -18,7 +18,7 @@ use Rattle.p8_build.specs.Files.{CompiledFile, setting_of, method_names}
 use Rattle.p8_build.specs.Builds.{IsFile, AreCompiled, objects_of, clock_by}
 use Rattle.p8_folding.specs.Constants.{constants_in}
 use Rattle.p8_folding.specs.Folding.{folded_body}
-use Rattle.p8_jumps.specs.Jumps.{IsShortCode}
+use Rattle.p8_stmt.specs.Jumps.{IsShortCode}
 
 -- a file that is compiled to x has these names and data, and the short codes of its folded methods
 pub record IsShort (source : Source) (children : Children) (x y : CompiledFile) : Type 0 where

@@ -24,7 +24,7 @@ use Rattle.p8_build.specs.Phases.{compiled, IsAccepted}
 use Rattle.p8_folding.specs.Constants.{Constants, constants_in}
 use Rattle.p8_folding.specs.Folding.{folded_body}
 use Rattle.p8_opt.specs.Asked.{AreWords}
-use Rattle.p8_jumps.specs.Jumps.{IsShortCode}
+use Rattle.p8_stmt.specs.Jumps.{IsShortCode}
 use Rattle.p8_opt.specs.Shorts.{IsShort}
 
 -- the names of a method, which is counted from 0, by the tables of its file

@@ -1,15 +1,14 @@
 // The short codes of the methods of a file.
 ghost use Rattle.std.specs.Prelude.{◌≡◌, ◌+◌, length, map, IfOk};
 ghost use Rattle.p8_tree.specs.Views.{method_of};
-ghost use Rattle.p8_jumps.specs.Jumps.{IsShortCode};
+ghost use Rattle.p8_stmt.specs.Jumps.{IsShortCode};
 ghost use Rattle.p8_folding.specs.Folding.{folded_body};
 ghost use Rattle.p8_opt.specs.Steps.{names_by, constants_by, CanBeFolded, AreFoldable, AreShortCodes};
 
 use p8_folding::folded_body;
 use p8_gen::Tables;
-use p8_jumps::short_code;
 use p8_kinds::Kinds;
-use p8_stmt::MethodCode;
+use p8_stmt::{MethodCode, short_code};
 use p8_tree::{List, Method};
 use p8_words::NoMemory;
 use std::alloc::Global;

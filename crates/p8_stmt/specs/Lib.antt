@@ -5,3 +5,7 @@ pub mod Cutting
 pub mod Walking
 pub mod Spelled
 pub mod Telling
+-- The least set of jumps with two bytes for their offset.
+pub mod Jumps
+-- Its rounds: internal.
+pub mod Rounds

@@ -3,8 +3,8 @@ use Rattle.p8_gen.specs.Methods.{bytes_of, method_code}
 use Rattle.p8_gen.specs.Depths.{held_in}
 use Rattle.p8_gen.specs.Names.{widened, wide_in}
 use Rattle.p8_stmt.specs.Methods.{use_in}
-use Rattle.p8_jumps.proofs.Least.{one-choice}
-use Rattle.p8_jumps.proofs.laws.one_short_code.Goals as goal
+use Rattle.p8_stmt.proofs.Least.{one-choice}
+use Rattle.p8_stmt.proofs.jump_laws.one_short_code.Goals as goal
 
 pub returns-clause-bytes : goal.returns-clause-bytes
 returns-clause-bytes c = λ n m ss a b x y.

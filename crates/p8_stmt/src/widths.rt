@@ -6,12 +6,12 @@ ghost use Rattle.p8_gen.specs.Names.{wide_in};
 ghost use Rattle.p8_gen.specs.Pieces.{is_near};
 ghost use Rattle.p8_gen.specs.Scopes.{names_from};
 ghost use Rattle.p8_gen.specs.Uses.{way_of};
-ghost use Rattle.p8_jumps.specs.Jumps.{IsLeast};
-ghost use Rattle.p8_jumps.specs.Rounds.{widened_from, after_round, IsBelowAll};
+ghost use Rattle.p8_stmt.specs.Jumps.{IsLeast};
+ghost use Rattle.p8_stmt.specs.Rounds.{widened_from, after_round, IsBelowAll};
 
+use crate::code::method_ways;
 use p8_gen::{Tables, Way};
 use p8_kinds::Kinds;
-use p8_stmt::method_ways;
 use p8_tree::{Method, Stmt};
 use p8_words::NoMemory;
 use std::alloc::{AllocError, Global};

@@ -2,9 +2,9 @@ use Rattle.std.proofs.Common.{◌≡◌, sym, ap, ◌∙◌, subst, true, false,
 use Rattle.std.specs.Prelude.{count_by}
 use Rattle.p8_tree.specs.Views.{statements_of}
 use Rattle.p8_gen.specs.Scopes.{names_from}
-use Rattle.p8_jumps.specs.Rounds.{IsBelowAll, after_round}
-use Rattle.p8_jumps.proofs.Least.{next-below, next-narrower, settled}
-use Rattle.p8_jumps.proofs.widths.least_widths.Goals as goal
+use Rattle.p8_stmt.specs.Rounds.{IsBelowAll, after_round}
+use Rattle.p8_stmt.proofs.Least.{next-below, next-narrower, settled}
+use Rattle.p8_stmt.proofs.widths.least_widths.Goals as goal
 
 pub returns-then-is_same : goal.returns-then-is_same
 returns-then-is_same c =

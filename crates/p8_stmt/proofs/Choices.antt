@@ -23,7 +23,7 @@ use Rattle.p8_gen.specs.Pieces.{Written, Piece, empty, from_place, nothing, one,
 use Rattle.p8_gen.specs.Variables.{number, Home, Operation, plain_op, home_of, Pop, assigned}
 use Rattle.p8_gen.specs.Expressions.{pasm, started, built_without, own_method, method_in, callee, name_alone, counts_from, looks_down, dropped, built_value, built, starts, starts_method, value, value_of_form, operate, in_home, values, index_value, call_of_built, arguments, looks, alone}
 use Rattle.p8_gen.specs.Statements.{Loop, inside, goes_on, leaves, with_value, test_of, tests, step_of, step_effect, plain_name, zero_jump, code, code_of, body, chain, other_body, all_tests, case_bodies}
-use Rattle.p8_jumps.proofs.Steps.{Sized, jump-length, step-sized}
+use Rattle.p8_stmt.proofs.Steps.{Sized, jump-length, step-sized}
 
 -- how many bytes the offsets of the first jumps have
 abbrev spent : (wide : ℕ → Bool) → (jumps : ℕ) → ℕ

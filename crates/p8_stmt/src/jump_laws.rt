@@ -7,7 +7,7 @@ ghost use Rattle.p8_gen.specs.Names.{Names, widened, all_wide, wide_in};
 ghost use Rattle.p8_gen.specs.Uses.{line_of, use_of};
 ghost use Rattle.p8_stmt.specs.Methods.{IsCodeOf, IsMethodFault, rebodied};
 ghost use Rattle.p8_stmt.specs.declared.code.MethodCode.{MethodCode};
-ghost use Rattle.p8_jumps.specs.Jumps.{IsShortCode};
+ghost use Rattle.p8_stmt.specs.Jumps.{IsShortCode};
 
 /// Law: a method with a body has one short code: its bytes, its locals, the depth of its stack, its uses of texts and its lines.
 pub fn one_short_code()

@@ -16,10 +16,10 @@ use Rattle.p8_gen.specs.Names.{Names, widened, all_wide, wide_in}
 use Rattle.p8_gen.specs.Pieces.{is_near, reach}
 use Rattle.p8_stmt.specs.Methods.{IsCodeOf, IsMethodFault, jump_too_far, frame_too_large, holds_too_much, rebodied, most_held}
 use Rattle.p8_stmt.specs.declared.code.MethodCode.{MethodCode}
-use Rattle.p8_jumps.specs.Jumps.{Fits, IsLeast, IsShortCode}
-use Rattle.p8_jumps.specs.Rounds.{widened_from, after_round, IsBelowAll}
-use Rattle.p8_jumps.proofs.Choices.{GoesNoFarther, method-ways, method-jumps, method-ends, method-told, method-measured}
-use Rattle.p8_jumps.proofs.Held.{held-same}
+use Rattle.p8_stmt.specs.Jumps.{Fits, IsLeast, IsShortCode}
+use Rattle.p8_stmt.specs.Rounds.{widened_from, after_round, IsBelowAll}
+use Rattle.p8_stmt.proofs.Choices.{GoesNoFarther, method-ways, method-jumps, method-ends, method-told, method-measured}
+use Rattle.p8_stmt.proofs.Held.{held-same}
 
 -- ---- choices as lists
 

@@ -1,6 +1,6 @@
 use Rattle.std.specs.Cmp.{booleans_Decides}
 use Rattle.std.proofs.lemmas.Slice.Eq.{slice_eq-Decides}
-use Rattle.p8_jumps.proofs.widths.is_same.Goals as goal
+use Rattle.p8_stmt.proofs.widths.is_same.Goals as goal
 
 pub returns : goal.returns
 returns c = slice_eq-Decides booleans_Decides c.args.widths.now c.args.others.now c.eq.result c.eq.ensures

@@ -4,7 +4,7 @@ use Rattle.p8_tree.specs.Statements.{Statements}
 use Rattle.p8_gen.specs.Methods.{method_code}
 use Rattle.p8_gen.specs.Names.{Names, widened, wide_in}
 use Rattle.p8_gen.specs.Pieces.{is_near}
-use Rattle.p8_jumps.specs.Jumps.{Fits}
+use Rattle.p8_stmt.specs.Jumps.{Fits}
 
 -- the choice after a round, from a jump on with the ways of it and of those after it: a jump is wide that was, or whose
 -- offset doesn't fit in one byte

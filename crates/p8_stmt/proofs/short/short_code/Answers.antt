@@ -4,9 +4,9 @@ use Rattle.p8_tree.specs.Faults.{IsFirstFault}
 use Rattle.p8_gen.specs.Names.{widened, wide_in}
 use Rattle.p8_gen.specs.Scopes.{names_from}
 use Rattle.p8_stmt.specs.Methods.{IsMethodFault, IfRefused, rebodied}
-use Rattle.p8_jumps.specs.Jumps.{IsLeast}
-use Rattle.p8_jumps.proofs.Least.{accepted-fits, no-fault}
-use Rattle.p8_jumps.proofs.short.short_code.Goals as goal
+use Rattle.p8_stmt.specs.Jumps.{IsLeast}
+use Rattle.p8_stmt.proofs.Least.{accepted-fits, no-fault}
+use Rattle.p8_stmt.proofs.short.short_code.Goals as goal
 
 pub least_widths-requires : goal.least_widths-requires
 least_widths-requires c =

@@ -4,12 +4,12 @@ ghost use Rattle.p8_tree.specs.Views.{method_of, statements_of};
 ghost use Rattle.p8_tree.specs.declared.faults.Fault.{Fault};
 ghost use Rattle.p8_gen.specs.Scopes.{names_from};
 ghost use Rattle.p8_stmt.specs.Methods.{AreResolved, IsMethodFault, rebodied};
-ghost use Rattle.p8_jumps.specs.Jumps.{IsShortCode};
+ghost use Rattle.p8_stmt.specs.Jumps.{IsShortCode};
 
+use crate::code::{MethodCode, method_code_with};
 use crate::widths::least_widths;
 use p8_gen::Tables;
 use p8_kinds::Kinds;
-use p8_stmt::{MethodCode, method_code_with};
 use p8_tree::{Method, Stmt};
 use p8_words::{Fail, NoMemory};
 use std::alloc::Global;

@@ -5,9 +5,9 @@ use Rattle.p8_gen.specs.Methods.{method_code}
 use Rattle.p8_gen.specs.Names.{widened, wide_in}
 use Rattle.p8_gen.specs.Scopes.{names_from}
 use Rattle.p8_gen.specs.Uses.{way_of}
-use Rattle.p8_jumps.specs.Rounds.{IsBelowAll}
-use Rattle.p8_jumps.proofs.Least.{none-below}
-use Rattle.p8_jumps.proofs.widths.none_wide.Goals as goal
+use Rattle.p8_stmt.specs.Rounds.{IsBelowAll}
+use Rattle.p8_stmt.proofs.Least.{none-below}
+use Rattle.p8_stmt.proofs.widths.none_wide.Goals as goal
 
 pub returns : goal.returns
 returns c =

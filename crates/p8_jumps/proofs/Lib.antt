@@ -1,4 +1,0 @@
-pub mod Steps
-pub mod Choices
-pub mod Held
-pub mod Least
