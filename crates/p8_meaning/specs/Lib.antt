@@ -12,3 +12,10 @@ pub mod Statements
 pub mod Lives
 pub mod Bounds
 pub mod Halts
+-- What shorter code is made of: the trees of a method after constant trees have become numbers and what never runs is gone.
+pub mod Constants
+pub mod Folding
+pub mod Projects
+-- What the code keeps of trees while they are folded: internal.
+pub mod Known
+pub mod Copies

@@ -7,8 +7,8 @@ use Rattle.p8_tree.specs.Statements.{Course, Forever, Count, Before, After, From
 use Rattle.p8_gen.specs.Names.{Names}
 use Rattle.p8_gen.specs.Expressions.{starts_method}
 use Rattle.p8_gen.specs.Depths.{over, arguments_of, held, held_by, held_by_naming, held_by_index, held_by_bits, held_by_trees, held_by_items, held_by_built, held_by_arguments, held_alone, held_if, held_by_test, held_by_tests, held_by_pass, held_in_loop, held_in, held_in_action, held_in_arms, held_in_cases, held_in_other}
-use Rattle.p8_folding.specs.Constants.{Constants, shorter_number}
-use Rattle.p8_folding.specs.Folding.{number_or, tree_with, form_with, variable_with, index_with, bits_with, trees_with, arguments_with, items_with, folded, folded_items, folded_inside, folded_course, holds, number_in, kept_count, kept_before, kept, loop, Chain, Going, Ended, Condition, Known, Unknown, NoTest, condition, with_arm, whole_chain, chain, joined, folded_statement, folded_body, folded_other, folded_chain, folded_arms}
+use Rattle.p8_meaning.specs.Constants.{Constants, shorter_number}
+use Rattle.p8_meaning.specs.Folding.{number_or, tree_with, form_with, variable_with, index_with, bits_with, trees_with, arguments_with, items_with, folded, folded_items, folded_inside, folded_course, holds, number_in, kept_count, kept_before, kept, loop, Chain, Going, Ended, Condition, Known, Unknown, NoTest, condition, with_arm, whole_chain, chain, joined, folded_statement, folded_body, folded_other, folded_chain, folded_arms}
 use Rattle.p8_opt.proofs.Proper.{most}
 use Rattle.p8_opt.proofs.Starting.{StartsNothing, counts-same, starts-same}
 

@@ -20,8 +20,8 @@ use Rattle.p8_names.specs.Kinds.{numbered}
 use Rattle.p8_meaning.specs.Programs as meaning
 use Rattle.p8_meaning.specs.Programs.{File, constant_named, object_constant}
 use Rattle.p8_names.specs.Own.{IsLocal}
-use Rattle.p8_folding.specs.Constants.{constants_in, value_meant, value_behind}
-use Rattle.p8_folding.specs.Projects.{constants_of}
+use Rattle.p8_meaning.specs.Constants.{constants_in, value_meant, value_behind}
+use Rattle.p8_meaning.specs.Projects.{constants_of}
 
 -- ---- constants behind an object's name
 

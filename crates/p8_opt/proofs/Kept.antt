@@ -38,8 +38,8 @@ use Rattle.p8_opt.proofs.Frames.{setting-outside}
 use Rattle.p8_names.specs.Own.{IsLocal}
 use Rattle.p8_names.proofs.Own.{apart, local}
 use Rattle.p8_opt.proofs.Hiding.{constants-same}
-use Rattle.p8_folding.specs.Constants.{Constants, constants_in}
-use Rattle.p8_folding.specs.Projects.{folded_method, folded_source, constants_of, IsFolded, AreFolded, folded_file, folded_program, HidesNone}
+use Rattle.p8_meaning.specs.Constants.{Constants, constants_in}
+use Rattle.p8_meaning.specs.Projects.{folded_method, folded_source, constants_of, IsFolded, AreFolded, folded_file, folded_program, HidesNone}
 use Rattle.p8_opt.specs.Shorts.{IsShort, AreShort, IsShortBuilt}
 use Rattle.p8_opt.proofs.Recoded.{folded_sources}
 

@@ -12,7 +12,7 @@ use Rattle.p8_gen.specs.Names.{Names}
 use Rattle.p8_gen.specs.Pieces.{Written, nothing, byte, with_number}
 use Rattle.p8_gen.specs.Variables.{number}
 use Rattle.p8_gen.specs.Expressions.{starts_method, is_method, name_alone, value}
-use Rattle.p8_folding.specs.Constants.{constants_in, value_meant, value_behind, both, constant_value, number_length, code_length, within, shorter_number}
+use Rattle.p8_meaning.specs.Constants.{constants_in, value_meant, value_behind, both, constant_value, number_length, code_length, within, shorter_number}
 use Rattle.p8_opt.specs.Asked.{HideNoConstant}
 use Rattle.p8_opt.proofs.Starting.{StartsNothing}
 

@@ -23,8 +23,8 @@ use Rattle.p8_build.specs.Builds.{IsFile, objects_from, objects_of}
 use Rattle.p8_build.specs.Told.{IsImageBuilt}
 use Rattle.p8_build.proofs.Lists.{element}
 use Rattle.p8_build.proofs.Wholes.{begins, is_main, main_first, has_methods, not_lacking}
-use Rattle.p8_folding.specs.Constants.{constants_in}
-use Rattle.p8_folding.specs.Folding.{folded_body}
+use Rattle.p8_meaning.specs.Constants.{constants_in}
+use Rattle.p8_meaning.specs.Folding.{folded_body}
 use Rattle.p8_opt.specs.Shorts.{IsShort, IsShortBuilt, IsShortImageBuilt}
 use Rattle.p8_opt.proofs.Wholes.{short-fits}
 use Rattle.p8_opt.specs.Loads.{LoadsAs}

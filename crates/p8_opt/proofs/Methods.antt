@@ -11,8 +11,8 @@ use Rattle.p8_gen.specs.Depths.{held_in}
 use Rattle.p8_gen.specs.Methods.{method_code}
 use Rattle.p8_gen.specs.Names.{Names, all_wide}
 use Rattle.p8_gen.specs.Pieces.{empty}
-use Rattle.p8_folding.specs.Constants.{constants_in}
-use Rattle.p8_folding.specs.Folding.{folded_body}
+use Rattle.p8_meaning.specs.Constants.{constants_in}
+use Rattle.p8_meaning.specs.Folding.{folded_body}
 use Rattle.p8_stmt.specs.Methods.{rebodied, IsMethodFault, jump_too_far, frame_too_large, holds_too_much}
 use Rattle.p8_opt.specs.Asked.{HideNoConstant}
 use Rattle.p8_opt.proofs.Depth.{body-held}

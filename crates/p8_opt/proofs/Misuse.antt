@@ -12,8 +12,8 @@ use Rattle.p8_tree.specs.declared.faults.Fault.{Fault}
 use Rattle.p8_fold.specs.Values.{FaultInTrees}
 use Rattle.p8_kinds.specs.Environments.{Environment}
 use Rattle.p8_kinds.specs.Misuses.{own_misuse, misuse_of_value, misuse_of_variable, misuse_of_call, misuse_of_arguments, in_method, BrokenIn, BrokenInside, BrokenInVariable, BrokenInIndex, BrokenInBits, BrokenInItem, BrokenInTrees, BrokenInItems, MisuseIn, name_alone, MisuseDone, MisuseInOption, MisuseInItems, MisuseInCourse, MisuseInStatements, MisuseInStatement, MisuseInOtherwise, MisuseInArms, MisuseInArm}
-use Rattle.p8_folding.specs.Constants.{Constants, shorter_number}
-use Rattle.p8_folding.specs.Folding.{number_or, tree_with, form_with, variable_with, index_with, bits_with, item_with, trees_with, arguments_with, items_with, folded, folded_items, folded_inside, folded_course, holds, number_in, kept_count, kept_before, kept, loop, Chain, Going, Ended, Condition, Known, Unknown, NoTest, condition, with_arm, whole_chain, chain, joined, folded_statement, folded_body, folded_other, folded_chain, folded_arms}
+use Rattle.p8_meaning.specs.Constants.{Constants, shorter_number}
+use Rattle.p8_meaning.specs.Folding.{number_or, tree_with, form_with, variable_with, index_with, bits_with, item_with, trees_with, arguments_with, items_with, folded, folded_items, folded_inside, folded_course, holds, number_in, kept_count, kept_before, kept, loop, Chain, Going, Ended, Condition, Known, Unknown, NoTest, condition, with_arm, whole_chain, chain, joined, folded_statement, folded_body, folded_other, folded_chain, folded_arms}
 
 -- one of two
 pub either_of : {A B C D : Type 0} → (A → C) → (B → D) → A ⊎ B → C ⊎ D

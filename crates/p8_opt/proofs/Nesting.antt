@@ -5,8 +5,8 @@ use Rattle.p8_tree.specs.declared.places.Place.{Place}
 use Rattle.p8_tree.specs.Expressions.{Items}
 use Rattle.p8_tree.specs.Statements.{Course, Statement, statement, Do, If, Case, Repeat, Next, Quit, Return, Abort, arm, Otherwise, nothing_else, otherwise, Statements, no_statements, ◌▹◌, Arms, no_arms, ◌⊳◌}
 use Rattle.p8_tree.specs.Nesting.{leave_loops, leaves_loop, arms_leave, other_leaves, depth, statement_depth, arms_depth, other_depth}
-use Rattle.p8_folding.specs.Constants.{Constants}
-use Rattle.p8_folding.specs.Folding.{folded_items, folded_course, kept, loop, Chain, Going, Ended, Condition, Known, Unknown, NoTest, condition, with_arm, whole_chain, chain, joined, folded_statement, folded_body, folded_other, folded_chain, folded_arms}
+use Rattle.p8_meaning.specs.Constants.{Constants}
+use Rattle.p8_meaning.specs.Folding.{folded_items, folded_course, kept, loop, Chain, Going, Ended, Condition, Known, Unknown, NoTest, condition, with_arm, whole_chain, chain, joined, folded_statement, folded_body, folded_other, folded_chain, folded_arms}
 
 -- ---- NEXT and QUIT
 

@@ -19,8 +19,8 @@ use Rattle.p8_build.specs.Builds.{IsFile, AreCompiled, objects_of}
 use Rattle.p8_build.proofs.Lists.{element, same_lists}
 use Rattle.p8_build.proofs.One.{AreAlike, alike, same_setting, same_dat, same_labels, same_method_names, one_code}
 use Rattle.p8_build.proofs.Wholes.{objects_same, one_clock}
-use Rattle.p8_folding.specs.Constants.{constants_in}
-use Rattle.p8_folding.specs.Folding.{folded_body}
+use Rattle.p8_meaning.specs.Constants.{constants_in}
+use Rattle.p8_meaning.specs.Folding.{folded_body}
 use Rattle.p8_stmt.specs.Jumps.{IsShortCode}
 use Rattle.p8_stmt.proofs.Least.{one-choice}
 use Rattle.p8_opt.specs.Shorts.{IsShort, AreShort, IsShortBuilt}

@@ -24,8 +24,8 @@ use Rattle.p8_stmt.specs.declared.code.MethodCode.{MethodCode}
 use Rattle.p8_build.specs.Files.{object_of}
 use Rattle.p8_build.specs.Phases.{compiled}
 use Rattle.p8_build.proofs.Lists.{at_more}
-use Rattle.p8_folding.specs.Constants.{constants_in}
-use Rattle.p8_folding.specs.Folding.{folded_body}
+use Rattle.p8_meaning.specs.Constants.{constants_in}
+use Rattle.p8_meaning.specs.Folding.{folded_body}
 use Rattle.p8_stmt.specs.Jumps.{IsShortCode}
 use Rattle.p8_opt.specs.Steps.{names_by, constants_by, CanBeFolded, AreFoldable, AreShortCodes, IsAcceptedFile, IsShortObject, AreShortObjects}
 use Rattle.p8_opt.proofs.Ready.{foldable}

@@ -6,8 +6,8 @@ use Rattle.p8_tree.specs.Expressions.{Tree, node, Form, Number, Str, Here, Var, 
 use Rattle.p8_tree.specs.Statements.{Course, Forever, Count, Before, After, From, Statement, statement, Do, If, Case, Repeat, Next, Quit, Return, Abort, arm, Otherwise, nothing_else, otherwise, Statements, no_statements, ◌▹◌, Arms, no_arms, ◌⊳◌}
 use Rattle.p8_tree.specs.Heights.{height, height_in, height_in_variable, height_in_index, height_in_bits, height_of_item, height_of_trees, height_of_items}
 use Rattle.p8_tree.specs.Proper.{IfThere, IsCalled, is_written, is_in_memory, may_have, is_no_item, arguments_fit, arguments_fit_alone, IsProperTree, IsProperForm, IsProperVariable, IsProperIndex, AreProperBits, IsProperItem, AreProperTrees, AreProperItems, IsProperExpression, IsProperTest, AreProperTests, IsDone, IsDoneForm, IsProperCourse, IsCondition, IsProperStatement, AreProperArms, AreProperChoices, IsProperOtherwise, AreProperStatements}
-use Rattle.p8_folding.specs.Constants.{Constants, shorter_number}
-use Rattle.p8_folding.specs.Folding.{number_or, tree_with, form_with, variable_with, index_with, bits_with, item_with, trees_with, arguments_with, items_with, folded, folded_items, folded_inside, folded_course, holds, number_in, kept_count, kept_before, kept, loop, Chain, Going, Ended, Condition, Known, Unknown, NoTest, condition, with_arm, whole_chain, chain, joined, folded_statement, folded_body, folded_other, folded_chain, folded_arms}
+use Rattle.p8_meaning.specs.Constants.{Constants, shorter_number}
+use Rattle.p8_meaning.specs.Folding.{number_or, tree_with, form_with, variable_with, index_with, bits_with, item_with, trees_with, arguments_with, items_with, folded, folded_items, folded_inside, folded_course, holds, number_in, kept_count, kept_before, kept, loop, Chain, Going, Ended, Condition, Known, Unknown, NoTest, condition, with_arm, whole_chain, chain, joined, folded_statement, folded_body, folded_other, folded_chain, folded_arms}
 use Rattle.p8_opt.specs.Asked.{AreWords}
 use Rattle.p8_opt.proofs.Words.{IsWord, shorter-word}
 

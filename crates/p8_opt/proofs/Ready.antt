@@ -15,8 +15,8 @@ use Rattle.p8_stmt.specs.Methods.{IsCodeOf, IsMethodFault}
 use Rattle.p8_build.specs.Files.{CompiledFile, IsCompiled, setting_of, method_names, of_method}
 use Rattle.p8_build.proofs.Methods.{proper_method}
 use Rattle.p8_build.proofs.Ready.{resolved}
-use Rattle.p8_folding.specs.Constants.{Constants, constants_in}
-use Rattle.p8_folding.specs.Folding.{folded_body}
+use Rattle.p8_meaning.specs.Constants.{Constants, constants_in}
+use Rattle.p8_meaning.specs.Folding.{folded_body}
 use Rattle.p8_opt.specs.Asked.{AreWords, HideNoConstant}
 use Rattle.p8_names.proofs.Own.{apart}
 use Rattle.p8_opt.proofs.Proper.{body-proper}

@@ -26,9 +26,9 @@ use Rattle.p8_opt.proofs.Counting.{instances-few, few-methods}
 use Rattle.p8_opt.proofs.Environments.{no-misuse}
 use Rattle.p8_names.proofs.Seen.{has-words}
 use Rattle.p8_opt.proofs.Resolved.{are-words}
-use Rattle.p8_folding.specs.Constants.{Constants, constants_in}
-use Rattle.p8_folding.specs.Folding.{folded_body}
-use Rattle.p8_folding.specs.Projects.{folded_method, folded_block, folded_source}
+use Rattle.p8_meaning.specs.Constants.{Constants, constants_in}
+use Rattle.p8_meaning.specs.Folding.{folded_body}
+use Rattle.p8_meaning.specs.Projects.{folded_method, folded_block, folded_source}
 use Rattle.p8_opt.specs.Asked.{AreWords}
 use Rattle.p8_opt.proofs.Proper.{body-proper}
 use Rattle.p8_opt.proofs.Nesting.{body-leaves, body-shallow}

@@ -14,7 +14,7 @@ use Rattle.p8_kinds.specs.declared.name_kinds.NameKind.TheVariants as kinds
 use Rattle.p8_kinds.specs.FileSettings.{meaning_of_kind}
 use Rattle.p8_kinds.specs.Kinds.{own, or_else}
 use Rattle.p8_gen.specs.Files.{names_in}
-use Rattle.p8_folding.specs.Constants.{constants_in, value_meant, value_behind}
+use Rattle.p8_meaning.specs.Constants.{constants_in, value_meant, value_behind}
 use Rattle.p8_names.specs.Words as resolved
 use Rattle.p8_names.specs.Words.{HasWords}
 use Rattle.p8_opt.specs.Asked.{AreWords, HideNoConstant}

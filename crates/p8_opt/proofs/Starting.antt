@@ -4,7 +4,7 @@ use Rattle.p8_tree.specs.declared.places.Place.{Place}
 use Rattle.p8_tree.specs.Expressions.{Tree, node, Form, Number, Str, Here, Var, Call, Unary, Binary, Assign, Change, Address, ObjectAddress, ObjConst, Built, Look, Named, Part, Memory, Register, no_index, index, Trees, no_trees, ◌▷◌}
 use Rattle.p8_gen.specs.Names.{Names}
 use Rattle.p8_gen.specs.Expressions.{starts_method, count_of}
-use Rattle.p8_folding.specs.Folding.{number_or, tree_with, form_with, trees_with}
+use Rattle.p8_meaning.specs.Folding.{number_or, tree_with, form_with, trees_with}
 
 -- no tree that starts a method becomes a number
 pub record StartsNothing (n : Names) (number : Tree → Option ℕ) : Type 0 where

@@ -37,8 +37,8 @@ use Rattle.p8_build.proofs.Lists.{element, one_element, choose}
 use Rattle.p8_build.proofs.Wholes.{objects_are, is_main, main_first, has_methods, not_lacking, clock_is}
 use Rattle.p8_names.proofs.Seen.{has-words}
 use Rattle.p8_opt.proofs.Resolved.{are-words}
-use Rattle.p8_folding.specs.Constants.{constants_in}
-use Rattle.p8_folding.specs.Folding.{folded_body}
+use Rattle.p8_meaning.specs.Constants.{constants_in}
+use Rattle.p8_meaning.specs.Folding.{folded_body}
 use Rattle.p8_opt.specs.Asked.{AreWords}
 use Rattle.p8_opt.specs.Shorts.{IsShort, AreShort, IsShortBuiltTo}
 use Rattle.p8_opt.specs.Steps.{AreAcceptedFiles, AreShortObjects, IsAcceptedProject}

@@ -4,7 +4,7 @@ use Rattle.std.specs.Prelude.{IfSome}
 use Rattle.p8_tree.specs.Expressions.{Tree, node, Number, Str, Here, Var, Call, Unary, Binary, Assign, Change, Address, ObjectAddress, ObjConst, Built, Look, Named, Part, Memory, Register, no_index, index}
 use Rattle.p8_tree.specs.Proper.{IsProperTree}
 use Rattle.p8_words.specs.Operators.{or_zero, unary_result, binary_result, unary_value, binary_value}
-use Rattle.p8_folding.specs.Constants.{Constants, both, constant_value, number_length, code_length, within, shorter_number}
+use Rattle.p8_meaning.specs.Constants.{Constants, both, constant_value, number_length, code_length, within, shorter_number}
 use Rattle.p8_opt.specs.Asked.{AreWords}
 use Rattle.p8_names.proofs.Bounds.{unary-word, binary-word}
 

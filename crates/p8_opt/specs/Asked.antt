@@ -3,7 +3,7 @@
 use Rattle.std.specs.Prelude.{◌≡◌, ℕ, ◌^◌, ◌<◌, List, Some, IfSome}
 use Rattle.p8_kinds.specs.declared.name_kinds.NameKind.TheVariants as kinds
 use Rattle.p8_gen.specs.Names.{Names}
-use Rattle.p8_folding.specs.Constants.{Constants, constants_in}
+use Rattle.p8_meaning.specs.Constants.{Constants, constants_in}
 
 -- the values of constants are words
 pub record AreWords (c : Constants) : Type 0 where

@@ -16,8 +16,8 @@ use Rattle.p8_stmt.specs.declared.code.MethodCode.{MethodCode}
 use Rattle.p8_build.specs.declared.building.Built.{Built}
 use Rattle.p8_build.specs.Files.{CompiledFile, setting_of, method_names}
 use Rattle.p8_build.specs.Builds.{IsFile, AreCompiled, objects_of, clock_by}
-use Rattle.p8_folding.specs.Constants.{constants_in}
-use Rattle.p8_folding.specs.Folding.{folded_body}
+use Rattle.p8_meaning.specs.Constants.{constants_in}
+use Rattle.p8_meaning.specs.Folding.{folded_body}
 use Rattle.p8_stmt.specs.Jumps.{IsShortCode}
 
 -- a file that is compiled to x has these names and data, and the short codes of its folded methods

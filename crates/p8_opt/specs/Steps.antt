@@ -21,8 +21,8 @@ use Rattle.p8_build.specs.declared.building.Accepted.{Accepted}
 use Rattle.p8_build.specs.Parts.{AreProper}
 use Rattle.p8_build.specs.Files.{IsCompiled, object_of, setting_of}
 use Rattle.p8_build.specs.Phases.{compiled, IsAccepted}
-use Rattle.p8_folding.specs.Constants.{Constants, constants_in}
-use Rattle.p8_folding.specs.Folding.{folded_body}
+use Rattle.p8_meaning.specs.Constants.{Constants, constants_in}
+use Rattle.p8_meaning.specs.Folding.{folded_body}
 use Rattle.p8_opt.specs.Asked.{AreWords}
 use Rattle.p8_stmt.specs.Jumps.{IsShortCode}
 use Rattle.p8_opt.specs.Shorts.{IsShort}

@@ -2,12 +2,12 @@
 ghost use Rattle.std.specs.Prelude.{◌≡◌, ◌+◌, length, map, IfOk};
 ghost use Rattle.p8_tree.specs.Views.{method_of};
 ghost use Rattle.p8_stmt.specs.Jumps.{IsShortCode};
-ghost use Rattle.p8_folding.specs.Folding.{folded_body};
+ghost use Rattle.p8_meaning.specs.Folding.{folded_body};
 ghost use Rattle.p8_opt.specs.Steps.{names_by, constants_by, CanBeFolded, AreFoldable, AreShortCodes};
 
-use p8_folding::folded_body;
 use p8_gen::Tables;
 use p8_kinds::Kinds;
+use p8_meaning::folded_body;
 use p8_stmt::{MethodCode, short_code};
 use p8_tree::{List, Method};
 use p8_words::NoMemory;

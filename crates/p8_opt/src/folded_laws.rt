@@ -24,9 +24,9 @@ ghost use Rattle.p8_gen.specs.Files.{names_in};
 ghost use Rattle.p8_gen.specs.Methods.{bytes_of, method_code};
 ghost use Rattle.p8_gen.specs.Names.{Names, all_wide};
 ghost use Rattle.p8_stmt.specs.Methods.{rebodied, IsMethodFault};
-ghost use Rattle.p8_folding.specs.Constants.{Constants, constants_in};
-ghost use Rattle.p8_folding.specs.Folding.{folded_body};
-ghost use Rattle.p8_folding.specs.Projects.{HidesNone, constants_of};
+ghost use Rattle.p8_meaning.specs.Constants.{Constants, constants_in};
+ghost use Rattle.p8_meaning.specs.Folding.{folded_body};
+ghost use Rattle.p8_meaning.specs.Projects.{HidesNone, constants_of};
 ghost use Rattle.p8_opt.specs.Asked.{AreWords, HideNoConstant};
 
 use p8_compiled::code_ends_where_its_bytes_do;

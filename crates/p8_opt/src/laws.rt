@@ -19,7 +19,7 @@ ghost use Rattle.p8_opt.specs.Shorts.{IsShortBuilt};
 
 use crate::placed_laws::{recoded_images_have_their_methods, recoded_images_keep_meaning};
 use p8_compiled::lives_are_told;
-use p8_folding::{folded_sources_have_folded_methods, folds_keep_meaning};
+use p8_meaning::{folded_sources_have_folded_methods, folds_keep_meaning};
 use p8_names::one_for_each_project;
 
 /// Law: with short code a project is built to one thing alone.

@@ -6,7 +6,7 @@ use Rattle.p8_tree.specs.Views.{method_of, statements_of}
 use Rattle.p8_gen.specs.Names.{Names}
 use Rattle.p8_gen.specs.Scopes.{names_from}
 use Rattle.p8_stmt.specs.Methods.{AreResolved, IsMethodFault, rebodied}
-use Rattle.p8_folding.specs.Folding.{folded_body}
+use Rattle.p8_meaning.specs.Folding.{folded_body}
 use Rattle.p8_stmt.specs.Jumps.{IsShortCode}
 use Rattle.p8_opt.specs.Steps.{constants_by}
 use Rattle.p8_opt.proofs.coding.short_method.Goals as goal

@@ -1,6 +1,6 @@
 use Rattle.std.proofs.Common.{arith}
-use Rattle.p8_folding.specs.Constants.{constants_in}
-use Rattle.p8_folding.specs.Folding.{folded_body}
+use Rattle.p8_meaning.specs.Constants.{constants_in}
+use Rattle.p8_meaning.specs.Folding.{folded_body}
 use Rattle.p8_opt.proofs.Methods.{method-short, method-held, method-faultless}
 use Rattle.p8_opt.proofs.folded_laws.folded_methods_are_no_longer.Goals as goal
 

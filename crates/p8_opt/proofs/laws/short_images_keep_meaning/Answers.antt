@@ -1,5 +1,5 @@
 use Rattle.p8_opt.specs.Programs.{program_of, addresses_of}
-use Rattle.p8_folding.specs.Projects.{folded_program}
+use Rattle.p8_meaning.specs.Projects.{folded_program}
 use Rattle.p8_opt.proofs.Wholes.{short-fits}
 use Rattle.p8_opt.proofs.Recoded.{folded_sources, recoded}
 use Rattle.p8_opt.proofs.Kept.{hide-none, kept}

@@ -4,7 +4,7 @@ use Rattle.p8_image.specs.Layout.{image_of}
 use Rattle.p8_image.specs.Loading.{memory_of, start_of}
 use Rattle.p8_build.specs.Builds.{objects_of}
 use Rattle.p8_opt.specs.Programs.{program_of, with_sources, addresses_of}
-use Rattle.p8_folding.specs.Projects.{folded_program}
+use Rattle.p8_meaning.specs.Projects.{folded_program}
 use Rattle.p8_opt.proofs.Wholes.{short-fits}
 use Rattle.p8_opt.proofs.Recoded.{folded_sources, recoded}
 use Rattle.p8_opt.proofs.Kept.{hide-none, told}

@@ -1,9 +1,0 @@
-mod Scopes
-mod ShortExpressions
-mod ShortStatements
-mod Meanings
-mod Examples
-mod Keeping
-mod Lengths
-mod Trees
-mod Bodies

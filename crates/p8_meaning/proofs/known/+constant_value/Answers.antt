@@ -1,0 +1,13 @@
+use Rattle.std.proofs.Common.{sym, ap, ◌∙◌}
+use Rattle.p8_tree.specs.Expressions.{node}
+use Rattle.p8_tree.specs.Views.{form_of}
+use Rattle.p8_fold.specs.Entries.{setting_of}
+use Rattle.p8_fold.proofs.Rows.{call_form}
+use Rattle.p8_meaning.specs.Constants.{constants_in, constant_value}
+use Rattle.p8_meaning.proofs.known.+constant_value.Goals as goal
+
+pub returns-in-Call : goal.returns-in-Call
+returns-in-Call t c =
+    let cs = constants_in (setting_of c.args.consts.now) in
+    let p = c.args.expr.now.place in
+    sym (ap (λ k. constant_value cs (node p (form_of k))) c.in-Call.is ∙ ap (λ f. constant_value cs (node p f)) (call_form c.in-Call.field-0))
