@@ -7,7 +7,7 @@ use Rattle.p8_tree.specs.declared.projects.ProjectFile.{ProjectFile}
 use Rattle.p8_tree.specs.Proper.{IsProperFile}
 use Rattle.p8_tree.specs.Projects.{NamedSource}
 use Rattle.p8_tree.specs.Sources.{Source}
-use Rattle.p8_fold.specs.Meanings.{Setting}
+use Rattle.p8_kinds.specs.Meanings.{Setting}
 use Rattle.p8_tree.specs.Views.{source_of, named_source_of}
 use Rattle.p8_words.specs.declared.failure.Fail.{Fail}
 use Rattle.p8_words.specs.declared.failure.Fail.TheVariants as fail_case

@@ -10,8 +10,8 @@ use Rattle.p8_tree.specs.Sources.{MethodTree, Source}
 use Rattle.p8_tree.specs.Projects.{NamedSource}
 use Rattle.p8_tree.specs.declared.faults.Fault.{Fault}
 use Rattle.p8_tree.specs.Faults.{IsFirstFault, is_same_place}
-use Rattle.p8_fold.specs.Entries.{setting_of as setting_in}
-use Rattle.p8_fold.specs.Meanings.{Setting}
+use Rattle.p8_kinds.specs.ConstantEntries.{setting_of as setting_in}
+use Rattle.p8_kinds.specs.Meanings.{Setting}
 use Rattle.p8_constants.specs.FileItems.{Item, items}
 use Rattle.p8_constants.specs.Standing.{IsFirstOf}
 use Rattle.p8_kinds.specs.declared.children.Children.{Children}

@@ -7,7 +7,7 @@ use Rattle.p8_tree.specs.declared.places.Place.{Place}
 use Rattle.p8_tree.specs.Sources.{MethodTree}
 use Rattle.p8_tree.specs.declared.faults.Fault.{Fault}
 use Rattle.p8_tree.specs.Faults.{fault, FaultBefore, IsFirstFault}
-use Rattle.p8_fold.specs.Verdicts.{first_of_two}
+use Rattle.p8_kinds.specs.Verdicts.{first_of_two}
 use Rattle.p8_constants.specs.Standing.{IsFirstOf}
 use Rattle.p8_constants.proofs.FirstFaults.{IsSoFar, so_far_begin, so_far_same, so_far_then, so_far_end}
 use Rattle.p8_gen.specs.Names.{Names}

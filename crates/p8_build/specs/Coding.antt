@@ -4,7 +4,7 @@ use Rattle.p8_tree.specs.declared.places.Place.{Place}
 use Rattle.p8_tree.specs.Sources.{MethodTree}
 use Rattle.p8_tree.specs.declared.faults.Fault.{Fault}
 use Rattle.p8_tree.specs.Faults.{fault, IsFirstFault}
-use Rattle.p8_fold.specs.Verdicts.{first_of_two}
+use Rattle.p8_kinds.specs.Verdicts.{first_of_two}
 use Rattle.p8_constants.specs.Standing.{IsFirstOf}
 use Rattle.p8_gen.specs.Names.{Names}
 use Rattle.p8_gen.specs.Scopes.{names_from}

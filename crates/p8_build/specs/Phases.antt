@@ -11,7 +11,7 @@ use Rattle.p8_tree.specs.Faults.{IsFirstFault, Refusal, IsFirstRefusal}
 use Rattle.p8_kinds.specs.declared.children.Children.{Children}
 use Rattle.p8_kinds.specs.declared.kinds.Kinds.{Kinds}
 use Rattle.p8_kinds.specs.declared.named.Named.{Named}
-use Rattle.p8_fold.specs.Meanings.{Setting}
+use Rattle.p8_kinds.specs.Meanings.{Setting}
 use Rattle.p8_constants.specs.FileItems.{Item}
 use Rattle.p8_names.specs.Kinds.{objects}
 use Rattle.p8_names.specs.Resolution.{IsNamed}

@@ -3,7 +3,7 @@ ghost use Rattle.std.specs.Prelude.{◌≡◌, ◌+◌, ◌*◌, length, IfOk, I
 ghost use Rattle.p8_tree.specs.Projects.{NamedSource};
 ghost use Rattle.p8_tree.specs.Views.{source_of};
 ghost use Rattle.p8_tree.specs.Faults.{IsFirstFault};
-ghost use Rattle.p8_fold.specs.Entries.{setting_of};
+ghost use Rattle.p8_kinds.specs.ConstantEntries.{setting_of};
 ghost use Rattle.p8_constants.specs.Standing.{item_of as item_tree, items_of as item_trees};
 ghost use Rattle.p8_kinds.specs.FileSettings.{file_setting};
 ghost use Rattle.p8_names.specs.Kinds.{numbered as numbered_methods, object_in, objects, instances};
@@ -14,8 +14,7 @@ ghost use Rattle.p8_build.specs.Phases.{AreNamed, seen_by, IsDataOf, AreAssemble
 use crate::fault::{FileFault, in_file};
 use p8_constants::{Item, count_value, items_of};
 use p8_dat::{Dat, assemble};
-use p8_fold::Consts;
-use p8_kinds::{Named, consts_of};
+use p8_kinds::{Consts, Named, consts_of};
 use p8_names::numbered;
 use p8_tree::List;
 use p8_words::{Fail, NoMemory};

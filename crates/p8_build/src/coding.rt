@@ -1,7 +1,7 @@
 // The code of the methods of a file.
 ghost use Rattle.std.specs.Prelude.{◌≡◌, ◌+◌, ◌*◌, ◌^◌, ◌<◌, length, map, IfOk, OnOk};
 ghost use Rattle.p8_tree.specs.Views.{method_of};
-ghost use Rattle.p8_fold.specs.Entries.{setting_of};
+ghost use Rattle.p8_kinds.specs.ConstantEntries.{setting_of};
 ghost use Rattle.p8_stmt.specs.Methods.{AreResolved};
 ghost use Rattle.p8_constants.specs.Standing.{IsFirstOf};
 ghost use Rattle.p8_build.specs.Numbers.{number_by};

@@ -6,7 +6,7 @@ use Rattle.p8_tree.specs.Names.{result_word}
 use Rattle.p8_tree.specs.Expressions.{Tree}
 use Rattle.p8_tree.specs.Proper.{is_size, IsProperTree}
 use Rattle.p8_words.specs.Operators.{or_zero}
-use Rattle.p8_fold.specs.Values.{value}
+use Rattle.p8_kinds.specs.Values.{value}
 use Rattle.p8_kinds.specs.declared.name_kinds.NameKind.{NameKind}
 use Rattle.p8_kinds.specs.declared.name_kinds.NameKind.TheVariants.{Const, Global, Local, Label, Method, Object}
 use Rattle.p8_kinds.specs.Environments.{Environment}

@@ -7,10 +7,10 @@
 use Rattle.std.specs.Prelude.{◌≡◌, ℕ, ◌+◌, ◌%◌, ◌^◌, List, [], ◌∷◌, ◌<◌, ◌≤◌, Option, Some, None, IsSome, Contains}
 use Rattle.p8_tree.specs.Sources.{Source}
 use Rattle.p8_tree.specs.declared.faults.Fault.{Fault}
-use Rattle.p8_fold.specs.declared.meanings.Meaning.{Meaning}
-use Rattle.p8_fold.specs.declared.meanings.Meaning.TheVariants as meaning_case
-use Rattle.p8_fold.specs.Meanings.{Setting}
-use Rattle.p8_fold.specs.Values.{value, FaultIn}
+use Rattle.p8_kinds.specs.declared.meanings.Meaning.{Meaning}
+use Rattle.p8_kinds.specs.declared.meanings.Meaning.TheVariants as meaning_case
+use Rattle.p8_kinds.specs.Meanings.{Setting}
+use Rattle.p8_kinds.specs.Values.{value, FaultIn}
 use Rattle.p8_constants.specs.Items.{Term, Sum, definitions, definition, expressions}
 use Rattle.p8_constants.specs.Mentions.{Mentions}
 

@@ -10,10 +10,10 @@ use Rattle.p8_constants.specs.Graphs.{IsEdge, Reaches}
 use Rattle.p8_constants.specs.Orders.{ComesNoLater}
 use Rattle.p8_tree.specs.declared.faults.Fault.{Fault}
 use Rattle.p8_tree.specs.Faults.{earlier, IsFirstFault}
-use Rattle.p8_fold.specs.declared.meanings.Meaning.{Meaning}
-use Rattle.p8_fold.specs.declared.meanings.Meaning.TheVariants.{Value, Other}
-use Rattle.p8_fold.specs.Meanings.{Setting}
-use Rattle.p8_fold.specs.Values.{value, FaultIn}
+use Rattle.p8_kinds.specs.declared.meanings.Meaning.{Meaning}
+use Rattle.p8_kinds.specs.declared.meanings.Meaning.TheVariants.{Value, Other}
+use Rattle.p8_kinds.specs.Meanings.{Setting}
+use Rattle.p8_kinds.specs.Values.{value, FaultIn}
 use Rattle.p8_constants.specs.declared.rows.Move.{Move}
 use Rattle.p8_constants.specs.declared.rows.Move.TheVariants.{Sets, Stays, Counts, Steps}
 use Rattle.p8_constants.specs.Items.{Term, Sum, zero_sum, after}

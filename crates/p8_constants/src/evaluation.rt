@@ -2,9 +2,9 @@
 ghost use Rattle.std.specs.Prelude.{◌≡◌, ℕ, ◌+◌, ◌*◌, ◌<◌, ◌^◌, List, OnOk, length, slice_set, Some, option_map};
 ghost use Rattle.p8_tree.specs.Views.{tree_of};
 ghost use Rattle.p8_tree.specs.Sources.{Source};
-ghost use Rattle.p8_fold.specs.Entries.{setting_of, at_bytes};
-ghost use Rattle.p8_fold.specs.Meanings.{Setting};
-ghost use Rattle.p8_fold.specs.Values.{value};
+ghost use Rattle.p8_kinds.specs.ConstantEntries.{setting_of, at_bytes};
+ghost use Rattle.p8_kinds.specs.Meanings.{Setting};
+ghost use Rattle.p8_kinds.specs.Values.{value};
 ghost use Rattle.p8_constants.specs.Constants.{scope_of, counted};
 ghost use Rattle.p8_constants.specs.Mentions.{mentioned};
 ghost use Rattle.p8_constants.specs.Rows.{rows_from, rows_of, meaning_in, moved, counter_value, IsPlan, IsPrepared, Joins, with_first, IsEvaluated, IsSized, IsSameBut, IsEntered, IsNameEntered};
@@ -12,7 +12,7 @@ ghost use Rattle.p8_constants.specs.Rows.{rows_from, rows_of, meaning_in, moved,
 use crate::mentions::names_in;
 use crate::plan::Plan;
 use crate::rows::{Move, move_of};
-use p8_fold::{Consts, Meaning, value_of};
+use p8_kinds::{Consts, Meaning, value_of};
 use p8_tree::{Expr, Fault, Text};
 use p8_words::NoMemory;
 use std::alloc::Global;

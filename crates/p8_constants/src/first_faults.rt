@@ -1,7 +1,7 @@
 // Which of several faults is told.
 ghost use Rattle.std.specs.Prelude.{◌≡◌};
-ghost use Rattle.p8_fold.specs.Values.{where_so};
-ghost use Rattle.p8_fold.specs.Verdicts.{first_of_two};
+ghost use Rattle.p8_kinds.specs.Values.{where_so};
+ghost use Rattle.p8_kinds.specs.Verdicts.{first_of_two};
 
 use p8_tree::Fault;
 

@@ -3,14 +3,14 @@ ghost use Rattle.std.specs.Prelude.{◌≡◌, ℕ, List, IfOk, IsSome, Some, No
 ghost use Rattle.p8_tree.specs.Views.{source_of};
 ghost use Rattle.p8_tree.specs.declared.faults.Fault.{Fault};
 ghost use Rattle.p8_tree.specs.Faults.{IsFirstFault};
-ghost use Rattle.p8_fold.specs.declared.meanings.Meaning.TheVariants.{Value};
-ghost use Rattle.p8_fold.specs.Entries.{setting_of};
+ghost use Rattle.p8_kinds.specs.declared.meanings.Meaning.TheVariants.{Value};
+ghost use Rattle.p8_kinds.specs.ConstantEntries.{setting_of};
 ghost use Rattle.p8_constants.specs.Items.{definitions, definition};
 ghost use Rattle.p8_constants.specs.Constants.{scope_of, Has, IsConstant, IsConstantFault};
 
 use crate::evaluation::Evaluation;
 use crate::plan::plan_of;
-use p8_fold::Consts;
+use p8_kinds::Consts;
 use p8_tree::{Fault, SourceFile};
 use p8_words::NoMemory;
 use std::alloc::Global;

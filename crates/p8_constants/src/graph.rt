@@ -3,7 +3,7 @@ ghost use Rattle.std.specs.Prelude.{◌≡◌, ℕ, ◌+◌, ◌*◌, ◌<◌, �
 ghost use Rattle.std.specs.Option.{option_to_list};
 ghost use Rattle.std.specs.List.{filter_map};
 ghost use Rattle.p8_tree.specs.Views.{constant_of, tree_of};
-ghost use Rattle.p8_fold.specs.Entries.{at_bytes};
+ghost use Rattle.p8_kinds.specs.ConstantEntries.{at_bytes};
 ghost use Rattle.p8_constants.specs.Rows.{rows_from, nodes_by, nodes_behind, nodes_of_counter, IsGraphBy};
 
 use crate::directed_graph::Graph;

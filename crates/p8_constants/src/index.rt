@@ -1,10 +1,10 @@
 // Names of constants, and the nodes that give their values.
 ghost use Rattle.std.specs.Prelude.{◌≡◌, ℕ, ◌+◌, ◌*◌, ◌<◌, ◌^◌, List, Option, Some, None, OnOk, IfOk, length, option_map};
-ghost use Rattle.p8_fold.specs.Entries.{setting_of, at_bytes};
+ghost use Rattle.p8_kinds.specs.ConstantEntries.{setting_of, at_bytes};
 ghost use Rattle.p8_constants.specs.Rows.{rows_from, node_of, constant_at, or_else, named_here};
 
 use crate::rows::Rows;
-use p8_fold::Consts;
+use p8_kinds::Consts;
 use p8_tree::Text;
 use p8_words::NoMemory;
 use std::alloc::{AllocError, Global};

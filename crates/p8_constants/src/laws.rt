@@ -1,8 +1,8 @@
 // What holds of the constants of every file.
 ghost use Rattle.std.specs.Prelude.{◌≡◌, ◌↔◌, ℕ, ◌+◌, ◌%◌, ◌^◌, ◌<◌, Some, Contains, List, [], ◌∷◌, ◌++◌};
 ghost use Rattle.p8_tree.specs.declared.faults.Fault.{Fault};
-ghost use Rattle.p8_fold.specs.Meanings.{Setting};
-ghost use Rattle.p8_fold.specs.Values.{value, FaultIn};
+ghost use Rattle.p8_kinds.specs.Meanings.{Setting};
+ghost use Rattle.p8_kinds.specs.Values.{value, FaultIn};
 ghost use Rattle.p8_constants.specs.Items.{Term, Sum, definition};
 ghost use Rattle.p8_constants.specs.Mentions.{Mentions};
 ghost use Rattle.p8_constants.specs.Constants.{Scope, Needs, IsRightFor, Adds, Has, IsOrdered, IsLayered, counted};

@@ -1,7 +1,7 @@
 // In which order a file's constants are found.
 ghost use Rattle.std.specs.Prelude.{◌≡◌, ℕ, ◌+◌, ◌*◌, ◌<◌, ◌^◌, List, IfOk, length};
 ghost use Rattle.p8_tree.specs.Views.{source_of};
-ghost use Rattle.p8_fold.specs.Entries.{setting_of, at_bytes};
+ghost use Rattle.p8_kinds.specs.ConstantEntries.{setting_of, at_bytes};
 ghost use Rattle.p8_constants.specs.Rows.{rows_from, rows_of, IsPlan};
 
 use crate::graph::graph_of;
@@ -9,7 +9,7 @@ use crate::index::Index;
 use crate::node_order::in_order;
 use crate::numbering::components;
 use crate::rows::Rows;
-use p8_fold::Consts;
+use p8_kinds::Consts;
 use p8_tree::SourceFile;
 use p8_words::NoMemory;
 use std::alloc::Global;

@@ -12,10 +12,10 @@ use Rattle.p8_tree.specs.Expressions.{Tree, node, Var, Variable, Named, no_index
 use Rattle.p8_tree.specs.Sources.{Instruction}
 use Rattle.p8_tree.specs.declared.faults.Fault.{Fault}
 use Rattle.p8_tree.specs.Faults.{fault}
-use Rattle.p8_fold.specs.declared.meanings.Meaning.{Meaning}
-use Rattle.p8_fold.specs.declared.meanings.Meaning.TheVariants as meaning_case
-use Rattle.p8_fold.specs.Meanings.{Setting, meaning_of}
-use Rattle.p8_fold.specs.Values.{value, FaultIn, where_so}
+use Rattle.p8_kinds.specs.declared.meanings.Meaning.{Meaning}
+use Rattle.p8_kinds.specs.declared.meanings.Meaning.TheVariants as meaning_case
+use Rattle.p8_kinds.specs.Meanings.{Setting, meaning_of}
+use Rattle.p8_kinds.specs.Values.{value, FaultIn, where_so}
 use Rattle.p8_instr.specs.declared.instruction.Instr.{Instr}
 use Rattle.p8_instr.specs.Instruction.{long_of, writes_result, is_immediate}
 use Rattle.p8_instr.specs.Mnemonics.{entry_of, mnemonics}

@@ -1,7 +1,7 @@
 // The bytes of data.
 ghost use Rattle.std.specs.Prelude.{◌≡◌, ◌++◌, None, OnOk, map};
 ghost use Rattle.p8_tree.specs.Views.{datum_of};
-ghost use Rattle.p8_fold.specs.Entries.{setting_of};
+ghost use Rattle.p8_kinds.specs.ConstantEntries.{setting_of};
 ghost use Rattle.p8_dat.specs.Bytes.{in_data, spots, value_bytes, text_bytes, elements_bytes, item_bytes, items_bytes};
 ghost use Rattle.p8_dat.specs.First.{told_in_elements, told_in_item, told_in_items};
 ghost use Rattle.p8_dat.specs.Placing.{unplaced};
@@ -10,7 +10,7 @@ use crate::output::{Output, first_of_two};
 use crate::placing::{behind_item, size_of};
 use crate::spots::{LIMIT, Spot};
 use crate::values::{evaluate, number, string_of};
-use p8_fold::Consts;
+use p8_kinds::Consts;
 use p8_tree::DatItem;
 use std::alloc::AllocError;
 

@@ -1,10 +1,10 @@
 // The bytes of whole lines, and what is wrong with them.
 ghost use Rattle.std.specs.Prelude.{◌≡◌, ◌+◌, ◌/◌, ◌++◌, nat_lt, OnOk, map, option_map};
 ghost use Rattle.p8_tree.specs.Faults.{fault};
-ghost use Rattle.p8_fold.specs.Values.{where_so};
+ghost use Rattle.p8_kinds.specs.Values.{where_so};
 ghost use Rattle.p8_tree.specs.Views.{tree_of, contents_of, instruction_of};
-ghost use Rattle.p8_fold.specs.Entries.{setting_of};
-ghost use Rattle.p8_fold.specs.Verdicts.{first_of_two};
+ghost use Rattle.p8_kinds.specs.ConstantEntries.{setting_of};
+ghost use Rattle.p8_kinds.specs.Verdicts.{first_of_two};
 ghost use Rattle.p8_dat.specs.Encoding.{long_of_line};
 ghost use Rattle.p8_dat.specs.FirstOfLine.{first_in_instruction};
 ghost use Rattle.p8_dat.specs.Bytes.{element, in_instruction, contents_bytes, line_bytes, lines_bytes};
@@ -18,7 +18,7 @@ use crate::output::{Output, first_of_two};
 use crate::placing::Placed;
 use crate::spots::Spot;
 use crate::values::number;
-use p8_fold::{Consts, value_of};
+use p8_kinds::{Consts, value_of};
 use p8_tree::{DatBody, Expr, Fault, InstrLine, Place};
 use p8_words::NoMemory;
 use std::alloc::Global;

@@ -1,6 +1,6 @@
 // What is put, and the first fault that is found.
 ghost use Rattle.std.specs.Prelude.{◌≡◌, ◌-◌, ◌≤◌, ◌++◌, min, OnOk};
-ghost use Rattle.p8_fold.specs.Verdicts.{first_of_two};
+ghost use Rattle.p8_kinds.specs.Verdicts.{first_of_two};
 ghost use Rattle.p8_dat.specs.Spots.{limit};
 ghost use Rattle.p8_dat.specs.Bytes.{element, zeros};
 

@@ -1,6 +1,6 @@
 // Regions: the lines from one label of the whole file up to the next one, which see the same local labels.
 ghost use Rattle.std.specs.Prelude.{◌≡◌, ◌<◌, ◌≤◌, ◌++◌, length, drop, OnOk, map};
-ghost use Rattle.p8_fold.specs.Entries.{setting_of};
+ghost use Rattle.p8_kinds.specs.ConstantEntries.{setting_of};
 ghost use Rattle.p8_dat.specs.Names.{regions, names_in};
 ghost use Rattle.p8_dat.specs.Bytes.{lines_bytes};
 ghost use Rattle.p8_dat.specs.Blocks.{regions_bytes};
@@ -11,7 +11,7 @@ use crate::labels::{enter_locals, is_named, leave_locals};
 use crate::lines::put_lines;
 use crate::output::Output;
 use crate::placing::Placed;
-use p8_fold::Consts;
+use p8_kinds::Consts;
 use p8_words::NoMemory;
 use std::alloc::Global;
 

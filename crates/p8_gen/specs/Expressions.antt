@@ -8,7 +8,7 @@ use Rattle.p8_instr.specs.Reading.{bare}
 use Rattle.p8_kinds.specs.declared.name_kinds.NameKind.{NameKind}
 use Rattle.p8_kinds.specs.declared.name_kinds.NameKind.TheVariants as kinds
 use Rattle.p8_words.specs.Operators.{or_zero}
-use Rattle.p8_fold.specs.Values as constants
+use Rattle.p8_kinds.specs.Values as constants
 use Rattle.p8_gen.specs.Names.{Names}
 use Rattle.p8_gen.specs.Pieces.{Piece, nothing, one, ◌⨾◌, up_to_end, byte, with_number, text, jump}
 use Rattle.p8_gen.specs.Variables as variables

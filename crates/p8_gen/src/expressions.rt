@@ -4,7 +4,7 @@ ghost use Rattle.p8_tree.specs.Expressions as trees;
 ghost use Rattle.p8_tree.specs.Expressions.{no_items, ◌▸◌};
 ghost use Rattle.p8_tree.specs.Views.{tree_of, variable_of, call_of, trees_of, items_of, item_of};
 ghost use Rattle.p8_tree.specs.Bridges.{boxed_index};
-ghost use Rattle.p8_fold.specs.Verdicts.{boxed_bits};
+ghost use Rattle.p8_kinds.specs.Verdicts.{boxed_bits};
 ghost use Rattle.p8_gen.specs.Pieces.{Written, up_to_end};
 ghost use Rattle.p8_gen.specs.Variables as variables;
 ghost use Rattle.p8_gen.specs.Variables.{leaving, effect_for};

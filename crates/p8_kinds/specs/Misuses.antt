@@ -12,8 +12,8 @@ use Rattle.p8_tree.specs.Statements.{Course, Forever, Count, Before, After, From
 use Rattle.p8_tree.specs.Lists.{count_of_trees}
 use Rattle.p8_tree.specs.declared.faults.Fault.{Fault}
 use Rattle.p8_tree.specs.Faults.{fault}
-use Rattle.p8_fold.specs.Meanings.{Setting}
-use Rattle.p8_fold.specs.Values.{FaultInTrees, where_so}
+use Rattle.p8_kinds.specs.Meanings.{Setting}
+use Rattle.p8_kinds.specs.Values.{FaultInTrees, where_so}
 use Rattle.p8_kinds.specs.declared.name_kinds.NameKind.{NameKind}
 use Rattle.p8_kinds.specs.declared.name_kinds.NameKind.TheVariants as kind_case
 use Rattle.p8_kinds.specs.declared.uses.Use.{Use}

@@ -6,7 +6,7 @@ use Rattle.std.specs.List.{flat_map}
 use Rattle.p8_tree.specs.Expressions.{Tree}
 use Rattle.p8_tree.specs.Sources.{Child, Declared, MethodTree}
 use Rattle.p8_tree.specs.Projects.{NamedSource}
-use Rattle.p8_fold.specs.Meanings.{Setting}
+use Rattle.p8_kinds.specs.Meanings.{Setting}
 use Rattle.p8_constants.specs.FileItems.{Item, variable, items}
 use Rattle.p8_constants.specs.Rules.{count_in}
 use Rattle.p8_names.specs.Kinds.{numbered, objects}

@@ -3,16 +3,15 @@ ghost use Rattle.std.specs.Prelude.{◌≡◌, ◌++◌, ◌+◌, ◌^◌, ◌<�
 ghost use Rattle.std.specs.List.{flat_map};
 ghost use Rattle.std.specs.Fmt.{decimal};
 ghost use Rattle.p8_tree.specs.Views.{declared_of, method_of, named_source_of, tree_of};
-ghost use Rattle.p8_fold.specs.Entries.{setting_of};
+ghost use Rattle.p8_kinds.specs.ConstantEntries.{setting_of};
 ghost use Rattle.p8_constants.specs.Standing.{item_of, items_of as item_trees};
 ghost use Rattle.p8_names.specs.Kinds.{object_in, objects};
 ghost use Rattle.p8_map.specs.Names.{element_name, element_names, file_names, instance_names, local_name, method_names, names_by_count, variable_name};
 
 use itoa::Buffer;
 use p8_constants::{Item, count_value, items_of};
-use p8_fold::Consts;
 use p8_instr::push_text;
-use p8_kinds::Label;
+use p8_kinds::{Consts, Label};
 use p8_names::numbered;
 use p8_tree::{Expr, List, Method, ProjectFile, Text, VarItem};
 use p8_words::NoMemory;

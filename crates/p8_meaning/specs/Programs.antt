@@ -6,9 +6,9 @@ use Rattle.p8_tree.specs.declared.places.Place.{Place}
 use Rattle.p8_tree.specs.Expressions.{Tree}
 use Rattle.p8_tree.specs.Sources.{Source, BlockTree, Method, MethodTree, Declared}
 use Rattle.p8_words.specs.Operators.{or_zero}
-use Rattle.p8_fold.specs.declared.meanings.Meaning.TheVariants as meaning_case
-use Rattle.p8_fold.specs.Meanings.{Setting, outside_operands}
-use Rattle.p8_fold.specs.Values.{value}
+use Rattle.p8_kinds.specs.declared.meanings.Meaning.TheVariants as meaning_case
+use Rattle.p8_kinds.specs.Meanings.{Setting, outside_operands}
+use Rattle.p8_kinds.specs.Values.{value}
 use Rattle.p8_kinds.specs.declared.name_kinds.NameKind.{NameKind}
 use Rattle.p8_kinds.specs.declared.name_kinds.NameKind.TheVariants as kind_case
 use Rattle.p8_kinds.specs.declared.children.Child.{Child}

@@ -2,7 +2,7 @@
 use Rattle.std.specs.Prelude.{◌≡◌, ◌⊎◌, ℕ, ◌<◌, ◌≤◌, Bool, false, not, if◌then◌else◌, List, Option, Some, None}
 use Rattle.p8_tree.specs.Sources.{Datum}
 use Rattle.p8_tree.specs.declared.faults.Fault.{Fault}
-use Rattle.p8_fold.specs.Meanings.{Setting}
+use Rattle.p8_kinds.specs.Meanings.{Setting}
 use Rattle.p8_constants.specs.Names.{is_local}
 use Rattle.p8_kinds.specs.declared.kinds.Kinds.{Kinds}
 use Rattle.p8_kinds.specs.declared.name_kinds.NameKind.TheVariants as kind

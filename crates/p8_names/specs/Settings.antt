@@ -6,9 +6,9 @@ use Rattle.std.specs.Prelude.{◌≡◌, ℕ, Bool, false, ◌||◌, if◌then�
 use Rattle.std.specs.Map.{lookup}
 use Rattle.std.specs.Str.{bytes_eq}
 use Rattle.p8_tree.specs.Sources.{Source}
-use Rattle.p8_fold.specs.declared.meanings.Meaning.{Meaning}
-use Rattle.p8_fold.specs.declared.meanings.Meaning.TheVariants as meaning_case
-use Rattle.p8_fold.specs.Meanings.{Setting, outside_operands}
+use Rattle.p8_kinds.specs.declared.meanings.Meaning.{Meaning}
+use Rattle.p8_kinds.specs.declared.meanings.Meaning.TheVariants as meaning_case
+use Rattle.p8_kinds.specs.Meanings.{Setting, outside_operands}
 use Rattle.p8_constants.specs.Items as con
 use Rattle.p8_constants.specs.Constants.{scope_of, IsConstant, Has}
 use Rattle.p8_constants.specs.FileItems.{Item, constant, object, items}

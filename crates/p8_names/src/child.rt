@@ -1,7 +1,7 @@
 // What is seen of a file.
 ghost use Rattle.std.specs.Prelude.{◌≡◌, ℕ, List, ◌++◌, Some, IfOk, OnOk};
 ghost use Rattle.p8_tree.specs.Views.{method_of, source_of};
-ghost use Rattle.p8_fold.specs.Entries.{setting_of};
+ghost use Rattle.p8_kinds.specs.ConstantEntries.{setting_of};
 ghost use Rattle.p8_constants.specs.FileItems.{method as method_tree};
 ghost use Rattle.p8_constants.specs.Names.{predefined_names};
 ghost use Rattle.p8_constants.specs.Standing.{item_of, items_of, Holds};
@@ -11,8 +11,7 @@ ghost use Rattle.p8_names.specs.Children.{shown_name, method_at, methods_from, n
 
 use crate::beginning::constants_in;
 use p8_constants::{Item, NameSet, items_of, predefined_names};
-use p8_fold::{Consts, Meaning};
-use p8_kinds::{Child, ChildConst, ChildMethod, Children};
+use p8_kinds::{Child, ChildConst, ChildMethod, Children, Consts, Meaning};
 use p8_tree::{List, Method, SourceFile, Text};
 use p8_words::NoMemory;
 use std::alloc::{AllocError, Global};

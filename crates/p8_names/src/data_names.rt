@@ -3,7 +3,7 @@ ghost use Rattle.std.specs.Prelude.{◌≡◌, ◌<◌, ◌≤◌, ◌+◌, ℕ,
 ghost use Rattle.p8_tree.specs.Expressions.{Tree};
 ghost use Rattle.p8_tree.specs.Views.{tree_of, datum_of, instruction_of, contents_of};
 ghost use Rattle.p8_tree.specs.Sources.{Instr};
-ghost use Rattle.p8_fold.specs.Entries.{setting_of};
+ghost use Rattle.p8_kinds.specs.ConstantEntries.{setting_of};
 ghost use Rattle.p8_constants.specs.Standing.{item_of, items_of, IsFirstOf};
 ghost use Rattle.p8_kinds.specs.declared.scope.Scope.{Scope as declared_scope};
 ghost use Rattle.p8_kinds.specs.Environments.{environment_of};

@@ -2,20 +2,19 @@
 ghost use Rattle.std.specs.Prelude.{◌≡◌, ℕ, ◌<◌, List, ◌∷◌, Some, None, All, IfOk, OnOk, option_map};
 ghost use Rattle.p8_tree.specs.Proper.{IsSize};
 ghost use Rattle.p8_tree.specs.Views.{child_of, method_of};
-ghost use Rattle.p8_fold.specs.Entries.{setting_of};
+ghost use Rattle.p8_kinds.specs.ConstantEntries.{setting_of};
 ghost use Rattle.p8_constants.specs.FileItems.{Item as item_tree, object as object_tree, method as method_tree};
 ghost use Rattle.p8_constants.specs.Names.{predefined as table};
 ghost use Rattle.p8_constants.specs.Standing.{item_of, items_of, valued};
 ghost use Rattle.p8_kinds.specs.Kinds.{own};
 ghost use Rattle.p8_names.specs.Kinds.{value_in, offset_in, item_kind, label_size, file_kind};
 ghost use Rattle.p8_names.specs.Counting.{IsNext, HasSize, IsEntered, AreEntered};
-ghost use Rattle.p8_fold.specs.declared.consts.Consts.{Consts as declared_consts};
+ghost use Rattle.p8_kinds.specs.declared.consts.Consts.{Consts as declared_consts};
 
 use crate::labels::label_sizes;
 use crate::next_kinds::{Next, first_next, go_behind, instances_of};
 use p8_constants::{Item, NamedConstant};
-use p8_fold::{Consts, Meaning};
-use p8_kinds::{Kinds, NameKind};
+use p8_kinds::{Consts, Kinds, Meaning, NameKind};
 use p8_tree::{Method, ObjItem, Text};
 use p8_words::NoMemory;
 use std::alloc::Global;

@@ -1,7 +1,7 @@
 // Names that are no constants for a while: a method's own names, in the method.
 ghost use Rattle.std.specs.Prelude.{◌≡◌, ◌⊎◌, ℕ, List, Some, IsTrue, if◌then◌else◌, OnOk, option_map};
-ghost use Rattle.p8_fold.specs.Entries.{setting_of};
-ghost use Rattle.p8_fold.specs.declared.meanings.Meaning.TheVariants.{Other};
+ghost use Rattle.p8_kinds.specs.ConstantEntries.{setting_of};
+ghost use Rattle.p8_kinds.specs.declared.meanings.Meaning.TheVariants.{Other};
 ghost use Rattle.p8_constants.specs.Names.{spelled};
 ghost use Rattle.p8_constants.specs.Standing.{all_defined_of};
 ghost use Rattle.p8_kinds.specs.Kinds.{own};
@@ -11,8 +11,7 @@ ghost use Rattle.p8_names.specs.Changes.{HasNames};
 
 use crate::outside::put_meaning;
 use p8_constants::Defined;
-use p8_fold::{Consts, Meaning};
-use p8_kinds::{Kinds, NameKind};
+use p8_kinds::{Consts, Kinds, Meaning, NameKind};
 use p8_tree::Text;
 use p8_words::NoMemory;
 

@@ -3,7 +3,7 @@ ghost use Rattle.std.specs.Prelude.{◌≡◌, ◌⊎◌, ◌<◌, ℕ, List, No
 ghost use Rattle.p8_kinds.specs.Kinds.{own};
 ghost use Rattle.p8_names.specs.Looking.{IsShown, IsFaultIn, HasOwnKinds};
 ghost use Rattle.p8_tree.specs.Views.{declared_of, method_of};
-ghost use Rattle.p8_fold.specs.Entries.{setting_of};
+ghost use Rattle.p8_kinds.specs.ConstantEntries.{setting_of};
 ghost use Rattle.p8_constants.specs.Rules.{FaultInCount};
 ghost use Rattle.p8_constants.specs.Standing.{IsFirstOf};
 ghost use Rattle.p8_kinds.specs.Environments.{environment_of};
@@ -13,8 +13,7 @@ ghost use Rattle.p8_names.specs.Faults.{FaultInLocals};
 use crate::hiding::{hide, restore};
 use crate::own_kinds::enter_own_names;
 use p8_constants::{count_fault, first_of_two, own_names};
-use p8_fold::Consts;
-use p8_kinds::{Scope, first_misuse};
+use p8_kinds::{Consts, Scope, first_misuse};
 use p8_tree::{Fault, Method, VarItem};
 use p8_words::NoMemory;
 use std::alloc::Global;

@@ -1,7 +1,7 @@
 // All methods of a file, looked at one after the other.
 ghost use Rattle.std.specs.Prelude.{◌≡◌, ◌+◌, ◌<◌, ℕ, List, None, IfOk, length, map};
 ghost use Rattle.p8_tree.specs.Views.{method_of};
-ghost use Rattle.p8_fold.specs.Entries.{setting_of};
+ghost use Rattle.p8_kinds.specs.ConstantEntries.{setting_of};
 ghost use Rattle.p8_constants.specs.Standing.{IsFirstOf};
 ghost use Rattle.p8_kinds.specs.Kinds.{own};
 ghost use Rattle.p8_names.specs.Faults.{InMethods};

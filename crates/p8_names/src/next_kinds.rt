@@ -2,7 +2,7 @@
 ghost use Rattle.std.specs.Prelude.{◌≡◌, ℕ, ◌<◌, ◌≤◌, ◌*◌, ◌+◌, ◌^◌, min, nat_lt, if◌then◌else◌, length, List, [], ◌∷◌, ◌++◌, All, IfOk, OnOk, option_map};
 ghost use Rattle.p8_tree.specs.Proper.{IsSize};
 ghost use Rattle.p8_tree.specs.Views.{tree_of, declared_of, child_of, method_of};
-ghost use Rattle.p8_fold.specs.Entries.{setting_of};
+ghost use Rattle.p8_kinds.specs.ConstantEntries.{setting_of};
 ghost use Rattle.p8_constants.specs.FileItems.{Item as item_tree, variable, object as object_tree, method as method_tree};
 ghost use Rattle.p8_constants.specs.Rules.{count_in};
 ghost use Rattle.p8_constants.specs.Standing.{item_of, items_of};
@@ -10,8 +10,7 @@ ghost use Rattle.p8_names.specs.Kinds.{greatest_offset, greatest_number, bytes_i
 ghost use Rattle.p8_names.specs.Counting.{IsNext, HasSize, HasNoPart};
 
 use p8_constants::{Item, count_value};
-use p8_fold::{Consts, Meaning};
-use p8_kinds::NameKind;
+use p8_kinds::{Consts, Meaning, NameKind};
 use p8_tree::{Expr, Method, ObjItem, Text, VarItem};
 use p8_words::NoMemory;
 

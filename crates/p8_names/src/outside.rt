@@ -2,17 +2,16 @@
 ghost use Rattle.std.specs.Prelude.{◌≡◌, ℕ, List, [], ◌∷◌, ◌++◌, map, Some, None, OnOk, IfOk, option_map};
 ghost use Rattle.std.specs.Map.{lookup};
 ghost use Rattle.std.specs.Str.{bytes_eq};
-ghost use Rattle.p8_fold.specs.Entries.{setting_of};
+ghost use Rattle.p8_kinds.specs.ConstantEntries.{setting_of};
 ghost use Rattle.p8_constants.specs.Names.{name_of, predefined as table};
 ghost use Rattle.p8_constants.specs.Standing.{item_of, items_of, valued};
 ghost use Rattle.p8_names.specs.Settings.{definition, meaning_of_item, meaning_outside, children_behind, object_with, constant_behind, outside_of};
 ghost use Rattle.p8_names.specs.Changes.{IsPut, HasNames, over, HasConstants, HasConstantsOf, HasObjects, IsSameOutside, IsOutside};
 ghost use Rattle.p8_kinds.specs.declared.children.Child.{Child as declared_child};
-ghost use Rattle.p8_fold.specs.declared.meanings.Meaning.TheVariants.{Value};
+ghost use Rattle.p8_kinds.specs.declared.meanings.Meaning.TheVariants.{Value};
 
 use p8_constants::{Item, NameSet, NamedConstant};
-use p8_fold::{Consts, Meaning};
-use p8_kinds::{Child, ChildConst};
+use p8_kinds::{Child, ChildConst, Consts, Meaning};
 use p8_tree::Text;
 use p8_words::NoMemory;
 use std::alloc::Global;

@@ -1,7 +1,7 @@
 // The methods of a file in the order of their numbers, and the kinds of their own names.
 ghost use Rattle.std.specs.Prelude.{◌≡◌, ℕ, ◌*◌, ◌+◌, min, map, ◌++◌, ◌∷◌, [], if◌then◌else◌, IfOk, OnOk};
 ghost use Rattle.p8_tree.specs.Views.{declared_of, method_of};
-ghost use Rattle.p8_fold.specs.Entries.{setting_of};
+ghost use Rattle.p8_kinds.specs.ConstantEntries.{setting_of};
 ghost use Rattle.p8_constants.specs.Rules.{count_in};
 ghost use Rattle.p8_constants.specs.Standing.{item_of, items_of};
 ghost use Rattle.p8_names.specs.Kinds.{greatest_offset, public_in, private_in, publics, privates, numbered, param_kinds, result_kind, local_kinds, behind_longs, frame_kinds};
@@ -9,8 +9,7 @@ ghost use Rattle.p8_names.specs.Counting.{IsEnteredAt, AreEnteredAt};
 
 use crate::next_kinds::advanced;
 use p8_constants::{Item, count_value};
-use p8_fold::Consts;
-use p8_kinds::{Kinds, NameKind};
+use p8_kinds::{Consts, Kinds, NameKind};
 use p8_tree::{Method, Text, VarItem};
 use p8_words::NoMemory;
 use std::alloc::{AllocError, Global};

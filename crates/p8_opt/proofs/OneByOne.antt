@@ -5,7 +5,7 @@ use Rattle.std.proofs.lemmas.Option.{none-some, same_Some}
 use Rattle.p8_tree.specs.Projects.{NamedSource}
 use Rattle.p8_tree.specs.Sources.{MethodTree}
 use Rattle.p8_tree.specs.Views.{source_of}
-use Rattle.p8_fold.specs.Entries.{setting_of as setting_in}
+use Rattle.p8_kinds.specs.ConstantEntries.{setting_of as setting_in}
 use Rattle.p8_constants.specs.FileItems.{items}
 use Rattle.p8_kinds.specs.declared.kinds.Kinds.{Kinds}
 use Rattle.p8_kinds.specs.declared.named.Named.{Named}

@@ -7,7 +7,7 @@ ghost use Rattle.p8_lexer.specs.Lexing.{longest_file, AreTokens};
 ghost use Rattle.p8_lines.specs.Tokens.{all_tokens};
 ghost use Rattle.p8_blocks.specs.Files.{IsFileWithinLimits};
 ghost use Rattle.p8_tree.specs.declared.faults.Fault.{Fault};
-ghost use Rattle.p8_fold.specs.Meanings.{Setting};
+ghost use Rattle.p8_kinds.specs.Meanings.{Setting};
 ghost use Rattle.p8_kinds.specs.declared.children.Children.{Children};
 ghost use Rattle.p8_names.specs.Faults.{IsNameFault};
 ghost use Rattle.p8_dat.specs.Blocks.{dat_bytes, IsDatFault};

@@ -11,8 +11,8 @@ use Rattle.p8_words.specs.declared.failure.Fail.TheVariants as fail_case
 use Rattle.p8_tree.specs.declared.faults.Fault.{Fault}
 use Rattle.p8_tree.specs.Faults.{fault}
 use Rattle.p8_words.specs.Operators.{or_zero}
-use Rattle.p8_fold.specs.Meanings.{Setting}
-use Rattle.p8_fold.specs.Values.{value}
+use Rattle.p8_kinds.specs.Meanings.{Setting}
+use Rattle.p8_kinds.specs.Values.{value}
 use Rattle.p8_kinds.specs.Environments.{Environment, kind_in}
 use Rattle.p8_kinds.specs.Misuses.{MisuseInStatements}
 use Rattle.p8_instr.specs.Spelling.{spelled}

@@ -1,9 +1,9 @@
 use Rattle.std.proofs.Common.{◌∙◌, ap}
 use Rattle.std.specs.Result.{result_err}
 use Rattle.p8_tree.specs.Views.{tree_of}
-use Rattle.p8_fold.specs.Entries.{setting_of}
-use Rattle.p8_fold.specs.Verdicts.{first_of_two, verdict}
-use Rattle.p8_fold.proofs.Rows.{trees_next}
+use Rattle.p8_kinds.specs.ConstantEntries.{setting_of}
+use Rattle.p8_kinds.specs.Verdicts.{first_of_two, verdict}
+use Rattle.p8_kinds.proofs.ValueRows.{trees_next}
 use Rattle.p8_kinds.proofs.expressions.first_in_constants.Goals as goal
 
 pub loop-tree-preserved : goal.loop-tree-preserved

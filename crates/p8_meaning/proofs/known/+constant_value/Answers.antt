@@ -1,8 +1,8 @@
 use Rattle.std.proofs.Common.{sym, ap, ◌∙◌}
 use Rattle.p8_tree.specs.Expressions.{node}
 use Rattle.p8_tree.specs.Views.{form_of}
-use Rattle.p8_fold.specs.Entries.{setting_of}
-use Rattle.p8_fold.proofs.Rows.{call_form}
+use Rattle.p8_kinds.specs.ConstantEntries.{setting_of}
+use Rattle.p8_kinds.proofs.ValueRows.{call_form}
 use Rattle.p8_meaning.specs.Constants.{constants_in, constant_value}
 use Rattle.p8_meaning.proofs.known.+constant_value.Goals as goal
 

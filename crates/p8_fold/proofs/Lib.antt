@@ -1,5 +1,0 @@
-pub mod Bytes
-pub mod Rows
-pub mod Judging
-pub mod Judged
-pub mod Agreeing
