@@ -3,8 +3,12 @@ pub mod Instructions
 pub mod Replay
 pub mod Standing
 pub mod Whole
+pub mod Lives
+pub mod Kinds
+pub mod WholeLives
 -- Machinery that only proofs need.
 pub mod Stops
 pub mod Replaying
 pub mod Reaching
 pub mod Keeping
+pub mod Laws

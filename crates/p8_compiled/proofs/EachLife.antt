@@ -12,7 +12,7 @@ use Rattle.p8_access.specs.Worlds.{World}
 use Rattle.p8_access.specs.Hub.{is_number, Change, Starts, Runs, Stops, change_by, change_of, changed, cog_state, origin_of}
 use Rattle.p8_access.specs.Histories.{is_begin, begins_life, begun_at, begun, since_begin, IsNextRunning, IsNextIn, Extends, Legal}
 use Rattle.p8_access.proofs.Changes.{decided, same-cog, runs-begins, begun-same, begun-new, since_begin-new, since_begin-own, since_begin-other}
-use Rattle.p8_lives.specs.Lives.{asks}
+use Rattle.p8_cog.specs.Lives.{asks}
 use Rattle.p8_meaning.specs.Programs.{Program, Addresses}
 use Rattle.p8_compiled.specs.Lives.{starts_by, is_started, turns_of_life}
 use Rattle.p8_compiled.specs.Told.{IsSpin, IsTold, SpinIsTold, IsWorldOf}

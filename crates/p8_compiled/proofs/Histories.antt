@@ -20,7 +20,7 @@ use Rattle.p8_access.specs.Hub.{cogs, is_number, is_stopped, stopped_cog, Change
 use Rattle.p8_access.specs.Histories.{answer_to, first_access, is_begin, begins_life, begun_at, begun, since_begin, IsNextRunning, IsNextIn, Extends, Legal}
 use Rattle.p8_access.proofs.Nexts.{due-late, due-on_time, some-injective}
 use Rattle.p8_access.proofs.Changes.{decided, same-cog, picked, runs-begins, none-begins, begun-same, begun-new, since_begin-new, since_begin-own, since_begin-other}
-use Rattle.p8_lives.specs.Lives.{asks}
+use Rattle.p8_cog.specs.Lives.{asks}
 use Rattle.p8_meaning.specs.Programs.{Program, Addresses, Target}
 use Rattle.p8_meaning.specs.Lives.{IsMethodOrigin}
 use Rattle.p8_compiled.specs.Told.{access_of, IsWorldOf}

@@ -3,7 +3,7 @@ ghost use Rattle.std.specs.Prelude.{List};
 ghost use Rattle.p8_access.specs.declared.order.Turn.{Turn};
 ghost use Rattle.p8_access.specs.Worlds.{World};
 ghost use Rattle.p8_access.specs.Histories.{Legal, Ended};
-ghost use Rattle.p8_lives.specs.Lives.{asks};
+ghost use Rattle.p8_cog.specs.Lives.{asks};
 ghost use Rattle.p8_meaning.specs.Programs.{Program, Addresses};
 ghost use Rattle.p8_compiled.specs.Told.{IsWorldOf, SpinIsTold};
 

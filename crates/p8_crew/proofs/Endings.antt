@@ -5,8 +5,8 @@ use Rattle.p8_access.specs.Worlds.{World}
 use Rattle.p8_access.specs.Histories.{Legal, Rises, Ended as HasEnded}
 use Rattle.p8_access.proofs.OneHistory.{one-history, begins-ended}
 use Rattle.p8_access.proofs.Rising.{rises}
-use Rattle.p8_lives.specs.Lives.{asks}
-use Rattle.p8_lives.specs.Laws.{one-asked, asked-first, asked-later}
+use Rattle.p8_cog.specs.Lives.{asks}
+use Rattle.p8_cog.specs.Laws.{one-asked, asked-first, asked-later}
 use Rattle.p8_ledger.specs.declared.outcome.Ended.{Ended as EndedRun}
 use Rattle.p8_desk.specs.Closing.{Closed}
 use Rattle.p8_desk.specs.Passes.{DeskValue, PassValue}

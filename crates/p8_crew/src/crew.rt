@@ -10,7 +10,7 @@ ghost use Rattle.p8_desk.specs.Passes.{PassValue};
 ghost use Rattle.p8_access.specs.Histories.{Legal, Rises, Ended as HasEnded};
 ghost use Rattle.p8_hub.specs.Standing.{IsHub};
 ghost use Rattle.p8_io.specs.Counts.{Rose};
-ghost use Rattle.p8_lives.specs.Lives.{asks};
+ghost use Rattle.p8_cog.specs.Lives.{asks};
 ghost use Rattle.p8_ledger.specs.Worlds.{world_of};
 
 use crate::job::CogJob;

@@ -21,13 +21,13 @@ use Rattle.p8_access.specs.Worlds.{World}
 use Rattle.p8_access.specs.Hub.{Change, Starts, Runs, Stops, change_by, change_of, changed, cog_state, origin_of}
 use Rattle.p8_access.specs.Histories.{begins_life, begun_at, since_begin, first_access, IsNextIn}
 use Rattle.p8_access.proofs.Changes.{runs-begins, since_begin-new, since_begin-own, since_begin-other}
-use Rattle.p8_lives.specs.declared.cog_life.CogLife.{CogLife}
-use Rattle.p8_lives.specs.declared.kind.Kind.{Kind}
-use Rattle.p8_lives.specs.declared.kind.Kind.TheVariants.{Pasm as OfPasm, Spin as OfSpin}
-use Rattle.p8_lives.specs.Kinds.{number_of}
-use Rattle.p8_lives.specs.Laws.{asked-first, asked-later}
-use Rattle.p8_lives.specs.Lives.{asks, begun_by, IsStartable}
-use Rattle.p8_lives.specs.Whole as Life
+use Rattle.p8_cog.specs.declared.cog_life.CogLife.{CogLife}
+use Rattle.p8_cog.specs.declared.life_kind.Kind.{Kind}
+use Rattle.p8_cog.specs.declared.life_kind.Kind.TheVariants.{Pasm as OfPasm, Spin as OfSpin}
+use Rattle.p8_cog.specs.Kinds.{number_of}
+use Rattle.p8_cog.specs.Laws.{asked-first, asked-later}
+use Rattle.p8_cog.specs.Lives.{asks, begun_by, IsStartable}
+use Rattle.p8_cog.specs.WholeLives as Life
 use Rattle.p8_ledger.specs.Seats.{SitsIn}
 use Rattle.p8_ledger.specs.Standing.{FitsState}
 use Rattle.p8_ledger.proofs.Seating.{own-sits}

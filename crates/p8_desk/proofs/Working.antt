@@ -10,11 +10,11 @@ use Rattle.p8_access.specs.Hub.{cog_state}
 use Rattle.p8_ledger.specs.Standing.{FitsState}
 use Rattle.p8_access.specs.Worlds.{World}
 use Rattle.p8_access.specs.Histories.{since_begin, Ended}
-use Rattle.p8_lives.specs.declared.kind.Kind.{Kind}
-use Rattle.p8_lives.specs.declared.kind.Kind.TheVariants.{Pasm as OfPasm, Spin as OfSpin}
-use Rattle.p8_lives.specs.Kinds.{number_of, fact_of}
-use Rattle.p8_lives.specs.Lives.{asks}
-use Rattle.p8_lives.specs.Whole as Life
+use Rattle.p8_cog.specs.declared.life_kind.Kind.{Kind}
+use Rattle.p8_cog.specs.declared.life_kind.Kind.TheVariants.{Pasm as OfPasm, Spin as OfSpin}
+use Rattle.p8_cog.specs.Kinds.{number_of, fact_of}
+use Rattle.p8_cog.specs.Lives.{asks}
+use Rattle.p8_cog.specs.WholeLives as Life
 use Rattle.p8_ledger.specs.declared.ledger.Ledger.{Ledger}
 use Rattle.p8_ledger.specs.declared.ledger.Taken.{Taken}
 use Rattle.p8_ledger.specs.declared.ledger.Taken.TheVariants.{Done, Over}

@@ -3,7 +3,7 @@ use Rattle.std.specs.Prelude.{ℕ, ◌≡◌, List, Option, Some, reverse, slice
 use Rattle.p8_access.specs.Worlds.{World}
 use Rattle.p8_access.specs.Histories.{Ended}
 use Rattle.p8_hub.specs.Standing.{IsHub}
-use Rattle.p8_lives.specs.Lives.{asks}
+use Rattle.p8_cog.specs.Lives.{asks}
 use Rattle.p8_ledger.specs.declared.outcome.Ended.{Ended as EndedRun}
 use Rattle.p8_ledger.specs.Worlds.{world_of}
 use Rattle.p8_ledger.specs.Records.{Record, turns, mine, Begins}

@@ -14,10 +14,10 @@ use Rattle.p8_access.specs.declared.states.CogState.{CogState}
 use Rattle.p8_access.specs.Worlds.{World}
 use Rattle.p8_access.specs.Hub.{cog_state, origin_of}
 use Rattle.p8_access.specs.Histories.{Extends}
-use Rattle.p8_lives.specs.declared.cog_life.CogLife.{CogLife}
-use Rattle.p8_lives.specs.Kinds.{number_of, access_of}
-use Rattle.p8_lives.specs.Lives.{asks}
-use Rattle.p8_lives.specs.Whole as Life
+use Rattle.p8_cog.specs.declared.cog_life.CogLife.{CogLife}
+use Rattle.p8_cog.specs.Kinds.{number_of, access_of}
+use Rattle.p8_cog.specs.Lives.{asks}
+use Rattle.p8_cog.specs.WholeLives as Life
 use Rattle.p8_ledger.specs.Seats.{SitsIn}
 use Rattle.p8_ledger.specs.Standing.{FitsState}
 use Rattle.p8_ledger.specs.Records.{Record, turns, said}

@@ -7,14 +7,14 @@ ghost use Rattle.p8_access.specs.Proper.{Fits};
 ghost use Rattle.p8_access.specs.Windows.{IsWindow};
 ghost use Rattle.p8_access.specs.declared.states.CogState.TheVariants.{Running};
 ghost use Rattle.p8_access.specs.Worlds.{World};
-ghost use Rattle.p8_lives.specs.Lives.{begun_by, IsStartable};
+ghost use Rattle.p8_cog.specs.Lives.{begun_by, IsStartable};
 ghost use Rattle.p8_ledger.specs.declared.steps.Step.TheVariants.{Took, Said};
 ghost use Rattle.p8_ledger.specs.Records.{Record};
 ghost use Rattle.p8_desk.specs.Runners.{Rides, Comes, HasFound, CanRunOn};
 ghost use Rattle.p8_desk.specs.Taking.{HasTaken};
 
 use p8_access::{CogState, Life, Next, Ram, Turn};
-use p8_lives::CogLife;
+use p8_cog::CogLife;
 use p8_region::Strip;
 use p8_words::NoMemory;
 use std::alloc::Global;

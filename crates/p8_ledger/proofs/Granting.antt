@@ -16,7 +16,7 @@ use Rattle.p8_access.specs.Worlds.{World}
 use Rattle.p8_access.specs.Hub.{cog_state}
 use Rattle.p8_access.specs.Histories.{answer_to, IsNext, IsNextIn, IsNextRunning, Extends}
 use Rattle.p8_access.proofs.Changes.{decided, same-cog, differ-cog}
-use Rattle.p8_lives.specs.Lives.{asks}
+use Rattle.p8_cog.specs.Lives.{asks}
 use Rattle.p8_ledger.specs.Seats.{Sits, SitsIn}
 use Rattle.p8_ledger.specs.Standing.{FitsState}
 use Rattle.p8_ledger.specs.declared.fronts.Fronts.{Fronts}

@@ -13,8 +13,8 @@ use Rattle.p8_access.specs.Worlds.{World}
 use Rattle.p8_access.specs.Hub.{cog_state}
 use Rattle.p8_access.specs.Histories.{IsDue, IsNextIn, IsNextRunning, first_access, since_begin}
 use Rattle.p8_access.proofs.Nexts.{some-injective}
-use Rattle.p8_lives.specs.Lives.{asks}
-use Rattle.p8_lives.specs.Laws.{one-asked}
+use Rattle.p8_cog.specs.Lives.{asks}
+use Rattle.p8_cog.specs.Laws.{one-asked}
 use Rattle.p8_ledger.specs.Seats.{Sits, SitsIn}
 use Rattle.p8_ledger.specs.Records.{Record, turns, said, whatever, IsTrueOf, IsTruthful, HasFront, HasFrontBy, HasFrontIn, IsLeastFront, NoFront}
 use Rattle.p8_ledger.specs.Coming.{MayRun, MayComeIn, MayCome, IsFirstKey}

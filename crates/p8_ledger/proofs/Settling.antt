@@ -15,7 +15,7 @@ use Rattle.p8_access.specs.Worlds.{World}
 use Rattle.p8_access.specs.Hub.{Change, Runs, Stops, change_by, change_of, changed, cog_state, origin_of}
 use Rattle.p8_access.specs.Histories.{begins_life, is_begin, begun_at, first_access}
 use Rattle.p8_access.proofs.Changes.{begun-new, since_begin-new, own-test}
-use Rattle.p8_lives.specs.Lives.{begun_by}
+use Rattle.p8_cog.specs.Lives.{begun_by}
 use Rattle.p8_ledger.specs.Seats.{Sits, SitsIn}
 
 -- the 496 longs of PASM stand below $8000

@@ -16,8 +16,8 @@ use Rattle.p8_access.specs.Hub.{cog_state}
 use Rattle.p8_access.specs.Histories.{answer_to, IsNext, IsNextIn, IsNextRunning, Extends, IsOver, begun_at, first_access, since_begin}
 use Rattle.p8_access.proofs.Changes.{decided, same-cog, differ-cog, other-test, own-test}
 use Rattle.p8_access.proofs.Nexts.{nat_apart, due-late, due-on_time, some-injective}
-use Rattle.p8_lives.specs.Lives.{asks}
-use Rattle.p8_lives.specs.Laws.{asked-first, asked-later}
+use Rattle.p8_cog.specs.Lives.{asks}
+use Rattle.p8_cog.specs.Laws.{asked-first, asked-later}
 use Rattle.p8_ledger.specs.Seats.{Sits, SitsIn}
 use Rattle.p8_ledger.proofs.Seating.{other-sits, own-sits}
 use Rattle.p8_ledger.proofs.Settling.{start-sits}

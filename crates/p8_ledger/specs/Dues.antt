@@ -16,7 +16,7 @@ use Rattle.p8_access.specs.declared.states.CogState.TheVariants.{Running}
 use Rattle.p8_access.specs.Worlds.{World}
 use Rattle.p8_access.specs.Hub.{cog_state}
 use Rattle.p8_access.specs.Histories.{IsNext}
-use Rattle.p8_lives.specs.Lives.{asks}
+use Rattle.p8_cog.specs.Lives.{asks}
 use Rattle.p8_ledger.specs.Standing.{FitsState}
 use Rattle.p8_ledger.specs.Waiting.{IsNextAt}
 use Rattle.p8_ledger.specs.declared.due.Due.{Due}

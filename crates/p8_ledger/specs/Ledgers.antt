@@ -9,7 +9,7 @@ use Rattle.p8_access.specs.Worlds.{World}
 use Rattle.p8_access.specs.Hub.{cog_state, origin_of}
 use Rattle.p8_access.specs.Histories.{Extends, Legal}
 use Rattle.p8_hub.specs.Standing.{IsHub}
-use Rattle.p8_lives.specs.Lives.{asks}
+use Rattle.p8_cog.specs.Lives.{asks}
 use Rattle.p8_ledger.specs.Worlds.{world_of}
 use Rattle.p8_ledger.specs.Standing.{FitsState}
 use Rattle.p8_ledger.specs.Fronts.{IsFrontIn}

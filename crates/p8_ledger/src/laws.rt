@@ -13,9 +13,9 @@ ghost use Rattle.p8_ledger.specs.Seats.{SitsIn};
 ghost use Rattle.p8_access.specs.declared.kinds.Access.{Access};
 ghost use Rattle.p8_access.specs.declared.order.Key.{Key};
 ghost use Rattle.p8_access.specs.Windows.{Before};
-ghost use Rattle.p8_lives.specs.declared.cog_life.CogLife.{CogLife};
-ghost use Rattle.p8_lives.specs.Lives.{asks};
-ghost use Rattle.p8_lives.specs.Whole.{stands_for};
+ghost use Rattle.p8_cog.specs.declared.cog_life.CogLife.{CogLife};
+ghost use Rattle.p8_cog.specs.Lives.{asks};
+ghost use Rattle.p8_cog.specs.WholeLives.{stands_for};
 ghost use Rattle.p8_ledger.specs.declared.steps.Step.TheVariants.{Took, Said};
 ghost use Rattle.p8_ledger.specs.Records.{Record, turns, mine, said, Begins, IsTrueOf, IsTruthful, IsLeastFront, NoFront};
 

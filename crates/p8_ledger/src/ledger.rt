@@ -9,7 +9,7 @@ ghost use Rattle.p8_access.specs.Worlds.{World, level_at};
 ghost use Rattle.p8_access.specs.Hub.{cog_state};
 ghost use Rattle.p8_access.specs.Histories.{answer_to, Extends};
 ghost use Rattle.p8_hub.specs.Standing.{IsHub};
-ghost use Rattle.p8_lives.specs.Lives.{asks};
+ghost use Rattle.p8_cog.specs.Lives.{asks};
 ghost use Rattle.p8_ledger.specs.Coming.{WaitsFrom, IsClockIn, IsFirstKey};
 ghost use Rattle.p8_ledger.specs.Fronts.{IsFront};
 ghost use Rattle.p8_ledger.specs.Waiting.{newest_key, IsSpanFrom, IsNextAt};

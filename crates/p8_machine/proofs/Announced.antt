@@ -13,8 +13,8 @@ use Rattle.p8_access.specs.declared.states.CogState.TheVariants.{Running}
 use Rattle.p8_access.specs.Worlds.{World}
 use Rattle.p8_access.specs.Hub.{cog_state}
 use Rattle.p8_access.proofs.Changes.{decided, same-cog, differ-cog}
-use Rattle.p8_lives.specs.declared.cog_life.CogLife.{CogLife}
-use Rattle.p8_lives.specs.Lives.{asks}
+use Rattle.p8_cog.specs.declared.cog_life.CogLife.{CogLife}
+use Rattle.p8_cog.specs.Lives.{asks}
 use Rattle.p8_ledger.specs.declared.ledger.Ledger.{Ledger}
 use Rattle.p8_ledger.specs.declared.ledger.First.{First}
 use Rattle.p8_ledger.specs.declared.ledger.First.TheVariants.{Done, Ahead, Over}

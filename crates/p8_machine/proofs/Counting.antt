@@ -12,9 +12,9 @@ use Rattle.p8_access.specs.Worlds.{World}
 use Rattle.p8_access.specs.Hub.{cog_state}
 use Rattle.p8_access.specs.Histories.{since_begin}
 use Rattle.p8_bcog.specs.Counters.{IsAnnouncing, IsCounter}
-use Rattle.p8_lives.specs.declared.cog_life.CogLife.{CogLife}
-use Rattle.p8_lives.specs.Lives.{asks}
-use Rattle.p8_lives.specs.Whole.{stands_for}
+use Rattle.p8_cog.specs.declared.cog_life.CogLife.{CogLife}
+use Rattle.p8_cog.specs.Lives.{asks}
+use Rattle.p8_cog.specs.WholeLives.{stands_for}
 use Rattle.p8_ledger.specs.declared.ledger.Ledger.{Ledger}
 use Rattle.p8_ledger.specs.Seats.{Sits, SitsIn}
 use Rattle.p8_ledger.specs.Records.{Record, turns, said}

@@ -2,8 +2,8 @@
 use Rattle.std.proofs.Common.{◌≡◌, ◌∙◌, ap, sym, subst, inl, inr, ℕ, zero, suc, ◌+◌, List, [], ◌∷◌, ◌++◌, Some, None, slice_get, length, arith}
 use Rattle.std.proofs.Math.ListN.{set}
 use Rattle.p8_access.proofs.Changes.{decided, same-cog, differ-cog}
-use Rattle.p8_lives.specs.declared.cog_life.CogLife.{CogLife}
-use Rattle.p8_lives.specs.Whole.{cog_of}
+use Rattle.p8_cog.specs.declared.cog_life.CogLife.{CogLife}
+use Rattle.p8_cog.specs.WholeLives.{cog_of}
 use Rattle.p8_ledger.proofs.Rows.{set-there, set-else}
 
 same-cogs : (a b : CogLife) → Some a ≡ Some b → cog_of a ≡ cog_of b

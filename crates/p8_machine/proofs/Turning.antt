@@ -10,7 +10,7 @@ use Rattle.p8_access.specs.Worlds.{World}
 use Rattle.p8_access.specs.Hub.{cog_state}
 use Rattle.p8_access.specs.Histories.{IsNextIn, Extends}
 use Rattle.p8_access.proofs.Nexts.{due-late}
-use Rattle.p8_lives.specs.Lives.{asks}
+use Rattle.p8_cog.specs.Lives.{asks}
 use Rattle.p8_ledger.specs.declared.ledger.Ledger.{Ledger}
 use Rattle.p8_ledger.specs.Ledgers.{Found}
 use Rattle.p8_ledger.specs.Records.{Record, turns}

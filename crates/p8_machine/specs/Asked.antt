@@ -8,7 +8,7 @@ use Rattle.p8_access.specs.declared.states.CogState.TheVariants.{Stopped, Starti
 use Rattle.p8_access.specs.Lives.{Begun, Tells}
 use Rattle.p8_access.specs.Worlds.{World}
 use Rattle.p8_access.specs.Histories.{begun, since_begin}
-use Rattle.p8_lives.specs.Lives.{asks}
+use Rattle.p8_cog.specs.Lives.{asks}
 use Rattle.p8_machine.specs.Places.{IsSpoken}
 
 -- the access that a running cog's life asks after its turns, with the clock from which on it asks it, or that this is none below the

@@ -8,7 +8,7 @@ use Rattle.p8_access.specs.Lives.{Begun}
 use Rattle.p8_access.specs.Worlds.{World}
 use Rattle.p8_access.specs.Histories.{begun, since_begin}
 use Rattle.p8_bcog.specs.Counters.{IsCounter}
-use Rattle.p8_lives.specs.Lives.{asks}
+use Rattle.p8_cog.specs.Lives.{asks}
 
 -- where a running cog asks an access below the limit of clocks this is its life's counter; a cog that doesn't run has none
 abbrev pub IsNextCounter : World → (past : List Turn) → (n : ℕ) → CogState → Option ℕ → Type 0

@@ -8,9 +8,9 @@ use Rattle.p8_access.specs.declared.lives.Next.TheVariants.{At, Quiet, More}
 use Rattle.p8_access.specs.Lives.{Begun, Tells, announced_by}
 use Rattle.p8_bcog.specs.Stops as Bytecodes
 use Rattle.p8_cog.specs.Stops as Instructions
-use Rattle.p8_lives.specs.declared.cog_life.CogLife.{CogLife}
-use Rattle.p8_lives.specs.Kinds.{access_of}
-use Rattle.p8_lives.specs.Whole.{stands_for}
+use Rattle.p8_cog.specs.declared.cog_life.CogLife.{CogLife}
+use Rattle.p8_cog.specs.Kinds.{access_of}
+use Rattle.p8_cog.specs.WholeLives.{stands_for}
 
 -- the access that a life has announced
 abbrev pub announced_in : CogLife → Option (ℕ × Access)

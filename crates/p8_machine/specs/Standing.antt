@@ -7,9 +7,9 @@ use Rattle.p8_access.specs.Proper.{IsProperOrigin}
 use Rattle.p8_access.specs.Worlds.{World}
 use Rattle.p8_access.specs.Hub.{cog_state, origin_of}
 use Rattle.p8_access.specs.Histories.{Extends}
-use Rattle.p8_lives.specs.declared.cog_life.CogLife.{CogLife}
-use Rattle.p8_lives.specs.Lives.{asks}
-use Rattle.p8_lives.specs.Whole.{stands_for}
+use Rattle.p8_cog.specs.declared.cog_life.CogLife.{CogLife}
+use Rattle.p8_cog.specs.Lives.{asks}
+use Rattle.p8_cog.specs.WholeLives.{stands_for}
 use Rattle.p8_ledger.specs.declared.ledger.Ledger.{Ledger}
 use Rattle.p8_ledger.specs.declared.steps.Step.TheVariants.{Took}
 use Rattle.p8_ledger.specs.Seats.{SitsIn}

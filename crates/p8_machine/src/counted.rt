@@ -5,7 +5,7 @@ ghost use Rattle.p8_access.specs.Proper.{IsProperOrigin};
 ghost use Rattle.p8_access.specs.Hub.{cog_state};
 ghost use Rattle.p8_access.specs.Histories.{IsOver, Ended as HasEnded};
 ghost use Rattle.p8_hub.specs.Standing.{IsHub};
-ghost use Rattle.p8_lives.specs.Lives.{asks};
+ghost use Rattle.p8_cog.specs.Lives.{asks};
 ghost use Rattle.p8_ledger.specs.Worlds.{world_of};
 ghost use Rattle.p8_machine.specs.Asked.{IsNextAsked};
 ghost use Rattle.p8_machine.specs.Counters.{IsNextCounter};

@@ -4,14 +4,14 @@ ghost use Rattle.p8_access.specs.declared.order.Turn.{Turn};
 ghost use Rattle.p8_access.specs.Lives.{Begun, Tells, IsAnnounced, IsMadeNext, announced_by};
 ghost use Rattle.p8_access.specs.Proper.{Fits};
 ghost use Rattle.p8_access.specs.Windows.{IsWindow};
-ghost use Rattle.p8_lives.specs.declared.cog_life.CogLife.{CogLife};
-ghost use Rattle.p8_lives.specs.Lives.{asks, begun_by, IsStartable};
-ghost use Rattle.p8_lives.specs.Whole.{cog_of};
+ghost use Rattle.p8_cog.specs.declared.cog_life.CogLife.{CogLife};
+ghost use Rattle.p8_cog.specs.Lives.{asks, begun_by, IsStartable};
+ghost use Rattle.p8_cog.specs.WholeLives.{cog_of};
 ghost use Rattle.p8_machine.specs.Places.{announced_in, IsSpoken, SameBut, HasAnnounced, Begins, Takes};
 
 use p8_access::{Key, Life, Next, Origin, Ram, Turn};
+use p8_cog::CogLife;
 use p8_ledger::{LAST_CODE, stack_in};
-use p8_lives::CogLife;
 use p8_region::Region;
 use p8_words::NoMemory;
 use std::alloc::Global;

@@ -1,7 +1,7 @@
 // A life that begins anew, and one that crosses threads.
 use p8_access::{Access, Life, Next, Origin, Ram, Width};
 use p8_bcog::STACK_LONGS;
-use p8_lives::CogLife;
+use p8_cog::CogLife;
 use p8_region::{Region, words_of};
 use p8_words::NoMemory;
 use std::alloc::Global;

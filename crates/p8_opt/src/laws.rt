@@ -10,7 +10,7 @@ ghost use Rattle.p8_image.specs.declared.parts.ObjectPart.{ObjectPart};
 ghost use Rattle.p8_image.specs.Headers.{header_of};
 ghost use Rattle.p8_image.specs.Layout.{image_of};
 ghost use Rattle.p8_image.specs.Loading.{memory_of, start_of};
-ghost use Rattle.p8_lives.specs.Lives.{asks};
+ghost use Rattle.p8_cog.specs.Lives.{asks};
 ghost use Rattle.p8_build.specs.Parts.{AreProper};
 ghost use Rattle.p8_compiled.specs.Told.{SpinIsTold};
 ghost use Rattle.p8_opt.specs.Programs.{program_of, addresses_of};

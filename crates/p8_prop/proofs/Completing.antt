@@ -5,8 +5,8 @@ use Rattle.p8_access.specs.declared.memory.Boot.{Boot}
 use Rattle.p8_access.specs.declared.order.Turn.{Turn}
 use Rattle.p8_access.specs.Worlds.{Line, World}
 use Rattle.p8_access.proofs.OneHistory.{one-history}
-use Rattle.p8_lives.specs.Lives.{asks}
-use Rattle.p8_lives.specs.Laws.{one-asked}
+use Rattle.p8_cog.specs.Lives.{asks}
+use Rattle.p8_cog.specs.Laws.{one-asked}
 use Rattle.p8_legend.specs.declared.legend.Legend.{Legend}
 use Rattle.p8_verify.specs.declared.verdicts.Cause.{Cause}
 use Rattle.p8_verify.specs.declared.verdicts.Cause.TheVariants.{Form}

@@ -17,8 +17,8 @@ use Rattle.p8_access.proofs.Nexts.{some-injective}
 use Rattle.p8_bcog.specs.declared.state.State.{State}
 use Rattle.p8_bcog.specs.Counters.{IsAskedFrom, IsCounter}
 use Rattle.p8_bcog.specs.Replay.{engine_of, lived}
-use Rattle.p8_lives.specs.Laws.{one-asked}
-use Rattle.p8_lives.specs.Lives.{asks}
+use Rattle.p8_cog.specs.Laws.{one-asked}
+use Rattle.p8_cog.specs.Lives.{asks}
 use Rattle.p8_machine.specs.Asked.{IsNextAsked}
 use Rattle.p8_machine.specs.Places.{IsSpoken}
 use Rattle.p8_machine.specs.Counted.{AreAsked, AreCounters, IsCounterIn}

@@ -1,6 +1,6 @@
 // The serial bytes on a pin of a run.
 ghost use Rattle.std.specs.Prelude.{◌≡◌, ◌<◌, reverse, IfOk};
-ghost use Rattle.p8_lives.specs.Lives.{asks};
+ghost use Rattle.p8_cog.specs.Lives.{asks};
 ghost use Rattle.p8_access.specs.Histories.{Ended};
 ghost use Rattle.p8_ledger.specs.Worlds.{world_of};
 ghost use Rattle.p8_serial.specs.Laws.{IsRate};
@@ -8,8 +8,8 @@ ghost use Rattle.p8_serial.specs.Serial.{serial_of};
 
 use crate::frames::frames_text;
 use p8_access::keys_rise;
+use p8_cog::CogLife;
 use p8_ledger::History;
-use p8_lives::CogLife;
 use p8_pins::{PinScript, pin_changes, run_end};
 use p8_words::NoMemory;
 use std::alloc::Global;

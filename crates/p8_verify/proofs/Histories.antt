@@ -12,7 +12,7 @@ use Rattle.p8_access.specs.declared.states.CogState.TheVariants.{Stopped, Starti
 use Rattle.p8_access.specs.Worlds.{World}
 use Rattle.p8_access.specs.Hub.{cog_state}
 use Rattle.p8_access.specs.Histories.{first_access, since_begin, IsNextIn, Legal}
-use Rattle.p8_lives.specs.Lives.{asks}
+use Rattle.p8_cog.specs.Lives.{asks}
 use Rattle.p8_verify.specs.Halts.{IsProperHalt, NamesRegister}
 use Rattle.p8_verify.proofs.Named.{Named, if-named}
 use Rattle.p8_verify.proofs.Assembly.{assembly-named}

@@ -5,8 +5,8 @@ use Rattle.p8_access.specs.declared.order.Turn.{Turn}
 use Rattle.p8_access.specs.Worlds.{World}
 use Rattle.p8_access.specs.Histories.{Legal, Extends, IsOver, Ended}
 use Rattle.p8_access.proofs.OneHistory.{same-turn}
-use Rattle.p8_lives.specs.Lives.{asks}
-use Rattle.p8_lives.specs.Laws.{one-asked}
+use Rattle.p8_cog.specs.Lives.{asks}
+use Rattle.p8_cog.specs.Laws.{one-asked}
 use Rattle.p8_verify.specs.declared.verdicts.Cause.{Cause}
 use Rattle.p8_verify.specs.declared.verdicts.Cause.TheVariants.{Form, Extra, Key, Access, Answer, More}
 use Rattle.p8_verify.specs.declared.verdicts.Verdict.{Verdict}

@@ -6,7 +6,7 @@ use Rattle.p8_access.specs.declared.memory.Boot.{Boot}
 use Rattle.p8_access.specs.declared.order.Turn.{Turn}
 use Rattle.p8_access.specs.Worlds.{World, Line}
 use Rattle.p8_access.specs.Histories.{Ended}
-use Rattle.p8_lives.specs.Lives.{asks}
+use Rattle.p8_cog.specs.Lives.{asks}
 use Rattle.p8_ledger.specs.Worlds.{world_of}
 use Rattle.p8_verify.specs.declared.head.Head.{Head}
 use Rattle.p8_verify.specs.declared.verdicts.Verdict.{Verdict}

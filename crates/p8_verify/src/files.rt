@@ -4,7 +4,7 @@ ghost use Rattle.std.specs.List.{All};
 ghost use Rattle.p8_access.specs.declared.order.Turn.{Turn};
 ghost use Rattle.p8_access.specs.Worlds.{Line};
 ghost use Rattle.p8_access.specs.Histories.{Ended};
-ghost use Rattle.p8_lives.specs.Lives.{asks};
+ghost use Rattle.p8_cog.specs.Lives.{asks};
 ghost use Rattle.p8_ledger.specs.Worlds.{world_of};
 ghost use Rattle.p8_verify.specs.Table.{turn_bytes};
 ghost use Rattle.p8_verify.specs.Fitting.{Fits};

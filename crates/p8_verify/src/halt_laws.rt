@@ -3,7 +3,7 @@ ghost use Rattle.std.specs.Prelude.{All, List};
 ghost use Rattle.p8_access.specs.declared.order.Turn.{Turn};
 ghost use Rattle.p8_access.specs.Worlds.{World};
 ghost use Rattle.p8_access.specs.Histories.{Legal};
-ghost use Rattle.p8_lives.specs.Lives.{asks};
+ghost use Rattle.p8_cog.specs.Lives.{asks};
 ghost use Rattle.p8_verify.specs.Halts.{NamesRegister};
 
 /// Law: in the history of any world, a halt by a register names one of a cog's 512.

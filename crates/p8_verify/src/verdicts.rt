@@ -3,7 +3,7 @@ ghost use Rattle.std.specs.Prelude.{◌≡◌, ◌+◌, ◌∷◌, [], List, Non
 ghost use Rattle.p8_access.specs.declared.order.Turn.{Turn};
 ghost use Rattle.p8_access.specs.Proper.{IsProperOrigin};
 ghost use Rattle.p8_access.specs.Histories.{Extends};
-ghost use Rattle.p8_lives.specs.Lives.{asks};
+ghost use Rattle.p8_cog.specs.Lives.{asks};
 ghost use Rattle.p8_machine.specs.Machines.{world_in, past_in, IsStanding};
 ghost use Rattle.p8_verify.specs.declared.verdicts.Verdict.TheVariants.{Bad};
 ghost use Rattle.p8_verify.specs.Files.{AreRecords, BreaksAt};

@@ -17,7 +17,7 @@ use Rattle.p8_build.specs.Parts.{AreProper}
 use Rattle.p8_build.specs.Files.{CompiledFile}
 use Rattle.p8_build.specs.Builds.{AreCompiled, IsBuilt, objects_of}
 use Rattle.p8_io.specs.Shelves.{Files}
-use Rattle.p8_lives.specs.Lives.{asks}
+use Rattle.p8_cog.specs.Lives.{asks}
 use Rattle.p8_meaning.specs.Programs.{Program, Addresses}
 use Rattle.p8_objects.proofs.Wholes.{whole_project}
 use Rattle.p8_compiled.specs.Told.{IsWorldOf, SpinIsTold}

@@ -8,8 +8,8 @@ use Rattle.p8_access.specs.Histories.{Ended}
 use Rattle.p8_access.proofs.OneHistory.{one-history}
 use Rattle.p8_access.proofs.Rising.{rises}
 use Rattle.p8_io.specs.Shelves.{Files, IsRead}
-use Rattle.p8_lives.specs.Lives.{asks}
-use Rattle.p8_lives.specs.Laws.{one-asked, asked-first, asked-later}
+use Rattle.p8_cog.specs.Lives.{asks}
+use Rattle.p8_cog.specs.Laws.{one-asked, asked-first, asked-later}
 use Rattle.p8_ledger.specs.Worlds as machine
 use Rattle.p8_legend.specs.declared.legend.Legend.{Legend}
 use Rattle.p8_finish.specs.Summary.{made_world}

@@ -9,7 +9,7 @@ use Rattle.p8_image.specs.declared.clocks.Clock.{Clock}
 use Rattle.p8_image.specs.declared.parts.ObjectPart.{ObjectPart}
 use Rattle.p8_image.specs.Layout.{image_of}
 use Rattle.p8_image.specs.Loading.{memory_of}
-use Rattle.p8_lives.specs.Lives.{asks}
+use Rattle.p8_cog.specs.Lives.{asks}
 use Rattle.p8_legend.specs.declared.legend.Legend.{Legend}
 use Rattle.p8_view.specs.declared.turns.ViewOptions.{ViewOptions}
 use Rattle.p8_io.specs.Shelves.{Files}

@@ -5,7 +5,7 @@ use Rattle.p8_access.specs.declared.memory.Boot.{Boot}
 use Rattle.p8_access.specs.declared.order.Turn.{Turn}
 use Rattle.p8_access.specs.Worlds.{World}
 use Rattle.p8_access.specs.Histories.{Ended}
-use Rattle.p8_lives.specs.Lives.{asks}
+use Rattle.p8_cog.specs.Lives.{asks}
 use Rattle.p8_machine.specs.Counted.{AreAsked, AreCounters}
 use Rattle.p8_legend.specs.declared.legend.Legend.{Legend}
 use Rattle.p8_io.specs.Shelves.{Files}

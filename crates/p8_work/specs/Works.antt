@@ -7,7 +7,7 @@ use Rattle.p8_access.specs.Proper.{IsProperOrigin}
 use Rattle.p8_access.specs.declared.order.Turn.{Turn}
 use Rattle.p8_access.specs.Worlds.{Line, World}
 use Rattle.p8_access.specs.Histories.{Ended}
-use Rattle.p8_lives.specs.Lives.{asks}
+use Rattle.p8_cog.specs.Lives.{asks}
 use Rattle.p8_ledger.specs.Worlds as machine
 use Rattle.p8_ledger.specs.declared.start.Start.{Start}
 use Rattle.p8_io.specs.Shelves.{Files}

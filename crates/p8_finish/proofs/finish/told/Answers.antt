@@ -1,8 +1,8 @@
 use Rattle.std.proofs.Common.{◌≡◌, refl, reverse, subst, sym, IfOk}
 use Rattle.std.proofs.lemmas.Result.{IfOk-weaker}
 use Rattle.p8_access.proofs.Rising.{rises}
-use Rattle.p8_lives.specs.Lives.{asks}
-use Rattle.p8_lives.specs.Laws.{one-asked, asked-first, asked-later}
+use Rattle.p8_cog.specs.Lives.{asks}
+use Rattle.p8_cog.specs.Laws.{one-asked, asked-first, asked-later}
 use Rattle.p8_ledger.specs.Worlds.{world_of}
 use Rattle.p8_finish.specs.declared.finish.Finish.{Finish}
 use Rattle.p8_finish.specs.Finishes.{told_by}

@@ -1,4 +1,4 @@
-use Rattle.p8_lives.specs.Whole.{stands_for}
+use Rattle.p8_cog.specs.WholeLives.{stands_for}
 use Rattle.p8_ledger.proofs.Telling.{beside-sits}
 use Rattle.p8_ledger.proofs.laws.steps_beside.Goals as goal
 

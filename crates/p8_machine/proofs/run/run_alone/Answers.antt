@@ -1,8 +1,8 @@
 use Rattle.std.proofs.Common.{◌∙◌, sym, reverse}
 use Rattle.p8_access.proofs.OneHistory.{one-history, begins-ended}
 use Rattle.p8_access.proofs.Rising.{rises}
-use Rattle.p8_lives.specs.Lives.{asks}
-use Rattle.p8_lives.specs.Laws.{one-asked, asked-first, asked-later}
+use Rattle.p8_cog.specs.Lives.{asks}
+use Rattle.p8_cog.specs.Laws.{one-asked, asked-first, asked-later}
 use Rattle.p8_ledger.specs.Worlds.{world_of}
 use Rattle.p8_machine.proofs.run.run_alone.Goals as goal
 

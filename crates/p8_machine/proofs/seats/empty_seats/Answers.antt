@@ -1,6 +1,6 @@
 use Rattle.std.proofs.Common.{◌≡◌, ◌∙◌, ap, subst, ℕ, ◌+◌, ◌*◌, List, [], ◌∷◌, ◌++◌, Some, slice_get, length, length-append, arith}
-use Rattle.p8_lives.specs.declared.cog_life.CogLife.{CogLife}
-use Rattle.p8_lives.specs.Whole.{cog_of}
+use Rattle.p8_cog.specs.declared.cog_life.CogLife.{CogLife}
+use Rattle.p8_cog.specs.WholeLives.{cog_of}
 use Rattle.p8_machine.proofs.Rows.{own-push}
 use Rattle.p8_machine.proofs.seats.empty_seats.Goals as goal
 

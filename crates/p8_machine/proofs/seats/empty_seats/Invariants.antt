@@ -1,6 +1,6 @@
 use Rattle.std.proofs.Common.{◌≡◌, ◌+◌, ◌*◌, ℕ, Some, length, slice_get}
-use Rattle.p8_lives.specs.declared.cog_life.CogLife.{CogLife}
-use Rattle.p8_lives.specs.Whole.{cog_of}
+use Rattle.p8_cog.specs.declared.cog_life.CogLife.{CogLife}
+use Rattle.p8_cog.specs.WholeLives.{cog_of}
 use Rattle.p8_machine.proofs.seats.empty_seats.Given as goal
 
 abbrev pub invariant-loop-cog : goal.invariant-loop-cog

@@ -2,7 +2,7 @@ use Rattle.std.proofs.Common.{◌∙◌, sym, subst, List, arith}
 use Rattle.p8_access.specs.declared.order.Turn.{Turn}
 use Rattle.p8_access.specs.Worlds.{World}
 use Rattle.p8_access.specs.Hub.{cog_state}
-use Rattle.p8_lives.specs.declared.cog_life.CogLife.{CogLife}
+use Rattle.p8_cog.specs.declared.cog_life.CogLife.{CogLife}
 use Rattle.p8_ledger.proofs.Rows.{some-at}
 use Rattle.p8_machine.specs.Asked.{IsNextAsked}
 use Rattle.p8_machine.specs.Machines.{world_in}

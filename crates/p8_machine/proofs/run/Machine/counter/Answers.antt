@@ -3,7 +3,7 @@ use Rattle.std.proofs.lemmas.Option.{slice_get_read}
 use Rattle.p8_access.specs.declared.order.Turn.{Turn}
 use Rattle.p8_access.specs.Worlds.{World}
 use Rattle.p8_access.specs.Hub.{cog_state}
-use Rattle.p8_lives.specs.declared.cog_life.CogLife.{CogLife}
+use Rattle.p8_cog.specs.declared.cog_life.CogLife.{CogLife}
 use Rattle.p8_machine.specs.Counters.{IsNextCounter}
 use Rattle.p8_machine.specs.Machines.{world_in}
 use Rattle.p8_machine.proofs.Counting.{next-counter}

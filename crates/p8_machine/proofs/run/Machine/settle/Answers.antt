@@ -4,7 +4,7 @@ use Rattle.p8_access.specs.Lives.{Begun}
 use Rattle.p8_access.specs.Windows.{IsWindow}
 use Rattle.p8_access.specs.Histories.{begun_at}
 use Rattle.p8_access.specs.Worlds.{World}
-use Rattle.p8_lives.specs.Lives.{asks, begun_by, IsStartable}
+use Rattle.p8_cog.specs.Lives.{asks, begun_by, IsStartable}
 use Rattle.p8_ledger.specs.declared.steps.Step.TheVariants.{Took, Said}
 use Rattle.p8_ledger.specs.Worlds.{world_of}
 use Rattle.p8_ledger.proofs.Rows.{some-at}

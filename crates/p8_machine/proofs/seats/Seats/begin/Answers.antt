@@ -1,7 +1,7 @@
 use Rattle.std.proofs.Common.{◌≡◌, ◌∙◌, ap, sym, subst, []}
 use Rattle.std.proofs.lemmas.List.{length-set}
-use Rattle.p8_lives.specs.declared.cog_life.CogLife.{CogLife}
-use Rattle.p8_lives.specs.Lives.{asks, begun_by}
+use Rattle.p8_cog.specs.declared.cog_life.CogLife.{CogLife}
+use Rattle.p8_cog.specs.Lives.{asks, begun_by}
 use Rattle.p8_ledger.proofs.Rows.{set-there, set-else}
 use Rattle.p8_machine.specs.Places.{announced_in, Begins}
 use Rattle.p8_machine.proofs.Rows.{own-set}

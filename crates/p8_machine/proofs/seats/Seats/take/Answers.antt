@@ -1,8 +1,8 @@
 use Rattle.std.proofs.Common.{◌≡◌, ◌∙◌, ap, sym, subst, refl, ◌++◌, ◌∷◌, [], length, arith}
 use Rattle.std.proofs.lemmas.List.{length-set}
 use Rattle.std.proofs.lemmas.Option.{slice_get_read}
-use Rattle.p8_lives.specs.declared.cog_life.CogLife.{CogLife}
-use Rattle.p8_lives.specs.Lives.{asks}
+use Rattle.p8_cog.specs.declared.cog_life.CogLife.{CogLife}
+use Rattle.p8_cog.specs.Lives.{asks}
 use Rattle.p8_ledger.proofs.Rows.{set-there, set-else, same-there}
 use Rattle.p8_machine.specs.Places.{announced_in, Takes}
 use Rattle.p8_machine.proofs.Rows.{own-set}

@@ -4,9 +4,9 @@ use Rattle.p8_bcog.specs.Replay as Bytecodes
 use Rattle.p8_bcog.specs.Whole as Spin
 use Rattle.p8_cog.specs.Replay as Instructions
 use Rattle.p8_cog.specs.Whole as Pasm
-use Rattle.p8_lives.specs.Lives.{begins}
-use Rattle.p8_lives.proofs.Every.{pasm-every, spin-every}
-use Rattle.p8_lives.proofs.cog_life.CogLifeLife.take_answer.Goals as goal
+use Rattle.p8_cog.specs.Lives.{begins}
+use Rattle.p8_cog.proofs.Every.{pasm-every, spin-every}
+use Rattle.p8_cog.proofs.cog_life.CogLifeLife.take_answer.Goals as goal
 
 pub returns-in-Pasm-clause-placed : goal.returns-in-Pasm-clause-placed
 returns-in-Pasm-clause-placed c =

@@ -4,8 +4,8 @@ use Rattle.p8_access.specs.declared.order.Turn.{Turn}
 use Rattle.p8_access.specs.Lives.{Begun}
 use Rattle.p8_bcog.specs.Whole as Bytecodes
 use Rattle.p8_cog.specs.Whole as Instructions
-use Rattle.p8_lives.specs.declared.cog_life.CogLife.{CogLife}
-use Rattle.p8_lives.specs.Kinds.{number_of, fact_of}
+use Rattle.p8_cog.specs.declared.cog_life.CogLife.{CogLife}
+use Rattle.p8_cog.specs.Kinds.{number_of, fact_of}
 
 -- it began with this and has had these turns
 abbrev pub stands_for : CogLife → Begun → List Turn → Type 0

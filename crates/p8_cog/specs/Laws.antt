@@ -5,10 +5,10 @@ use Rattle.p8_access.specs.declared.order.Turn.{Turn}
 use Rattle.p8_access.specs.Lives.{Begun, PasmBegun, SpinBegun, first_turn_of, IsTurnAt}
 use Rattle.p8_bcog.specs.Laws as Bytecodes
 use Rattle.p8_cog.specs.Replaying as Instructions
-use Rattle.p8_lives.specs.declared.kind.Kind.{Kind}
-use Rattle.p8_lives.specs.declared.kind.Kind.TheVariants.{Pasm, Spin}
-use Rattle.p8_lives.specs.Kinds.{number_of}
-use Rattle.p8_lives.specs.Lives.{asks}
+use Rattle.p8_cog.specs.declared.life_kind.Kind.{Kind}
+use Rattle.p8_cog.specs.declared.life_kind.Kind.TheVariants.{Pasm, Spin}
+use Rattle.p8_cog.specs.Kinds.{number_of}
+use Rattle.p8_cog.specs.Lives.{asks}
 
 pub one-asked : (b : Begun) (ts : List Turn) (c d : ℕ) (a e : Access) → asks b ts c a → asks b ts d e → (c ≡ d) × (a ≡ e)
 one-asked (PasmBegun loaded) ts c d a e one other = Instructions.one-asked (PasmBegun loaded) ts c d a e one other

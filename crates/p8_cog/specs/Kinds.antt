@@ -1,8 +1,8 @@
 -- What is told of the life that runs, whichever kind it is.
 use Rattle.std.specs.Prelude.{ℕ, Option}
 use Rattle.p8_access.specs.declared.kinds.Access.{Access}
-use Rattle.p8_lives.specs.declared.kind.Kind.{Kind}
-use Rattle.p8_lives.specs.declared.kind.Kind.TheVariants.{Pasm, Spin}
+use Rattle.p8_cog.specs.declared.life_kind.Kind.{Kind}
+use Rattle.p8_cog.specs.declared.life_kind.Kind.TheVariants.{Pasm, Spin}
 
 -- a number
 abbrev pub number_of : Kind → (pasm spin : ℕ) → ℕ
