@@ -4,17 +4,15 @@ ghost use Rattle.p8_access.specs.Histories.{Ended as HasEnded, Rises};
 ghost use Rattle.p8_hub.specs.Standing.{IsHub};
 ghost use Rattle.p8_ledger.specs.Worlds.{world_of};
 ghost use Rattle.p8_cog.specs.Lives.{asks};
-ghost use Rattle.p8_plot.specs.Plot.{plot_of};
+ghost use Rattle.p8_wave.specs.Plot.{plot_of};
 ghost use Rattle.p8_finish.specs.Finishes.{told_by, CanBeTold};
 
 use crate::summary_text::summary;
 use p8_ledger::{Ended, History};
 use p8_pins::PinScript;
-use p8_plot::{View, plot};
 use p8_report::trace;
-use p8_serial::serial_text;
 use p8_verify::history_bytes;
-use p8_wave::{Selection, wave};
+use p8_wave::{Selection, View, plot, serial_text, wave};
 use p8_words::NoMemory;
 use std::alloc::Global;
 

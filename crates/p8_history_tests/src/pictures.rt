@@ -3,7 +3,7 @@ ghost use Rattle.std.specs.Prelude.{◌≡◌};
 
 use p8_access::{Access, Answer, Key, Turn};
 use p8_pins::PinScript;
-use p8_plot::{View, plot};
+use p8_wave::{View, plot};
 use std::test::Fail;
 
 /// A write of a register by cog 1.

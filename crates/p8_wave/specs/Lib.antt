@@ -3,7 +3,13 @@ pub mod Variables
 pub mod Values
 pub mod Scale
 pub mod Wave
+pub mod Plot
+pub mod Serial
+pub mod Typed
+pub mod SerialLaws
 -- Internal.
 pub mod Following
 pub mod Walks
 pub mod Sections
+pub mod Tracing
+pub mod Receiving

@@ -21,7 +21,7 @@ use Rattle.p8_finish.specs.declared.finish.Finish.{Finish}
 use Rattle.p8_finish.specs.declared.finish.Finish.TheVariants.{Summary}
 use Rattle.p8_finish.specs.Finishes.{told_by}
 use Rattle.p8_view.specs.declared.turns.ViewOptions.{ViewOptions}
-use Rattle.p8_serial.specs.Typed.{typed_text}
+use Rattle.p8_wave.specs.Typed.{typed_text}
 use Rattle.p8_inputs.specs.declared.inputs.Inputs.{Inputs}
 use Rattle.p8_inputs.specs.declared.inputs.Recorded.{Recorded}
 use Rattle.p8_inputs.specs.declared.program.Format.{Format}

@@ -19,8 +19,8 @@ use Rattle.p8_finish.specs.declared.finish.Finish.TheVariants.{Trace, Summary, S
 use Rattle.p8_finish.specs.Finishes.{told_by}
 use Rattle.p8_finish.specs.Checks.{good_line}
 use Rattle.p8_explain.specs.Explaining.{entry_of}
-use Rattle.p8_plot.specs.declared.view.View.{View}
-use Rattle.p8_serial.specs.Typed.{typed_text}
+use Rattle.p8_wave.specs.declared.view.View.{View}
+use Rattle.p8_wave.specs.Typed.{typed_text}
 use Rattle.p8_view.specs.declared.turns.ViewOptions.{ViewOptions}
 use Rattle.p8_view.specs.Ending.{view_of}
 use Rattle.p8_wave.specs.declared.variables.Selection.{Selection}

@@ -2,7 +2,7 @@
 ghost use Rattle.std.specs.Prelude.{◌≡◌, ◌<◌, ◌≤◌, ◌∷◌, [], ℕ, List, Bool, Err, IfOk, IfErr};
 ghost use Rattle.p8_access.specs.declared.memory.Boot.{Boot};
 ghost use Rattle.p8_access.specs.Worlds.{Line};
-ghost use Rattle.p8_serial.specs.Laws.{IsRate};
+ghost use Rattle.p8_wave.specs.SerialLaws.{IsRate};
 ghost use Rattle.p8_verify.specs.Answers.{Tells};
 ghost use Rattle.p8_access.specs.Boots.{ram_of};
 ghost use Rattle.p8_access.specs.Proper.{IsProperOrigin};
@@ -36,12 +36,10 @@ use p8_inputs::{
 use p8_io::Shelf;
 use p8_ledger::{Limits, Start};
 use p8_pins::PinScript;
-use p8_plot::View as Picture;
-use p8_serial::typed;
 use p8_tree::Text;
 use p8_verify::{Cause, VerifyFault, verify};
 use p8_view::ViewOptions;
-use p8_wave::Selection;
+use p8_wave::{Selection, View as Picture, typed};
 use p8_words::NoMemory;
 use std::alloc::Global;
 

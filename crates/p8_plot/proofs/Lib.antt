@@ -1,7 +1,0 @@
-mod Columns
-mod Covering
-mod Fitting
-mod Marking
-mod Plotting
-mod Ranges
-mod Staying

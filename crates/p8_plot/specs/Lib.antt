@@ -1,4 +1,0 @@
--- What public contracts cite.
-pub mod Plot
--- Internal.
-pub mod Tracing

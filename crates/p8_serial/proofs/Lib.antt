@@ -1,9 +1,0 @@
-mod Edges
-mod Receiving
-mod Counting
-mod Rows
-mod Heard
-mod Inputs
-mod Sent
-mod Decoded
-mod Scripting

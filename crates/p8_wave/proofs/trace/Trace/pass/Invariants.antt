@@ -1,0 +1,13 @@
+use Rattle.std.proofs.Common.{◌≡◌, ◌&&◌, length}
+use Rattle.p8_pins.specs.LevelChanges.{HasPassed, lines_of}
+use Rattle.p8_wave.specs.Tracing.{stays}
+use Rattle.p8_wave.proofs.trace.Trace.pass.Given as goal
+
+abbrev pub invariant-loop-change : goal.invariant-loop-change
+invariant-loop-change l = record {
+  passed : HasPassed l.clock l.fn.self (record { pins = l.self-inside.pins; changes = lines_of l.self-inside.changes.now });
+  stays : (l.stayed && stays l.pin l.high l.clock (lines_of l.self-inside.changes.now)) ≡ stays l.pin l.high l.clock l.fn.self.changes;
+}
+
+abbrev pub decreases-loop-change : goal.decreases-loop-change
+decreases-loop-change l = length l.self-inside.changes.now

@@ -1,0 +1,43 @@
+// The columns of a picture.
+ghost use Rattle.std.specs.Prelude.{◌≡◌, ◌++◌, ◌∷◌, [], IfOk, OnOk};
+ghost use Rattle.p8_wave.specs.Plot.{columns_of};
+ghost use Rattle.p8_wave.specs.Tracing.{Follow};
+
+use p8_words::NoMemory;
+use std::alloc::Global;
+
+/// How many columns a picture has at most.
+const MOST_COLUMNS: u64 = 110;
+
+/// A column of a picture: its number, from 0 on, and the clocks that it covers, from the first on and before the end.
+#[derive(Clone, Copy)]
+pub struct Column {
+    pub number: u64,
+    pub first: u64,
+    pub end: u64,
+}
+
+/// Adds a column at the end.
+fn push(columns: &mut Vec<Column>, column: Column) -> Result<(), NoMemory>
+    ensures { OnOk result (columns.new.items ≡ columns.old.items ++ column ∷ []) }
+{
+    columns.extend_from_slice(&[column])?;
+    Ok(())
+}
+
+/// The columns for the clocks from one on and before an end: as few clocks a column as fit, the last column with what
+/// is left.
+pub fn columns(alloc: Global, from: u64, end: u64) -> Result<Vec<Column>, NoMemory>
+    ensures columns { IfOk result (λ columns. columns.items ≡ columns_of from end) }
+    ensures follow { IfOk result (λ columns. Follow 0 columns.items) }
+{
+    let shown = end.saturating_sub(from);
+    let width = shown.div_ceil(MOST_COLUMNS).max(1);
+    let mut columns = Vec::new(alloc);
+    for number in 0..shown.div_ceil(width) {
+        let first = from + number * width;
+        let end = first + width.min(end - first);
+        push(&mut columns, Column { number, first, end })?;
+    }
+    Ok(columns)
+}

@@ -1,0 +1,63 @@
+// The ticks below a picture, and the clocks at them.
+ghost use Rattle.std.specs.Prelude.{◌≡◌, ◌++◌, ◌-◌, length, IfOk, OnOk};
+ghost use Rattle.std.specs.Fmt.{decimal};
+ghost use Rattle.p8_wave.specs.Plot.{tick_line, clock_line, scale_of};
+
+use crate::grid::Column;
+use crate::text::{push_spaces, push_text};
+use itoa::Buffer;
+use p8_words::NoMemory;
+
+/// How many columns a terminal has before the first column of a picture.
+const LABEL: usize = 4;
+
+/// Appends the line with a tick at each tenth column.
+fn push_ticks(out: &mut Vec<u8>, columns: &[Column]) -> Result<(), NoMemory>
+    ensures { OnOk result (out.new.items ≡ out.old.items ++ tick_line columns.now) }
+{
+    let mut before = LABEL;
+    for column in columns {
+        if column.number % 10 == 0 {
+            push_spaces(out, before)?;
+            push_text(out, b"|")?;
+            before = 9;
+        }
+    }
+    push_text(out, b"\n")
+}
+
+/// Appends a clock, and gives how many of ten characters it leaves.
+fn push_clock(out: &mut Vec<u8>, clock: u64) -> Result<usize, NoMemory>
+    ensures text { OnOk result (out.new.items ≡ out.old.items ++ decimal clock) }
+    ensures left { IfOk result (λ left. left ≡ 10 - length (decimal clock)) }
+{
+    let mut buffer = Buffer::new();
+    let text = buffer.format(clock).as_bytes();
+    push_text(out, text)?;
+    Ok(10usize.saturating_sub(text.len()))
+}
+
+/// Appends the line with the clock at which it begins at each tenth column.
+fn push_clocks(out: &mut Vec<u8>, columns: &[Column]) -> Result<(), NoMemory>
+    ensures { OnOk result (out.new.items ≡ out.old.items ++ clock_line columns.now) }
+{
+    let mut before = LABEL;
+    for column in columns {
+        if column.number % 10 == 0 {
+            push_spaces(out, before)?;
+            before = push_clock(out, column.first)?;
+        }
+    }
+    push_text(out, b"\n")
+}
+
+/// Appends both lines, where there are columns.
+pub fn push_scale(out: &mut Vec<u8>, columns: &[Column]) -> Result<(), NoMemory>
+    ensures { OnOk result (out.new.items ≡ out.old.items ++ scale_of columns.now) }
+{
+    if columns.is_empty() {
+        return Ok(());
+    }
+    push_ticks(out, columns)?;
+    push_clocks(out, columns)
+}
