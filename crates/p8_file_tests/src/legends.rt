@@ -1,8 +1,7 @@
 // The legend of a small project, name for name.
 use p8_io::MemShelf;
-use p8_legend::Legend;
+use p8_legend::{Legend, project_legend};
 use p8_objects::{discard, gather};
-use p8_project_legend::project_legend;
 use p8_words::NoMemory;
 use std::alloc::Global;
 

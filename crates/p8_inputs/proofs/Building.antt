@@ -17,7 +17,7 @@ use Rattle.p8_build.specs.declared.building.Built.{Built}
 use Rattle.p8_build.specs.Told.{IsImageBuilt, IsBuiltTo}
 use Rattle.p8_legend.specs.declared.legend.Legend.{Legend}
 use Rattle.p8_map.specs.Projects.{IsMapOf}
-use Rattle.p8_project_legend.specs.Projects.{IsLegendOf}
+use Rattle.p8_legend.specs.Projects.{IsLegendOf}
 use Rattle.p8_opt.specs.Shorts.{IsShortImageBuilt, IsShortBuiltTo}
 use Rattle.p8_inputs.specs.Gathered.{StopsAtBuilding, IsImageBuiltBy, AreBuiltBy, IsListingOf}
 use Rattle.p8_inputs.specs.Runs.{HasProperTrees}

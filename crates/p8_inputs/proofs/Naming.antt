@@ -4,8 +4,8 @@ use mathlib.Core.HLevel.{is_prop→PathP}
 use Rattle.p8_legend.specs.declared.legend.Legend.{Legend}
 use Rattle.p8_legend.specs.declared.ranges.Ranges.{Ranges}
 use Rattle.p8_legend.specs.Ranges.{AreApart, is_prop-AreApart}
-use Rattle.p8_project_legend.specs.Legends.{Named}
-use Rattle.p8_project_legend.specs.Projects.{AreSame}
+use Rattle.p8_legend.specs.ProjectLegends.{Named}
+use Rattle.p8_legend.specs.Projects.{AreSame}
 use Rattle.p8_inputs.specs.Legends.{TellsNothing}
 
 same-ranges : (a b : Ranges) → a.ranges ≡ b.ranges → a.texts ≡ b.texts → a ≡ b

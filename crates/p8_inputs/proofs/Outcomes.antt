@@ -17,7 +17,7 @@ use Rattle.p8_names.specs.Mentions as seen
 use Rattle.p8_build.specs.Builds.{IsBuilt, IsRefusedWith, objects_of}
 use Rattle.p8_map.specs.Projects.{IsMapOf}
 use Rattle.p8_opt.specs.Shorts.{IsShortBuilt}
-use Rattle.p8_project_legend.specs.Projects.{AreSame, IsLegendOf}
+use Rattle.p8_legend.specs.Projects.{AreSame, IsLegendOf}
 use Rattle.p8_inputs.specs.Sources.{GathersTo, IsBuiltBy, IsBuiltFrom, IsMapFrom, IsProjectLegend, IsRefusedFrom, while_gathered, when_built, HasOneOutcome}
 use Rattle.p8_inputs.proofs.Gathering.{distinct, no_ring}
 use Rattle.p8_inputs.proofs.Mapping.{map-one}

@@ -12,7 +12,7 @@ use Rattle.p8_objects.specs.declared.fault.Mention.{Mention}
 use Rattle.p8_objects.specs.Outcomes.{Outcome, project, refused, missing, shelved, Gathers}
 use Rattle.p8_build.specs.Builds.{IsBuilt, IsRefusedWith}
 use Rattle.p8_map.specs.Projects.{IsMapOf}
-use Rattle.p8_project_legend.specs.Projects.{IsLegendOf}
+use Rattle.p8_legend.specs.Projects.{IsLegendOf}
 use Rattle.p8_opt.specs.Shorts.{IsShortBuilt}
 use Rattle.p8_texts.specs.Listing.{listing_of}
 

@@ -12,7 +12,7 @@ pub fn one_source()
     p8_build::one_build();
     p8_opt::one_short_build();
     p8_names::one_for_each_project();
-    p8_project_legend::one_legend();
+    p8_legend::one_legend();
 }
 
 /// Law: where a shelf tells its files, what a list of asks is given is one thing, or it stops for one reason, and never both.

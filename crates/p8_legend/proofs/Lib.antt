@@ -1,1 +1,17 @@
 mod Apart
+mod Further
+mod OneByOne
+mod Wholes
+mod Finding
+mod Examples
+mod LegendFurther
+mod Pathways
+mod OfAccepted
+pub mod OneLegend
+mod LegendExamples
+pub mod Lined
+mod LinesApart
+mod Asked
+mod Meaning
+mod LineRows
+mod Covered

@@ -1,5 +1,19 @@
 -- What public contracts cite.
 pub mod Ranges
 pub mod Legends
+pub mod Rows
+pub mod ProjectLegends
+pub mod Projects
 -- How the code goes: internal.
 pub mod Finding
+pub mod Steps
+-- What a code's lines say of it.
+pub mod Lines
+-- Which bytecode asks an access.
+pub mod Asking
+-- Statements in a memory.
+pub mod Standing
+-- The statements of rows.
+pub mod Origins
+-- Addresses that have rows.
+pub mod Covering

@@ -1,8 +1,37 @@
-//! A legend of the hub: which name stands at an address, and from which place of a source the code there is made.
+//! The legend of a project: which name stands at an address of the hub, and from which place of a source the code there is made.
+//!
+//! The line table has, for each bytecode of the project's image, the statement that it is made from; laws say that it does.
 #![tactic(auto)]
 
+mod code_laws;
+mod codes;
+mod instances;
+mod laws;
 mod legend;
+mod life_laws;
+mod objects;
+mod parts;
+mod paths;
+mod places;
+mod project;
+mod project_names;
 mod ranges;
+mod rows;
+mod statement_laws;
+mod table;
+mod table_laws;
+mod variables;
 
+pub use code_laws::{lines_are_of_their_statements, lines_begin_where_bytecodes_do};
+pub use laws::one_legend;
 pub use legend::Legend;
+pub use life_laws::{accesses_are_asked_by_their_lines, bytecodes_stand_at_their_lines};
+pub use parts::legend_of_parts;
+pub use project::{line_table, table_of_accepted};
+pub use project_names::project_legend;
 pub use ranges::{Found, Range, Ranges};
+pub use statement_laws::statements_stand_by_their_lines;
+pub use table::{LineTable, Row};
+pub use table_laws::{
+    each_byte_of_code_has_a_row, rows_are_of_their_methods, table_tells_each_address_once,
+};

@@ -1,0 +1,34 @@
+-- The legend of a project, by its sources.
+use Rattle.std.specs.Prelude.{◌≡◌, List, [], Some}
+use Rattle.p8_tree.specs.Projects.{NamedSource}
+use Rattle.p8_kinds.specs.declared.children.Children.{Children}
+use Rattle.p8_names.specs.Children.{AreChildren}
+use Rattle.p8_image.specs.declared.clocks.Clock.{Clock}
+use Rattle.p8_image.specs.Headers.{word_at}
+use Rattle.p8_image.specs.Layout.{header_by, image_of}
+use Rattle.p8_image.specs.Projects.{FitsHub}
+use Rattle.p8_build.specs.Files.{CompiledFile}
+use Rattle.p8_build.specs.Builds.{AreCompiled, objects_of, clock_by}
+use Rattle.p8_legend.specs.declared.legend.Legend.{Legend}
+use Rattle.p8_legend.specs.Rows.{codes_of, rows_from}
+use Rattle.p8_map.specs.Projects.{names_of}
+use Rattle.p8_legend.specs.ProjectLegends.{Named, names_in, with_rows}
+
+-- the project is accepted, and this is the legend of its image, by the names of its files and the lines of their codes
+pub record IsLegendOf (files : List NamedSource) (legend : Legend) : Type 0 where
+  pub children : List Children
+  pub seen : AreChildren files children
+  pub compiled : List CompiledFile
+  pub each : AreCompiled files children compiled
+  pub clock : Clock
+  pub clock_is : clock_by compiled ≡ Some clock
+  pub fits : FitsHub (header_by (objects_of files children compiled))
+  pub names : (legend.names.ranges, legend.names.texts)
+      ≡ names_in (word_at (image_of clock (objects_of files children compiled)) 8) (names_of files children compiled) (objects_of files children compiled)
+  pub places : (legend.places.ranges, legend.places.texts)
+      ≡ with_rows ([], []) (names_of files children compiled) (rows_from 0 16 (objects_of files children compiled) (codes_of compiled))
+
+-- the same ranges with the same texts
+pub record AreSame (a b : Legend) : Type 0 where
+  pub names : ◌≡◌ {A = Named} (a.names.ranges, a.names.texts) (b.names.ranges, b.names.texts)
+  pub places : ◌≡◌ {A = Named} (a.places.ranges, a.places.texts) (b.places.ranges, b.places.texts)

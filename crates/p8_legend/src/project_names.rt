@@ -1,0 +1,83 @@
+// The legend of a project.
+ghost use Rattle.std.specs.Prelude.{◌≤◌, ◌<◌, length, map, IfOk, IfErr};
+ghost use Rattle.p8_tree.specs.Views.{named_sources_of, named_source_of};
+ghost use Rattle.p8_names.specs.Children.{AreChildren};
+ghost use Rattle.p8_names.specs.Mentions.{HaveMentioned, HaveNoRing};
+ghost use Rattle.p8_build.specs.Parts.{AreProper, most_files};
+ghost use Rattle.p8_build.specs.Phases.{IfFirstRefused};
+ghost use Rattle.p8_build.specs.Told.{IsRefusal};
+ghost use Rattle.p8_legend.specs.Steps.{IsAcceptedProject};
+ghost use Rattle.p8_legend.specs.Projects.{IsLegendOf};
+
+use crate::legend::Legend;
+use crate::parts::legend_of_parts;
+use crate::project::table_of_accepted;
+use p8_build::{Accepted, BuildFault, FileFault, accept, told};
+use p8_kinds::Children;
+use p8_map::{names_of_accepted, variables_at};
+use p8_names::children_of;
+use p8_tree::{Project, ProjectFile};
+use p8_words::{Fail, NoMemory};
+use std::alloc::Global;
+
+/// The legend of a project: the names of what stands in the image that [`build`](p8_build::build) makes of it, and the place of each
+/// bytecode, as [`legend_of_parts`] tells them.
+///
+/// The conditions, the errors and when each comes are those of [`build_parts`](p8_build::build_parts): a project has a legend exactly where
+/// it is built to an image. Beside the building it takes time in proportion to the project and to the names of its instances.
+pub fn project_legend(alloc: Global, project: &Project) -> Result<Legend, BuildFault>
+    requires first { 0 < length (named_sources_of project.now) }
+    requires few { length (named_sources_of project.now) ≤ most_files }
+    requires mentioned { HaveMentioned (named_sources_of project.now) }
+    requires no_ring { HaveNoRing (named_sources_of project.now) }
+    requires proper { AreProper (named_sources_of project.now) }
+    ensures legend { IfOk result (IsLegendOf (named_sources_of project.now)) }
+    ensures refused { IfErr result (IsRefusal (named_sources_of project.now)) }
+{
+    let files = project.files.as_slice();
+    let children = children_of(alloc, project)?;
+    match legend_of_files(alloc, files, &children) {
+        Ok(legend) => Ok(legend),
+        Err(Fail::Refused(refusal)) => Err(told(alloc, &files[refusal.file], refusal.fault)),
+        Err(Fail::NoMemory) => Err(BuildFault::NoMemory),
+    }
+}
+
+/// The legend of files by what they see of their objects, or their first refusal.
+fn legend_of_files(
+    alloc: Global,
+    files: &[ProjectFile],
+    children: &[Children],
+) -> Result<Legend, Fail<FileFault>>
+    requires first { 0 < length files.now }
+    requires few { length files.now ≤ most_files }
+    requires proper { AreProper (map named_source_of files.now) }
+    requires children { AreChildren (map named_source_of files.now) children.now }
+    ensures legend { IfOk result (IsLegendOf (map named_source_of files.now)) }
+    ensures refused { IfErr result (IfFirstRefused (map named_source_of files.now) children.now) }
+{
+    let accepted = accept(alloc, files, children)?;
+    Ok(legend_of_accepted(alloc, files, &accepted)?)
+}
+
+/// The legend of an accepted project.
+fn legend_of_accepted(
+    alloc: Global,
+    files: &[ProjectFile],
+    accepted: &Accepted<'_>,
+) -> Result<Legend, NoMemory>
+    requires few { length files.now ≤ most_files }
+    requires accepted { IsAcceptedProject (map named_source_of files.now) accepted.now }
+    ensures { IfOk result (IsLegendOf (map named_source_of files.now)) }
+{
+    let names = names_of_accepted(alloc, files, accepted)?;
+    let table = table_of_accepted(alloc, files, accepted)?;
+    let built = &accepted.built;
+    legend_of_parts(
+        alloc,
+        variables_at(built.image.bytes()),
+        names.as_slice(),
+        built.objects.as_slice(),
+        &table,
+    )
+}

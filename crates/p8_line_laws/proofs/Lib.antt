@@ -1,6 +1,0 @@
-pub mod Lined
-mod Apart
-mod Asked
-mod Meaning
-mod Rows
-mod Covered

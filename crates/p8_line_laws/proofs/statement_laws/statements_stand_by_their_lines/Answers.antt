@@ -1,5 +1,0 @@
-use Rattle.p8_line_laws.proofs.Meaning.{stands-by-lines}
-use Rattle.p8_line_laws.proofs.statement_laws.statements_stand_by_their_lines.Goals as goal
-
-pub returns : goal.returns
-returns c = λ n t base agrees l x is loops clean w has are. stands-by-lines t base n agrees l x is loops clean w has are

@@ -1,5 +1,0 @@
-use Rattle.p8_line_laws.proofs.Rows.{rows-of}
-use Rattle.p8_line_laws.proofs.table_laws.rows_are_of_their_methods.Goals as goal
-
-pub returns : goal.returns
-returns c = λ files table is. rows-of files table is

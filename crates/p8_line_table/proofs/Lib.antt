@@ -1,5 +1,0 @@
-mod Further
-mod OneByOne
-mod Wholes
-mod Finding
-mod Examples

@@ -1,5 +1,0 @@
-mod Further
-mod Pathways
-mod OfAccepted
-pub mod OneLegend
-mod Examples

@@ -1,9 +1,0 @@
-use Rattle.std.proofs.Common.{◌≡◌, length}
-use Rattle.p8_project_legend.specs.Legends.{name_inside}
-use Rattle.p8_project_legend.proofs.paths.name_inside.Given as goal
-
-abbrev pub invariant-loop-names : goal.invariant-loop-names
-invariant-loop-names l = name_inside l.number l.names l.instances ≡ name_inside l.number l.initial.names l.initial.instances
-
-abbrev pub decreases-loop-names : goal.decreases-loop-names
-decreases-loop-names l = length l.names
