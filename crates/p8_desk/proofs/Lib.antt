@@ -13,3 +13,5 @@ pub mod Scattering
 pub mod Driving
 pub mod Ringing
 pub mod Waiting
+mod Places
+mod Endings

@@ -4,6 +4,9 @@ pub mod PassSets
 pub mod Tries
 pub mod Opening
 pub mod Closing
+pub mod Jobs
+pub mod Ends
+pub mod Starts
 -- Machinery that only proofs need.
 pub mod Rules
 pub mod Runners
@@ -12,3 +15,5 @@ pub mod Work
 pub mod Seats
 pub mod Driving
 pub mod Gathering
+-- What only inner contracts cite.
+pub mod Crews

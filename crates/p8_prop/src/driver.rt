@@ -9,8 +9,7 @@ ghost use Rattle.p8_work.specs.Texts.{IsToldOf, IsViewed};
 ghost use Rattle.p8_prop.specs.Answers.{CanBeDone, IsDone};
 ghost use Rattle.p8_work.specs.Works.{world_in, IsRunnable, IsViewable};
 
-use p8_crew::{Starter, run_crew};
-use p8_desk::Desk;
+use p8_desk::{Desk, Starter, run_crew};
 use p8_finish::{Finish, told};
 use p8_ledger::{Ended, Start};
 use p8_machine::{run_alone, run_counted};

@@ -8,7 +8,7 @@ ghost use Rattle.p8_work.specs.Works.{IsAnswerTo};
 
 use crate::driver::{done_alone, done_by_crew};
 use p8_commands::Command;
-use p8_crew::Starter;
+use p8_desk::Starter;
 use p8_inputs::Stop;
 use p8_io::Shelf;
 use p8_work::{Answer, work_of};

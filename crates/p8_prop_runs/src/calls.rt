@@ -3,7 +3,7 @@ use crate::cases::{Case, shelf};
 use crate::meeting::{Flags, MeetingStarter};
 use crate::watching::{Seen, WatchingStarter};
 use anyhow::anyhow;
-use p8_crew::{FailStarter, Starter, ThreadStarter};
+use p8_desk::{FailStarter, Starter, ThreadStarter};
 use p8_io::{MemShelf, MemSink};
 use p8_prop::{Status, prop, prop_alone};
 use std::alloc::Global;

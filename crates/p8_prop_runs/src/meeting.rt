@@ -3,8 +3,7 @@ ghost use Rattle.std.specs.Prelude.{◌≡◌, true};
 ghost use Rattle.p8_desk.specs.Passes.{Owns};
 
 use p8_access::{Key, Turn};
-use p8_crew::{CogJob, Starter, Worker};
-use p8_desk::{CogPass, Desk, Turned};
+use p8_desk::{CogJob, CogPass, Desk, Starter, Turned, Worker};
 use std::alloc::Global;
 use std::sync::atomic::{AtomicU64, Ordering};
 use std::sync::{Arc, Wait};

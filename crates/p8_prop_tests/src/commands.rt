@@ -1,5 +1,5 @@
 // Worked calls over a shelf and sinks in memory.
-use p8_crew::ThreadStarter;
+use p8_desk::ThreadStarter;
 use p8_io::{FailList, MemShelf, MemSink};
 use p8_prop::{Status, prop, prop_alone};
 use p8_words::NoMemory;
