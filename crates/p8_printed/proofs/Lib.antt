@@ -52,3 +52,12 @@ mod AgainData
 mod ReadLines
 mod AgainStatements
 mod ProperFiles
+pub mod Cutting
+pub mod Words
+pub mod LongReading
+pub mod Texts
+pub mod LongRows
+pub mod LongFiles
+pub mod Bytes
+pub mod Names
+pub mod Calling

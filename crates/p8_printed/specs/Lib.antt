@@ -4,3 +4,5 @@ pub mod Reading
 pub mod Lexemes
 pub mod Rereading
 pub mod Trees
+-- What the public contracts cite.
+pub mod ReadBack

@@ -1,6 +1,6 @@
 // Longs and their texts as instructions.
 use anyhow::anyhow;
-use p8_read_back::assembled_text;
+use p8_printed::assembled_text;
 use p8_report::instr_text;
 use std::alloc::Global;
 

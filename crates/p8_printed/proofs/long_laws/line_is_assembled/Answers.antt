@@ -1,5 +1,5 @@
-use Rattle.p8_read_back.proofs.Bytes.{bytes_are, clean}
-use Rattle.p8_read_back.proofs.laws.line_is_assembled.Goals as goal
+use Rattle.p8_printed.proofs.Bytes.{bytes_are, clean}
+use Rattle.p8_printed.proofs.long_laws.line_is_assembled.Goals as goal
 
 pub returns-clause-bytes : goal.returns-clause-bytes
 returns-clause-bytes c = λ base long line is small. bytes_are base long line is small

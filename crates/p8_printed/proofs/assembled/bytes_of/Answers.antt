@@ -1,10 +1,10 @@
 use Rattle.std.proofs.Common.{ap, ◌∙◌, sym, subst}
 use Rattle.p8_kinds.specs.FileSettings.{file_setting}
 use Rattle.p8_dat.specs.Blocks.{dat_bytes, IsDatFault}
-use Rattle.p8_read_back.specs.ReadBack.{start}
-use Rattle.p8_read_back.proofs.Bytes.{bytes_are, clean}
-use Rattle.p8_read_back.proofs.Calling.{only_memory}
-use Rattle.p8_read_back.proofs.assembled.bytes_of.Goals as goal
+use Rattle.p8_printed.specs.ReadBack.{start}
+use Rattle.p8_printed.proofs.Bytes.{bytes_are, clean}
+use Rattle.p8_printed.proofs.Calling.{only_memory}
+use Rattle.p8_printed.proofs.assembled.bytes_of.Goals as goal
 
 pub returns-in-Ok-clause-bytes : goal.returns-in-Ok-clause-bytes
 returns-in-Ok-clause-bytes c =

@@ -1,5 +1,5 @@
-use Rattle.p8_read_back.proofs.Calling.{no_fault}
-use Rattle.p8_read_back.proofs.assembled.tokens_of.Goals as goal
+use Rattle.p8_printed.proofs.Calling.{no_fault}
+use Rattle.p8_printed.proofs.assembled.tokens_of.Goals as goal
 
 pub returns-in-Err-Refused-clause-accepted : goal.returns-in-Err-Refused-clause-accepted
 returns-in-Err-Refused-clause-accepted c =

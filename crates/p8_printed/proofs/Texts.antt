@@ -22,8 +22,8 @@ use Rattle.p8_printed.proofs.Going.{AreEnded}
 use Rattle.p8_dat.specs.Printed.{effects_of}
 use Rattle.p8_instr.specs.Numerals.{hex}
 use Rattle.p8_instr.specs.Instructions.{condition_text, word_text, operands_text, effects_text, instruction_text}
-use Rattle.p8_read_back.proofs.Words.{Lettered, lettered, has_class, instruction_lettered, condition_lettered, WordFor, opcode_word, is_condition_for, condition_word, condition_is}
-use Rattle.p8_read_back.proofs.Reading.{Reads, so, Worded, Numbered, no_blank, blanks_read, end_read, word_read, ended_read, comma_read, hash_read, number_read}
+use Rattle.p8_printed.proofs.Words.{Lettered, lettered, has_class, instruction_lettered, condition_lettered, WordFor, opcode_word, is_condition_for, condition_word, condition_is}
+use Rattle.p8_printed.proofs.LongReading.{Reads, so, Worded, Numbered, no_blank, blanks_read, end_read, word_read, ended_read, comma_read, hash_read, number_read}
 
 -- ---- the effects as words
 

@@ -16,7 +16,7 @@ use Rattle.p8_dat.specs.Spots.{begun}
 use Rattle.p8_dat.specs.Names.{names_in}
 use Rattle.p8_dat.specs.Bytes.{element, in_instruction}
 use Rattle.p8_dat.specs.Blocks.{first_spot, counts_setting, placed_lines, values_setting, dat_bytes, IsDatFault}
-use Rattle.p8_read_back.specs.ReadBack.{nop_line, read_line, IsLineOf, file_with, start}
+use Rattle.p8_printed.specs.ReadBack.{nop_line, read_line, IsLineOf, file_with, start}
 
 -- ---- the instruction
 

@@ -1,8 +1,8 @@
 use Rattle.std.proofs.Common.{false, sym, subst}
 use Rattle.p8_names.specs.Faults.{IsNameFault}
-use Rattle.p8_read_back.proofs.Names.{no_name_fault}
-use Rattle.p8_read_back.proofs.Calling.{only_memory_there}
-use Rattle.p8_read_back.proofs.assembled.assembled.Goals as goal
+use Rattle.p8_printed.proofs.Names.{no_name_fault}
+use Rattle.p8_printed.proofs.Calling.{only_memory_there}
+use Rattle.p8_printed.proofs.assembled.assembled.Goals as goal
 
 pub returns-in-Err-clause-accepted : goal.returns-in-Err-clause-accepted
 returns-in-Err-clause-accepted c =

@@ -5,7 +5,7 @@ ghost use Rattle.p8_tree.specs.Views.{source_of};
 ghost use Rattle.p8_tree.specs.Proper.{IsProperFile};
 ghost use Rattle.p8_lexer.specs.Lexing.{AreTokens};
 ghost use Rattle.p8_dat.specs.Blocks.{IfRefused};
-ghost use Rattle.p8_read_back.specs.ReadBack.{source_text, IsFileOf, IsNotRefused};
+ghost use Rattle.p8_printed.specs.ReadBack.{source_text, IsFileOf, IsNotRefused};
 
 use p8_blocks::{parse, tokens_are_proper};
 use p8_dat::{Dat, assemble};

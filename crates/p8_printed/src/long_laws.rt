@@ -11,7 +11,7 @@ ghost use Rattle.p8_kinds.specs.Meanings.{Setting};
 ghost use Rattle.p8_kinds.specs.declared.children.Children.{Children};
 ghost use Rattle.p8_names.specs.Faults.{IsNameFault};
 ghost use Rattle.p8_dat.specs.Blocks.{dat_bytes, IsDatFault};
-ghost use Rattle.p8_read_back.specs.ReadBack.{source_text, IsLineOf, file_with, start};
+ghost use Rattle.p8_printed.specs.ReadBack.{source_text, IsLineOf, file_with, start};
 
 /// Law: the text that [`instr_text`](p8_instr::instr_text) gives for a long, as the only line of a source's `DAT`, has tokens, and
 /// they are the file with the line of this long. It is no longer than a source may be.

@@ -10,7 +10,7 @@ use Rattle.p8_constants.specs.FileItems.{items}
 use Rattle.p8_kinds.specs.declared.children.Children.{Children}
 use Rattle.p8_kinds.specs.Environments.{Environment}
 use Rattle.p8_names.specs.Faults.{UnknownInContents, in_data, repeated, own_repeated, label_repeated, too_many_params, no_pub, count, instances, of_method, in_line, IsNameFault, of_constant, of_name}
-use Rattle.p8_read_back.specs.ReadBack.{nop_line, read_line, IsLineOf, file_with}
+use Rattle.p8_printed.specs.ReadBack.{nop_line, read_line, IsLineOf, file_with}
 
 no_name : (env : Environment) (long : ℕ) (p q : Place) (f : Fault) → ¬ UnknownInContents env (Instr (read_line long p q)) f
 no_name env long p q f = go (long == 0)

@@ -1,5 +1,5 @@
-use Rattle.p8_read_back.proofs.Files.{text_read, text_short}
-use Rattle.p8_read_back.proofs.laws.text_is_read.Goals as goal
+use Rattle.p8_printed.proofs.LongFiles.{text_read, text_short}
+use Rattle.p8_printed.proofs.long_laws.text_is_read.Goals as goal
 
 pub returns-clause-read : goal.returns-clause-read
 returns-clause-read c = λ long small. text_read long small

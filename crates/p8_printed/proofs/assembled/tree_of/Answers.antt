@@ -1,7 +1,7 @@
 use Rattle.std.proofs.Common.{sym}
-use Rattle.p8_read_back.specs.ReadBack.{file_with}
-use Rattle.p8_read_back.proofs.Calling.{file_read}
-use Rattle.p8_read_back.proofs.assembled.tree_of.Goals as goal
+use Rattle.p8_printed.specs.ReadBack.{file_with}
+use Rattle.p8_printed.proofs.Calling.{file_read}
+use Rattle.p8_printed.proofs.assembled.tree_of.Goals as goal
 
 pub returns-in-Ok-clause-file : goal.returns-in-Ok-clause-file
 returns-in-Ok-clause-file c =

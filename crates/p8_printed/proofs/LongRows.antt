@@ -38,10 +38,10 @@ use Rattle.p8_instr.specs.declared.instruction.Instr as instr
 use Rattle.p8_instr.specs.Instruction.{writes_z, writes_c, writes_result, is_immediate}
 use Rattle.p8_dat.specs.Printed.{effects_of, printed_line}
 use Rattle.p8_instr.specs.Instructions.{word_text}
-use Rattle.p8_read_back.specs.ReadBack.{read_line}
-use Rattle.p8_read_back.proofs.Words.{has_class, WordFor, condition_is}
-use Rattle.p8_read_back.proofs.Reading.{Worded, Numbered}
-use Rattle.p8_read_back.proofs.Texts.{SourceOf, FromWord, LineOf, always, conditional, effects_by}
+use Rattle.p8_printed.specs.ReadBack.{read_line}
+use Rattle.p8_printed.proofs.Words.{has_class, WordFor, condition_is}
+use Rattle.p8_printed.proofs.LongReading.{Worded, Numbered}
+use Rattle.p8_printed.proofs.Texts.{SourceOf, FromWord, LineOf, always, conditional, effects_by}
 
 -- ---- numbers
 

@@ -25,8 +25,8 @@ use Rattle.p8_printed.proofs.WordCuts.{cut_off, blanks_piece, line_end_piece}
 use Rattle.p8_printed.proofs.Runs.{Run, join, text_is, blank_run, made, token_run, characters_made}
 use Rattle.p8_printed.proofs.Going.{AreEnded}
 use Rattle.p8_instr.specs.Numerals.{glyph, hex}
-use Rattle.p8_read_back.proofs.Cutting.{name_piece, hexadecimal_piece, hash_piece, hash_symbol}
-use Rattle.p8_read_back.proofs.Words.{Lettered}
+use Rattle.p8_printed.proofs.Cutting.{name_piece, hexadecimal_piece, hash_piece, hash_symbol}
+use Rattle.p8_printed.proofs.Words.{Lettered}
 
 -- the tokens from a place on to the end of a file, of which this holds
 pub record Found (bytes : List ℕ) (at : ℕ) (K : List LineToken → Type 0) : Type 0 where

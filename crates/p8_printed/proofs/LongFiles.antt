@@ -28,11 +28,11 @@ use Rattle.p8_printed.proofs.Going.{so as going_so}
 use Rattle.p8_instr.specs.Instruction.{instr_of, FitsFields}
 use Rattle.p8_dat.specs.Printed.{printed_line}
 use Rattle.p8_instr.specs.Instructions.{instruction_text}
-use Rattle.p8_read_back.specs.ReadBack.{source_with, source_text, nop_line, read_line, IsLineOf, file_with}
-use Rattle.p8_read_back.proofs.Words.{Lettered, lettered}
-use Rattle.p8_read_back.proofs.Reading.{Found, Reads, so, Worded, AtFront, blanks_read, line_end_read, end_read, word_read, first_read}
-use Rattle.p8_read_back.proofs.Texts.{line_text, text_is, word_of, line_read, line_no_blank, line_short}
-use Rattle.p8_read_back.proofs.Rows.{HasLine, line_row, nop_row}
+use Rattle.p8_printed.specs.ReadBack.{source_with, source_text, nop_line, read_line, IsLineOf, file_with}
+use Rattle.p8_printed.proofs.Words.{Lettered, lettered}
+use Rattle.p8_printed.proofs.LongReading.{Found, Reads, so, Worded, AtFront, blanks_read, line_end_read, end_read, word_read, first_read}
+use Rattle.p8_printed.proofs.Texts.{line_text, text_is, word_of, line_read, line_no_blank, line_short}
+use Rattle.p8_printed.proofs.LongRows.{HasLine, line_row, nop_row}
 
 dat_letters : Lettered word.Dat
 dat_letters = lettered word.Dat refl

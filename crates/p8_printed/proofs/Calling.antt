@@ -13,8 +13,8 @@ use Rattle.p8_lines.specs.Tokens.{all_tokens}
 use Rattle.p8_blocks.specs.Files.{IsFileWithinLimits}
 use Rattle.p8_names.specs.Resolution.{IfRefused as IfNamesRefused}
 use Rattle.p8_dat.specs.Blocks.{IfRefused}
-use Rattle.p8_read_back.specs.ReadBack.{source_text, IsLineOf, file_with}
-use Rattle.p8_read_back.proofs.Files.{text_read, text_short}
+use Rattle.p8_printed.specs.ReadBack.{source_text, IsLineOf, file_with}
+use Rattle.p8_printed.proofs.LongFiles.{text_read, text_short}
 
 module _ (long : ℕ) (small : long < 2 ^ 32) (bytes : List ℕ) (whole : bytes ≡ source_text long) where
   pub no_fault : (fault : LexFault) → ¬ IsFault bytes fault

@@ -1,5 +1,0 @@
-use Rattle.p8_read_back.proofs.Names.{no_name_fault}
-use Rattle.p8_read_back.proofs.laws.names_are_good.Goals as goal
-
-pub returns : goal.returns
-returns c = λ long line children is f. no_name_fault long line children is f
