@@ -1,6 +1,6 @@
 use Rattle.p8_tree.specs.Views.{named_sources_of}
 use Rattle.p8_inputs.proofs.Gathering.{mentioned, no_ring}
-use Rattle.p8_file_tests.proofs.legends.legend_on.Goals as goal
+use Rattle.p8_source_tests.proofs.legends.legend_on.Goals as goal
 
 pub project_legend-legend-requires-clause-mentioned : goal.project_legend-legend-requires-clause-mentioned
 project_legend-legend-requires-clause-mentioned c = mentioned (named_sources_of c.in-Ok.project) c.in-Ok.ensures.mentioned

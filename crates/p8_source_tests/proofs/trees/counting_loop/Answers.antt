@@ -10,7 +10,7 @@ use Rattle.p8_tree.specs.Expressions.{Tree}
 use Rattle.p8_tree.specs.Statements.{Statement, statement, Repeat, From, no_statements, ◌▹◌}
 use Rattle.p8_tree.specs.Views.{tree_of, statement_of, statements_of, course_of}
 use Rattle.p8_tree.specs.Bridges.{repeat_is, stmt_is}
-use Rattle.p8_names_tests.proofs.trees.counting_loop.Goals as goal
+use Rattle.p8_source_tests.proofs.trees.counting_loop.Goals as goal
 
 -- a loop over one statement
 loop_is : (at : Place) (name text : List _) (a b : Expr) (a' b' : Tree) (before : List Stmt) (s : Stmt) (s' : Statement) (v : Vec Stmt Global) → name ≡ text → tree_of a ≡ a' → tree_of b ≡ b' → before ≡ [] → v.items ≡ before ++ s ∷ [] → statement_of s ≡ s' → statement_of (roll-Stmt (record { place = at; kind = kind_case.Repeat (loop_case.From name a b None at) v })) ≡ statement at (Repeat (From text a' b' None at) (no_statements ▹ s'))
