@@ -1,4 +1,5 @@
-//! Tests of the machine and of what it stands on: worked values, instructions, lives, histories and their texts.
+//! Tests of the machine, of what it stands on and of what is made of its histories: worked values, instructions, lives, history
+//! files and their checker, waves, pictures of pins, and views.
 //!
 //! They stand apart from the crates that they test, because a crate with tests is proved twice.
 #![tactic(auto)]
@@ -11,6 +12,8 @@ mod alu;
 mod bytecode;
 #[cfg(test)]
 mod desk;
+#[cfg(test)]
+mod histories;
 #[cfg(test)]
 mod history;
 #[cfg(test)]
@@ -26,7 +29,11 @@ mod machine;
 #[cfg(test)]
 mod pasm;
 #[cfg(test)]
+mod pictures;
+#[cfg(test)]
 mod pins;
+#[cfg(test)]
+mod programs;
 #[cfg(test)]
 mod record;
 #[cfg(test)]
@@ -35,5 +42,9 @@ mod region;
 mod spin;
 #[cfg(test)]
 mod turns;
+#[cfg(test)]
+mod views;
+#[cfg(test)]
+mod waves;
 #[cfg(test)]
 mod words;
