@@ -15,10 +15,10 @@ use Rattle.p8_inputs.specs.Orders.{AreAllRead, AreReadSoFar}
 use Rattle.p8_inputs.proofs.Logging.{none-read}
 use Rattle.p8_commands.specs.Commands.{Command, explains}
 use Rattle.p8_prop.specs.declared.status.Status.{Status}
-use Rattle.p8_work.specs.declared.work.Answer.{Answer}
-use Rattle.p8_work.specs.declared.work.Answer.TheVariants.{Text, Bad}
-use Rattle.p8_work.specs.Texts.{asks_of}
-use Rattle.p8_work.specs.Works.{IsText, IsAnswerTo}
+use Rattle.p8_prop.specs.declared.work.Answer.{Answer}
+use Rattle.p8_prop.specs.declared.work.Answer.TheVariants.{Text, Bad}
+use Rattle.p8_prop.specs.Texts.{asks_of}
+use Rattle.p8_prop.specs.Works.{IsText, IsAnswerTo}
 use Rattle.p8_prop.specs.Verdicts.{Outside, ShelfSeen, SinkSeen, Verdict, unsaid, stopped, explained, bad, written, unwritten, shown_file, Explains, StopsCommand, IsReadAgain, IsOnceMore, HasExplanation, IsVerdict, IsOut, IsRead, IsTold, stop_status, status_of}
 use Rattle.p8_prop.specs.Promises.{HasHeadline, Keeps}
 use Rattle.p8_prop.specs.Answers.{told_with, IsExplanation, IsFrom, IsFor, IsGiven, IsEnded, IsAnswer}

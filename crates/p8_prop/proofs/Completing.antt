@@ -26,7 +26,7 @@ use Rattle.p8_inputs.proofs.Deciding.{unread-rose}
 use Rattle.p8_commands.specs.Commands.{Command, BuildSource, ListSource, MapSource, ExplainFile, ExplainNumber, RunMemory, RunProgram, Save, Check, Serial as ReadPin, TypeFile, Wave as ShowWave, Plot as DrawPins, ViewRun, Convert, Make, Help}
 use Rattle.p8_view.specs.declared.turns.ViewOptions.{ViewOptions}
 use Rattle.p8_view.specs.Ending.{view_of}
-use Rattle.p8_work.specs.Texts.{selection_of, picture_of, options_of, dumped_range, asks_of, IsToldOf, IsViewOf, IsViewed, IsTextOf, IsAskedFor, IsBadBy, IsBadHistory}
+use Rattle.p8_prop.specs.Texts.{selection_of, picture_of, options_of, dumped_range, asks_of, IsToldOf, IsViewOf, IsViewed, IsTextOf, IsAskedFor, IsBadBy, IsBadHistory}
 use Rattle.p8_prop.proofs.OneCount.{asked-one, counters-one}
 use Rattle.p8_prop.specs.Verdicts.{Outside, Verdict, unsaid, stopped, explained, bad, written, unwritten, shown_file, Explains, StopsCommand, IsReadAgain, HasExplanation, IsVerdict, IsCertain, IsUnexplained, status_of, HasOneVerdict, IsComplete}
 

@@ -2,11 +2,11 @@
 use Rattle.std.proofs.Common.{sym, subst}
 use Rattle.p8_io.specs.Shelves.{Files}
 use Rattle.p8_commands.specs.Commands.{Command}
-use Rattle.p8_work.specs.declared.work.Answer.{Answer}
-use Rattle.p8_work.specs.declared.work.Answer.TheVariants.{Text, Bad}
-use Rattle.p8_work.specs.declared.work.Work.{Work}
-use Rattle.p8_work.specs.declared.work.Work.TheVariants.{Done, Run, View}
-use Rattle.p8_work.specs.Works.{IsAnswerTo, IsText, IsWork}
+use Rattle.p8_prop.specs.declared.work.Answer.{Answer}
+use Rattle.p8_prop.specs.declared.work.Answer.TheVariants.{Text, Bad}
+use Rattle.p8_prop.specs.declared.work.Work.{Work}
+use Rattle.p8_prop.specs.declared.work.Work.TheVariants.{Done, Run, View}
+use Rattle.p8_prop.specs.Works.{IsAnswerTo, IsText, IsWork}
 use Rattle.p8_prop.specs.Answers.{CanBeDone, IsDone}
 
 pub can-be-done : (files : Files) (command : Command) (work : Work) → IsWork files command work → CanBeDone work

@@ -1,3 +1,5 @@
+mod Asking
+mod Coming
 mod OneCount
 mod Completing
 mod Later

@@ -8,12 +8,12 @@ use Rattle.std.specs.declared.alloc.Global.{Global}
 use Rattle.p8_inputs.specs.Stops.{line_of as stop_line}
 use Rattle.p8_inputs.specs.declared.stop.Stop.{Stop}
 use Rattle.p8_commands.specs.Commands.{Command, explains}
-use Rattle.p8_work.specs.declared.work.Answer.{Answer}
-use Rattle.p8_work.specs.declared.work.Answer.TheVariants.{Text, Bad}
-use Rattle.p8_work.specs.declared.work.Work.{Work}
-use Rattle.p8_work.specs.declared.work.Work.TheVariants.{Done, Run, View}
-use Rattle.p8_work.specs.Texts.{IsToldOf, IsViewed}
-use Rattle.p8_work.specs.Works.{IsRunnable, IsViewable, world_in}
+use Rattle.p8_prop.specs.declared.work.Answer.{Answer}
+use Rattle.p8_prop.specs.declared.work.Answer.TheVariants.{Text, Bad}
+use Rattle.p8_prop.specs.declared.work.Work.{Work}
+use Rattle.p8_prop.specs.declared.work.Work.TheVariants.{Done, Run, View}
+use Rattle.p8_prop.specs.Texts.{IsToldOf, IsViewed}
+use Rattle.p8_prop.specs.Works.{IsRunnable, IsViewable, world_in}
 use Rattle.p8_prop.specs.declared.status.Status.{Status}
 use Rattle.p8_prop.specs.Verdicts.{ShelfSeen, SinkSeen, Verdict, stopped, explained, bad, written, unwritten, status_of, shown_file, explanation, Explains, IsReadAgain, IsOnceMore, IsOut, IsTold}
 

@@ -1,6 +1,9 @@
 -- What public contracts cite.
+pub mod Texts
+pub mod Headline
 pub mod Codes
 pub mod Verdicts
 pub mod Promises
 -- Machinery that only proofs need.
+pub mod Works
 pub mod Answers

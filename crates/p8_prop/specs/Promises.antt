@@ -3,7 +3,7 @@ use Rattle.std.specs.Prelude.{◌≡◌, ◌≤◌, Option, Some}
 use Rattle.p8_io.specs.Shelves.{Files}
 use Rattle.p8_commands.specs.Commands.{Command}
 use Rattle.p8_prop.specs.declared.status.Status.{Status}
-use Rattle.p8_work.specs.Headline.{IsHeadline}
+use Rattle.p8_prop.specs.Headline.{IsHeadline}
 use Rattle.p8_prop.specs.Verdicts.{Outside, Verdict, written, status_of, IsVerdict, IsOut, IsRead, IsTold, HasOneVerdict, IsComplete}
 
 -- the headline, of a text that was written

@@ -15,7 +15,7 @@ use Rattle.p8_commands.specs.Commands.{Command, explains}
 use Rattle.p8_commands.specs.Pages.{usage_line}
 use Rattle.p8_prop.specs.declared.status.Status.{Status}
 use Rattle.p8_prop.specs.declared.status.Status.TheVariants as status
-use Rattle.p8_work.specs.Texts.{asks_of, IsAskedFor, IsBadHistory}
+use Rattle.p8_prop.specs.Texts.{asks_of, IsAskedFor, IsBadHistory}
 
 -- the shelf of a call as it is seen from outside: its files, what was read of it and its count of faults, before and now
 pub record ShelfSeen : Type 0 where

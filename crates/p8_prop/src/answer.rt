@@ -11,6 +11,7 @@ ghost use Rattle.p8_prop.specs.Answers.{seen_name, told_with, IsAnswer, IsEnded,
 ghost use Rattle.p8_prop.specs.declared.status.Status.TheVariants.{Usage, SinkFault, BadHistory};
 
 use crate::status::Status;
+use crate::work::Answer;
 use p8_commands::Command;
 use p8_explain::{absence, explanation};
 use p8_finish::tell_bad_history;
@@ -19,7 +20,6 @@ use p8_io::{Shelf, Sink, write_pieces};
 use p8_tree::Text;
 use p8_verify::Cause;
 use p8_words::NoMemory;
-use p8_work::Answer;
 use std::alloc::Global;
 use std::str;
 

@@ -1,11 +1,18 @@
 //! The top calls of `prop`, which compiles programs of the Parallax Propeller P8X32A, runs them, and prints the history of the eight cogs.
+//!
+//! What each command comes to once its files are read is its work: its text, a verdict, or a run with what is told of it.
 #![tactic(auto)]
 
 mod answer;
 mod driver;
+mod laws;
 mod status;
 mod text;
 mod top;
+mod view;
+mod work;
 
 pub use status::Status;
 pub use top::{prop, prop_alone};
+pub use view::Viewing;
+pub use work::{Answer, Work, work_of};

@@ -3,15 +3,15 @@ ghost use Rattle.std.specs.Prelude.{◌≡◌, ◌≤◌, IfOk, IfErr};
 ghost use Rattle.p8_inputs.specs.Asks.{Stops};
 ghost use Rattle.p8_inputs.specs.Orders.{AreAllRead, AreReadSoFar};
 ghost use Rattle.p8_commands.specs.Seen.{command_read, HasLimits};
-ghost use Rattle.p8_work.specs.Texts.{asks_of};
-ghost use Rattle.p8_work.specs.Works.{IsAnswerTo};
+ghost use Rattle.p8_prop.specs.Texts.{asks_of};
+ghost use Rattle.p8_prop.specs.Works.{IsAnswerTo};
 
 use crate::driver::{done_alone, done_by_crew};
+use crate::work::{Answer, work_of};
 use p8_commands::Command;
 use p8_desk::Starter;
 use p8_inputs::Stop;
 use p8_io::Shelf;
-use p8_work::{Answer, work_of};
 use std::alloc::Global;
 use std::sync::Wait;
 use std::thread::Threads;

@@ -1,7 +1,7 @@
 use Rattle.std.proofs.Common.{refl, subst, sym, ℕ, List}
 use Rattle.p8_io.specs.Sinks.{Appended, AppendedPrefix, Wrote}
 use Rattle.p8_finish.specs.Checks.{bad_line}
-use Rattle.p8_work.specs.declared.work.Answer.{Answer}
+use Rattle.p8_prop.specs.declared.work.Answer.{Answer}
 use Rattle.p8_prop.specs.Verdicts.{SinkSeen}
 use Rattle.p8_prop.specs.Answers.{IsGiven}
 use Rattle.p8_prop.specs.declared.status.Status.TheVariants.{Ok as Done}

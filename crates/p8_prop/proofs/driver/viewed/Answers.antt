@@ -3,7 +3,7 @@ use Rattle.std.proofs.lemmas.Result.{IfOk-weaker}
 use Rattle.p8_access.specs.Worlds.{World}
 use Rattle.p8_ledger.specs.Worlds.{world_of}
 use Rattle.p8_view.specs.Ending.{view_of}
-use Rattle.p8_work.specs.Works.{world_in}
+use Rattle.p8_prop.specs.Works.{world_in}
 use Rattle.p8_prop.proofs.driver.viewed.Goals as goal
 
 pub returns : goal.returns

@@ -1,5 +1,0 @@
-use Rattle.p8_work.proofs.Asking.{builds-keep}
-use Rattle.p8_work.proofs.laws.builds_keep_meaning.Goals as goal
-
-pub returns : goal.returns
-returns c = builds-keep c.images_keep_meaning.ensures c.short_images_keep_meaning.ensures

@@ -1,5 +1,0 @@
-use Rattle.std.proofs.Common.{[]}
-use Rattle.p8_work.proofs.work.help_work.Goals as goal
-
-pub returns : goal.returns
-returns c files = (([], tt, c.in_ok-text.ensures), tt)
