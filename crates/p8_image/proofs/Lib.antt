@@ -6,3 +6,5 @@ mod Imaging
 mod Placing
 mod Standing
 pub mod Memories
+pub mod Cutting
+mod Operations

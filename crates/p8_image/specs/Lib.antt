@@ -6,6 +6,8 @@ pub mod Clocks
 pub mod Layout
 pub mod Projects
 pub mod Places
+pub mod Listing
 -- Internal.
 pub mod Keeping
 pub mod Images
+pub mod Cutting

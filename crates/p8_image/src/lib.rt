@@ -1,16 +1,22 @@
-//! Images of programs: what a `.binary` file has to be, and what starts from it.
+//! Images of programs: what a `.binary` file has to be, what starts from it, and the listing of a project.
 #![tactic(auto)]
 
 mod bytes;
 mod clocks;
+mod code;
+mod dat;
 mod faults;
 mod header;
 mod image;
 mod laws;
+mod objects;
 mod parts;
 mod plan;
 mod project_image;
+mod project_listing;
 mod sizes;
+mod text;
+mod text_laws;
 
 pub use bytes::linked_codes;
 pub use clocks::Clock;
@@ -20,4 +26,6 @@ pub use image::{Image, load, load_eeprom};
 pub use laws::{eeprom_comes_back, image_loads, parts_stand};
 pub use parts::{MethodPart, ObjectPart, TextUse, Variable};
 pub use project_image::layout;
+pub use project_listing::listing;
 pub use sizes::Offsets;
+pub use text_laws::operations_have_lines;

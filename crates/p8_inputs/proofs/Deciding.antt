@@ -17,7 +17,7 @@ use Rattle.p8_pins.specs.Scripts.{IsReadAs, IsFault}
 use Rattle.p8_pins.proofs.Scripting.{read-same, read-not_bad, fault-one}
 use Rattle.p8_build.specs.Builds.{objects_of}
 use Rattle.p8_map.specs.Projects.{IsMapOf}
-use Rattle.p8_texts.specs.Listing.{listing_of}
+use Rattle.p8_image.specs.Listing.{listing_of}
 use Rattle.std.specs.Prelude.{map}
 use Rattle.p8_inputs.specs.declared.program.Format.{Format}
 use Rattle.p8_inputs.specs.declared.program.Format.TheVariants.{Memory, Image, Eeprom, Source}

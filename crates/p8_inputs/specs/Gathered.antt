@@ -13,7 +13,7 @@ use Rattle.p8_objects.specs.Whole.{HaveMentioned, HaveNoRing, EachTree}
 use Rattle.p8_image.specs.Layout.{image_of}
 use Rattle.p8_image.specs.Loading.{ImageValue, image_in}
 use Rattle.p8_build.specs.Builds.{IsRefusedWith}
-use Rattle.p8_texts.specs.Listing.{listing_of}
+use Rattle.p8_image.specs.Listing.{listing_of}
 use Rattle.p8_inputs.specs.Sources.{GathersTo, IsBuiltBy}
 use Rattle.p8_inputs.specs.declared.stop.Stop.{Stop}
 use Rattle.p8_inputs.specs.declared.stop.Stop.TheVariants as stop

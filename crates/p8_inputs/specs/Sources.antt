@@ -14,7 +14,7 @@ use Rattle.p8_build.specs.Builds.{IsBuilt, IsRefusedWith}
 use Rattle.p8_map.specs.Projects.{IsMapOf}
 use Rattle.p8_legend.specs.Projects.{IsLegendOf}
 use Rattle.p8_opt.specs.Shorts.{IsShortBuilt}
-use Rattle.p8_texts.specs.Listing.{listing_of}
+use Rattle.p8_image.specs.Listing.{listing_of}
 
 -- gathering the project of a top file comes to this, whatever faults the shelf counts
 abbrev pub GathersTo : Files → (top : List ℕ) → Outcome → Type 0

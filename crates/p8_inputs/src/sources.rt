@@ -18,13 +18,12 @@ ghost use Rattle.p8_inputs.specs.declared.program.Format.TheVariants.{Source};
 
 use crate::stop::Stop;
 use p8_build::{BuildFault, Built, build, build_parts};
-use p8_image::Image;
+use p8_image::{Image, listing};
 use p8_io::Shelf;
 use p8_legend::{Legend, project_legend};
 use p8_map::project_map;
 use p8_objects::{GatherFault, discard, gather};
 use p8_opt::{build_short, build_short_parts};
-use p8_texts::listing;
 use p8_tree::{List, Project, ProjectFile, Text};
 use std::alloc::{AllocError, Global};
 
@@ -291,7 +290,7 @@ pub fn image_of_source<S: Shelf>(
     image_in(alloc, short, file, shelf)
 }
 
-/// The listing of the project of sources whose top file has this name: see [`listing`](p8_texts::listing).
+/// The listing of the project of sources whose top file has this name: see [`listing`](p8_image::listing).
 ///
 /// # Errors
 ///

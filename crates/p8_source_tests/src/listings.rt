@@ -1,6 +1,5 @@
 // Listings of small projects, line by line.
-use p8_image::{MethodPart, ObjectPart};
-use p8_texts::listing;
+use p8_image::{MethodPart, ObjectPart, listing};
 use p8_tree::{List, Text};
 use p8_words::NoMemory;
 use std::alloc::Global;

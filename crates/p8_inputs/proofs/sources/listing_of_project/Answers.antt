@@ -2,7 +2,7 @@ use Rattle.std.proofs.Common.{◌∙◌, ap, ap₂, sym}
 use Rattle.std.specs.Prelude.{map}
 use Rattle.p8_tree.specs.declared.projects.ProjectFile.{ProjectFile}
 use Rattle.p8_tree.specs.Views.{named_sources_of}
-use Rattle.p8_texts.specs.Listing.{listing_of}
+use Rattle.p8_image.specs.Listing.{listing_of}
 use Rattle.p8_inputs.proofs.Building.{same-names}
 use Rattle.p8_inputs.proofs.sources.listing_of_project.Goals as goal
 

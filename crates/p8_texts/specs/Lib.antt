@@ -1,4 +1,0 @@
--- What public contracts cite.
-pub mod Listing
--- Internal.
-pub mod Cutting
