@@ -1,15 +1,16 @@
 -- What stands at a cog's front, and what a ledger stands for after a turn.
-use Rattle.std.proofs.Common.{◌≡◌, ◌∙◌, ap, sym, subst, refl, ℕ, zero, suc, ◌<◌, ◌==◌, Bool, true, false, if◌then◌else◌, List, [], ◌∷◌, Some, None, length, slice_get, get_or, replicate, IsTrue, ◌↔◌, arith, inl, inr}
+use Rattle.std.proofs.Common.{◌≡◌, ◌∙◌, ap, sym, subst, refl, ℕ, zero, suc, ◌<◌, ◌==◌, Bool, true, false, if◌then◌else◌, List, [], ◌∷◌, Option, Some, None, length, slice_get, get_or, replicate, IsTrue, ◌↔◌, arith, inl, inr}
 use Rattle.std.proofs.Math.ListN.{set}
 use Rattle.std.proofs.lemmas.List.{length-reverse}
-use Rattle.std.proofs.lemmas.Option.{slice_get_within}
+use Rattle.std.proofs.lemmas.Option.{slice_get_within, slice_get-get_or}
 use Rattle.p8_access.specs.declared.kinds.Origin.{Origin}
+use Rattle.p8_access.specs.declared.kinds.Test.{Test}
 use Rattle.p8_access.specs.declared.kinds.Access.{Access}
 use Rattle.p8_access.specs.declared.order.Key.{Key}
 use Rattle.p8_access.specs.declared.order.Turn.{Turn}
 use Rattle.p8_access.specs.declared.lives.Next.{Next}
 use Rattle.p8_access.specs.declared.lives.Next.TheVariants.{At, Quiet, More}
-use Rattle.p8_access.specs.Lives.{IsMadeNext, announced_by}
+use Rattle.p8_access.specs.Lives.{IsMade, IsMadeNext, announced_by}
 use Rattle.p8_access.specs.declared.states.CogState.{CogState}
 use Rattle.p8_access.specs.declared.states.CogState.TheVariants.{Stopped, Starting, Running}
 use Rattle.p8_access.specs.Worlds.{World}
@@ -20,17 +21,18 @@ use Rattle.p8_cog.specs.Lives.{asks}
 use Rattle.p8_ledger.specs.Seats.{Sits, SitsIn}
 use Rattle.p8_ledger.specs.Standing.{FitsState}
 use Rattle.p8_ledger.specs.declared.fronts.Fronts.{Fronts}
-use Rattle.p8_ledger.specs.Fronts.{IsFrontIn}
-use Rattle.p8_ledger.specs.Waiting.{IsNextAt}
+use Rattle.p8_ledger.specs.Fronts.{IsFirstOf, IsSaidFront, IsFront, IsFrontIn}
+use Rattle.p8_ledger.specs.Waiting.{IsTimely, IsNextAt}
 use Rattle.p8_ledger.proofs.Rows.{set-there, set-else, set-same, set-other, got-item}
-use Rattle.p8_ledger.proofs.Coming.{due-timely}
+use Rattle.p8_ledger.proofs.Coming.{due-timely, made-proper}
 use Rattle.p8_ledger.specs.declared.due.Due.{Due}
 use Rattle.p8_ledger.specs.declared.ledger.Ledger.{Ledger}
 use Rattle.p8_ledger.specs.declared.steps.Step.{Step}
 use Rattle.p8_ledger.specs.Records.{Record, cog_of, says, turns, said, whatever, IsTrueOf, IsTruthful, HasFront, HasFrontIn, HasFrontBy, IsLeastFront, Owes}
-use Rattle.p8_ledger.specs.Dues.{IsDueAt, AllMade}
+use Rattle.p8_ledger.specs.Dues.{IsDueAt, Suits, IsPlain, IsPlainIn, AllMade}
 use Rattle.p8_ledger.specs.Ledgers.{Found}
-use Rattle.p8_ledger.proofs.Least.{told-next}
+use Rattle.p8_ledger.proofs.Choosing.{fast-first}
+use Rattle.p8_ledger.proofs.Least.{told-next, first-front}
 use Rattle.p8_ledger.proofs.Telling.{said-own, said-beside, least-extends}
 
 module _ (w : World) (r : Record) (n clock : ℕ) (origin : Origin) (state : cog_state w (turns r) n ≡ Running origin) (truth : IsTrueOf w (turns r) n (said n r)) where
@@ -142,3 +144,49 @@ owed w ledger r n origin d b found near room state promise =
 pub front-as : (fronts : Fronts) (n limit limit' : ℕ) (state : CogState) (s s' : Next) → limit' ≡ limit → s' ≡ s → IsFrontIn fronts n limit state s → IsFrontIn fronts n limit' state s'
 front-as fronts n limit limit' state s s' limit_is is front =
     subst (λ (m : ℕ). IsFrontIn fronts n m state s') (sym limit_is) (subst (λ (x : Next). IsFrontIn fronts n limit state x) (sym is) front)
+
+-- what one of eight has said
+pub read-at : (sayings : List Next) (n : ℕ) (d : Next) → length sayings ≡ 8 → n < 8 → slice_get sayings n ≡ Some (get_or sayings n d)
+read-at sayings n d eight near = slice_get-get_or sayings n d (omega arith)
+
+-- an access that is no wait and is said to come at the least of the fronts
+module _ (w : World) (r : Record) (key : Key) (origin : Origin) (state : cog_state w (turns r) key.cog ≡ Running origin) where
+  plain-front : (s : Next) → said key.cog r ≡ s → IsPlain s key.clock → IsFront key.cog w.clocks (cog_state w (turns r) key.cog) (said key.cog r) key.clock None
+  plain-front (At earliest access) is plain =
+      subst (λ (c : CogState). IsFront key.cog w.clocks c (said key.cog r) key.clock None) (sym state)
+      (subst (λ (s : Next). IsSaidFront w.clocks s key.clock None) (sym is) (sym plain.0, sym plain.1))
+  plain-front Quiet is plain = absurd plain
+  plain-front (More bound) is plain = absurd plain
+
+  -- is the least front
+  pub plain-least : (ledger : Ledger) → Found w ledger r → IsFirstOf ledger.fronts.clocks key → key.clock < w.clocks → IsPlainIn ledger.sayings key.cog key.clock → IsLeastFront w r key
+  plain-least ledger found first below plain =
+      first-front w r found.truth key
+      (fast-first w r found.others ledger.fronts.clocks key first found.fronts key.clock
+      (plain-front (said key.cog r) refl (plain (said key.cog r) (found.sayings key.cog first.near)))) below
+
+-- such an access may be answered
+pub plain-suits : (sayings : List Next) (n clock : ℕ) (d : Next) (access : Access) → length sayings ≡ 8 → n < 8 → IsMade access → IsPlainIn sayings n clock → (earliest : ℕ) × (get_or sayings n d ≡ At earliest access) → Suits sayings n clock (record { access = access; running = true })
+plain-suits sayings n clock d access eight near made plain said_is =
+    let at : slice_get sayings n ≡ Some (At said_is.0 access) = read-at sayings n d eight near ∙ ap (λ (s : Next). Some s) said_is.1 in
+    let is = plain (At said_is.0 access) at in
+    record {
+      proper = made-proper access made;
+      made = λ running. made;
+      next = λ saying running there.
+          subst (λ (s : Next). IsNextAt (announced_by s) clock (Some access)) (sym (got-item sayings n saying d there ∙ said_is.1))
+          (refl, subst (λ (t : Option Test). IsTimely t said_is.0 clock) (sym is.1) is.0);
+    }
+
+-- and is announced
+pub plain-announced : (s : Next) (clock : ℕ) → IsPlain s clock → (asked : ℕ × Access) × (announced_by s ≡ Some asked)
+plain-announced (At earliest access) clock plain = ((earliest, access), refl)
+plain-announced Quiet clock plain = absurd plain
+plain-announced (More bound) clock plain = absurd plain
+
+-- its turn comes next where it stands at the least front
+pub plain-granted : (w : World) (r : Record) (ledger : Ledger) (key : Key) (origin : Origin) (turn : Turn) → Found w ledger r → key.cog < 8 → IsLeastFront w r key → cog_state w (turns r) key.cog ≡ Running origin → length ledger.turns.list < ledger.turns.room → Suits ledger.sayings key.cog key.clock (record { access = turn.access; running = true }) → turn.key ≡ key → turn.answer ≡ answer_to w (turns r) key turn.access → Extends asks w (turns r) turn × FitsState true (cog_state w (turns r) key.cog)
+plain-granted w r ledger key origin turn found near least state room suits key_is answer =
+    let said_is = found.sayings key.cog near in
+    let due = due-some w r key.cog key.clock origin state (found.truth key.cog) (said key.cog r) refl turn.access (suits.next (said key.cog r) refl said_is) least.there in
+    (granted w r ledger key (record { access = turn.access; running = true }) turn found least room due key_is refl answer, due.1)

@@ -52,6 +52,12 @@ set-other (y ∷ xs) zero (suc n) x differ = refl
 set-other (y ∷ xs) (suc k) zero x differ = refl
 set-other (y ∷ xs) (suc k) (suc n) x differ = set-other xs k n x (λ e. differ (ap suc e))
 
+-- an item that is set twice
+pub set-twice : {A : Type 0} → (xs : List A) (k : ℕ) (x y : A) → set (set xs k y) k x ≡ set xs k x
+set-twice [] k x y = refl
+set-twice (z ∷ xs) zero x y = refl
+set-twice (z ∷ xs) (suc k) x y = ap (λ l. z ∷ l) (set-twice xs k x y)
+
 -- what is read at a place
 pub got-item : {A : Type 0} → (xs : List A) (n : ℕ) (x d : A) → slice_get xs n ≡ Some x → x ≡ get_or xs n d
 got-item [] n x d at = absurd (let e : None ≡ Some x = at in cc)

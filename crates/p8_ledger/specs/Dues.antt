@@ -18,7 +18,7 @@ use Rattle.p8_access.specs.Hub.{cog_state}
 use Rattle.p8_access.specs.Histories.{IsNext}
 use Rattle.p8_cog.specs.Lives.{asks}
 use Rattle.p8_ledger.specs.Standing.{FitsState}
-use Rattle.p8_ledger.specs.Waiting.{IsNextAt}
+use Rattle.p8_ledger.specs.Waiting.{test_in, IsNextAt}
 use Rattle.p8_ledger.specs.declared.due.Due.{Due}
 use Rattle.p8_ledger.specs.Records.{Record, turns, said}
 
@@ -44,6 +44,15 @@ pub record Suits (sayings : List Next) (n clock : ℕ) (due : Due) : Type 0 wher
 abbrev pub SuitsIf : List Next → (n clock : ℕ) → Option Due → Type 0
 SuitsIf sayings n clock None = Unit {0}
 SuitsIf sayings n clock (Some due) = Suits sayings n clock due
+
+-- an access that is no wait is said to come at this clock
+abbrev pub IsPlain : Next → (clock : ℕ) → Type 0
+IsPlain (At earliest access) clock = (earliest ≡ clock) × (test_in access ≡ None)
+IsPlain Quiet clock = ⊥
+IsPlain (More bound) clock = ⊥
+
+abbrev pub IsPlainIn : List Next → (n clock : ℕ) → Type 0
+IsPlainIn sayings n clock = (said : Next) → slice_get sayings n ≡ Some said → IsPlain said clock
 
 -- what is said has accesses that a life makes
 abbrev pub AllMade : List Next → Type 0

@@ -1,8 +1,11 @@
 // The value that keeps where a record stands, and makes its turns.
 ghost use Rattle.std.specs.Prelude.{Bool, ◌≡◌, ◌<◌, ◌≤◌, ◌+◌, ◌^◌, ◌⊎◌, ◌∷◌, ◌++◌, [], ℕ, List, Some, None, true, Option, length, reverse, slice_get, slice_index, IfOk, IfSome, MatchOption, IsTrue, ◌↔◌};
 ghost use Rattle.p8_access.specs.declared.kinds.Access.TheVariants.{PinsIn};
+ghost use Rattle.p8_access.specs.declared.kinds.Access.{Access};
+ghost use Rattle.p8_access.specs.declared.kinds.Origin.{Origin};
 ghost use Rattle.p8_access.specs.declared.kinds.Test.{Test};
-ghost use Rattle.p8_access.specs.declared.lives.Next.TheVariants.{More};
+ghost use Rattle.p8_access.specs.declared.lives.Next.TheVariants.{At, More};
+ghost use Rattle.p8_access.specs.declared.states.CogState.TheVariants.{Running};
 ghost use Rattle.p8_access.specs.Lives.{IsMade, IsMadeNext, announced_by};
 ghost use Rattle.p8_access.specs.Proper.{IsProper, IsProperOrigin, Fits};
 ghost use Rattle.p8_access.specs.Worlds.{World, level_at};
@@ -19,14 +22,14 @@ ghost use Rattle.p8_region.specs.Bounded.{bounded};
 ghost use Rattle.p8_ledger.specs.declared.steps.Step.TheVariants.{Took, Said};
 ghost use Rattle.p8_ledger.specs.Records.{Record, turns, said, IsTrueOf, Owes, HasFront, IsLeastFront, NoFront};
 ghost use Rattle.p8_ledger.specs.Turns.{AreProper, is_prop-AreProper};
-ghost use Rattle.p8_ledger.specs.Dues.{IsDueAt, Suits, SuitsIf, AllMade, is_prop-AllMade};
+ghost use Rattle.p8_ledger.specs.Dues.{IsDueAt, Suits, SuitsIf, IsPlain, IsPlainIn, AllMade, is_prop-AllMade};
 ghost use Rattle.std.proofs.Props.{props};
 
 use crate::due::{Due, first_access};
 use crate::fronts::{Front, Fronts, NEVER, first_front, front_of};
 use crate::outcome::{Ended, History, Limits};
 use crate::start::Start;
-use crate::waits::{is_timely, next_line, wake_clock};
+use crate::waits::{is_timely, is_wait, next_line, wake_clock};
 use p8_access::{Access, Boot, CogState, Key, Next, Ram, Turn};
 use p8_hub::Hub;
 use p8_pins::{PinScript, Span};
@@ -472,10 +475,72 @@ impl Ledger {
         }
     }
 
-    /// Makes the turn of the cog with the least front, whichever it is. `script` is that of the run. It waits for
-    /// nobody and takes no memory.
+    /// The least front, where there is room for a turn and that front is an access of a running cog that is no wait: so it is for most turns.
     #[inline(always)]
-    pub fn take_first(&mut self, script: &PinScript) -> First
+    fn plain(&self) -> Option<Key>
+        ensures suits { IfSome result (λ key. (key.cog < 8) × (key.clock < 2 ^ 61) × (length self.now.turns.list < self.now.turns.room) × IsPlainIn self.now.sayings key.cog key.clock) }
+        ensures least { (w : World) (r : Record) → Found w self.now r → IfSome result (λ key. ((origin : Origin) × (cog_state w (turns r) key.cog ≡ Running origin)) × IsLeastFront w r key) }
+    {
+        if self.turns.len() as u64 >= self.limits.turns {
+            return None;
+        }
+        let key = first_front(&self.fronts.clocks);
+        if key.clock >= self.limits.clocks {
+            return None;
+        }
+        match self.hub.state(key.cog) {
+            CogState::Running { .. } => self.plain_at(key),
+            _ => None,
+        }
+    }
+
+    /// A key, where its cog has said a plain access at its clock.
+    #[inline(always)]
+    fn plain_at(&self, key: Key) -> Option<Key>
+        requires { key.cog < 8 }
+        ensures { IfSome result (λ it. (it ≡ key) × IsPlainIn self.now.sayings key.cog key.clock) }
+    {
+        if is_plain(&self.sayings[key.cog as usize], key.clock) {
+            Some(key)
+        } else {
+            None
+        }
+    }
+
+    /// Makes the turn of an access where it stands among the sayings, from which it is copied into the log alone.
+    #[inline(always)]
+    fn make_said(&mut self, script: &PinScript, key: Key) -> Turn
+        requires cog { key.cog < 8 }
+        requires clock { key.clock < 2 ^ 61 }
+        requires room { length self.old.turns.list < self.old.turns.room }
+        requires plain { IsPlainIn self.old.sayings key.cog key.clock }
+        ensures key { result.key ≡ key }
+        ensures suits { Suits self.old.sayings key.cog key.clock (record { access = result.access; running = true }) }
+        ensures answer { (w : World) (r : Record) → script.now ≡ w.script → Found w self.old r → result.answer ≡ answer_to w (turns r) key result.access }
+        ensures made { HasMade self.old self.new result true }
+        ensures found { (w : World) (r : Record) → Found w self.old r → Extends asks w (turns r) result → FitsState true (cog_state w (turns r) key.cog) → Found w self.new (Took result ∷ r) }
+    {
+        let access = access_in(&self.sayings[key.cog as usize]);
+        let levels = levels(script, access, key.clock, &self.span);
+        let answer = self.hub.answer(key, access, levels);
+        let turn = Turn {
+            key,
+            access: *access,
+            answer,
+        };
+        self.sayings[key.cog as usize] = Next::More {
+            bound: key.clock + 1,
+        };
+        self.fronts
+            .settle(&self.hub, &self.sayings, &turn, self.limits.clocks);
+        add(&mut self.turns, turn);
+        turn
+    }
+
+    /// Makes the turn of the cog with the least front, whatever stands there. It is not inlined, so that no value of it takes a register of
+    /// the processor from the turns that are plain.
+    #[inline(never)]
+    fn take_any(&mut self, script: &PinScript) -> First
         ensures decides { (w : World) (r : Record) → script.now ≡ w.script → Found w self.old r → DecidesFirst w r result }
         ensures found { (w : World) (r : Record) → script.now ≡ w.script → Found w self.old r → Found w self.new (after_first result r) }
         ensures advances { Advances self.old self.new result }
@@ -495,6 +560,30 @@ impl Ledger {
                     }
                 }
             },
+        }
+    }
+
+    /// Makes the turn of the cog with the least front, whichever it is. `script` is that of the run. It waits for
+    /// nobody and takes no memory.
+    #[inline(always)]
+    pub fn take_first(&mut self, script: &PinScript) -> First
+        ensures decides { (w : World) (r : Record) → script.now ≡ w.script → Found w self.old r → DecidesFirst w r result }
+        ensures found { (w : World) (r : Record) → script.now ≡ w.script → Found w self.old r → Found w self.new (after_first result r) }
+        ensures advances { Advances self.old self.new result }
+    {
+        match self.plain() {
+            // In a variable of its own, since a result that a call has written is kept in memory on the other way as well.
+            None => {
+                let first = self.take_any(script);
+                first
+            }
+            Some(key) => {
+                let turn = self.make_said(script, key);
+                First::Done {
+                    turn,
+                    running: true,
+                }
+            }
         }
     }
 
@@ -581,5 +670,34 @@ fn said_at(said: Next, clock: u64) -> Option<Access>
             }
         }
         Next::Quiet | Next::More { .. } => None,
+    }
+}
+
+/// The access that is said.
+#[inline(always)]
+fn access_in(said: &Next) -> &Access
+    requires announced { (asked : ℕ × Access) × (announced_by said.now ≡ Some asked) }
+    requires made { IsMadeNext said.now }
+    ensures said { (earliest : ℕ) × (said.now ≡ At earliest result.now) }
+    ensures made { IsMade result.now }
+    ensures proper { IsProper result.now }
+{
+    match said {
+        Next::At { access, .. } => access,
+        Next::Quiet | Next::More { .. } => unreachable!(),
+    }
+}
+
+/// Whether an access is said to come at just this clock, and is no wait.
+#[inline(always)]
+fn is_plain(said: &Next, clock: u64) -> bool
+    ensures { IsTrue result ↔ IsPlain said.now clock }
+{
+    match said {
+        Next::At {
+            clock: earliest,
+            access,
+        } => *earliest == clock && !is_wait(access),
+        Next::Quiet | Next::More { .. } => false,
     }
 }

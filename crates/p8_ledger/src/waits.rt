@@ -1,5 +1,5 @@
 // The clocks at which waits may end.
-ghost use Rattle.std.specs.Prelude.{◌≡◌, ◌<◌, ◌≤◌, ◌^◌, ℕ, List, Some, MatchOption, IfSome, IsTrue, ◌↔◌};
+ghost use Rattle.std.specs.Prelude.{◌≡◌, ◌<◌, ◌≤◌, ◌^◌, ℕ, List, Some, None, false, MatchOption, IfSome, IsTrue, ◌↔◌};
 ghost use Rattle.p8_access.specs.declared.order.Turn.{Turn};
 ghost use Rattle.p8_access.specs.Worlds.{World};
 ghost use Rattle.p8_hub.specs.Standing.{IsHub};
@@ -17,6 +17,17 @@ pub fn test_of(access: Access) -> Option<Test>
     match access {
         Access::Wait { test } => Some(test),
         _ => None,
+    }
+}
+
+/// Whether an access is a wait.
+#[inline]
+pub fn is_wait(access: &Access) -> bool
+    ensures { (result ≡ false) ↔ (test_in access.now ≡ None) }
+{
+    match access {
+        Access::Wait { .. } => true,
+        _ => false,
     }
 }
 
