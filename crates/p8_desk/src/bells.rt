@@ -2,13 +2,13 @@
 //
 // A thread that gets an answer which names another cog rings that cog's bell: it comes next until it has said something or
 // made a turn, so nobody else has to ring for it. A thread whose cog doesn't come next, and whose life has nothing to do
-// meanwhile, looks at its bell for some microseconds and then sleeps there. It stills the bell before it tries again, so
-// what a ring was for before that is seen by the try.
+// meanwhile, looks at its bell, lets other threads run, looks once more and then sleeps there. It stills the bell before
+// it tries again, so what a ring was for before that is seen by the try.
 ghost use Rattle.std.specs.Prelude.{◌≡◌, ◌<◌, ◌+◌, ◌*◌};
 
 use crate::rule::{Board, Place, Rings};
-use std::hint::spin_loop;
 use std::sync::Wait;
+use std::thread::yield_now;
 use std::time::Duration;
 
 /// How many words the table has: the lock word, the count of turns, and a bell for each cog.
@@ -23,12 +23,9 @@ const RUNG: u64 = 1;
 /// The bell is still, and its thread sleeps there.
 const ASLEEP: u64 = 2;
 
-/// How often a thread looks at a word before it sleeps: for a microsecond or two.
-const LOOKS: u32 = 20;
-
 /// How many microseconds a thread sleeps at most whose cog doesn't come next. Then it looks again, since no clause says that
-/// a bell is rung.
-pub const TURN_SLEEP: u64 = 1_000;
+/// a bell is rung. A shorter sleep would cost more: each one sets a timer of the system.
+pub const TURN_SLEEP: u64 = 10_000;
 
 /// How many microseconds a thread sleeps at most that finds the lock word held, for which no bell is rung.
 const LOCK_SLEEP: u64 = 50;
@@ -63,17 +60,16 @@ pub fn ring_all(board: &Board, seat: &mut Place)
     }
 }
 
-/// Looks at a word for some microseconds, until it has another value. Answers whether it came to have one.
+/// Looks at a word, and where it has this value still, once more after other threads could run. Answers whether it came to
+/// have another one.
 fn has_changed(board: &Board, word: usize, from: u64) -> bool
     requires { word < board.now.table_id.words }
 {
-    for _ in 0..LOOKS {
-        if board.peek(word) != from {
-            return true;
-        }
-        spin_loop();
+    if board.peek(word) != from {
+        return true;
     }
-    false
+    yield_now();
+    board.peek(word) != from
 }
 
 /// Sleeps at a bell that is still, until it is rung or so many microseconds are over.

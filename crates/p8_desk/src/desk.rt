@@ -78,7 +78,7 @@ impl Desk {
     }
 
     /// Waits while another cog comes next, where the life of the pass's cog has nothing to do meanwhile: until the cog's
-    /// bell is rung, or a millisecond is over.
+    /// bell is rung, or ten milliseconds are over.
     fn wait_for_turn<R: Wait>(&self, rt: &R, pass: &mut CogPass)
         requires { Owns self.now pass.old }
         ensures { pass.new ≡ pass.old }
