@@ -1,2 +1,3 @@
 mod Examples
 pub mod Firsts
+pub mod Failing

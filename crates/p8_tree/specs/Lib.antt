@@ -14,5 +14,6 @@ pub mod Names
 pub mod Proper
 -- Facts on these for the proofs of the crates above: internal.
 pub mod Bridges
--- What a refusal is.
+-- Why a source is refused, and what is told of it.
+pub mod Refusals
 pub mod Faults

@@ -98,6 +98,11 @@ pub data IsLabel : List ℕ → Type 0 where
   plain : {n : List ℕ} → IsName n → IsLabel n
   behind_colon : {n : List ℕ} → IsName n → IsLabel (58 ∷ n)
 
+-- whether a label is local: it begins with a colon
+abbrev pub is_local : List ℕ → Bool
+is_local [] = false
+is_local (c ∷ cs) = c == 58
+
 -- the name of a variable: RESULT too, and in DAT that of a local label
 pub data IsVariableName (dat : Bool) : List ℕ → Type 0 where
   plain_name : {n : List ℕ} → IsName n → IsVariableName dat n

@@ -6,3 +6,7 @@ use Rattle.p8_tree.specs.Sources.{Source}
 pub record NamedSource : Type 0 where
   pub name : List ℕ
   pub tree : Source
+
+-- how many files a project may have
+abbrev pub most_files : ℕ
+most_files = 255

@@ -7,15 +7,17 @@ mod faults;
 mod laws;
 mod places;
 mod projects;
+mod refusal;
 mod sequences;
 mod sources;
 mod statements;
 
 pub use expressions::{Call, Expr, ExprKind, Item, Target};
-pub use faults::Fault;
+pub use faults::{Fault, first_of_two};
 pub use laws::{FaultSet, earlier_is_first, first_of_file_is_first, one_first};
 pub use places::Place;
 pub use projects::{Project, ProjectFile};
+pub use refusal::{Refusal, refusal_name};
 pub use sequences::{List, Text};
 pub use sources::{
     Block, ConItem, DatBody, DatItem, DatLine, InstrLine, Method, ObjItem, SourceFile, VarItem,

@@ -1,5 +1,6 @@
 // Lists and texts that contracts see as lists.
 ghost use Rattle.std.specs.Prelude.{◌≡◌, ℕ, List, [], ◌∷◌, ◌++◌, ◌↔◌, IsTrue, OnOk, OnErr, IfOk, length};
+ghost use Rattle.p8_tree.specs.Names.{is_local};
 
 use std::alloc::{AllocError, Global};
 use std::marker::Model;
@@ -131,6 +132,16 @@ impl Text {
         ensures { result.now ≡ self.now }
     {
         self.bytes.as_slice()
+    }
+
+    /// Whether this is the name of a local label: it begins with `:`.
+    pub fn is_local(&self) -> bool
+        ensures { result ≡ is_local self.now }
+    {
+        match self.bytes.as_slice() {
+            [first, ..] => *first == b':',
+            [] => false,
+        }
     }
 
     /// Whether two texts have the same bytes.
