@@ -10,16 +10,18 @@ use Rattle.p8_lexer.specs.declared.piece.Cut.{Cut}
 use Rattle.p8_lexer.specs.declared.piece.PieceKind.{PieceKind}
 use Rattle.p8_lexer.specs.declared.piece.PieceKind.TheVariants.{Blank, LineComment, Comment, DocComment, Token as TokenOf}
 use Rattle.p8_lexer.specs.declared.token.Token.{Token}
-use Rattle.p8_lexer.specs.declared.token.LexFault.{LexFault}
+use Rattle.p8_tree.specs.declared.faults.Fault.{Fault}
 use Rattle.p8_lexer.specs.declared.token.TokenKind.TheVariants.{Name, Number, Float, Str, Symbol, LineEnd}
-use Rattle.p8_lexer.specs.declared.refusal.Refusal.{Refusal}
-use Rattle.p8_lexer.specs.declared.refusal.Refusal.TheVariants.{BadByte, BadNumber, OpenComment, OpenString, NameTooLong, FileTooLong}
+use Rattle.p8_tree.specs.declared.refusal.Refusal.{Refusal}
+use Rattle.p8_tree.specs.declared.refusal.Refusal.TheVariants.{BadByte, BadNumber, OpenComment, OpenString, NameTooLong, FileTooLong}
 use Rattle.p8_tree.specs.declared.places.Place.{Place}
 use Rattle.p8_lexer.specs.Characters.{is_utf16, units, text_of, ends_in_half}
 use Rattle.p8_lexer.specs.Places.{start, place_of}
-use Rattle.p8_lexer.specs.Refusals.{refusal_number}
+use Rattle.p8_tree.specs.Refusals.{refusal_number}
+use Rattle.p8_tree.specs.Faults.{fault}
+use Rattle.p8_tree.proofs.Failing.{same_fault}
 use Rattle.p8_lexer.specs.Lexing.{Is, Cuts, IsGood, Piece, CutsUpTo, IsStuck, token_of, longest_file, AreTokens, IsRefused, IsFault, too_long, no_tokens}
-use Rattle.p8_lexer.specs.Cutting.{IsCut, piece_tokens, fault_of}
+use Rattle.p8_lexer.specs.Cutting.{IsCut, piece_tokens}
 use Rattle.p8_lexer.proofs.Units.{units-length}
 use Rattle.p8_lexer.proofs.Pieces.{class_of, may, begins, class_at, after_mark}
 use Rattle.p8_lexer.proofs.Symbols.{spelling_length, symbol_length}
@@ -90,12 +92,6 @@ make_piece k b e = record { kind = k; begin = b; end = e }
 
 same_piece : (p q : Piece) → p.kind ≡ q.kind → p.begin ≡ q.begin → p.end ≡ q.end → p ≡ q
 same_piece p q a b c = ap (λ k. make_piece k p.begin p.end) a ∙ ap (λ b. make_piece q.kind b p.end) b ∙ ap (make_piece q.kind q.begin) c
-
-abbrev make_fault : ℕ → Place → LexFault
-make_fault n p = record { number = n; place = p }
-
-same_fault : (f g : LexFault) → f.number ≡ g.number → f.place ≡ g.place → f ≡ g
-same_fault f g a b = ap (λ n. make_fault n f.place) a ∙ ap (make_fault g.number) b
 
 one_way : (text : List ℕ) (ps qs : List Piece) (at end m : ℕ) → Stops (drop end text) → Stops (drop m text) → CutsUpTo text at ps end → CutsUpTo text at qs m → (ps ≡ qs) × (end ≡ m)
 unfolding Stops
@@ -249,7 +245,7 @@ same_refusal bytes r q a b (ps, at, cut, stuck, s) (qs, m, cut', stuck', t) =
     let same = one_way text ps qs 0 at m (stuck_stops half (drop at text) r w) (stuck_stops half (drop m text) q v) cut cut' in
     (one_reason r q half (drop at text) w (subst (λ m. Why half (drop m text) q) (sym same.1) v), s ∙ ap (place_of text) same.1 ∙ sym t)
 
-pub one_fault : (bytes : List ℕ) (f g : LexFault) → IsFault bytes f → IsFault bytes g → f ≡ g
+pub one_fault : (bytes : List ℕ) (f g : Fault) → IsFault bytes f → IsFault bytes g → f ≡ g
 one_fault bytes f g (too_long long n p) (too_long long' m q) = same_fault f g (n ∙ sym m) (p ∙ sym q)
 one_fault bytes f g (too_long long n p) (no_tokens short q d k) = absurd (omega arith)
 one_fault bytes f g (no_tokens short r e h) (too_long long n p) = absurd (omega arith)
@@ -281,7 +277,7 @@ tokens_or_refusal bytes tokens r place (whole, (ps, cut, e)) (qs, m, cut', stuck
     let same = one_way text ps qs 0 (length text) m (end_stops text) (stuck_stops (ends_in_half bytes) (drop m text) r w) cut cut' in
     end_not_stuck r (subst (λ t. Why false t r) (ap (λ m. drop m text) (sym same.1) ∙ drop-length text) (subst (λ b. Why b (drop m text) r) whole w))
 
-pub never_both : (bytes : List ℕ) (tokens : List Token) (fault : LexFault) → AreTokens bytes tokens → length bytes ≤ longest_file → IsFault bytes fault → ⊥
+pub never_both : (bytes : List ℕ) (tokens : List Token) (fault : Fault) → AreTokens bytes tokens → length bytes ≤ longest_file → IsFault bytes fault → ⊥
 never_both bytes tokens fault are short (too_long long n p) = omega arith
 never_both bytes tokens fault are short (no_tokens short' r d h) = tokens_or_refusal bytes tokens r fault.place are h
 
@@ -306,11 +302,11 @@ pub half_refusal : (bytes : List ℕ) (at : ℕ) (tokens : List Token) (place : 
 half_refusal bytes at tokens place s e half p =
     (s.pieces, at, s.cut, inr (ap (λ m. drop m (text_of bytes)) e ∙ drop-length (text_of bytes), half), p)
 
-pub length_fault : (bytes : List ℕ) (fault : LexFault) → longest_file < length bytes → fault ≡ fault_of FileTooLong start → IsFault bytes fault
-length_fault bytes fault long e = too_long long (ap (λ f. f.number) e) (ap (λ f. f.place) e)
+pub length_fault : (bytes : List ℕ) (f : Fault) → longest_file < length bytes → f ≡ fault FileTooLong start → IsFault bytes f
+length_fault bytes f long e = too_long long (ap (λ g. g.number) e) (ap (λ g. g.place) e)
 
-pub fault_is : (bytes : List ℕ) (r : Refusal) (place : Place) (fault : LexFault) → length bytes ≤ longest_file → fault ≡ fault_of r place → IsRefused bytes r place → IsFault bytes fault
-fault_is bytes r place fault short e h = no_tokens short r (ap (λ f. f.number) e) (subst (IsRefused bytes r) (sym (ap (λ f. f.place) e)) h)
+pub fault_is : (bytes : List ℕ) (r : Refusal) (place : Place) (f : Fault) → length bytes ≤ longest_file → f ≡ fault r place → IsRefused bytes r place → IsFault bytes f
+fault_is bytes r place f short e h = no_tokens short r (ap (λ g. g.number) e) (subst (IsRefused bytes r) (sym (ap (λ g. g.place) e)) h)
 
 -- a piece has characters
 pub positive : (k : PieceKind) (text : List ℕ) (n : ℕ) → n ≤ length text → Is k text n → 0 < n

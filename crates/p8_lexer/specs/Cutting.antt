@@ -2,14 +2,12 @@
 use Rattle.std.specs.Prelude.{ℕ, ◌+◌, ◌*◌, ◌<◌, ◌≤◌, Bool, false, if◌then◌else◌, List, [], ◌∷◌, length, Option, Some, None, MatchOption, Result, Ok, Err, MatchResult}
 use Rattle.p8_tree.specs.declared.places.Place.{Place}
 use Rattle.p8_lexer.specs.declared.token.Token.{Token}
-use Rattle.p8_lexer.specs.declared.token.LexFault.{LexFault}
-use Rattle.p8_lexer.specs.Refusals.{refusal_number}
 use Rattle.p8_lexer.specs.declared.piece.Cut.{Cut}
 use Rattle.p8_lexer.specs.declared.piece.PieceKind.{PieceKind}
 use Rattle.p8_lexer.specs.declared.piece.PieceKind.TheVariants.{Token as TokenOf}
 use Rattle.p8_lexer.specs.declared.token.TokenKind.TheVariants.{Symbol}
-use Rattle.p8_lexer.specs.declared.refusal.Refusal.{Refusal}
-use Rattle.p8_lexer.specs.declared.refusal.Refusal.TheVariants.{OpenComment}
+use Rattle.p8_tree.specs.declared.refusal.Refusal.{Refusal}
+use Rattle.p8_tree.specs.declared.refusal.Refusal.TheVariants.{OpenComment}
 use Rattle.p8_lexer.specs.Lexing.{Is, Cuts, IsGood, IsStuck}
 
 -- the greatest number at which a fact holds, among those up to a limit
@@ -51,6 +49,3 @@ piece_tokens utf16 at place cut = tokens_of_kind cut.kind
     tokens_of_kind : PieceKind → List Token
     tokens_of_kind (TokenOf k) = record { place = place; kind = k; begin = offset at; end = offset (at + cut.length) } ∷ []
     tokens_of_kind _ = []
-
-abbrev pub fault_of : Refusal → Place → LexFault
-fault_of refusal place = record { number = refusal_number refusal; place = place }

@@ -2,8 +2,6 @@
 -- profile). A text is pieces, one after the other, each as long as a piece can be there. Its tokens are its pieces
 -- but for blanks and comments, and a text that can't be cut so is refused where the cutting ends.
 use Rattle.std.specs.Prelude.{◌≡◌, ◌≢◌, ℕ, ◌+◌, ◌-◌, ◌*◌, ◌^◌, ◌<◌, ◌≤◌, ◌⊎◌, Bool, false, IsTrue, ◌==◌, nat_le, not, ◌||◌, ◌&&◌, List, [], ◌∷◌, ◌++◌, length, take, drop, slice_index, slice_get, if◌then◌else◌, Option, Some, None, codes, filter_map}
-use Rattle.p8_words.specs.declared.failure.Fail.{Fail}
-use Rattle.p8_words.specs.declared.failure.Fail.TheVariants as fail
 use Rattle.p8_lexer.specs.declared.piece.PieceKind.{PieceKind}
 use Rattle.p8_lexer.specs.declared.piece.PieceKind.TheVariants.{Blank, LineComment, Comment, DocComment, Token as TokenOf}
 use Rattle.p8_lexer.specs.declared.piece.Radix.{Radix}
@@ -12,14 +10,14 @@ use Rattle.p8_lexer.specs.declared.piece.Class.{Class}
 use Rattle.p8_lexer.specs.declared.piece.Class.TheVariants as class
 use Rattle.p8_lexer.specs.declared.token.Token.{Token}
 use Rattle.p8_lexer.specs.declared.token.TokenKind.TheVariants.{Name, Number, Float, Str, Symbol, LineEnd}
-use Rattle.p8_lexer.specs.declared.token.LexFault.{LexFault}
-use Rattle.p8_lexer.specs.declared.refusal.Refusal.{Refusal}
-use Rattle.p8_lexer.specs.declared.refusal.Refusal.TheVariants.{BadByte, BadNumber, OpenComment, OpenString, NameTooLong, FileTooLong}
+use Rattle.p8_tree.specs.declared.faults.Fault.{Fault}
+use Rattle.p8_tree.specs.declared.refusal.Refusal.{Refusal}
+use Rattle.p8_tree.specs.declared.refusal.Refusal.TheVariants.{BadByte, BadNumber, OpenComment, OpenString, NameTooLong, FileTooLong}
 use Rattle.p8_tree.specs.declared.places.Place.{Place}
 use Rattle.p8_lexer.specs.declared.word.Word.{Word}
 use Rattle.p8_lexer.specs.Characters.{text_of, ends_in_half, offset_of}
 use Rattle.p8_lexer.specs.Places.{start, place_of}
-use Rattle.p8_lexer.specs.Refusals.{refusal_number}
+use Rattle.p8_tree.specs.Refusals.{refusal_number}
 use Rattle.p8_lexer.specs.Words.{spelling, symbols}
 
 -- characters: 9 is tab, 10 LF, 13 CR, 32 space, 34 `"`, 37 `%`, 39 `'`, 43 `+`, 45 `-`, 46 `.`, 48 to 57 the digits,
@@ -197,11 +195,6 @@ IsRefused bytes refusal place =
     (ps : List Piece) × (at : ℕ) × CutsUpTo (text_of bytes) 0 ps at × IsStuck refusal (ends_in_half bytes) (drop at (text_of bytes)) × (place ≡ place_of (text_of bytes) at)
 
 -- What a lexer tells of a file that is refused: it's too long, which comes first, or it has no tokens.
-pub data IsFault (bytes : List ℕ) (fault : LexFault) : Type 0 where
+pub data IsFault (bytes : List ℕ) (fault : Fault) : Type 0 where
   too_long : longest_file < length bytes → fault.number ≡ refusal_number FileTooLong → fault.place ≡ start → IsFault bytes fault
   no_tokens : length bytes ≤ longest_file → (refusal : Refusal) → fault.number ≡ refusal_number refusal → IsRefused bytes refusal fault.place → IsFault bytes fault
-
--- a fact of a refusal, which says nothing of want of memory
-abbrev pub IfRefused : (LexFault → Type 0) → Fail LexFault → Type 0
-IfRefused P (fail.Refused fault) = P fault
-IfRefused P fail.NoMemory = Unit {0}

@@ -1,7 +1,6 @@
 -- What public contracts cite.
 pub mod Characters
 pub mod Places
-pub mod Refusals
 pub mod Words
 pub mod Lexing
 pub mod Pieces

@@ -14,9 +14,9 @@ use crate::comment::{comment_end, doc_comment_end};
 use crate::lookup::named;
 use crate::number::{float_tail_end, mark_length, number};
 use crate::piece::{Class, Cut, PieceKind, Radix};
-use crate::refusal::Refusal;
 use crate::run::{digits_end, is_at, is_digit, is_in, is_letter, run_end};
 use crate::token::TokenKind;
+use p8_tree::Refusal;
 
 const NAME_LIMIT: usize = 30;
 

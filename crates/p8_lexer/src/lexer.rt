@@ -2,17 +2,17 @@
 
 ghost use Rattle.std.specs.Prelude.{◌≡◌, ◌+◌, ◌*◌, ◌<◌, ◌≤◌, ◌^◌, ◌++◌, ℕ, List, if◌then◌else◌, length, IfOk, IfErr, OnOk};
 ghost use Rattle.p8_lexer.specs.declared.token.Token as token;
-ghost use Rattle.p8_lexer.specs.declared.token.LexFault as lex_fault;
-ghost use Rattle.p8_lexer.specs.Lexing.{longest_file, AreTokens, IsFault, IfRefused};
-ghost use Rattle.p8_lexer.specs.Cutting.{piece_tokens, fault_of};
+ghost use Rattle.p8_tree.specs.declared.faults.Fault.{Fault};
+ghost use Rattle.p8_tree.specs.Faults.{IfRefused};
+ghost use Rattle.p8_lexer.specs.Lexing.{longest_file, AreTokens, IsFault};
+ghost use Rattle.p8_lexer.specs.Cutting.{piece_tokens};
 
 use crate::characters::{Characters, ends_in_half, is_utf16};
 use crate::cut::first_cut;
 use crate::piece::{Cut, PieceKind};
 use crate::place::{START, place_at};
-use crate::refusal::Refusal;
-use crate::token::{LexFault, Token, Tokens};
-use p8_tree::Place;
+use crate::token::{Token, Tokens};
+use p8_tree::{Fault, Place, Refusal};
 use p8_words::Fail;
 use std::alloc::{AllocError, Global};
 
@@ -24,14 +24,14 @@ const LONGEST_FILE: usize = 1_048_576;
 /// A file of at most 1,048,576 bytes has either tokens or a refusal, and only one answer of its kind. The refusals are
 /// those of the numbers 1 to 5, each at the first place of the text where no good piece can be cut off. A longer file is
 /// refused by 30, whatever stands in it.
-pub fn lex(alloc: Global, bytes: &[u8]) -> Result<Tokens, Fail<LexFault>>
+pub fn lex(alloc: Global, bytes: &[u8]) -> Result<Tokens, Fail<Fault>>
     ensures tokens { IfOk result (AreTokens bytes.now) }
     ensures short { OnOk result (length bytes.now ≤ longest_file) }
-    ensures accepted { OnOk result ((fault : lex_fault.LexFault) → ¬ IsFault bytes.now fault) }
+    ensures accepted { OnOk result ((fault : Fault) → ¬ IsFault bytes.now fault) }
     ensures refused { IfErr result (IfRefused (IsFault bytes.now)) }
 {
     if bytes.len() > LONGEST_FILE {
-        return Err(Fail::Refused(fault(Refusal::FileTooLong, START)));
+        return Err(Fail::Refused(Refusal::FileTooLong.at(START)));
     }
     let text = Characters::of_file(bytes);
     let utf16 = is_utf16(bytes);
@@ -45,22 +45,13 @@ pub fn lex(alloc: Global, bytes: &[u8]) -> Result<Tokens, Fail<LexFault>>
                 place = place_at(&text, at, at + cut.length, place);
                 at += cut.length;
             }
-            Err(refusal) => return Err(Fail::Refused(fault(refusal, place))),
+            Err(refusal) => return Err(Fail::Refused(refusal.at(place))),
         }
     }
     if ends_in_half(bytes) {
-        return Err(Fail::Refused(fault(Refusal::BadByte, place)));
+        return Err(Fail::Refused(Refusal::BadByte.at(place)));
     }
     Ok(Tokens::new(tokens))
-}
-
-fn fault(refusal: Refusal, place: Place) -> LexFault
-    ensures { result ≡ fault_of refusal place }
-{
-    LexFault {
-        number: refusal.number(),
-        place,
-    }
 }
 
 // Adds the token that a piece is, unless it's a blank or a comment.
@@ -96,10 +87,10 @@ fn offset(utf16: bool, at: usize) -> usize
 /// A file of at most 1,048,576 bytes never has both tokens and a refusal, and no file has two lists of tokens or two
 /// refusals.
 pub fn one_answer()
-    ensures never_both { (bytes : List ℕ) (tokens : List token.Token) (fault : lex_fault.LexFault)
+    ensures never_both { (bytes : List ℕ) (tokens : List token.Token) (fault : Fault)
         → AreTokens bytes tokens → length bytes ≤ longest_file → ¬ IsFault bytes fault }
     ensures one_list { (bytes : List ℕ) (some others : List token.Token)
         → AreTokens bytes some → AreTokens bytes others → some ≡ others }
-    ensures one_fault { (bytes : List ℕ) (one another : lex_fault.LexFault)
+    ensures one_fault { (bytes : List ℕ) (one another : Fault)
         → IsFault bytes one → IsFault bytes another → one ≡ another }
 {}

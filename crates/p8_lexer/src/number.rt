@@ -10,9 +10,9 @@ ghost use Rattle.p8_lexer.specs.declared.token.TokenKind.TheVariants as token;
 
 use crate::characters::Characters;
 use crate::piece::{Class, Cut, PieceKind, Radix};
-use crate::refusal::Refusal;
 use crate::run::{digits_end, is_in};
 use crate::token::TokenKind;
+use p8_tree::Refusal;
 
 /// How many characters stand before the digits.
 pub fn mark_length(radix: Radix) -> usize

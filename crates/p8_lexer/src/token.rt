@@ -1,10 +1,8 @@
-// Tokens, and why there are none.
+// Tokens.
 
 ghost use Rattle.std.specs.Prelude.{◌≡◌, IsTrue, ◌↔◌, [], length, slice_get};
 
 use p8_tree::Place;
-use std::error::Error;
-use std::fmt::{self, Display, Formatter, Write};
 use std::marker::Model;
 
 /// What a token is.
@@ -94,27 +92,3 @@ impl Tokens {
         &self.items
     }
 }
-
-/// Why a source has no tokens: the first refusal, and where it stands.
-///
-/// `number` is that of a [`Refusal`](crate::Refusal): 1 to 5, or 30.
-#[derive(Clone, Copy, Debug, PartialEq, Eq)]
-pub struct LexFault {
-    pub number: u8,
-    pub place: Place,
-}
-
-impl Display for LexFault {
-    fn fmt<W: Write>(&self, f: &mut Formatter<W>) -> Result<(), fmt::Error> {
-        write!(
-            f,
-            "{}:{}: {} {}",
-            self.place.line,
-            self.place.column,
-            self.number,
-            crate::refusal::refusal_name(self.number)
-        )
-    }
-}
-
-impl Error for LexFault {}

@@ -1,6 +1,6 @@
 use Rattle.std.proofs.Common.{◌≡◌, ◌∙◌, ◌+◌, ◌++◌, length, drop, sym, ap, subst, false, arith}
 use Rattle.std.proofs.lemmas.List.{length-drop}
-use Rattle.p8_lexer.specs.declared.refusal.Refusal.TheVariants.{BadByte}
+use Rattle.p8_tree.specs.declared.refusal.Refusal.TheVariants.{BadByte}
 use Rattle.p8_lexer.specs.Characters.{text_of}
 use Rattle.p8_lexer.specs.Places.{place_of}
 use Rattle.p8_lexer.specs.Lexing.{IsStuck}
@@ -9,7 +9,7 @@ use Rattle.p8_lexer.proofs.Files.{one_further, text_short, whole, stuck_refusal,
 use Rattle.p8_lexer.proofs.lexer.lex.Goals as goal
 
 pub returns-then-bytes-gt-LONGEST_FILE-clause-refused : goal.returns-then-bytes-gt-LONGEST_FILE-clause-refused
-returns-then-bytes-gt-LONGEST_FILE-clause-refused c = length_fault c.args.bytes.now c.fault.result (omega arith) c.fault.ensures
+returns-then-bytes-gt-LONGEST_FILE-clause-refused c = length_fault c.args.bytes.now c.at.result (omega arith) c.at.ensures
 
 pub add-requires : goal.add-requires
 add-requires c =
@@ -49,14 +49,14 @@ returns-in-Err-clause-refused c =
     let bytes = c.args.bytes.now in
     let at = c.pieces.at in
     let rest = c.skip.ensures ∙ ap (drop at) c.of_file-text.ensures in
-    fault_is bytes c.in-Err.refusal c.pieces.place c.fault-in-Err.result (omega arith) c.fault-in-Err.ensures
+    fault_is bytes c.in-Err.refusal c.pieces.place c.at-in-Err.result (omega arith) c.at-in-Err.ensures
     (stuck_refusal bytes at c.pieces.tokens.items c.in-Err.refusal c.pieces.place c.pieces.invariant.so_far (subst (IsStuck c.in-Err.refusal false) rest c.in-Err.ensures) c.pieces.invariant.here)
 
 pub returns-then-ends_in_half-clause-refused : goal.returns-then-ends_in_half-clause-refused
 returns-then-ends_in_half-clause-refused c =
     let bytes = c.args.bytes.now in
     let end : c.pieces.at ≡ length (text_of bytes) = omega (arith, c.pieces-test.false, c.len.ensures, ap length c.of_file-text.ensures, c.pieces.invariant.within) in
-    fault_is bytes BadByte c.pieces.place c.fault-then-ends_in_half.result (omega arith) c.fault-then-ends_in_half.ensures
+    fault_is bytes BadByte c.pieces.place c.at-then-ends_in_half.result (omega arith) c.at-then-ends_in_half.ensures
     (half_refusal bytes c.pieces.at c.pieces.tokens.items c.pieces.place c.pieces.invariant.so_far end (sym c.if-ends_in_half.ensures) c.pieces.invariant.here)
 
 pub returns-clause-accepted : goal.returns-clause-accepted
