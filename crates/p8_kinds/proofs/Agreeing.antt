@@ -7,6 +7,7 @@ use Rattle.p8_tree.specs.Names.{result_word}
 use Rattle.p8_tree.specs.Expressions.{Tree, node, Form, Number, Str, Here, Var, Call, Unary, Binary, Assign, Change, Address, ObjectAddress, ObjConst, Built, Look, Variable, Named, Part, Memory, Register, Index, no_index, index, Bits, whole, bits, Item, single, range, Trees, no_trees, ◌▷◌, Items, no_items, ◌▸◌}
 use Rattle.p8_tree.specs.declared.faults.Fault.{Fault}
 use Rattle.p8_tree.specs.Faults.{fault}
+use Rattle.p8_tree.specs.declared.refusal.Refusal.TheVariants.{NotConstant}
 use Rattle.p8_kinds.specs.declared.meanings.Meaning.{Meaning}
 use Rattle.p8_kinds.specs.declared.meanings.Meaning.TheVariants as meaning_case
 use Rattle.p8_kinds.specs.Meanings.{Setting, meaning_of, value_of_meaning, address_of_meaning, given}
@@ -85,7 +86,7 @@ fault_of_constant_same s t object name p q h (Some meaning_case.Other) = refl
 own_same : (s t : Setting) (p : Place) (form : Form) → AgreeOnForm s t form → own_fault s p form ≡ own_fault t p form
 own_same s t p (Number n) h = refl
 own_same s t p (Str text) h = refl
-own_same s t p Here h = ap (λ here. unless here.address (fault 12 p)) h
+own_same s t p Here h = ap (λ here. unless here.address (fault NotConstant p)) h
 own_same s t p (Var v) h = ap (λ o. unless o (fault_of_variable s v)) (variable_same s t v h) ∙ ap (unless (value_of_variable t v)) (fault_of_variable_same s t v h)
 own_same s t p (Address v) h = ap (λ o. unless o (fault_of_variable s v)) (address_same s t v h) ∙ ap (unless (address_of t v)) (fault_of_variable_same s t v h)
 own_same s t p (Call trap object i method q args) h = ap Some (fault_of_call_same s t object method p q h.0)

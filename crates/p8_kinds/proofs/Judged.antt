@@ -6,11 +6,12 @@ use Rattle.std.proofs.Math.Logic.{⊎_elim}
 use Rattle.p8_tree.specs.declared.places.Place.{Place}
 use Rattle.p8_tree.specs.Expressions.{Tree, node, Form, Number, Str, Here, Var, Call, Unary, Binary, Assign, Change, Address, ObjectAddress, ObjConst, Built, Look, Variable, Named, Part, Memory, Register, Index, no_index, index, Bits, whole, bits, Item, single, range, Trees, no_trees, ◌▷◌, Items, no_items, ◌▸◌}
 use Rattle.p8_tree.specs.declared.faults.Fault.{Fault}
-use Rattle.p8_tree.specs.Faults.{IsFirstFault, fault}
+use Rattle.p8_tree.specs.Faults.{IsFirstFault, fault, with_further}
+use Rattle.p8_tree.specs.declared.refusal.Refusal.TheVariants.{NotConstant}
 use Rattle.p8_tree.proofs.Firsts.{IsFirstFault-along}
 use Rattle.p8_kinds.specs.Meanings.{Setting, meaning_of, value_of_meaning, address_of_meaning, given}
 use Rattle.p8_kinds.specs.Values.{value, value_of_form, value_of_register, fault_of_name, where_so, fault_of_variable, fault_of_call, own_fault, FaultIn, FaultInside, FaultInVariable, FaultInIndex, FaultInBits, FaultInItem, FaultInTrees, FaultInItems, HasValue, IsRefused}
-use Rattle.p8_kinds.specs.Verdicts.{with_further, verdict, verdict_of_form, fault_at, first_in_index, first_in_bits, first_in_item, first_in_trees, first_in_items}
+use Rattle.p8_kinds.specs.Verdicts.{verdict, verdict_of_form, fault_at, first_in_index, first_in_bits, first_in_item, first_in_trees, first_in_items}
 use Rattle.p8_kinds.proofs.Judging.{Tells, Judges, fault_told, further_told, two_told, is_one, one_told, judges, to_right, to_left, refused, refused_twice, value_or_one, constant_judged, judged_before, judged_between}
 
 -- a number, which has no fault
@@ -26,15 +27,15 @@ abbrev AtVariable : Setting → Variable → Type 0
 AtVariable s v = IsFirstFault (λ x. (Some (fault_of_variable s v) ≡ Some x) ⊎ FaultInVariable s v x) (fault_at s v)
 
 -- CONSTANT with one argument, and another built-in with one
-judged_one : (S : Fault → Type 0) (b : Bool) (p : Place) (r : Result ℕ Fault) (o : Option ℕ) → Judges r o S → Judges (if b then r else Err (with_further (fault 12 p) (result_err r))) (if b then o else None) (λ x. (where_so (not b) (fault 12 p) ≡ Some x) ⊎ (⊥ ⊎ S x))
+judged_one : (S : Fault → Type 0) (b : Bool) (p : Place) (r : Result ℕ Fault) (o : Option ℕ) → Judges r o S → Judges (if b then r else Err (with_further (fault NotConstant p) (result_err r))) (if b then o else None) (λ x. (where_so (not b) (fault NotConstant p) ≡ Some x) ⊎ (⊥ ⊎ S x))
 judged_one S true p r o h =
     judges S (λ x. (None ≡ Some x) ⊎ (⊥ ⊎ S x)) r o (λ x a. inr (inr a)) (λ x. ⊎_elim (λ e. absurd cc) (⊎_elim (λ b. absurd b) (λ a. a))) h
 judged_one S false p r o h =
-    refused (λ x. ⊥ ⊎ S x) (fault 12 p) (result_err r) (two_told (λ x. ⊥) S None (result_err r) (λ x b. b) (fault_told S r o h))
+    refused (λ x. ⊥ ⊎ S x) (fault NotConstant p) (result_err r) (two_told (λ x. ⊥) S None (result_err r) (λ x b. b) (fault_told S r o h))
 
-not_one : (S : Fault → Type 0) (b : Bool) (p : Place) (o : Option Fault) → Tells o S → Judges (Err (with_further (fault 12 p) o)) (if b then None else None) (λ x. (Some (fault 12 p) ≡ Some x) ⊎ S x)
-not_one S true p o t = refused S (fault 12 p) o t
-not_one S false p o t = refused S (fault 12 p) o t
+not_one : (S : Fault → Type 0) (b : Bool) (p : Place) (o : Option Fault) → Tells o S → Judges (Err (with_further (fault NotConstant p) o)) (if b then None else None) (λ x. (Some (fault NotConstant p) ≡ Some x) ⊎ S x)
+not_one S true p o t = refused S (fault NotConstant p) o t
+not_one S false p o t = refused S (fault NotConstant p) o t
 
 mutual
   pub judged : (s : Setting) (e : Tree) → Judges (verdict s e) (value s e) (FaultIn s e)
@@ -42,13 +43,13 @@ mutual
 
   pub judged_form : (s : Setting) (p : Place) (form : Form) → Judges (verdict_of_form s p form) (value_of_form s form) (λ x. (own_fault s p form ≡ Some x) ⊎ FaultInside s form x)
   judged_form s p (Number n) = no_fault n
-  judged_form s p (Str text) = one_fault (fault 12 p)
-  judged_form s p Here = value_or_one s.here.address (fault 12 p)
+  judged_form s p (Str text) = one_fault (fault NotConstant p)
+  judged_form s p Here = value_or_one s.here.address (fault NotConstant p)
   judged_form s p (Var (Named name no_index q)) = value_or_one (given value_of_meaning (meaning_of s name)) (fault_of_name (meaning_of s name) q)
   judged_form s p (Var (Named name (index e) q)) = (refl, at_variable s (Named name (index e) q))
   judged_form s p (Var (Part name size i q)) = (refl, at_variable s (Part name size i q))
   judged_form s p (Var (Memory size e i q)) = (refl, at_variable s (Memory size e i q))
-  judged_form s p (Var (Register address whole q)) = value_or_one (value_of_register s.here address) (fault 12 q)
+  judged_form s p (Var (Register address whole q)) = value_or_one (value_of_register s.here address) (fault NotConstant q)
   judged_form s p (Var (Register address (bits x) q)) = (refl, at_variable s (Register address (bits x) q))
   judged_form s p (Address (Named name no_index q)) = value_or_one (given address_of_meaning (meaning_of s name)) (fault_of_name (meaning_of s name) q)
   judged_form s p (Address (Named name (index e) q)) = (refl, at_variable s (Named name (index e) q))
@@ -62,20 +63,20 @@ mutual
   judged_form s p (Assign v operator e) =
       (refl, IsFirstFault-along (λ x. to_right) (λ x. to_left) (further_told (λ x. (Some (fault_of_variable s v) ≡ Some x) ⊎ FaultInVariable s v x) (FaultIn s e) (fault_at s v) (result_err (verdict s e)) (at_variable s v) (fault_told (FaultIn s e) (verdict s e) (value s e) (judged s e))))
   judged_form s p (Change v effect) = (refl, at_variable s v)
-  judged_form s p (ObjectAddress e) = refused (FaultIn s e) (fault 12 p) (result_err (verdict s e)) (fault_told (FaultIn s e) (verdict s e) (value s e) (judged s e))
+  judged_form s p (ObjectAddress e) = refused (FaultIn s e) (fault NotConstant p) (result_err (verdict s e)) (fault_told (FaultIn s e) (verdict s e) (value s e) (judged s e))
   judged_form s p (ObjConst object name q) = constant_judged s (meaning_of s object) object name p q
   judged_form s p (Built code no_trees) = not_one (λ x. ⊥) (code == 0) p None (λ x b. b)
   judged_form s p (Built code (no_trees ▷ e)) = judged_one (FaultIn s e) (code == 0) p (verdict s e) (value s e) (judged s e)
   judged_form s p (Built code ((es ▷ d) ▷ e)) = not_one (FaultInTrees s ((es ▷ d) ▷ e)) (code == 0) p (first_in_trees s ((es ▷ d) ▷ e)) (in_trees s ((es ▷ d) ▷ e))
   judged_form s p (Look code e xs) =
-      refused_twice (FaultIn s e) (FaultInItems s xs) (fault 12 p) (result_err (verdict s e)) (first_in_items s xs) (fault_told (FaultIn s e) (verdict s e) (value s e) (judged s e)) (in_items s xs)
+      refused_twice (FaultIn s e) (FaultInItems s xs) (fault NotConstant p) (result_err (verdict s e)) (first_in_items s xs) (fault_told (FaultIn s e) (verdict s e) (value s e) (judged s e)) (in_items s xs)
 
   pub at_variable : (s : Setting) (v : Variable) → AtVariable s v
   at_variable s (Named name i q) = further_told (is_one (fault_of_name (meaning_of s name) q)) (FaultInIndex s i) (fault_of_name (meaning_of s name) q) (first_in_index s i) (one_told (fault_of_name (meaning_of s name) q)) (in_index s i)
   at_variable s (Part name size i q) = further_told (is_one (fault_of_name (meaning_of s name) q)) (FaultInIndex s i) (fault_of_name (meaning_of s name) q) (first_in_index s i) (one_told (fault_of_name (meaning_of s name) q)) (in_index s i)
   at_variable s (Memory size e i q) =
-      (refused_twice (FaultIn s e) (FaultInIndex s i) (fault 12 q) (result_err (verdict s e)) (first_in_index s i) (fault_told (FaultIn s e) (verdict s e) (value s e) (judged s e)) (in_index s i)).1
-  at_variable s (Register address x q) = further_told (is_one (fault 12 q)) (FaultInBits s x) (fault 12 q) (first_in_bits s x) (one_told (fault 12 q)) (in_bits s x)
+      (refused_twice (FaultIn s e) (FaultInIndex s i) (fault NotConstant q) (result_err (verdict s e)) (first_in_index s i) (fault_told (FaultIn s e) (verdict s e) (value s e) (judged s e)) (in_index s i)).1
+  at_variable s (Register address x q) = further_told (is_one (fault NotConstant q)) (FaultInBits s x) (fault NotConstant q) (first_in_bits s x) (one_told (fault NotConstant q)) (in_bits s x)
 
   pub in_index : (s : Setting) (i : Index) → Tells (first_in_index s i) (FaultInIndex s i)
   in_index s no_index = λ x b. b

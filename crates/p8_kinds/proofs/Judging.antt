@@ -7,14 +7,15 @@ use Rattle.std.specs.Result.{result_err}
 use Rattle.std.proofs.Math.Logic.{⊎_elim}
 use Rattle.p8_tree.specs.declared.places.Place.{Place}
 use Rattle.p8_tree.specs.declared.faults.Fault.{Fault}
-use Rattle.p8_tree.specs.Faults.{FaultBefore, IsFirstFault, fault, earlier}
+use Rattle.p8_tree.specs.Faults.{FaultBefore, IsFirstFault, fault, earlier, with_further, first_of_two}
+use Rattle.p8_tree.specs.declared.refusal.Refusal.TheVariants.{NotConstant, ZeroDivisor, Unknown, WrongKind}
 use Rattle.p8_tree.proofs.Firsts.{IsFirstFault-along, IsFirstFault-earlier}
 use Rattle.p8_kinds.specs.declared.meanings.Meaning.{Meaning}
 use Rattle.p8_kinds.specs.declared.meanings.Meaning.TheVariants as meaning_case
 use Rattle.p8_kinds.specs.Meanings.{Setting, value_of_meaning, given}
 use Rattle.p8_words.specs.Operators.{beside, unary_values, binary_values, unary_result, binary_result, divides}
 use Rattle.p8_kinds.specs.Values.{constant_of, before, between, fault_of_name, unless, where_so, fault_of_constant, fault_before, fault_between}
-use Rattle.p8_kinds.specs.Verdicts.{with_further, first_of_two, or_fault, verdict_before, verdict_of_values, verdict_between, verdict_of_constant}
+use Rattle.p8_kinds.specs.Verdicts.{or_fault, verdict_before, verdict_of_values, verdict_between, verdict_of_constant}
 
 -- what is told of a set of faults: its first, or that it has none
 abbrev pub Tells : Option Fault → (Fault → Type 0) → Type 0
@@ -96,11 +97,11 @@ value_or_one (Some v) f = (refl, λ x. ⊎_elim (λ e. absurd cc) (λ b. b))
 value_or_one None f = (refl, IsFirstFault-along (λ x. inl) (λ x. ⊎_elim (λ e. e) (λ b. absurd b)) (one_told f))
 
 pub constant_judged : (s : Setting) (m : Option Meaning) (object name : List ℕ) (p q : Place) → Judges (verdict_of_constant s m object name p q) (constant_of s m object name) (λ x. (fault_of_constant s m object name p q ≡ Some x) ⊎ ⊥)
-constant_judged s None object name p q = value_or_one None (fault 15 p)
+constant_judged s None object name p q = value_or_one None (fault Unknown p)
 constant_judged s (Some meaning_case.Object) object name p q = value_or_one (given value_of_meaning (s.constant object name)) (fault_of_name (s.constant object name) q)
-constant_judged s (Some (meaning_case.Value v)) object name p q = value_or_one None (fault 16 p)
-constant_judged s (Some (meaning_case.Label cog offset)) object name p q = value_or_one None (fault 16 p)
-constant_judged s (Some meaning_case.Other) object name p q = value_or_one None (fault 16 p)
+constant_judged s (Some (meaning_case.Value v)) object name p q = value_or_one None (fault WrongKind p)
+constant_judged s (Some (meaning_case.Label cog offset)) object name p q = value_or_one None (fault WrongKind p)
+constant_judged s (Some meaning_case.Other) object name p q = value_or_one None (fault WrongKind p)
 
 -- ---- operators
 
@@ -134,10 +135,10 @@ unless_alike (Some o) (Some q) f e = refl
 
 pub judged_before : (S : Fault → Type 0) (k : ℕ) (p : Place) (r : Result ℕ Fault) (o : Option ℕ) → Judges r o S → Judges (verdict_before k p r) (before k o) (λ x. (fault_before k p ≡ Some x) ⊎ S x)
 judged_before S k p (Ok a) o (is, none) =
-    let alike : unless (unary_result k a) (fault 12 p) ≡ fault_before k p = unless_alike (unary_result k a) (unary_result k 0) (fault 12 p) (unary_alike k a) in
+    let alike : unless (unary_result k a) (fault NotConstant p) ≡ fault_before k p = unless_alike (unary_result k a) (unary_result k 0) (fault NotConstant p) (unary_alike k a) in
     subst (λ o. Judges (verdict_before k p (Ok a)) (before k o) (λ x. (fault_before k p ≡ Some x) ⊎ S x)) (sym is)
-    (judges (λ x. (unless (unary_result k a) (fault 12 p) ≡ Some x) ⊎ ⊥) (λ x. (fault_before k p ≡ Some x) ⊎ S x) (or_fault (unary_result k a) (fault 12 p)) (unary_result k a)
-    (λ x. ⊎_elim (λ e. inl (sym alike ∙ e)) (λ b. absurd b)) (λ x. ⊎_elim (λ e. inl (alike ∙ e)) (λ b. absurd (none x b))) (value_or_one (unary_result k a) (fault 12 p)))
+    (judges (λ x. (unless (unary_result k a) (fault NotConstant p) ≡ Some x) ⊎ ⊥) (λ x. (fault_before k p ≡ Some x) ⊎ S x) (or_fault (unary_result k a) (fault NotConstant p)) (unary_result k a)
+    (λ x. ⊎_elim (λ e. inl (sym alike ∙ e)) (λ b. absurd b)) (λ x. ⊎_elim (λ e. inl (alike ∙ e)) (λ b. absurd (none x b))) (value_or_one (unary_result k a) (fault NotConstant p)))
 judged_before S k p (Err f) o (is, first) =
     (ap (before k) is, IsFirstFault-along (λ x. turned) (λ x. turned) (further_told S (λ x. fault_before k p ≡ Some x) f (fault_before k p) first (own_told (fault_before k p))))
 
@@ -166,7 +167,7 @@ valued None o f some is = absurd cc
 
 -- two values: a fault of the operator, or else the value
 judged_values : (k a b : ℕ) (p : Place) (own : Option Fault) (o : Option ℕ) → MatchOption own (is_some (binary_result k a b) ≡ true × (o ≡ binary_result k a b)) (λ f. o ≡ None) → Judges (verdict_of_values k p a b own) o (λ x. (own ≡ Some x) ⊎ (⊥ ⊎ ⊥))
-judged_values k a b p None o (some, is) = valued (binary_result k a b) o (fault 12 p) some is
+judged_values k a b p None o (some, is) = valued (binary_result k a b) o (fault NotConstant p) some is
 judged_values k a b p (Some f) o none = (none, IsFirstFault-along (λ x. inl) (only_own f) (one_told f))
 
 by_tests : (d z : Bool) (v w : Option ℕ) (f g : Fault) → (d ≡ true → is_some v ≡ true) → is_some v ≡ is_some w
@@ -180,7 +181,7 @@ by_tests false z None (Some w) f g listed alike = absurd cc
 
 -- which of the two it is
 operator_told : (k a b : ℕ) (p : Place) → MatchOption (fault_between k p (Some b)) (is_some (binary_result k a b) ≡ true × (between k (Some a) (Some b) ≡ binary_result k a b)) (λ f. between k (Some a) (Some b) ≡ None)
-operator_told k a b p = by_tests (divides k) (b == 0) (binary_result k a b) (binary_result k 0 0) (fault 13 p) (fault 12 p) (divides_listed k a b) (binary_alike k a b)
+operator_told k a b p = by_tests (divides k) (b == 0) (binary_result k a b) (binary_result k 0 0) (fault ZeroDivisor p) (fault NotConstant p) (divides_listed k a b) (binary_alike k a b)
 
 pub judged_between : (S T : Fault → Type 0) (k : ℕ) (p : Place) (r t : Result ℕ Fault) (o q : Option ℕ) → Judges r o S → Judges t q T → Judges (verdict_between k p r t) (between k o q) (λ x. (fault_between k p q ≡ Some x) ⊎ (S x ⊎ T x))
 judged_between S T k p (Ok a) (Ok b) o q (is, none) (too, nothing) =

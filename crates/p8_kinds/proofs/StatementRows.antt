@@ -18,7 +18,7 @@ use Rattle.p8_tree.specs.Expressions.{node}
 use Rattle.p8_tree.specs.Views.{form_of, tree_of, items_of, course_of, action_of, arm_of, statement_of, statements_of, arms_of}
 use Rattle.p8_tree.specs.Bridges.{other_body, arm_is, if_is, case_is, repeat_is, statements_of-push, arms_of-push}
 use Rattle.p8_tree.specs.declared.faults.Fault.{Fault}
-use Rattle.p8_kinds.specs.Verdicts.{first_of_two}
+use Rattle.p8_tree.specs.Faults.{first_of_two}
 use Rattle.p8_kinds.specs.Environments.{Environment}
 use Rattle.p8_kinds.specs.Misuses.{in_method, name_alone}
 use Rattle.p8_kinds.specs.FirstMisuses.{first_in, first_in_items, first_in_course, first_in_statements, first_in_statement, first_in_action, first_in_arm, first_in_otherwise, first_in_arms}

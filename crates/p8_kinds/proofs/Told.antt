@@ -1,6 +1,6 @@
 -- What the code computes is the first fault of each part: by induction over trees, a line for each form.
 use Rattle.std.proofs.Common.{◌≡◌, ◌⊎◌, inl, inr, ℕ, Bool, true, false, Option, Some, None, refl}
-use Rattle.p8_tree.specs.Faults.{IsFirstFault}
+use Rattle.p8_tree.specs.Faults.{IsFirstFault, first_of_two}
 use Rattle.std.specs.Prelude.{MatchOption, if◌then◌else◌, not, IsTrue, List}
 use Rattle.p8_tree.specs.declared.places.Place.{Place}
 use Rattle.p8_tree.specs.Expressions.{Tree, node, Form, Number, Str, Here, Var, Call, Unary, Binary, Assign, Change, Address, ObjectAddress, ObjConst, Built, Look, Variable, Named, Part, Memory, Register, Index, no_index, index, Bits, whole, bits, Item, single, range, Trees, no_trees, ◌▷◌, Items, no_items, ◌▸◌}
@@ -8,7 +8,6 @@ use Rattle.p8_tree.specs.Statements.{Course, Forever, Count, Before, After, From
 use Rattle.p8_tree.specs.declared.faults.Fault.{Fault}
 use Rattle.p8_kinds.specs.Values.{FaultInTrees}
 use Rattle.p8_kinds.specs.Verdicts as verdicts
-use Rattle.p8_kinds.specs.Verdicts.{first_of_two}
 use Rattle.p8_kinds.proofs.Judging.{Tells, two_told, own_told}
 use Rattle.p8_kinds.proofs.Judged as judged
 use Rattle.p8_tree.proofs.Firsts.{IsFirstFault-along}

@@ -9,8 +9,9 @@ use Rattle.p8_tree.specs.declared.expressions.Call.{out-Call, roll-out-Call}
 use Rattle.p8_tree.specs.Expressions.{Tree, Call, Trees, no_trees, ◌▷◌}
 use Rattle.p8_tree.specs.Views.{call_of, tree_of, trees_of, trees_after, item_of, items_of}
 use Rattle.p8_tree.specs.Bridges.{boxed_index, call_is, trees_of-push, items_of-push}
+use Rattle.p8_tree.specs.Faults.{first_of_two}
 use Rattle.p8_kinds.specs.Meanings.{Setting}
-use Rattle.p8_kinds.specs.Verdicts.{verdict_of_one, first_of_two, verdict, first_in_item, first_in_trees, first_in_items}
+use Rattle.p8_kinds.specs.Verdicts.{verdict_of_one, verdict, first_in_item, first_in_trees, first_in_items}
 
 pub call_form : (x : call.Call) → call_of x ≡ Call (out-Call x).trap (out-Call x).object (boxed_index (out-Call x).index) (out-Call x).method (out-Call x).method_place (trees_of (out-Call x).args.items)
 call_form x = ap call_of (sym (roll-out-Call x)) ∙ call_is (out-Call x).trap (out-Call x).object (out-Call x).index (out-Call x).method (out-Call x).method_place (out-Call x).args

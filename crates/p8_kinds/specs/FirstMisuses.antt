@@ -4,8 +4,8 @@ use Rattle.p8_tree.specs.declared.places.Place.{Place}
 use Rattle.p8_tree.specs.Expressions.{Tree, node, Form, Number, Str, Here, Var, Call, Unary, Binary, Assign, Change, Address, ObjectAddress, ObjConst, Built, Look, Variable, Named, Part, Memory, Register, Index, no_index, index, Bits, whole, bits, Item, single, range, Trees, no_trees, ◌▷◌, Items, no_items, ◌▸◌}
 use Rattle.p8_tree.specs.Statements.{Course, Forever, Count, Before, After, From, Statement, statement, Action, Do, If, Case, Repeat, Next, Quit, Return, Abort, Arm, arm, Otherwise, nothing_else, otherwise, Statements, no_statements, ◌▹◌, Arms, no_arms, ◌⊳◌}
 use Rattle.p8_tree.specs.declared.faults.Fault.{Fault}
+use Rattle.p8_tree.specs.Faults.{first_of_two}
 use Rattle.p8_kinds.specs.Verdicts as verdicts
-use Rattle.p8_kinds.specs.Verdicts.{first_of_two}
 use Rattle.p8_kinds.specs.declared.rules.Rules.{Rules}
 use Rattle.p8_kinds.specs.declared.rules.Rules.TheVariants as rules_case
 use Rattle.p8_kinds.specs.declared.uses.Use.TheVariants as used

@@ -12,6 +12,7 @@ use Rattle.p8_tree.specs.Statements.{Course, Forever, Count, Before, After, From
 use Rattle.p8_tree.specs.Lists.{count_of_trees}
 use Rattle.p8_tree.specs.declared.faults.Fault.{Fault}
 use Rattle.p8_tree.specs.Faults.{fault}
+use Rattle.p8_tree.specs.declared.refusal.Refusal.TheVariants.{Unknown, WrongArity}
 use Rattle.p8_kinds.specs.Meanings.{Setting}
 use Rattle.p8_kinds.specs.Values.{FaultInTrees, where_so}
 use Rattle.p8_kinds.specs.declared.name_kinds.NameKind.{NameKind}
@@ -25,7 +26,7 @@ use Rattle.p8_kinds.specs.Environments.{Environment, kind_in}
 
 -- the fault of a name at its place, by its use and its kind
 abbrev pub misuse : Use → Option NameKind → Place → Option Fault
-misuse way k place = option_map (λ number. fault number place) (wrong way k)
+misuse way k place = option_map (λ refusal. fault refusal place) (wrong way k)
 
 -- `object.method`: the object's name, and then the method's among the PUBs of the object's file
 abbrev pub misuse_behind : Environment → Option NameKind → List ℕ → ℕ → Place → Place → Option Fault
@@ -34,7 +35,7 @@ misuse_behind env k method arguments first second = misuse used.Object k first
 
 -- `object#name`: the object's name, and then the constant's among those of the object's file
 abbrev pub misuse_of_constant : Environment → Option NameKind → List ℕ → List ℕ → Place → Place → Option Fault
-misuse_of_constant env (Some (kind_case.Object item position count)) object name first second = where_so (not (is_some (env.constants.constant object name))) (fault 15 second)
+misuse_of_constant env (Some (kind_case.Object item position count)) object name first second = where_so (not (is_some (env.constants.constant object name))) (fault Unknown second)
 misuse_of_constant env k object name first second = misuse used.Object k first
 
 -- ---- in a method
@@ -58,7 +59,7 @@ misuse_of_call env (Some object) method arguments first second = misuse_behind e
 
 -- a built-in has its number of arguments
 abbrev pub misuse_of_arguments : ℕ → ℕ → Place → Option Fault
-misuse_of_arguments code arguments place = where_so (not (arguments == argument_count code)) (fault 17 place)
+misuse_of_arguments code arguments place = where_so (not (arguments == argument_count code)) (fault WrongArity place)
 
 -- what is wrong with an expression's own name or word: at most one thing
 abbrev pub own_misuse : Environment → Place → Form → Option Fault
@@ -74,7 +75,7 @@ own_misuse env p _ = None
 -- ---- in DAT
 
 abbrev pub unknown : Option NameKind → Place → Option Fault
-unknown k place = where_so (not (is_some k)) (fault 15 place)
+unknown k place = where_so (not (is_some k)) (fault Unknown place)
 
 abbrev pub unknown_variable : Environment → Variable → Option Fault
 unknown_variable env (Named name i place) = unknown (kind_in env name) place

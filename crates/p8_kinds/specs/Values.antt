@@ -9,6 +9,7 @@ use Rattle.p8_tree.specs.declared.places.Place.{Place}
 use Rattle.p8_tree.specs.Expressions.{Tree, node, Form, Number, Str, Here, Var, Call, Unary, Binary, Assign, Change, Address, ObjectAddress, ObjConst, Built, Look, Variable, Named, Part, Memory, Register, Index, no_index, index, Bits, whole, bits, Item, single, range, Trees, no_trees, ◌▷◌, Items, no_items, ◌▸◌}
 use Rattle.p8_tree.specs.declared.faults.Fault.{Fault}
 use Rattle.p8_tree.specs.Faults.{fault, IsFirstFault}
+use Rattle.p8_tree.specs.declared.refusal.Refusal.TheVariants.{NotConstant, ZeroDivisor, Unknown, WrongKind}
 use Rattle.p8_kinds.specs.declared.meanings.Here.{Here as Surroundings}
 use Rattle.p8_kinds.specs.declared.meanings.Meaning.{Meaning}
 use Rattle.p8_kinds.specs.declared.meanings.Meaning.TheVariants as meaning_case
@@ -71,8 +72,8 @@ abbrev mutual
 
 -- 15 where a name has no entry, else 12
 abbrev pub fault_of_name : Option Meaning → Place → Fault
-fault_of_name None place = fault 15 place
-fault_of_name (Some m) place = fault 12 place
+fault_of_name None place = fault Unknown place
+fault_of_name (Some m) place = fault NotConstant place
 
 -- where there is no value, this fault
 abbrev pub unless : Option ℕ → Fault → Option Fault
@@ -87,15 +88,15 @@ where_so b f = if b then Some f else None
 abbrev pub fault_of_variable : Setting → Variable → Fault
 fault_of_variable s (Named name i place) = fault_of_name (meaning_of s name) place
 fault_of_variable s (Part name size i place) = fault_of_name (meaning_of s name) place
-fault_of_variable s (Memory size e i place) = fault 12 place
-fault_of_variable s (Register address x place) = fault 12 place
+fault_of_variable s (Memory size e i place) = fault NotConstant place
+fault_of_variable s (Register address x place) = fault NotConstant place
 
 -- `object#name`: 15 or 16 at the object's name, else 15 or 12 at the constant's
 abbrev pub fault_of_constant : Setting → Option Meaning → List ℕ → List ℕ → Place → Place → Option Fault
-fault_of_constant s None object name first second = Some (fault 15 first)
+fault_of_constant s None object name first second = Some (fault Unknown first)
 fault_of_constant s (Some meaning_case.Object) object name first second =
     unless (given value_of_meaning (s.constant object name)) (fault_of_name (s.constant object name) second)
-fault_of_constant s (Some m) object name first second = Some (fault 16 first)
+fault_of_constant s (Some m) object name first second = Some (fault WrongKind first)
 
 -- a call, at the object's name where there is one, else at the method's
 abbrev pub fault_of_call : Setting → Option (List ℕ) → List ℕ → Place → Place → Fault
@@ -108,12 +109,12 @@ is_zero (Some b) = b == 0
 
 -- an operator before its operand: 12 for a number that is no such operator's, which has no value with any operand
 abbrev pub fault_before : ℕ → Place → Option Fault
-fault_before operator place = unless (unary_result operator 0) (fault 12 place)
+fault_before operator place = unless (unary_result operator 0) (fault NotConstant place)
 
 -- an operator between its operands: 13 where it divides and the right side has the value 0
 abbrev pub fault_between : ℕ → Place → Option ℕ → Option Fault
 fault_between operator place right =
-    if divides operator then where_so (is_zero right) (fault 13 place) else unless (binary_result operator 0 0) (fault 12 place)
+    if divides operator then where_so (is_zero right) (fault ZeroDivisor place) else unless (binary_result operator 0 0) (fault NotConstant place)
 
 -- CONSTANT, with its one argument
 abbrev pub is_constant_word : ℕ → Trees → Bool
@@ -123,8 +124,8 @@ is_constant_word code _ = false
 -- the fault of an expression's own name, word or operator: at most one
 abbrev pub own_fault : Setting → Place → Form → Option Fault
 own_fault s p (Number n) = None
-own_fault s p (Str text) = Some (fault 12 p)
-own_fault s p Here = unless s.here.address (fault 12 p)
+own_fault s p (Str text) = Some (fault NotConstant p)
+own_fault s p Here = unless s.here.address (fault NotConstant p)
 own_fault s p (Var v) = unless (value_of_variable s v) (fault_of_variable s v)
 own_fault s p (Address v) = unless (address_of s v) (fault_of_variable s v)
 own_fault s p (Call trap object i method place args) = Some (fault_of_call s object method p place)
@@ -132,10 +133,10 @@ own_fault s p (Unary operator e) = fault_before operator p
 own_fault s p (Binary operator a b) = fault_between operator p (value s b)
 own_fault s p (Assign v operator e) = Some (fault_of_variable s v)
 own_fault s p (Change v effect) = Some (fault_of_variable s v)
-own_fault s p (ObjectAddress e) = Some (fault 12 p)
+own_fault s p (ObjectAddress e) = Some (fault NotConstant p)
 own_fault s p (ObjConst object name place) = fault_of_constant s (meaning_of s object) object name p place
-own_fault s p (Built code args) = where_so (not (is_constant_word code args)) (fault 12 p)
-own_fault s p (Look code e xs) = Some (fault 12 p)
+own_fault s p (Built code args) = where_so (not (is_constant_word code args)) (fault NotConstant p)
+own_fault s p (Look code e xs) = Some (fault NotConstant p)
 
 -- the faults of a tree: its own, and those of the expressions inside it
 abbrev mutual

@@ -7,22 +7,13 @@ use Rattle.p8_tree.specs.Views.{item_of}
 use Rattle.p8_tree.specs.declared.places.Place.{Place}
 use Rattle.p8_tree.specs.Expressions.{Tree, node, Form, Number, Str, Here, Var, Call, Unary, Binary, Assign, Change, Address, ObjectAddress, ObjConst, Built, Look, Variable, Named, Part, Memory, Register, Index, no_index, index, Bits, whole, bits, Item, single, range, Trees, no_trees, ◌▷◌, Items, no_items, ◌▸◌}
 use Rattle.p8_tree.specs.declared.faults.Fault.{Fault}
-use Rattle.p8_tree.specs.Faults.{fault, earlier}
+use Rattle.p8_tree.specs.Faults.{fault, earlier, with_further, first_of_two}
+use Rattle.p8_tree.specs.declared.refusal.Refusal.TheVariants.{NotConstant, Unknown, WrongKind}
 use Rattle.p8_kinds.specs.declared.meanings.Meaning.{Meaning}
 use Rattle.p8_kinds.specs.declared.meanings.Meaning.TheVariants as meaning_case
 use Rattle.p8_kinds.specs.Meanings.{Setting, meaning_of, value_of_meaning, given}
 use Rattle.p8_words.specs.Operators.{unary_result, binary_result}
 use Rattle.p8_kinds.specs.Values.{value_of_variable, address_of, fault_of_name, fault_of_call, fault_before, fault_between}
-
--- the earlier of a fault and a further one, if there is one
-abbrev pub with_further : Fault → Option Fault → Fault
-with_further f None = f
-with_further f (Some g) = earlier f g
-
--- the earlier of two faults, of those that there are
-abbrev pub first_of_two : Option Fault → Option Fault → Option Fault
-first_of_two None g = g
-first_of_two (Some f) g = Some (with_further f g)
 
 -- the value, or else the fault
 abbrev pub or_fault : Option ℕ → Fault → Result ℕ Fault
@@ -30,12 +21,12 @@ or_fault (Some v) f = Ok v
 or_fault None f = Err f
 
 abbrev pub verdict_before : ℕ → Place → Result ℕ Fault → Result ℕ Fault
-verdict_before operator place (Ok a) = or_fault (unary_result operator a) (fault 12 place)
+verdict_before operator place (Ok a) = or_fault (unary_result operator a) (fault NotConstant place)
 verdict_before operator place (Err f) = Err (with_further f (fault_before operator place))
 
 -- two values, where the operator has this fault
 abbrev pub verdict_of_values : ℕ → Place → ℕ → ℕ → Option Fault → Result ℕ Fault
-verdict_of_values operator place a b None = or_fault (binary_result operator a b) (fault 12 place)
+verdict_of_values operator place a b None = or_fault (binary_result operator a b) (fault NotConstant place)
 verdict_of_values operator place a b (Some f) = Err f
 
 abbrev pub verdict_between : ℕ → Place → Result ℕ Fault → Result ℕ Fault → Result ℕ Fault
@@ -46,10 +37,10 @@ verdict_between operator place (Err f) (Err g) = Err (with_further (earlier f g)
 
 -- a name after `#`
 abbrev pub verdict_of_constant : Setting → Option Meaning → List ℕ → List ℕ → Place → Place → Result ℕ Fault
-verdict_of_constant s None object name first second = Err (fault 15 first)
+verdict_of_constant s None object name first second = Err (fault Unknown first)
 verdict_of_constant s (Some meaning_case.Object) object name first second =
     or_fault (given value_of_meaning (s.constant object name)) (fault_of_name (s.constant object name) second)
-verdict_of_constant s (Some m) object name first second = Err (fault 16 first)
+verdict_of_constant s (Some m) object name first second = Err (fault WrongKind first)
 
 -- CONSTANT of one argument, with its verdict, or else a refusal
 abbrev pub built : ℕ → Option (Result ℕ Fault) → Result ℕ Fault → Result ℕ Fault
@@ -62,8 +53,8 @@ abbrev mutual
 
   pub verdict_of_form : Setting → Place → Form → Result ℕ Fault
   verdict_of_form s p (Number n) = Ok n
-  verdict_of_form s p (Str text) = Err (fault 12 p)
-  verdict_of_form s p Here = or_fault s.here.address (fault 12 p)
+  verdict_of_form s p (Str text) = Err (fault NotConstant p)
+  verdict_of_form s p Here = or_fault s.here.address (fault NotConstant p)
   verdict_of_form s p (Var v) = or_fault (value_of_variable s v) (fault_at s v)
   verdict_of_form s p (Address v) = or_fault (address_of s v) (fault_at s v)
   verdict_of_form s p (Call trap object i method place args) =
@@ -72,10 +63,10 @@ abbrev mutual
   verdict_of_form s p (Binary operator a b) = verdict_between operator p (verdict s a) (verdict s b)
   verdict_of_form s p (Assign v operator e) = Err (with_further (fault_at s v) (result_err (verdict s e)))
   verdict_of_form s p (Change v effect) = Err (fault_at s v)
-  verdict_of_form s p (ObjectAddress e) = Err (with_further (fault 12 p) (result_err (verdict s e)))
+  verdict_of_form s p (ObjectAddress e) = Err (with_further (fault NotConstant p) (result_err (verdict s e)))
   verdict_of_form s p (ObjConst object name place) = verdict_of_constant s (meaning_of s object) object name p place
-  verdict_of_form s p (Built code args) = built code (verdict_of_one s args) (Err (with_further (fault 12 p) (first_in_trees s args)))
-  verdict_of_form s p (Look code e xs) = Err (with_further (with_further (fault 12 p) (result_err (verdict s e))) (first_in_items s xs))
+  verdict_of_form s p (Built code args) = built code (verdict_of_one s args) (Err (with_further (fault NotConstant p) (first_in_trees s args)))
+  verdict_of_form s p (Look code e xs) = Err (with_further (with_further (fault NotConstant p) (result_err (verdict s e))) (first_in_items s xs))
 
   -- of one argument
   pub verdict_of_one : Setting → Trees → Option (Result ℕ Fault)
@@ -86,8 +77,8 @@ abbrev mutual
   pub fault_at : Setting → Variable → Fault
   fault_at s (Named name i place) = with_further (fault_of_name (meaning_of s name) place) (first_in_index s i)
   fault_at s (Part name size i place) = with_further (fault_of_name (meaning_of s name) place) (first_in_index s i)
-  fault_at s (Memory size e i place) = with_further (with_further (fault 12 place) (result_err (verdict s e))) (first_in_index s i)
-  fault_at s (Register address x place) = with_further (fault 12 place) (first_in_bits s x)
+  fault_at s (Memory size e i place) = with_further (with_further (fault NotConstant place) (result_err (verdict s e))) (first_in_index s i)
+  fault_at s (Register address x place) = with_further (fault NotConstant place) (first_in_bits s x)
 
   pub first_in_index : Setting → Index → Option Fault
   first_in_index s no_index = None

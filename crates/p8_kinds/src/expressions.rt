@@ -5,7 +5,7 @@ ghost use Rattle.p8_tree.specs.Views.{tree_of, form_of, variable_of, call_of, tr
 ghost use Rattle.p8_tree.specs.Bridges.{boxed_index};
 ghost use Rattle.p8_kinds.specs.ConstantEntries.{setting_of};
 ghost use Rattle.p8_kinds.specs.Verdicts as verdicts;
-ghost use Rattle.p8_kinds.specs.Verdicts.{first_of_two, verdict, boxed_bits};
+ghost use Rattle.p8_kinds.specs.Verdicts.{verdict, boxed_bits};
 ghost use Rattle.p8_kinds.specs.Environments.{environment_of};
 ghost use Rattle.p8_kinds.specs.FirstMisuses.{rule_of, first_in, first_inside, first_in_variable, first_in_index, first_in_bits, first_in_item, first_in_trees, first_in_items, first_in_built};
 
@@ -14,18 +14,7 @@ use crate::rules::Rules;
 use crate::scope::Scope;
 use crate::single::{is_constant, own_fault};
 use crate::values::value_of;
-use p8_tree::{Call, Expr, ExprKind, Fault, Item, Target};
-
-// The earlier of two faults, of those that there are.
-pub(crate) fn first_of_two(fault: Option<Fault>, other: Option<Fault>) -> Option<Fault>
-    ensures { result ≡ first_of_two fault other }
-{
-    match (fault, other) {
-        (Some(fault), Some(other)) => Some(fault.earlier(other)),
-        (Some(fault), None) => Some(fault),
-        (None, other) => other,
-    }
-}
+use p8_tree::{Call, Expr, ExprKind, Fault, Item, Target, first_of_two};
 
 // The first fault of an expression that has to be constant.
 fn first_in_constant(consts: &Consts, expr: &Expr) -> Option<Fault>

@@ -3,22 +3,23 @@ ghost use Rattle.std.specs.Prelude.{◌≡◌, Some, None, Err};
 ghost use Rattle.std.specs.Result.{result_err};
 ghost use Rattle.p8_tree.specs.Views.{tree_of, variable_of, call_of, trees_of, items_of, item_of};
 ghost use Rattle.p8_tree.specs.Bridges.{boxed_index};
-ghost use Rattle.p8_tree.specs.Faults.{fault};
+ghost use Rattle.p8_tree.specs.Faults.{fault, with_further};
+ghost use Rattle.p8_tree.specs.declared.refusal.Refusal.TheVariants.{NotConstant};
 ghost use Rattle.p8_kinds.specs.Meanings.{meaning_of, value_of_meaning, address_of_meaning, given};
 ghost use Rattle.p8_kinds.specs.ConstantEntries.{setting_of};
 ghost use Rattle.p8_kinds.specs.Values.{value_of_variable, address_of, fault_of_name, fault_of_call, fault_before, fault_between};
-ghost use Rattle.p8_kinds.specs.Verdicts.{with_further, first_of_two, or_fault, verdict_before, verdict_of_values, verdict_between, verdict_of_constant, verdict, verdict_of_form, verdict_of_built, built, fault_at, first_in_index, first_in_bits, first_in_item, first_in_trees, first_in_items, boxed_bits};
+ghost use Rattle.p8_kinds.specs.Verdicts.{or_fault, verdict_before, verdict_of_values, verdict_between, verdict_of_constant, verdict, verdict_of_form, verdict_of_built, built, fault_at, first_in_index, first_in_bits, first_in_item, first_in_trees, first_in_items, boxed_bits};
 
 use crate::consts::Consts;
 use crate::meanings::Meaning;
-use p8_tree::{Call, Expr, ExprKind, Fault, Item, Place, Target, Text};
+use p8_tree::{Call, Expr, ExprKind, Fault, Item, Place, Refusal, Target, Text, first_of_two};
 use p8_words::{binary_result, divides, unary_result};
 
 // What isn't constant, at its place.
 fn not_constant(place: Place) -> Fault
-    ensures { result ≡ fault 12 place }
+    ensures { result ≡ fault NotConstant place }
 {
-    Fault { number: 12, place }
+    Refusal::NotConstant.at(place)
 }
 
 // A name that is no constant, by what it means.
@@ -26,28 +27,8 @@ fn fault_of_name(meaning: Option<Meaning>, place: Place) -> Fault
     ensures { result ≡ fault_of_name meaning place }
 {
     match meaning {
-        None => Fault { number: 15, place },
+        None => Refusal::Unknown.at(place),
         Some(_) => not_constant(place),
-    }
-}
-
-// The earlier of a fault and a further one, if there is one.
-fn with_further(fault: Fault, further: Option<Fault>) -> Fault
-    ensures { result ≡ with_further fault further }
-{
-    match further {
-        None => fault,
-        Some(further) => fault.earlier(further),
-    }
-}
-
-// The earlier of two faults, of those that there are.
-fn first_of_two(fault: Option<Fault>, other: Option<Fault>) -> Option<Fault>
-    ensures { result ≡ first_of_two fault other }
-{
-    match fault {
-        None => other,
-        Some(fault) => Some(with_further(fault, other)),
     }
 }
 
@@ -76,7 +57,7 @@ fn verdict_before(operator: u8, place: Place, operand: Result<u32, Fault>) -> Re
 {
     match operand {
         Ok(a) => or_fault(unary_result(operator, a), not_constant(place)),
-        Err(fault) => Err(with_further(fault, fault_before(operator, place))),
+        Err(fault) => Err(fault.with_further(fault_before(operator, place))),
     }
 }
 
@@ -86,7 +67,7 @@ fn fault_between(operator: u8, place: Place, right: Option<u32>) -> Option<Fault
 {
     if divides(operator) {
         match right {
-            Some(0) => Some(Fault { number: 13, place }),
+            Some(0) => Some(Refusal::ZeroDivisor.at(place)),
             _ => None,
         }
     } else {
@@ -117,13 +98,13 @@ fn verdict_between(
     match left {
         Ok(a) => match right {
             Ok(b) => verdict_of_values(operator, place, a, b),
-            Err(other) => Err(with_further(other, fault_between(operator, place, None))),
+            Err(other) => Err(other.with_further(fault_between(operator, place, None))),
         },
         Err(fault) => match right {
-            Ok(b) => Err(with_further(fault, fault_between(operator, place, Some(b)))),
+            Ok(b) => Err(fault.with_further(fault_between(operator, place, Some(b)))),
             Err(other) => {
                 let first = fault.earlier(other);
-                Err(with_further(first, fault_between(operator, place, None)))
+                Err(first.with_further(fault_between(operator, place, None)))
             }
         },
     }
@@ -140,18 +121,12 @@ fn verdict_of_constant(
     ensures { result ≡ verdict_of_constant (setting_of consts.now) (meaning_of (setting_of consts.now) object.now) object.now name.now first second }
 {
     match consts.meaning(object) {
-        None => Err(Fault {
-            number: 15,
-            place: first,
-        }),
+        None => Err(Refusal::Unknown.at(first)),
         Some(Meaning::Object) => {
             let meaning = consts.constant(object, name);
             or_fault(value_of(meaning), fault_of_name(meaning, second))
         }
-        Some(_) => Err(Fault {
-            number: 16,
-            place: first,
-        }),
+        Some(_) => Err(Refusal::WrongKind.at(first)),
     }
 }
 
@@ -215,12 +190,12 @@ fn fault_of_call(
 
 // A built-in of one argument.
 fn verdict_of_one(code: u8, place: Place, argument: Result<u32, Fault>) -> Result<u32, Fault>
-    ensures { result ≡ built code (Some argument) (Err (with_further (fault 12 place) (result_err argument))) }
+    ensures { result ≡ built code (Some argument) (Err (with_further (fault NotConstant place) (result_err argument))) }
 {
     if code == 0 {
         argument
     } else {
-        Err(with_further(not_constant(place), argument.err()))
+        Err(not_constant(place).with_further(argument.err()))
     }
 }
 
@@ -251,15 +226,15 @@ pub(crate) fn verdict(consts: &Consts, expr: &Expr) -> Result<u32, Fault>
             verdict(consts, left),
             verdict(consts, right),
         ),
-        ExprKind::Assign(variable, _, value) => Err(with_further(
-            fault_at(consts, variable),
-            verdict(consts, value).err(),
-        )),
+        ExprKind::Assign(variable, _, value) => {
+            let own = fault_at(consts, variable);
+            Err(own.with_further(verdict(consts, value).err()))
+        }
         ExprKind::Change(variable, _) => Err(fault_at(consts, variable)),
-        ExprKind::ObjectAddress(offset) => Err(with_further(
-            not_constant(expr.place),
-            verdict(consts, offset).err(),
-        )),
+        ExprKind::ObjectAddress(offset) => {
+            let own = not_constant(expr.place);
+            Err(own.with_further(verdict(consts, offset).err()))
+        }
         ExprKind::ObjConst(object, name, place) => {
             verdict_of_constant(consts, object, name, expr.place, *place)
         }
@@ -267,8 +242,8 @@ pub(crate) fn verdict(consts: &Consts, expr: &Expr) -> Result<u32, Fault>
             verdict_of_built(consts, *code, expr.place, arguments)
         }
         ExprKind::Look(_, value, items) => {
-            let own = with_further(not_constant(expr.place), verdict(consts, value).err());
-            Err(with_further(own, first_in_items(consts, items)))
+            let own = not_constant(expr.place).with_further(verdict(consts, value).err());
+            Err(own.with_further(first_in_items(consts, items)))
         }
     }
 }
@@ -279,8 +254,8 @@ fn first_in_call(consts: &Consts, call: &Call, place: Place) -> Fault
     ensures { Err result ≡ verdict_of_form (setting_of consts.now) place (call_of call.now) }
 {
     let own = fault_of_call(consts, &call.object, &call.method, place, call.method_place);
-    let own = with_further(own, first_in_index(consts, &call.index));
-    with_further(own, first_in_trees(consts, &call.args))
+    let own = own.with_further(first_in_index(consts, &call.index));
+    own.with_further(first_in_trees(consts, &call.args))
 }
 
 // `CONSTANT` and its argument, or another built-in.
@@ -296,7 +271,7 @@ fn verdict_of_built(
     if arguments.len() == 1 {
         verdict_of_one(code, place, verdict(consts, &arguments[0]))
     } else {
-        Err(with_further(not_constant(place), first_in_trees(consts, arguments)))
+        Err(not_constant(place).with_further(first_in_trees(consts, arguments)))
     }
 }
 
@@ -306,20 +281,20 @@ fn fault_at(consts: &Consts, variable: &Target) -> Fault
     ensures { result ≡ fault_at (setting_of consts.now) (variable_of variable.now) }
 {
     match variable {
-        Target::Named(name, index, place) => with_further(
-            fault_of_name(consts.meaning(name), *place),
-            first_in_index(consts, index),
-        ),
-        Target::Part(name, _, index, place) => with_further(
-            fault_of_name(consts.meaning(name), *place),
-            first_in_index(consts, index),
-        ),
+        Target::Named(name, index, place) => {
+            let own = fault_of_name(consts.meaning(name), *place);
+            own.with_further(first_in_index(consts, index))
+        }
+        Target::Part(name, _, index, place) => {
+            let own = fault_of_name(consts.meaning(name), *place);
+            own.with_further(first_in_index(consts, index))
+        }
         Target::Memory(_, address, index, place) => {
-            let own = with_further(not_constant(*place), verdict(consts, address).err());
-            with_further(own, first_in_index(consts, index))
+            let own = not_constant(*place).with_further(verdict(consts, address).err());
+            own.with_further(first_in_index(consts, index))
         }
         Target::Register(_, bits, place) => {
-            with_further(not_constant(*place), first_in_bits(consts, bits))
+            not_constant(*place).with_further(first_in_bits(consts, bits))
         }
     }
 }

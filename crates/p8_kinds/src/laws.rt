@@ -4,6 +4,7 @@ ghost use Rattle.p8_tree.specs.declared.places.Place.{Place};
 ghost use Rattle.p8_tree.specs.Expressions.{Tree, node, Var, Named, no_index};
 ghost use Rattle.p8_tree.specs.declared.faults.Fault.{Fault};
 ghost use Rattle.p8_tree.specs.Faults.{fault, IsFirstFault};
+ghost use Rattle.p8_tree.specs.declared.refusal.Refusal.TheVariants.{NotConstant};
 ghost use Rattle.p8_kinds.specs.declared.meanings.Meaning.TheVariants.{Other as Variable};
 ghost use Rattle.p8_kinds.specs.Meanings.{Setting, meaning_of};
 ghost use Rattle.p8_kinds.specs.Values.{value, FaultIn, HasValue, IsRefused};
@@ -15,5 +16,5 @@ pub fn value_or_fault()
 
 /// Law: a name that means something other than a constant, a label or an object has no value, and 12 stands at it.
 pub fn other_has_no_value()
-    ensures { (s : Setting) → (name : List ℕ) → (p q : Place) → meaning_of s name ≡ Some Variable → (value s (node p (Var (Named name no_index q))) ≡ None) × FaultIn s (node p (Var (Named name no_index q))) (fault 12 q) }
+    ensures { (s : Setting) → (name : List ℕ) → (p q : Place) → meaning_of s name ≡ Some Variable → (value s (node p (Var (Named name no_index q))) ≡ None) × FaultIn s (node p (Var (Named name no_index q))) (fault NotConstant q) }
 {}

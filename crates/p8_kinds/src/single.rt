@@ -11,14 +11,14 @@ use crate::name_kinds::NameKind;
 use crate::rules::Rules;
 use crate::scope::Scope;
 use crate::uses::{Use, argument_count};
-use p8_tree::{Call, Expr, ExprKind, Fault, Place, Target, Text};
+use p8_tree::{Call, Expr, ExprKind, Fault, Place, Refusal, Target, Text};
 
 // The fault of a name at its place.
 pub(crate) fn misuse(way: Use, kind: Option<NameKind>, place: Place) -> Option<Fault>
     ensures { result ≡ misuse way kind place }
 {
     match way.refusal(kind) {
-        Some(number) => Some(Fault { number, place }),
+        Some(refusal) => Some(refusal.at(place)),
         None => None,
     }
 }
@@ -60,10 +60,7 @@ fn misuse_of_constant(
             if scope.consts.constant(object, name).is_some() {
                 None
             } else {
-                Some(Fault {
-                    number: 15,
-                    place: second,
-                })
+                Some(Refusal::Unknown.at(second))
             }
         }
         _ => misuse(Use::Object, kind, first),
@@ -116,7 +113,7 @@ fn misuse_of_arguments(code: u8, arguments: &[Expr], place: Place) -> Option<Fau
     if arguments.len() == argument_count(code) {
         None
     } else {
-        Some(Fault { number: 17, place })
+        Some(Refusal::WrongArity.at(place))
     }
 }
 
@@ -158,7 +155,7 @@ fn unknown(kind: Option<NameKind>, place: Place) -> Option<Fault>
     if kind.is_some() {
         None
     } else {
-        Some(Fault { number: 15, place })
+        Some(Refusal::Unknown.at(place))
     }
 }
 

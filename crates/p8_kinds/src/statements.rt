@@ -5,12 +5,12 @@ ghost use Rattle.p8_kinds.specs.Environments.{environment_of};
 ghost use Rattle.p8_kinds.specs.Misuses.{plain_name, name_alone};
 ghost use Rattle.p8_kinds.specs.FirstMisuses.{first_done, first_in_option, first_in_course, first_in_statements, first_in_statement, first_in_action, first_in_arm, first_in_arms};
 
-use crate::expressions::{first_in, first_in_items, first_of_two};
+use crate::expressions::{first_in, first_in_items};
 use crate::rules::Rules;
 use crate::scope::Scope;
 use crate::single::misuse;
 use crate::uses::Use;
-use p8_tree::{Arm, Expr, ExprKind, Fault, Loop, Stmt, StmtKind, Target};
+use p8_tree::{Arm, Expr, ExprKind, Fault, Loop, Stmt, StmtKind, Target, first_of_two};
 
 // A whole statement that is a variable.
 fn first_in_variable_alone(scope: &Scope, variable: &Target, expr: &Expr) -> Option<Fault>

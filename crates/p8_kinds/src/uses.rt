@@ -3,6 +3,7 @@ ghost use Rattle.std.specs.Prelude.{◌≡◌, Some};
 ghost use Rattle.p8_kinds.specs.Uses.{wrong, unless_called_with, argument_count};
 
 use crate::name_kinds::NameKind;
+use p8_tree::Refusal;
 
 /// How a name stands in a statement or in an expression.
 #[derive(Clone, Copy, Debug, PartialEq, Eq)]
@@ -18,24 +19,24 @@ pub enum Use {
 }
 
 impl Use {
-    /// The number of the refusal of a name of this kind in this use, where it has one: 15 where the name has no definition, 16
-    /// where its kind doesn't fit, 17 where a method has another number of parameters.
-    pub fn refusal(self, kind: Option<NameKind>) -> Option<u8>
+    /// The refusal of a name of this kind in this use, where it has one: `Unknown` where the name has no definition, `WrongKind`
+    /// where its kind doesn't fit, `WrongArity` where a method has another number of parameters.
+    pub fn refusal(self, kind: Option<NameKind>) -> Option<Refusal>
         ensures { result ≡ wrong self kind }
     {
         match kind {
-            None => Some(15),
+            None => Some(Refusal::Unknown),
             Some(kind) => self.misfit(kind),
         }
     }
 
     // The refusal of a kind.
-    fn misfit(self, kind: NameKind) -> Option<u8>
+    fn misfit(self, kind: NameKind) -> Option<Refusal>
         ensures { result ≡ wrong self (Some kind) }
     {
         match (self, kind) {
             (Use::Value, NameKind::Method { params, .. }) => unless_called_with(params, 0),
-            (Use::Value, NameKind::Object { .. }) => Some(16),
+            (Use::Value, NameKind::Object { .. }) => Some(Refusal::WrongKind),
             (Use::Value, _) => None,
             (
                 Use::Variable,
@@ -45,19 +46,19 @@ impl Use {
                 unless_called_with(params, arguments)
             }
             (Use::Object, NameKind::Object { .. }) => None,
-            _ => Some(16),
+            _ => Some(Refusal::WrongKind),
         }
     }
 }
 
-// 17 where a method has another number of parameters.
-fn unless_called_with(params: u8, arguments: usize) -> Option<u8>
+// `WrongArity` where a method has another number of parameters.
+fn unless_called_with(params: u8, arguments: usize) -> Option<Refusal>
     ensures { result ≡ unless_called_with params arguments }
 {
     if usize::from(params) == arguments {
         None
     } else {
-        Some(17)
+        Some(Refusal::WrongArity)
     }
 }
 

@@ -3,9 +3,10 @@ use Rattle.std.specs.Result.{result_err}
 use Rattle.std.proofs.lemmas.Grind.{common_steps}
 use Rattle.p8_tree.specs.Views.{form_of, tree_of, trees_of, item_of, items_of}
 use Rattle.p8_tree.specs.Bridges.{built_is, look_is}
-use Rattle.p8_tree.specs.Faults.{fault}
+use Rattle.p8_tree.specs.Faults.{fault, with_further, first_of_two}
+use Rattle.p8_tree.specs.declared.refusal.Refusal.TheVariants.{NotConstant}
 use Rattle.p8_kinds.specs.ConstantEntries.{setting_of}
-use Rattle.p8_kinds.specs.Verdicts.{verdict_of_form, verdict, first_in_item, first_in_items, with_further, first_of_two, built, first_in_trees}
+use Rattle.p8_kinds.specs.Verdicts.{verdict_of_form, verdict, first_in_item, first_in_items, built, first_in_trees}
 use Rattle.p8_kinds.proofs.ValueRows.{call_form, trees_next, items_next, not_one}
 use Rattle.p8_kinds.proofs.folding.+folding.Goals as goal
 
@@ -37,14 +38,14 @@ verdict-returns-in-Look t c =
     let p = c.args.expr.now.place in
     let looked : c.verdict-in-Look.result ≡ verdict s (tree_of c.in-Look.value.value) = search rules in
     let items : c.first_in_items.result ≡ first_in_items s (items_of c.in-Look.items.items) = search rules in
-    let own : c.with_further-own.result ≡ with_further (fault 12 p) (result_err (verdict s (tree_of c.in-Look.value.value))) =
-    c.with_further-own.ensures ∙ ap (λ f. with_further f c.err-in-Look.result) c.not_constant-in-Look.ensures ∙ ap (with_further (fault 12 p)) (c.err-in-Look.ensures.value ∙ ap result_err looked) in
+    let own : c.with_further-own.result ≡ with_further (fault NotConstant p) (result_err (verdict s (tree_of c.in-Look.value.value))) =
+    c.with_further-own.ensures ∙ ap (λ f. with_further f c.err-in-Look.result) c.not_constant-in-Look.ensures ∙ ap (with_further (fault NotConstant p)) (c.err-in-Look.ensures.value ∙ ap result_err looked) in
     subst (λ f. Err c.with_further-in-Look.result ≡ verdict_of_form s p f) (sym (ap form_of c.in-Look.is ∙ look_is _ c.in-Look.value c.in-Look.items))
     (ap Err (c.with_further-in-Look.ensures ∙ ap (λ f. with_further f c.first_in_items.result) own ∙ ap (with_further _) items))
 
 pub verdict_of_built-returns-else-arguments-eq1 : goal.verdict_of_built-returns-else-arguments-eq1
 verdict_of_built-returns-else-arguments-eq1 t c =
     let s = setting_of c.args.consts.now in
-    let refused : Err c.with_further.result ≡ Err (with_further (fault 12 c.args.place) (first_in_trees s (trees_of c.args.arguments.now))) =
+    let refused : Err c.with_further.result ≡ Err (with_further (fault NotConstant c.args.place) (first_in_trees s (trees_of c.args.arguments.now))) =
     ap Err (c.with_further.ensures ∙ ap (λ f. with_further f c.first_in_trees.result) c.not_constant.ensures ∙ ap (with_further _) c.first_in_trees.ensures) in
-    subst (λ o. Err c.with_further.result ≡ built c.args.code o (Err (with_further (fault 12 c.args.place) (first_in_trees s (trees_of c.args.arguments.now))))) (sym (not_one s c.args.arguments.now (λ one. omega arith))) refused
+    subst (λ o. Err c.with_further.result ≡ built c.args.code o (Err (with_further (fault NotConstant c.args.place) (first_in_trees s (trees_of c.args.arguments.now))))) (sym (not_one s c.args.arguments.now (λ one. omega arith))) refused

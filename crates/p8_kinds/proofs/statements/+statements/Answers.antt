@@ -1,6 +1,6 @@
 use Rattle.std.proofs.Common.{ap, ◌∙◌}
 use Rattle.p8_tree.specs.Views.{statement_of, arm_of}
-use Rattle.p8_kinds.specs.Verdicts.{first_of_two}
+use Rattle.p8_tree.specs.Faults.{first_of_two}
 use Rattle.p8_kinds.specs.Environments.{environment_of}
 use Rattle.p8_kinds.specs.FirstMisuses.{first_in_statement, first_in_arm}
 use Rattle.p8_kinds.proofs.StatementRows.{no_further, statements_next, arms_next, no_rest, some_rest, if_first, case_first, repeat_first, arm_first}
