@@ -6,6 +6,7 @@ use Rattle.p8_tree.specs.declared.places.Place.{Place}
 use Rattle.p8_tree.specs.Expressions.{Tree, node, Number, Var, Binary, Named, no_index}
 use Rattle.p8_tree.specs.Sources.{Constant, Source, Con}
 use Rattle.p8_tree.specs.Faults.{fault}
+use Rattle.p8_tree.specs.declared.refusal.Refusal.TheVariants.{NotConstant, ZeroDivisor}
 use Rattle.p8_kinds.specs.declared.meanings.Meaning.TheVariants as meaning_case
 use Rattle.p8_kinds.specs.Meanings.{Setting}
 use Rattle.p8_constants.specs.Constants.{scope_of, Needs, itself, through, Means, circular, constant, IsRightFor, right, none, further, Has, has, IsConstantFault}
@@ -41,7 +42,7 @@ module _ (outside : Setting) (free : outside.name (codes "Q") ≡ None) (p q : P
   circle_value : Has (scope_of outside circle) (codes "Q") 0
   circle_value = has refl (further circle_right none)
 
-  circle_fault : IsConstantFault outside circle (fault 12 q)
+  circle_fault : IsConstantFault outside circle (fault NotConstant q)
   circle_fault = record {
     expression = value_term 0 (named (codes "Q") q);
     stands = (0, omega arith, refl);
@@ -55,7 +56,7 @@ module _ (outside : Setting) (p q : Place) where
   abbrev divided : Tree
   divided = node q (Binary 0xF6 (number 1 p) (number 0 p))
 
-  division_fault : IsConstantFault outside (Con (given (codes "A") p divided ∷ []) ∷ []) (fault 13 q)
+  division_fault : IsConstantFault outside (Con (given (codes "A") p divided ∷ []) ∷ []) (fault ZeroDivisor q)
   division_fault = record {
     expression = value_term 0 divided;
     stands = (0, omega arith, refl);

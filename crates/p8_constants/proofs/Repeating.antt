@@ -3,7 +3,7 @@ use Rattle.std.proofs.Common.{◌≡◌, inl, inr, ℕ, ◌+◌, ◌<◌, ◌≤
 use Rattle.std.proofs.lemmas.List.Elements.{Contains-append_left, Contains-append_right, Contains-append_cases}
 use Rattle.std.specs.Prelude.{Contains, IsTrue, ◌↔◌, ◌||◌}
 use Rattle.p8_tree.specs.declared.faults.Fault.{Fault}
-use Rattle.p8_kinds.specs.Verdicts.{first_of_two}
+use Rattle.p8_tree.specs.Faults.{first_of_two}
 use Rattle.p8_constants.specs.declared.names.Defined as code
 use Rattle.p8_constants.specs.declared.name_set.NameSet.{NameSet}
 use Rattle.p8_constants.specs.Names.{Defined, spelled}

@@ -5,6 +5,7 @@
 use Rattle.std.specs.Prelude.{ℕ, Bool, false, ◌==◌, if◌then◌else◌, List, [], ◌∷◌, ◌++◌, map, Option, Some, None, codes}
 use Rattle.p8_tree.specs.declared.places.Place.{Place}
 use Rattle.p8_tree.specs.Sources.{Declared, MethodTree}
+use Rattle.p8_tree.specs.Names.{is_local}
 use Rattle.p8_constants.specs.FileItems.{Item, constant, variable, object, method, line}
 
 -- the constants that the language defines, with their values: truth and limits, and those of the clock
@@ -39,11 +40,6 @@ pub record Defined : Type 0 where
 
 abbrev pub defined : List ℕ → Place → Defined
 defined name place = record { name = name; place = place }
-
--- whether a label is local: it begins with `:`
-abbrev pub is_local : List ℕ → Bool
-is_local [] = false
-is_local (c ∷ cs) = c == 58
 
 -- a label that is a name of the file
 abbrev pub label_name : Option (List ℕ) → Option (List ℕ)

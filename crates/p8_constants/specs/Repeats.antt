@@ -5,12 +5,14 @@ use Rattle.std.specs.Prelude.{◌≡◌, ◌⊎◌, ℕ, List, [], ◌∷◌, �
 use Rattle.p8_tree.specs.declared.places.Place.{Place}
 use Rattle.p8_tree.specs.declared.faults.Fault.{Fault}
 use Rattle.p8_tree.specs.Faults.{fault}
+use Rattle.p8_tree.specs.declared.refusal.Refusal.TheVariants.{Duplicate}
+use Rattle.p8_tree.specs.Names.{is_local}
 use Rattle.p8_constants.specs.FileItems.{Item, method, line}
-use Rattle.p8_constants.specs.Names.{Defined, is_local, place_of, predefined_names, names_of, own_names}
+use Rattle.p8_constants.specs.Names.{Defined, place_of, predefined_names, names_of, own_names}
 
 -- a name is among those before it
 abbrev pub Repeats : List (List ℕ) → Defined → Fault → Type 0
-Repeats before d f = Contains before d.name × (fault 14 d.place ≡ f)
+Repeats before d f = Contains before d.name × (fault Duplicate d.place ≡ f)
 
 -- one of these names is among those before it
 abbrev pub RepeatIn : List (List ℕ) → List Defined → Fault → Type 0
@@ -36,7 +38,7 @@ region_behind region (Some n) = if is_local n then region ++ n ∷ [] else []
 -- a local label is among those since the last other label
 abbrev pub LabelRepeats : List (List ℕ) → Option (List ℕ) → Place → Fault → Type 0
 LabelRepeats region None place f = ⊥
-LabelRepeats region (Some n) place f = IsTrue (is_local n) × Contains region n × (fault 14 place ≡ f)
+LabelRepeats region (Some n) place f = IsTrue (is_local n) × Contains region n × (fault Duplicate place ≡ f)
 
 -- the label of a line
 abbrev pub label_of : Item → Option (List ℕ)

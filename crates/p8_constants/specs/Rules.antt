@@ -4,6 +4,7 @@ use Rattle.std.specs.Prelude.{◌≡◌, ◌⊎◌, ℕ, ◌+◌, ◌<◌, nat_l
 use Rattle.p8_tree.specs.Expressions.{Tree}
 use Rattle.p8_tree.specs.declared.faults.Fault.{Fault}
 use Rattle.p8_tree.specs.Faults.{fault}
+use Rattle.p8_tree.specs.declared.refusal.Refusal.TheVariants.{WrongArity, NoPub, TooManyObjects}
 use Rattle.p8_kinds.specs.Meanings.{Setting}
 use Rattle.p8_kinds.specs.Values.{value, FaultIn, is_zero}
 use Rattle.p8_constants.specs.Constants.{counted}
@@ -22,7 +23,7 @@ most_params = 15
 
 -- 17 at a method with more parameters
 abbrev pub HasTooManyParams : Item → Fault → Type 0
-HasTooManyParams (method m) f = (most_params < length m.params) × (fault 17 m.place ≡ f)
+HasTooManyParams (method m) f = (most_params < length m.params) × (fault WrongArity m.place ≡ f)
 HasTooManyParams x f = ⊥
 
 abbrev pub is_public : Item → Bool
@@ -35,7 +36,7 @@ has_public (x ∷ xs) = is_public x || has_public xs
 
 -- 18 at the beginning of a top file without a PUB
 abbrev pub LacksPub : Bool → List Item → Fault → Type 0
-LacksPub top xs f = IsTrue (top && not (has_public xs)) × (fault 18 (record { line = 1; column = 1 }) ≡ f)
+LacksPub top xs f = IsTrue (top && not (has_public xs)) × (fault NoPub (record { line = 1; column = 1 }) ≡ f)
 
 -- ---- counts in brackets
 
@@ -73,7 +74,7 @@ passes_limit before count = nat_le before most_instances && nat_lt most_instance
 
 -- 20 at an item of OBJ without an instance, and at the one that has the first one too many
 abbrev pub HasWrongInstances : Setting → ℕ → Item → Fault → Type 0
-HasWrongInstances s before (object x) f = IsTrue (has_no_instance s x.count || passes_limit before (count_in s x.count)) × (fault 20 x.place ≡ f)
+HasWrongInstances s before (object x) f = IsTrue (has_no_instance s x.count || passes_limit before (count_in s x.count)) × (fault TooManyObjects x.place ≡ f)
 HasWrongInstances s before x f = ⊥
 
 -- the instances after an item

@@ -7,11 +7,11 @@ ghost use Rattle.p8_constants.specs.Rules.{has_no_instance, HasWrongInstances, i
 ghost use Rattle.p8_constants.specs.Standing.{item_of, items_of, IsFirstOf, IsCapped};
 ghost use Rattle.p8_tree.specs.Views.{tree_of};
 
-use crate::first_faults::{first_of_two, where_so};
+use crate::first_faults::where_so;
 use crate::items::Item;
 use crate::rules::count_value;
 use p8_kinds::{Consts, value_of};
-use p8_tree::{Expr, Fault, ObjItem};
+use p8_tree::{Expr, Fault, ObjItem, Refusal, first_of_two};
 
 /// How many instances of objects a file may have.
 const MOST_INSTANCES: u32 = 255;
@@ -37,10 +37,7 @@ fn wrong_instances(consts: &Consts, before: u32, item: &ObjItem) -> Option<Fault
     requires { before ≤ 256 }
     ensures { (all : ℕ) → IsCapped before all → IsFirstOf result (HasWrongInstances (setting_of consts.now) all (object (child_of item.now))) }
 {
-    let fault = Fault {
-        number: 20,
-        place: item.place,
-    };
+    let fault = Refusal::TooManyObjects.at(item.place);
     let count = item.count.as_ref();
     let none = has_no_instance(consts, count);
     let passes = before <= MOST_INSTANCES

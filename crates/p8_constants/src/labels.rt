@@ -3,11 +3,10 @@ ghost use Rattle.std.specs.Prelude.{◌≡◌, ℕ, List, [], Some, IfOk, OnOk, 
 ghost use Rattle.p8_constants.specs.Repeats.{label_of, region_behind, LabelRepeats, LabelRepeatIn};
 ghost use Rattle.p8_constants.specs.Standing.{item_of, items_of, IsFirstOf, Holds};
 
-use crate::first_faults::{first_of_two, where_so};
+use crate::first_faults::where_so;
 use crate::items::Item;
 use crate::name_set::NameSet;
-use crate::names::is_local;
-use p8_tree::{Fault, Place, Text};
+use p8_tree::{Fault, Place, Refusal, Text, first_of_two};
 use std::alloc::{AllocError, Global};
 
 impl<'a> Item<'a> {
@@ -35,8 +34,8 @@ fn label_repeated(region: &NameSet, label: Option<&Text>, place: Place) -> Optio
 fn local_repeated(region: &NameSet, label: &Text, place: Place) -> Option<Fault>
     ensures { (names : List (List ℕ)) → Holds region.now names → IsFirstOf result (LabelRepeats names (Some label.now) place) }
 {
-    if is_local(label) {
-        where_so(region.has(label.as_slice()), Fault { number: 14, place })
+    if label.is_local() {
+        where_so(region.has(label.as_slice()), Refusal::Duplicate.at(place))
     } else {
         None
     }
@@ -55,7 +54,7 @@ fn go_behind(alloc: Global, region: &mut NameSet, label: Option<&Text>) -> Resul
 fn go_behind_label(alloc: Global, region: &mut NameSet, label: &Text) -> Result<(), AllocError>
     ensures { OnOk result ((names : List (List ℕ)) → Holds region.old names → Holds region.new (region_behind names (Some label.now))) }
 {
-    if is_local(label) {
+    if label.is_local() {
         region.put(label.as_slice())
     } else {
         *region = NameSet::new(alloc);

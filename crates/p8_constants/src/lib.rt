@@ -27,7 +27,6 @@ mod rules;
 mod search;
 
 pub use directed_graph::Graph;
-pub use first_faults::first_of_two;
 pub use found::{Found, constants_of};
 pub use instances::first_instance_fault;
 pub use items::{Item, items_of};
@@ -39,7 +38,7 @@ pub use laws::{
 };
 pub use mentions::{Names, names_in};
 pub use name_set::NameSet;
-pub use names::{Defined, is_local, names_of, own_names};
+pub use names::{Defined, names_of, own_names};
 pub use node_order::in_order;
 pub use numbering::components;
 pub use repeats::{FileNames, file_names, first_own_repeat, predefined_names};

@@ -1,6 +1,6 @@
 // The names that items define.
 ghost use Rattle.std.specs.Prelude.{◌≡◌, ◌++◌, [], IfOk, OnOk, map, option_map};
-ghost use Rattle.p8_constants.specs.Names.{name_of, place_of, names_of, label_name, is_local, defined_before, params_of, result_of, local_of, own_names};
+ghost use Rattle.p8_constants.specs.Names.{name_of, place_of, names_of, label_name, defined_before, params_of, result_of, local_of, own_names};
 ghost use Rattle.p8_tree.specs.Views.{method_of, declared_of};
 ghost use Rattle.p8_constants.specs.Standing.{item_of, items_of, all_defined_of};
 
@@ -15,22 +15,12 @@ pub struct Defined<'a> {
     pub place: Place,
 }
 
-/// Whether a label is local: it begins with `:`.
-pub fn is_local(label: &Text) -> bool
-    ensures { result ≡ is_local label.now }
-{
-    match label.as_slice() {
-        [first, ..] => *first == b':',
-        [] => false,
-    }
-}
-
 // A label that is a name of the file.
 fn label_name(label: &Option<Text>) -> Option<&Text>
     ensures { option_map (λ n. n.now) result ≡ label_name label.now }
 {
     match label {
-        Some(name) if !is_local(name) => Some(name),
+        Some(name) if !name.is_local() => Some(name),
         _ => None,
     }
 }

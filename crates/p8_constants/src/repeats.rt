@@ -7,12 +7,12 @@ ghost use Rattle.p8_constants.specs.Rules.{InAny};
 ghost use Rattle.p8_constants.specs.FileItems.{method as method_tree};
 ghost use Rattle.p8_constants.specs.Standing.{item_of, items_of, defined_of, all_defined_of, IsFirstOf, Holds, valued};
 
-use crate::first_faults::{first_of_two, where_so};
+use crate::first_faults::where_so;
 use crate::items::Item;
 use crate::language::{NamedConstant, predefined};
 use crate::name_set::NameSet;
 use crate::names::{Defined, names_of, own_names};
-use p8_tree::{Fault, Method};
+use p8_tree::{Fault, Method, Refusal, first_of_two};
 use std::alloc::{AllocError, Global};
 
 // Whether a name is in one of two sets.
@@ -26,10 +26,7 @@ fn is_in(shared: &NameSet, own: &NameSet, name: &[u8]) -> bool
 fn repeated(shared: &NameSet, own: &NameSet, defined: Defined<'_>) -> Option<Fault>
     ensures { (before : List (List ℕ)) → Holds shared.now before → (behind : List (List ℕ)) → Holds own.now behind → IsFirstOf result (Repeats (before ++ behind) (defined_of defined.entry)) }
 {
-    let fault = Fault {
-        number: 14,
-        place: defined.place,
-    };
+    let fault = Refusal::Duplicate.at(defined.place);
     where_so(is_in(shared, own, defined.name.as_slice()), fault)
 }
 

@@ -6,10 +6,10 @@ ghost use Rattle.p8_constants.specs.FileItems.{method as method_tree};
 ghost use Rattle.p8_constants.specs.Rules.{InAny, HasTooManyParams, is_public, has_public, LacksPub, count_in, count_of, FaultInCount, HasFaultInCount};
 ghost use Rattle.p8_constants.specs.Standing.{item_of, items_of, IsFirstOf};
 
-use crate::first_faults::{first_of_two, where_so};
+use crate::first_faults::where_so;
 use crate::items::Item;
 use p8_kinds::{Consts, value_of};
-use p8_tree::{Expr, Fault, Method, Place};
+use p8_tree::{Expr, Fault, Method, Place, Refusal, first_of_two};
 
 /// How many parameters a method may have.
 const MOST_PARAMS: usize = 15;
@@ -27,10 +27,7 @@ fn params_fault(item: Item<'_>) -> Option<Fault>
 fn too_many_params(method: &Method) -> Option<Fault>
     ensures { IsFirstOf result (HasTooManyParams (method_tree (method_of method.now))) }
 {
-    let fault = Fault {
-        number: 17,
-        place: method.place,
-    };
+    let fault = Refusal::WrongArity.at(method.place);
     where_so(method.params.len() > MOST_PARAMS, fault)
 }
 
@@ -70,10 +67,7 @@ fn is_public(item: Item<'_>) -> bool
 pub fn lacks_pub(top: bool, items: &[Item<'_>]) -> Option<Fault>
     ensures { IsFirstOf result (LacksPub top (items_of items.now)) }
 {
-    let fault = Fault {
-        number: 18,
-        place: Place { line: 1, column: 1 },
-    };
+    let fault = Refusal::NoPub.at(Place { line: 1, column: 1 });
     where_so(top && !has_public(items), fault)
 }
 
