@@ -5,8 +5,8 @@ use Rattle.std.specs.Map.{lookup}
 use Rattle.std.specs.Str.{bytes_eq}
 use Rattle.p8_tree.specs.Sources.{MethodTree, Source}
 use Rattle.p8_tree.specs.declared.faults.Fault.{Fault}
+use Rattle.p8_tree.specs.Faults.{first_of_two}
 use Rattle.p8_kinds.specs.Meanings.{Setting}
-use Rattle.p8_kinds.specs.Verdicts.{first_of_two}
 use Rattle.p8_constants.specs.Constants.{IsConstantFault}
 use Rattle.p8_constants.specs.FileItems.{Item, items}
 use Rattle.p8_constants.specs.Standing.{IsFirstOf}

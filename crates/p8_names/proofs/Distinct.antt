@@ -10,6 +10,7 @@ use Rattle.p8_tree.specs.Sources.{Declared, MethodTree, Source}
 use Rattle.p8_tree.specs.Proper.{IsProperMethod, is_nothing}
 use Rattle.p8_tree.specs.declared.faults.Fault.{Fault}
 use Rattle.p8_tree.specs.Faults.{fault}
+use Rattle.p8_tree.specs.declared.refusal.Refusal.TheVariants.{Duplicate}
 use Rattle.p8_kinds.specs.Meanings.{Setting}
 use Rattle.p8_constants.specs.FileItems.{Item, constant, variable, object, method, line, items}
 use Rattle.p8_constants.specs.Names.{Defined, name_of, place_of, names_of, defined_before, spelled, file_names, predefined, predefined_names, params_of, result_of, local_of, own_names}
@@ -65,7 +66,7 @@ file-named s xs n None k is found = Contains-append_right predefined_names (spel
 
 repeat-by : (b : Bool) (before : List (List ℕ)) (d : Defined) (ds : List Defined) (n : List ℕ) → bytes_eq n d.name ≡ b → Contains before n → (b || is_one_of (spelled ds) n) ≡ true
     → (is_one_of (spelled ds) n ≡ true → (f : Fault) × RepeatIn (before ++ d.name ∷ []) ds f) → (f : Fault) × RepeatIn before (d ∷ ds) f
-repeat-by true before d ds n same has is others = (fault 14 d.place, inl (subst (Contains before) (same-bytes n d.name same) has, refl))
+repeat-by true before d ds n same has is others = (fault Duplicate d.place, inl (subst (Contains before) (same-bytes n d.name same) has, refl))
 repeat-by false before d ds n same has is others = let r = others is in (r.0, inr r.1)
 
 repeats : (before : List (List ℕ)) (ds : List Defined) (n : List ℕ) → Contains before n → is_one_of (spelled ds) n ≡ true → (f : Fault) × RepeatIn before ds f

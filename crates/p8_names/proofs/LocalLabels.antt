@@ -1,9 +1,9 @@
 -- Local labels that are entered up to the next other label, and the scope that sees them.
 use Rattle.std.proofs.Common.{◌≡◌, ℕ, Bool, true, false, ◌<◌, ◌≤◌, List, Option, Some, None, refl, ap, ◌∙◌, arith}
 use Rattle.std.specs.Prelude.{if◌then◌else◌, not}
+use Rattle.p8_tree.specs.Names.{is_local}
 use Rattle.p8_kinds.specs.ConstantEntries.{setting_of}
 use Rattle.p8_constants.specs.FileItems.{Item}
-use Rattle.p8_constants.specs.Names.{is_local}
 use Rattle.p8_kinds.specs.declared.kinds.Kinds.{Kinds}
 use Rattle.p8_kinds.specs.declared.scope.Scope.{Scope}
 use Rattle.p8_kinds.specs.Environments.{environment_of}

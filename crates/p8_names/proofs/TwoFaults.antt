@@ -1,7 +1,7 @@
 -- The first fault of two sets.
 use Rattle.std.proofs.Common.{◌≡◌, ◌⊎◌, inl, inr, Option, None, refl}
 use Rattle.p8_tree.specs.declared.faults.Fault.{Fault}
-use Rattle.p8_kinds.specs.Verdicts.{first_of_two}
+use Rattle.p8_tree.specs.Faults.{first_of_two}
 use Rattle.p8_constants.specs.Standing.{IsFirstOf}
 use Rattle.p8_constants.proofs.FirstFaults.{IsSoFar, so_far_begin, so_far_then, so_far_same, so_far_end}
 

@@ -5,10 +5,11 @@ use Rattle.p8_tree.specs.Expressions.{Tree, node, Str}
 use Rattle.p8_tree.specs.Sources as trees
 use Rattle.p8_tree.specs.Sources.{Contents, Datum, Declared, MethodTree, Source}
 use Rattle.p8_tree.specs.declared.faults.Fault.{Fault}
+use Rattle.p8_tree.specs.Names.{is_local}
 use Rattle.p8_kinds.specs.Meanings.{Setting}
 use Rattle.p8_constants.specs.Constants.{IsConstantFault}
 use Rattle.p8_constants.specs.FileItems.{Item, line, items}
-use Rattle.p8_constants.specs.Names.{file_names, is_local}
+use Rattle.p8_constants.specs.Names.{file_names}
 use Rattle.p8_constants.specs.Repeats.{NameRepeatIn, HasOwnRepeat, LabelRepeatIn, label_of}
 use Rattle.p8_constants.specs.Rules.{InAny, HasTooManyParams, LacksPub, FaultInCount, HasFaultInCount, WrongInstancesIn}
 use Rattle.p8_kinds.specs.declared.children.Children.{Children}

@@ -2,8 +2,8 @@
 use Rattle.std.specs.Prelude.{◌≡◌, ◌⊎◌, ℕ, ◌<◌, ◌≤◌, Bool, false, not, if◌then◌else◌, List, Option, Some, None}
 use Rattle.p8_tree.specs.Sources.{Datum}
 use Rattle.p8_tree.specs.declared.faults.Fault.{Fault}
+use Rattle.p8_tree.specs.Names.{is_local}
 use Rattle.p8_kinds.specs.Meanings.{Setting}
-use Rattle.p8_constants.specs.Names.{is_local}
 use Rattle.p8_kinds.specs.declared.kinds.Kinds.{Kinds}
 use Rattle.p8_kinds.specs.declared.name_kinds.NameKind.TheVariants as kind
 use Rattle.p8_kinds.specs.declared.scope.Scope.{Scope}

@@ -1,8 +1,6 @@
 -- What resolving the names of a file gives.
 use Rattle.std.specs.Prelude.{◌≡◌, ℕ, ◌≤◌, Bool, List, length}
 use Rattle.p8_tree.specs.Sources.{Source}
-use Rattle.p8_words.specs.declared.failure.Fail.{Fail}
-use Rattle.p8_words.specs.declared.failure.Fail.TheVariants as fail_case
 use Rattle.p8_tree.specs.declared.faults.Fault.{Fault}
 use Rattle.p8_kinds.specs.Meanings.{Setting}
 use Rattle.p8_constants.specs.FileItems.{items}
@@ -21,8 +19,3 @@ pub record IsNamed (file : Source) (children : Children) (top : Bool) (found : K
   -- what each name of the file, at 0, and of each method, at its number, is
   pub each : (method : ℕ) (n : List ℕ) → method ≤ length (methods (items file)) → own found method n ≡ kinds setting (items file) method n
   pub clean : (f : Fault) → ¬ IsNameFault file children top f
-
--- a refusal with a fault of which this holds; where there was no memory nothing is said
-abbrev pub IfRefused : (Fault → Type 0) → Fail Fault → Type 0
-IfRefused P (fail_case.Refused f) = P f
-IfRefused P fail_case.NoMemory = Unit {0}

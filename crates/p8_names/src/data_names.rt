@@ -13,9 +13,9 @@ ghost use Rattle.p8_names.specs.Regions.{environment_at, UnknownInDatum, is_end,
 
 use crate::next_kinds::one_more;
 use crate::own_kinds::enter;
-use p8_constants::{Item, first_of_two, is_local};
+use p8_constants::Item;
 use p8_kinds::{Kinds, NameKind, Scope, first_unknown};
-use p8_tree::{DatBody, DatItem, Expr, ExprKind, Fault, InstrLine, Text};
+use p8_tree::{DatBody, DatItem, Expr, ExprKind, Fault, InstrLine, Text, first_of_two};
 use p8_words::NoMemory;
 
 /// The size that a local label has.
@@ -114,7 +114,7 @@ fn is_end(label: Option<&Text>) -> bool
 {
     match label {
         None => false,
-        Some(label) => !is_local(label),
+        Some(label) => !label.is_local(),
     }
 }
 

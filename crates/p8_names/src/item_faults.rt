@@ -7,10 +7,10 @@ ghost use Rattle.p8_names.specs.Resolving.{RepeatInFile, BrokenByItems};
 
 use p8_constants::{
     Item, NamedConstant, file_names, first_count_fault, first_instance_fault, first_label_repeat,
-    first_of_two, first_own_repeat, first_params_fault, lacks_pub,
+    first_own_repeat, first_params_fault, lacks_pub,
 };
 use p8_kinds::Consts;
-use p8_tree::Fault;
+use p8_tree::{Fault, first_of_two};
 use std::alloc::{AllocError, Global};
 
 /// The first name that is defined twice: one of the file, one of a method's own, or a local label.

@@ -12,9 +12,9 @@ ghost use Rattle.p8_names.specs.Faults.{FaultInLocals};
 
 use crate::hiding::{hide, restore};
 use crate::own_kinds::enter_own_names;
-use p8_constants::{count_fault, first_of_two, own_names};
+use p8_constants::{count_fault, own_names};
 use p8_kinds::{Consts, Scope, first_misuse};
-use p8_tree::{Fault, Method, VarItem};
+use p8_tree::{Fault, Method, VarItem, first_of_two};
 use p8_words::NoMemory;
 use std::alloc::Global;
 

@@ -9,9 +9,8 @@ ghost use Rattle.p8_names.specs.Looking.{IsShown, IsFaultIn};
 ghost use Rattle.p8_names.specs.Resolving.{HasMethods};
 
 use crate::method_faults::look_at;
-use p8_constants::first_of_two;
 use p8_kinds::Scope;
-use p8_tree::{Fault, Method};
+use p8_tree::{Fault, Method, first_of_two};
 use p8_words::NoMemory;
 use std::alloc::Global;
 
