@@ -10,6 +10,7 @@ use Rattle.p8_tree.specs.Expressions.{node, Number}
 use Rattle.p8_tree.specs.Sources.{Instruction}
 use Rattle.p8_tree.specs.declared.faults.Fault.{Fault}
 use Rattle.p8_tree.specs.Faults.{fault}
+use Rattle.p8_tree.specs.declared.refusal.Refusal.TheVariants.{OperandRange}
 use Rattle.p8_kinds.specs.Meanings.{Setting}
 use Rattle.p8_kinds.specs.Values.{where_so}
 use Rattle.p8_instr.specs.declared.instruction.Instr.{Instr}
@@ -194,7 +195,7 @@ operand_good s p q n f fits (inl (inl e)) = absurd cc
 operand_good s p q n f fits (inl (inr b)) = b
 operand_good s p q n f fits (inr e) =
     let below : is_address n ≡ true = grind (arith, nat_tests) in
-    let none : None ≡ Some f = sym (ap (λ b. where_so (not b || false) (fault 21 q)) below) ∙ e in
+    let none : None ≡ Some f = sym (ap (λ b. where_so (not b || false) (fault OperandRange q)) below) ∙ e in
     absurd cc
 
 pub printed_good : (s : Setting) (p q : Place) (x : ℕ) → x < 2 ^ 32 → (f : Fault) → ¬ FaultInInstruction s (printed_line (instr_of x) p q) f

@@ -5,11 +5,11 @@ use Rattle.std.proofs.lemmas.Bool.Decides.{nat_tests}
 use Rattle.p8_tree.specs.Sources.{Line}
 use Rattle.p8_kinds.specs.Meanings.{Setting}
 use Rattle.std.proofs.lemmas.Slice.{first_rest}
+use Rattle.p8_tree.specs.Names.{is_local}
 use Rattle.p8_kinds.specs.declared.kinds.Kinds.{Kinds}
 use Rattle.p8_kinds.specs.declared.name_kinds.Label.{Label}
 use Rattle.p8_dat.specs.declared.spots.Spot.{Spot}
 use Rattle.p8_dat.specs.declared.placing.Placed as code
-use Rattle.p8_dat.specs.Names.{is_local}
 use Rattle.p8_dat.specs.Labels.{label_of, with_label_of, labels_of}
 use Rattle.p8_dat.specs.Placing.{placed_of}
 use Rattle.p8_dat.specs.Spots.{limit, advanced, Placed, placed_line, placed, behind, behind_lines}

@@ -6,9 +6,10 @@ use Rattle.p8_tree.specs.Expressions.{Tree}
 use Rattle.p8_tree.specs.Sources.{Datum, Contents, Nothing, Data, Org, Res, Fit, Instr}
 use Rattle.p8_tree.specs.declared.faults.Fault.{Fault}
 use Rattle.p8_tree.proofs.Firsts.{IsFirstFault-along}
+use Rattle.p8_tree.specs.Faults.{first_of_two}
 use Rattle.p8_kinds.specs.Meanings.{Setting}
 use Rattle.p8_kinds.specs.Values.{value, FaultIn}
-use Rattle.p8_kinds.specs.Verdicts.{verdict, first_of_two}
+use Rattle.p8_kinds.specs.Verdicts.{verdict}
 use Rattle.p8_kinds.proofs.Judging.{Tells, fault_told, two_told, own_told}
 use Rattle.p8_kinds.proofs.Judged.{judged}
 use Rattle.p8_dat.specs.Encoding.{FaultInInstruction}

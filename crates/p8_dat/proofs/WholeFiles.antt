@@ -11,6 +11,7 @@ use Rattle.p8_tree.specs.Views.{block_of}
 use Rattle.p8_tree.specs.declared.sources.Block.{Block}
 use Rattle.p8_tree.specs.declared.faults.Fault.{Fault}
 use Rattle.p8_tree.specs.Faults.{IsFirstFault}
+use Rattle.p8_tree.specs.Names.{is_local}
 use Rattle.p8_kinds.specs.declared.meanings.Meaning.{Meaning}
 use Rattle.p8_kinds.specs.declared.meanings.Meaning.TheVariants as meaning_case
 use Rattle.p8_kinds.specs.Meanings.{Setting, outside_operands}
@@ -19,7 +20,7 @@ use Rattle.p8_dat.proofs.ToldOfLine.{as_match}
 use Rattle.p8_dat.specs.declared.spots.Spot.{Spot}
 use Rattle.p8_dat.specs.declared.placing.Placed as code
 use Rattle.p8_dat.specs.Spots.{Placed, placed, behind_lines}
-use Rattle.p8_dat.specs.Names.{with_label, with_common, is_local, is_named, label_at, regions}
+use Rattle.p8_dat.specs.Names.{with_label, with_common, is_named, label_at, regions}
 use Rattle.p8_dat.specs.Blocks.{block_lines, dat_lines, counts_setting, placed_lines, values_setting, regions_bytes, FaultInRegions, dat_bytes, IsDatFault}
 use Rattle.p8_dat.specs.First.{told_in_regions}
 use Rattle.p8_dat.specs.Placing.{placed_of, unplaced, is_local_label, has_local, AreHidden}

@@ -2,8 +2,6 @@
 -- local labels go on over blocks.
 use Rattle.std.specs.Prelude.{◌⊎◌, ℕ, List, [], ◌∷◌, ◌++◌}
 use Rattle.p8_tree.specs.Sources.{BlockTree, Dat, Line, Source}
-use Rattle.p8_words.specs.declared.failure.Fail.{Fail}
-use Rattle.p8_words.specs.declared.failure.Fail.TheVariants as fail_case
 use Rattle.p8_tree.specs.declared.faults.Fault.{Fault}
 use Rattle.p8_kinds.specs.Meanings.{Setting}
 use Rattle.p8_dat.specs.declared.spots.Spot.{Spot}
@@ -53,8 +51,3 @@ dat_bytes base start file =
 abbrev pub IsDatFault : Setting → ℕ → Source → Fault → Type 0
 IsDatFault base start file f =
     FaultInRegions (counts_setting base file) (values_setting base start file) (regions (placed_lines base start file)) f
-
--- a refusal with a fault of which this holds; where there was no memory nothing is said
-abbrev pub IfRefused : (Fault → Type 0) → Fail Fault → Type 0
-IfRefused P (fail_case.Refused f) = P f
-IfRefused P fail_case.NoMemory = Unit {0}

@@ -12,6 +12,7 @@ use Rattle.p8_tree.specs.Expressions.{Tree, node, Var, Variable, Named, no_index
 use Rattle.p8_tree.specs.Sources.{Instruction}
 use Rattle.p8_tree.specs.declared.faults.Fault.{Fault}
 use Rattle.p8_tree.specs.Faults.{fault}
+use Rattle.p8_tree.specs.declared.refusal.Refusal.TheVariants.{OperandRange, NoRetLabel}
 use Rattle.p8_kinds.specs.declared.meanings.Meaning.{Meaning}
 use Rattle.p8_kinds.specs.declared.meanings.Meaning.TheVariants as meaning_case
 use Rattle.p8_kinds.specs.Meanings.{Setting, meaning_of}
@@ -61,7 +62,7 @@ is_out_of_range s e (Some v) = not (is_address v) || is_label_off_long s (name_a
 
 -- 21 at an operand's first token
 abbrev pub range_fault : Setting → Tree → Place → Option Fault
-range_fault s e place = where_so (is_out_of_range s e (value s e)) (fault 21 place)
+range_fault s e place = where_so (is_out_of_range s e (value s e)) (fault OperandRange place)
 
 abbrev pub FaultInOperand : Setting → Option Tree → Place → Fault → Type 0
 FaultInOperand s None place f = ⊥
@@ -88,8 +89,8 @@ label_field _ = 0
 
 -- 24 at CALL where that is no label, 21 at the subroutine's label where it is one that is no operand
 abbrev pub return_fault : Option Meaning → Place → Place → Option Fault
-return_fault (Some (meaning_case.Label cog offset)) call label = where_so (not (is_address cog) || not (offset % 4 == 0)) (fault 21 label)
-return_fault _ call label = Some (fault 24 call)
+return_fault (Some (meaning_case.Label cog offset)) call label = where_so (not (is_address cog) || not (offset % 4 == 0)) (fault OperandRange label)
+return_fault _ call label = Some (fault NoRetLabel call)
 
 -- without a destination that is written, its place is that of the word
 abbrev pub call_fault : Setting → Instruction → Option Fault

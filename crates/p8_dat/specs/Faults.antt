@@ -6,6 +6,7 @@ use Rattle.p8_tree.specs.Expressions.{Tree}
 use Rattle.p8_tree.specs.Sources.{Datum, Contents, Nothing, Data, Org, Res, Fit, Instr}
 use Rattle.p8_tree.specs.declared.faults.Fault.{Fault}
 use Rattle.p8_tree.specs.Faults.{fault}
+use Rattle.p8_tree.specs.declared.refusal.Refusal.TheVariants.{FitExceeded, OrgRange}
 use Rattle.p8_kinds.specs.Meanings.{Setting}
 use Rattle.p8_kinds.specs.Values.{value, FaultIn, where_so}
 use Rattle.p8_dat.specs.Encoding.{FaultInInstruction}
@@ -32,7 +33,7 @@ FaultInItems s t size (x ∷ xs) p f = FaultInItem s t x p f ⊎ FaultInItems s 
 
 -- 23 at ORG where its value isn't from 0 to 496, the address of the first register
 abbrev pub org_fault : Setting → Option Tree → Place → Option Fault
-org_fault s e place = where_so (nat_lt 496 (number s 0 e)) (fault 23 place)
+org_fault s e place = where_so (nat_lt 496 (number s 0 e)) (fault OrgRange place)
 
 -- the address up to which FIT allows: 496 where none is written; one that is refused allows all
 abbrev pub is_beyond : Option ℕ → ℕ → Bool
@@ -45,7 +46,7 @@ fit_value s (Some e) = value s e
 
 -- 22 at FIT where the cog address, in longs and rounded up, is greater
 abbrev pub fit_fault : Setting → Option Tree → ℕ → Place → Option Fault
-fit_fault s e cog place = where_so (is_beyond (fit_value s e) ((cog + 3) / 4)) (fault 22 place)
+fit_fault s e cog place = where_so (is_beyond (fit_value s e) ((cog + 3) / 4)) (fault FitExceeded place)
 
 abbrev pub FaultInContents : Setting → Setting → Contents → Spot → Place → Fault → Type 0
 FaultInContents s t (Data size xs) p place f = FaultInItems s t size xs p f

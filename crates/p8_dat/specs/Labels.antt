@@ -1,5 +1,6 @@
 -- The labels of a file's DAT.
 use Rattle.std.specs.Prelude.{ℕ, if◌then◌else◌, List, [], ◌∷◌, Option, Some, None}
+use Rattle.p8_tree.specs.Names.{is_local}
 use Rattle.p8_kinds.specs.declared.kinds.Kinds.{Kinds}
 use Rattle.p8_kinds.specs.declared.name_kinds.Label.{Label}
 use Rattle.p8_kinds.specs.declared.name_kinds.NameKind.{NameKind}
@@ -7,7 +8,6 @@ use Rattle.p8_kinds.specs.declared.name_kinds.NameKind.TheVariants as kind
 use Rattle.p8_kinds.specs.Kinds.{own}
 use Rattle.p8_dat.specs.declared.spots.Spot.{Spot}
 use Rattle.p8_dat.specs.Spots.{Placed}
-use Rattle.p8_dat.specs.Names.{is_local}
 
 -- the size of a label to Spin, as its kind has it; a name that isn't a label's counts as one of longs
 abbrev pub size_of_kind : Option NameKind → ℕ

@@ -6,6 +6,7 @@
 use Rattle.std.specs.Prelude.{ℕ, ◌/◌, ◌==◌, Bool, false, not, if◌then◌else◌, List, [], ◌∷◌, Option, Some, None, fold}
 use Rattle.std.specs.Str.{bytes_eq}
 use Rattle.p8_tree.specs.Sources.{Line}
+use Rattle.p8_tree.specs.Names.{is_local}
 use Rattle.p8_kinds.specs.declared.meanings.Meaning.{Meaning}
 use Rattle.p8_kinds.specs.declared.meanings.Meaning.TheVariants as meaning_case
 use Rattle.p8_kinds.specs.Meanings.{Setting, outside_operands}
@@ -19,11 +20,6 @@ entered n m s = record s { name = λ x. if bytes_eq x n then Some m else s.name 
 abbrev pub with_label : Option (List ℕ) → Meaning → Setting → Setting
 with_label None m s = s
 with_label (Some n) m s = entered n m s
-
--- 58 is `:`
-abbrev pub is_local : List ℕ → Bool
-is_local [] = false
-is_local (c ∷ cs) = c == 58
 
 -- what a label means that stands here
 abbrev pub label_at : Spot → Meaning

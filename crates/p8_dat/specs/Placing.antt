@@ -2,11 +2,12 @@
 use Rattle.std.specs.Prelude.{◌≡◌, ℕ, suc, Bool, true, false, ◌&&◌, ◌||◌, if◌then◌else◌, List, [], ◌∷◌, Option, Some, None}
 use Rattle.std.specs.Str.{bytes_eq}
 use Rattle.p8_tree.specs.Views.{line_of}
+use Rattle.p8_tree.specs.Names.{is_local}
 use Rattle.p8_kinds.specs.declared.meanings.Meaning.TheVariants as meaning_case
 use Rattle.p8_kinds.specs.Meanings.{Setting, outside_operands}
 use Rattle.p8_dat.specs.declared.placing.Placed as code
 use Rattle.p8_dat.specs.Spots.{Placed}
-use Rattle.p8_dat.specs.Names.{with_label, is_local, is_named}
+use Rattle.p8_dat.specs.Names.{with_label, is_named}
 
 abbrev pub placed_of : code.Placed → Placed
 placed_of x = record { line = line_of x.line.now; from = x.from; at = x.at }

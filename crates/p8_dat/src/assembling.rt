@@ -2,16 +2,15 @@
 ghost use Rattle.std.specs.Prelude.{◌≡◌, ◌++◌, [], Some, None, IfOk, IfErr, OnOk, map};
 ghost use Rattle.p8_tree.specs.Views.{source_of};
 ghost use Rattle.p8_tree.specs.declared.faults.Fault.{Fault};
-ghost use Rattle.p8_tree.specs.Faults.{IsFirstFault};
+ghost use Rattle.p8_tree.specs.Faults.{IsFirstFault, IfRefused};
 ghost use Rattle.p8_kinds.specs.ConstantEntries.{setting_of};
 ghost use Rattle.p8_kinds.specs.Meanings.{outside_operands};
 ghost use Rattle.p8_kinds.specs.FileSettings.{file_setting};
 ghost use Rattle.p8_dat.specs.Labels.{size_of_kind, with_label_of, labels_of};
-ghost use Rattle.p8_dat.specs.Blocks.{placed_lines, dat_bytes, IsDatFault, IfRefused};
+ghost use Rattle.p8_dat.specs.Blocks.{placed_lines, dat_bytes, IsDatFault};
 ghost use Rattle.p8_dat.specs.Placing.{placed_of};
 
 use crate::files::{Assembled, assemble_file};
-use crate::labels::is_local;
 use crate::output::Output;
 use crate::placing::Placed;
 use crate::spots::Spot;
@@ -68,7 +67,7 @@ fn push_named(
 ) -> Result<(), AllocError>
     ensures { OnOk result (labels.new.items ≡ labels.old.items ++ with_label_of kinds.now (Some name.now) at []) }
 {
-    if is_local(name.as_slice()) {
+    if name.is_local() {
         return Ok(());
     }
     let label = Label {

@@ -1,6 +1,7 @@
 // CALL: the label of the end of a subroutine.
 ghost use Rattle.std.specs.Prelude.{◌≡◌, ◌<◌, ◌++◌, ◌%◌, ◌==◌, ◌||◌, not, Some, IfOk, option_map, codes};
 ghost use Rattle.p8_tree.specs.Faults.{fault};
+ghost use Rattle.p8_tree.specs.declared.refusal.Refusal.TheVariants.{OperandRange};
 ghost use Rattle.p8_kinds.specs.Values.{where_so};
 ghost use Rattle.p8_tree.specs.Views.{tree_of};
 ghost use Rattle.p8_kinds.specs.ConstantEntries.{setting_of};
@@ -8,7 +9,7 @@ ghost use Rattle.p8_dat.specs.Encoding.{is_address, field, return_meaning, end_m
 
 use crate::operands::{Operand, field, name_alone};
 use p8_kinds::{Consts, Meaning};
-use p8_tree::{Expr, Fault, Place, Text};
+use p8_tree::{Expr, Place, Refusal, Text};
 use std::alloc::{AllocError, Global};
 
 // The name of the label of a subroutine's end, by that of the subroutine.
@@ -60,10 +61,7 @@ fn return_operand(meaning: Option<Meaning>, call: Place, label: Place) -> Operan
         Some(Meaning::Label { cog, offset }) => label_operand(cog, offset, label),
         _ => Operand {
             field: 0,
-            fault: Some(Fault {
-                number: 24,
-                place: call,
-            }),
+            fault: Some(Refusal::NoRetLabel.at(call)),
         },
     }
 }
@@ -71,16 +69,13 @@ fn return_operand(meaning: Option<Meaning>, call: Place, label: Place) -> Operan
 fn label_operand(cog: u32, offset: u32, label: Place) -> Operand
     ensures field { result.field ≡ field (Some cog) }
     ensures in_range { result.field < 512 }
-    ensures fault { result.fault ≡ where_so (not (is_address cog) || not (offset % 4 == 0)) (fault 21 label) }
+    ensures fault { result.fault ≡ where_so (not (is_address cog) || not (offset % 4 == 0)) (fault OperandRange label) }
 {
     let off = cog >= 512 || offset % 4 != 0;
     Operand {
         field: field(cog),
         fault: if off {
-            Some(Fault {
-                number: 21,
-                place: label,
-            })
+            Some(Refusal::OperandRange.at(label))
         } else {
             None
         },

@@ -6,12 +6,12 @@ ghost use Rattle.p8_dat.specs.Bytes.{in_data, spots, value_bytes, text_bytes, el
 ghost use Rattle.p8_dat.specs.First.{told_in_elements, told_in_item, told_in_items};
 ghost use Rattle.p8_dat.specs.Placing.{unplaced};
 
-use crate::output::{Output, first_of_two};
+use crate::output::Output;
 use crate::placing::{behind_item, size_of};
 use crate::spots::{LIMIT, Spot};
 use crate::values::{evaluate, number, string_of};
 use p8_kinds::Consts;
-use p8_tree::DatItem;
+use p8_tree::{DatItem, first_of_two};
 use std::alloc::AllocError;
 
 // Says where data stands whose value is looked for.

@@ -5,7 +5,6 @@ ghost use Rattle.p8_tree.specs.Views.{instruction_of};
 ghost use Rattle.p8_tree.specs.declared.faults.Fault.{Fault};
 ghost use Rattle.p8_tree.specs.Faults.{IsFirstFault};
 ghost use Rattle.p8_kinds.specs.ConstantEntries.{setting_of};
-ghost use Rattle.p8_kinds.specs.Verdicts.{first_of_two};
 ghost use Rattle.p8_instr.specs.Instruction.{FitsFields};
 ghost use Rattle.p8_dat.specs.Encoding.{bit, flags_of, instr_with, long_of_fields, long_of_line, FaultInInstruction};
 ghost use Rattle.p8_dat.specs.FirstOfLine.{first_in_instruction};
@@ -14,7 +13,7 @@ use crate::calls::called;
 use crate::operands::operand_of;
 use p8_instr::{FLAG_C, FLAG_I, FLAG_R, FLAG_Z, Instr, default_of, encode};
 use p8_kinds::Consts;
-use p8_tree::{Fault, InstrLine};
+use p8_tree::{Fault, InstrLine, first_of_two};
 use p8_words::NoMemory;
 use std::alloc::Global;
 
@@ -55,17 +54,6 @@ pub fn encode_line(alloc: Global, line: &InstrLine, consts: &Consts) -> Result<E
             long: long_of(line, dest.field, source.field),
             fault,
         })
-    }
-}
-
-// The earlier of two faults, of those that there are.
-fn first_of_two(fault: Option<Fault>, other: Option<Fault>) -> Option<Fault>
-    ensures { result ≡ first_of_two fault other }
-{
-    match (fault, other) {
-        (None, other) => other,
-        (Some(fault), None) => Some(fault),
-        (Some(fault), Some(other)) => Some(fault.earlier(other)),
     }
 }
 

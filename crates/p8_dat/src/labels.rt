@@ -2,7 +2,7 @@
 ghost use Rattle.std.specs.Prelude.{◌≡◌, if◌then◌else◌, OnOk, map, fold};
 ghost use Rattle.p8_tree.specs.Views.{line_of};
 ghost use Rattle.p8_kinds.specs.ConstantEntries.{setting_of};
-ghost use Rattle.p8_dat.specs.Names.{with_label, is_local, is_named, label_at, hidden, common, with_common, with_local};
+ghost use Rattle.p8_dat.specs.Names.{with_label, is_named, label_at, hidden, common, with_common, with_local};
 ghost use Rattle.p8_dat.specs.Placing.{placed_of, without_local};
 
 use crate::placing::Placed;
@@ -30,17 +30,7 @@ pub(crate) fn is_named(label: &Option<Text>) -> bool
 {
     match label {
         None => false,
-        Some(name) => !is_local(name.as_slice()),
-    }
-}
-
-// Whether a name begins with `:`.
-pub(crate) fn is_local(name: &[u8]) -> bool
-    ensures { result ≡ is_local name.now }
-{
-    match name {
-        [] => false,
-        [first, ..] => *first == b':',
+        Some(name) => !name.is_local(),
     }
 }
 

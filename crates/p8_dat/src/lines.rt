@@ -1,10 +1,10 @@
 // The bytes of whole lines, and what is wrong with them.
 ghost use Rattle.std.specs.Prelude.{◌≡◌, ◌+◌, ◌/◌, ◌++◌, nat_lt, OnOk, map, option_map};
-ghost use Rattle.p8_tree.specs.Faults.{fault};
+ghost use Rattle.p8_tree.specs.Faults.{fault, first_of_two};
+ghost use Rattle.p8_tree.specs.declared.refusal.Refusal.TheVariants.{FitExceeded, OrgRange};
 ghost use Rattle.p8_kinds.specs.Values.{where_so};
 ghost use Rattle.p8_tree.specs.Views.{tree_of, contents_of, instruction_of};
 ghost use Rattle.p8_kinds.specs.ConstantEntries.{setting_of};
-ghost use Rattle.p8_kinds.specs.Verdicts.{first_of_two};
 ghost use Rattle.p8_dat.specs.Encoding.{long_of_line};
 ghost use Rattle.p8_dat.specs.FirstOfLine.{first_in_instruction};
 ghost use Rattle.p8_dat.specs.Bytes.{element, in_instruction, contents_bytes, line_bytes, lines_bytes};
@@ -14,12 +14,12 @@ ghost use Rattle.p8_dat.specs.Placing.{placed_of, unplaced};
 
 use crate::data::put_items;
 use crate::instruction_lines::encode_line;
-use crate::output::{Output, first_of_two};
+use crate::output::Output;
 use crate::placing::Placed;
 use crate::spots::Spot;
 use crate::values::number;
 use p8_kinds::{Consts, value_of};
-use p8_tree::{DatBody, Expr, Fault, InstrLine, Place};
+use p8_tree::{DatBody, Expr, Fault, InstrLine, Place, Refusal, first_of_two};
 use p8_words::NoMemory;
 use std::alloc::Global;
 
@@ -53,10 +53,10 @@ fn put_instruction(
 
 // 23 at ORG.
 fn org_fault(value: u32, place: Place) -> Option<Fault>
-    ensures { result ≡ where_so (nat_lt 496 value) (fault 23 place) }
+    ensures { result ≡ where_so (nat_lt 496 value) (fault OrgRange place) }
 {
     if value > REGISTERS {
-        Some(Fault { number: 23, place })
+        Some(Refusal::OrgRange.at(place))
     } else {
         None
     }
@@ -84,10 +84,10 @@ fn is_beyond(fit: Option<u32>, cog: u32) -> bool
 
 // 22 at FIT.
 fn fit_fault(fit: Option<u32>, cog: u32, place: Place) -> Option<Fault>
-    ensures { result ≡ where_so (is_beyond fit ((cog + 3) / 4)) (fault 22 place) }
+    ensures { result ≡ where_so (is_beyond fit ((cog + 3) / 4)) (fault FitExceeded place) }
 {
     if is_beyond(fit, cog) {
-        Some(Fault { number: 22, place })
+        Some(Refusal::FitExceeded.at(place))
     } else {
         None
     }

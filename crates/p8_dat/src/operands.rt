@@ -4,11 +4,12 @@ ghost use Rattle.p8_tree.specs.Views.{tree_of, variable_of};
 ghost use Rattle.p8_kinds.specs.ConstantEntries.{setting_of};
 ghost use Rattle.p8_kinds.specs.Values.{where_so};
 ghost use Rattle.p8_tree.specs.Faults.{fault};
+ghost use Rattle.p8_tree.specs.declared.refusal.Refusal.TheVariants.{OperandRange};
 ghost use Rattle.p8_dat.specs.Encoding.{is_address, field, field_of, name_of, name_alone, is_off_long, is_label_off_long};
 ghost use Rattle.p8_dat.specs.FirstOfLine.{first_in_operand};
 
 use p8_kinds::{Consts, Meaning, value_of};
-use p8_tree::{Expr, ExprKind, Fault, Place, Target, Text};
+use p8_tree::{Expr, ExprKind, Fault, Place, Refusal, Target, Text};
 
 // An operand's field, 0 where it is refused or isn't there, and why it is refused.
 #[derive(Clone, Copy)]
@@ -90,10 +91,10 @@ fn written_operand(expr: &Expr, place: Place, consts: &Consts) -> Operand
 
 // 21 where a value is no operand's.
 fn range_fault(value: u32, off_long: bool, place: Place) -> Option<Fault>
-    ensures { result ≡ where_so (not (is_address value) || off_long) (fault 21 place) }
+    ensures { result ≡ where_so (not (is_address value) || off_long) (fault OperandRange place) }
 {
     if value >= 512 || off_long {
-        Some(Fault { number: 21, place })
+        Some(Refusal::OperandRange.at(place))
     } else {
         None
     }

@@ -1,11 +1,11 @@
 // What is put, and the first fault that is found.
 ghost use Rattle.std.specs.Prelude.{◌≡◌, ◌-◌, ◌≤◌, ◌++◌, min, OnOk};
-ghost use Rattle.p8_kinds.specs.Verdicts.{first_of_two};
+ghost use Rattle.p8_tree.specs.Faults.{first_of_two};
 ghost use Rattle.p8_dat.specs.Spots.{limit};
 ghost use Rattle.p8_dat.specs.Bytes.{element, zeros};
 
 use crate::spots::{LIMIT, Spot};
-use p8_tree::Fault;
+use p8_tree::{Fault, first_of_two};
 use std::alloc::AllocError;
 
 // The bytes so far, and the first fault so far.
@@ -13,17 +13,6 @@ use std::alloc::AllocError;
 pub(crate) struct Output {
     pub(crate) bytes: Vec<u8>,
     pub(crate) fault: Option<Fault>,
-}
-
-// The earlier of two faults, of those that there are.
-pub(crate) fn first_of_two(fault: Option<Fault>, other: Option<Fault>) -> Option<Fault>
-    ensures { result ≡ first_of_two fault other }
-{
-    match (fault, other) {
-        (None, other) => other,
-        (Some(fault), None) => Some(fault),
-        (Some(fault), Some(other)) => Some(fault.earlier(other)),
-    }
 }
 
 // How many bytes of an element stand below the limit.
