@@ -10,6 +10,7 @@ use Rattle.p8_tree.specs.Proper as proper
 use Rattle.p8_tree.specs.Proper.{IsProperTree, IsProperForm, IsProperVariable, IsProperIndex, AreProperBits, IsProperItem, AreProperTrees, AreProperItems, IfThere}
 use Rattle.p8_tree.specs.declared.faults.Fault.{Fault}
 use Rattle.p8_tree.specs.Faults.{fault}
+use Rattle.p8_tree.specs.declared.refusal.Refusal.TheVariants.{WrongArity}
 use Rattle.p8_words.specs.Operators.{or_zero}
 use Rattle.p8_kinds.specs.Values as constants
 use Rattle.p8_kinds.specs.declared.name_kinds.NameKind.{NameKind}
@@ -274,7 +275,7 @@ module _ (n : Names) (t : Compiled) (base : ℕ) (a : Agrees n t) where
   pub arguments-fit : (code : ℕ) (args : Trees) (place : Place) → own_misuse (environment n) place (Built code args) ≡ None → (count_of_trees args == argument_count code) ≡ true
   arguments-fit code args place none = arguments-by (count_of_trees args == argument_count code) none
     where
-      arguments-by : (fits : Bool) → constants.where_so (not fits) (fault 17 place) ≡ None → fits ≡ true
+      arguments-by : (fits : Bool) → constants.where_so (not fits) (fault WrongArity place) ≡ None → fits ≡ true
       arguments-by true is = refl
       arguments-by false is = absurd (cc)
 

@@ -12,6 +12,7 @@ use Rattle.p8_instr.specs.Spelling.{IsPlace, IsChange}
 use Rattle.p8_instr.specs.declared.operands.Operands.TheVariants as operands
 use Rattle.p8_tree.specs.declared.faults.Fault.{Fault}
 use Rattle.p8_tree.specs.Faults.{fault}
+use Rattle.p8_tree.specs.declared.refusal.Refusal.TheVariants.{Unknown, WrongKind, WrongArity}
 use Rattle.p8_words.specs.Operators.{or_zero}
 use Rattle.p8_kinds.specs.Values as constants
 use Rattle.p8_kinds.specs.declared.name_kinds.NameKind.{NameKind}
@@ -63,17 +64,17 @@ call_in_sound position count (index e) m p c s = three_bytes 0x07 position count
 
 -- an argument count that a call has is that of its method, and so has a byte
 bounded : (kind : Option NameKind) → IfSome kind HasBytes → (count : ℕ) (place : Place) → ((f : Fault) → ¬ (misuse (used_as.Method count) kind place ≡ Some f)) → count < 2 ^ 8
-bounded None h count place clean = absurd (clean (fault 15 place) refl)
+bounded None h count place clean = absurd (clean (fault Unknown place) refl)
 bounded (Some (kinds.Method number params)) h count place clean = go (params == count) refl
   where
     go : (t : Bool) → (params == count) ≡ t → count < 2 ^ 8
     go true is = subst (λ n. n < 2 ^ 8) (equal params count is) h.1
-    go false is = absurd (clean (fault 17 place) (ap (λ (t : Bool). option_map (λ number. fault number place) (if t then None else Some 17)) is))
-bounded (Some (kinds.Const v)) h count place clean = absurd (clean (fault 16 place) refl)
-bounded (Some (kinds.Global size offset)) h count place clean = absurd (clean (fault 16 place) refl)
-bounded (Some (kinds.Local offset)) h count place clean = absurd (clean (fault 16 place) refl)
-bounded (Some (kinds.Label size)) h count place clean = absurd (clean (fault 16 place) refl)
-bounded (Some (kinds.Object item position count')) h count place clean = absurd (clean (fault 16 place) refl)
+    go false is = absurd (clean (fault WrongArity place) (ap (λ (t : Bool). option_map (λ refusal. fault refusal place) (if t then None else Some WrongArity)) is))
+bounded (Some (kinds.Const v)) h count place clean = absurd (clean (fault WrongKind place) refl)
+bounded (Some (kinds.Global size offset)) h count place clean = absurd (clean (fault WrongKind place) refl)
+bounded (Some (kinds.Local offset)) h count place clean = absurd (clean (fault WrongKind place) refl)
+bounded (Some (kinds.Label size)) h count place clean = absurd (clean (fault WrongKind place) refl)
+bounded (Some (kinds.Object item position count')) h count place clean = absurd (clean (fault WrongKind place) refl)
 
 counts_same : (es : Trees) → count_of_trees es ≡ count_of es
 counts_same no_trees = refl

@@ -11,6 +11,7 @@ use Rattle.p8_tree.specs.Sources.{MethodTree}
 use Rattle.p8_tree.specs.Statements.{Statements}
 use Rattle.p8_tree.specs.declared.faults.Fault.{Fault}
 use Rattle.p8_tree.specs.Faults.{fault}
+use Rattle.p8_tree.specs.declared.refusal.Refusal.TheVariants.{JumpTooFar}
 use Rattle.p8_gen.specs.Methods.{method_code}
 use Rattle.p8_gen.specs.Names.{Names, widened, all_wide, wide_in}
 use Rattle.p8_gen.specs.Pieces.{is_near, reach}
@@ -267,7 +268,7 @@ none-there ps p none (k, lt, same) = let long = ap length none in absurd (omega 
 module _ (n : Names) (m : MethodTree) (ss : Statements) where
   -- with all jumps wide each offset fits
   pub accepted-fits : ((f : Fault) → ¬ IsMethodFault n (rebodied m ss) f) → (method_code n ss).too_far ≡ []
-  accepted-fits clean = no-places (method_code n ss).too_far (λ p has. clean (fault 25 p) (jump_too_far p has refl))
+  accepted-fits clean = no-places (method_code n ss).too_far (λ p has. clean (fault JumpTooFar p) (jump_too_far p has refl))
 
   pub no-fault : ((f : Fault) → ¬ IsMethodFault n (rebodied m ss) f) → (g : ℕ → Bool) → Fits n ss g → (f : Fault) → ¬ IsMethodFault (widened n g) (rebodied m ss) f
   no-fault clean g fits f (jump_too_far p has is) = none-there (method_code (widened n g) ss).too_far p fits has

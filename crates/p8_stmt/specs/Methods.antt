@@ -6,10 +6,9 @@ use Rattle.p8_tree.specs.Expressions.{Tree}
 use Rattle.p8_tree.specs.Proper.{AreProperStatements}
 use Rattle.p8_tree.specs.Sources.{Declared, MethodTree}
 use Rattle.p8_tree.specs.Statements.{Statements}
-use Rattle.p8_words.specs.declared.failure.Fail.{Fail}
-use Rattle.p8_words.specs.declared.failure.Fail.TheVariants as fail_case
 use Rattle.p8_tree.specs.declared.faults.Fault.{Fault}
 use Rattle.p8_tree.specs.Faults.{fault}
+use Rattle.p8_tree.specs.declared.refusal.Refusal.TheVariants.{JumpTooFar, FrameTooLarge}
 use Rattle.p8_words.specs.Operators.{or_zero}
 use Rattle.p8_kinds.specs.Meanings.{Setting}
 use Rattle.p8_kinds.specs.Values.{value}
@@ -76,11 +75,6 @@ most_held = 128
 
 -- 25 at a statement with a jump that goes too far for its width; 26 at the name of a method whose frame is too large, or that holds too much
 pub data IsMethodFault (names : Names) (m : MethodTree) (f : Fault) : Type 0 where
-  jump_too_far : (place : Place) → Contains (method_code names m.body).too_far place → fault 25 place ≡ f → IsMethodFault names m f
-  frame_too_large : most_longs < 1 + length m.params + longs_in names.constants m.locals → fault 26 m.place ≡ f → IsMethodFault names m f
-  holds_too_much : most_held < held_in names m.body → fault 26 m.place ≡ f → IsMethodFault names m f
-
--- a refusal with a fault of which this holds; where there was no memory nothing is said
-abbrev pub IfRefused : (Fault → Type 0) → Fail Fault → Type 0
-IfRefused P (fail_case.Refused f) = P f
-IfRefused P fail_case.NoMemory = Unit {0}
+  jump_too_far : (place : Place) → Contains (method_code names m.body).too_far place → fault JumpTooFar place ≡ f → IsMethodFault names m f
+  frame_too_large : most_longs < 1 + length m.params + longs_in names.constants m.locals → fault FrameTooLarge m.place ≡ f → IsMethodFault names m f
+  holds_too_much : most_held < held_in names m.body → fault FrameTooLarge m.place ≡ f → IsMethodFault names m f

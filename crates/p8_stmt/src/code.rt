@@ -3,13 +3,13 @@ ghost use Rattle.std.specs.Prelude.{◌≡◌, ◌*◌, ◌<◌, map, flat_map, 
 ghost use Rattle.p8_tree.specs.Views.{method_of, statements_of};
 ghost use Rattle.p8_instr.specs.Spelling.{spelled};
 ghost use Rattle.p8_tree.specs.declared.faults.Fault.{Fault};
-ghost use Rattle.p8_tree.specs.Faults.{IsFirstFault};
+ghost use Rattle.p8_tree.specs.Faults.{IsFirstFault, IfRefused};
 ghost use Rattle.p8_gen.specs.Methods as methods;
 ghost use Rattle.p8_gen.specs.Operations.{IsWhole};
 ghost use Rattle.p8_gen.specs.Scopes.{names_from, names_of};
 ghost use Rattle.p8_gen.specs.Names.{widened, wide_in};
 ghost use Rattle.p8_gen.specs.Uses.{line_of, use_of, way_of};
-ghost use Rattle.p8_stmt.specs.Methods.{AreResolved, IsCodeOf, IsMethodFault, IfRefused, most_longs, rebodied};
+ghost use Rattle.p8_stmt.specs.Methods.{AreResolved, IsCodeOf, IsMethodFault, most_longs, rebodied};
 ghost use Rattle.p8_stmt.specs.Spelled.{placed};
 
 use crate::context::Context;

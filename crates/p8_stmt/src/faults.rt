@@ -3,7 +3,7 @@ ghost use Rattle.std.specs.Prelude.{◌≡◌, ◌++◌, [], ◌∷◌, IfOk, On
 ghost use Rattle.p8_tree.specs.Faults.{fault, IsFirstFault};
 ghost use Rattle.p8_stmt.specs.Telling.{faults_of};
 
-use p8_tree::{Fault, Place};
+use p8_tree::{Fault, Place, Refusal};
 use std::alloc::{AllocError, Global};
 
 /// The first of a method's faults: 25 for each jump that goes too far, and 26 at the method's name where it is too large.
@@ -30,17 +30,17 @@ fn faults_of(
 {
     let mut faults = Vec::new(alloc);
     for place in too_far {
-        push(&mut faults, 25, *place)?;
+        push(&mut faults, Refusal::JumpTooFar, *place)?;
     }
     if too_large {
-        push(&mut faults, 26, name)?;
+        push(&mut faults, Refusal::FrameTooLarge, name)?;
     }
     Ok(faults)
 }
 
-fn push(faults: &mut Vec<Fault>, number: u8, place: Place) -> Result<(), AllocError>
-    ensures { OnOk result (faults.new.items ≡ faults.old.items ++ fault number place ∷ []) }
+fn push(faults: &mut Vec<Fault>, refusal: Refusal, place: Place) -> Result<(), AllocError>
+    ensures { OnOk result (faults.new.items ≡ faults.old.items ++ fault refusal place ∷ []) }
 {
-    faults.push(Fault { number, place })?;
+    faults.push(refusal.at(place))?;
     Ok(())
 }

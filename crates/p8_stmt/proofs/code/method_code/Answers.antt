@@ -2,9 +2,9 @@ use Rattle.std.proofs.Common.{subst}
 use Rattle.std.specs.Prelude.{OnOk, IfErr}
 use Rattle.p8_tree.specs.Views.{method_of, statements_of}
 use Rattle.p8_tree.specs.declared.faults.Fault.{Fault}
-use Rattle.p8_tree.specs.Faults.{IsFirstFault}
+use Rattle.p8_tree.specs.Faults.{IsFirstFault, IfRefused}
 use Rattle.p8_gen.specs.Scopes.{names_from}
-use Rattle.p8_stmt.specs.Methods.{IsMethodFault, IfRefused, rebodied}
+use Rattle.p8_stmt.specs.Methods.{IsMethodFault, rebodied}
 use Rattle.p8_stmt.proofs.code.method_code.Goals as goal
 
 pub returns-clause-clean : goal.returns-clause-clean

@@ -1,9 +1,9 @@
 use Rattle.std.proofs.Common.{subst, List, Bool}
 use Rattle.p8_tree.specs.Views.{method_of, statements_of}
-use Rattle.p8_tree.specs.Faults.{IsFirstFault}
+use Rattle.p8_tree.specs.Faults.{IsFirstFault, IfRefused}
 use Rattle.p8_gen.specs.Names.{widened, wide_in}
 use Rattle.p8_gen.specs.Scopes.{names_from}
-use Rattle.p8_stmt.specs.Methods.{IsMethodFault, IfRefused, rebodied}
+use Rattle.p8_stmt.specs.Methods.{IsMethodFault, rebodied}
 use Rattle.p8_stmt.specs.Jumps.{IsLeast}
 use Rattle.p8_stmt.proofs.Least.{accepted-fits, no-fault}
 use Rattle.p8_stmt.proofs.short.short_code.Goals as goal
