@@ -2,13 +2,13 @@
 use Rattle.std.proofs.Common.{◌≡◌, ◌⊎◌, inl, inr, ℕ, ◌<◌, refl, ap, sym, ◌∙◌, subst, arith}
 use Rattle.p8_tree.specs.declared.places.Place.{Place}
 use Rattle.p8_tree.specs.declared.faults.Fault.{Fault}
-use Rattle.p8_tree.specs.Faults.{FaultBefore, Refusal, IsFirstRefusal}
+use Rattle.p8_tree.specs.Faults.{FaultBefore, PhaseFault, IsFirstRefusal}
 
-abbrev pub refusal : ℕ → ℕ → Fault → Refusal
+abbrev pub refusal : ℕ → ℕ → Fault → PhaseFault
 refusal phase file f = record { phase = phase; file = file; fault = f }
 
 -- the first fault of a file in a phase, where no earlier phase and no earlier file has one
-pub first_of : (IsRefused : Refusal → Type 0) (phase file : ℕ) (f : Fault) → IsRefused (refusal phase file f) → ((g : Fault) → IsRefused (refusal phase file g) → ¬ FaultBefore g f)
+pub first_of : (IsRefused : PhaseFault → Type 0) (phase file : ℕ) (f : Fault) → IsRefused (refusal phase file f) → ((g : Fault) → IsRefused (refusal phase file g) → ¬ FaultBefore g f)
     → ((p j : ℕ) (g : Fault) → p < phase → ¬ IsRefused (refusal p j g)) → ((j : ℕ) (g : Fault) → j < file → ¬ IsRefused (refusal phase j g)) → IsFirstRefusal IsRefused (refusal phase file f)
 first_of IsRefused phase file f holds least phases files = record {
   holds = holds;
@@ -37,7 +37,7 @@ same_fault f g a b =
     λ i. record { number = numbers i; place = places i }
 
 -- a project has one first refusal
-pub one_first : (IsRefused : Refusal → Type 0) (a b : Refusal) → IsFirstRefusal IsRefused a → IsFirstRefusal IsRefused b → a ≡ b
+pub one_first : (IsRefused : PhaseFault → Type 0) (a b : PhaseFault) → IsFirstRefusal IsRefused a → IsFirstRefusal IsRefused b → a ≡ b
 one_first IsRefused a b h k =
     let phases : a.phase ≡ b.phase = same_number a.phase b.phase (λ l. k.first a h.holds (inl (inl l))) (λ l. h.first b k.holds (inl (inl l))) in
     let files : a.file ≡ b.file = same_number a.file b.file (λ l. k.first a h.holds (inl (inr (phases, l)))) (λ l. h.first b k.holds (inl (inr (sym phases, l)))) in

@@ -12,21 +12,21 @@ use Rattle.p8_tree.specs.Views.{source_of, named_source_of}
 use Rattle.p8_words.specs.declared.failure.Fail.{Fail}
 use Rattle.p8_words.specs.declared.failure.Fail.TheVariants as fail_case
 use Rattle.p8_tree.specs.declared.faults.Fault.{Fault}
-use Rattle.p8_tree.specs.Faults.{IsFirstFault, Refusal, IsFirstRefusal}
+use Rattle.p8_tree.specs.Faults.{IsFirstFault, PhaseFault, IsFirstRefusal, IfRefused}
 use Rattle.p8_kinds.specs.declared.children.Children.{Children}
 use Rattle.p8_kinds.specs.declared.kinds.Kinds.{Kinds}
 use Rattle.p8_kinds.specs.declared.named.Named.{Named}
 use Rattle.p8_kinds.specs.FileSettings.{file_setting}
 use Rattle.p8_names.specs.Resolution.{IsNamed}
 use Rattle.p8_dat.specs.declared.assembling.Dat.{Dat}
-use Rattle.p8_dat.specs.Blocks.{placed_lines, dat_bytes, IsDatFault, IfRefused}
+use Rattle.p8_dat.specs.Blocks.{placed_lines, dat_bytes, IsDatFault}
 use Rattle.p8_dat.specs.Labels.{labels_of}
 use Rattle.p8_image.specs.declared.parts.ObjectPart.{ObjectPart}
 use Rattle.p8_build.specs.declared.fault.FileFault.{FileFault}
 use Rattle.p8_build.specs.Parts.{data_start}
 use Rattle.p8_build.specs.Faults.{in_file}
 use Rattle.p8_build.specs.Builds.{IsFile, IsRefusal}
-use Rattle.p8_build.specs.Phases.{IfFaultAt, IfFault, IfFirst, IfFirstRefused, IsNamedFile, IsNamedAt, seen_by, AreNamed, IsDataOf, IsDataAt, AreAssembled, IsNamedSo, IsObjectOf, IsCodeFaultOf}
+use Rattle.p8_build.specs.Phases.{IfFaultAt, IfFirst, IfFirstRefused, IsNamedFile, IsNamedAt, seen_by, AreNamed, IsDataOf, IsDataAt, AreAssembled, IsNamedSo, IsObjectOf, IsCodeFaultOf}
 use Rattle.p8_build.proofs.Lists.{element, one_element, Each, mapped}
 use Rattle.p8_build.proofs.Firsts.{refusal}
 use Rattle.p8_build.proofs.Refusals.{shown, in_names, in_data, in_code, in_image, one_file, data_refused, IsObjectAt, code_refused}
@@ -37,7 +37,7 @@ pub if_first : (files : List NamedSource) (children : List Children) (phase i : 
 if_first files children phase i P (fail_case.Refused x) h to = subst (λ k. IsFirstRefusal (IsRefusal files children) (refusal phase k x.fault)) (sym h.0) (to x.fault h.1)
 if_first files children phase i P fail_case.NoMemory h to = tt
 
-pub in_file_first : (files : List NamedSource) (children : List Children) (phase i : ℕ) (P : Fault → Type 0) (e : Fail Fault) → IfFault P e → ((f : Fault) → P f → IsFirstRefusal (IsRefusal files children) (refusal phase i f)) → IfFirst files children phase (in_file i e)
+pub in_file_first : (files : List NamedSource) (children : List Children) (phase i : ℕ) (P : Fault → Type 0) (e : Fail Fault) → IfRefused P e → ((f : Fault) → P f → IsFirstRefusal (IsRefusal files children) (refusal phase i f)) → IfFirst files children phase (in_file i e)
 in_file_first files children phase i P (fail_case.Refused f) h to = to f h
 in_file_first files children phase i P fail_case.NoMemory h to = tt
 
@@ -124,7 +124,7 @@ code_refused_here files named dats objects i n d f h k each count at beside firs
 
 -- ---- any phase
 
-refused_file : (files : List NamedSource) (children : List Children) (r : Refusal) → 0 < length files → IsRefusal files children r → (f : NamedSource) × (slice_get files r.file ≡ Some f)
+refused_file : (files : List NamedSource) (children : List Children) (r : PhaseFault) → 0 < length files → IsRefusal files children r → (f : NamedSource) × (slice_get files r.file ≡ Some f)
 refused_file files children r l h = elim (shown h) [
   | in_names e b ↦ (b.file, b.is.stands)
   | in_data e b ↦ (b.file, b.is.stands)

@@ -4,7 +4,7 @@ use Rattle.std.specs.Prelude.{option_map}
 use Rattle.std.specs.Str.{bytes_eq}
 use Rattle.std.proofs.lemmas.Option.{slice_get_within}
 use Rattle.p8_tree.specs.declared.places.Place.{Place}
-use Rattle.p8_tree.specs.Names.{result_word}
+use Rattle.p8_tree.specs.Names.{result_word, is_local}
 use Rattle.p8_tree.specs.Sources.{MethodTree, Source}
 use Rattle.p8_tree.specs.Projects.{NamedSource}
 use Rattle.p8_words.specs.Operators.{or_zero}
@@ -25,7 +25,6 @@ use Rattle.p8_names.proofs.Equal.{settings_equal}
 use Rattle.p8_names.proofs.Settling.{one_setting}
 use Rattle.p8_dat.specs.declared.spots.Spot.{Spot}
 use Rattle.p8_dat.specs.Spots.{Placed}
-use Rattle.p8_dat.specs.Names.{is_local}
 use Rattle.p8_dat.specs.Blocks.{placed_lines, dat_bytes}
 use Rattle.p8_dat.specs.Labels.{size_of_kind, label_of, with_label_of, labels_of}
 use Rattle.p8_gen.specs.declared.code.StringUse.{StringUse}

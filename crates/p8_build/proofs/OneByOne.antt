@@ -6,8 +6,8 @@ use Rattle.std.proofs.lemmas.Option.{slice_get_within}
 use Rattle.p8_tree.specs.declared.places.Place.{Place}
 use Rattle.p8_tree.specs.Sources.{MethodTree}
 use Rattle.p8_tree.specs.declared.faults.Fault.{Fault}
-use Rattle.p8_tree.specs.Faults.{fault, FaultBefore, IsFirstFault}
-use Rattle.p8_kinds.specs.Verdicts.{first_of_two}
+use Rattle.p8_tree.specs.Faults.{fault, FaultBefore, IsFirstFault, first_of_two}
+use Rattle.p8_tree.specs.declared.refusal.Refusal.TheVariants.{FrameTooLarge, TooManyMethods}
 use Rattle.p8_constants.specs.Standing.{IsFirstOf}
 use Rattle.p8_constants.proofs.FirstFaults.{IsSoFar, so_far_begin, so_far_same, so_far_then, so_far_end}
 use Rattle.p8_gen.specs.Names.{Names}
@@ -23,7 +23,7 @@ use Rattle.p8_build.proofs.Lists.{one_element, at_more}
 pub small_frame : (names : Names) (m : MethodTree) → ((f : Fault) → ¬ IsMethodFault names m f) → 4 * length m.params < 2 ^ 16
 small_frame names m clean =
     elim (cases_lt 2048 (1 + length m.params + longs_in names.constants m.locals)) [
-      | inl l ↦ absurd (clean (fault 26 m.place) (frame_too_large l refl))
+      | inl l ↦ absurd (clean (fault FrameTooLarge m.place) (frame_too_large l refl))
       | inr n ↦ omega arith
     ]
 
@@ -134,16 +134,16 @@ few_enough n k ms is none f (too_many j m at a b e) =
     let found : Some m ≡ None = sym at ∙ ap (slice_get ms) same ∙ none in
     absurd cc
 
-pub one_too_many : (n k : ℕ) (ms : List MethodTree) (m : MethodTree) → n ≤ 255 → k ≡ min (255 - n) 254 → slice_get ms k ≡ Some m → IsFirstFault (IsOneTooMany n ms) (fault 27 m.place)
+pub one_too_many : (n k : ℕ) (ms : List MethodTree) (m : MethodTree) → n ≤ 255 → k ≡ min (255 - n) 254 → slice_get ms k ≡ Some m → IsFirstFault (IsOneTooMany n ms) (fault TooManyMethods m.place)
 one_too_many n k ms m l is at =
     let t = too_many_there n k l is in
     record { holds = too_many k m at t.0 t.1 refl; first = only }
   where
-    only : (g : Fault) → IsOneTooMany n ms g → ¬ FaultBefore g (fault 27 m.place)
+    only : (g : Fault) → IsOneTooMany n ms g → ¬ FaultBefore g (fault TooManyMethods m.place)
     only g (too_many j x there a b e) =
         let same : j ≡ k = too_many_at n j a b ∙ sym is in
         let method : x ≡ m = one_element ms k (ap (slice_get ms) (sym same) ∙ there) at in
-        subst (λ h. ¬ FaultBefore h (fault 27 m.place)) (ap (λ y. fault 27 y.place) (sym method) ∙ e) (not_before_itself (fault 27 m.place))
+        subst (λ h. ¬ FaultBefore h (fault TooManyMethods m.place)) (ap (λ y. fault TooManyMethods y.place) (sym method) ∙ e) (not_before_itself (fault TooManyMethods m.place))
 
 -- ---- what a step adds
 

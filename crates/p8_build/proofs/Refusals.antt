@@ -3,7 +3,7 @@ use Rattle.std.proofs.Common.{◌≡◌, ◌⊎◌, inl, inr, ℕ, zero, suc, �
 use Rattle.std.proofs.lemmas.Option.{slice_get_within}
 use Rattle.p8_tree.specs.Projects.{NamedSource}
 use Rattle.p8_tree.specs.declared.faults.Fault.{Fault}
-use Rattle.p8_tree.specs.Faults.{FaultBefore, IsFirstFault, Refusal, IsFirstRefusal}
+use Rattle.p8_tree.specs.Faults.{FaultBefore, IsFirstFault, PhaseFault, IsFirstRefusal}
 use Rattle.p8_kinds.specs.declared.children.Children.{Children}
 use Rattle.p8_kinds.specs.declared.kinds.Kinds.{Kinds}
 use Rattle.p8_kinds.specs.declared.named.Named.{Named}
@@ -51,13 +51,13 @@ pub record ImageFaulty (files : List NamedSource) (children : List Children) (f 
   pub each : AreCompiled files children xs
   pub fault : IsImageFault (objects_of files children xs) (clock_by xs) f
 
-pub data Shown (files : List NamedSource) (children : List Children) (r : Refusal) : Type 0 where
+pub data Shown (files : List NamedSource) (children : List Children) (r : PhaseFault) : Type 0 where
   in_names : r.phase ≡ 0 → NameFaulty files children r.file r.fault → Shown files children r
   in_data : r.phase ≡ 1 → DataFaulty files children r.file r.fault → Shown files children r
   in_code : r.phase ≡ 2 → CodeFaulty files children r.file r.fault → Shown files children r
   in_image : r.phase ≡ 3 → r.file ≡ 0 → ImageFaulty files children r.fault → Shown files children r
 
-pub shown : {files : List NamedSource} {children : List Children} {r : Refusal} → IsRefusal files children r → Shown files children r
+pub shown : {files : List NamedSource} {children : List Children} {r : PhaseFault} → IsRefusal files children r → Shown files children r
 shown (of_names i file seen f is h) = in_names refl (record { file = file; seen = seen; is = is; fault = h })
 shown (of_data i file seen x f is named h) = in_data refl (record { file = file; seen = seen; x = x; is = is; names = named; fault = h })
 shown (of_code i file seen x f is named dat h) = in_code refl (record { file = file; seen = seen; x = x; is = is; names = named; dat = dat; fault = h })

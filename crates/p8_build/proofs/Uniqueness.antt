@@ -3,7 +3,7 @@ use Rattle.std.proofs.Common.{◌≡◌, ◌⊎◌, inl, inr, ℕ, ◌<◌, ◌�
 use Rattle.std.proofs.lemmas.Option.{slice_get_within, same_Some}
 use Rattle.p8_tree.specs.Projects.{NamedSource}
 use Rattle.p8_tree.specs.declared.faults.Fault.{Fault}
-use Rattle.p8_tree.specs.Faults.{Refusal, IsFirstRefusal}
+use Rattle.p8_tree.specs.Faults.{PhaseFault, IsFirstRefusal}
 use Rattle.p8_kinds.specs.declared.children.Children.{Children}
 use Rattle.p8_names.specs.Resolution.{IsNamed}
 use Rattle.p8_dat.specs.Blocks.{IsDatFault}
@@ -42,9 +42,9 @@ one_refused files view n m f g x y =
     let same : y.children ≡ x.children = view y.children x.children y.seen x.seen in
     let first : IsFirstRefusal (IsRefusal files x.children) y.refusal = subst (λ (cs : List Children). IsFirstRefusal (IsRefusal files cs) y.refusal) same y.first in
     let refusals : x.refusal ≡ y.refusal = one_first (IsRefusal files x.children) x.refusal y.refusal x.first first in
-    let there : slice_get files x.refusal.file ≡ Some y.file = ap (λ (r : Refusal). slice_get files r.file) refusals ∙ y.stands in (
+    let there : slice_get files x.refusal.file ≡ Some y.file = ap (λ (r : PhaseFault). slice_get files r.file) refusals ∙ y.stands in (
       x.named ∙ ap (λ (h : NamedSource). h.name) (one_element files x.refusal.file x.stands there) ∙ sym y.named,
-      x.told ∙ ap (λ (r : Refusal). r.fault) refusals ∙ sym y.told,
+      x.told ∙ ap (λ (r : PhaseFault). r.fault) refusals ∙ sym y.told,
     )
 
 -- ---- never both

@@ -5,9 +5,8 @@ use Rattle.p8_tree.specs.Proper.{IsProperFile}
 use Rattle.p8_tree.specs.Sources.{MethodTree, Source}
 use Rattle.p8_tree.specs.Projects.{NamedSource}
 use Rattle.p8_tree.specs.declared.faults.Fault.{Fault}
-use Rattle.p8_tree.specs.Faults.{IsFirstFault}
+use Rattle.p8_tree.specs.Faults.{IsFirstFault, first_of_two}
 use Rattle.p8_kinds.specs.ConstantEntries.{setting_of as setting_in}
-use Rattle.p8_kinds.specs.Verdicts.{first_of_two}
 use Rattle.p8_constants.specs.FileItems.{Item, items}
 use Rattle.p8_constants.specs.Standing.{IsFirstOf}
 use Rattle.p8_kinds.specs.declared.children.Children.{Children}

@@ -11,7 +11,8 @@ use Rattle.p8_tree.specs.Projects.{NamedSource}
 use Rattle.p8_instr.specs.declared.op.Op.{Op}
 use Rattle.p8_instr.specs.Spelling.{spelled}
 use Rattle.p8_tree.specs.declared.faults.Fault.{Fault}
-use Rattle.p8_tree.specs.Faults.{fault, IsFirstFault, Refusal, IsFirstRefusal}
+use Rattle.p8_tree.specs.Faults.{fault, IsFirstFault, IsFirstRefusal}
+use Rattle.p8_tree.specs.declared.refusal.Refusal.TheVariants.{NoPub}
 use Rattle.p8_constants.specs.FileItems.{items}
 use Rattle.p8_constants.specs.Rules.{has_public}
 use Rattle.p8_kinds.specs.declared.children.Children.{Children}
@@ -167,7 +168,7 @@ has_methods source e =
 
 top_begins : (files : List NamedSource) (source : Source) (children : Children) (x : CompiledFile) → IsCompiled source children true x → HasMain (object_of files source children x).methods
 top_begins files source children x h =
-    let public : has_public (items source) ≡ true = not_lacking (has_public (items source)) (λ lacks. h.names.clean (fault 18 (record { line = 1; column = 1 })) (of_name h.names.setting h.names.right (no_pub (lacks, refl)))) in
+    let public : has_public (items source) ≡ true = not_lacking (has_public (items source)) (λ lacks. h.names.clean (fault NoPub (record { line = 1; column = 1 })) (of_name h.names.setting h.names.right (no_pub (lacks, refl)))) in
     main_first (strings_of source) (numbered (items source)) x.codes (has_methods source public) h.code.count (λ m c at there. is_main (strings_of source) (method_names children x 0 m) m c (h.code.each 0 m c at there))
 
 pub begins : (files all : List NamedSource) (children : List Children) (xs : List CompiledFile) → 0 < length files → length children ≡ length files → length xs ≡ length files → ((f : NamedSource) (c : Children) (x : CompiledFile) → slice_get files 0 ≡ Some f → slice_get children 0 ≡ Some c → slice_get xs 0 ≡ Some x → IsCompiled f.tree c true x) → BeginsWithMain (objects_from all files children xs)

@@ -4,7 +4,8 @@ use Rattle.p8_tree.specs.declared.places.Place.{Place}
 use Rattle.p8_tree.specs.Sources.{Source}
 use Rattle.p8_tree.specs.Projects.{NamedSource}
 use Rattle.p8_tree.specs.declared.faults.Fault.{Fault}
-use Rattle.p8_tree.specs.Faults.{fault, Refusal, IsFirstRefusal}
+use Rattle.p8_tree.specs.Faults.{fault, PhaseFault, IsFirstRefusal}
+use Rattle.p8_tree.specs.declared.refusal.Refusal.TheVariants.{ImageTooLarge, BadClock}
 use Rattle.p8_kinds.specs.declared.children.Children.{Children}
 use Rattle.p8_kinds.specs.declared.kinds.Kinds.{Kinds}
 use Rattle.p8_kinds.specs.declared.name_kinds.NameKind.{NameKind}
@@ -62,10 +63,10 @@ start = record { line = 1; column = 1 }
 
 -- 28 where the first frame would end after the hub, 29 where the clock's constants tell none, at the beginning of the top file
 pub data IsImageFault (objects : List ObjectPart) (clock : Option Clock) (f : Fault) : Type 0 where
-  too_large : 32768 < (header_by objects).dcurr → fault 28 start ≡ f → IsImageFault objects clock f
-  no_clock : clock ≡ None → fault 29 start ≡ f → IsImageFault objects clock f
+  too_large : 32768 < (header_by objects).dcurr → fault ImageTooLarge start ≡ f → IsImageFault objects clock f
+  no_clock : clock ≡ None → fault BadClock start ≡ f → IsImageFault objects clock f
 
-pub data IsRefusal (files : List NamedSource) (children : List Children) : Refusal → Type 0 where
+pub data IsRefusal (files : List NamedSource) (children : List Children) : PhaseFault → Type 0 where
   of_names : (i : ℕ) (file : NamedSource) (seen : Children) (f : Fault) → IsFile files children i file seen
       → IsNameFault file.tree seen (i == 0) f → IsRefusal files children (record { phase = 0; file = i; fault = f })
   of_data : (i : ℕ) (file : NamedSource) (seen : Children) (x : CompiledFile) (f : Fault) → IsFile files children i file seen
@@ -83,7 +84,7 @@ pub data IsRefusal (files : List NamedSource) (children : List Children) : Refus
 pub record IsRefusedWith (files : List NamedSource) (name : List ℕ) (f : Fault) : Type 0 where
   pub children : List Children
   pub seen : AreChildren files children
-  pub refusal : Refusal
+  pub refusal : PhaseFault
   pub first : IsFirstRefusal (IsRefusal files children) refusal
   pub file : NamedSource
   pub stands : slice_get files refusal.file ≡ Some file

@@ -3,8 +3,8 @@ use Rattle.std.specs.Prelude.{◌≡◌, ℕ, ◌+◌, ◌*◌, true, false, IsT
 use Rattle.p8_tree.specs.declared.places.Place.{Place}
 use Rattle.p8_tree.specs.Sources.{MethodTree}
 use Rattle.p8_tree.specs.declared.faults.Fault.{Fault}
-use Rattle.p8_tree.specs.Faults.{fault, IsFirstFault}
-use Rattle.p8_kinds.specs.Verdicts.{first_of_two}
+use Rattle.p8_tree.specs.Faults.{fault, IsFirstFault, first_of_two}
+use Rattle.p8_tree.specs.declared.refusal.Refusal.TheVariants.{TooManyMethods}
 use Rattle.p8_constants.specs.Standing.{IsFirstOf}
 use Rattle.p8_gen.specs.Names.{Names}
 use Rattle.p8_gen.specs.Scopes.{names_from}
@@ -65,4 +65,4 @@ pub record IsCoded (names : ℕ → MethodTree → Names) (number : Place → �
 
 -- 27 at the first method too many, beside so many instances
 pub data IsOneTooMany (instances : ℕ) (ms : List MethodTree) (f : Fault) : Type 0 where
-  too_many : (k : ℕ) (m : MethodTree) → slice_get ms k ≡ Some m → are_too_many instances (k + 1) ≡ true → are_too_many instances k ≡ false → fault 27 m.place ≡ f → IsOneTooMany instances ms f
+  too_many : (k : ℕ) (m : MethodTree) → slice_get ms k ≡ Some m → are_too_many instances (k + 1) ≡ true → are_too_many instances k ≡ false → fault TooManyMethods m.place ≡ f → IsOneTooMany instances ms f

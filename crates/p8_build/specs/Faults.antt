@@ -15,5 +15,5 @@ in_file file fail_case.NoMemory = fail_case.NoMemory
 
 -- a file's fault is told by the file's name, or there was no memory for that
 abbrev pub IsToldOf : NamedSource → Fault → BuildFault → Type 0
-IsToldOf f x (build_case.Source file number place) = (file ≡ f.name) × (number ≡ x.number) × (place ≡ x.place)
+IsToldOf f x (build_case.Source file fault) = (file ≡ f.name) × (fault ≡ x)
 IsToldOf f x build_case.NoMemory = Unit {0}

@@ -24,10 +24,6 @@ use Rattle.p8_stmt.specs.declared.code.MethodCode.{MethodCode}
 
 -- ---- files
 
--- how many files a project may have
-abbrev pub most_files : ℕ
-most_files = 255
-
 -- each tree is one that was read
 abbrev pub AreProper : List NamedSource → Type 0
 AreProper files = (i : ℕ) (f : NamedSource) → slice_get files i ≡ Some f → IsProperFile f.tree

@@ -7,7 +7,7 @@ use Rattle.p8_tree.specs.Views.{source_of}
 use Rattle.p8_words.specs.declared.failure.Fail.{Fail}
 use Rattle.p8_words.specs.declared.failure.Fail.TheVariants as fail_case
 use Rattle.p8_tree.specs.declared.faults.Fault.{Fault}
-use Rattle.p8_tree.specs.Faults.{IsFirstFault, Refusal, IsFirstRefusal}
+use Rattle.p8_tree.specs.Faults.{IsFirstFault, IsFirstRefusal, IfRefused}
 use Rattle.p8_kinds.specs.declared.children.Children.{Children}
 use Rattle.p8_kinds.specs.declared.kinds.Kinds.{Kinds}
 use Rattle.p8_kinds.specs.declared.named.Named.{Named}
@@ -37,10 +37,6 @@ use Rattle.p8_build.specs.Builds.{IsFile, IsRefusal, IsImageFault, AreCompiled, 
 abbrev pub IfFaultAt : ℕ → (Fault → Type 0) → Fail FileFault → Type 0
 IfFaultAt i P (fail_case.Refused x) = (x.file ≡ i) × P x.fault
 IfFaultAt i P fail_case.NoMemory = Unit {0}
-
-abbrev pub IfFault : (Fault → Type 0) → Fail Fault → Type 0
-IfFault P (fail_case.Refused f) = P f
-IfFault P fail_case.NoMemory = Unit {0}
 
 -- the first refusal, which comes in this phase
 abbrev pub IfFirst : List NamedSource → List Children → ℕ → Fail FileFault → Type 0
@@ -140,7 +136,7 @@ pub record IsFinished (told : Option Clock) (objects : List ObjectPart) (b : Bui
   pub image : b.image ≡ image_in (image_of clock objects)
 
 abbrev pub IfFirstImageFault : List ObjectPart → Option Clock → Fail Fault → Type 0
-IfFirstImageFault objects clock fail = IfFault (IsFirstFault (IsImageFault objects clock)) fail
+IfFirstImageFault objects clock fail = IfRefused (IsFirstFault (IsImageFault objects clock)) fail
 
 -- ---- all phases
 

@@ -29,5 +29,5 @@ IsImageBuilt files image = IsImageOf files image.file × (image ≡ image_in ima
 
 -- the project's first refusal; want of memory tells nothing
 abbrev pub IsRefusal : List NamedSource → BuildFault → Type 0
-IsRefusal files (build_case.Source file number place) = IsRefusedWith files file (record { number = number; place = place })
+IsRefusal files (build_case.Source file fault) = IsRefusedWith files file fault
 IsRefusal files build_case.NoMemory = Unit {0}

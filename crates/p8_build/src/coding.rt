@@ -8,12 +8,11 @@ ghost use Rattle.p8_build.specs.Numbers.{number_by};
 ghost use Rattle.p8_build.specs.Coding.{part_by, parts_by, names_by, AreReady, IsOneTooMany, IsCoded, IsOneMore};
 
 use crate::texts::TextNumbers;
-use p8_constants::first_of_two;
 use p8_gen::Tables;
 use p8_image::MethodPart;
 use p8_kinds::Kinds;
 use p8_stmt::{MethodCode, method_code};
-use p8_tree::{Fault, List, Method, Text};
+use p8_tree::{Fault, List, Method, Refusal, Text, first_of_two};
 use p8_words::{Fail, NoMemory};
 use std::alloc::{AllocError, Global};
 
@@ -164,8 +163,5 @@ pub(crate) fn first_too_many(instances: u32, methods: &[&Method]) -> Option<Faul
 {
     let left = MOST_ENTRIES.checked_sub(instances as usize)?;
     let method = methods.get(left.min(MOST_METHODS))?;
-    Some(Fault {
-        number: 27,
-        place: method.place,
-    })
+    Some(Refusal::TooManyMethods.at(method.place))
 }

@@ -4,7 +4,7 @@ ghost use Rattle.p8_tree.specs.Views.{named_source_of};
 ghost use Rattle.p8_build.specs.Faults.{in_file, IsToldOf};
 ghost use Rattle.p8_build.specs.declared.fault.BuildFault.TheVariants.{NoMemory as OutOfMemory};
 
-use p8_tree::{Fault, Place, ProjectFile, Text};
+use p8_tree::{Fault, ProjectFile, Text};
 use p8_words::{Fail, NoMemory};
 use std::alloc::Global;
 
@@ -15,10 +15,8 @@ pub enum BuildFault {
     Source {
         /// The name of the file, as it is mentioned.
         file: Text,
-        /// The number of the refusal: 12 to 18 or 20 to 29.
-        number: u8,
-        /// Where in the file.
-        place: Place,
+        /// Why, by a refusal of the numbers 12 to 18 or 20 to 29, and where in the file.
+        fault: Fault,
     },
     /// There was no memory.
     NoMemory,
@@ -51,17 +49,13 @@ pub(crate) fn in_file(file: usize, fail: Fail<Fault>) -> Fail<FileFault>
     }
 }
 
-/// What is told of a fault of a file: the file's name, and the fault's number and place; or `NoMemory` where there is none
+/// What is told of a fault of a file: the file's name and the fault; or `NoMemory` where there is none
 /// for the name.
 pub fn told(alloc: Global, file: &ProjectFile, fault: Fault) -> BuildFault
     ensures { IsToldOf (named_source_of file.now) fault result }
 {
     match Text::copy_of(alloc, file.name.as_slice()) {
-        Ok(file) => BuildFault::Source {
-            file,
-            number: fault.number,
-            place: fault.place,
-        },
+        Ok(file) => BuildFault::Source { file, fault },
         Err(_) => BuildFault::NoMemory,
     }
 }

@@ -9,7 +9,7 @@ ghost use Rattle.p8_build.specs.Phases.{clock_in, IsFinished, IfFirstImageFault}
 use crate::building::Built;
 use p8_image::{Clock, ObjectPart, layout};
 use p8_kinds::{Kinds, NameKind};
-use p8_tree::{Fault, List, Place, Text};
+use p8_tree::{Fault, List, Place, Refusal, Text};
 use p8_words::{Fail, NoMemory};
 use std::alloc::{AllocError, Global};
 
@@ -34,7 +34,7 @@ pub fn finish(alloc: Global, kinds: &Kinds, objects: List<ObjectPart>) -> Result
     };
     match layout(alloc, clock, objects.as_slice()) {
         Ok(image) => Ok(Built { image, objects }),
-        Err(Fail::Refused(_)) => Err(refused(28)),
+        Err(Fail::Refused(_)) => Err(refused(Refusal::ImageTooLarge)),
         Err(Fail::NoMemory) => Err(Fail::NoMemory),
     }
 }
@@ -49,20 +49,17 @@ fn without_clock(alloc: Global, objects: &[ObjectPart]) -> Fail<Fault>
         frequency: 0,
     };
     match layout(alloc, none, objects) {
-        Ok(_) => refused(29),
-        Err(Fail::Refused(_)) => refused(28),
+        Ok(_) => refused(Refusal::BadClock),
+        Err(Fail::Refused(_)) => refused(Refusal::ImageTooLarge),
         Err(Fail::NoMemory) => Fail::NoMemory,
     }
 }
 
 /// A refusal of the whole project.
-fn refused(number: u8) -> Fail<Fault>
-    ensures { result ≡ fail_case.Refused (fault number start) }
+fn refused(refusal: Refusal) -> Fail<Fault>
+    ensures { result ≡ fail_case.Refused (fault refusal start) }
 {
-    Fail::Refused(Fault {
-        number,
-        place: START,
-    })
+    Fail::Refused(refusal.at(START))
 }
 
 /// The clock of a program, by the constants of its top file.

@@ -3,29 +3,30 @@ ghost use Rattle.std.specs.Prelude.{◌≡◌, ◌≤◌, ◌++◌, length, map,
 ghost use Rattle.std.specs.List.{flat_map};
 ghost use Rattle.p8_tree.specs.Proper.{IsProperFile};
 ghost use Rattle.p8_tree.specs.Views.{source_of, child_of, declared_of, named_source_of};
-ghost use Rattle.p8_tree.specs.Faults.{IsFirstFault};
+ghost use Rattle.p8_tree.specs.Faults.{IsFirstFault, IfRefused};
+ghost use Rattle.p8_tree.specs.Projects.{most_files};
 ghost use Rattle.p8_kinds.specs.ConstantEntries.{setting_of};
 ghost use Rattle.p8_constants.specs.Standing.{item_of as item_tree, items_of as item_trees};
 ghost use Rattle.p8_constants.specs.FileItems.{items};
 ghost use Rattle.p8_names.specs.Kinds.{numbered as numbered_methods, object_in, objects};
-ghost use Rattle.p8_build.specs.Parts.{most_files, number_of, variable_in, instances_of, AreProper};
+ghost use Rattle.p8_build.specs.Parts.{number_of, variable_in, instances_of, AreProper};
 ghost use Rattle.p8_build.specs.Files.{object_of};
 ghost use Rattle.p8_build.specs.Numbers.{text_of};
-ghost use Rattle.p8_build.specs.Phases.{AreNamed, seen_by, AreAssembled, AreObjects, IfFirst, IfFault, IsNamedSo, IsObjectOf, IsCodeFaultOf, object_by, compiled};
+ghost use Rattle.p8_build.specs.Phases.{AreNamed, seen_by, AreAssembled, AreObjects, IfFirst, IsNamedSo, IsObjectOf, IsCodeFaultOf, object_by, compiled};
 
 use crate::assembling::instances;
 use crate::coding::{Coded, FileTables, code_of_all, first_too_many, parts_of};
 use crate::fault::{FileFault, in_file};
 use crate::string_texts::StringText;
 use crate::texts::{TextNumbers, copies_of, strings_of_all};
-use p8_constants::{Item, count_value, first_of_two, items_of};
+use p8_constants::{Item, count_value, items_of};
 use p8_dat::Dat;
 use p8_gen::Tables;
 use p8_image::{MethodPart, ObjectPart, Variable};
 use p8_kinds::{Consts, Named, consts_of};
 use p8_names::numbered;
 use p8_stmt::MethodCode;
-use p8_tree::{Fault, List, ProjectFile, Text};
+use p8_tree::{Fault, List, ProjectFile, Text, first_of_two};
 use p8_words::{Fail, NoMemory};
 use std::alloc::{AllocError, Global};
 
@@ -64,7 +65,7 @@ fn object_of(
     requires proper { IsProperFile (source_of named.now.file.now) }
     requires named { IsNamedSo named.now }
     ensures object { IfOk result (IsObjectOf (map named_source_of files.now) (source_of named.now.file.now) named.now.children.now named.now.kinds dat.now) }
-    ensures refused { IfErr result (IfFault (IsFirstFault (IsCodeFaultOf (source_of named.now.file.now) named.now.children.now named.now.kinds dat.now))) }
+    ensures refused { IfErr result (IfRefused (IsFirstFault (IsCodeFaultOf (source_of named.now.file.now) named.now.children.now named.now.kinds dat.now))) }
 {
     let items = items_of(alloc, named.file)?;
     let methods = numbered(alloc, &items)?;

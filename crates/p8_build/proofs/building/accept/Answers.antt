@@ -2,10 +2,10 @@ use Rattle.std.proofs.Common.{◌≡◌, ◌<◌, List, length, map, slice_get, 
 use Rattle.std.proofs.lemmas.List.{length-map}
 use Rattle.std.proofs.lemmas.Option.{slice_get_read}
 use Rattle.p8_tree.specs.Views.{named_source_of}
-use Rattle.p8_tree.specs.Faults.{IsFirstFault}
+use Rattle.p8_tree.specs.Faults.{IsFirstFault, IfRefused}
 use Rattle.p8_kinds.specs.declared.named.Named.{Named}
 use Rattle.p8_build.specs.Builds.{IsImageFault}
-use Rattle.p8_build.specs.Phases.{IfFirst, IfFirstRefused, AreNamed, AreAssembled, AreObjects, IfFault, IsFinished, seen_by, clock_in}
+use Rattle.p8_build.specs.Phases.{IfFirst, IfFirstRefused, AreNamed, AreAssembled, AreObjects, IsFinished, seen_by, clock_in}
 use Rattle.p8_build.proofs.Lists.{told}
 use Rattle.p8_build.proofs.Refusals.{code_faulty}
 use Rattle.p8_build.proofs.Wholes.{begins_with_main, finished_by, accepted_by, image_refused}
@@ -64,5 +64,5 @@ returns-clause-refused c =
     let d = slice_to (λ cs ns. AreAssembled files cs ns c.in_ok-assembled.assembled) c.as_slice.result.now named children c.as_slice.ensures c.in_ok-named.ensures.children
     (c.in_ok-assembled.ensures.assembled files (slice_from (λ cs ns. AreNamed files cs ns) c.as_slice.result.now named children c.as_slice.ensures c.in_ok-named.ensures.children c.in_ok-named.ensures.named)) in
     first_refused files children 3 c.in_file.result l (subst (IfFirst files children 3) (sym c.in_file.ensures)
-    (in_file_first files children 3 0 (IsFirstFault (IsImageFault c.in_ok-objects.objects (clock_in n.kinds))) c.in-Err.fail (subst (λ (m : Named). IfFault (IsFirstFault (IsImageFault c.in_ok-objects.objects (clock_in m.kinds))) c.in-Err.fail) (sym c.index-as_slice-0.is) c.in-Err.ensures.refused) (λ f first.
+    (in_file_first files children 3 0 (IsFirstFault (IsImageFault c.in_ok-objects.objects (clock_in n.kinds))) c.in-Err.fail (subst (λ (m : Named). IfRefused (IsFirstFault (IsImageFault c.in_ok-objects.objects (clock_in m.kinds))) c.in-Err.fail) (sym c.index-as_slice-0.is) c.in-Err.ensures.refused) (λ f first.
     image_refused files children named c.in_ok-assembled.assembled n c.in_ok-objects.objects f l beside c.in_ok-named.ensures.named d h (λ j g r. no_code files children h.xs beside h.compiled j g (code_faulty j g r)) at first)))
