@@ -5,6 +5,7 @@ use Rattle.p8_tree.specs.declared.places.Place.{Place}
 use Rattle.p8_tree.specs.Sources.{MethodTree}
 use Rattle.p8_tree.specs.declared.faults.Fault.{Fault}
 use Rattle.p8_tree.specs.Faults.{fault}
+use Rattle.p8_tree.specs.declared.refusal.Refusal.TheVariants.{JumpTooFar}
 use Rattle.p8_instr.specs.Reading.{bare}
 use Rattle.p8_image.specs.Layout.{linked}
 use Rattle.p8_image.specs.Loading.{memory_of}
@@ -57,7 +58,7 @@ module _ (strings : List (Place × List ℕ)) (offsets : List ℕ) where
 
     -- no jump goes too far
     near : ((f : Fault) → IsMethodFault (moved names zeros s) m f → ⊥) → whole.too_far ≡ []
-    near clean = sym (twins text names s m.body).far ∙ none-in bare_code.too_far (λ p has. clean (fault 25 p) (jump_too_far p has refl))
+    near clean = sym (twins text names s m.body).far ∙ none-in bare_code.too_far (λ p has. clean (fault JumpTooFar p) (jump_too_far p has refl))
 
     pub has-code : (code : MethodCode) (image : List ℕ) (entry : ℕ) → IsCodeOf (moved names zeros s) m code → ((f : Fault) → IsMethodFault (moved names zeros s) m f → ⊥) → Lies image → 16 ≤ entry
         → Stands image entry (linked (slice_index offsets) (map (use_of_text strings) code.strings) code.bytes) → HasCode (memory_of image) entry whole

@@ -13,6 +13,7 @@ use Rattle.p8_tree.specs.Sources.{Child, MethodTree, Source}
 use Rattle.p8_tree.specs.Projects.{NamedSource}
 use Rattle.p8_tree.specs.declared.faults.Fault.{Fault}
 use Rattle.p8_tree.specs.Faults.{fault}
+use Rattle.p8_tree.specs.declared.refusal.Refusal.TheVariants.{TooManyMethods}
 use Rattle.p8_kinds.specs.Meanings.{Setting}
 use Rattle.p8_constants.specs.Constants.{counted}
 use Rattle.p8_constants.specs.FileItems.{Item, constant, variable, object, method, line, items}
@@ -111,7 +112,7 @@ few-methods source seen x code few =
     let n = instances (setting_of seen x) (objects (items source)) in
     let ms = numbered (items source) in
     none-too-many n ms (are_too_many n (length ms)) refl few
-    (λ k m is above below. code.clean (fault 27 m.place) (too_many k m is (record { too_many = above; first = below }) refl))
+    (λ k m is above below. code.clean (fault TooManyMethods m.place) (too_many k m is (record { too_many = above; first = below }) refl))
 
 pub instances-few : (source : Source) (seen : Children) (top : Bool) (x : CompiledFile) → IsNamed source seen top x.kinds → instances (setting_of seen x) (objects (items source)) ≤ 255
 instances-few source seen top x named =

@@ -4,6 +4,7 @@ use Rattle.std.specs.Prelude.{IsTrue}
 use Rattle.std.proofs.lemmas.Option.{same_Some, none-some}
 use Rattle.p8_tree.specs.Sources.{MethodTree, Source}
 use Rattle.p8_tree.specs.Faults.{fault}
+use Rattle.p8_tree.specs.declared.refusal.Refusal.TheVariants.{NoPub}
 use Rattle.p8_constants.specs.FileItems.{Item, constant, variable, object, method, line, items}
 use Rattle.p8_constants.specs.Rules.{has_public}
 use Rattle.p8_kinds.specs.declared.children.Children.{Children}
@@ -39,7 +40,7 @@ has-one false never = absurd (never refl)
 pub first-method : (source : Source) (children : Children) (found : Kinds) → IsNamed source children true found → (m : MethodTree) × (slice_get (numbered (items source)) 0 ≡ Some m)
 first-method source children found named =
     let some : has_public (items source) ≡ true = has-one (has_public (items source))
-    (λ none. named.clean (fault 18 (record { line = 1; column = 1 })) (of_name named.setting named.right (no_pub (none, refl)))) in
+    (λ none. named.clean (fault NoPub (record { line = 1; column = 1 })) (of_name named.setting named.right (no_pub (none, refl)))) in
     first-by (publics (items source)) (privates (items source)) (λ none. let never : true ≡ false = sym some ∙ no-publics (items source) none in cc)
 
 has-main : (ms : List MethodPart) (m : MethodPart) → slice_get ms 0 ≡ Some m → IsMain m → HasMain ms

@@ -11,6 +11,7 @@ use Rattle.p8_tree.specs.Expressions.{Tree}
 use Rattle.p8_tree.specs.Sources.{Declared, MethodTree, Source}
 use Rattle.p8_tree.specs.Projects.{NamedSource}
 use Rattle.p8_tree.specs.Faults.{fault}
+use Rattle.p8_tree.specs.declared.refusal.Refusal.TheVariants.{FrameTooLarge}
 use Rattle.p8_instr.specs.Reading.{bare}
 use Rattle.p8_instr.specs.Spelling.{spelled}
 use Rattle.p8_instr.specs.Table.{rows}
@@ -108,7 +109,7 @@ coded files source changed seen x k m is at =
     let e = is.each k m n.0 c.0 at n.1 c.1 in
     let right = e.1.right in
     let bound : 1 + length m.params + longs_in (setting_of seen x) m.locals ≤ 2048 = elim (cases_lt 2048 (1 + length m.params + longs_in (setting_of seen x) m.locals)) [
-      | inl large ↦ absurd (e.1.fits (fault 26 m.place) (frame_too_large large refl))
+      | inl large ↦ absurd (e.1.fits (fault FrameTooLarge m.place) (frame_too_large large refl))
       | inr small ↦ small
     ] in
     let size = size-is (setting_of seen x) m.locals in

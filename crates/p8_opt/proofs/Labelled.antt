@@ -12,6 +12,7 @@ use Rattle.p8_tree.specs.Sources.{Contents, Datum, Line, MethodTree, BlockTree, 
 use Rattle.p8_tree.specs.Projects.{NamedSource}
 use Rattle.p8_tree.specs.Proper.{IsSize, IfThere, IsProperFile, IsProperBlock, IsProperLine, IsProperDatum, AreProperContents}
 use Rattle.p8_words.specs.Operators.{or_zero}
+use Rattle.p8_tree.specs.Names.{is_local}
 use Rattle.p8_kinds.specs.Meanings.{Setting}
 use Rattle.p8_kinds.specs.Values.{value}
 use Rattle.p8_dat.specs.Encoding.{long_of_line}
@@ -20,7 +21,7 @@ use Rattle.p8_kinds.specs.declared.kinds.Kinds.{Kinds}
 use Rattle.p8_kinds.specs.declared.name_kinds.Label.{Label}
 use Rattle.p8_dat.specs.declared.spots.Spot.{Spot}
 use Rattle.p8_dat.specs.Spots.{limit, advanced, number, string, elements, size_of, behind_item, behind_items, begun, ended, behind, Placed, placed}
-use Rattle.p8_dat.specs.Names.{is_local, is_named, Region, in_front, regions, names_in}
+use Rattle.p8_dat.specs.Names.{is_named, Region, in_front, regions, names_in}
 use Rattle.p8_dat.specs.Bytes.{element, in_data, in_instruction, spots, value_bytes, text_bytes, elements_bytes, item_bytes, items_bytes, contents_bytes, zeros, line_bytes, lines_bytes}
 use Rattle.p8_dat.specs.Blocks.{block_lines, dat_lines, first_spot, counts_setting, placed_lines, values_setting, regions_bytes, dat_bytes}
 use Rattle.p8_dat.specs.Labels.{label_of, with_label_of, labels_of}

@@ -4,6 +4,7 @@ use Rattle.std.proofs.lemmas.Option.{slice_get_within}
 use Rattle.p8_tree.specs.Projects.{NamedSource}
 use Rattle.p8_tree.specs.Sources.{Source}
 use Rattle.p8_tree.specs.Faults.{fault}
+use Rattle.p8_tree.specs.declared.refusal.Refusal.TheVariants.{NoPub}
 use Rattle.p8_constants.specs.FileItems.{items}
 use Rattle.p8_constants.specs.Rules.{has_public}
 use Rattle.p8_kinds.specs.declared.children.Children.{Children}
@@ -40,7 +41,7 @@ HaveHeaders = (clock : Clock) (objects : List ObjectPart) → BeginsWithMain obj
 
 short-main : (files : List NamedSource) (source : Source) (seen : Children) (x y : CompiledFile) → IsCompiled source seen true x → IsShort source seen x y → HasMain (object_of files source seen y).methods
 short-main files source seen x y is s =
-    let public : has_public (items source) ≡ true = not_lacking (has_public (items source)) (λ lacks. is.names.clean (fault 18 (record { line = 1; column = 1 })) (of_name is.names.setting is.names.right (no_pub (lacks, refl)))) in
+    let public : has_public (items source) ≡ true = not_lacking (has_public (items source)) (λ lacks. is.names.clean (fault NoPub (record { line = 1; column = 1 })) (of_name is.names.setting is.names.right (no_pub (lacks, refl)))) in
     main_first (strings_of source) (numbered (items source)) y.codes (has_methods source public) s.count (λ m c at there.
     let short = s.each 0 m c at there in
     is_main (strings_of source) (widened (method_names seen x 0 m) (wide_in short.widths)) (rebodied m (folded_body (constants_in (setting_of seen x)) m.body)) c short.code_is)

@@ -7,6 +7,7 @@ use Rattle.p8_tree.specs.Sources.{MethodTree}
 use Rattle.p8_tree.specs.Statements.{Statements}
 use Rattle.p8_tree.specs.declared.faults.Fault.{Fault}
 use Rattle.p8_tree.specs.Faults.{fault}
+use Rattle.p8_tree.specs.declared.refusal.Refusal.TheVariants.{JumpTooFar}
 use Rattle.p8_gen.specs.Depths.{held_in}
 use Rattle.p8_gen.specs.Methods.{method_code}
 use Rattle.p8_gen.specs.Names.{Names, all_wide}
@@ -39,7 +40,7 @@ module _ (n : Names) (wide : n.wide ≡ all_wide) (hides : HideNoConstant n) (ss
 
 pub method-faultless : (n : Names) → n.wide ≡ all_wide → HideNoConstant n → (m : MethodTree) → AreProperStatements m.body → ((f : Fault) → ¬ IsMethodFault n m f) → (f : Fault) → ¬ IsMethodFault n (rebodied m (folded_body (constants_in n.constants) m.body)) f
 method-faultless n wide hides m proper clean f (jump_too_far place has is) =
-    let far = none-in (method_code n m.body).too_far (λ at there. clean (fault 25 at) (jump_too_far at there refl)) in
+    let far = none-in (method_code n m.body).too_far (λ at there. clean (fault JumpTooFar at) (jump_too_far at there refl)) in
     never-in (method_code n (folded_body (constants_in n.constants) m.body)).too_far place (method-near n wide hides m.body proper far) has
 method-faultless n wide hides m proper clean f (frame_too_large large is) = clean f (frame_too_large large is)
 method-faultless n wide hides m proper clean f (holds_too_much much is) =

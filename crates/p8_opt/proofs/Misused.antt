@@ -7,6 +7,7 @@ use Rattle.p8_tree.specs.Statements.{Course, Forever, Count, Before, After, From
 use Rattle.p8_tree.specs.Lists.{count_of_trees}
 use Rattle.p8_tree.specs.declared.faults.Fault.{Fault}
 use Rattle.p8_tree.specs.Faults.{fault}
+use Rattle.p8_tree.specs.declared.refusal.Refusal.TheVariants.{Unknown}
 use Rattle.p8_kinds.specs.Values.{FaultIn, FaultInTrees, where_so, HasValue, IsRefused}
 use Rattle.p8_kinds.proofs.Judged.{one_outcome}
 use Rattle.p8_kinds.specs.declared.name_kinds.NameKind.{NameKind}
@@ -69,7 +70,7 @@ module _ (d e : Environment) (same : SaySame d e) where
   constant-same (Some (kind_case.Local offset)) object name p q is = refl
   constant-same (Some (kind_case.Label size)) object name p q is = refl
   constant-same (Some (kind_case.Method number params)) object name p q is = refl
-  constant-same (Some (kind_case.Object item position count)) object name p q is = ap (λ b. where_so (not b) (fault 15 q)) (same.constants object name item position count is)
+  constant-same (Some (kind_case.Object item position count)) object name p q is = ap (λ b. where_so (not b) (fault Unknown q)) (same.constants object name item position count is)
 
   own-same : (p : Place) (form : Form) → own_misuse d p form ≡ own_misuse e p form
   own-same p (Number n) = refl

@@ -11,6 +11,7 @@ use Rattle.p8_tree.specs.Sources as trees
 use Rattle.p8_tree.specs.Sources.{MethodTree, Source}
 use Rattle.p8_tree.specs.Projects.{NamedSource}
 use Rattle.p8_tree.specs.Faults.{fault}
+use Rattle.p8_tree.specs.declared.refusal.Refusal.TheVariants.{WrongArity}
 use Rattle.p8_constants.specs.FileItems.{Item, constant, variable, object, method, line, items}
 use Rattle.p8_constants.specs.Names.{predefined_names}
 use Rattle.p8_constants.specs.Rules.{HasTooManyParams}
@@ -130,7 +131,7 @@ at-front (y ∷ xs) ys (suc k) x is = at-front xs ys k x is
 -- a method has few parameters
 pub few-params : (source : Source) (children : Children) (top : Bool) (x : CompiledFile) (names_are : resolution.IsNamed source children top x.kinds) (k : ℕ) (m : MethodTree) → slice_get (numbered (items source)) k ≡ Some m → length m.params ≤ 15
 few-params source children top x names_are k m at = elim (cases_lt 15 (length m.params)) [
-  | inl large ↦ absurd (names_are.clean (fault 17 m.place) (of_name names_are.setting names_are.right (too_many_params (of-numbered HasTooManyParams (items source) k m (fault 17 m.place) at (large, refl)))))
+  | inl large ↦ absurd (names_are.clean (fault WrongArity m.place) (of_name names_are.setting names_are.right (too_many_params (of-numbered HasTooManyParams (items source) k m (fault WrongArity m.place) at (large, refl)))))
   | inr small ↦ small
 ]
 

@@ -5,13 +5,13 @@ use Rattle.std.specs.Map.{lookup}
 use Rattle.std.specs.Str.{bytes_eq}
 use Rattle.std.proofs.lemmas.List.Elements.{All-nil, All-cons, All-append, All-head, All-tail, All-map}
 use Rattle.std.proofs.lemmas.Option.{slice_get_within}
-use Rattle.p8_tree.specs.Names.{result_word, is_reserved, IsName, IsLabel, plain, behind_colon}
+use Rattle.p8_tree.specs.Names.{result_word, is_reserved, IsName, IsLabel, plain, behind_colon, is_local}
 use Rattle.p8_tree.specs.Sources as trees
 use Rattle.p8_tree.specs.Sources.{Constant, Declared, MethodTree, Line, BlockTree, Source}
 use Rattle.p8_tree.specs.Proper.{IsProperFile, IsProperBlock, IsProperConstant, setting, with_value, counted, IsProperLocal, IsProperMethod, IfThere}
 use Rattle.p8_kinds.specs.Meanings.{Setting}
 use Rattle.p8_constants.specs.FileItems.{Item, constant, variable, object, method, line, block_items, items}
-use Rattle.p8_constants.specs.Names.{name_of, label_name, is_local, predefined, truth_and_limits, internal_clocks, external_clocks, low_factors, high_factors}
+use Rattle.p8_constants.specs.Names.{name_of, label_name, predefined, truth_and_limits, internal_clocks, external_clocks, low_factors, high_factors}
 use Rattle.p8_constants.specs.Rules.{count_in}
 use Rattle.p8_kinds.specs.declared.children.Children.{Children}
 use Rattle.p8_kinds.specs.declared.kinds.Kinds.{Kinds}

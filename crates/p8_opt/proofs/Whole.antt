@@ -7,6 +7,7 @@ use Rattle.p8_tree.specs.Names.{result_word}
 use Rattle.p8_tree.specs.Sources.{MethodTree}
 use Rattle.p8_tree.specs.Projects.{NamedSource}
 use Rattle.p8_tree.specs.Faults.{fault}
+use Rattle.p8_tree.specs.declared.refusal.Refusal.TheVariants.{FrameTooLarge}
 use Rattle.p8_access.specs.declared.kinds.Origin.{Origin}
 use Rattle.p8_access.specs.declared.kinds.Origin.TheVariants.{Spin}
 use Rattle.p8_access.specs.Worlds.{World}
@@ -193,7 +194,7 @@ module _ (files : List NamedSource) (children : List Children) (xs : List Compil
       let stands : MethodAt t body entry = method-stands names t entry agree body read.proper read.loops read.clean has in
       let ends : method_end memory i.base ≡ length object.methods + 1 = s.method_count ∙ omega (arith, n.2) in
       let held : held_in own body ≤ 128 = elim (cases_lt 128 (held_in own body)) [
-        | inl large ↦ absurd (read.fits (fault 26 m.place) (holds_too_much large refl))
+        | inl large ↦ absurd (read.fits (fault FrameTooLarge m.place) (holds_too_much large refl))
         | inr small ↦ small
       ] in
       record {

@@ -1,9 +1,10 @@
 // Building a project with short code.
 ghost use Rattle.std.specs.Prelude.{◌≡◌, ◌≤◌, ◌<◌, length, map, IfOk, IfErr};
 ghost use Rattle.p8_tree.specs.Views.{named_sources_of, named_source_of};
+ghost use Rattle.p8_tree.specs.Projects.{most_files};
 ghost use Rattle.p8_names.specs.Children.{AreChildren};
 ghost use Rattle.p8_names.specs.Mentions.{HaveMentioned, HaveNoRing};
-ghost use Rattle.p8_build.specs.Parts.{AreProper, most_files};
+ghost use Rattle.p8_build.specs.Parts.{AreProper};
 ghost use Rattle.p8_build.specs.Phases.{IfFirstRefused};
 ghost use Rattle.p8_build.specs.Told.{IsRefusal};
 ghost use Rattle.p8_opt.specs.Shorts.{IsShortBuiltTo, IsShortImageBuilt};

@@ -1,7 +1,7 @@
 // The objects of a project with short code.
 ghost use Rattle.std.specs.Prelude.{◌≡◌, ◌≤◌, length, map, IfOk};
 ghost use Rattle.p8_tree.specs.Views.{named_source_of};
-ghost use Rattle.p8_build.specs.Parts.{most_files};
+ghost use Rattle.p8_tree.specs.Projects.{most_files};
 ghost use Rattle.p8_opt.specs.Steps.{IsAcceptedFile, IsShortObject, AreAcceptedFiles, AreShortObjects};
 
 use crate::coding::short_codes;

@@ -1,9 +1,9 @@
 use Rattle.std.proofs.Common.{ℕ, subst}
 use Rattle.p8_tree.specs.Views.{method_of}
-use Rattle.p8_tree.specs.Faults.{IsFirstFault}
+use Rattle.p8_tree.specs.Faults.{IsFirstFault, IfRefused}
 use Rattle.p8_gen.specs.Names.{Names}
 use Rattle.p8_gen.specs.Scopes.{names_from}
-use Rattle.p8_stmt.specs.Methods.{IsMethodFault, IfRefused}
+use Rattle.p8_stmt.specs.Methods.{IsMethodFault}
 use Rattle.p8_legend.proofs.codes.code_of_method.Goals as goal
 
 pub unreachable-requires : goal.unreachable-requires

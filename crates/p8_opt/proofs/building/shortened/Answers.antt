@@ -1,11 +1,11 @@
 use Rattle.std.proofs.Common.{◌≡◌, List, length, map, slice_get, Some, refl, ap, sym, ◌∙◌, subst, arith}
 use Rattle.std.proofs.lemmas.Option.{slice_get_read}
 use Rattle.p8_tree.specs.Views.{named_source_of}
-use Rattle.p8_tree.specs.Faults.{IsFirstFault}
+use Rattle.p8_tree.specs.Faults.{IsFirstFault, IfRefused}
 use Rattle.p8_kinds.specs.declared.named.Named.{Named}
 use Rattle.p8_dat.specs.declared.assembling.Dat.{Dat}
 use Rattle.p8_build.specs.Builds.{IsImageFault}
-use Rattle.p8_build.specs.Phases.{IfFault, IsFinished, clock_in}
+use Rattle.p8_build.specs.Phases.{IsFinished, clock_in}
 use Rattle.p8_opt.specs.Steps.{AreAcceptedFiles, AreShortObjects}
 use Rattle.p8_opt.proofs.Wholes.{accepted-files, begins-with-main, never-refused, built-to}
 use Rattle.p8_opt.proofs.building.shortened.Goals as goal
@@ -36,9 +36,9 @@ unreachable-requires c =
     let long : length c.as_slice-named.result.now ≡ length a.named = ap length c.as_slice-named.ensures in
     let at : slice_get a.named 0 ≡ Some n =
     subst (λ (ns : List Named). slice_get ns 0 ≡ Some n) c.as_slice-named.ensures (slice_get_read c.as_slice-named.result.now (length c.as_slice-named.result.now) 0 n refl (omega (arith, some, counted, long)) c.index-named-0.is) in
-    let refused : IfFault (IsFirstFault (IsImageFault objects (clock_in n.kinds))) c.in-Err-Refused.field-0 =
-    subst (λ (m : Named). IfFault (IsFirstFault (IsImageFault objects (clock_in m.kinds))) c.in-Err-Refused.field-0) (sym c.index-named-0.is) c.in-Err-Refused.ensures.refused in
-    let first : IsFirstFault (IsImageFault objects (clock_in n.kinds)) c.in-Err-Refused.field-0-0 = subst (IfFault (IsFirstFault (IsImageFault objects (clock_in n.kinds)))) c.in-Err-Refused.field-0-is refused in
+    let refused : IfRefused (IsFirstFault (IsImageFault objects (clock_in n.kinds))) c.in-Err-Refused.field-0 =
+    subst (λ (m : Named). IfRefused (IsFirstFault (IsImageFault objects (clock_in m.kinds))) c.in-Err-Refused.field-0) (sym c.index-named-0.is) c.in-Err-Refused.ensures.refused in
+    let first : IsFirstFault (IsImageFault objects (clock_in n.kinds)) c.in-Err-Refused.field-0-0 = subst (IfRefused (IsFirstFault (IsImageFault objects (clock_in n.kinds)))) c.in-Err-Refused.field-0-is refused in
     never-refused files a project objects (c.in_ok-objects.ensures.count ∙ long)
     (subst (λ (ns : List Named). AreShortObjects files ns a.assembled objects) c.as_slice-named.ensures (subst (λ (ds : List Dat). AreShortObjects files c.as_slice-named.result.now ds objects) c.as_slice.ensures c.in_ok-objects.ensures.objects))
     n at c.in-Err-Refused.field-0-0 first.holds
