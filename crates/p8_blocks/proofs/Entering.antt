@@ -8,16 +8,15 @@ use Rattle.p8_tree.specs.Sources.{MethodTree}
 use Rattle.p8_words.specs.declared.failure.Fail.{Fail}
 use Rattle.p8_words.specs.declared.failure.Fail.TheVariants as fail
 use Rattle.p8_lexer.specs.declared.word.Word.{Word}
-use Rattle.p8_lexer.specs.declared.refusal.Refusal.TheVariants.{BadIndent, TooNested, LoopWord}
-use Rattle.p8_lexer.specs.Refusals.{refusal_number}
+use Rattle.p8_tree.specs.declared.refusal.Refusal.TheVariants.{BadIndent, TooNested, LoopWord}
+use Rattle.p8_tree.specs.Refusals.{refusal_number}
 use Rattle.p8_grammar.specs.Lexemes.{in_method}
 use Rattle.p8_columns.specs.declared.room.Room.TheVariants as room
 use Rattle.p8_columns.specs.declared.room.Chain.TheVariants as chain
 use Rattle.p8_columns.specs.Lines as lines
 use Rattle.p8_columns.specs.Lines.{Kind, Plain, If, ElseIf, Else, Repeat, End, Case, Item, Other, is_repeat, is_plain_repeat}
 use Rattle.p8_columns.specs.Columns.{open_for, innermost, last_up_to, IsAt, HasRoom, HasChain, FitsAs}
-use Rattle.p8_expr.specs.declared.fault.ParseFault.{ParseFault}
-use Rattle.p8_expr.specs.Parsing.{IfRefused}
+use Rattle.p8_tree.specs.declared.faults.Fault.{Fault}
 use Rattle.p8_lines.specs.declared.state.State.{State}
 use Rattle.p8_lines.specs.declared.state.State.TheVariants as state
 use Rattle.p8_lines.specs.Tokens.{LineToken, word}
@@ -28,16 +27,8 @@ use Rattle.p8_blocks.specs.Reading.{Part, Position, method, at, from, barred, En
 use Rattle.p8_blocks.specs.Standing.{Inner, MayRead, TellsTooDeep, too_deep, refused_there}
 use Rattle.p8_blocks.specs.declared.first.First.{First}
 
-pub refused_weaker : (P Q : ParseFault → Type 0) → ((f : ParseFault) → P f → Q f) → (e : Fail ParseFault) → IfRefused P e → IfRefused Q e
-refused_weaker P Q h (fail.Refused f) p = h f p
-refused_weaker P Q h fail.NoMemory p = tt
-
-pub if_refused : {T : Type 0} (P Q : ParseFault → Type 0) → ((f : ParseFault) → P f → Q f) → (r : Result T (Fail ParseFault)) → IfErr r (IfRefused P) → IfErr r (IfRefused Q)
-if_refused P Q h (Ok x) p = tt
-if_refused P Q h (Err e) p = refused_weaker P Q h e p
-
 -- what `?` gives back
-pub told : {T : Type 0} (r : Result T (Fail ParseFault)) (e : Fail ParseFault) (Q : Fail ParseFault → Type 0) → IsErrAnd r (λ y. y ≡ e) → Q e → IfErr r Q
+pub told : {T : Type 0} (r : Result T (Fail Fault)) (e : Fail Fault) (Q : Fail Fault → Type 0) → IsErrAnd r (λ y. y ≡ e) → Q e → IfErr r Q
 told (Ok x) e Q h q = absurd h
 told (Err y) e Q h q = subst Q (sym h) q
 
@@ -51,8 +42,8 @@ denied h e = λ x. false≢true (sym h ∙ e.1 x)
 pub barred_as : (ls : List lines.Line) (b : Bool) (t : LineToken) (n m : ℕ) → n ≡ m → Enters ls b t (barred m) → Enters ls b t (barred n)
 barred_as ls b t n m e h = subst (λ n. Enters ls b t (barred n)) (sym e) h
 
-pub numbered : {x : Position} {ts : List LineToken} {n m : ℕ} {p : Place} → n ≡ m → Fails x ts m p → Fails x ts n p
-numbered {x} {ts} {p = p} e h = subst (λ n. Fails x ts n p) (sym e) h
+pub fails_as : {x : Position} {ts : List LineToken} {f g : Fault} → f ≡ g → Fails x ts g.number g.place → Fails x ts f.number f.place
+fails_as {x} {ts} e h = subst (λ f. Fails x ts f.number f.place) (sym e) h
 
 -- each of the entries, by the first token's word and place
 module _ (ls : List lines.Line) (b : Bool) (t : LineToken) (w : Word) (p : Place) (sw : word t ≡ w) (sp : t.place ≡ p) where
@@ -139,15 +130,15 @@ module _ {ts us : List LineToken} {b : Option Place} {first : First} (s : Inner 
       (back (too_deep_fails s.not_end s.no_head e d (to_tokens r) (subst (λ p. ¬ IsRefusedAt p o) (sym s.is.same_place) h)))
   deep_fails q n p e l d (refused_there p' h r) = back (line_fails s.not_end s.no_head e l (λ _. h ∙ sym s.is.same_place) (to_tokens r))
 
-  pub reading_fails : (q : State) → MayRead ls (is_begun b) s.token q → (f : ParseFault) → Reads q ts (refused f.number f.place) → Fails (at (method m ls ∷ ps) b) ts f.number f.place
+  pub reading_fails : (q : State) → MayRead ls (is_begun b) s.token q → (f : Fault) → Reads q ts (refused f.number f.place) → Fails (at (method m ls ∷ ps) b) ts f.number f.place
   reading_fails q r f h = back (line_fails s.not_end s.no_head r.enters r.loops (λ d. absurd (r.shallow d)) (to_tokens h))
 
 -- a line that is too deep
-pub deep_told : {q : State} {ts : List LineToken} {row : List Piece} {rest : List LineToken} (o p : Place) → Reads q ts (read row rest) → (f : ParseFault) → (f.number ≡ refusal_number TooNested) × (f.place ≡ p) → TellsTooDeep q ts o p f.number f.place
+pub deep_told : {q : State} {ts : List LineToken} {row : List Piece} {rest : List LineToken} (o p : Place) → Reads q ts (read row rest) → (f : Fault) → (f.number ≡ refusal_number TooNested) × (f.place ≡ p) → TellsTooDeep q ts o p f.number f.place
 deep_told {q} {ts} {row} {rest} o p r f h =
     subst (λ n. TellsTooDeep q ts o p n f.place) (sym h.0) (subst (λ x. TellsTooDeep q ts o p (refusal_number TooNested) x) (sym h.1) (too_deep r (λ x. x)))
 
-pub deep_elsewhere : {q : State} {ts : List LineToken} (o p : Place) (g : ParseFault) → Reads q ts (refused g.number g.place) → ¬ (g.place ≡ o) → (f : ParseFault) → (f.number ≡ refusal_number TooNested) × (f.place ≡ p) → TellsTooDeep q ts o p f.number f.place
+pub deep_elsewhere : {q : State} {ts : List LineToken} (o p : Place) (g : Fault) → Reads q ts (refused g.number g.place) → ¬ (g.place ≡ o) → (f : Fault) → (f.number ≡ refusal_number TooNested) × (f.place ≡ p) → TellsTooDeep q ts o p f.number f.place
 deep_elsewhere {q} {ts} o p g r n f h =
     subst (λ n. TellsTooDeep q ts o p n f.place) (sym h.0) (subst (λ x. TellsTooDeep q ts o p (refusal_number TooNested) x) (sym h.1) (too_deep r n))
 

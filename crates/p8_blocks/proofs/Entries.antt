@@ -3,8 +3,8 @@ use Rattle.std.proofs.Common.{◌≡◌, ℕ, List, Option, Some, None, Bool, tr
 use Rattle.std.specs.Prelude.{IsTrue, if◌then◌else◌}
 use Rattle.p8_lexer.specs.declared.word.Word.{Word}
 use Rattle.p8_lexer.specs.declared.word.Word.TheVariants as word_case
-use Rattle.p8_lexer.specs.declared.refusal.Refusal.TheVariants.{BadIndent}
-use Rattle.p8_lexer.specs.Refusals.{refusal_number}
+use Rattle.p8_tree.specs.declared.refusal.Refusal.TheVariants.{BadIndent}
+use Rattle.p8_tree.specs.Refusals.{refusal_number}
 use Rattle.p8_grammar.specs.Lexemes.{in_method}
 use Rattle.p8_columns.specs.declared.room.Room.{Room}
 use Rattle.p8_columns.specs.declared.room.Room.TheVariants as room

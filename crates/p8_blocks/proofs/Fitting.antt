@@ -4,8 +4,8 @@ use Rattle.p8_tree.specs.declared.places.Place.{Place}
 use Rattle.p8_tree.specs.Sources.{Source}
 use Rattle.p8_lexer.specs.declared.word.Word.{Word}
 use Rattle.p8_lexer.specs.declared.word.Word.TheVariants as word_case
-use Rattle.p8_lexer.specs.declared.refusal.Refusal.TheVariants.{TooNested}
-use Rattle.p8_lexer.specs.Refusals.{refusal_number}
+use Rattle.p8_tree.specs.declared.refusal.Refusal.TheVariants.{TooNested}
+use Rattle.p8_tree.specs.Refusals.{refusal_number}
 use Rattle.p8_grammar.specs.Lexemes.{in_declaration}
 use Rattle.p8_columns.specs.Lines as lines
 use Rattle.p8_lexer.specs.Pieces.{Piece}

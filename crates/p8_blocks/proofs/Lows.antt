@@ -6,8 +6,8 @@ use Rattle.p8_tree.specs.declared.places.Place.{Place}
 use Rattle.p8_tree.specs.Expressions.{Tree, node, Built, no_trees}
 use Rattle.p8_lexer.specs.declared.token.TokenKind.TheVariants as kind
 use Rattle.p8_lexer.specs.Words.{symbols, reserved_words, every_word}
-use Rattle.p8_lexer.specs.declared.refusal.Refusal.TheVariants as refusal
-use Rattle.p8_lexer.specs.Refusals.{refusal_number}
+use Rattle.p8_tree.specs.declared.refusal.Refusal.TheVariants as refusal
+use Rattle.p8_tree.specs.Refusals.{refusal_number}
 use Rattle.p8_grammar.specs.Lexemes as lexemes
 use Rattle.p8_grammar.specs.Lexemes.{Setting, in_method, in_declaration, in_dat, in_data_item, in_action, Mark, left_parenthesis, right_parenthesis, left_bracket, right_bracket, comma, colon, dot, dot_dot, hash, backslash, equal, Lexeme, name, method_result, mark, token}
 use Rattle.p8_grammar.specs.Grammar.{a_value, operand, nothing, a_word, result_name, IsExpression, IsFront}

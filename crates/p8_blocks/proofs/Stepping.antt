@@ -3,13 +3,13 @@ use Rattle.std.proofs.Common.{◌≡◌, ◌∙◌, ℕ, List, [], ◌∷◌, �
 use Rattle.std.specs.Prelude.{◌≢◌, if◌then◌else◌, Result, IfOk, IfErr}
 use Rattle.std.proofs.lemmas.Result.{IfOk-weaker, IfErr-weaker}
 use Rattle.p8_words.specs.declared.failure.Fail.{Fail}
-use Rattle.p8_expr.specs.declared.fault.ParseFault.{ParseFault}
-use Rattle.p8_expr.specs.Parsing.{IfRefused}
-use Rattle.p8_blocks.proofs.Entering.{refused_weaker}
+use Rattle.p8_tree.specs.declared.faults.Fault.{Fault}
+use Rattle.p8_tree.proofs.Failing.{refused_so}
 use Rattle.p8_tree.specs.declared.places.Place.{Place}
 use Rattle.p8_tree.specs.declared.sources.Method.{Method}
 use Rattle.p8_tree.specs.Views.{method_of}
 use Rattle.p8_tree.specs.Sources.{MethodTree}
+use Rattle.p8_tree.specs.Faults.{IfRefused}
 use Rattle.p8_lexer.specs.declared.word.Word.TheVariants as word_case
 use Rattle.p8_columns.specs.Lines as lines
 use Rattle.p8_columns.specs.Lines.{Kind}
@@ -133,10 +133,10 @@ method_grown {ts} {us} {rest} {b} {first} {q} {k} {end} s m ls ps r h blocks beg
 pub grown_all : {ts us : List LineToken} {b : Option Place} {first : First} {E : Type 0} (p q : Part) (ps : List Part) (rest : ℕ → List LineToken) → Inner ts us b first → p ≡ q → (r : Result Extended E) → IfOk r (λ x. Added (q ∷ ps) ps ts x (rest x.end)) → IfOk r (λ x. Grown (p ∷ ps) ps b ts x (rest x.end))
 grown_all {ts} {us} {b} {first} p q ps rest s e r h = IfOk-weaker r (λ x. Added (q ∷ ps) ps ts x (rest x.end)) (λ x. Grown (p ∷ ps) ps b ts x (rest x.end)) (λ x. grown p q ps s e) h
 
-pub refused_all : {ts us : List LineToken} {b : Option Place} {first : First} {T : Type 0} (p q : Part) (ps : List Part) → Inner ts us b first → p ≡ q → declares (q ∷ ps) ≡ true → (r : Result T (Fail ParseFault)) → IfErr r (IfRefused (λ f. Reads (line_state (q ∷ ps)) ts (refused f.number f.place))) → IfErr r (IfRefused (λ f. Fails (at (p ∷ ps) b) ts f.number f.place))
+pub refused_all : {ts us : List LineToken} {b : Option Place} {first : First} {T : Type 0} (p q : Part) (ps : List Part) → Inner ts us b first → p ≡ q → declares (q ∷ ps) ≡ true → (r : Result T (Fail Fault)) → IfErr r (IfRefused (λ f. Reads (line_state (q ∷ ps)) ts (refused f.number f.place))) → IfErr r (IfRefused (λ f. Fails (at (p ∷ ps) b) ts f.number f.place))
 refused_all {ts} {us} {b} {first} p q ps s e d r h =
     IfErr-weaker r (IfRefused (λ f. Reads (line_state (q ∷ ps)) ts (refused f.number f.place))) (IfRefused (λ f. Fails (at (p ∷ ps) b) ts f.number f.place))
-    (refused_weaker (λ f. Reads (line_state (q ∷ ps)) ts (refused f.number f.place)) (λ f. Fails (at (p ∷ ps) b) ts f.number f.place) (λ f h. same_refused p q ps e (declaration_refused (q ∷ ps) f.number f.place s d h))) h
+    (refused_so (λ f. Reads (line_state (q ∷ ps)) ts (refused f.number f.place)) (λ f. Fails (at (p ∷ ps) b) ts f.number f.place) (λ f h. same_refused p q ps e (declaration_refused (q ∷ ps) f.number f.place s d h))) h
 
 -- the same from a position with these parts
 pub moved_fails : {ts : List LineToken} {n : ℕ} {p : Place} (x : Position) (qs : List Part) (b : Option Place) → x.parts ≡ qs → x.begun ≡ b → Fails (at qs b) ts n p → Fails x ts n p

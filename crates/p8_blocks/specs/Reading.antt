@@ -10,8 +10,8 @@ use Rattle.p8_tree.specs.Sources.{Constant, Declared, Child, MethodTree, BlockTr
 use Rattle.p8_tree.specs.Statements.{Statements}
 use Rattle.p8_lexer.specs.declared.word.Word.{Word}
 use Rattle.p8_lexer.specs.declared.word.Word.TheVariants as word_case
-use Rattle.p8_lexer.specs.declared.refusal.Refusal.TheVariants.{BadIndent, TooNested, LoopWord}
-use Rattle.p8_lexer.specs.Refusals.{refusal_number}
+use Rattle.p8_tree.specs.declared.refusal.Refusal.TheVariants.{BadIndent, TooNested, LoopWord}
+use Rattle.p8_tree.specs.Refusals.{refusal_number}
 use Rattle.p8_grammar.specs.Lexemes.{in_method}
 use Rattle.p8_columns.specs.declared.room.Room.TheVariants as room
 use Rattle.p8_columns.specs.declared.room.Chain.TheVariants as chain

@@ -12,8 +12,8 @@ use Rattle.p8_tree.specs.Statements.{Statements}
 use Rattle.p8_tree.specs.Nesting.{leave_loops}
 use Rattle.p8_lexer.specs.declared.word.Word.{Word}
 use Rattle.p8_lexer.specs.declared.word.Word.TheVariants as word_case
-use Rattle.p8_lexer.specs.declared.refusal.Refusal.TheVariants.{BadIndent, TooNested, LoopWord}
-use Rattle.p8_lexer.specs.Refusals.{refusal_number}
+use Rattle.p8_tree.specs.declared.refusal.Refusal.TheVariants.{BadIndent, TooNested, LoopWord}
+use Rattle.p8_tree.specs.Refusals.{refusal_number}
 use Rattle.p8_grammar.specs.Lexemes.{Setting, in_method, in_declaration, in_dat}
 use Rattle.p8_columns.specs.declared.room.Room.TheVariants as room
 use Rattle.p8_columns.specs.declared.room.Chain.TheVariants as chain

@@ -5,8 +5,8 @@ use Rattle.p8_tree.specs.declared.sources.Block.{Block}
 use Rattle.p8_tree.specs.Views.{constant_of, declared_of, child_of, line_of, method_of, block_of}
 use Rattle.p8_lexer.specs.declared.word.Word.{Word}
 use Rattle.p8_lexer.specs.declared.word.Word.TheVariants as word_case
-use Rattle.p8_lexer.specs.declared.refusal.Refusal.TheVariants.{TooNested}
-use Rattle.p8_lexer.specs.Refusals.{refusal_number}
+use Rattle.p8_tree.specs.declared.refusal.Refusal.TheVariants.{TooNested}
+use Rattle.p8_tree.specs.Refusals.{refusal_number}
 use Rattle.p8_columns.specs.Lines as lines
 use Rattle.p8_columns.specs.Taken.{HasTaken}
 use Rattle.p8_lines.specs.declared.state.State.{State}
@@ -92,7 +92,7 @@ pub record Inner (ts us : List LineToken) (b : Option Place) (first : First) : T
 
 abbrev pub entry_of : entry.Entry → Entry
 entry_of (entry_case.From q) = from q
-entry_of (entry_case.Barred n) = barred n
+entry_of (entry_case.Barred r) = barred (refusal_number r)
 
 -- lines of a method are read from the state, if it is entered
 abbrev pub begins_entry : Entry → Bool

@@ -1,7 +1,7 @@
 // Lines of CON, VAR, OBJ and DAT, and heads of methods.
 ghost use Rattle.std.specs.Prelude.{◌≡◌, ◌⊎◌, ◌<◌, ◌≤◌, ◌+◌, IfOk, IfErr, length, map, option_map};
 ghost use Rattle.p8_tree.specs.Views.{child_of, constant_of, declared_of, line_of, method_of};
-ghost use Rattle.p8_expr.specs.Parsing.{IfRefused};
+ghost use Rattle.p8_tree.specs.Faults.{IfRefused};
 ghost use Rattle.p8_lines.specs.declared.state.State.TheVariants as state_case;
 ghost use Rattle.p8_lines.specs.Tokens.{tokens_from};
 ghost use Rattle.p8_lines.specs.Lines.{refused, Reads};
@@ -13,10 +13,9 @@ ghost use Rattle.p8_declarations.specs.Lines.{line_of_row};
 ghost use Rattle.p8_blocks.specs.Values.{ReadsAs};
 
 use p8_declarations::{DatRow, constants, dat_line, method, object, variables};
-use p8_expr::ParseFault;
 use p8_lexer::Tokens;
 use p8_lines::{State, read_line};
-use p8_tree::{ConItem, DatLine, List, Method, ObjItem, VarItem};
+use p8_tree::{ConItem, DatLine, Fault, List, Method, ObjItem, VarItem};
 use p8_words::Fail;
 use std::alloc::Global;
 
@@ -28,7 +27,7 @@ pub fn read_constants(
     tokens: &Tokens,
     at: usize,
     state: State,
-) -> Result<(List<ConItem>, usize), Fail<ParseFault>>
+) -> Result<(List<ConItem>, usize), Fail<Fault>>
     requires within { at ≤ length tokens.now }
     requires begins { (state ≡ state_case.ConHead) ⊎ (state ≡ state_case.ConItem) }
     ensures within { IfOk result (λ r. (at < r.1) × (r.1 ≤ length tokens.now + 1)) }
@@ -47,7 +46,7 @@ pub fn read_variables(
     tokens: &Tokens,
     at: usize,
     state: State,
-) -> Result<(List<VarItem>, usize), Fail<ParseFault>>
+) -> Result<(List<VarItem>, usize), Fail<Fault>>
     requires within { at ≤ length tokens.now }
     requires begins { (state ≡ state_case.VarHead) ⊎ (state ≡ state_case.VarLine) }
     ensures within { IfOk result (λ r. (at < r.1) × (r.1 ≤ length tokens.now + 1)) }
@@ -66,7 +65,7 @@ pub fn read_objects(
     tokens: &Tokens,
     at: usize,
     state: State,
-) -> Result<(List<ObjItem>, usize), Fail<ParseFault>>
+) -> Result<(List<ObjItem>, usize), Fail<Fault>>
     requires within { at ≤ length tokens.now }
     requires begins { (state ≡ state_case.ObjHead) ⊎ (state ≡ state_case.ObjLine) }
     ensures within { IfOk result (λ r. (at < r.1) × (r.1 ≤ length tokens.now + 1)) }
@@ -86,7 +85,7 @@ pub fn read_method(
     tokens: &Tokens,
     at: usize,
     public: bool,
-) -> Result<(Method, usize), Fail<ParseFault>>
+) -> Result<(Method, usize), Fail<Fault>>
     requires { at ≤ length tokens.now }
     ensures within { IfOk result (λ r. (at < r.1) × (r.1 ≤ length tokens.now + 1)) }
     ensures read { IfOk result (λ r. ReadsAs (method_of_row public) state_case.MethodName (tokens_from bytes.now tokens.now at) (method_of r.0) (tokens_from bytes.now tokens.now r.1)) }
@@ -106,7 +105,7 @@ pub fn read_data(
     tokens: &Tokens,
     at: usize,
     state: State,
-) -> Result<(Option<DatLine>, usize), Fail<ParseFault>>
+) -> Result<(Option<DatLine>, usize), Fail<Fault>>
     requires within { at ≤ length tokens.now }
     requires begins { (state ≡ state_case.DatHead) ⊎ (state ≡ state_case.DatLine) }
     ensures within { IfOk result (λ r. (at < r.1) × (r.1 ≤ length tokens.now + 1)) }

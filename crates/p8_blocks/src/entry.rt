@@ -5,10 +5,10 @@ ghost use Rattle.p8_tree.specs.Sources.{MethodTree};
 ghost use Rattle.p8_grammar.specs.Lexemes.{in_method};
 ghost use Rattle.p8_columns.specs.Lines as lines;
 ghost use Rattle.p8_columns.specs.Taken.{HasTaken};
-ghost use Rattle.p8_expr.specs.Parsing.{IfRefused};
 ghost use Rattle.p8_lines.specs.Tokens.{LineToken, tokens_from, word};
-ghost use Rattle.p8_lexer.specs.declared.refusal.Refusal.TheVariants.{TooNested};
-ghost use Rattle.p8_lexer.specs.Refusals.{refusal_number};
+ghost use Rattle.p8_tree.specs.declared.refusal.Refusal.TheVariants.{TooNested};
+ghost use Rattle.p8_tree.specs.Refusals.{refusal_number};
+ghost use Rattle.p8_tree.specs.Faults.{IfRefused};
 ghost use Rattle.p8_lines.specs.declared.state.State as line_state;
 ghost use Rattle.p8_lines.specs.Lines.{number_of, refused, Reads};
 ghost use Rattle.p8_blocks.specs.Values.{begins_line};
@@ -19,30 +19,29 @@ use crate::first::First;
 use crate::statements::read_statement;
 use crate::words::{ends_loop, goes_on_chain, leaves_loop, opens};
 use p8_columns::{Blocks, Chain, Room};
-use p8_expr::{ParseFault, refusal_of};
+use p8_expr::refusal_of;
 use p8_grammar::Setting;
-use p8_lexer::{Refusal, Tokens, Word};
+use p8_lexer::{Tokens, Word};
 use p8_lines::State;
-use p8_tree::Place;
+use p8_tree::{Fault, Place, Refusal};
 use p8_words::Fail;
 use std::alloc::Global;
 
 /// How many blocks may be open, the method counted.
 pub const GREATEST_DEPTH: usize = 64;
 
-/// Where a line of a method is read from, or the number of the refusal of its first token.
+/// Where a line of a method is read from, or the refusal of its first token.
 #[derive(Clone, Copy)]
 pub enum Entry {
     From(State),
-    Barred(u8),
+    Barred(Refusal),
 }
 
-// The number of the refusal of a word that can't stand where it does in a method.
-fn number_of(word: Word) -> u8
-    ensures { result ≡ number_of in_method word }
+// The refusal of a word that can't stand where it does in a method.
+fn refusal_of_word(word: Word) -> Refusal
+    ensures { refusal_number result ≡ number_of in_method word }
 {
-    let refusal = refusal_of(Setting::Method, word).unwrap_or(Refusal::Unexpected);
-    refusal.number()
+    refusal_of(Setting::Method, word).unwrap_or(Refusal::Unexpected)
 }
 
 // An `ELSE` kind goes on with the chain at its column, unless that has its `ELSE`.
@@ -53,8 +52,8 @@ fn chain_entry(blocks: &Blocks, first: First) -> Entry
 {
     match blocks.chain(first.place.column) {
         Chain::Begun => Entry::From(State::ChainLine),
-        Chain::Ended => Entry::Barred(number_of(first.word)),
-        Chain::Missing => Entry::Barred(Refusal::BadIndent.number()),
+        Chain::Ended => Entry::Barred(refusal_of_word(first.word)),
+        Chain::Missing => Entry::Barred(Refusal::BadIndent),
     }
 }
 
@@ -67,8 +66,7 @@ fn loop_end_entry(blocks: &Blocks, first: First) -> Entry
     if blocks.is_plain_loop(first.place.column) {
         Entry::From(State::LoopEndLine)
     } else {
-        let refusal = Refusal::BadIndent;
-        Entry::Barred(refusal.number())
+        Entry::Barred(Refusal::BadIndent)
     }
 }
 
@@ -83,7 +81,7 @@ fn room_entry(blocks: &Blocks, first: First) -> Entry
     match blocks.room(first.place.column) {
         Room::Statement => Entry::From(State::Statement),
         Room::Item => Entry::From(State::CaseItem),
-        Room::Nothing => Entry::Barred(number_of(first.word)),
+        Room::Nothing => Entry::Barred(refusal_of_word(first.word)),
     }
 }
 
@@ -116,13 +114,10 @@ fn is_too_deep(blocks: &Blocks, first: First, state: State) -> bool
 }
 
 // The refusal of a line that begins at a place and is too deep.
-fn too_nested(begin: Place) -> Fail<ParseFault>
+fn too_nested(begin: Place) -> Fail<Fault>
     ensures { IfRefused (λ f. (f.number ≡ refusal_number TooNested) × (f.place ≡ begin)) result }
 {
-    Fail::Refused(ParseFault {
-        number: Refusal::TooNested.number(),
-        place: begin,
-    })
+    Fail::Refused(Refusal::TooNested.at(begin))
 }
 
 // Whether two places are the same.
@@ -134,7 +129,7 @@ fn is_same(one: Place, other: Place) -> bool
 
 // The refusal of a line that is too deep and is refused itself: its own, if that stands at its first
 // token.
-fn first_refusal(fail: Fail<ParseFault>, first: First) -> Fail<ParseFault>
+fn first_refusal(fail: Fail<Fault>, first: First) -> Fail<Fault>
     ensures { (q : line_state.State) (ts : List LineToken) → IfRefused (λ f. Reads q ts (refused f.number f.place)) fail → IfRefused (λ f. TellsTooDeep q ts first.place first.begin f.number f.place) result }
 {
     match fail {
@@ -157,7 +152,7 @@ fn too_deep(
     at: usize,
     first: First,
     state: State,
-) -> Fail<ParseFault>
+) -> Fail<Fault>
     requires within { at < length tokens.now }
     requires begins { IsTrue (begins_line state) }
     ensures { IfRefused (λ f. TellsTooDeep state (tokens_from bytes.now tokens.now at) first.place first.begin f.number f.place) result }
@@ -180,7 +175,7 @@ fn within_depth(
     first: First,
     blocks: &Blocks,
     state: State,
-) -> Result<State, Fail<ParseFault>>
+) -> Result<State, Fail<Fault>>
     requires within { at < length tokens.now }
     requires begins { IsTrue (begins_line state) }
     ensures same { IfOk result (λ q. q ≡ state) }
@@ -188,10 +183,7 @@ fn within_depth(
     ensures refused { (b : Option tree_place.Place) (m : MethodTree) (ls : List lines.Line) (ps : List Part) → Inner (tokens_from bytes.now tokens.now at) (tokens_from bytes.now tokens.now (at + 1)) b first → HasTaken ls blocks.now → ((t : LineToken) → word t ≡ first.word → t.place ≡ first.place → Enters ls first.begun t (from state)) → IfErr result (IfRefused (λ f. Fails (position (method m ls ∷ ps) b) (tokens_from bytes.now tokens.now at) f.number f.place)) }
 {
     if has_no_loop(blocks, first, state) {
-        Err(Fail::Refused(ParseFault {
-            number: Refusal::LoopWord.number(),
-            place: first.place,
-        }))
+        Err(Fail::Refused(Refusal::LoopWord.at(first.place)))
     } else if is_too_deep(blocks, first, state) {
         Err(too_deep(alloc, bytes, tokens, at, first, state))
     } else {
@@ -208,7 +200,7 @@ pub fn state_of_line(
     at: usize,
     first: First,
     blocks: &Blocks,
-) -> Result<State, Fail<ParseFault>>
+) -> Result<State, Fail<Fault>>
     requires { at < length tokens.now }
     ensures begins { IfOk result (λ q. IsTrue (begins_line q)) }
     ensures read { (ls : List lines.Line) (t : LineToken) → HasTaken ls blocks.now → word t ≡ first.word → t.place ≡ first.place → IfOk result (λ q. MayRead ls first.begun t q) }
@@ -216,9 +208,6 @@ pub fn state_of_line(
 {
     match entry_at(blocks, first) {
         Entry::From(state) => within_depth(alloc, bytes, tokens, at, first, blocks, state),
-        Entry::Barred(number) => Err(Fail::Refused(ParseFault {
-            number,
-            place: first.place,
-        })),
+        Entry::Barred(refusal) => Err(Fail::Refused(refusal.at(first.place))),
     }
 }

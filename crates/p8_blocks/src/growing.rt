@@ -1,8 +1,8 @@
 // The blocks of a file, as its lines are read.
 ghost use Rattle.std.specs.Prelude.{◌≡◌, ◌≢◌, ◌<◌, ◌≤◌, ◌+◌, ◌∷◌, List, IfOk, IfErr, None, OnOk, length, map};
 ghost use Rattle.p8_tree.specs.Views.{block_of, method_of, source_of, statements_of};
+ghost use Rattle.p8_tree.specs.Faults.{IfRefused};
 ghost use Rattle.p8_lexer.specs.declared.word.Word.TheVariants as word_case;
-ghost use Rattle.p8_expr.specs.Parsing.{IfRefused};
 ghost use Rattle.p8_lines.specs.Tokens.{tokens_from};
 ghost use Rattle.p8_blocks.specs.Reading.{Part, Position, start, at as position, Fails, AreBlocks, IsBlock};
 ghost use Rattle.p8_blocks.specs.Files.{with_body};
@@ -12,9 +12,10 @@ use crate::first::First;
 use crate::lines::{Extended, first_constants, read_head};
 use crate::words::Head;
 use p8_columns::Blocks;
-use p8_expr::ParseFault;
 use p8_lexer::Tokens;
-use p8_tree::{Block, ConItem, DatLine, List, Method, ObjItem, Place, SourceFile, Stmt, VarItem};
+use p8_tree::{
+    Block, ConItem, DatLine, Fault, List, Method, ObjItem, Place, SourceFile, Stmt, VarItem,
+};
 use p8_words::{Fail, NoMemory};
 use std::alloc::Global;
 
@@ -97,7 +98,7 @@ impl Growing {
         bytes: &[u8],
         tokens: &Tokens,
         at: usize,
-    ) -> Result<usize, Fail<ParseFault>>
+    ) -> Result<usize, Fail<Fault>>
         requires { at < length tokens.now }
         ensures within { IfOk result (λ end. (at < end) × (end ≤ length tokens.now + 1)) }
         ensures read { (x : Position) → StandsFor x self.old → IfOk result (λ end. Continues x (tokens_from bytes.now tokens.now at) self.new (tokens_from bytes.now tokens.now end)) }
@@ -120,7 +121,7 @@ impl Growing {
         tokens: &Tokens,
         at: usize,
         first: First,
-    ) -> Result<usize, Fail<ParseFault>>
+    ) -> Result<usize, Fail<Fault>>
         requires within { at < length tokens.now }
         requires starts { Starts (tokens_from bytes.now tokens.now at) (tokens_from bytes.now tokens.now (at + 1)) self.old.begun first }
         requires not_end { first.word ≢ word_case.LineEnd }
@@ -143,7 +144,7 @@ impl Growing {
         at: usize,
         first: First,
         head: Head,
-    ) -> Result<usize, Fail<ParseFault>>
+    ) -> Result<usize, Fail<Fault>>
         requires within { at < length tokens.now }
         requires starts { Starts (tokens_from bytes.now tokens.now at) (tokens_from bytes.now tokens.now (at + 1)) self.old.begun first }
         requires head { first.word ≡ word_of_head head }
@@ -179,7 +180,7 @@ impl Growing {
         tokens: &Tokens,
         at: usize,
         first: First,
-    ) -> Result<usize, Fail<ParseFault>>
+    ) -> Result<usize, Fail<Fault>>
         requires within { at < length tokens.now }
         requires starts { Starts (tokens_from bytes.now tokens.now at) (tokens_from bytes.now tokens.now (at + 1)) self.old.begun first }
         requires not_end { first.word ≢ word_case.LineEnd }

@@ -16,7 +16,6 @@ pub use declarations::{read_constants, read_data, read_method, read_objects, rea
 pub use laws::{
     files_are_not_refused, files_are_proper, one_answer, one_refusal, tokens_are_proper,
 };
-pub use p8_expr::ParseFault;
 pub use parsing::parse;
 pub use row_laws::{
     case_items_have_kinds, chain_lines_have_kinds, constants_have_values, data_are_proper,

@@ -2,10 +2,10 @@
 ghost use Rattle.std.specs.Prelude.{◌≡◌, ◌<◌, ◌≤◌, ◌+◌, ◌∷◌, ◌++◌, [], List as list, IfOk, IfErr, Option, Some, None, if◌then◌else◌, length, map, option_map};
 ghost use Rattle.p8_tree.specs.declared.places.Place as tree_place;
 ghost use Rattle.p8_tree.specs.Views.{constant_of, declared_of, child_of, line_of, method_of};
+ghost use Rattle.p8_tree.specs.Faults.{IfRefused};
 ghost use Rattle.p8_columns.specs.Lines as lines;
 ghost use Rattle.p8_columns.specs.Views.{kind_of};
 ghost use Rattle.p8_columns.specs.Taken.{HasTaken};
-ghost use Rattle.p8_expr.specs.Parsing.{IfRefused};
 ghost use Rattle.p8_lines.specs.declared.state.State.TheVariants as state_case;
 ghost use Rattle.p8_lines.specs.Tokens.{LineToken, tokens_from, word};
 ghost use Rattle.p8_lines.specs.Lines.{refused, Reads};
@@ -20,10 +20,9 @@ use crate::growing::Open;
 use crate::statements::read_statement;
 use crate::words::Head;
 use p8_columns::{Blocks, Line, LineKind};
-use p8_expr::ParseFault;
 use p8_lexer::Tokens;
 use p8_lines::State;
-use p8_tree::{ConItem, DatLine, List, Method, ObjItem, Place, VarItem};
+use p8_tree::{ConItem, DatLine, Fault, List, Method, ObjItem, Place, VarItem};
 use p8_words::Fail;
 use std::alloc::{AllocError, Global};
 
@@ -88,7 +87,7 @@ pub fn read_head(
     tokens: &Tokens,
     at: usize,
     head: Head,
-) -> Result<(Open, usize), Fail<ParseFault>>
+) -> Result<(Open, usize), Fail<Fault>>
     requires { at ≤ length tokens.now }
     ensures within { IfOk result (λ r. (at < r.1) × (r.1 ≤ length tokens.now + 1)) }
     ensures read { (t : LineToken) → word t ≡ word_of_head head → IfOk result (λ r. Begins t (tokens_from bytes.now tokens.now at) r.0 (tokens_from bytes.now tokens.now r.1)) }
@@ -128,7 +127,7 @@ pub fn first_constants(
     bytes: &[u8],
     tokens: &Tokens,
     at: usize,
-) -> Result<Extended, Fail<ParseFault>>
+) -> Result<Extended, Fail<Fault>>
     requires { at ≤ length tokens.now }
     ensures within { IfOk result (λ r. (at < r.end) × (r.end ≤ length tokens.now + 1)) }
     ensures read { IfOk result (λ r. Added [] [] (tokens_from bytes.now tokens.now at) r (tokens_from bytes.now tokens.now r.end)) }
@@ -145,7 +144,7 @@ fn more_constants(
     tokens: &Tokens,
     at: usize,
     items: List<ConItem>,
-) -> Result<Extended, Fail<ParseFault>>
+) -> Result<Extended, Fail<Fault>>
     requires { at ≤ length tokens.now }
     ensures within { IfOk result (λ r. (at < r.end) × (r.end ≤ length tokens.now + 1)) }
     ensures read { (ps : list Part) → IfOk result (λ r. Added (constants (map constant_of items) ∷ ps) ps (tokens_from bytes.now tokens.now at) r (tokens_from bytes.now tokens.now r.end)) }
@@ -162,7 +161,7 @@ fn more_variables(
     tokens: &Tokens,
     at: usize,
     items: List<VarItem>,
-) -> Result<Extended, Fail<ParseFault>>
+) -> Result<Extended, Fail<Fault>>
     requires { at ≤ length tokens.now }
     ensures within { IfOk result (λ r. (at < r.end) × (r.end ≤ length tokens.now + 1)) }
     ensures read { (ps : list Part) → IfOk result (λ r. Added (variables (map declared_of items) ∷ ps) ps (tokens_from bytes.now tokens.now at) r (tokens_from bytes.now tokens.now r.end)) }
@@ -179,7 +178,7 @@ fn more_objects(
     tokens: &Tokens,
     at: usize,
     items: List<ObjItem>,
-) -> Result<Extended, Fail<ParseFault>>
+) -> Result<Extended, Fail<Fault>>
     requires { at ≤ length tokens.now }
     ensures within { IfOk result (λ r. (at < r.end) × (r.end ≤ length tokens.now + 1)) }
     ensures read { (ps : list Part) → IfOk result (λ r. Added (objects (map child_of items) ∷ ps) ps (tokens_from bytes.now tokens.now at) r (tokens_from bytes.now tokens.now r.end)) }
@@ -196,7 +195,7 @@ fn more_data(
     tokens: &Tokens,
     at: usize,
     lines: List<DatLine>,
-) -> Result<Extended, Fail<ParseFault>>
+) -> Result<Extended, Fail<Fault>>
     requires { at ≤ length tokens.now }
     ensures within { IfOk result (λ r. (at < r.end) × (r.end ≤ length tokens.now + 1)) }
     ensures read { (ps : list Part) → IfOk result (λ r. Added (assembly (map line_of lines) ∷ ps) ps (tokens_from bytes.now tokens.now at) r (tokens_from bytes.now tokens.now r.end)) }
@@ -237,7 +236,7 @@ fn method_line(
     first: First,
     method: Method,
     blocks: Blocks,
-) -> Result<Extended, Fail<ParseFault>>
+) -> Result<Extended, Fail<Fault>>
     requires within { at < length tokens.now }
     requires token { IsToken first }
     ensures within { IfOk result (λ r. (at < r.end) × (r.end ≤ length tokens.now + 1)) }
@@ -267,7 +266,7 @@ impl Open {
         tokens: &Tokens,
         at: usize,
         first: First,
-    ) -> Result<Extended, Fail<ParseFault>>
+    ) -> Result<Extended, Fail<Fault>>
         requires within { at < length tokens.now }
         requires token { IsToken first }
         ensures within { IfOk result (λ r. (at < r.end) × (r.end ≤ length tokens.now + 1)) }

@@ -5,9 +5,9 @@ ghost use Rattle.p8_tree.specs.Sources.{Source};
 ghost use Rattle.p8_tree.specs.Proper.{IsProperFile};
 ghost use Rattle.p8_grammar.specs.Proper.{AreProper};
 ghost use Rattle.p8_tree.specs.Views.{source_of};
-ghost use Rattle.p8_lexer.specs.declared.refusal.Refusal.TheVariants.{TooNested};
-ghost use Rattle.p8_lexer.specs.Refusals.{refusal_number};
-ghost use Rattle.p8_expr.specs.Parsing.{IfRefused};
+ghost use Rattle.p8_tree.specs.declared.refusal.Refusal.TheVariants.{TooNested};
+ghost use Rattle.p8_tree.specs.Refusals.{refusal_number};
+ghost use Rattle.p8_tree.specs.Faults.{IfRefused};
 ghost use Rattle.p8_lines.specs.Tokens.{all_tokens, terms};
 ghost use Rattle.p8_blocks.specs.Files.{IsFileWithinLimits, StopsAt, PassesLimits, PassesAt};
 ghost use Rattle.p8_blocks.specs.Reading.{Parses, source, fault};
@@ -18,14 +18,13 @@ use crate::laws::{
     files_are_not_refused, files_are_proper, files_are_read, one_answer, one_refusal,
     refusals_are_read, refusals_pass_limits, refusals_stand_first,
 };
-use p8_expr::ParseFault;
 use p8_lexer::Tokens;
-use p8_tree::SourceFile;
+use p8_tree::{Fault, SourceFile};
 use p8_words::Fail;
 use std::alloc::Global;
 
 // Reads the lines of a file one after the other.
-fn read_lines(alloc: Global, bytes: &[u8], tokens: &Tokens) -> Result<SourceFile, Fail<ParseFault>>
+fn read_lines(alloc: Global, bytes: &[u8], tokens: &Tokens) -> Result<SourceFile, Fail<Fault>>
     ensures read { IfOk result (λ file. Parses (all_tokens bytes.now tokens.now) (source (source_of file))) }
     ensures refused { IfErr result (IfRefused (λ f. Parses (all_tokens bytes.now tokens.now) (fault f.number f.place))) }
 {
@@ -53,7 +52,7 @@ fn read_lines(alloc: Global, bytes: &[u8], tokens: &Tokens) -> Result<SourceFile
 /// The first two clauses say line by line what comes: tokens have one answer ([`one_answer`](crate::one_answer)). The others
 /// say it by the files that begin so, exactly: tokens are a file within the limits, or have one refusal
 /// ([`one_refusal`](crate::one_refusal)).
-pub fn parse(alloc: Global, bytes: &[u8], tokens: &Tokens) -> Result<SourceFile, Fail<ParseFault>>
+pub fn parse(alloc: Global, bytes: &[u8], tokens: &Tokens) -> Result<SourceFile, Fail<Fault>>
     ensures lines_read { IfOk result (λ file. Parses (all_tokens bytes.now tokens.now) (source (source_of file))) }
     ensures lines_refused { IfErr result (IfRefused (λ f. Parses (all_tokens bytes.now tokens.now) (fault f.number f.place))) }
     ensures read { IfOk result (λ file. IsFileWithinLimits (source_of file) (all_tokens bytes.now tokens.now)) }

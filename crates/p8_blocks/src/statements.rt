@@ -1,7 +1,7 @@
 // Lines of methods.
 ghost use Rattle.std.specs.Prelude.{◌≡◌, ◌⊎◌, ◌<◌, ◌≤◌, ◌+◌, IfOk, IfErr, IsTrue, length};
+ghost use Rattle.p8_tree.specs.Faults.{IfRefused};
 ghost use Rattle.p8_columns.specs.Views.{kind_of};
-ghost use Rattle.p8_expr.specs.Parsing.{IfRefused};
 ghost use Rattle.p8_lines.specs.declared.state.State.TheVariants as state_case;
 ghost use Rattle.p8_lines.specs.Tokens.{tokens_from};
 ghost use Rattle.p8_lines.specs.Lines.{refused, Reads};
@@ -9,10 +9,10 @@ ghost use Rattle.p8_statements.specs.Statements.{kind_of_row};
 ghost use Rattle.p8_blocks.specs.Values.{ReadsAs, suits, begins_line};
 
 use p8_columns::LineKind;
-use p8_expr::ParseFault;
 use p8_lexer::Tokens;
 use p8_lines::{State, read_line};
 use p8_statements::line_kind;
+use p8_tree::Fault;
 use p8_words::Fail;
 use std::alloc::Global;
 
@@ -25,7 +25,7 @@ pub fn read_statement(
     tokens: &Tokens,
     at: usize,
     state: State,
-) -> Result<(LineKind, usize), Fail<ParseFault>>
+) -> Result<(LineKind, usize), Fail<Fault>>
     requires within { at ≤ length tokens.now }
     requires begins { IsTrue (begins_line state) }
     ensures within { IfOk result (λ r. (at < r.1) × (r.1 ≤ length tokens.now + 1)) }

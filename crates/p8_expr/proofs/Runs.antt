@@ -8,9 +8,9 @@ use Rattle.p8_tree.specs.Expressions.{Tree}
 use Rattle.p8_tree.specs.Views.{tree_of}
 use Rattle.p8_tree.specs.declared.expressions.Expr.{Expr}
 use Rattle.p8_lexer.specs.declared.token.Token as lexer_token
-use Rattle.p8_lexer.specs.declared.refusal.Refusal.{Refusal}
-use Rattle.p8_lexer.specs.declared.refusal.Refusal.TheVariants.{TooNested}
-use Rattle.p8_lexer.specs.Refusals.{refusal_number}
+use Rattle.p8_tree.specs.declared.refusal.Refusal.{Refusal}
+use Rattle.p8_tree.specs.declared.refusal.Refusal.TheVariants.{TooNested}
+use Rattle.p8_tree.specs.Refusals.{refusal_number}
 use Rattle.p8_lexer.specs.Words.{word_of}
 use Rattle.p8_grammar.specs.Lexemes.{Setting, Token}
 use Rattle.p8_grammar.specs.Grammar.{IsExpression, IsFront, IsLongestFront}
@@ -20,7 +20,8 @@ use Rattle.p8_grammar.specs.declared.reader.Reader.{Reader}
 use Rattle.p8_grammar.specs.Machine.{State, walk, start}
 use Rattle.p8_grammar.proofs.Live.{one_tree, is_front, dead}
 use Rattle.p8_grammar.proofs.Readings.{one_longest, taken_front, shows}
-use Rattle.p8_expr.specs.declared.fault.ParseFault.{ParseFault}
+use Rattle.p8_tree.specs.declared.faults.Fault.{Fault}
+use Rattle.p8_tree.proofs.Failing.{same_fault}
 use Rattle.p8_expr.specs.Words.{token_of}
 use Rattle.p8_expr.specs.Refusals.{refusal_of}
 use Rattle.p8_expr.specs.Parsing.{Outcome, tree, refused, Ends, whole, too_high, unfit, broken_off, Parses, IsFault, refusal_at, tokens_from}
@@ -55,10 +56,7 @@ one_outcome s limit bytes tokens at o o' (n, l, x) (m, k, y) =
     let ts = tokens_from bytes tokens at in
     one_end x (subst (λ i. Ends s limit bytes tokens at (at + i) (take i ts) o') (one_longest s ts m n k l) y)
 
-same_fault : (f g : ParseFault) → f.number ≡ g.number → f.place ≡ g.place → f ≡ g
-same_fault f g n p = λ i. record { number = n i; place = p i }
-
-pub one_fault : (s : Setting) (limit : ℕ) (bytes : List ℕ) (tokens : List lexer_token.Token) (at : ℕ) (f g : ParseFault) → IsFault s limit bytes tokens at f → IsFault s limit bytes tokens at g → f ≡ g
+pub one_fault : (s : Setting) (limit : ℕ) (bytes : List ℕ) (tokens : List lexer_token.Token) (at : ℕ) (f g : Fault) → IsFault s limit bytes tokens at f → IsFault s limit bytes tokens at g → f ≡ g
 one_fault s limit bytes tokens at f g (r, i, x, (t, e, n, p)) (q, j, y, (u, d, m, z)) =
     let o = one_outcome s limit bytes tokens at (refused r i) (refused q j) x y in
     let same : r ≡ q = cc in

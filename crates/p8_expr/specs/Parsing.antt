@@ -2,19 +2,17 @@
 -- is read where it is an expression no higher than a limit, and no token after it is refused by itself.
 use Rattle.std.specs.Prelude.{◌≡◌, ℕ, ◌+◌, ◌-◌, ◌≤◌, nat_lt, if◌then◌else◌, List, map, drop, take, length, slice_get, Option, Some, None, option_and_then}
 use Rattle.p8_tree.specs.Expressions.{Tree}
-use Rattle.p8_words.specs.declared.failure.Fail.{Fail}
-use Rattle.p8_words.specs.declared.failure.Fail.TheVariants as fail
 use Rattle.p8_lexer.specs.declared.token.Token as lexer_token
-use Rattle.p8_lexer.specs.declared.refusal.Refusal.{Refusal}
-use Rattle.p8_lexer.specs.declared.refusal.Refusal.TheVariants.{TooNested, Unexpected}
-use Rattle.p8_lexer.specs.Refusals.{refusal_number}
+use Rattle.p8_tree.specs.declared.refusal.Refusal.{Refusal}
+use Rattle.p8_tree.specs.declared.refusal.Refusal.TheVariants.{TooNested, Unexpected}
+use Rattle.p8_tree.specs.Refusals.{refusal_number}
 use Rattle.p8_lexer.specs.Words.{word_of}
 use Rattle.p8_grammar.specs.Lexemes.{Setting, Token}
 use Rattle.p8_grammar.specs.Grammar.{IsExpression, IsLongestFront}
 use Rattle.p8_grammar.specs.Heights.{height, IsTooHigh}
 use Rattle.p8_expr.specs.Words.{token_of}
 use Rattle.p8_expr.specs.Refusals.{refusal_of}
-use Rattle.p8_expr.specs.declared.fault.ParseFault.{ParseFault}
+use Rattle.p8_tree.specs.declared.faults.Fault.{Fault}
 
 -- how high any expression may be
 abbrev pub greatest_height : ℕ
@@ -51,15 +49,10 @@ Parses s limit bytes tokens at o =
     (n : ℕ) × IsLongestFront s (tokens_from bytes tokens at) n × Ends s limit bytes tokens at (at + n) (take n (tokens_from bytes tokens at)) o
 
 -- a fault tells this refusal at the token of this number
-abbrev pub IsFaultAt : Refusal → List lexer_token.Token → ℕ → ParseFault → Type 0
+abbrev pub IsFaultAt : Refusal → List lexer_token.Token → ℕ → Fault → Type 0
 IsFaultAt r tokens i fault =
     (t : lexer_token.Token) × (slice_get tokens i ≡ Some t) × (fault.number ≡ refusal_number r) × (fault.place ≡ t.place)
 
 -- reading from the token `at` on is refused so
-abbrev pub IsFault : Setting → ℕ → List ℕ → List lexer_token.Token → ℕ → ParseFault → Type 0
+abbrev pub IsFault : Setting → ℕ → List ℕ → List lexer_token.Token → ℕ → Fault → Type 0
 IsFault s limit bytes tokens at fault = (r : Refusal) × (i : ℕ) × Parses s limit bytes tokens at (refused r i) × IsFaultAt r tokens i fault
-
--- a fact of a refusal, which says nothing of want of memory
-abbrev pub IfRefused : (ParseFault → Type 0) → Fail ParseFault → Type 0
-IfRefused P (fail.Refused fault) = P fault
-IfRefused P fail.NoMemory = Unit {0}

@@ -1,13 +1,11 @@
 //! Expressions: from the tokens of a source to trees.
 #![tactic(auto)]
 
-mod fault;
 mod laws;
 mod parsing;
 mod refusals;
 mod words;
 
-pub use fault::ParseFault;
 pub use laws::{lexemes_are_proper, read_is_proper, tokens_are_lexemes};
 pub use parsing::{GREATEST_HEIGHT, one_answer, parse_expr, parse_expr_in};
 pub use refusals::refusal_of;

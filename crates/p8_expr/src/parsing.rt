@@ -7,17 +7,17 @@ ghost use Rattle.p8_grammar.specs.Lexemes.{in_method};
 ghost use Rattle.p8_grammar.specs.Grammar.{IsFront};
 ghost use Rattle.p8_grammar.specs.Reading.{HasTaken};
 ghost use Rattle.p8_grammar.specs.Views.{setting_of};
-ghost use Rattle.p8_expr.specs.declared.fault.ParseFault as parse_fault;
+ghost use Rattle.p8_tree.specs.declared.faults.Fault.{Fault};
+ghost use Rattle.p8_tree.specs.Faults.{IfRefused};
 ghost use Rattle.p8_expr.specs.Words.{token_of};
-ghost use Rattle.p8_expr.specs.Parsing.{Outcome, tree, greatest_height, Parses, IsFault, IsFaultAt, IfRefused, refusal_at};
+ghost use Rattle.p8_expr.specs.Parsing.{Outcome, tree, greatest_height, Parses, IsFault, IsFaultAt, refusal_at};
 ghost use Rattle.p8_expr.specs.Reading.{HasRead};
 
-use crate::fault::ParseFault;
 use crate::refusals::refusal_of;
 use crate::words::lexeme;
 use p8_grammar::{Reader, Setting};
-use p8_lexer::{Refusal, Token, Tokens, word_of};
-use p8_tree::Expr;
+use p8_lexer::{Token, Tokens, word_of};
+use p8_tree::{Expr, Fault, Refusal};
 use p8_words::{Fail, NoMemory};
 use std::alloc::Global;
 
@@ -38,7 +38,7 @@ pub fn parse_expr(
     bytes: &[u8],
     tokens: &Tokens,
     at: usize,
-) -> Result<(Expr, usize), Fail<ParseFault>>
+) -> Result<(Expr, usize), Fail<Fault>>
     requires { at < length tokens.now }
     ensures read { IfOk result (λ read. Parses in_method greatest_height bytes.now tokens.now at (tree (tree_of read.0) read.1)) }
     ensures refused { IfErr result (IfRefused (IsFault in_method greatest_height bytes.now tokens.now at)) }
@@ -58,7 +58,7 @@ pub fn parse_expr_in(
     at: usize,
     setting: Setting,
     height: u8,
-) -> Result<(Expr, usize), Fail<ParseFault>>
+) -> Result<(Expr, usize), Fail<Fault>>
     requires within { at < length tokens.now }
     requires limit { height ≤ greatest_height }
     ensures read { IfOk result (λ read. Parses (setting_of setting) height bytes.now tokens.now at (tree (tree_of read.0) read.1)) }
@@ -137,15 +137,11 @@ fn refusal_at(bytes: &[u8], tokens: &Tokens, at: usize, setting: Setting) -> Opt
 }
 
 // What is told of a refusal at the token of this number.
-fn fault(refusal: Refusal, tokens: &Tokens, at: usize) -> ParseFault
+fn fault(refusal: Refusal, tokens: &Tokens, at: usize) -> Fault
     requires { at < length tokens.now }
     ensures { IsFaultAt refusal tokens.now at result }
 {
-    let token = token_at(tokens, at);
-    ParseFault {
-        number: refusal.number(),
-        place: token.place,
-    }
+    refusal.at(token_at(tokens, at).place)
 }
 
 // The token of this number.
@@ -162,6 +158,6 @@ fn token_at(tokens: &Tokens, at: usize) -> Token
 pub fn one_answer()
     ensures outcome { (s : lexemes.Setting) (limit : ℕ) (bytes : List ℕ) (tokens : List lexer_token.Token) (at : ℕ) (one another : Outcome)
         → Parses s limit bytes tokens at one → Parses s limit bytes tokens at another → one ≡ another }
-    ensures fault { (s : lexemes.Setting) (limit : ℕ) (bytes : List ℕ) (tokens : List lexer_token.Token) (at : ℕ) (one another : parse_fault.ParseFault)
+    ensures fault { (s : lexemes.Setting) (limit : ℕ) (bytes : List ℕ) (tokens : List lexer_token.Token) (at : ℕ) (one another : Fault)
         → IsFault s limit bytes tokens at one → IsFault s limit bytes tokens at another → one ≡ another }
 {}

@@ -4,7 +4,8 @@ ghost use Rattle.p8_grammar.specs.Views.{setting_of};
 ghost use Rattle.p8_expr.specs.Refusals.{refused_in_methods, refused_in_dat, refusal_of};
 
 use p8_grammar::Setting;
-use p8_lexer::{Refusal, Word};
+use p8_lexer::Word;
+use p8_tree::Refusal;
 
 // The refusal of a word that is refused in methods alone.
 fn refused_in_methods(setting: Setting) -> Option<Refusal>

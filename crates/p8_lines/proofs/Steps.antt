@@ -10,8 +10,9 @@ use Rattle.p8_words.specs.declared.failure.Fail.TheVariants as fail
 use Rattle.p8_lexer.specs.declared.word.Word.TheVariants as word
 use Rattle.p8_lexer.specs.declared.token.Token as lexer_token
 use Rattle.p8_grammar.specs.Lexemes.{Setting}
-use Rattle.p8_expr.specs.declared.fault.ParseFault.{ParseFault}
-use Rattle.p8_expr.specs.Parsing.{tree, Parses, IsFault, IfRefused}
+use Rattle.p8_tree.specs.declared.faults.Fault.{Fault}
+use Rattle.p8_tree.specs.Faults.{IfRefused}
+use Rattle.p8_expr.specs.Parsing.{tree, Parses, IsFault}
 use Rattle.p8_lexer.specs.Pieces as pieces
 use Rattle.p8_lexer.specs.Pieces.{Piece}
 use Rattle.p8_lines.specs.declared.arrow.Arrow.{Arrow}
@@ -27,15 +28,6 @@ use Rattle.p8_lines.proofs.Readings.{leads_fits, reads_line, reads_stop}
 use Rattle.p8_lines.proofs.Texts.{first_at, is_end}
 use Rattle.p8_lines.proofs.Stops.{run_within, spelled, within, arrow_goes, no_phrase_stops, end_stops, tree_goes, tree_stops, refused_stops}
 use Rattle.p8_lines.proofs.LineEnds.{line_end_over, line_end_behind}
-
--- what a refusal of a part says of the whole
-pub refused_so : (P Q : ParseFault → Type 0) → ((f : ParseFault) → P f → Q f) → (e : Fail ParseFault) → IfRefused P e → IfRefused Q e
-refused_so P Q g (fail.Refused f) h = g f h
-refused_so P Q g fail.NoMemory h = tt
-
-pub err_so : {A : Type 0} (P Q : ParseFault → Type 0) → ((f : ParseFault) → P f → Q f) → (r : Result A (Fail ParseFault)) → IfErr r (IfRefused P) → IfErr r (IfRefused Q)
-err_so P Q g (Ok x) h = tt
-err_so P Q g (Err e) h = refused_so P Q g e h
 
 pub stops_as : (s : Setting) (q : State) (ts : List LineToken) (n m : ℕ) (p p' : Place) → Stops s q ts n p → m ≡ n → p' ≡ p → Stops s q ts m p'
 stops_as s q ts n m p p' x e f = subst (λ p. Stops s q ts m p) (sym f) (subst (λ n. Stops s q ts n p) (sym e) x)
@@ -55,7 +47,7 @@ phrase_some (Some h) k e = (h, refl, cc)
 pub parses_within : (s : Setting) (limit : ℕ) (bytes : List ℕ) (tokens : List lexer_token.Token) (at end : ℕ) (e : Tree) → at < length tokens → Parses s limit bytes tokens at (tree e end) → end ≤ length tokens
 parses_within s limit bytes tokens at end e lt x = run_within s limit bytes tokens at end e lt x
 
-pub tree_refused : (s : Setting) (bytes : List ℕ) (tokens : List lexer_token.Token) (at : ℕ) (q : State) (k : Setting) (fault : ParseFault) → at < length tokens → option_map (λ h. h.setting) (choices q).phrase ≡ Some k → FitsSetting s q → ((r : State) → ¬ Follows (choices q).arrows (token_at bytes tokens at) r) → IsFault k greatest_height bytes tokens at fault → Stops s q (tokens_from bytes tokens at) fault.number fault.place
+pub tree_refused : (s : Setting) (bytes : List ℕ) (tokens : List lexer_token.Token) (at : ℕ) (q : State) (k : Setting) (fault : Fault) → at < length tokens → option_map (λ h. h.setting) (choices q).phrase ≡ Some k → FitsSetting s q → ((r : State) → ¬ Follows (choices q).arrows (token_at bytes tokens at) r) → IsFault k greatest_height bytes tokens at fault → Stops s q (tokens_from bytes tokens at) fault.number fault.place
 tree_refused s bytes tokens at q k fault lt expects fits unfollowed x =
     let y = phrase_some (choices q).phrase k expects in
     refused_stops s bytes tokens at q y.0 fault lt y.1 fits unfollowed (subst (λ k. IsFault k greatest_height bytes tokens at fault) (sym y.2) x)
@@ -142,7 +134,7 @@ pub onward : (q r : State) (at end : ℕ) → (r ≡ q) ⊎ (at < end) → r ≡
 onward q r at end (inl e) f n = absurd (n (sym e ∙ f))
 onward q r at end (inr lt) f n = lt
 
-pub is_refused : (P : ParseFault → Type 0) (x : Fail ParseFault) (f : ParseFault) → x ≡ fail.Refused f → IfRefused P x → P f
+pub is_refused : (P : Fault → Type 0) (x : Fail Fault) (f : Fault) → x ≡ fail.Refused f → IfRefused P x → P f
 is_refused P x f e h = subst (IfRefused P) e h
 
 pub kept_as : (old new : List Piece) (x y : Piece) → new ≡ old ++ x ∷ [] → x ≡ y → new ≡ old ++ y ∷ []

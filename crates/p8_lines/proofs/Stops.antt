@@ -8,17 +8,17 @@ use Rattle.p8_tree.specs.Expressions.{Tree}
 use Rattle.p8_lexer.specs.declared.word.Word.{Word}
 use Rattle.p8_lexer.specs.declared.word.Word.TheVariants as word
 use Rattle.p8_lexer.specs.declared.token.Token as lexer_token
-use Rattle.p8_lexer.specs.declared.refusal.Refusal.{Refusal}
-use Rattle.p8_lexer.specs.declared.refusal.Refusal.TheVariants as refusal
-use Rattle.p8_lexer.specs.declared.refusal.Refusal.TheVariants.{TooNested, Unexpected}
-use Rattle.p8_lexer.specs.Refusals.{refusal_number}
+use Rattle.p8_tree.specs.declared.refusal.Refusal.{Refusal}
+use Rattle.p8_tree.specs.declared.refusal.Refusal.TheVariants as refusal
+use Rattle.p8_tree.specs.declared.refusal.Refusal.TheVariants.{TooNested, Unexpected}
+use Rattle.p8_tree.specs.Refusals.{refusal_number}
 use Rattle.p8_lexer.specs.Words.{word_of}
 use Rattle.p8_grammar.specs.Lexemes as lexemes
 use Rattle.p8_grammar.specs.Lexemes.{Setting}
 use Rattle.p8_grammar.specs.Grammar.{IsExpression, IsFront}
 use Rattle.p8_grammar.specs.Heights as heights
 use Rattle.p8_grammar.specs.Heights.{height}
-use Rattle.p8_expr.specs.declared.fault.ParseFault.{ParseFault}
+use Rattle.p8_tree.specs.declared.faults.Fault.{Fault}
 use Rattle.p8_expr.specs.Refusals.{refusal_of}
 use Rattle.p8_expr.specs.Parsing as parsing
 use Rattle.p8_expr.specs.Parsing.{tree, refused, Ends, whole, unfit, broken_off, Parses, refusal_at, IsFault}
@@ -247,7 +247,7 @@ refusal_is : (s : Setting) (bytes : List ℕ) (tokens : List lexer_token.Token) 
 unfolding refusal_at
 refusal_is s bytes tokens i t h = ap (option_and_then (λ t. refusal_of s (word_of bytes t))) h
 
-pub refused_stops : (s : Setting) (bytes : List ℕ) (tokens : List lexer_token.Token) (at : ℕ) (q : State) (h : Phrase) (fault : ParseFault) → at < length tokens → (choices q).phrase ≡ Some h → FitsSetting s q → ((r : State) → ¬ Follows (choices q).arrows (token_at bytes tokens at) r) → IsFault h.setting greatest_height bytes tokens at fault → Stops s q (tokens_from bytes tokens at) fault.number fault.place
+pub refused_stops : (s : Setting) (bytes : List ℕ) (tokens : List lexer_token.Token) (at : ℕ) (q : State) (h : Phrase) (fault : Fault) → at < length tokens → (choices q).phrase ≡ Some h → FitsSetting s q → ((r : State) → ¬ Follows (choices q).arrows (token_at bytes tokens at) r) → IsFault h.setting greatest_height bytes tokens at fault → Stops s q (tokens_from bytes tokens at) fault.number fault.place
 refused_stops s bytes tokens at q h fault lt p fits unfollowed (r, i, (n, long, ends), (t, get, number, place)) = go (ends_refused h.setting greatest_height bytes tokens at (at + n) (take n (parsing.tokens_from bytes tokens at)) r i ends)
   where
     y : Run h.setting bytes tokens at n

@@ -3,8 +3,8 @@ use Rattle.std.specs.Prelude.{◌≡◌, ℕ, ◌≤◌, Bool, true, false, if�
 use Rattle.p8_tree.specs.declared.places.Place.{Place}
 use Rattle.p8_tree.specs.Expressions.{Tree}
 use Rattle.p8_lexer.specs.declared.word.Word.{Word}
-use Rattle.p8_lexer.specs.declared.refusal.Refusal.TheVariants.{Unexpected, TooNested}
-use Rattle.p8_lexer.specs.Refusals.{refusal_number}
+use Rattle.p8_tree.specs.declared.refusal.Refusal.TheVariants.{Unexpected, TooNested}
+use Rattle.p8_tree.specs.Refusals.{refusal_number}
 use Rattle.p8_grammar.specs.Lexemes.{Setting, name, method_result, Lexeme}
 use Rattle.p8_grammar.specs.Grammar.{IsExpression, IsFront}
 use Rattle.p8_grammar.specs.Heights as heights

@@ -3,8 +3,8 @@ use Rattle.std.specs.Prelude.{◌≡◌, ℕ, ◌+◌, ◌<◌, ◌≤◌, ◌==
 use Rattle.p8_tree.specs.declared.places.Place.{Place}
 use Rattle.p8_lexer.specs.declared.token.Token as lexer_token
 use Rattle.p8_lexer.specs.declared.word.Word.{Word}
-use Rattle.p8_lexer.specs.declared.refusal.Refusal.TheVariants.{TooNested}
-use Rattle.p8_lexer.specs.Refusals.{refusal_number}
+use Rattle.p8_tree.specs.declared.refusal.Refusal.TheVariants.{TooNested}
+use Rattle.p8_tree.specs.Refusals.{refusal_number}
 use Rattle.p8_grammar.specs.Lexemes.{Setting}
 use Rattle.p8_expr.specs.Refusals.{refusal_of}
 use Rattle.p8_lexer.specs.Pieces.{Piece}

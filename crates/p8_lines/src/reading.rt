@@ -1,8 +1,9 @@
 // Reading a line.
 ghost use Rattle.std.specs.Prelude.{◌≡◌, ◌≢◌, ℕ, ◌+◌, ◌-◌, ◌<◌, ◌≤◌, ◌++◌, ◌∷◌, [], IfOk, IfErr, MatchOption, IsTrue, ◌↔◌, map, length, Some, option_map};
 ghost use Rattle.p8_tree.specs.Views.{tree_of};
+ghost use Rattle.p8_tree.specs.Faults.{IfRefused};
 ghost use Rattle.p8_grammar.specs.Views.{setting_of, lexeme_of};
-ghost use Rattle.p8_expr.specs.Parsing.{tree, Parses, IfRefused};
+ghost use Rattle.p8_expr.specs.Parsing.{tree, Parses};
 ghost use Rattle.p8_lexer.specs.Pieces.{piece_of, pieces_of};
 ghost use Rattle.p8_lines.specs.declared.state.State as line_state;
 ghost use Rattle.p8_lines.specs.declared.state.State.TheVariants as state_case;
@@ -14,10 +15,10 @@ ghost use Rattle.p8_lines.specs.Stopping.{token_at, run, FitsSetting, Stops, Adv
 
 use crate::arrow::Arrow;
 use crate::state::State;
-use p8_expr::{GREATEST_HEIGHT, ParseFault, lexeme, parse_expr_in, refusal_of};
+use p8_expr::{GREATEST_HEIGHT, lexeme, parse_expr_in, refusal_of};
 use p8_grammar::{Lexeme, Setting, Term};
-use p8_lexer::{Characters, Piece, Refusal, Tokens, Word, word_of};
-use p8_tree::{Expr, Place};
+use p8_lexer::{Characters, Piece, Tokens, Word, word_of};
+use p8_tree::{Expr, Fault, Place, Refusal};
 use p8_words::{Fail, NoMemory};
 use std::alloc::{AllocError, Global};
 
@@ -46,7 +47,7 @@ pub fn read_line(
     tokens: &Tokens,
     at: usize,
     state: State,
-) -> Result<(Vec<Piece>, usize), Fail<ParseFault>>
+) -> Result<(Vec<Piece>, usize), Fail<Fault>>
     requires { at ≤ length tokens.now }
     ensures within { IfOk result (λ r. r.1 ≤ length tokens.now + 1) }
     ensures onward { state ≢ state_case.End → IfOk result (λ r. at < r.1) }
@@ -82,7 +83,7 @@ fn step(
     state: State,
     line: Setting,
     pieces: &mut Vec<Piece>,
-) -> Result<(State, usize), Fail<ParseFault>>
+) -> Result<(State, usize), Fail<Fault>>
     requires within { at ≤ length tokens.now }
     requires unended { state ≢ state_case.End }
     requires fits { FitsSetting (setting_of line) state }
@@ -106,7 +107,7 @@ fn step_over_tree(
     state: State,
     line: Setting,
     pieces: &mut Vec<Piece>,
-) -> Result<(State, usize), Fail<ParseFault>>
+) -> Result<(State, usize), Fail<Fault>>
     requires within { at ≤ length tokens.now }
     requires unended { state ≢ state_case.End }
     requires fits { FitsSetting (setting_of line) state }
@@ -144,7 +145,7 @@ fn read_tree(
     state: State,
     setting: Setting,
     line: Setting,
-) -> Result<(Expr, usize), Fail<ParseFault>>
+) -> Result<(Expr, usize), Fail<Fault>>
     requires within { at < length tokens.now }
     requires fits { FitsSetting (setting_of line) state }
     requires alone { (r : line_state.State) → ¬ Follows (choices state).arrows (token_at bytes.now tokens.now at) r }
@@ -297,13 +298,10 @@ fn push(pieces: &mut Vec<Piece>, piece: Piece) -> Result<(), AllocError>
 }
 
 // What is told of a token that can't stand where it does.
-fn fault_at(bytes: &[u8], tokens: &Tokens, at: usize, setting: Setting) -> ParseFault
+fn fault_at(bytes: &[u8], tokens: &Tokens, at: usize, setting: Setting) -> Fault
     ensures number { result.number ≡ number_of (setting_of setting) (line_tokens.word (token_at bytes.now tokens.now at)) }
     ensures place { result.place ≡ (token_at bytes.now tokens.now at).place }
 {
     let refusal = refusal_of(setting, word_at(bytes, tokens, at)).unwrap_or(Refusal::Unexpected);
-    ParseFault {
-        number: refusal.number(),
-        place: place_at(bytes, tokens, at),
-    }
+    refusal.at(place_at(bytes, tokens, at))
 }

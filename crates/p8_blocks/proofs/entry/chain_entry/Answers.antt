@@ -11,9 +11,9 @@ returns-in-Begun-clause-enters c = λ ls t h w p.
 pub returns-in-Ended-clause-enters : goal.returns-in-Ended-clause-enters
 returns-in-Ended-clause-enters c = λ ls t h w p.
     let n = c.args.first.place.column in
-    barred_as ls c.args.first.begun t _ _ c.number_of.ensures (chain_ended ls c.args.first.begun t c.args.first.word c.args.first.place w p c.requires (subst (λ x. HasChain x n (last_up_to n ls)) c.in-Ended.is (c.chain.ensures ls h)))
+    barred_as ls c.args.first.begun t _ _ c.refusal_of_word.ensures (chain_ended ls c.args.first.begun t c.args.first.word c.args.first.place w p c.requires (subst (λ x. HasChain x n (last_up_to n ls)) c.in-Ended.is (c.chain.ensures ls h)))
 
 pub returns-in-Missing-clause-enters : goal.returns-in-Missing-clause-enters
 returns-in-Missing-clause-enters c = λ ls t h w p.
     let n = c.args.first.place.column in
-    barred_as ls c.args.first.begun t _ _ c.number.ensures (chain_missing ls c.args.first.begun t c.args.first.word c.args.first.place w p c.requires (subst (λ x. HasChain x n (last_up_to n ls)) c.in-Missing.is (c.chain.ensures ls h)))
+    chain_missing ls c.args.first.begun t c.args.first.word c.args.first.place w p c.requires (subst (λ x. HasChain x n (last_up_to n ls)) c.in-Missing.is (c.chain.ensures ls h))

@@ -1,8 +1,9 @@
 use Rattle.std.proofs.Common.{subst}
-use Rattle.p8_expr.specs.Parsing.{IfRefused}
+use Rattle.p8_tree.specs.Faults.{IfRefused}
 use Rattle.p8_lines.specs.Lines.{refused, Reads}
 use Rattle.p8_blocks.specs.Standing.{TellsTooDeep, refused_there}
-use Rattle.p8_blocks.proofs.Entering.{granted, denied, refused_weaker, deep_elsewhere}
+use Rattle.p8_tree.proofs.Failing.{refused_so}
+use Rattle.p8_blocks.proofs.Entering.{granted, denied, deep_elsewhere}
 use Rattle.p8_blocks.proofs.entry.first_refusal.Goals as goal
 
 pub returns-then-is_same : goal.returns-then-is_same
@@ -12,5 +13,5 @@ returns-then-is_same c = λ q ts r.
 pub returns-else-is_same : goal.returns-else-is_same
 returns-else-is_same c = λ q ts r.
     let g = c.in-Refused.fault in
-    refused_weaker _ (λ f. TellsTooDeep q ts c.args.first.place c.args.first.begin f.number f.place)
+    refused_so _ (λ f. TellsTooDeep q ts c.args.first.place c.args.first.begin f.number f.place)
     (deep_elsewhere c.args.first.place c.args.first.begin g (subst (λ x. IfRefused (λ f. Reads q ts (refused f.number f.place)) x) c.in-Refused.is r) (denied c.if-is_same.false c.is_same.ensures)) c.too_nested.result c.too_nested.ensures

@@ -16,4 +16,4 @@ returns-in-Item-clause-enters c = λ ls t h w p.
 pub returns-in-Nothing-clause-enters : goal.returns-in-Nothing-clause-enters
 returns-in-Nothing-clause-enters c = λ ls t h w p.
     let n = c.args.first.place.column in
-    barred_as ls c.args.first.begun t _ _ c.number_of.ensures (nothing_fits ls c.args.first.begun t c.args.first.word c.args.first.place w p c.requires.no_chain c.requires.no_loop_end (subst (λ x. HasRoom x (innermost n ls)) c.in-Nothing.is (c.room.ensures ls h)))
+    barred_as ls c.args.first.begun t _ _ c.refusal_of_word.ensures (nothing_fits ls c.args.first.begun t c.args.first.word c.args.first.place w p c.requires.no_chain c.requires.no_loop_end (subst (λ x. HasRoom x (innermost n ls)) c.in-Nothing.is (c.room.ensures ls h)))

@@ -1,12 +1,13 @@
 use Rattle.std.proofs.Common.{◌∷◌, subst}
 use Rattle.p8_tree.specs.Views.{method_of}
-use Rattle.p8_expr.specs.Parsing.{IfRefused}
+use Rattle.p8_tree.specs.Faults.{IfRefused}
 use Rattle.p8_columns.specs.Columns.{FitsAs}
 use Rattle.p8_columns.specs.Views.{kind_of}
 use Rattle.p8_lines.specs.Tokens.{tokens_from}
 use Rattle.p8_lines.specs.Lines.{refused, Reads}
 use Rattle.p8_blocks.specs.Reading.{at, method, Fails}
-use Rattle.p8_blocks.proofs.Entering.{fits, may_read, refused_weaker, reading_fails, told}
+use Rattle.p8_tree.proofs.Failing.{refused_so}
+use Rattle.p8_blocks.proofs.Entering.{fits, may_read, reading_fails, told}
 use Rattle.p8_blocks.proofs.Stepping.{method_grown}
 use Rattle.p8_blocks.proofs.lines.method_line.Goals as goal
 
@@ -21,7 +22,7 @@ returns-in_err-kind-clause-refused c = λ b ls ps s h.
     let q = c.in_ok-state.state in
     let m = method_of c.args.method in
     told c.from_residual-in_err-kind.result _ (IfRefused (λ f. Fails (at (method m ls ∷ ps) b) ts f.number f.place)) c.from_residual-in_err-kind.ensures.1
-    (refused_weaker (λ f. Reads q ts (refused f.number f.place)) (λ f. Fails (at (method m ls ∷ ps) b) ts f.number f.place)
+    (refused_so (λ f. Reads q ts (refused f.number f.place)) (λ f. Fails (at (method m ls ∷ ps) b) ts f.number f.place)
     (reading_fails s m ls ps q (may_read s (c.in_ok-state.ensures.read ls s.token h s.is.same_word s.is.same_place))) _ c.in_err-kind.ensures.refused)
 
 pub returns-in_err-state-clause-refused : goal.returns-in_err-state-clause-refused

@@ -1,7 +1,7 @@
 use Rattle.std.proofs.Common.{◌≡◌, ◌∙◌, ◌-◌, length, take, sym, ap, subst}
 use Rattle.std.specs.Prelude.{if◌then◌else◌, nat_lt, min}
 use Rattle.p8_tree.specs.Views.{tree_of}
-use Rattle.p8_lexer.specs.declared.refusal.Refusal.TheVariants.{TooNested, Unexpected}
+use Rattle.p8_tree.specs.declared.refusal.Refusal.TheVariants.{TooNested, Unexpected}
 use Rattle.p8_grammar.specs.Heights.{IsTooHigh}
 use Rattle.p8_grammar.specs.Views.{setting_of}
 use Rattle.p8_expr.specs.Parsing.{tree, refused, whole, unfit, broken_off, tokens_from, IsFaultAt}

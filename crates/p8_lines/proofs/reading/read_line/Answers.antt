@@ -1,16 +1,17 @@
 use Rattle.std.proofs.Common.{◌≡◌, inr, inl, length, true, false, refl, ap, arith, rules}
 use Rattle.std.specs.Prelude.{IfErr}
 use Rattle.std.proofs.lemmas.Grind.{common_steps}
-use Rattle.p8_expr.specs.Parsing.{IfRefused}
 use Rattle.p8_grammar.specs.Views.{setting_of}
-use Rattle.p8_expr.specs.declared.fault.ParseFault.{ParseFault}
+use Rattle.p8_tree.specs.declared.faults.Fault.{Fault}
+use Rattle.p8_tree.specs.Faults.{IfRefused}
 use Rattle.p8_lexer.specs.Pieces.{pieces_of}
 use Rattle.p8_lines.specs.declared.state.State.TheVariants as state
 use Rattle.p8_lines.specs.Tokens.{tokens_from}
 use Rattle.p8_lines.specs.Lines.{Reads, refused}
 use Rattle.p8_lines.specs.Stopping.{Stops}
 use Rattle.p8_expr.proofs.Runs.{refuted}
-use Rattle.p8_lines.proofs.Steps.{begin_goes, goes_further, still_within, fits_there, line_read, line_refused, onward, err_so}
+use Rattle.p8_lines.proofs.Steps.{begin_goes, goes_further, still_within, fits_there, line_read, line_refused, onward}
+use Rattle.p8_tree.proofs.Failing.{err_so}
 use Rattle.p8_lines.proofs.reading.read_line.Goals as goal
 
 pub steps-init : goal.steps-init
@@ -54,7 +55,7 @@ pub returns-in_err-next-clause-refused : goal.returns-in_err-next-clause-refused
 returns-in_err-next-clause-refused c =
     let bytes = c.args.bytes.now in
     let tokens = c.args.tokens.now in
-    let P : ParseFault → Type 0 = λ f. Stops (setting_of c.setting-setting.result) c.steps.here (tokens_from bytes tokens c.steps.end) f.number f.place in
-    let Q : ParseFault → Type 0 = λ f. Reads c.args.state (tokens_from bytes tokens c.args.at) (refused f.number f.place) in
+    let P : Fault → Type 0 = λ f. Stops (setting_of c.setting-setting.result) c.steps.here (tokens_from bytes tokens c.steps.end) f.number f.place in
+    let Q : Fault → Type 0 = λ f. Reads c.args.state (tokens_from bytes tokens c.args.at) (refused f.number f.place) in
     let stops : IfErr c.from_residual.result (IfRefused P) = first_of (search rules, grind (arith, common_steps)) in
     err_so P Q (λ f x. line_refused bytes tokens c.args.at c.steps.end c.args.state c.steps.here (pieces_of c.steps.pieces.items) (setting_of c.setting-setting.result) f.number f.place c.requires c.setting-setting.ensures c.steps.invariant.goes x) c.from_residual.result stops

@@ -2,7 +2,7 @@ use Rattle.std.proofs.Common.{◌∷◌, map, refl, subst, sym}
 use Rattle.std.specs.Prelude.{IfErr}
 use Rattle.std.proofs.lemmas.Result.{IfOk-weaker}
 use Rattle.p8_tree.specs.Views.{constant_of, declared_of, child_of, line_of, method_of}
-use Rattle.p8_expr.specs.Parsing.{IfRefused}
+use Rattle.p8_tree.specs.Faults.{IfRefused}
 use Rattle.p8_lines.specs.Tokens.{tokens_from}
 use Rattle.p8_blocks.specs.Reading.{at, constants, variables, objects, assembly, method, Fails}
 use Rattle.p8_blocks.specs.Standing.{Grown, IsOpen}
