@@ -2,9 +2,12 @@
 use Rattle.std.proofs.Common.{◌≡◌, ℕ, ◌<◌, ◌≤◌, inl, inr, List, [], ◌∷◌, ◌++◌, length, Option, Some, None, refl, ap, sym, ◌∙◌, subst, arith}
 use Rattle.p8_tree.specs.declared.places.Place.{Place}
 use Rattle.p8_tree.specs.Sources.{Child, Source}
-use Rattle.p8_tree.specs.Projects.{NamedSource}
+use Rattle.p8_tree.specs.Projects.{NamedSource, most_files}
 use Rattle.p8_lexer.specs.declared.token.Token.{Token}
-use Rattle.p8_lexer.specs.declared.token.LexFault.{LexFault}
+use Rattle.p8_tree.specs.declared.faults.Fault.{Fault}
+use Rattle.p8_tree.specs.declared.refusal.Refusal.TheVariants.{TooManyObjects}
+use Rattle.p8_tree.specs.Faults.{fault}
+use Rattle.p8_tree.proofs.Failing.{same_fault}
 use Rattle.p8_lexer.specs.Lexing.{longest_file, AreTokens, IsFault}
 use Rattle.p8_lines.specs.Tokens.{LineToken, all_tokens}
 use Rattle.p8_blocks.specs.Reading as reading
@@ -13,7 +16,7 @@ use Rattle.p8_io.specs.Shelves.{AreStartOf}
 use Rattle.p8_objects.specs.Lists.{IsAt, HasOne, IsFirst}
 use Rattle.p8_objects.specs.Sources.{mentions, most_objects, ReadsAs, IsSource, IsRefused, no_tokens, no_file, too_many}
 use Rattle.p8_objects.specs.declared.fault.Mention.{Mention}
-use Rattle.p8_objects.specs.Projects.{IsIn, Mentions, Leads, there, over, ClosesRing, IsOpen, HasOpen, IsNext, Call, Calls, read, refuse, nothing, most_files, mention_in, IsMentionedAt}
+use Rattle.p8_objects.specs.Projects.{IsIn, Mentions, Leads, there, over, ClosesRing, IsOpen, HasOpen, IsNext, Call, Calls, read, refuse, nothing, mention_in, IsMentionedAt}
 use Rattle.p8_objects.specs.Projects as projects
 use Rattle.p8_objects.specs.Outcomes.{Shelved, shelved, HasBytes, IsAbsent, Outcome, ComesTo, project, refused, missing, failed, named}
 use Rattle.p8_objects.specs.Outcomes as outcomes
@@ -23,9 +26,9 @@ use Rattle.p8_objects.proofs.Wholes.{next_not_empty}
 
 -- what is known of the lexer and of reading lines
 pub record OneAnswer : Type 0 where
-  pub never_both : (bytes : List ℕ) (tokens : List Token) (fault : LexFault) → AreTokens bytes tokens → length bytes ≤ longest_file → ¬ IsFault bytes fault
+  pub never_both : (bytes : List ℕ) (tokens : List Token) (f : Fault) → AreTokens bytes tokens → length bytes ≤ longest_file → ¬ IsFault bytes f
   pub one_list : (bytes : List ℕ) (some others : List Token) → AreTokens bytes some → AreTokens bytes others → some ≡ others
-  pub one_fault : (bytes : List ℕ) (one another : LexFault) → IsFault bytes one → IsFault bytes another → one ≡ another
+  pub one_fault : (bytes : List ℕ) (one another : Fault) → IsFault bytes one → IsFault bytes another → one ≡ another
   pub one_reading : (ts : List LineToken) (a b : Answer) → Parses ts a → Parses ts b → a ≡ b
 
 -- what the files so far call for
@@ -93,8 +96,8 @@ one_mention files name (Some a) (Some b) p q =
 same_source : {s t : Source} → reading.source s ≡ reading.source t → s ≡ t
 same_source e = cc
 
-same_fault : {m n : ℕ} {p q : Place} → reading.fault m p ≡ reading.fault n q → (m ≡ n) × (p ≡ q)
-same_fault e = (cc, cc)
+same_answer : {m n : ℕ} {p q : Place} → reading.fault m p ≡ reading.fault n q → (m ≡ n) × (p ≡ q)
+same_answer e = (cc, cc)
 
 no_fault_source : {s : Source} {n : ℕ} {p : Place} → reading.source s ≡ reading.fault n p → ⊥
 no_fault_source e = cc
@@ -112,25 +115,23 @@ one_source A {bytes = bytes} r q = same_source (one_answer A bytes r.tokens q.to
 too_many_for : {xs : List Child} {x : Child} → IsAt xs most_objects x → length xs ≤ most_objects → ⊥
 too_many_for at l = let w = is_within at in omega arith
 
-source_or_refused : (A : OneAnswer) {bytes : List ℕ} {s : Source} {n : ℕ} {p : Place} → IsSource bytes s → IsRefused bytes n p → ⊥
+source_or_refused : (A : OneAnswer) {bytes : List ℕ} {s : Source} {f : Fault} → IsSource bytes s → IsRefused bytes f → ⊥
 source_or_refused A {bytes = bytes} i (no_tokens f) = A.never_both bytes i.reads.tokens _ i.reads.cut i.reads.short f
 source_or_refused A {bytes = bytes} i (no_file tokens l cut q) = no_fault_source (one_answer A bytes i.reads.tokens tokens i.reads.cut cut i.reads.read q)
-source_or_refused A i (too_many t x r at e d) = too_many_for (subst (λ u. IsAt (mentions u) most_objects x) (one_source A r i.reads) at) i.few
+source_or_refused A i (too_many t x r at e) = too_many_for (subst (λ u. IsAt (mentions u) most_objects x) (one_source A r i.reads) at) i.few
 
-same_lex_fault : {m n : ℕ} {p q : Place} → (let a : LexFault = record { number = m; place = p } in let b : LexFault = record { number = n; place = q } in a ≡ b) → (m ≡ n) × (p ≡ q)
-same_lex_fault e = (ap (λ f. f.number) e, ap (λ f. f.place) e)
-
-one_refusal : (A : OneAnswer) {bytes : List ℕ} {m n : ℕ} {p q : Place} → IsRefused bytes m p → IsRefused bytes n q → (m ≡ n) × (p ≡ q)
-one_refusal A {bytes = bytes} (no_tokens f) (no_tokens g) = same_lex_fault (A.one_fault bytes _ _ f g)
+one_refusal : (A : OneAnswer) {bytes : List ℕ} {f g : Fault} → IsRefused bytes f → IsRefused bytes g → f ≡ g
+one_refusal A {bytes = bytes} (no_tokens h) (no_tokens k) = A.one_fault bytes _ _ h k
 one_refusal A {bytes = bytes} (no_tokens f) (no_file tokens l cut r) = absurd (A.never_both bytes tokens _ cut l f)
-one_refusal A {bytes = bytes} (no_tokens f) (too_many t x r at e d) = absurd (A.never_both bytes r.tokens _ r.cut r.short f)
+one_refusal A {bytes = bytes} (no_tokens f) (too_many t x r at e) = absurd (A.never_both bytes r.tokens _ r.cut r.short f)
 one_refusal A {bytes = bytes} (no_file tokens l cut r) (no_tokens g) = absurd (A.never_both bytes tokens _ cut l g)
-one_refusal A {bytes = bytes} (no_file tokens l cut r) (no_file tokens' l' cut' r') = same_fault (one_answer A bytes tokens tokens' cut cut' r r')
-one_refusal A {bytes = bytes} (no_file tokens l cut r) (too_many t x h at e d) = absurd (no_fault_source (one_answer A bytes h.tokens tokens h.cut cut h.read r))
-one_refusal A {bytes = bytes} (too_many t x r at e d) (no_tokens g) = absurd (A.never_both bytes r.tokens _ r.cut r.short g)
-one_refusal A {bytes = bytes} (too_many t x h at e d) (no_file tokens l cut r) = absurd (no_fault_source (one_answer A bytes h.tokens tokens h.cut cut h.read r))
-one_refusal A (too_many t x r at e d) (too_many t' x' r' at' e' d') =
-    (e ∙ sym e', d ∙ (ap (λ z. z.place) (one_at (subst (λ u. IsAt (mentions u) most_objects x) (one_source A r r') at) at' refl) ∙ sym d'))
+one_refusal A {bytes = bytes} {f = f} {g = g} (no_file tokens l cut r) (no_file tokens' l' cut' r') =
+    let same = same_answer (one_answer A bytes tokens tokens' cut cut' r r') in same_fault f g same.0 same.1
+one_refusal A {bytes = bytes} (no_file tokens l cut r) (too_many t x h at e) = absurd (no_fault_source (one_answer A bytes h.tokens tokens h.cut cut h.read r))
+one_refusal A {bytes = bytes} (too_many t x r at e) (no_tokens g) = absurd (A.never_both bytes r.tokens _ r.cut r.short g)
+one_refusal A {bytes = bytes} (too_many t x h at e) (no_file tokens l cut r) = absurd (no_fault_source (one_answer A bytes h.tokens tokens h.cut cut h.read r))
+one_refusal A (too_many t x r at e) (too_many t' x' r' at' e') =
+    e ∙ (ap (λ z. fault TooManyObjects z.place) (one_at (subst (λ u. IsAt (mentions u) most_objects x) (one_source A r r') at) at' refl) ∙ sym e')
 
 -- a shelf that tells its files
 
@@ -152,59 +153,56 @@ there_or_absent files before now name a h (inr e) = start_of_none (files name) a
 -- what the file that is read next comes to
 data Read (shelf : Shelved) (top : List ℕ) (files : List NamedSource) (name : List ℕ) : Outcome → Type 0 where
   went_on : {o : Outcome} (bytes : List ℕ) (s : Source) → HasBytes shelf.files name bytes → IsSource bytes s → ComesTo shelf top (files ++ named name s ∷ []) o → Read shelf top files name o
-  was_refused : (bytes : List ℕ) (number : ℕ) (place : Place) → HasBytes shelf.files name bytes → IsRefused bytes number place → Read shelf top files name (refused name number place)
+  was_refused : (bytes : List ℕ) (f : Fault) → HasBytes shelf.files name bytes → IsRefused bytes f → Read shelf top files name (refused name f)
   was_absent : (mention : Option Mention) → IsMentionedAt files name mention → IsAbsent shelf name → Read shelf top files name (missing name mention)
 
 same_read : {m n : List ℕ} → read m ≡ read n → n ≡ m
 same_read e = cc
 
-same_refuse : {m n : List ℕ} {j k : ℕ} {p q : Place} → refuse m j p ≡ refuse n k q → refused m j p ≡ refused n k q
+same_refuse : {m n : List ℕ} {f g : Fault} → refuse m f ≡ refuse n g → refused m f ≡ refused n g
 same_refuse e = cc
 
-read_refuse : {m n : List ℕ} {k : ℕ} {q : Place} → read m ≡ refuse n k q → ⊥
+read_refuse : {m n : List ℕ} {f : Fault} → read m ≡ refuse n f → ⊥
 read_refuse e = cc
 
 read_nothing : {m : List ℕ} → read m ≡ nothing → ⊥
 read_nothing e = cc
 
-refuse_nothing : {n : List ℕ} {k : ℕ} {q : Place} → refuse n k q ≡ nothing → ⊥
+refuse_nothing : {n : List ℕ} {f : Fault} → refuse n f ≡ nothing → ⊥
 refuse_nothing e = cc
 
 as_read : {shelf : Shelved} {top : List ℕ} {files : List NamedSource} {o : Outcome} (name : List ℕ) → Calls top files (read name) → IsOfFiles o → ComesTo shelf top files o → Read shelf top files name o
 as_read {shelf = shelf} {top = top} {files = files} {o = o} name c i (outcomes.one_more name' bytes s c' h src rest) = subst (λ n. Read shelf top files n o) (same_read (one_call c c')) (went_on bytes s h src rest)
-as_read {shelf = shelf} {top = top} {files = files} name c i (outcomes.file_refused name' bytes number place c' h r) = subst (λ n. Read shelf top files n (refused name' number place)) (same_read (one_call c c')) (was_refused bytes number place h r)
+as_read {shelf = shelf} {top = top} {files = files} name c i (outcomes.file_refused name' bytes f c' h r) = subst (λ n. Read shelf top files n (refused name' f)) (same_read (one_call c c')) (was_refused bytes f h r)
 as_read {shelf = shelf} {top = top} {files = files} name c i (outcomes.absent name' mention c' m a) = subst (λ n. Read shelf top files n (missing name' mention)) (same_read (one_call c c')) (was_absent mention m a)
 as_read name c i (outcomes.not_read name' c' r) = absurd i
-as_read name c i (outcomes.mention_refused name' number place c') = absurd (read_refuse (one_call c c'))
+as_read name c i (outcomes.mention_refused name' f c') = absurd (read_refuse (one_call c c'))
 as_read name c i (outcomes.whole c') = absurd (read_nothing (one_call c c'))
 
-as_refused : {shelf : Shelved} {top : List ℕ} {files : List NamedSource} {o : Outcome} (name : List ℕ) (number : ℕ) (place : Place) → Calls top files (refuse name number place) → ComesTo shelf top files o → refused name number place ≡ o
-as_refused name number place c (outcomes.one_more name' bytes s c' h src rest) = absurd (read_refuse (one_call c' c))
-as_refused name number place c (outcomes.file_refused name' bytes m p c' h r) = absurd (read_refuse (one_call c' c))
-as_refused name number place c (outcomes.absent name' mention c' m a) = absurd (read_refuse (one_call c' c))
-as_refused name number place c (outcomes.not_read name' c' r) = absurd (read_refuse (one_call c' c))
-as_refused name number place c (outcomes.mention_refused name' m p c') = same_refuse (one_call c c')
-as_refused name number place c (outcomes.whole c') = absurd (refuse_nothing (one_call c c'))
+as_refused : {shelf : Shelved} {top : List ℕ} {files : List NamedSource} {o : Outcome} (name : List ℕ) (f : Fault) → Calls top files (refuse name f) → ComesTo shelf top files o → refused name f ≡ o
+as_refused name f c (outcomes.one_more name' bytes s c' h src rest) = absurd (read_refuse (one_call c' c))
+as_refused name f c (outcomes.file_refused name' bytes g c' h r) = absurd (read_refuse (one_call c' c))
+as_refused name f c (outcomes.absent name' mention c' m a) = absurd (read_refuse (one_call c' c))
+as_refused name f c (outcomes.not_read name' c' r) = absurd (read_refuse (one_call c' c))
+as_refused name f c (outcomes.mention_refused name' g c') = same_refuse (one_call c c')
+as_refused name f c (outcomes.whole c') = absurd (refuse_nothing (one_call c c'))
 
 as_whole : {shelf : Shelved} {top : List ℕ} {files : List NamedSource} {o : Outcome} → Calls top files nothing → ComesTo shelf top files o → project files ≡ o
 as_whole c (outcomes.one_more name' bytes s c' h src rest) = absurd (read_nothing (one_call c' c))
-as_whole c (outcomes.file_refused name' bytes m p c' h r) = absurd (read_nothing (one_call c' c))
+as_whole c (outcomes.file_refused name' bytes g c' h r) = absurd (read_nothing (one_call c' c))
 as_whole c (outcomes.absent name' mention c' m a) = absurd (read_nothing (one_call c' c))
 as_whole c (outcomes.not_read name' c' r) = absurd (read_nothing (one_call c' c))
-as_whole c (outcomes.mention_refused name' m p c') = absurd (refuse_nothing (one_call c' c))
+as_whole c (outcomes.mention_refused name' g c') = absurd (refuse_nothing (one_call c' c))
 as_whole c (outcomes.whole c') = refl
 
-same_refused : (name : List ℕ) {m n : ℕ} {p q : Place} → (m ≡ n) × (p ≡ q) → refused name m p ≡ refused name n q
-same_refused name (a, b) = cc
-
-refusal_agrees : (A : OneAnswer) (files : List ℕ → Option (List ℕ)) (before now : ℕ) {top : List ℕ} {sources : List NamedSource} (name bytes : List ℕ) (number : ℕ) (place : Place) {o : Outcome} → HasBytes (Some files) name bytes → IsRefused bytes number place → Read (shelved (Some files) before now) top sources name o → refused name number place ≡ o
-refusal_agrees A files before now name bytes number place h r (went_on bytes' s h' src rest) = absurd (source_or_refused A src (subst (λ b. IsRefused b number place) (one_bytes files name h h') r))
-refusal_agrees A files before now name bytes number place h r (was_refused bytes' m p h' r') = same_refused name (one_refusal A (subst (λ b. IsRefused b number place) (one_bytes files name h h') r) r')
-refusal_agrees A files before now name bytes number place h r (was_absent mention m a) = absurd (there_or_absent files before now name bytes h a)
+refusal_agrees : (A : OneAnswer) (files : List ℕ → Option (List ℕ)) (before now : ℕ) {top : List ℕ} {sources : List NamedSource} (name bytes : List ℕ) (f : Fault) {o : Outcome} → HasBytes (Some files) name bytes → IsRefused bytes f → Read (shelved (Some files) before now) top sources name o → refused name f ≡ o
+refusal_agrees A files before now name bytes f h r (went_on bytes' s h' src rest) = absurd (source_or_refused A src (subst (λ b. IsRefused b f) (one_bytes files name h h') r))
+refusal_agrees A files before now name bytes f h r (was_refused bytes' g h' r') = ap (refused name) (one_refusal A (subst (λ b. IsRefused b f) (one_bytes files name h h') r) r')
+refusal_agrees A files before now name bytes f h r (was_absent mention m a) = absurd (there_or_absent files before now name bytes h a)
 
 absence_agrees : (files : List ℕ → Option (List ℕ)) (before now : ℕ) {top : List ℕ} {sources : List NamedSource} (name : List ℕ) (mention : Option Mention) {o : Outcome} → IsMentionedAt sources name mention → IsAbsent (shelved (Some files) before now) name → Read (shelved (Some files) before now) top sources name o → missing name mention ≡ o
 absence_agrees files before now name mention m a (went_on bytes s h src rest) = absurd (there_or_absent files before now name bytes h a)
-absence_agrees files before now name mention m a (was_refused bytes n p h r) = absurd (there_or_absent files before now name bytes h a)
+absence_agrees files before now name mention m a (was_refused bytes f h r) = absurd (there_or_absent files before now name bytes h a)
 absence_agrees files before now {sources = sources} name mention m a (was_absent other n b) = ap (missing name) (one_mention sources name mention other m n)
 
 same_bytes_source : (A : OneAnswer) (files : List ℕ → Option (List ℕ)) (name bytes bytes' : List ℕ) (s s' : Source) → HasBytes (Some files) name bytes → HasBytes (Some files) name bytes' → IsSource bytes s → IsSource bytes' s' → s' ≡ s
@@ -215,14 +213,14 @@ same_bytes_source A files name bytes bytes' s s' h h' i i' =
 more_agrees : (A : OneAnswer) (files : List ℕ → Option (List ℕ)) (before now : ℕ) {top : List ℕ} {sources : List NamedSource} {a b : Outcome} (name bytes : List ℕ) (s : Source) → ((o : Outcome) → ComesTo (shelved (Some files) before now) top (sources ++ named name s ∷ []) o → IsOfFiles o → a ≡ o) → IsOfFiles b → HasBytes (Some files) name bytes → IsSource bytes s → Read (shelved (Some files) before now) top sources name b → a ≡ b
 more_agrees A files before now {top = top} {sources = sources} {b = b} name bytes s rest j h i (went_on bytes' s' h' i' rest') =
     rest b (subst (λ u. ComesTo (shelved (Some files) before now) top (sources ++ named name u ∷ []) b) (same_bytes_source A files name bytes bytes' s s' h h' i i') rest') j
-more_agrees A files before now name bytes s rest j h i (was_refused bytes' m p h' r) = absurd (source_or_refused A i (subst (λ b. IsRefused b m p) (one_bytes files name h' h) r))
+more_agrees A files before now name bytes s rest j h i (was_refused bytes' f h' r) = absurd (source_or_refused A i (subst (λ b. IsRefused b f) (one_bytes files name h' h) r))
 more_agrees A files before now name bytes s rest j h i (was_absent mention m b) = absurd (there_or_absent files before now name bytes h b)
 
 pub one_outcome : (A : OneAnswer) (files : List ℕ → Option (List ℕ)) (before now : ℕ) (top : List ℕ) {sources : List NamedSource} {a b : Outcome} → ComesTo (shelved (Some files) before now) top sources a → ComesTo (shelved (Some files) before now) top sources b → IsOfFiles a → IsOfFiles b → a ≡ b
 one_outcome A files before now top (outcomes.one_more name bytes s c h src rest) other i j =
     more_agrees A files before now name bytes s (λ o rest' k. one_outcome A files before now top rest rest' i k) j h src (as_read name c j other)
-one_outcome A files before now top (outcomes.file_refused name bytes number place c h r) other i j = refusal_agrees A files before now name bytes number place h r (as_read name c j other)
+one_outcome A files before now top (outcomes.file_refused name bytes f c h r) other i j = refusal_agrees A files before now name bytes f h r (as_read name c j other)
 one_outcome A files before now top (outcomes.absent name mention c m a) other i j = absence_agrees files before now name mention m a (as_read name c j other)
 one_outcome A files before now top (outcomes.not_read name c r) other i j = absurd i
-one_outcome A files before now top (outcomes.mention_refused name number place c) other i j = as_refused name number place c other
+one_outcome A files before now top (outcomes.mention_refused name f c) other i j = as_refused name f c other
 one_outcome A files before now top (outcomes.whole c) other i j = as_whole c other

@@ -2,20 +2,20 @@
 use Rattle.std.proofs.Common.{◌≡◌, ℕ, ◌+◌, ◌-◌, ◌<◌, ◌≤◌, ◌⊎◌, inl, inr, Bool, true, false, List, [], ◌∷◌, ◌++◌, length, get_or, Result, Ok, Err, Option, Some, None, refl, ap, sym, ◌∙◌, subst, arith}
 use Rattle.std.specs.Result.{IsErrAnd}
 use Rattle.std.proofs.lemmas.List.{map-append}
-use Rattle.p8_tree.specs.declared.places.Place.{Place}
+use Rattle.p8_tree.specs.declared.faults.Fault.{Fault}
 use Rattle.p8_tree.specs.declared.projects.ProjectFile.{ProjectFile}
 use Rattle.p8_tree.specs.Sources.{Child, Source}
-use Rattle.p8_tree.specs.Projects.{NamedSource}
+use Rattle.p8_tree.specs.Projects.{NamedSource, most_files}
 use Rattle.p8_tree.specs.Views.{source_of, named_source_of}
 use Rattle.p8_io.specs.Counts.{Rose}
 use Rattle.p8_io.specs.Shelves.{Files, IsLacking}
 use Rattle.p8_objects.specs.declared.fault.Mention.{Mention}
 use Rattle.p8_objects.specs.declared.fault.GatherFault.{GatherFault}
 use Rattle.p8_objects.specs.declared.next.Wanted.{Wanted}
-use Rattle.p8_objects.specs.declared.fault.GatherFault.TheVariants as fault
+use Rattle.p8_objects.specs.declared.fault.GatherFault.TheVariants as gather_case
 use Rattle.p8_objects.specs.Lists.{IsAt}
 use Rattle.p8_objects.specs.Sources.{mentions}
-use Rattle.p8_objects.specs.Projects.{IsIn, ClosesRing, Calls, refuse, nothing, first_file, new_file, file_too_many, ring, whole, most_files, mention_in, IsMentionedAt}
+use Rattle.p8_objects.specs.Projects.{IsIn, ClosesRing, Calls, refuse, nothing, first_file, new_file, file_too_many, ring, whole, mention_in, IsMentionedAt}
 use Rattle.p8_objects.specs.Outcomes as outcomes
 use Rattle.p8_objects.specs.Outcomes.{Shelved, shelved, HasBytes, IsAbsent, Outcome, ComesTo, Answers, named}
 use Rattle.p8_objects.specs.Standing.{is_done, IsFinished, IsFirstLeft, AreFinished, Stands, DoneFrom, AllLeadTo}
@@ -69,20 +69,19 @@ closes {done = done} {x = x} r l h =
       | inr d ↦ ring_is r.stands x r.at r.left r.behind h.stands d h.holds
     ]
 
-same_call : {top : List ℕ} {files : List NamedSource} {name name' : List ℕ} {number number' : ℕ} {place place' : Place} → name ≡ name' → number ≡ number' → place ≡ place' → Calls top files (refuse name' number' place') → Calls top files (refuse name number place)
-same_call {top = top} {files = files} {name = name} {name' = name'} {number = number} {number' = number'} {place = place} {place' = place'} a b e c =
-    subst (λ (n : List ℕ). Calls top files (refuse n number place)) (sym a)
-    (subst (λ (n : ℕ). Calls top files (refuse name' n place)) (sym b) (subst (λ (p : Place). Calls top files (refuse name' number' p)) (sym e) c))
+same_call : {top : List ℕ} {files : List NamedSource} {name name' : List ℕ} {f f' : Fault} → name ≡ name' → f ≡ f' → Calls top files (refuse name' f') → Calls top files (refuse name f)
+same_call {top = top} {files = files} {name = name} {name' = name'} {f = f} {f' = f'} a b c =
+    subst (λ (n : List ℕ). Calls top files (refuse n f)) (sym a) (subst (λ (x : Fault). Calls top files (refuse name' x)) (sym b) c)
 
 pub refused_call : {files : List NamedSource} {done : List ℕ} {i : ℕ} {f : NamedSource} (x : Child) → Reached files done i f → IsFirstLeft files done (mentions f.tree) x → (e : GatherFault) → IsMentionFault files f.name x e → (top : List ℕ) → IsRefusedCall top files e
-refused_call {f = f} x r l (fault.Source file number place) (a, inl (b, c, h)) top =
+refused_call {f = f} x r l (gather_case.Source file g) (a, inl (b, h)) top =
     let closing = closes r l h in
-    same_call a b c (ring f x (next_is r.stands r.at r.left r.behind l (inr closing)) closing)
-refused_call {f = f} x r l (fault.Source file number place) (a, inr (b, c, n, m)) top =
-    same_call a b c (file_too_many f x (next_is r.stands r.at r.left r.behind l (inl n)) n m)
-refused_call x r l (fault.Missing file mention) h top = absurd h
-refused_call x r l (fault.ShelfFault file) h top = absurd h
-refused_call x r l fault.NoMemory h top = tt
+    same_call a b (ring f x (next_is r.stands r.at r.left r.behind l (inr closing)) closing)
+refused_call {f = f} x r l (gather_case.Source file g) (a, inr (b, n, m)) top =
+    same_call a b (file_too_many f x (next_is r.stands r.at r.left r.behind l (inl n)) n m)
+refused_call x r l (gather_case.Missing file mention) h top = absurd h
+refused_call x r l (gather_case.ShelfFault file) h top = absurd h
+refused_call x r l gather_case.NoMemory h top = tt
 
 pub asked_is : {files : List NamedSource} {done : List ℕ} {i : ℕ} {f : NamedSource} (x : Child) (asked : Wanted) → Reached files done i f → IsFirstLeft files done (mentions f.tree) x → asked.name ≡ x.file → asked.mention ≡ Some (mention_in f.name x) → ¬ IsIn files x.file → length files < most_files
     → (top : List ℕ) → IsAsked top files done asked.name × IsMentionedAt files asked.name asked.mention
@@ -133,26 +132,26 @@ absent_within files files' before before' now name e l (inr h) = inr (lacking_wi
 
 -- a file that can't be read, or is refused by itself
 pub file_fault : (files files' : Files) (before before' now : ℕ) (top : List ℕ) (asked : Wanted) {sources : List NamedSource} {done : List ℕ} → GoesOn files before top sources → IsAsked top sources done asked.name × IsMentionedAt sources asked.name asked.mention → files' ≡ files → before ≤ before' → (e : GatherFault) → IsFileFault (shelved files' before' now) asked e → Answers (shelved files before now) top (Err e)
-file_fault files files' before before' now top asked {sources = sources} on a e l (fault.Source file number place) (n, h) =
-    on.on now (outcomes.refused file number place)
-    (subst (λ (m : List ℕ). ComesTo (shelved files before now) top sources (outcomes.refused m number place)) (sym n)
-    (outcomes.file_refused asked.name h.bytes number place a.0.calls (subst (λ (fs : Files). HasBytes fs asked.name h.bytes) e h.has) h.refused))
-file_fault files files' before before' now top asked {sources = sources} on a e l (fault.Missing file mention) (n, h, g) =
+file_fault files files' before before' now top asked {sources = sources} on a e l (gather_case.Source file f) (n, h) =
+    on.on now (outcomes.refused file f)
+    (subst (λ (m : List ℕ). ComesTo (shelved files before now) top sources (outcomes.refused m f)) (sym n)
+    (outcomes.file_refused asked.name h.bytes f a.0.calls (subst (λ (fs : Files). HasBytes fs asked.name h.bytes) e h.has) h.refused))
+file_fault files files' before before' now top asked {sources = sources} on a e l (gather_case.Missing file mention) (n, h, g) =
     on.on now (outcomes.missing file mention)
     (subst (λ (m : List ℕ). ComesTo (shelved files before now) top sources (outcomes.missing m mention)) (sym n)
     (outcomes.absent asked.name mention a.0.calls (subst (λ (o : Option Mention). IsMentionedAt sources asked.name o) (sym g) a.1) (absent_within files files' before before' now asked.name e l h)))
-file_fault files files' before before' now top asked {sources = sources} on a e l (fault.ShelfFault file) (n, h) =
+file_fault files files' before before' now top asked {sources = sources} on a e l (gather_case.ShelfFault file) (n, h) =
     on.on now (outcomes.failed file)
     (subst (λ (m : List ℕ). ComesTo (shelved files before now) top sources (outcomes.failed m)) (sym n)
     (outcomes.not_read asked.name a.0.calls (rose_within before before' now l h)))
-file_fault files files' before before' now top asked on a e l fault.NoMemory h = tt
+file_fault files files' before before' now top asked on a e l gather_case.NoMemory h = tt
 
 -- a mention that is refused
 pub call_fault : (files : Files) (before now : ℕ) (top : List ℕ) {sources : List NamedSource} → GoesOn files before top sources → (e : GatherFault) → IsRefusedCall top sources e → Answers (shelved files before now) top (Err e)
-call_fault files before now top on (fault.Source file number place) c = on.on now (outcomes.refused file number place) (outcomes.mention_refused file number place c)
-call_fault files before now top on (fault.Missing file mention) c = absurd c
-call_fault files before now top on (fault.ShelfFault file) c = absurd c
-call_fault files before now top on fault.NoMemory c = tt
+call_fault files before now top on (gather_case.Source file f) c = on.on now (outcomes.refused file f) (outcomes.mention_refused file f c)
+call_fault files before now top on (gather_case.Missing file mention) c = absurd c
+call_fault files before now top on (gather_case.ShelfFault file) c = absurd c
+call_fault files before now top on gather_case.NoMemory c = tt
 
 -- what is asked for
 pub asked_for : {top : List ℕ} {files : List NamedSource} {done : List ℕ} (o : Option Wanted) (asked : Wanted) → CallsFor top files done o → o ≡ Some asked → IsAsked top files done asked.name × IsMentionedAt files asked.name asked.mention

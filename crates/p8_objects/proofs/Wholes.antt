@@ -1,10 +1,10 @@
 -- What is so of each project, from what gathering comes to.
 use Rattle.std.proofs.Common.{◌≡◌, ℕ, ◌<◌, ◌≤◌, ◌⊎◌, inl, inr, zero, suc, List, [], ◌∷◌, ◌++◌, length, refl, ap, sym, ◌∙◌, subst, arith, length-append}
 use Rattle.p8_tree.specs.Sources.{Child, Source}
-use Rattle.p8_tree.specs.Projects.{NamedSource}
+use Rattle.p8_tree.specs.Projects.{NamedSource, most_files}
 use Rattle.p8_objects.specs.Lists.{IsAt, HasOne}
 use Rattle.p8_objects.specs.Sources.{IsSource}
-use Rattle.p8_objects.specs.Projects.{IsIn, ClosesRing, IsOpen, HasOpen, IsNext, Calls, read, nothing, most_files}
+use Rattle.p8_objects.specs.Projects.{IsIn, ClosesRing, IsOpen, HasOpen, IsNext, Calls, read, nothing}
 use Rattle.p8_objects.specs.Projects as projects
 use Rattle.p8_objects.specs.Outcomes.{Shelved, HasBytes, Outcome, ComesTo, project, named}
 use Rattle.p8_objects.specs.Outcomes as outcomes
@@ -135,10 +135,10 @@ same_project e = cc
 
 wholes : {shelf : Shelved} {top : List ℕ} {files : List NamedSource} {o : Outcome} → ComesTo shelf top files o → (p : List NamedSource) → o ≡ project p → Grown shelf top files → IsWhole shelf top p
 wholes (outcomes.one_more name bytes s c has source rest) p e g = wholes rest p e (grow name bytes s g (reading c) has source)
-wholes (outcomes.file_refused name bytes number place c has r) p e g = absurd (cc)
+wholes (outcomes.file_refused name bytes f c has r) p e g = absurd (cc)
 wholes (outcomes.absent name mention c m a) p e g = absurd (cc)
 wholes (outcomes.not_read name c r) p e g = absurd (cc)
-wholes (outcomes.mention_refused name number place c) p e g = absurd (cc)
+wholes (outcomes.mention_refused name f c) p e g = absurd (cc)
 wholes {shelf = shelf} {top = top} (outcomes.whole c) p e g = subst (λ (fs : List NamedSource). IsWhole shelf top fs) (same_project e) (whole_one g c)
 
 -- a project that is gathered

@@ -1,13 +1,13 @@
 -- internal: how gathering goes on.
 use Rattle.std.specs.Prelude.{ℕ, ◌<◌, List, [], Option, Some, None, length}
-use Rattle.p8_tree.specs.Projects.{NamedSource}
+use Rattle.p8_tree.specs.Projects.{NamedSource, most_files}
 use Rattle.p8_io.specs.Shelves.{Files}
 use Rattle.p8_objects.specs.declared.next.Wanted.{Wanted}
-use Rattle.p8_objects.specs.Projects.{IsIn, Calls, read, refuse, nothing, most_files, IsMentionedAt}
+use Rattle.p8_objects.specs.Projects.{IsIn, Calls, read, refuse, nothing, IsMentionedAt}
 use Rattle.p8_objects.specs.Outcomes.{Outcome, shelved, ComesTo}
 use Rattle.p8_objects.specs.Standing.{AllLeadTo}
 use Rattle.p8_objects.specs.declared.fault.GatherFault.{GatherFault}
-use Rattle.p8_objects.specs.declared.fault.GatherFault.TheVariants as fault
+use Rattle.p8_objects.specs.declared.fault.GatherFault.TheVariants as gather_case
 
 -- this file is to be read next
 pub record IsAsked (top : List ℕ) (files : List NamedSource) (done : List ℕ) (name : List ℕ) : Type 0 where
@@ -23,9 +23,9 @@ CallsFor top files done (Some asked) = IsAsked top files done asked.name × IsMe
 
 -- a mention is refused
 abbrev pub IsRefusedCall : List ℕ → List NamedSource → GatherFault → Type 0
-IsRefusedCall top files (fault.Source file number place) = Calls top files (refuse file number place)
-IsRefusedCall top files fault.NoMemory = Unit {0}
-IsRefusedCall top files f = ⊥
+IsRefusedCall top files (gather_case.Source file f) = Calls top files (refuse file f)
+IsRefusedCall top files gather_case.NoMemory = Unit {0}
+IsRefusedCall top files _ = ⊥
 
 -- what these files come to is what gathering comes to
 pub record GoesOn (files : Files) (before : ℕ) (top : List ℕ) (sources : List NamedSource) : Type 0 where

@@ -3,15 +3,16 @@ use Rattle.std.specs.Prelude.{◌≡◌, ℕ, ◌≤◌, ◌⊎◌, List, length
 use Rattle.p8_tree.specs.declared.places.Place.{Place}
 use Rattle.p8_tree.specs.declared.projects.ProjectFile.{ProjectFile}
 use Rattle.p8_tree.specs.Sources.{Child, Source}
-use Rattle.p8_tree.specs.Projects.{NamedSource}
+use Rattle.p8_tree.specs.Projects.{NamedSource, most_files}
 use Rattle.p8_tree.specs.Views.{named_source_of}
-use Rattle.p8_lexer.specs.declared.refusal.Refusal.TheVariants.{Cycle, TooManyObjects}
-use Rattle.p8_lexer.specs.Refusals.{refusal_number}
+use Rattle.p8_tree.specs.declared.refusal.Refusal.TheVariants.{Cycle, TooManyObjects}
+use Rattle.p8_tree.specs.declared.faults.Fault.{Fault}
+use Rattle.p8_tree.specs.Faults.{fault}
 use Rattle.p8_objects.specs.declared.fault.GatherFault.{GatherFault}
-use Rattle.p8_objects.specs.declared.fault.GatherFault.TheVariants as fault
+use Rattle.p8_objects.specs.declared.fault.GatherFault.TheVariants as gather_case
 use Rattle.p8_objects.specs.Lists.{IsAt}
 use Rattle.p8_objects.specs.Sources.{mentions, most_objects}
-use Rattle.p8_objects.specs.Projects.{IsIn, most_files}
+use Rattle.p8_objects.specs.Projects.{IsIn}
 
 -- the files so far
 abbrev pub sources_of : List ProjectFile → List NamedSource
@@ -30,14 +31,14 @@ pub record HasTooMany (s : Source) (place : Place) : Type 0 where
   pub there : item.place ≡ place
 
 -- the file of this name is refused so
-abbrev pub IsSourceFault : List ℕ → ℕ → Place → GatherFault → Type 0
-IsSourceFault name n p (fault.Source file number place) = (file ≡ name) × (number ≡ n) × (place ≡ p)
-IsSourceFault name n p fault.NoMemory = Unit {0}
-IsSourceFault name n p f = ⊥
+abbrev pub IsSourceFault : List ℕ → Fault → GatherFault → Type 0
+IsSourceFault name f (gather_case.Source file g) = (file ≡ name) × (g ≡ f)
+IsSourceFault name f gather_case.NoMemory = Unit {0}
+IsSourceFault name f _ = ⊥
 
 -- why a mention in the file of this name is refused: its file is among these, or there are too many of them
 abbrev pub IsMentionFault : List NamedSource → List ℕ → Child → GatherFault → Type 0
-IsMentionFault files name x (fault.Source file number place) =
-    (file ≡ name) × (((number ≡ refusal_number Cycle) × (place ≡ x.file_place) × IsIn files x.file) ⊎ ((number ≡ refusal_number TooManyObjects) × (place ≡ x.place) × (¬ IsIn files x.file) × (most_files ≤ length files)))
-IsMentionFault files name x fault.NoMemory = Unit {0}
-IsMentionFault files name x f = ⊥
+IsMentionFault files name x (gather_case.Source file f) =
+    (file ≡ name) × (((f ≡ fault Cycle x.file_place) × IsIn files x.file) ⊎ ((f ≡ fault TooManyObjects x.place) × (¬ IsIn files x.file) × (most_files ≤ length files)))
+IsMentionFault files name x gather_case.NoMemory = Unit {0}
+IsMentionFault files name x _ = ⊥

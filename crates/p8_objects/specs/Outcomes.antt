@@ -1,7 +1,7 @@
 -- What gathering a project from a shelf comes to (this project's profile).
 use Rattle.std.specs.Prelude.{ℕ, ◌⊎◌, List, [], ◌∷◌, ◌++◌, Option, Result, Ok, Err}
 use Rattle.std.specs.Str.{IsUtf8}
-use Rattle.p8_tree.specs.declared.places.Place.{Place}
+use Rattle.p8_tree.specs.declared.faults.Fault.{Fault}
 use Rattle.p8_tree.specs.declared.projects.Project.{Project}
 use Rattle.p8_tree.specs.Sources.{Source}
 use Rattle.p8_tree.specs.Projects.{NamedSource}
@@ -10,7 +10,7 @@ use Rattle.p8_io.specs.Counts.{Rose}
 use Rattle.p8_io.specs.Shelves.{Files, IsRead, IsLacking}
 use Rattle.p8_objects.specs.declared.fault.Mention.{Mention}
 use Rattle.p8_objects.specs.declared.fault.GatherFault.{GatherFault}
-use Rattle.p8_objects.specs.declared.fault.GatherFault.TheVariants as fault
+use Rattle.p8_objects.specs.declared.fault.GatherFault.TheVariants as gather_case
 use Rattle.p8_objects.specs.Sources.{IsSource, IsRefused}
 use Rattle.p8_objects.specs.Projects.{Calls, read, refuse, nothing, IsMentionedAt}
 
@@ -33,7 +33,7 @@ IsAbsent shelf name = (¬ IsUtf8 name) ⊎ IsLacking shelf.before shelf.now shel
 
 pub data Outcome : Type 0 where
   project : List NamedSource → Outcome
-  refused : List ℕ → ℕ → Place → Outcome
+  refused : List ℕ → Fault → Outcome
   missing : List ℕ → (mention : Option Mention) → Outcome
   failed : List ℕ → Outcome
 
@@ -45,11 +45,11 @@ pub data ComesTo (shelf : Shelved) (top : List ℕ) : List NamedSource → Outco
   -- the file that is read next is one more
   one_more : {files : List NamedSource} {o : Outcome} (name bytes : List ℕ) (s : Source) → Calls top files (read name) → HasBytes shelf.files name bytes → IsSource bytes s → ComesTo shelf top (files ++ named name s ∷ []) o → ComesTo shelf top files o
   -- or it is refused by itself, isn't there, which is told with its mention, or can't be read
-  file_refused : {files : List NamedSource} (name bytes : List ℕ) (number : ℕ) (place : Place) → Calls top files (read name) → HasBytes shelf.files name bytes → IsRefused bytes number place → ComesTo shelf top files (refused name number place)
+  file_refused : {files : List NamedSource} (name bytes : List ℕ) (f : Fault) → Calls top files (read name) → HasBytes shelf.files name bytes → IsRefused bytes f → ComesTo shelf top files (refused name f)
   absent : {files : List NamedSource} (name : List ℕ) (mention : Option Mention) → Calls top files (read name) → IsMentionedAt files name mention → IsAbsent shelf name → ComesTo shelf top files (missing name mention)
   not_read : {files : List NamedSource} (name : List ℕ) → Calls top files (read name) → Rose shelf.before shelf.now → ComesTo shelf top files (failed name)
   -- a mention is refused, or there is nothing more to read
-  mention_refused : {files : List NamedSource} (name : List ℕ) (number : ℕ) (place : Place) → Calls top files (refuse name number place) → ComesTo shelf top files (refused name number place)
+  mention_refused : {files : List NamedSource} (name : List ℕ) (f : Fault) → Calls top files (refuse name f) → ComesTo shelf top files (refused name f)
   whole : {files : List NamedSource} → Calls top files nothing → ComesTo shelf top files (project files)
 
 -- what gathering the project of a top file comes to
@@ -59,7 +59,7 @@ Gathers shelf top o = ComesTo shelf top [] o
 -- each answer with its cause; want of memory is free
 abbrev pub Answers : Shelved → List ℕ → Result Project GatherFault → Type 0
 Answers shelf top (Ok p) = Gathers shelf top (project (named_sources_of p))
-Answers shelf top (Err (fault.Source file number place)) = Gathers shelf top (refused file number place)
-Answers shelf top (Err (fault.Missing file mention)) = Gathers shelf top (missing file mention)
-Answers shelf top (Err (fault.ShelfFault file)) = Gathers shelf top (failed file)
-Answers shelf top (Err fault.NoMemory) = Unit {0}
+Answers shelf top (Err (gather_case.Source file f)) = Gathers shelf top (refused file f)
+Answers shelf top (Err (gather_case.Missing file mention)) = Gathers shelf top (missing file mention)
+Answers shelf top (Err (gather_case.ShelfFault file)) = Gathers shelf top (failed file)
+Answers shelf top (Err gather_case.NoMemory) = Unit {0}

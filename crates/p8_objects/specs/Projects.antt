@@ -5,11 +5,11 @@
 -- where it closes a ring of mentions. So a mentioned file, with all that it mentions, comes before the next mention is
 -- looked at, and no file comes twice.
 use Rattle.std.specs.Prelude.{◌≡◌, ℕ, ◌<◌, ◌≤◌, ◌⊎◌, List, [], length, Option, Some, None}
-use Rattle.p8_tree.specs.declared.places.Place.{Place}
 use Rattle.p8_tree.specs.Sources.{Child}
-use Rattle.p8_tree.specs.Projects.{NamedSource}
-use Rattle.p8_lexer.specs.declared.refusal.Refusal.TheVariants.{Cycle, TooManyObjects}
-use Rattle.p8_lexer.specs.Refusals.{refusal_number}
+use Rattle.p8_tree.specs.Projects.{NamedSource, most_files}
+use Rattle.p8_tree.specs.declared.refusal.Refusal.TheVariants.{Cycle, TooManyObjects}
+use Rattle.p8_tree.specs.declared.faults.Fault.{Fault}
+use Rattle.p8_tree.specs.Faults.{fault}
 use Rattle.p8_objects.specs.declared.fault.Mention.{Mention}
 use Rattle.p8_objects.specs.Lists.{HasOne, IsFirst, IsLast}
 use Rattle.p8_objects.specs.Sources.{mentions}
@@ -43,22 +43,18 @@ pub record IsNext (files : List NamedSource) (f : NamedSource) (x : Child) : Typ
   pub file : IsLast (HasOpen files) files f
   pub mention : IsFirst (IsOpen files f) (mentions f.tree) x
 
--- what files call for: that another one is read, that a file is refused with a number at a place, or nothing more
+-- what files call for: that another one is read, that a file is refused, or nothing more
 pub data Call : Type 0 where
   read : List ℕ → Call
-  refuse : List ℕ → ℕ → Place → Call
+  refuse : List ℕ → Fault → Call
   nothing : Call
-
--- how many files a project may have
-abbrev pub most_files : ℕ
-most_files = 255
 
 -- The files so far call for this.
 pub data Calls (top : List ℕ) (files : List NamedSource) : Call → Type 0 where
   first_file : files ≡ [] → Calls top files (read top)
   new_file : (f : NamedSource) (x : Child) → IsNext files f x → ¬ IsIn files x.file → length files < most_files → Calls top files (read x.file)
-  file_too_many : (f : NamedSource) (x : Child) → IsNext files f x → ¬ IsIn files x.file → most_files ≤ length files → Calls top files (refuse f.name (refusal_number TooManyObjects) x.place)
-  ring : (f : NamedSource) (x : Child) → IsNext files f x → ClosesRing files f x → Calls top files (refuse f.name (refusal_number Cycle) x.file_place)
+  file_too_many : (f : NamedSource) (x : Child) → IsNext files f x → ¬ IsIn files x.file → most_files ≤ length files → Calls top files (refuse f.name (fault TooManyObjects x.place))
+  ring : (f : NamedSource) (x : Child) → IsNext files f x → ClosesRing files f x → Calls top files (refuse f.name (fault Cycle x.file_place))
   whole : 0 < length files → ¬ HasOne (HasOpen files) files → Calls top files nothing
 
 -- an item of OBJ in the file of this name mentions its file here

@@ -2,9 +2,8 @@
 use Rattle.std.specs.Prelude.{ℕ, ◌≡◌, ◌⊎◌, List, [], ◌∷◌, Result, Ok, Err}
 use Rattle.std.specs.declared.vec.Vec.{Vec}
 use Rattle.std.specs.declared.alloc.Global.{Global}
-use Rattle.p8_words.specs.declared.failure.Fail.{Fail}
-use Rattle.p8_words.specs.declared.failure.Fail.TheVariants as fail
 use Rattle.p8_tree.specs.declared.projects.ProjectFile.{ProjectFile}
+use Rattle.p8_tree.specs.declared.faults.Fault.{Fault}
 use Rattle.p8_tree.specs.Views.{source_of}
 use Rattle.p8_tree.specs.Proper.{IsProperFile}
 use Rattle.p8_io.specs.Counts.{Rose}
@@ -12,16 +11,10 @@ use Rattle.p8_io.specs.Shelves.{Log, WereRead}
 use Rattle.p8_io.specs.declared.shelf.ShelfError.{ShelfError}
 use Rattle.p8_io.specs.declared.shelf.ShelfError.TheVariants.{Missing, Failed, NoMemory}
 use Rattle.p8_objects.specs.declared.next.Wanted.{Wanted}
-use Rattle.p8_objects.specs.declared.source.FileFault.{FileFault}
 use Rattle.p8_objects.specs.declared.fault.GatherFault.{GatherFault}
-use Rattle.p8_objects.specs.declared.fault.GatherFault.TheVariants as fault
+use Rattle.p8_objects.specs.declared.fault.GatherFault.TheVariants as gather_case
 use Rattle.p8_objects.specs.Sources.{IsSource, IsRefused}
 use Rattle.p8_objects.specs.Outcomes.{Shelved, HasBytes, IsAbsent}
-
--- a fact of a refusal, which says nothing of want of memory
-abbrev pub IfRefused : (FileFault → Type 0) → Fail FileFault → Type 0
-IfRefused P (fail.Refused f) = P f
-IfRefused P fail.NoMemory = Unit {0}
 
 -- the file of this name was read once between two logs, or nothing was
 abbrev pub MayBeRead : List ℕ → (before now : Log) → Type 0
@@ -43,14 +36,14 @@ pub record IsFileOf (shelf : Shelved) (name : List ℕ) (file : ProjectFile) : T
   pub proper : IsProperFile (source_of file.tree)
 
 -- its bytes are refused by themselves
-pub record IsRefusedBy (shelf : Shelved) (name : List ℕ) (f : FileFault) : Type 0 where
+pub record IsRefusedBy (shelf : Shelved) (name : List ℕ) (f : Fault) : Type 0 where
   pub bytes : List ℕ
   pub has : HasBytes shelf.files name bytes
-  pub refused : IsRefused bytes f.number f.place
+  pub refused : IsRefused bytes f
 
 -- why the file that is asked for has no tree
 abbrev pub IsFileFault : Shelved → Wanted → GatherFault → Type 0
-IsFileFault shelf asked (fault.Source file number place) = (file ≡ asked.name) × IsRefusedBy shelf asked.name (record { number = number; place = place })
-IsFileFault shelf asked (fault.Missing file mention) = (file ≡ asked.name) × IsAbsent shelf asked.name × (mention ≡ asked.mention)
-IsFileFault shelf asked (fault.ShelfFault file) = (file ≡ asked.name) × Rose shelf.before shelf.now
-IsFileFault shelf asked fault.NoMemory = Unit {0}
+IsFileFault shelf asked (gather_case.Source file f) = (file ≡ asked.name) × IsRefusedBy shelf asked.name f
+IsFileFault shelf asked (gather_case.Missing file mention) = (file ≡ asked.name) × IsAbsent shelf asked.name × (mention ≡ asked.mention)
+IsFileFault shelf asked (gather_case.ShelfFault file) = (file ≡ asked.name) × Rose shelf.before shelf.now
+IsFileFault shelf asked gather_case.NoMemory = Unit {0}

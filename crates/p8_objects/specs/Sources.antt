@@ -1,14 +1,15 @@
 -- What the bytes of a file are by themselves: a source with its tree, or one that is refused (this project's profile).
 use Rattle.std.specs.Prelude.{◌≡◌, ℕ, ◌≤◌, List, [], ◌∷◌, ◌++◌, length}
-use Rattle.p8_tree.specs.declared.places.Place.{Place}
 use Rattle.p8_tree.specs.Sources as trees
 use Rattle.p8_tree.specs.Sources.{BlockTree, Child, Source}
 use Rattle.p8_lexer.specs.declared.token.Token.{Token}
-use Rattle.p8_lexer.specs.declared.refusal.Refusal.TheVariants.{TooManyObjects}
-use Rattle.p8_lexer.specs.Refusals.{refusal_number}
+use Rattle.p8_tree.specs.declared.refusal.Refusal.TheVariants.{TooManyObjects}
+use Rattle.p8_tree.specs.declared.faults.Fault.{Fault}
+use Rattle.p8_tree.specs.Faults.{fault}
 use Rattle.p8_lexer.specs.Lexing.{longest_file, AreTokens, IsFault}
 use Rattle.p8_lines.specs.Tokens.{all_tokens}
-use Rattle.p8_blocks.specs.Reading.{Parses, source, fault}
+use Rattle.p8_blocks.specs.Reading as reading
+use Rattle.p8_blocks.specs.Reading.{Parses, source}
 use Rattle.p8_objects.specs.Lists.{IsAt}
 
 -- the items of OBJ: each mentions a file
@@ -38,7 +39,7 @@ pub record IsSource (bytes : List ℕ) (s : Source) : Type 0 where
 
 -- These bytes are refused by themselves: they have no tokens, else the tokens are no file, else the file has an item of
 -- OBJ too many.
-pub data IsRefused (bytes : List ℕ) (number : ℕ) (place : Place) : Type 0 where
-  no_tokens : IsFault bytes (record { number = number; place = place }) → IsRefused bytes number place
-  no_file : (tokens : List Token) → length bytes ≤ longest_file → AreTokens bytes tokens → Parses (all_tokens bytes tokens) (fault number place) → IsRefused bytes number place
-  too_many : (s : Source) (x : Child) → ReadsAs bytes s → IsAt (mentions s) most_objects x → number ≡ refusal_number TooManyObjects → place ≡ x.place → IsRefused bytes number place
+pub data IsRefused (bytes : List ℕ) (f : Fault) : Type 0 where
+  no_tokens : IsFault bytes f → IsRefused bytes f
+  no_file : (tokens : List Token) → length bytes ≤ longest_file → AreTokens bytes tokens → Parses (all_tokens bytes tokens) (reading.fault f.number f.place) → IsRefused bytes f
+  too_many : (s : Source) (x : Child) → ReadsAs bytes s → IsAt (mentions s) most_objects x → f ≡ fault TooManyObjects x.place → IsRefused bytes f

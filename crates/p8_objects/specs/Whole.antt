@@ -42,6 +42,6 @@ EachTree P files = (i : ℕ) (f : NamedSource) → IsAt files i f → P f.tree
 -- an outcome that isn't a fault of the shelf
 abbrev pub IsOfFiles : Outcome → Type 0
 IsOfFiles (project files) = Unit {0}
-IsOfFiles (refused file number place) = Unit {0}
+IsOfFiles (refused file f) = Unit {0}
 IsOfFiles (missing file mention) = Unit {0}
 IsOfFiles (failed file) = ⊥

@@ -2,7 +2,7 @@
 ghost use Rattle.std.specs.Prelude.{◌≡◌};
 ghost use Rattle.p8_objects.specs.declared.fault.GatherFault.TheVariants.{NoMemory as OutOfMemory};
 
-use p8_tree::{Place, Text};
+use p8_tree::{Fault, Place, Text};
 use std::alloc::AllocError;
 
 /// Where a file is mentioned.
@@ -21,10 +21,8 @@ pub enum GatherFault {
     Source {
         /// The file that is refused.
         file: Text,
-        /// The number of a [`Refusal`](p8_lexer::Refusal): 1 to 11, 19, 20 or 30.
-        number: u8,
-        /// Where in the file.
-        place: Place,
+        /// Why, by a refusal of the numbers 1 to 11, 19, 20 or 30, and where in the file.
+        fault: Fault,
     },
     /// The shelf has no file of that name.
     Missing {

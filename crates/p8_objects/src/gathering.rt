@@ -2,7 +2,7 @@
 ghost use Rattle.std.specs.Prelude.{◌≡◌, ◌≤◌, length, IfOk};
 ghost use Rattle.p8_tree.specs.Proper.{IsProperFile};
 ghost use Rattle.p8_tree.specs.Views.{named_sources_of};
-ghost use Rattle.p8_objects.specs.Projects.{most_files};
+ghost use Rattle.p8_tree.specs.Projects.{most_files};
 ghost use Rattle.p8_objects.specs.Orders.{AreAllRead, ReadsInOrder};
 ghost use Rattle.p8_objects.specs.Outcomes.{shelved, Answers};
 ghost use Rattle.p8_objects.specs.Whole.{IsFirstFile, AreDistinct, HaveMentioned, HaveNoRing, AreReadFrom, EachTree};

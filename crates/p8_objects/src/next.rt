@@ -1,17 +1,16 @@
 // Which file is read next.
 ghost use Rattle.std.specs.Prelude.{◌≡◌, ◌<◌, ◌≤◌, ℕ, List as list, length, Some, IfOk, IfErr, MatchResult};
 ghost use Rattle.p8_tree.specs.Views.{child_of};
-ghost use Rattle.p8_lexer.specs.Refusals.{refusal_number};
+ghost use Rattle.p8_tree.specs.Projects.{most_files};
 ghost use Rattle.p8_objects.specs.declared.fault.GatherFault.{GatherFault};
-ghost use Rattle.p8_objects.specs.Projects.{IsIn, most_files, mention_in};
+ghost use Rattle.p8_objects.specs.Projects.{IsIn, mention_in};
 ghost use Rattle.p8_objects.specs.Mentioned.{sources_of, IsMentionFault, IsSourceFault};
 ghost use Rattle.p8_objects.specs.Standing.{Stands};
 ghost use Rattle.p8_objects.specs.Goings.{CallsFor, IsRefusedCall};
 
 use crate::fault::{GatherFault, Mention};
 use crate::mentions::{first_left, number_of};
-use p8_lexer::Refusal;
-use p8_tree::{List, ObjItem, Place, ProjectFile, Text};
+use p8_tree::{Fault, List, ObjItem, ProjectFile, Refusal, Text};
 use std::alloc::Global;
 
 /// A file that is read next.
@@ -25,16 +24,12 @@ pub(crate) struct Wanted {
 /// How many files a project may have.
 const MOST_FILES: usize = 255;
 
-/// The refusal of a file at a place.
-fn refused(alloc: Global, file: &Text, refusal: Refusal, place: Place) -> GatherFault
-    ensures { IsSourceFault file.now (refusal_number refusal) place result }
+/// The refusal of a file.
+fn refused(alloc: Global, file: &Text, fault: Fault) -> GatherFault
+    ensures { IsSourceFault file.now fault result }
 {
     match Text::copy_of(alloc, file.as_slice()) {
-        Ok(file) => GatherFault::Source {
-            file,
-            number: refusal.number(),
-            place,
-        },
+        Ok(file) => GatherFault::Source { file, fault },
         Err(_) => GatherFault::NoMemory,
     }
 }
@@ -53,10 +48,10 @@ fn asked(
     ensures refused { IfErr result (IsMentionFault (sources_of files.now) from.now (child_of item.now)) }
 {
     if number_of(files, &item.file).is_some() {
-        return Err(refused(alloc, from, Refusal::Cycle, item.file_place));
+        return Err(refused(alloc, from, Refusal::Cycle.at(item.file_place)));
     }
     if files.len() >= MOST_FILES {
-        return Err(refused(alloc, from, Refusal::TooManyObjects, item.place));
+        return Err(refused(alloc, from, Refusal::TooManyObjects.at(item.place)));
     }
     let name = Text::copy_of(alloc, item.file.as_slice())?;
     let file = Text::copy_of(alloc, from.as_slice())?;

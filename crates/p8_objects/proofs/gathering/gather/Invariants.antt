@@ -1,11 +1,11 @@
 use Rattle.std.proofs.Common.{◌≡◌, ◌≤◌, ◌-◌, length}
-use Rattle.p8_objects.specs.Projects.{most_files}
 use Rattle.p8_objects.specs.Standing.{Stands}
 use Rattle.p8_objects.specs.Mentioned.{sources_of}
 use Rattle.p8_objects.specs.Goings.{CallsFor, GoesOn}
 use Rattle.p8_objects.specs.Whole.{EachTree}
 use Rattle.p8_objects.proofs.Ordering.{HaveBeenRead}
 use Rattle.p8_tree.specs.Proper.{IsProperFile}
+use Rattle.p8_tree.specs.Projects.{most_files}
 use Rattle.p8_objects.proofs.gathering.gather.Given as goal
 
 abbrev pub invariant-files : goal.invariant-files
