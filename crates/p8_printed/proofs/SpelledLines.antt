@@ -5,7 +5,7 @@ use Rattle.std.proofs.lemmas.List.{append_assoc, take_at, length-drop}
 use Rattle.std.proofs.lemmas.List.Elements.{All-head, All-tail}
 use Rattle.p8_lexer.specs.declared.piece.Class.TheVariants as class
 use Rattle.p8_lexer.specs.declared.token.Token.{Token}
-use Rattle.p8_lexer.specs.declared.token.LexFault.{LexFault}
+use Rattle.p8_tree.specs.declared.faults.Fault.{Fault}
 use Rattle.p8_lexer.specs.declared.token.TokenKind.TheVariants.{LineEnd}
 use Rattle.p8_lexer.specs.Characters.{is_utf16, text_of}
 use Rattle.p8_lexer.specs.Lexing.{is_in, longest_file, AreTokens, IsFault}
@@ -155,5 +155,5 @@ module _ (ls : List SpelledLine) (readable : All IsReadableLine ls) where
   pub read_only : (tokens : List Token) → AreTokens (text_of_lines ls) tokens → AreRead (text_of_lines ls) ls tokens
   read_only tokens h = let mine = read_back in subst (AreRead (text_of_lines ls) ls) (one_list (text_of_lines ls) mine.0 tokens mine.1 h) mine.2
 
-  pub never_refused : (fault : LexFault) → length (text_of_lines ls) ≤ longest_file → IsFault (text_of_lines ls) fault → ⊥
+  pub never_refused : (fault : Fault) → length (text_of_lines ls) ≤ longest_file → IsFault (text_of_lines ls) fault → ⊥
   never_refused fault short h = let mine = read_back in never_both (text_of_lines ls) mine.0 fault mine.1 short h

@@ -3,8 +3,8 @@ ghost use Rattle.std.specs.Prelude.{◌≡◌, IfOk, IfErr};
 ghost use Rattle.std.specs.Int.{to_le_bytes, w32};
 ghost use Rattle.p8_tree.specs.Views.{source_of};
 ghost use Rattle.p8_tree.specs.Proper.{IsProperFile};
+ghost use Rattle.p8_tree.specs.Faults.{IfRefused};
 ghost use Rattle.p8_lexer.specs.Lexing.{AreTokens};
-ghost use Rattle.p8_dat.specs.Blocks.{IfRefused};
 ghost use Rattle.p8_printed.specs.ReadBack.{source_text, IsFileOf, IsNotRefused};
 
 use p8_blocks::{parse, tokens_are_proper};
@@ -37,14 +37,7 @@ fn tokens_of(alloc: Global, long: u32, source: &[u8]) -> Result<Tokens, Fail<Fau
     ensures tokens { IfOk result (AreTokens source.now) }
     ensures accepted { IfErr result IsNotRefused }
 {
-    match lex(alloc, source) {
-        Ok(tokens) => Ok(tokens),
-        Err(Fail::Refused(fault)) => Err(Fail::Refused(Fault {
-            number: fault.number,
-            place: fault.place,
-        })),
-        Err(Fail::NoMemory) => Err(Fail::NoMemory),
-    }
+    lex(alloc, source)
 }
 
 // The tree of these tokens.
@@ -61,14 +54,7 @@ fn tree_of(
     ensures accepted { IfErr result IsNotRefused }
 {
     tokens_are_proper();
-    match parse(alloc, source, tokens) {
-        Ok(file) => Ok(file),
-        Err(Fail::Refused(fault)) => Err(Fail::Refused(Fault {
-            number: fault.number,
-            place: fault.place,
-        })),
-        Err(Fail::NoMemory) => Err(Fail::NoMemory),
-    }
+    parse(alloc, source, tokens)
 }
 
 // The bytes of the file with its names.

@@ -2,7 +2,7 @@
 
 ghost use Rattle.std.specs.Prelude.{◌≡◌, ◌≢◌, ◌+◌, ◌≤◌, ℕ, List, length, All};
 ghost use Rattle.p8_lexer.specs.declared.token.Token as token;
-ghost use Rattle.p8_lexer.specs.declared.token.LexFault as lex_fault;
+ghost use Rattle.p8_tree.specs.declared.faults.Fault.{Fault};
 ghost use Rattle.p8_lexer.specs.Lexing.{longest_file, AreTokens, IsFault};
 ghost use Rattle.p8_print.specs.Spelled.{SpelledLine, IsReadableLine, text_of_lines};
 ghost use Rattle.p8_printed.specs.Reading.{column_behind, AreRead};
@@ -16,7 +16,7 @@ pub fn reads_back()
         → (tokens : List token.Token) × AreTokens (text_of_lines lines) tokens × AreRead (text_of_lines lines) lines tokens }
     ensures only { (lines : List SpelledLine) (tokens : List token.Token) → All IsReadableLine lines
         → AreTokens (text_of_lines lines) tokens → AreRead (text_of_lines lines) lines tokens }
-    ensures accepted { (lines : List SpelledLine) (fault : lex_fault.LexFault) → All IsReadableLine lines
+    ensures accepted { (lines : List SpelledLine) (fault : Fault) → All IsReadableLine lines
         → length (text_of_lines lines) ≤ longest_file → ¬ IsFault (text_of_lines lines) fault }
 {}
 

@@ -1,11 +1,11 @@
 use Rattle.std.proofs.Common.{false, sym, subst}
 use Rattle.p8_names.specs.Faults.{IsNameFault}
 use Rattle.p8_printed.proofs.Names.{no_name_fault}
-use Rattle.p8_printed.proofs.Calling.{only_memory_there}
+use Rattle.p8_tree.proofs.Failing.{only_memory}
 use Rattle.p8_printed.proofs.assembled.assembled.Goals as goal
 
 pub returns-in-Err-clause-accepted : goal.returns-in-Err-clause-accepted
 returns-in-Err-clause-accepted c =
-    only_memory_there _ c.in-Err.fail
-    (λ f. subst (λ s. ¬ IsNameFault s c.args.children.now false f) (sym c.requires.line.2) (no_name_fault c.args.long c.requires.line.0 c.args.children.now c.requires.line.1 f))
-    c.in-Err.ensures.refused
+    only_memory _
+    (λ f first. subst (λ s. ¬ IsNameFault s c.args.children.now false f) (sym c.requires.line.2) (no_name_fault c.args.long c.requires.line.0 c.args.children.now c.requires.line.1 f) first.holds)
+    c.in-Err.fail c.in-Err.ensures.refused

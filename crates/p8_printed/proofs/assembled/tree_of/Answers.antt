@@ -1,14 +1,23 @@
-use Rattle.std.proofs.Common.{sym}
-use Rattle.p8_printed.specs.ReadBack.{file_with}
+use Rattle.std.proofs.Common.{◌≡◌, sym}
+use Rattle.std.proofs.lemmas.Result.{IfErr-weaker, IfOk-weaker}
+use Rattle.p8_tree.specs.Sources.{Source}
+use Rattle.p8_tree.specs.Views.{source_of}
+use Rattle.p8_tree.specs.Faults.{IfRefused}
+use Rattle.p8_tree.proofs.Failing.{only_memory}
+use Rattle.p8_lines.specs.Tokens.{all_tokens}
+use Rattle.p8_blocks.specs.Files.{IsFileWithinLimits}
+use Rattle.p8_printed.specs.ReadBack.{file_with, IsFileOf, IsNotRefused}
 use Rattle.p8_printed.proofs.Calling.{file_read}
 use Rattle.p8_printed.proofs.assembled.tree_of.Goals as goal
 
-pub returns-in-Ok-clause-file : goal.returns-in-Ok-clause-file
-returns-in-Ok-clause-file c =
+pub returns-clause-file : goal.returns-clause-file
+returns-clause-file c =
     let r = file_read c.args.long c.ranges.long.fits c.args.source.now c.requires.source c.args.tokens.now c.requires.tokens in
-    (r.0, r.1, sym (c.in-Ok.ensures.one_tree (file_with r.0) r.2))
+    IfOk-weaker c.parse.result (λ file. (s : Source) → IsFileWithinLimits s (all_tokens c.args.source.now c.args.tokens.now) → s ≡ source_of file) (λ file. IsFileOf c.args.long (source_of file))
+    (λ file one. (r.0, r.1, sym (one (file_with r.0) r.2))) c.parse.ensures.one_tree
 
-pub returns-in-Err-Refused-clause-accepted : goal.returns-in-Err-Refused-clause-accepted
-returns-in-Err-Refused-clause-accepted c =
+pub returns-clause-accepted : goal.returns-clause-accepted
+returns-clause-accepted c =
     let r = file_read c.args.long c.ranges.long.fits c.args.source.now c.requires.source c.args.tokens.now c.requires.tokens in
-    absurd ((rw c.in-Err-Refused.field-0-is at c.in-Err-Refused.ensures.no_file) (file_with r.0) r.2)
+    let none = λ f. (s : Source) → ¬ IsFileWithinLimits s (all_tokens c.args.source.now c.args.tokens.now) in
+    IfErr-weaker c.parse.result (IfRefused none) IsNotRefused (only_memory none (λ f no_file. no_file (file_with r.0) r.2)) c.parse.ensures.no_file
