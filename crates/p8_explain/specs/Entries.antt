@@ -1,7 +1,7 @@
 -- What each refusal says to a person, with an example of it and what often mends it (this project's profile).
 use Rattle.std.specs.Prelude.{ℕ, List, codes}
-use Rattle.p8_lexer.specs.declared.refusal.Refusal.{Refusal}
-use Rattle.p8_lexer.specs.declared.refusal.Refusal.TheVariants as refusal
+use Rattle.p8_tree.specs.declared.refusal.Refusal.{Refusal}
+use Rattle.p8_tree.specs.declared.refusal.Refusal.TheVariants as refusal
 
 -- what is wrong
 abbrev pub says : Refusal → List ℕ

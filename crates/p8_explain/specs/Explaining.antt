@@ -3,62 +3,18 @@
 use Rattle.std.specs.Prelude.{ℕ, ◌-◌, ◌==◌, nat_le, List, [], ◌∷◌, ◌++◌, take, drop, replicate, codes, Option, Some, None, if◌then◌else◌}
 use Rattle.std.specs.Fmt.{decimal}
 use Rattle.p8_tree.specs.declared.places.Place.{Place}
-use Rattle.p8_lexer.specs.declared.refusal.Refusal.{Refusal}
-use Rattle.p8_lexer.specs.declared.refusal.Refusal.TheVariants as refusal
+use Rattle.p8_tree.specs.declared.refusal.Refusal.{Refusal}
+use Rattle.p8_tree.specs.declared.refusal.Refusal.TheVariants as refusal
 use Rattle.p8_lexer.specs.Characters.{text_of}
 use Rattle.p8_lexer.specs.Lexing.{is_between, is_line_end, longest_file}
 use Rattle.p8_lexer.specs.Places.{start, behind, next_tab}
-use Rattle.p8_lexer.specs.Refusals.{name_of}
+use Rattle.p8_tree.specs.declared.faults.Fault.{Fault}
+use Rattle.p8_tree.specs.Refusals.{numbered, name_numbered}
 use Rattle.p8_explain.specs.Entries.{says, example, mends}
 use Rattle.p8_explain.specs.Causes.{seen, token_at}
 use Rattle.p8_explain.specs.Standing.{of_byte, of_name}
 
--- ---- refusals by their numbers
-
-unfoldable pub numbers : List (ℕ × Refusal)
-numbers =
-    (1, refusal.BadByte) ∷
-    (2, refusal.BadNumber) ∷
-    (3, refusal.OpenComment) ∷
-    (4, refusal.OpenString) ∷
-    (5, refusal.NameTooLong) ∷
-    (6, refusal.Unexpected) ∷
-    (7, refusal.BadIndent) ∷
-    (8, refusal.TooNested) ∷
-    (9, refusal.Float) ∷
-    (10, refusal.Unsupported) ∷
-    (11, refusal.LoopWord) ∷
-    (12, refusal.NotConstant) ∷
-    (13, refusal.ZeroDivisor) ∷
-    (14, refusal.Duplicate) ∷
-    (15, refusal.Unknown) ∷
-    (16, refusal.WrongKind) ∷
-    (17, refusal.WrongArity) ∷
-    (18, refusal.NoPub) ∷
-    (19, refusal.Cycle) ∷
-    (20, refusal.TooManyObjects) ∷
-    (21, refusal.OperandRange) ∷
-    (22, refusal.FitExceeded) ∷
-    (23, refusal.OrgRange) ∷
-    (24, refusal.NoRetLabel) ∷
-    (25, refusal.JumpTooFar) ∷
-    (26, refusal.FrameTooLarge) ∷
-    (27, refusal.TooManyMethods) ∷
-    (28, refusal.ImageTooLarge) ∷
-    (29, refusal.BadClock) ∷
-    (30, refusal.FileTooLong) ∷
-    []
-
-abbrev pub beside : ℕ → List (ℕ × Refusal) → Option Refusal
-beside number [] = None
-beside number (row ∷ rows) = if row.0 == number then Some row.1 else beside number rows
-
-abbrev pub numbered : ℕ → Option Refusal
-numbered number = beside number numbers
-
-abbrev pub name : Option Refusal → List ℕ
-name None = []
-name (Some r) = name_of r
+-- ---- a refusal
 
 abbrev pub advice : Option Refusal → List ℕ
 advice None = codes "No refusal has this number.\n"
@@ -98,7 +54,7 @@ marked line column = take 100 (drop (left_of column) line) ++ codes "\n" ++ repl
 -- ---- whole texts
 
 abbrev pub title : (number : ℕ) → List ℕ
-title number = decimal number ++ codes " " ++ name (numbered number) ++ codes "\n"
+title number = decimal number ++ codes " " ++ name_numbered number ++ codes "\n"
 
 abbrev pub position : Place → List ℕ
 position place = decimal place.line ++ codes ":" ++ decimal place.column ++ codes ": "
@@ -114,12 +70,12 @@ found (Some refusal.Unexpected) bytes line place = seen line (place.column - 1)
 found (Some refusal.Duplicate) bytes line place = of_name bytes (token_at (drop (place.column - 1) line)) place
 found _ bytes line place = []
 
-abbrev pub explanation_of : (file bytes : List ℕ) → (number : ℕ) → Place → List ℕ
-explanation_of file bytes number place =
-    place_text file place ++ title number ++ shown_with (line_of bytes place.line) ++ advice (numbered number)
+abbrev pub explanation_of : (file bytes : List ℕ) → Fault → List ℕ
+explanation_of file bytes f =
+    place_text file f.place ++ title f.number ++ shown_with (line_of bytes f.place.line) ++ advice (numbered f.number)
   where
     shown_with : (line : List ℕ) → List ℕ
-    shown_with line = marked line place.column ++ found (numbered number) bytes line place
+    shown_with line = marked line f.place.column ++ found (numbered f.number) bytes line f.place
 
 -- what is told of a file that is missing, which a file with these bytes mentions at a place
 abbrev pub absence_of : (file bytes : List ℕ) → Place → (missing : List ℕ) → List ℕ

@@ -2,7 +2,7 @@
 ghost use Rattle.std.specs.Prelude.{◌≡◌};
 ghost use Rattle.p8_explain.specs.Entries.{says, example, mends};
 
-use p8_lexer::Refusal;
+use p8_tree::Refusal;
 
 /// What is wrong.
 pub(crate) fn says(refusal: Refusal) -> &'static str

@@ -1,69 +1,19 @@
 // What a refusal says to a person.
 ghost use Rattle.std.specs.Prelude.{◌≡◌, ◌++◌, OnOk, IfOk};
-ghost use Rattle.p8_explain.specs.Explaining.{numbered, name, advice, found, sample, title, position, place_text, explanation_of, absence_of, entry_of};
+ghost use Rattle.p8_explain.specs.Explaining.{advice, found, sample, title, position, place_text, explanation_of, absence_of, entry_of};
 
 use crate::causes::{push_seen, token_at};
 use crate::entries::{example, mends, says};
 use crate::lines::{line_of, push_marked, rest_of};
 use crate::standing::{push_of_byte, push_of_name};
 use crate::texts::{push_decimal, push_text};
-use p8_lexer::Refusal;
-use p8_tree::{Place, Text};
+use p8_tree::{Fault, Place, Refusal, Text, refusal_name};
 use p8_words::NoMemory;
 use std::alloc::Global;
 
 // What is said of each missing file.
 const NO_SUCH_FILE: &[u8] =
     b"There is no file of this name. Capitals and small letters differ, and a name without a dot gets .spin.\n";
-
-// The refusal of a number.
-#[tactic(auto, unfolding(crate::specs::Explaining::numbers))]
-fn numbered(number: u8) -> Option<Refusal>
-    ensures { result ≡ numbered number }
-{
-    match number {
-        1 => Some(Refusal::BadByte),
-        2 => Some(Refusal::BadNumber),
-        3 => Some(Refusal::OpenComment),
-        4 => Some(Refusal::OpenString),
-        5 => Some(Refusal::NameTooLong),
-        6 => Some(Refusal::Unexpected),
-        7 => Some(Refusal::BadIndent),
-        8 => Some(Refusal::TooNested),
-        9 => Some(Refusal::Float),
-        10 => Some(Refusal::Unsupported),
-        11 => Some(Refusal::LoopWord),
-        12 => Some(Refusal::NotConstant),
-        13 => Some(Refusal::ZeroDivisor),
-        14 => Some(Refusal::Duplicate),
-        15 => Some(Refusal::Unknown),
-        16 => Some(Refusal::WrongKind),
-        17 => Some(Refusal::WrongArity),
-        18 => Some(Refusal::NoPub),
-        19 => Some(Refusal::Cycle),
-        20 => Some(Refusal::TooManyObjects),
-        21 => Some(Refusal::OperandRange),
-        22 => Some(Refusal::FitExceeded),
-        23 => Some(Refusal::OrgRange),
-        24 => Some(Refusal::NoRetLabel),
-        25 => Some(Refusal::JumpTooFar),
-        26 => Some(Refusal::FrameTooLarge),
-        27 => Some(Refusal::TooManyMethods),
-        28 => Some(Refusal::ImageTooLarge),
-        29 => Some(Refusal::BadClock),
-        30 => Some(Refusal::FileTooLong),
-        _ => None,
-    }
-}
-
-fn push_name(out: &mut Vec<u8>, refusal: Option<Refusal>) -> Result<(), NoMemory>
-    ensures { OnOk result (out.new.items ≡ out.old.items ++ name refusal) }
-{
-    match refusal {
-        None => Ok(()),
-        Some(refusal) => push_text(out, refusal.name().as_bytes()),
-    }
-}
 
 // Appends what is wrong, and what often mends it.
 fn push_advice(out: &mut Vec<u8>, refusal: Option<Refusal>) -> Result<(), NoMemory>
@@ -121,7 +71,7 @@ fn push_title(out: &mut Vec<u8>, number: u8) -> Result<(), NoMemory>
 {
     push_decimal(out, u64::from(number))?;
     push_text(out, b" ")?;
-    push_name(out, numbered(number))?;
+    push_text(out, refusal_name(number).as_bytes())?;
     push_text(out, b"\n")?;
     Ok(())
 }
@@ -154,18 +104,18 @@ pub fn explanation(
     alloc: Global,
     name: &Text,
     bytes: &[u8],
-    number: u8,
-    place: Place,
+    fault: Fault,
 ) -> Result<Vec<u8>, NoMemory>
-    ensures { IfOk result (λ text. text.items ≡ explanation_of name.now bytes.now number place) }
+    ensures { IfOk result (λ text. text.items ≡ explanation_of name.now bytes.now fault) }
 {
     let mut out = Vec::new(alloc);
-    let line = line_of(alloc, bytes, place.line)?;
-    push_place(&mut out, name, place)?;
-    push_title(&mut out, number)?;
-    push_marked(&mut out, line.as_slice(), place.column)?;
-    push_found(&mut out, numbered(number), bytes, line.as_slice(), place)?;
-    push_advice(&mut out, numbered(number))?;
+    let refusal = Refusal::numbered(fault.number);
+    let line = line_of(alloc, bytes, fault.place.line)?;
+    push_place(&mut out, name, fault.place)?;
+    push_title(&mut out, fault.number)?;
+    push_marked(&mut out, line.as_slice(), fault.place.column)?;
+    push_found(&mut out, refusal, bytes, line.as_slice(), fault.place)?;
+    push_advice(&mut out, refusal)?;
     Ok(out)
 }
 
@@ -198,7 +148,7 @@ pub fn entry(alloc: Global, number: u8) -> Result<Vec<u8>, NoMemory>
 {
     let mut out = Vec::new(alloc);
     push_title(&mut out, number)?;
-    push_advice(&mut out, numbered(number))?;
-    push_sample(&mut out, numbered(number))?;
+    push_advice(&mut out, Refusal::numbered(number))?;
+    push_sample(&mut out, Refusal::numbered(number))?;
     Ok(out)
 }

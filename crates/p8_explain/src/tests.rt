@@ -1,6 +1,6 @@
 // Whole explanations, of sources with their refusals.
 use crate::{absence, entry, explanation};
-use p8_tree::{Place, Text};
+use p8_tree::{Fault, Place, Text};
 use p8_words::NoMemory;
 use std::alloc::Global;
 use std::test::Fail;
@@ -14,7 +14,11 @@ fn explained(
     column: u32,
 ) -> Result<Vec<u8>, NoMemory> {
     let name = Text::copy_of(alloc, b"m.spin")?;
-    explanation(alloc, &name, bytes, number, Place { line, column })
+    let fault = Fault {
+        number,
+        place: Place { line, column },
+    };
+    explanation(alloc, &name, bytes, fault)
 }
 
 /// A token that can't stand where it does, told apart by what its line shows: after a tab, in UTF-16, with CR LF, in a long line.
