@@ -52,7 +52,7 @@ module _ (files : Files) (short : Bool) (top : List ℕ) (sources : List NamedSo
   legend-from legend is = (sources, gathered, is)
 
   pub building-stops : (before now : ℕ) (stop : Stop) → StopsAtBuilding sources stop → StopsAtProgram files before now (Source short) top stop
-  building-stops before now (Refused name number place) stops = when_built sources gathered stops
+  building-stops before now (Refused name f) stops = when_built sources gathered stops
   building-stops before now NoMemory stops = tt
   building-stops before now (Unread name) stops = absurd stops
   building-stops before now (Missing name mention) stops = absurd stops

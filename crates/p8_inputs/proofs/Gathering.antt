@@ -3,7 +3,7 @@ use Rattle.std.proofs.Common.{◌≡◌, ℕ, ◌<◌, List, [], ◌∷◌, ◌+
 use Rattle.std.specs.Prelude.{slice_get, slice_index_or, Contains}
 use Rattle.std.proofs.lemmas.List.Concat.{flat_map-append}
 use Rattle.std.proofs.lemmas.Option.{slice_get_read, slice_get_within}
-use Rattle.p8_tree.specs.declared.places.Place.{Place}
+use Rattle.p8_tree.specs.declared.faults.Fault.{Fault}
 use Rattle.p8_tree.specs.Sources as trees
 use Rattle.p8_tree.specs.Sources.{BlockTree, Child, Con, Var, Obj, Method, Dat, Source}
 use Rattle.p8_tree.specs.Projects.{NamedSource}
@@ -23,23 +23,23 @@ use Rattle.p8_inputs.specs.Sources.{GathersTo}
 -- an outcome that doesn't depend on what the shelf counts
 abbrev pub IsOfContents : Outcome → Type 0
 IsOfContents (project files) = Unit {0}
-IsOfContents (refused name number place) = Unit {0}
+IsOfContents (refused name f) = Unit {0}
 IsOfContents (missing name mention) = ⊥
 IsOfContents (failed name) = ⊥
 
 recounted : (files : Files) (before now b n : ℕ) (top : List ℕ) {sources : List NamedSource} (o : Outcome) → IsOfContents o → ComesTo (shelved files before now) top sources o → ComesTo (shelved files b n) top sources o
 recounted files before now b n top o of (outcomes.one_more name bytes s calls has source rest) = outcomes.one_more name bytes s calls has source (recounted files before now b n top o of rest)
-recounted files before now b n top o of (outcomes.file_refused name bytes number place calls has is) = outcomes.file_refused name bytes number place calls has is
+recounted files before now b n top o of (outcomes.file_refused name bytes f calls has is) = outcomes.file_refused name bytes f calls has is
 recounted files before now b n top o of (outcomes.absent name mention calls m is) = absurd of
 recounted files before now b n top o of (outcomes.not_read name calls rose) = absurd of
-recounted files before now b n top o of (outcomes.mention_refused name number place calls) = outcomes.mention_refused name number place calls
+recounted files before now b n top o of (outcomes.mention_refused name f calls) = outcomes.mention_refused name f calls
 recounted files before now b n top o of (outcomes.whole calls) = outcomes.whole calls
 
 pub project-gathered : (files : Files) (before now : ℕ) (top : List ℕ) (sources : List NamedSource) → Gathers (shelved files before now) top (project sources) → GathersTo files top (project sources)
 project-gathered files before now top sources comes b n = recounted files before now b n top (project sources) tt comes
 
-pub refusal-gathered : (files : Files) (before now : ℕ) (top name : List ℕ) (number : ℕ) (place : Place) → Gathers (shelved files before now) top (refused name number place) → GathersTo files top (refused name number place)
-refusal-gathered files before now top name number place comes b n = recounted files before now b n top (refused name number place) tt comes
+pub refusal-gathered : (files : Files) (before now : ℕ) (top name : List ℕ) (f : Fault) → Gathers (shelved files before now) top (refused name f) → GathersTo files top (refused name f)
+refusal-gathered files before now top name f comes b n = recounted files before now b n top (refused name f) tt comes
 
 -- ---- the items of OBJ
 

@@ -4,7 +4,6 @@ pub mod Deciding
 pub mod Gathering
 mod Building
 pub mod Stopping
-mod Refusals
 mod Outcomes
 mod Mapping
 mod Naming

@@ -1,9 +1,7 @@
 -- A source on a shelf that tells its files has one outcome.
 use Rattle.std.proofs.Common.{◌≡◌, ℕ, Bool, true, false, List, Option, Some, ap, subst, refl}
-use Rattle.p8_tree.specs.declared.places.Place.{Place}
 use Rattle.p8_tree.specs.Projects.{NamedSource}
 use Rattle.p8_tree.specs.declared.faults.Fault.{Fault}
-use Rattle.p8_tree.specs.Faults.{fault}
 use Rattle.p8_kinds.specs.declared.children.Children.{Children}
 use Rattle.p8_names.specs.Children.{AreChildren}
 use Rattle.p8_image.specs.declared.clocks.Clock.{Clock}
@@ -29,16 +27,16 @@ same-project e = cc
 project-not_missing : {a : List NamedSource} {name : List ℕ} {mention : Option Mention} → project a ≡ missing name mention → ⊥
 project-not_missing e = cc
 
-project-not_refused : {a : List NamedSource} {name : List ℕ} {number : ℕ} {place : Place} → project a ≡ refused name number place → ⊥
+project-not_refused : {a : List NamedSource} {name : List ℕ} {f : Fault} → project a ≡ refused name f → ⊥
 project-not_refused e = cc
 
 same-missing : {a b : List ℕ} {m n : Option Mention} → missing a m ≡ missing b n → (a ≡ b) × (m ≡ n)
 same-missing e = (cc, cc)
 
-same-refused : {a b : List ℕ} {m n : ℕ} {p q : Place} → refused a m p ≡ refused b n q → (a ≡ b) × (m ≡ n) × (p ≡ q)
-same-refused e = (cc, cc, cc)
+same-refused : {a b : List ℕ} {f g : Fault} → refused a f ≡ refused b g → (a ≡ b) × (f ≡ g)
+same-refused e = (cc, cc)
 
-missing-not_refused : {a name : List ℕ} {mention : Option Mention} {number : ℕ} {place : Place} → missing a mention ≡ refused name number place → ⊥
+missing-not_refused : {a name : List ℕ} {mention : Option Mention} {f : Fault} → missing a mention ≡ refused name f → ⊥
 missing-not_refused e = cc
 
 -- a project with short code is accepted as it stands
@@ -103,32 +101,31 @@ module _ (one : OneGathered) (same : OneBuilt) (refusal : OneRefused) (either : 
       let whole = whole_project (q.1 0 0) in
       same-legend a b (legends q.0 (distinct q.0 whole.distinct) (no_ring q.0 whole.no_ring) a b (subst (λ s. IsLegendOf s a) e p.2) q.2)
 
-  not-refused : (short : Bool) (top name : List ℕ) (number : ℕ) (place : Place) (sources : List NamedSource) (clock : Clock) (objects : List ObjectPart) → IsBuiltFrom (Some files) short top sources clock objects → IsRefusedFrom (Some files) top name number place → ⊥
-  not-refused short top name number place sources clock objects g (while_gathered h) =
-      project-not_refused (one files 0 0 top (project sources) (refused name number place) (g.gathered 0 0) (h 0 0) tt tt)
-  not-refused short top name number place sources clock objects g (when_built others h told) =
+  not-refused : (short : Bool) (top name : List ℕ) (f : Fault) (sources : List NamedSource) (clock : Clock) (objects : List ObjectPart) → IsBuiltFrom (Some files) short top sources clock objects → IsRefusedFrom (Some files) top name f → ⊥
+  not-refused short top name f sources clock objects g (while_gathered h) =
+      project-not_refused (one files 0 0 top (project sources) (refused name f) (g.gathered 0 0) (h 0 0) tt tt)
+  not-refused short top name f sources clock objects g (when_built others h told) =
       let e : others ≡ sources = one-project top others sources h g.gathered in
       let whole = whole_project (g.gathered 0 0) in
-      built-or_refused short sources (distinct sources whole.distinct) (no_ring sources whole.no_ring) clock objects name (fault number place) g.built (subst (λ s. IsRefusedWith s name (fault number place)) e told)
+      built-or_refused short sources (distinct sources whole.distinct) (no_ring sources whole.no_ring) clock objects name f g.built (subst (λ s. IsRefusedWith s name f) e told)
 
-  missing-or-refused : (before now : ℕ) (top name other : List ℕ) (mention : Option Mention) (number : ℕ) (place : Place) → Gathers (shelved (Some files) before now) top (missing name mention) → IsRefusedFrom (Some files) top other number place → ⊥
-  missing-or-refused before now top name other mention number place g (while_gathered h) =
-      missing-not_refused (one files before now top (missing name mention) (refused other number place) g (h before now) tt tt)
-  missing-or-refused before now top name other mention number place g (when_built sources h refusal) =
+  missing-or-refused : (before now : ℕ) (top name other : List ℕ) (mention : Option Mention) (f : Fault) → Gathers (shelved (Some files) before now) top (missing name mention) → IsRefusedFrom (Some files) top other f → ⊥
+  missing-or-refused before now top name other mention f g (while_gathered h) =
+      missing-not_refused (one files before now top (missing name mention) (refused other f) g (h before now) tt tt)
+  missing-or-refused before now top name other mention f g (when_built sources h refusal) =
       project-not_missing (one files before now top (project sources) (missing name mention) (h before now) g tt tt)
 
-  one-refusal : (top a b : List ℕ) (m n : ℕ) (p q : Place) → IsRefusedFrom (Some files) top a m p → IsRefusedFrom (Some files) top b n q → (a ≡ b) × (m ≡ n) × (p ≡ q)
-  one-refusal top a b m n p q (while_gathered g) (while_gathered h) =
-      same-refused (one files 0 0 top (refused a m p) (refused b n q) (g 0 0) (h 0 0) tt tt)
-  one-refusal top a b m n p q (while_gathered g) (when_built sources h told) =
-      absurd (project-not_refused (one files 0 0 top (project sources) (refused a m p) (h 0 0) (g 0 0) tt tt))
-  one-refusal top a b m n p q (when_built sources g told) (while_gathered h) =
-      absurd (project-not_refused (one files 0 0 top (project sources) (refused b n q) (g 0 0) (h 0 0) tt tt))
-  one-refusal top a b m n p q (when_built some g told) (when_built sources h other) =
+  one-refusal : (top a b : List ℕ) (f g : Fault) → IsRefusedFrom (Some files) top a f → IsRefusedFrom (Some files) top b g → (a ≡ b) × (f ≡ g)
+  one-refusal top a b f k (while_gathered g) (while_gathered h) =
+      same-refused (one files 0 0 top (refused a f) (refused b k) (g 0 0) (h 0 0) tt tt)
+  one-refusal top a b f k (while_gathered g) (when_built sources h told) =
+      absurd (project-not_refused (one files 0 0 top (project sources) (refused a f) (h 0 0) (g 0 0) tt tt))
+  one-refusal top a b f k (when_built sources g told) (while_gathered h) =
+      absurd (project-not_refused (one files 0 0 top (project sources) (refused b k) (g 0 0) (h 0 0) tt tt))
+  one-refusal top a b f k (when_built some g told) (when_built sources h other) =
       let e : some ≡ sources = one-project top some sources g h in
       let whole = whole_project (h 0 0) in
-      let is = refusal sources (distinct sources whole.distinct) (no_ring sources whole.no_ring) a b (fault m p) (fault n q) (subst (λ s. IsRefusedWith s a (fault m p)) e told) other in
-      (is.0, ap (λ (f : Fault). f.number) is.1, ap (λ (f : Fault). f.place) is.1)
+      refusal sources (distinct sources whole.distinct) (no_ring sources whole.no_ring) a b f k (subst (λ s. IsRefusedWith s a f) e told) other
 
   pub one-outcome : HasOneOutcome files
   one-outcome = record {

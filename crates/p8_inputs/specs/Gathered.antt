@@ -1,14 +1,12 @@
 -- internal
 -- What is known of a project that was gathered from a shelf, and why there is none, or no image of it.
 use Rattle.std.specs.Prelude.{ℕ, ◌≡◌, ◌<◌, ◌≤◌, Bool, List, length, map}
-use Rattle.p8_tree.specs.Projects.{NamedSource}
+use Rattle.p8_tree.specs.Projects.{NamedSource, most_files}
 use Rattle.p8_tree.specs.Proper.{IsProperFile}
-use Rattle.p8_tree.specs.Faults.{fault}
 use Rattle.p8_image.specs.declared.clocks.Clock.{Clock}
 use Rattle.p8_image.specs.declared.parts.ObjectPart.{ObjectPart}
 use Rattle.p8_io.specs.Shelves.{Files}
 use Rattle.p8_objects.specs.Outcomes.{project}
-use Rattle.p8_objects.specs.Projects.{most_files}
 use Rattle.p8_objects.specs.Whole.{HaveMentioned, HaveNoRing, EachTree}
 use Rattle.p8_image.specs.Layout.{image_of}
 use Rattle.p8_image.specs.Loading.{ImageValue, image_in}
@@ -47,6 +45,6 @@ IsListingOf short sources text =
 
 -- why a project isn't built
 abbrev pub StopsAtBuilding : List NamedSource → Stop → Type 0
-StopsAtBuilding sources (stop.Refused name number place) = IsRefusedWith sources name (fault number place)
+StopsAtBuilding sources (stop.Refused name f) = IsRefusedWith sources name f
 StopsAtBuilding sources stop.NoMemory = Unit {0}
 StopsAtBuilding sources _ = ⊥

@@ -1,7 +1,7 @@
 -- The files of a run on a shelf: what is run, with the files of its project, and the pin script (this project's profile).
 use Rattle.std.specs.Prelude.{ℕ, ◌≡◌, List, [], Option, Some, None}
 use Rattle.p8_access.specs.Worlds.{Line}
-use Rattle.p8_tree.specs.declared.places.Place.{Place}
+use Rattle.p8_tree.specs.declared.faults.Fault.{Fault}
 use Rattle.p8_image.specs.declared.faults.LoadFault.{LoadFault}
 use Rattle.p8_pins.specs.Scripts.{IsReadAs}
 use Rattle.p8_io.specs.Counts.{Rose}
@@ -34,10 +34,10 @@ abbrev pub IsProgramUnread : Files → (before now : ℕ) → Format → (file n
 IsProgramUnread files before now (Source short) file name = Gathers (shelved files before now) file (failed name)
 IsProgramUnread files before now format file name = (name ≡ file) × Rose before now
 
--- the source to run is refused: a file of its project, with a number, at a place
-abbrev pub HasRefusal : Files → Format → (file name : List ℕ) → (number : ℕ) → Place → Type 0
-HasRefusal files (Source short) file name number place = IsRefusedFrom files file name number place
-HasRefusal files format file name number place = ⊥
+-- the source to run is refused: a file of its project, for this
+abbrev pub HasRefusal : Files → Format → (file name : List ℕ) → Fault → Type 0
+HasRefusal files (Source short) file name f = IsRefusedFrom files file name f
+HasRefusal files format file name f = ⊥
 
 -- the file to run, which is no source, has this fault
 abbrev pub HasFault : Files → Format → (file name : List ℕ) → LoadFault → Type 0

@@ -5,7 +5,6 @@ pub mod Legends
 pub mod Inputs
 pub mod Asks
 pub mod Orders
-pub mod Refusals
 pub mod Stops
 pub mod Runs
 -- Machinery that only proofs need.

@@ -1,8 +1,7 @@
 -- Sources on a shelf: what the project of a top file is built to, or why there is no image of it (this project's profile).
 use Rattle.std.specs.Prelude.{ℕ, ◌≡◌, Bool, true, false, List, Option, Some, map}
-use Rattle.p8_tree.specs.declared.places.Place.{Place}
 use Rattle.p8_tree.specs.Projects.{NamedSource}
-use Rattle.p8_tree.specs.Faults.{fault}
+use Rattle.p8_tree.specs.declared.faults.Fault.{Fault}
 use Rattle.p8_image.specs.declared.clocks.Clock.{Clock}
 use Rattle.p8_image.specs.declared.parts.ObjectPart.{ObjectPart}
 use Rattle.p8_image.specs.Layout.{image_of}
@@ -50,11 +49,11 @@ IsMapFrom files top text = (sources : List NamedSource) × GathersTo files top (
 abbrev pub IsProjectLegend : Files → (top : List ℕ) → Legend → Type 0
 IsProjectLegend files top legend = (sources : List NamedSource) × GathersTo files top (project sources) × IsLegendOf sources legend
 
--- the project of a top file is refused: this file of it, with this number, at this place; while it is gathered, or else when it is built
-pub data IsRefusedFrom (files : Files) (top name : List ℕ) (number : ℕ) (place : Place) : Type 0 where
-  while_gathered : GathersTo files top (refused name number place) → IsRefusedFrom files top name number place
+-- the project of a top file is refused: this file of it, for this; while it is gathered, or else when it is built
+pub data IsRefusedFrom (files : Files) (top name : List ℕ) (f : Fault) : Type 0 where
+  while_gathered : GathersTo files top (refused name f) → IsRefusedFrom files top name f
   when_built : (sources : List NamedSource) → GathersTo files top (project sources)
-      → IsRefusedWith sources name (fault number place) → IsRefusedFrom files top name number place
+      → IsRefusedWith sources name f → IsRefusedFrom files top name f
 
 -- Where a shelf tells its files, a source has one outcome.
 pub record HasOneOutcome (files : List ℕ → Option (List ℕ)) : Type 0 where
@@ -65,11 +64,11 @@ pub record HasOneOutcome (files : List ℕ → Option (List ℕ)) : Type 0 where
   pub one_legend : (top : List ℕ) (a b : Legend) → IsProjectLegend (Some files) top a → IsProjectLegend (Some files) top b → a ≡ b
   pub not_missing : (before now : ℕ) (short : Bool) (top name : List ℕ) (mention : Option Mention) (sources : List NamedSource) (clock : Clock) (objects : List ObjectPart)
       → IsBuiltFrom (Some files) short top sources clock objects → ¬ Gathers (shelved (Some files) before now) top (missing name mention)
-  pub not_refused : (short : Bool) (top name : List ℕ) (number : ℕ) (place : Place) (sources : List NamedSource) (clock : Clock) (objects : List ObjectPart)
-      → IsBuiltFrom (Some files) short top sources clock objects → ¬ IsRefusedFrom (Some files) top name number place
-  pub missing_or_refused : (before now : ℕ) (top name other : List ℕ) (mention : Option Mention) (number : ℕ) (place : Place)
-      → Gathers (shelved (Some files) before now) top (missing name mention) → ¬ IsRefusedFrom (Some files) top other number place
+  pub not_refused : (short : Bool) (top name : List ℕ) (f : Fault) (sources : List NamedSource) (clock : Clock) (objects : List ObjectPart)
+      → IsBuiltFrom (Some files) short top sources clock objects → ¬ IsRefusedFrom (Some files) top name f
+  pub missing_or_refused : (before now : ℕ) (top name other : List ℕ) (mention : Option Mention) (f : Fault)
+      → Gathers (shelved (Some files) before now) top (missing name mention) → ¬ IsRefusedFrom (Some files) top other f
   pub one_missing : (before now : ℕ) (top a b : List ℕ) (m n : Option Mention)
       → Gathers (shelved (Some files) before now) top (missing a m) → Gathers (shelved (Some files) before now) top (missing b n) → (a ≡ b) × (m ≡ n)
-  pub one_refusal : (top a b : List ℕ) (m n : ℕ) (p q : Place)
-      → IsRefusedFrom (Some files) top a m p → IsRefusedFrom (Some files) top b n q → (a ≡ b) × (m ≡ n) × (p ≡ q)
+  pub one_refusal : (top a b : List ℕ) (f g : Fault)
+      → IsRefusedFrom (Some files) top a f → IsRefusedFrom (Some files) top b g → (a ≡ b) × (f ≡ g)

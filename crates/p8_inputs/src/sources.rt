@@ -55,15 +55,7 @@ fn stop_of_gathering(fault: GatherFault) -> Stop
         → Answers (shelved files before now) top (Err fault) → StopsAtProgram files before now (Source short) top result }
 {
     match fault {
-        GatherFault::Source {
-            file,
-            number,
-            place,
-        } => Stop::Refused {
-            file,
-            number,
-            place,
-        },
+        GatherFault::Source { file, fault } => Stop::Refused { file, fault },
         GatherFault::Missing { file, mention } => Stop::Missing { file, mention },
         GatherFault::ShelfFault { file } => Stop::Unread { file },
         GatherFault::NoMemory => Stop::NoMemory,
@@ -75,15 +67,7 @@ fn stop_of_building(fault: BuildFault) -> Stop
     ensures { (sources : List NamedSource) → IsRefusal sources fault → StopsAtBuilding sources result }
 {
     match fault {
-        BuildFault::Source {
-            file,
-            number,
-            place,
-        } => Stop::Refused {
-            file,
-            number,
-            place,
-        },
+        BuildFault::Source { file, fault } => Stop::Refused { file, fault },
         BuildFault::NoMemory => Stop::NoMemory,
     }
 }

@@ -11,7 +11,7 @@ use crate::telling::{
 use p8_image::LoadFault;
 use p8_io::Sink;
 use p8_objects::Mention;
-use p8_tree::{Place, Text};
+use p8_tree::{Fault, Text};
 use p8_words::NoMemory;
 use std::alloc::AllocError;
 
@@ -33,10 +33,8 @@ pub enum Stop {
     /// A source of the project is refused.
     Refused {
         file: Text,
-        /// The number of a [`Refusal`](p8_lexer::Refusal).
-        number: u8,
-        /// Where in the file.
-        place: Place,
+        /// Why, and where in the file.
+        fault: Fault,
     },
     /// The file to run is no image, or too long for hub memory.
     BadProgram {
@@ -81,11 +79,7 @@ impl Stop {
             Stop::Unread { file } => tell_unread(file.as_slice(), faults),
             Stop::Missing { file, .. } => tell_missing(file.as_slice(), faults),
             Stop::NoMemory => tell_no_memory(faults),
-            Stop::Refused {
-                file,
-                number,
-                place,
-            } => tell_refused(file.as_slice(), *number, *place, faults),
+            Stop::Refused { file, fault } => tell_refused(file.as_slice(), *fault, faults),
             Stop::BadProgram { file, fault } => tell_bad_program(file.as_slice(), *fault, faults),
             Stop::BadScript { file, line } => tell_bad_script(file.as_slice(), *line, faults),
             Stop::Unnamed { file, name } => tell_unnamed(file.as_slice(), name.as_slice(), faults),

@@ -3,14 +3,12 @@ ghost use Rattle.std.specs.Prelude.{◌≡◌, ◌≤◌, ◌/◌, ◌%◌, ◌<
 ghost use Rattle.std.specs.Fmt.{decimal};
 ghost use Rattle.p8_io.specs.Sinks.{Wrote};
 ghost use Rattle.p8_image.specs.Messages.{fault_text, hex_digit as hex_digit_of};
-ghost use Rattle.p8_inputs.specs.Refusals.{name_numbered};
 ghost use Rattle.p8_inputs.specs.Stops.{refusal_line};
 
 use itoa::Buffer;
 use p8_image::LoadFault;
 use p8_io::{Sink, write_pieces};
-use p8_lexer::refusal_name;
-use p8_tree::Place;
+use p8_tree::{Fault, refusal_name};
 
 /// Writes the line of a file that could not be read.
 pub fn tell_unread<E: Sink>(file: &[u8], faults: &mut E)
@@ -38,13 +36,6 @@ pub fn tell_no_memory<E: Sink>(faults: &mut E)
     let _ = write_pieces(faults, &[b"prop: out of memory", b"\n"]);
 }
 
-/// The name of the refusal of this number, as it is printed; empty where there is no such refusal.
-fn name_of(number: u8) -> &'static str
-    ensures { result.now ≡ name_numbered number }
-{
-    refusal_name(number)
-}
-
 /// Writes the line of a source and where it is refused, with the digits of the line, the column and the refusal's number.
 fn tell_place<'a, E: Sink>(
     file: &'a [u8],
@@ -67,8 +58,8 @@ fn tell_place<'a, E: Sink>(
 }
 
 /// Writes the line of a source and where it is refused, by which rule.
-pub fn tell_refused<E: Sink>(file: &[u8], number: u8, place: Place, faults: &mut E)
-    ensures wrote { Wrote (E.faults faults.old) (E.faults faults.new) (E.taken faults.old) (E.taken faults.new) (refusal_line file.now number place) }
+pub fn tell_refused<E: Sink>(file: &[u8], fault: Fault, faults: &mut E)
+    ensures wrote { Wrote (E.faults faults.old) (E.faults faults.new) (E.taken faults.old) (E.taken faults.new) (refusal_line file.now fault) }
     ensures later { E.faults faults.old ≤ E.faults faults.new }
 {
     let mut line = Buffer::new();
@@ -76,10 +67,10 @@ pub fn tell_refused<E: Sink>(file: &[u8], number: u8, place: Place, faults: &mut
     let mut digits = Buffer::new();
     tell_place(
         file,
-        line.format(place.line).as_bytes(),
-        column.format(place.column).as_bytes(),
-        digits.format(number).as_bytes(),
-        name_of(number).as_bytes(),
+        line.format(fault.place.line).as_bytes(),
+        column.format(fault.place.column).as_bytes(),
+        digits.format(fault.number).as_bytes(),
+        refusal_name(fault.number).as_bytes(),
         faults,
     );
 }

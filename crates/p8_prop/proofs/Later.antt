@@ -1,6 +1,6 @@
 -- What shows in a file stops a command also where the shelf is read once more.
 use Rattle.std.proofs.Common.{◌≡◌, ◌<◌, ◌≤◌, ◌⊎◌, ◌∙◌, inl, inr, refl, arith, ℕ, zero, suc, List, [], ◌∷◌, Option, Some, None}
-use Rattle.p8_tree.specs.declared.places.Place.{Place}
+use Rattle.p8_tree.specs.declared.faults.Fault.{Fault}
 use Rattle.p8_tree.specs.Projects.{NamedSource}
 use Rattle.p8_io.specs.Counts.{Rose}
 use Rattle.p8_io.specs.Shelves.{Files, IsLacking}
@@ -39,10 +39,10 @@ module _ (b n m : ℕ) (earlier : b ≤ n) (later : n ≤ m) where
 
   gathered-later : (files : Files) (top : List ℕ) {sources : List NamedSource} (o : Outcome) → ComesTo (shelved files b n) top sources o → ComesTo (shelved files b m) top sources o
   gathered-later files top o (outcomes.one_more name bytes s calls has source rest) = outcomes.one_more name bytes s calls has source (gathered-later files top o rest)
-  gathered-later files top o (outcomes.file_refused name bytes number place calls has is) = outcomes.file_refused name bytes number place calls has is
+  gathered-later files top o (outcomes.file_refused name bytes f calls has is) = outcomes.file_refused name bytes f calls has is
   gathered-later files top o (outcomes.absent name mention calls at is) = outcomes.absent name mention calls at (absent-later files name is)
   gathered-later files top o (outcomes.not_read name calls rose) = outcomes.not_read name calls (rose-later rose)
-  gathered-later files top o (outcomes.mention_refused name number place calls) = outcomes.mention_refused name number place calls
+  gathered-later files top o (outcomes.mention_refused name f calls) = outcomes.mention_refused name f calls
   gathered-later files top o (outcomes.whole calls) = outcomes.whole calls
 
   module _ (files : Files) where
@@ -63,14 +63,14 @@ module _ (b n m : ℕ) (earlier : b ≤ n) (later : n ≤ m) where
     missing-at (reading.message file) name mention p = (p.0, lacking-later files name p.1, p.2)
 
     -- a refusal is no matter of counts
-    refusal-at : (ask : Ask) (name : List ℕ) (number : ℕ) (place : Place) → StopsAt files b n ask (stop.Refused name number place) → StopsAt files b m ask (stop.Refused name number place)
-    refusal-at (reading.program format file) name number place p = p
-    refusal-at (reading.viewing format file other) name number place p = p
-    refusal-at (reading.listing short file) name number place p = p
-    refusal-at (reading.mapping file) name number place p = p
-    refusal-at (reading.script file) name number place p = p
-    refusal-at (reading.history file) name number place p = p
-    refusal-at (reading.message file) name number place p = p
+    refusal-at : (ask : Ask) (name : List ℕ) (f : Fault) → StopsAt files b n ask (stop.Refused name f) → StopsAt files b m ask (stop.Refused name f)
+    refusal-at (reading.program format file) name f p = p
+    refusal-at (reading.viewing format file other) name f p = p
+    refusal-at (reading.listing short file) name f p = p
+    refusal-at (reading.mapping file) name f p = p
+    refusal-at (reading.script file) name f p = p
+    refusal-at (reading.history file) name f p = p
+    refusal-at (reading.message file) name f p = p
 
     first-later : (reason : Stop) → ((ask : Ask) → StopsAt files b n ask reason → StopsAt files b m ask reason) → (asks : List Ask) → StopsFirst files b n asks reason → StopsFirst files b m asks reason
     first-later reason at [] p = p
@@ -78,7 +78,7 @@ module _ (b n m : ℕ) (earlier : b ≤ n) (later : n ≤ m) where
     first-later reason at (ask ∷ asks) (inr more) = inr (more.0, first-later reason at asks more.1)
 
     pub reason-later : (asks : List Ask) (reason : Stop) → ¬ (shown_file reason ≡ None) → Stops files b n asks reason → Stops files b m asks reason
-    reason-later asks (stop.Refused name number place) shows p = first-later (stop.Refused name number place) (λ ask. refusal-at ask name number place) asks p
+    reason-later asks (stop.Refused name f) shows p = first-later (stop.Refused name f) (λ ask. refusal-at ask name f) asks p
     reason-later asks (stop.Missing name (Some mention)) shows p = first-later (stop.Missing name (Some mention)) (λ ask. missing-at ask name (Some mention)) asks p
     reason-later asks (stop.Missing name None) shows p = absurd (shows refl)
     reason-later asks (stop.Unread name) shows p = absurd (shows refl)

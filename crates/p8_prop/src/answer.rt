@@ -135,11 +135,7 @@ fn explanation_of(alloc: Global, stop: &Stop, bytes: &[u8]) -> Result<Vec<u8>, N
     ensures { IfOk result (λ text. text.items ≡ explanation stop.now bytes.now) }
 {
     match stop {
-        Stop::Refused {
-            file,
-            number,
-            place,
-        } => explanation(alloc, file, bytes, *number, *place),
+        Stop::Refused { file, fault } => explanation(alloc, file, bytes, *fault),
         Stop::Missing { file, mention } => match mention {
             Some(mention) => absence(alloc, &mention.file, bytes, mention.place, file),
             None => Ok(Vec::new(alloc)),
