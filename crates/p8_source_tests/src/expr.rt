@@ -1,8 +1,8 @@
 // Worked expressions, read with ample memory.
-use p8_expr::{GREATEST_HEIGHT, ParseFault, parse_expr, parse_expr_in};
+use p8_expr::{GREATEST_HEIGHT, parse_expr, parse_expr_in};
 use p8_grammar::Setting;
 use p8_lexer::lex;
-use p8_tree::{Expr, ExprKind};
+use p8_tree::{Expr, ExprKind, Fault};
 use p8_words::Fail;
 use std::alloc::AllocError;
 
@@ -29,7 +29,7 @@ fn read(rt: &HostRuntime, text: &[u8]) -> Option<(u8, usize)> {
 }
 
 // The refusal of a text in DAT.
-fn refused_in_dat(rt: &HostRuntime, text: &[u8]) -> Option<ParseFault> {
+fn refused_in_dat(rt: &HostRuntime, text: &[u8]) -> Option<Fault> {
     let Ok(tokens) = lex(rt.alloc(), text) else {
         return None;
     };

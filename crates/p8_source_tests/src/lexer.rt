@@ -1,5 +1,6 @@
 // Worked values of the lexer.
-use p8_lexer::{Place, Word, lex, refusal_name, word_of};
+use p8_lexer::{Place, Word, lex, word_of};
+use p8_tree::refusal_name;
 use p8_words::Fail;
 
 // Whether a file is refused so.
