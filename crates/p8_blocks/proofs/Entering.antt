@@ -1,7 +1,6 @@
 -- What a line of a method is entered as, and how it is refused.
 use Rattle.std.proofs.Common.{◌≡◌, ◌∙◌, ℕ, ◌+◌, ◌≤◌, List, ◌∷◌, Option, Bool, true, false, sym, ap, subst, length}
 use Rattle.std.specs.Prelude.{◌↔◌, IsTrue, Result, Ok, Err, IfErr, IsErrAnd}
-use Rattle.std.specs.List.{list_any}
 use Rattle.std.proofs.lemmas.Bool.{false≢true}
 use Rattle.p8_tree.specs.declared.places.Place.{Place}
 use Rattle.p8_tree.specs.Sources.{MethodTree}
@@ -14,7 +13,7 @@ use Rattle.p8_grammar.specs.Lexemes.{in_method}
 use Rattle.p8_columns.specs.declared.room.Room.TheVariants as room
 use Rattle.p8_columns.specs.declared.room.Chain.TheVariants as chain
 use Rattle.p8_columns.specs.Lines as lines
-use Rattle.p8_columns.specs.Lines.{Kind, Plain, If, ElseIf, Else, Repeat, End, Case, Item, Other, is_repeat, is_plain_repeat}
+use Rattle.p8_columns.specs.Lines.{Kind, Plain, If, ElseIf, Else, Repeat, End, Case, Item, Other, is_plain_repeat}
 use Rattle.p8_columns.specs.Columns.{open_for, innermost, last_up_to, IsAt, HasRoom, HasChain, FitsAs}
 use Rattle.p8_tree.specs.declared.faults.Fault.{Fault}
 use Rattle.p8_lines.specs.declared.state.State.{State}
@@ -23,7 +22,7 @@ use Rattle.p8_lines.specs.Tokens.{LineToken, word}
 use Rattle.p8_lines.specs.Lines.{Outcome, read, refused, number_of, Reads}
 use Rattle.p8_lexer.specs.Pieces.{Piece}
 use Rattle.p8_blocks.specs.Values.{suits}
-use Rattle.p8_blocks.specs.Reading.{Part, Position, method, at, from, barred, Enters, goes_on, chain_over, no_chain, loop_end, no_loop, statement, item, after_other, opens, leaves_loop, HasNoLoop, IsTooDeep, IsRefusedAt, Fails, entry_fails, no_loop_fails, too_deep_fails, line_fails, is_begun, goes_on_chain, ends_loop}
+use Rattle.p8_blocks.specs.Reading.{Part, Position, method, at, from, barred, Enters, goes_on, chain_over, no_chain, loop_end, no_loop, statement, item, after_other, opens, HasNoLoop, IsTooDeep, IsRefusedAt, Fails, entry_fails, no_loop_fails, too_deep_fails, line_fails, is_begun, goes_on_chain, ends_loop}
 use Rattle.p8_blocks.specs.Standing.{Inner, MayRead, TellsTooDeep, too_deep, refused_there}
 use Rattle.p8_blocks.specs.declared.first.First.{First}
 
@@ -79,16 +78,6 @@ module _ (ls : List lines.Line) (b : Bool) (t : LineToken) (w : Word) (p : Place
 
   pub nothing_fits : goes_on_chain b w ≡ false → ends_loop b w ≡ false → HasRoom room.Nothing (innermost p.column ls) → Enters ls b t (barred (number_of in_method w))
   nothing_fits h g c = subst (λ w. Enters ls b t (barred (number_of in_method w))) sw (after_other (is_word (goes_on_chain b) h) (is_word (ends_loop b) g) (at_column (λ n. HasRoom room.Nothing (innermost n ls)) c))
-
-  -- the two tests on the open blocks
-  pub no_loop_is : (q : State) → IsTrue (leaves_loop q w) × (list_any (λ b. is_repeat b.opener.kind) (open_for p.column ls) ≡ false) → HasNoLoop ls q t
-  no_loop_is q h = (is_word (leaves_loop q) h.0, at_column (λ n. list_any (λ b. is_repeat b.opener.kind) (open_for n ls) ≡ false) h.1)
-
-  pub is_no_loop : (q : State) → HasNoLoop ls q t → IsTrue (leaves_loop q w) × (list_any (λ b. is_repeat b.opener.kind) (open_for p.column ls) ≡ false)
-  is_no_loop q h = (ap (leaves_loop q) (sym sw) ∙ h.0, subst (λ n. list_any (λ b. is_repeat b.opener.kind) (open_for n ls) ≡ false) (sym same_column) h.1)
-
-  pub too_deep_is : (q : State) → IsTrue (opens q w) × (64 ≤ length (open_for p.column ls) + 1) → IsTooDeep ls q t
-  too_deep_is q h = (is_word (opens q) h.0, at_column (λ n. 64 ≤ length (open_for n ls) + 1) h.1)
 
   pub is_too_deep : (q : State) → IsTooDeep ls q t → IsTrue (opens q w) × (64 ≤ length (open_for p.column ls) + 1)
   is_too_deep q h = (ap (opens q) (sym sw) ∙ h.0, subst (λ n. 64 ≤ length (open_for n ls) + 1) (sym same_column) h.1)

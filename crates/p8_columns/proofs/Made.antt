@@ -4,7 +4,7 @@ use Rattle.std.proofs.lemmas.Bool.{false≢true}
 use Rattle.p8_tree.specs.declared.places.Place.{Place}
 use Rattle.p8_tree.specs.Expressions.{Tree}
 use Rattle.p8_tree.specs.Statements as trees
-use Rattle.p8_tree.specs.Statements.{Course, Forever, Count, Before, After, From, statement, Statements, no_statements, ◌▹◌, Arms, no_arms, ◌⊳◌, Otherwise, nothing_else, otherwise}
+use Rattle.p8_tree.specs.Statements.{Course, Forever, Count, Before, After, From, statement, Statements, no_statements, ◌▹◌, Arms, no_arms, nothing_else, otherwise}
 use Rattle.p8_columns.specs.Lines.{Kind, Plain, If, ElseIf, Else, Repeat, End, Case, Item, Other, Line, line, column, is_opener, is_arm, is_plain_repeat}
 use Rattle.p8_columns.specs.Columns.{open_for, OtherAfter, HasOther}
 use Rattle.p8_columns.specs.Blocks.{Bound, Anywhere, UpTo, May, Contents, body, choices, Block, no_lines, plain, chain, chain_on, chain_end, loop, loop_end, cases, no_cases, item, last_item}
@@ -125,15 +125,6 @@ leaf_block l r m le (joins_statement p k s) o = absurd cc
 leaf_block l r m le (joins_case p k s) o = absurd (let f = case_opens k s in cc)
 leaf_block l r m le (joins_chain p k s) o = absurd (let f = else_opens k s in cc)
 leaf_block l r m le (joins_loop p u t) o = loop_end p u t r
-
--- a block whose kind of contents is known
-abbrev pub IsBody : Contents → Type 0
-IsBody (body ss) = Unit {0}
-IsBody (choices arms o) = ⊥
-
-is_body : (y : Contents) → body no_statements ≡ fresh y → IsBody y
-is_body (body ss) h = tt
-is_body (choices arms o) h = absurd cc
 
 under_block : {e : ℕ} {b b' : Bound} {x : Contents} {ls ms : List Line} (l : Line) (y : Contents) → Block e b x ls → May (column l) b → e ≤ column l → Joins b x l → is_opener l.kind ≡ true → begun l.kind ≡ fresh y → Block (suc (column l)) b' y ms → Block e (UpTo (column l)) (closed x l y) (ls ++ l ∷ ms)
 under_block l (body inner) r m le (joins_statement p (If n t) s) o g i = chain r m le i

@@ -91,10 +91,6 @@ last_from o (x ∷ A) b = last_from (Some x) A b
 pub last_is : (A : List OpenBlock) (b : OpenBlock) → last_or None (A ++ b ∷ []) ≡ Some b
 last_is A b = last_from None A b
 
-not_none : (o : Option OpenBlock) (A : List OpenBlock) (b : OpenBlock) → ¬ (A ++ b ∷ [] ≡ [])
-not_none o [] b h = cc
-not_none o (x ∷ A) b h = cc
-
 some_last : (x : OpenBlock) (xs : List OpenBlock) → ¬ (last_or (Some x) xs ≡ None)
 some_last x [] h = cc
 some_last x (y ∷ xs) h = some_last y xs h

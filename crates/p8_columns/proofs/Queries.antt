@@ -1,5 +1,5 @@
 -- What the open blocks tell of the next line.
-use Rattle.std.proofs.Common.{◌≡◌, ℕ, zero, suc, ◌+◌, ◌-◌, ◌≤◌, List, [], ◌∷◌, ◌++◌, length, drop, Option, Some, None, Bool, true, false, refl, sym, ap, ◌∙◌, subst, arith, length-drop}
+use Rattle.std.proofs.Common.{◌≡◌, ℕ, zero, suc, ◌+◌, ◌-◌, List, [], ◌∷◌, ◌++◌, length, drop, Option, Some, None, Bool, true, false, refl, sym, ap, ◌∙◌, subst, arith, length-drop}
 use Rattle.std.specs.Prelude.{nat_le, if◌then◌else◌, IsTrue, ◌↔◌}
 use Rattle.std.specs.List.{list_any}
 use Rattle.p8_tree.specs.Statements.{Statements, no_statements, Arms, Otherwise, nothing_else, otherwise}
@@ -30,14 +30,6 @@ frames_left c x (f ∷ k) = go (nat_le c (column f.opener)) (frames_left c (clos
     go : (t : Bool) → (close c (closed f.outer f.opener x) k).frames ≡ drop (right_of c k) k → (if t then close c (closed f.outer f.opener x) k else state x (f ∷ k)).frames ≡ drop (if t then suc (right_of c k) else 0) (f ∷ k)
     go true e = e
     go false e = refl
-
-pub right_within : (c : ℕ) (k : List Frame) → right_of c k ≤ length k
-right_within c [] = omega arith
-right_within c (f ∷ k) = let h = right_within c k in go (nat_le c (column f.opener)) h
-  where
-    go : (t : Bool) → right_of c k ≤ length k → (if t then suc (right_of c k) else 0) ≤ length (f ∷ k)
-    go true h = omega arith
-    go false h = omega arith
 
 abbrev opener_in : Option OpenBlock → Option Line
 opener_in None = None
@@ -242,9 +234,6 @@ taken_more lines b l b' h f e = record {
 -- the blocks that a line closes, and then the line
 pub took : (lines : List Line) (b b' : Blocks) (l : Line) (c : ℕ) (x y : Contents) (k : List Frame) → HasTaken lines b → Fits lines l → c ≡ column l → x ≡ (state_of b).contents → close c x (state_of b).frames ≡ state y k → put (state y k) l ≡ state_of b' → HasTaken (lines ++ l ∷ []) b'
 took lines b b' l c x y k h f s t e g = taken_more lines b l b' h f (ap (λ s. put s l) (ap (λ c. close c (state_of b).contents (state_of b).frames) (sym s) ∙ ap (λ x. close c x (state_of b).frames) (sym t) ∙ e) ∙ g)
-
-pub taken_none : (b : Blocks) → state_of b ≡ start → HasTaken [] b
-taken_none b e = record { fit = tt; kept = e }
 
 pub finished : (lines : List Line) (b : Blocks) → HasTaken lines b → (ss : Statements) → whole (state_of b) ≡ ss → AreStatements ss lines
 finished lines b h ss e = subst (λ ss. AreStatements ss lines) e (sound (state_of b) lines (stands lines b h))

@@ -1,10 +1,10 @@
 -- A variable with AND or OR after it.
-use Rattle.std.proofs.Common.{◌≡◌, ℕ, zero, suc, ◌*◌, ◌<◌, ◌≤◌, List, [], ◌∷◌, Option, Some, None, Bool, true, false, refl, sym, ap, ◌∙◌, arith, le-leb}
+use Rattle.std.proofs.Common.{◌≡◌, ℕ, zero, suc, ◌*◌, ◌<◌, ◌≤◌, List, [], ◌∷◌, Option, Some, None, Bool, true, false, refl, sym, ap, ◌∙◌, arith}
 use Rattle.std.specs.Prelude.{option_and_then, IsTrue, nat_le, nat_lt, if◌then◌else◌, ◌&&◌}
 use Rattle.std.proofs.lemmas.Bool.{leb-true, ltb-true, lt-ltb}
 use Rattle.p8_tree.specs.declared.places.Place.{Place}
 use Rattle.p8_tree.specs.Expressions.{Tree, Variable, Register, whole}
-use Rattle.p8_grammar.specs.Lexemes.{Setting, is_value, behind, is_written, equal, mark, infix_word, Token, token}
+use Rattle.p8_grammar.specs.Lexemes.{Setting, is_value, is_written, equal, mark, infix_word, Token, token}
 use Rattle.p8_grammar.specs.Grammar.{is_boolean}
 use Rattle.p8_grammar.specs.Machine.{reading, addressing, changing, used, Shape, named, indexed_name, parted, memory_word, register_word, ready, tree, if_reading, target, fresh, Frame, infix_frame, bar_of, reduce, State, state, joined, operate, join, grow, beyond, go_on, step, walk}
 use Rattle.p8_grammar.proofs.Walks.{kept, both}
@@ -20,9 +20,6 @@ second_true false b h = absurd cc
 -- the ranks of AND and OR
 pub boolean_most : (r : ℕ) → IsTrue (is_boolean r) → r ≤ 10
 boolean_most r h = leb-true r 10 (second_true (nat_le 9 r) (nat_le r 10) h)
-
-pub boolean_is : (r : ℕ) → 9 ≤ r → r ≤ 10 → IsTrue (is_boolean r)
-boolean_is r h h' = both (nat_le 9 r) (nat_le r 10) (le-leb 9 r h) (le-leb r 10 h')
 
 same_used : (w v : Variable) → Some w ≡ Some v → Some (used reading w) ≡ Some (used reading v)
 same_used w v h = ap (λ v. Some (used reading v)) (same h)

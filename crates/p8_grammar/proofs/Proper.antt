@@ -1,16 +1,16 @@
 -- A tree that proper words spell is proper.
 use Rattle.std.proofs.Common.{◌≡◌, ℕ, suc, ◌^◌, ◌<◌, Bool, true, false, List, [], ◌∷◌, ◌++◌, Option, Some, None, refl, sym, ap, subst, ◌∙◌, arith}
-use Rattle.std.specs.Prelude.{◌==◌, ◌||◌, ◌-◌, if◌then◌else◌, not, IsTrue}
+use Rattle.std.specs.Prelude.{◌==◌, ◌||◌, ◌-◌, if◌then◌else◌, IsTrue}
 use Rattle.std.proofs.lemmas.Bool.Decides.{nat_tests}
 use Rattle.std.proofs.lemmas.List.{get_or_append_left, length-append}
 use Rattle.std.proofs.lemmas.List.Elements.{All-head, All-tail}
 use Rattle.p8_tree.specs.declared.places.Place.{Place}
-use Rattle.p8_tree.specs.Expressions.{Tree, node, Variable, Register, no_index, whole, bits, single, range, Trees, no_trees, ◌▷◌, Items}
+use Rattle.p8_tree.specs.Expressions.{Tree, Variable, Register, no_index, whole, bits, single, range, Trees, no_trees, ◌▷◌, Items}
 use Rattle.p8_tree.specs.Names.{IsName, IsVariableName, plain_name, result_name, local_label, IsQuoted}
-use Rattle.p8_tree.specs.Proper.{is_one_of, IsProperIndex, is_binary, is_written_register, has_bits as register_has_bits, is_register, is_in_memory, is_written as variable_is_written, arguments_fit, is_value, gives_value, gives_no_value, is_change, is_operator_alone, is_unary, arguments_fit_alone, IsDoneForm, IsProperTree, IsProperForm, IsProperVariable, AreProperTrees, AreProperItems}
+use Rattle.p8_tree.specs.Proper.{is_one_of, IsProperIndex, is_binary, is_written_register, has_bits as register_has_bits, is_register, is_in_memory, is_written as variable_is_written, arguments_fit, is_value, gives_value, gives_no_value, is_change, is_operator_alone, is_unary, IsProperTree, IsProperForm, IsProperVariable, AreProperTrees, AreProperItems}
 use Rattle.p8_grammar.specs.Lexemes.{Setting, in_method, in_declaration, in_dat, in_data_item, in_action, is_value as takes_value, is_dat, inside, behind, Access, memory, pins, input_pins, input, assembly, is_written, has_bits, is_in, mark, equal as equal_mark, assigns, Lexeme, prefix_word, infix_word, sign, object_address, Token, token}
 use Rattle.p8_grammar.specs.Grammar as grammar
-use Rattle.p8_grammar.specs.Grammar.{Piece, word, upto, Row, begin, ◌▹◌, Names, result_word, Variables, named, indexed, part, part_indexed, memory_at, memory_indexed, register_whole, register_bit, register_bits, place_of, Head, calls, built, applied, opening, Heads, trapped, of_object, of_element, of_built_in, of_command, Arguments, no_arguments, argument, Choices, no_choices, value_choice, range_choice, Forms, a_number, a_character, the_place, parentheses, variable, name_alone, changed_by, changed_before, changed_after, address_of, plain_call, bare_call, full_call, object_constant, a_value, a_string, a_constant, look_value, look_range, Prefix, at_object, unary, with_prefix, prefix_of, effect_of, infix_of, Reads, operand, before, between, assigned, assigned_by_word, Spells, nothing, a_word, an_expression}
+use Rattle.p8_grammar.specs.Grammar.{word, upto, Row, begin, ◌▹◌, Names, result_word, Variables, named, indexed, part, part_indexed, memory_at, memory_indexed, register_whole, register_bit, register_bits, Head, calls, built, applied, Heads, trapped, of_object, of_element, of_built_in, of_command, Arguments, no_arguments, argument, Choices, no_choices, value_choice, range_choice, Forms, a_number, a_character, the_place, parentheses, variable, name_alone, changed_by, changed_before, changed_after, address_of, plain_call, bare_call, full_call, object_constant, a_value, a_string, a_constant, look_value, look_range, Prefix, at_object, unary, with_prefix, prefix_of, effect_of, infix_of, Reads, operand, before, between, assigned, assigned_by_word, Spells, nothing, a_word, an_expression}
 use Rattle.p8_grammar.specs.Proper.{is_register_for, IsProperLexeme, lexeme_in, AreProper, IsProperAction}
 use Rattle.p8_grammar.proofs.FormsStand.{clash, inside_value, behind_value}
 
@@ -124,10 +124,6 @@ abbrev IsProperHead : Bool → Head → Type 0
 IsProperHead dat (calls trap (Some object) i n q p) = IsName n × IsName object × IsProperIndex dat i
 IsProperHead dat (calls trap None i n q p) = IsName n × (trap ≡ true) × (i ≡ no_index)
 IsProperHead dat (built k p) = IsTrue (gives_value k)
-
-opening_rest : (dat t : Bool) (o : Place) → IsProperRow dat (opening t o)
-opening_rest dat true o = (tt, tt)
-opening_rest dat false o = tt
 
 heads_proper : (s : Setting) {h : Head} {row : Row} → IsTrue (takes_value s) → Heads s h row → IsProperRow (is_dat s) row → IsProperHead (is_dat s) h
 heads_proper s d (trapped o) r = (r.1, refl, refl)

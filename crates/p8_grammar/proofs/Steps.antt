@@ -1,12 +1,11 @@
 -- One word more, by what the word is.
 use Rattle.std.proofs.Common.{◌≡◌, ℕ, ◌+◌, ◌*◌, ◌≤◌, List, [], ◌∷◌, Option, Some, None, refl, sym, ap, ◌∙◌, subst, arith}
-use Rattle.std.specs.Prelude.{option_and_then, IfOk, IsTrue, not, if◌then◌else◌, nat_lt, ◌&&◌, Bool, true, false}
+use Rattle.std.specs.Prelude.{option_and_then, IfOk, if◌then◌else◌, nat_lt, ◌&&◌, Bool, true, false}
 use Rattle.std.specs.declared.result.Result.{Result}
 use Rattle.std.specs.declared.alloc.AllocError.{AllocError}
-use Rattle.std.proofs.lemmas.Bool.{le-ltb}
 use Rattle.p8_tree.specs.declared.places.Place.{Place}
-use Rattle.p8_tree.specs.Expressions.{Tree, Variable}
-use Rattle.p8_grammar.specs.Lexemes.{Setting, is_value, inside, behind, Mark, Lexeme, mark, prefix_word, infix_word, sign, assigns, object_address, token}
+use Rattle.p8_tree.specs.Expressions.{Tree}
+use Rattle.p8_grammar.specs.Lexemes.{Setting, is_value, inside, Mark, Lexeme, mark, prefix_word, infix_word, sign, assigns, object_address, token}
 use Rattle.p8_grammar.specs.Grammar.{Prefix, rank, at_object, unary, prefix_of, effect_of}
 use Rattle.p8_grammar.specs.Machine.{reading, addressing, changing, Shape, using, Hole, Next, stays, opens, inside_frame, tree, whole_in, if_action, altering, begins, entered_all, on_prefix, prefixed, target, grow, on_mark, fresh, Frame, prefix_frame, bar, bar_of, wrap, reduce, State, state, entered, shut, if_fresh, operate, join, assign, beyond, go_on, step, all_of, accepted, accept}
 use Rattle.p8_grammar.specs.declared.lexemes.Term as term
@@ -18,7 +17,7 @@ use Rattle.p8_grammar.specs.declared.forms.Finished as finished
 use Rattle.p8_grammar.specs.declared.forms.Finished.TheVariants as finished_case
 use Rattle.p8_grammar.specs.declared.shapes.Grown as grown
 use Rattle.p8_grammar.specs.declared.shapes.Grown.TheVariants as grown_case
-use Rattle.p8_grammar.specs.Views.{term_of, shape_of, hole_of, tree_in, Grows, IsWhole}
+use Rattle.p8_grammar.specs.Views.{term_of, shape_of, hole_of, Grows, IsWhole}
 use Rattle.p8_grammar.specs.Levels.{Takes}
 use Rattle.p8_grammar.proofs.Walks.{wraps}
 
@@ -126,11 +125,6 @@ term_step_none s sh k p t h = ap (λ o. go_on o s sh k p (term_of t)) h ∙ go t
     go t None = no_prefix s sh p k
     go t (Some e) = refl
 
--- an assignment inside a tighter operator
-pub assign_low : (s : Setting) (t : Option Variable) (o : Option ℕ) (p : Place) (k : List Frame) → bar_of k ≤ 21 → assign s t o p k ≡ None
-assign_low s None o p k le = refl
-assign_low s (Some v) o p k le = rw (le-ltb 21 (bar_of k) le) refl
-
 -- the same answer, in other words
 pub takes_too : (r : Result taken.Taken AllocError) (o o' : Option State) (st st' : State) (k : List Frame) → o ≡ o' → st ≡ st' → IfOk r (λ t. Takes o st t k) → IfOk r (λ t. Takes o' st' t k)
 takes_too r o o' st st' k eo es h = subst (λ st. IfOk r (λ t. Takes o' st t k)) es (subst (λ o. IfOk r (λ t. Takes o st t k)) eo h)
@@ -185,9 +179,5 @@ not_all e (f ∷ k) h = refl
 
 pub all : (e : Tree) (k : List Frame) → k ≡ [] → Some e ≡ all_of e k
 all e k h = sym (ap (λ k. all_of e k) h)
-
-pub whole_is : (sh : Shape) (w : finished.Finished) → IsWhole sh w → tree sh ≡ tree_in w
-whole_is sh (finished_case.Tree t) h = h
-whole_is sh (finished_case.Not x) h = h.0
 
 -- a variable that may be written, or none

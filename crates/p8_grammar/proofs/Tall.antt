@@ -53,9 +53,6 @@ abbrev AtLeast : ℕ → Option Next → Type 0
 AtLeast l None = Unit {0}
 AtLeast l (Some n) = l ≤ next_least n
 
-at_least : (l : ℕ) (o : Option Next) (n : Next) → o ≡ Some n → AtLeast l o → l ≤ next_least n
-at_least l o n h a = subst (AtLeast l) h a
-
 only_least : (l : ℕ) (b : Bool) (n : Next) → l ≤ next_least n → AtLeast l (only_if b n)
 only_least l true n le = le
 only_least l false n le = tt

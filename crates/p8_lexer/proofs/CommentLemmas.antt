@@ -1,10 +1,10 @@
 -- Counting braces finds where a comment ends.
-use Rattle.std.proofs.Common.{◌≡◌, ◌≢◌, ℕ, zero, suc, ◌+◌, ◌-◌, ◌<◌, ◌≤◌, List, [], ◌∷◌, ◌++◌, length, take, drop, get_or, Bool, true, false, refl, sym, ap, ◌∙◌, subst, arith, append_assoc, append-nil, take-append-drop}
+use Rattle.std.proofs.Common.{◌≡◌, ◌≢◌, ℕ, zero, suc, ◌+◌, ◌-◌, ◌<◌, List, [], ◌∷◌, ◌++◌, length, take, drop, get_or, Bool, true, false, refl, sym, ap, ◌∙◌, subst, arith, append_assoc, append-nil, take-append-drop}
 use Rattle.std.specs.Prelude.{◌==◌, if◌then◌else◌, IsTrue}
 use Rattle.std.proofs.lemmas.Bool.Decides.{nat_tests}
 use Rattle.std.proofs.lemmas.List.{take_more, take-take, length-drop, length-take-le}
-use Rattle.p8_lexer.specs.Lexing.{Inside, empty, character, nested, ends_doc, Is}
-use Rattle.p8_lexer.specs.declared.piece.PieceKind.TheVariants.{Comment, DocComment}
+use Rattle.p8_lexer.specs.Lexing.{Inside, empty, character, nested, Is}
+use Rattle.p8_lexer.specs.declared.piece.PieceKind.TheVariants.{Comment}
 use Rattle.p8_lexer.specs.Cutting.{IsGreatest}
 
 -- so many comments begin in these characters, one in another, and none of them ends
@@ -155,15 +155,3 @@ module _ (text : List ℕ) (i d e : ℕ) (lt : i < length text) (o : Open d (tak
 not_both : (b : Bool) → b ≡ false → IsTrue b → ⊥
 not_both true e h = cc
 not_both false e h = cc
-
-pub doc_ends : (text : List ℕ) (i : ℕ) → 2 ≤ i → i + 1 < length text → get_or text 0 0 ≡ 123 → get_or text 1 0 ≡ 123 → IsTrue (ends_doc text i) → ((k : ℕ) → 2 ≤ k → k < i → ends_doc text k ≡ false) → IsGreatest (Is DocComment text) (length text) (i + 2)
-doc_ends text i from lt a b ends before =
-    let back : i + 2 - 2 ≡ i = omega arith in
-    record {
-      within = omega arith;
-      holds = (omega arith, a, b, subst (λ k. IsTrue (ends_doc text k)) (sym back) ends, λ k low high. before k low (omega arith));
-      greatest = λ m above within d. not_both (ends_doc text i) (d.4 i from (omega arith)) ends;
-    }
-
-pub doc_never : (text : List ℕ) (i : ℕ) → length text ≤ i + 1 → ((k : ℕ) → 2 ≤ k → k < i → ends_doc text k ≡ false) → (n : ℕ) → n ≤ length text → Is DocComment text n → ⊥
-doc_never text i past before n within d = not_both (ends_doc text (n - 2)) (before (n - 2) (omega (arith, d.0)) (omega (arith, d.0))) d.3

@@ -63,16 +63,7 @@ take_one : (text : List ℕ) (c : ℕ) → 0 < length text → get_or text 0 0 �
 take_one [] c lt e = absurd (omega arith)
 take_one (x ∷ text) c lt e = ap (λ c. c ∷ []) e
 
-take_two : (text : List ℕ) (a b : ℕ) → 1 < length text → get_or text 0 0 ≡ a → get_or text 1 0 ≡ b → take 2 text ≡ a ∷ b ∷ []
-take_two [] a b lt e f = absurd (omega arith)
-take_two (x ∷ []) a b lt e f = absurd (omega arith)
-take_two (x ∷ y ∷ text) a b lt e f = cc
-
 module _ (text : List ℕ) where
-  ends_at_two : (m : ℕ) → 2 < m → m ≤ length text → Is (TokenOf LineEnd) text m → ⊥
-  ends_at_two m above within (inl e) = omega (arith, take_length text m (10 ∷ []) within e)
-  ends_at_two m above within (inr (inl e)) = omega (arith, take_length text m (13 ∷ []) within e)
-  ends_at_two m above within (inr (inr e)) = omega (arith, take_length text m (13 ∷ 10 ∷ []) within e)
 
   ends_at_one : (get_or text 0 0 ≡ 13 → get_or text 1 0 ≡ 10 → ⊥) → (m : ℕ) → 1 < m → m ≤ length text → Is (TokenOf LineEnd) text m → ⊥
   ends_at_one never m above within (inl e) = omega (arith, take_length text m (10 ∷ []) within e)
@@ -88,12 +79,6 @@ module _ (text : List ℕ) where
       go : (k : PieceKind) → IsTrue (may k 2) → Is k text m → ⊥
       go (TokenOf LineEnd) c is = past m above within is
       go k c is = cc
-
-  pub two_cut : 1 < length text → get_or text 0 0 ≡ 13 → get_or text 1 0 ≡ 10 → Cuts (TokenOf LineEnd) text 2
-  two_cut lt a b = record { within = omega arith; is = inr (inr (take_two text 13 10 lt a b)); longest = past_line_end 2 (ends_line (get_or text 0 0) a) ends_at_two }
-    where
-      ends_line : (c : ℕ) → c ≡ 13 → IsTrue (is_line_end c)
-      ends_line c e = grind (arith, nat_tests)
 
   pub one_cut : 0 < length text → IsTrue (is_line_end (get_or text 0 0)) → (get_or text 0 0 ≡ 13 → get_or text 1 0 ≡ 10 → ⊥) → Cuts (TokenOf LineEnd) text 1
   one_cut lt h never = record { within = lt; is = go (which (get_or text 0 0) h); longest = past_line_end 1 h (ends_at_one never) }
@@ -175,29 +160,6 @@ float_cut text end n digits tail =
 
 pub no_float_at : (text : List ℕ) (c : ℕ) → get_or text 0 0 ≡ c → is_digit radix.Decimal c ≡ false → NoneIs (TokenOf Float) text
 no_float_at text c e h n within (m, d, t) = not_both (is_digit radix.Decimal (get_or text 0 0)) (ap (is_digit radix.Decimal) e ∙ h) d.1
-
-pub only_quaternary : (text : List ℕ) → get_or text 0 0 ≡ 37 → get_or text 1 0 ≡ 37 → (q : Radix) (n : ℕ) → take (length (mark q)) text ≡ mark q → AreDigits q text (length (mark q)) n → q ≡ radix.Quaternary
-unfolding Starts
-only_quaternary text a b q n m d = one_radix q radix.Quaternary text (starts q text n m d) (a, b)
-
-pub only_binary : (text : List ℕ) → get_or text 0 0 ≡ 37 → get_or text 1 0 ≢ 37 → (q : Radix) (n : ℕ) → take (length (mark q)) text ≡ mark q → AreDigits q text (length (mark q)) n → q ≡ radix.Binary
-unfolding Starts
-only_binary text a b q n m d = go q (starts q text n m d)
-  where
-    go : (q : Radix) → Starts q text → q ≡ radix.Binary
-    go radix.Binary s = refl
-    go radix.Quaternary s = absurd (b s.1)
-    go radix.Decimal s = absurd (grind (arith, nat_tests))
-    go radix.Hexadecimal s = absurd (omega (arith, s))
-
-pub percent_mark : (text : List ℕ) → 0 < length text → get_or text 0 0 ≡ 37 → take 1 text ≡ 37 ∷ []
-percent_mark text lt e = take_one text 37 lt e
-
-pub percents_mark : (text : List ℕ) → 1 < length text → get_or text 0 0 ≡ 37 → get_or text 1 0 ≡ 37 → take 2 text ≡ 37 ∷ 37 ∷ []
-percents_mark text lt a b = take_two text 37 37 lt a b
-
-pub dollar_mark : (text : List ℕ) → 0 < length text → get_or text 0 0 ≡ 36 → take 1 text ≡ 36 ∷ []
-dollar_mark text lt e = take_one text 36 lt e
 
 pub no_number : (text : List ℕ) (r : Radix) → ((q : Radix) (n : ℕ) → take (length (mark q)) text ≡ mark q → AreDigits q text (length (mark q)) n → q ≡ r) → ((n : ℕ) → n ≤ length text → AreDigits r text (length (mark r)) n → ⊥) → (v : ℕ) → NoneIs (TokenOf (Number v)) text
 no_number text r only none v n within (q, (m, d, e)) = none n within (subst (λ q. AreDigits q text (length (mark q)) n) (only q n m d) d)

@@ -1,5 +1,5 @@
 -- What digits stand for, and fractions and exponents.
-use Rattle.std.proofs.Common.{◌≡◌, ◌≢◌, ℕ, zero, suc, ◌+◌, ◌*◌, ◌<◌, ◌≤◌, ◌⊎◌, inl, inr, Bool, true, false, List, [], ◌∷◌, ◌++◌, length, take, drop, get_or, Option, Some, None, refl, sym, ap, ◌∙◌, subst, arith, take-append-drop}
+use Rattle.std.proofs.Common.{◌≡◌, ℕ, zero, suc, ◌+◌, ◌*◌, ◌<◌, ◌≤◌, ◌⊎◌, inl, inr, Bool, true, false, List, [], ◌∷◌, ◌++◌, length, take, drop, get_or, Option, Some, None, refl, sym, ap, ◌∙◌, subst, arith, take-append-drop}
 use Rattle.std.specs.Prelude.{◌==◌, if◌then◌else◌, IsTrue, unwrap_or}
 use Rattle.std.proofs.lemmas.Bool.Decides.{nat_tests}
 use Rattle.std.proofs.lemmas.Bool.{cases_lt}
@@ -7,21 +7,8 @@ use Rattle.std.proofs.lemmas.List.{take_more, take-take, length-take-le, drop-ap
 use Rattle.p8_lexer.specs.declared.piece.Radix.{Radix}
 use Rattle.p8_lexer.specs.declared.piece.Radix.TheVariants as radix
 use Rattle.p8_lexer.specs.declared.piece.Class.TheVariants as class
-use Rattle.p8_lexer.specs.Lexing.{is_digit, is_in, AreDigits, IsFraction, IsExponent, IsFloatTail, base, digit_value, value_behind}
+use Rattle.p8_lexer.specs.Lexing.{is_in, AreDigits, IsFraction, IsExponent, IsFloatTail, base, digit_value, value_behind}
 use Rattle.p8_lexer.specs.Cutting.{IsGreatest, IsLongest}
-
--- each digit is one of the sixteen
-pub any_digit : (r : Radix) (c : ℕ) → IsTrue (is_in (class.Digits r) c) → c ≢ 95 → IsTrue (is_digit radix.Hexadecimal c)
-any_digit radix.Binary c h n = grind (arith, nat_tests)
-any_digit radix.Quaternary c h n = grind (arith, nat_tests)
-any_digit radix.Decimal c h n = grind (arith, nat_tests)
-any_digit radix.Hexadecimal c h n = grind (arith, nat_tests)
-
-pub base_small : (r : Radix) → base r ≤ 16
-base_small radix.Binary = omega arith
-base_small radix.Quaternary = omega arith
-base_small radix.Decimal = omega arith
-base_small radix.Hexadecimal = omega arith
 
 base_positive : (r : Radix) → 1 ≤ base r
 base_positive radix.Binary = omega arith

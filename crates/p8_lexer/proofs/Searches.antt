@@ -1,16 +1,15 @@
 -- A word is found by its first character, and each spelling is of one word.
-use Rattle.std.proofs.Common.{◌≡◌, ℕ, ◌+◌, ◌<◌, ◌≤◌, Bool, true, false, List, [], ◌∷◌, ◌++◌, length, map, drop, get_or, Option, Some, None, refl, sym, ap, ◌∙◌, subst, arith}
+use Rattle.std.proofs.Common.{◌≡◌, ℕ, ◌+◌, ◌<◌, Bool, true, false, List, [], ◌∷◌, ◌++◌, length, map, get_or, Option, Some, None, refl, sym, ap, ◌∙◌, subst, arith}
 use Rattle.std.specs.Prelude.{◌==◌, ◌&&◌, ◌||◌, if◌then◌else◌}
-use Rattle.std.specs.Borrow.{Bor}
 use Rattle.std.specs.List.{list_all}
 use Rattle.std.proofs.lemmas.Bool.Decides.{nat_tests}
-use Rattle.std.proofs.lemmas.List.{drop_more, drop_all, get_or-map, ext_get_or, length-map, take-append-drop}
+use Rattle.std.proofs.lemmas.List.{get_or-map, ext_get_or, length-map, take-append-drop}
 use Rattle.std.proofs.lemmas.List.Folds.{list_all-append}
 use Rattle.p8_lexer.specs.declared.word.Word.{Word}
 use Rattle.p8_lexer.specs.declared.word.Word.TheVariants as word
 use Rattle.p8_lexer.specs.Words.{spelling, other_spellings, symbols, reserved_words, every_word, capital, same, is_among, is_spelled, first_spelled, word_spelled}
 use Rattle.p8_lexer.specs.Lexing.{is_letter}
-use Rattle.p8_lexer.specs.Table.{Row, row_of, rows, symbol_rows, reserved_rows, rows_from, word_in}
+use Rattle.p8_lexer.specs.Table.{Row, rows, symbol_rows, reserved_rows, rows_from, word_in}
 
 -- texts
 
@@ -194,12 +193,6 @@ named_is text r long e =
     e ∙ ap (λ b. word_in (if b then reserved_rows else symbol_rows) (map capital text)) (letter_capital (get_or text 0 0) ∙ ap is_letter (sym c)) ∙ same_search (map capital text) (omega (arith, length-map text capital))
 
 -- loops
-
-pub in_step : (t : List ℕ) (rs : List (Bor (List ℕ) × Word)) (i : ℕ) (r : Bor (List ℕ) × Word) → i < length rs → get_or rs i r ≡ r → word_in (map row_of (drop i rs)) t ≡ (if same r.0.now t then Some r.1 else word_in (map row_of (drop (i + 1) rs)) t)
-in_step t rs i r lt e = ap (λ l. word_in (map row_of l) t) (drop_more rs i r lt) ∙ ap (λ (v : Bor (List ℕ) × Word). if same v.0.now t then Some v.1 else word_in (map row_of (drop (i + 1) rs)) t) e
-
-pub in_end : (t : List ℕ) (rs : List (Bor (List ℕ) × Word)) (i : ℕ) → length rs ≤ i → word_in (map row_of (drop i rs)) t ≡ None
-in_end t rs i h = ap (λ l. word_in (map row_of l) t) (drop_all i rs h)
 
 pub nonempty : (t : List ℕ) → (t ≡ [] → ⊥) → 0 < length t
 nonempty [] h = absurd (h refl)

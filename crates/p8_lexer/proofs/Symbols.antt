@@ -28,9 +28,6 @@ passes_at p [] h n x e = absurd cc
 passes_at p (y ∷ ys) h zero x e = let same : y ≡ x = cc in ap p (sym same) ∙ and_left (p y) (list_all p ys) h
 passes_at p (y ∷ ys) h (suc n) x e = passes_at p ys (and_right (p y) (list_all p ys) h) n x e
 
-tag : Word → ℕ
-tag w = tag_of the_type w
-
 tags_small : list_all (λ v. nat_lt (tag_of the_type v) 71) symbols ≡ true
 unfolding symbols
 tags_small = refl
@@ -70,10 +67,6 @@ lengths_pass = refl
 dollars_pass : list_all (λ v. not (get_or (spelling v) 0 0 == 36) || (length (spelling v) == 1)) symbols ≡ true
 unfolding symbols
 dollars_pass = refl
-
-no_letters : list_all (λ v. list_all (λ c. not (is_between 65 90 c) && not (is_between 97 122 c)) (spelling v)) symbols ≡ true
-unfolding symbols
-no_letters = refl
 
 take_first : (text : List ℕ) (n : ℕ) (t : List ℕ) → take n text ≡ t → 0 < length t → get_or text 0 0 ≡ get_or t 0 0
 take_first [] zero t e h = absurd (omega (arith, ap length e))

@@ -1,5 +1,5 @@
 -- Units of UTF-16 by their bytes.
-use Rattle.std.proofs.Common.{◌≡◌, ℕ, zero, suc, ◌+◌, ◌*◌, ◌/◌, ◌<◌, ◌≤◌, Bool, true, false, List, [], ◌∷◌, length, take, drop, get_or, refl, sym, ap, ◌∙◌, arith}
+use Rattle.std.proofs.Common.{◌≡◌, ℕ, zero, suc, ◌+◌, ◌*◌, ◌/◌, ◌<◌, ◌≤◌, Bool, true, List, [], ◌∷◌, length, take, drop, get_or, refl, sym, ap, ◌∙◌, arith}
 use Rattle.std.specs.Prelude.{◌==◌, if◌then◌else◌}
 use Rattle.p8_lexer.specs.Characters.{units, decoded}
 
@@ -36,9 +36,6 @@ units-take (suc n) (low ∷ high ∷ bytes) = rw (double n) (ap (λ us. (if high
 module _ (utf16 : Bool) (bytes text : List ℕ) (view : decoded utf16 bytes ≡ text) where
   pub in_units : utf16 ≡ true → text ≡ units bytes
   in_units u = sym view ∙ ap (λ u. decoded u bytes) u
-
-  pub in_bytes : utf16 ≡ false → text ≡ bytes
-  in_bytes u = sym view ∙ ap (λ u. decoded u bytes) u
 
   pub unit_within : utf16 ≡ true → (i : ℕ) → i < length text → 2 * i + 1 < length bytes
   unit_within u i h = omega (arith, ap length (in_units u), units-length bytes)

@@ -6,7 +6,7 @@ use Rattle.p8_lexer.specs.declared.word.Word.TheVariants as word
 use Rattle.p8_lexer.specs.declared.token.TokenKind.{TokenKind}
 use Rattle.p8_lexer.specs.declared.token.TokenKind.TheVariants as kind
 use Rattle.p8_lexer.specs.Words.{capital, symbols, reserved_words, every_word, is_spelled, first_spelled, word_spelled, word_of_kind}
-use Rattle.p8_grammar.specs.Lexemes.{left_bracket, right_bracket, left_parenthesis, right_parenthesis, comma, colon, dot_dot, hash, name, string, mark, size, method_result, other}
+use Rattle.p8_grammar.specs.Lexemes.{left_bracket, right_bracket, right_parenthesis, comma, colon, dot_dot, hash, name, string, mark, size, method_result, other}
 use Rattle.p8_expr.specs.Words.{between_quotes, lexeme_by_word, lexeme_by_kind, lexeme_of_word}
 use Rattle.p8_lines.specs.Tokens as tokens
 use Rattle.p8_lines.specs.Tokens.{LineToken, lexeme}
@@ -56,10 +56,6 @@ left_bracket_lexeme t h = plain_lexeme t word.LeftBracket refl h
 pub right_bracket_lexeme : (t : LineToken) → tokens.word t ≡ word.RightBracket → lexeme t ≡ mark right_bracket
 unfolding lexeme_of_word
 right_bracket_lexeme t h = plain_lexeme t word.RightBracket refl h
-
-pub left_parenthesis_lexeme : (t : LineToken) → tokens.word t ≡ word.LeftParenthesis → lexeme t ≡ mark left_parenthesis
-unfolding lexeme_of_word
-left_parenthesis_lexeme t h = plain_lexeme t word.LeftParenthesis refl h
 
 pub right_parenthesis_lexeme : (t : LineToken) → tokens.word t ≡ word.RightParenthesis → lexeme t ≡ mark right_parenthesis
 unfolding lexeme_of_word

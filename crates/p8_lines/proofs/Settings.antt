@@ -1,5 +1,5 @@
 -- Where a line's words stand: it stays so along a line, and which words are refused there goes by it.
-use Rattle.std.proofs.Common.{◌≡◌, ◌⊎◌, inl, inr, List, [], Option, Some, None, Bool, true, false, refl, ap, ◌∙◌, subst}
+use Rattle.std.proofs.Common.{◌≡◌, ◌⊎◌, inl, inr, List, Option, Some, None, Bool, true, false, refl, ap, ◌∙◌, subst}
 use Rattle.std.specs.Prelude.{IsTrue}
 use Rattle.p8_lexer.specs.declared.word.Word.{Word}
 use Rattle.p8_lexer.specs.declared.word.Word.TheVariants as word
@@ -174,9 +174,3 @@ behind_good q h us t r s e f =
     sign_good s t x.arrow.sign x.is x.good
 
 -- the end of a line
-
-pub no_phrase_at_end : (choices state.End).phrase ≡ None
-no_phrase_at_end = refl
-
-pub no_arrows_at_end : (choices state.End).arrows ≡ []
-no_arrows_at_end = refl

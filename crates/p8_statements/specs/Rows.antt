@@ -1,5 +1,5 @@
 -- Rows of pieces are read from the left: a part of a row gives what it is, and the rest of the row.
-use Rattle.std.specs.Prelude.{ℕ, Bool, true, false, if◌then◌else◌, List, [], ◌∷◌, Option, None, Some}
+use Rattle.std.specs.Prelude.{Bool, true, false, if◌then◌else◌, List, [], ◌∷◌, Option, None, Some}
 use Rattle.p8_tree.specs.declared.places.Place.{Place}
 use Rattle.p8_tree.specs.Expressions.{Tree}
 use Rattle.p8_lexer.specs.declared.word.Word.{Word}
@@ -20,10 +20,6 @@ Some (x, row) ▶ f = f x row
 -- the next piece, if any, and the rest of the row
 pub data Split : Type 0 where
   Next : Option Piece → List Piece → Split
-
-abbrev pub next_in : List Piece → Split
-next_in [] = Next None []
-next_in (x ∷ row) = Next (Some x) row
 
 -- what a word is to a statement, with its place
 abbrev pub sign : Word → Place → Sign
