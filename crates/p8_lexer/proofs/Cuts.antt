@@ -64,7 +64,6 @@ take_one [] c lt e = absurd (omega arith)
 take_one (x ∷ text) c lt e = ap (λ c. c ∷ []) e
 
 module _ (text : List ℕ) where
-
   ends_at_one : (get_or text 0 0 ≡ 13 → get_or text 1 0 ≡ 10 → ⊥) → (m : ℕ) → 1 < m → m ≤ length text → Is (TokenOf LineEnd) text m → ⊥
   ends_at_one never m above within (inl e) = omega (arith, take_length text m (10 ∷ []) within e)
   ends_at_one never m above within (inr (inl e)) = omega (arith, take_length text m (13 ∷ []) within e)

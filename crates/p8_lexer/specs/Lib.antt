@@ -2,9 +2,10 @@
 pub mod Characters
 pub mod Places
 pub mod Words
+pub mod Meanings
+pub mod Table
 pub mod Lexing
 pub mod Pieces
 pub mod Proper
 -- What only proofs need.
-pub mod Table
 pub mod Cutting

@@ -1,9 +1,10 @@
--- internal: the table of the words as they are looked up.
+-- The table of the words as they are looked up.
 use Rattle.std.specs.Prelude.{ℕ, List, [], ◌∷◌, ◌++◌, map, take, drop, if◌then◌else◌, Option, Some, None}
 use Rattle.std.specs.List.{flat_map}
 use Rattle.std.specs.Borrow.{Bor}
 use Rattle.p8_lexer.specs.declared.word.Word.{Word}
 use Rattle.p8_lexer.specs.declared.word.Word.TheVariants as word
+use Rattle.p8_lexer.specs.declared.meaning.Meaning.{Meaning}
 use Rattle.p8_lexer.specs.Words.{spelling, other_spellings, every_word, same}
 use Rattle.p8_lexer.specs.Lexing.{is_letter}
 
@@ -11,8 +12,11 @@ use Rattle.p8_lexer.specs.Lexing.{is_letter}
 abbrev pub Row : Type 0
 Row = List ℕ × Word
 
--- a row as the code has it
-abbrev pub row_of : Bor (List ℕ) × Word → Row
+-- a row as the code has it, with what its word means
+abbrev pub CodeRow : Type 0
+CodeRow = Bor (List ℕ) × Word × Meaning
+
+abbrev pub row_of : CodeRow → Row
 row_of r = (r.0.now, r.1)
 
 -- the further spellings of a word

@@ -8,7 +8,7 @@ ghost use Rattle.p8_lexer.specs.Table.{row_of, word_in, rows_from};
 
 use crate::characters::Characters;
 use crate::run::is_letter;
-use crate::table::{reserved_rows, symbol_rows};
+use crate::table::{Row, reserved_rows, symbol_rows};
 use crate::token::{Token, TokenKind};
 use crate::word::Word;
 
@@ -40,7 +40,7 @@ pub fn named(text: &Characters) -> Option<Word>
 }
 
 // The rows with the spellings that begin as this character does.
-fn rows_from(first: u8) -> &'static [(&'static str, Word)]
+fn rows_from(first: u8) -> &'static [Row]
     ensures { map row_of result.now ≡ rows_from first }
 {
     if is_letter(first) {
@@ -51,10 +51,10 @@ fn rows_from(first: u8) -> &'static [(&'static str, Word)]
 }
 
 // The word of the first row that is spelled as the characters are.
-fn word_in(rows: &[(&'static str, Word)], text: &Characters) -> Option<Word>
+fn word_in(rows: &[Row], text: &Characters) -> Option<Word>
     ensures { result ≡ word_in (map row_of rows.now) (map capital text.now) }
 {
-    for (spelling, word) in rows {
+    for (spelling, word, _) in rows {
         if is_same(spelling.as_bytes(), text) {
             return Some(*word);
         }

@@ -1,9 +1,11 @@
 // The words of Spin and of Propeller Assembly: what a reader of tokens tells apart.
 
-ghost use Rattle.std.specs.Prelude.{◌≡◌, ◌≢◌, ℕ, Some, MatchOption, slice_get, option_map};
+ghost use Rattle.std.specs.Prelude.{◌≡◌, ◌≢◌, ℕ, Some, MatchOption, slice_get, option_map, map};
 ghost use Rattle.p8_lexer.specs.Words.{spelling, symbols};
+ghost use Rattle.p8_lexer.specs.Meanings.{meaning, first_by, word_by};
 
-use crate::table::{SYMBOL_COUNT, symbol_rows, table};
+use crate::meaning::{Meaning, Sought};
+use crate::table::{Row, SYMBOL_COUNT, symbol_rows, table};
 use std::fmt::{self, Debug, Formatter, Write};
 
 /// What one token is to a reader of Spin: a symbol, a reserved word, or one of five kinds.
@@ -539,16 +541,42 @@ pub enum Word {
 }
 
 // The word of the row of this number.
-fn word_at(rows: &[(&'static str, Word)], number: u8) -> Option<Word>
+fn word_at(rows: &[Row], number: u8) -> Option<Word>
     ensures { result ≡ option_map (λ row. row.1) (slice_get rows.now number) }
 {
     match rows.get(usize::from(number)).copied() {
-        Some((_, word)) => Some(word),
+        Some((_, word, _)) => Some(word),
         None => None,
     }
 }
 
+// The first word of these rows that is sought so.
+fn first_by(rows: &[Row], sought: Sought) -> Option<Word>
+    ensures { result ≡ first_by sought (map (λ row. row.1) rows.now) }
+{
+    for (_, word, _) in rows {
+        if sought.finds(word.meaning()) {
+            return Some(*word);
+        }
+    }
+    None
+}
+
 impl Word {
+    /// What this word means.
+    pub fn meaning(self) -> Meaning
+        ensures { result ≡ meaning self }
+    {
+        table()[self as usize].2
+    }
+
+    /// The word that a number of a tree stands for; None where there is none.
+    pub fn by(sought: Sought) -> Option<Word>
+        ensures { result ≡ word_by sought }
+    {
+        first_by(table(), sought)
+    }
+
     /// How this symbol or reserved word is spelled, in capitals; empty where it's neither.
     ///
     /// A condition has further spellings, which read as the same word.
