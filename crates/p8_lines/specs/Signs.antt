@@ -2,114 +2,48 @@
 use Rattle.std.specs.Prelude.{◌≡◌, ℕ, ◌<◌, Bool, true, false, IsTrue}
 use Rattle.p8_lexer.specs.declared.word.Word.{Word}
 use Rattle.p8_lexer.specs.declared.word.Word.TheVariants as word
+use Rattle.p8_lexer.specs.declared.meaning.Meaning.{Meaning}
+use Rattle.p8_lexer.specs.declared.meaning.Meaning.TheVariants as meant
+use Rattle.p8_lexer.specs.Meanings.{meaning}
 use Rattle.p8_lines.specs.declared.sign.Sign.{Sign}
 use Rattle.p8_lines.specs.declared.sign.Sign.TheVariants as sign
 
 -- BYTE, WORD and LONG
 abbrev pub is_size : Word → Bool
-is_size word.ByteSize = true
-is_size word.WordSize = true
-is_size word.LongSize = true
-is_size _ = false
+is_size w = sized (meaning w)
+  where
+    sized : Meaning → Bool
+    sized (meant.Size bytes) = true
+    sized _ = false
 
 -- the conditions of an instruction
 abbrev pub is_condition : Word → Bool
-is_condition word.IfAlways = true
-is_condition word.IfNever = true
-is_condition word.IfE = true
-is_condition word.IfNe = true
-is_condition word.IfA = true
-is_condition word.IfB = true
-is_condition word.IfAe = true
-is_condition word.IfBe = true
-is_condition word.IfNcAndZ = true
-is_condition word.IfCAndNz = true
-is_condition word.IfCAndZ = true
-is_condition word.IfCEqZ = true
-is_condition word.IfCNeZ = true
-is_condition word.IfCOrNz = true
-is_condition word.IfNcOrZ = true
-is_condition word.IfNcOrNz = true
-is_condition _ = false
+is_condition w = conditional (meaning w)
+  where
+    conditional : Meaning → Bool
+    conditional (meant.Condition bits) = true
+    conditional _ = false
 
 -- the instructions with a destination and a source, but for those on main memory
 abbrev pub takes_two : Word → Bool
-takes_two word.Hubop = true
-takes_two word.Mul = true
-takes_two word.Muls = true
-takes_two word.Enc = true
-takes_two word.Ones = true
-takes_two word.Ror = true
-takes_two word.Rol = true
-takes_two word.Shr = true
-takes_two word.Shl = true
-takes_two word.Rcr = true
-takes_two word.Rcl = true
-takes_two word.Sar = true
-takes_two word.Rev = true
-takes_two word.Mins = true
-takes_two word.Maxs = true
-takes_two word.Min = true
-takes_two word.Max = true
-takes_two word.Movs = true
-takes_two word.Movd = true
-takes_two word.Movi = true
-takes_two word.Jmpret = true
 takes_two word.And = true
-takes_two word.Andn = true
 takes_two word.Or = true
-takes_two word.Xor = true
-takes_two word.Muxc = true
-takes_two word.Muxnc = true
-takes_two word.Muxz = true
-takes_two word.Muxnz = true
-takes_two word.Add = true
-takes_two word.Sub = true
-takes_two word.Addabs = true
-takes_two word.Subabs = true
-takes_two word.Sumc = true
-takes_two word.Sumnc = true
-takes_two word.Sumz = true
-takes_two word.Sumnz = true
-takes_two word.Mov = true
-takes_two word.Neg = true
-takes_two word.Abs = true
-takes_two word.Absneg = true
-takes_two word.Negc = true
-takes_two word.Negnc = true
-takes_two word.Negz = true
-takes_two word.Negnz = true
-takes_two word.Cmps = true
-takes_two word.Cmpsx = true
-takes_two word.Addx = true
-takes_two word.Subx = true
-takes_two word.Adds = true
-takes_two word.Subs = true
-takes_two word.Addsx = true
-takes_two word.Subsx = true
-takes_two word.Cmpsub = true
-takes_two word.Djnz = true
-takes_two word.Tjnz = true
-takes_two word.Tjz = true
-takes_two word.Test = true
-takes_two word.Testn = true
-takes_two word.Cmp = true
-takes_two word.Cmpx = true
 takes_two word.Waitpeq = true
 takes_two word.Waitpne = true
 takes_two word.Waitcnt = true
-takes_two word.Waitvid = true
-takes_two _ = false
+takes_two w = with_two (meaning w)
+  where
+    with_two : Meaning → Bool
+    with_two meant.TwoOperands = true
+    with_two _ = false
 
 -- the instructions on main memory
 abbrev pub is_on_memory : Word → Bool
-is_on_memory word.Rdbyte = true
-is_on_memory word.Rdword = true
-is_on_memory word.Rdlong = true
-is_on_memory word.Wrbyte = true
-is_on_memory word.Wrword = true
-is_on_memory word.Wrlong = true
-is_on_memory _ = false
+is_on_memory w = reaches_memory (meaning w)
+  where
+    reaches_memory : Meaning → Bool
+    reaches_memory meant.OnMemory = true
+    reaches_memory _ = false
 
 -- the instructions with a destination alone
 abbrev pub takes_one : Word → Bool
