@@ -4,6 +4,9 @@ use Rattle.p8_tree.specs.declared.places.Place.{Place}
 use Rattle.p8_tree.specs.Expressions.{Tree}
 use Rattle.p8_lexer.specs.declared.word.Word.{Word}
 use Rattle.p8_lexer.specs.declared.word.Word.TheVariants as word
+use Rattle.p8_lexer.specs.declared.meaning.Meaning.{Meaning}
+use Rattle.p8_lexer.specs.declared.meaning.Meaning.TheVariants as meant
+use Rattle.p8_lexer.specs.Meanings.{meaning}
 use Rattle.p8_lexer.specs.Pieces as pieces
 use Rattle.p8_lexer.specs.Pieces.{Piece}
 
@@ -31,6 +34,12 @@ pub data Part : Type 0 where
   text : List ℕ → Place → Part
   tree : Tree → Place → Part
 
+-- a condition, an effect, or another word, by what it means
+abbrev pub part_of_meaning : Meaning → Word → Place → Part
+part_of_meaning (meant.Condition bits) w p = condition bits
+part_of_meaning (meant.Effect bit) w p = effect bit
+part_of_meaning m w p = other w p
+
 -- what a word is
 unfoldable pub part_of_word : Word → Place → Part
 part_of_word word.LineEnd p = line_end
@@ -45,28 +54,8 @@ part_of_word word.LongSize p = size 4 p
 part_of_word word.Org p = org p
 part_of_word word.Res p = res p
 part_of_word word.Fit p = fit p
-part_of_word word.IfAlways p = condition 15
-part_of_word word.IfNever p = condition 0
-part_of_word word.IfE p = condition 10
-part_of_word word.IfNe p = condition 5
-part_of_word word.IfA p = condition 1
-part_of_word word.IfB p = condition 12
-part_of_word word.IfAe p = condition 3
-part_of_word word.IfBe p = condition 14
-part_of_word word.IfNcAndZ p = condition 2
-part_of_word word.IfCAndNz p = condition 4
-part_of_word word.IfCAndZ p = condition 8
-part_of_word word.IfCEqZ p = condition 9
-part_of_word word.IfCNeZ p = condition 6
-part_of_word word.IfCOrNz p = condition 13
-part_of_word word.IfNcOrZ p = condition 11
-part_of_word word.IfNcOrNz p = condition 7
-part_of_word word.Wz p = effect 1
-part_of_word word.Wc p = effect 2
-part_of_word word.Wr p = effect 4
-part_of_word word.Nr p = effect 8
 part_of_word word.Jmp p = jump p
-part_of_word w p = other w p
+part_of_word w p = part_of_meaning (meaning w) w p
 
 abbrev pub part_of_piece : Piece → Part
 part_of_piece (pieces.word w p) = part_of_word w p

@@ -4,7 +4,7 @@ ghost use Rattle.p8_lexer.specs.Pieces.{piece_of};
 ghost use Rattle.p8_declarations.specs.DataParts.{part_of_word, part_of_piece, place_of};
 ghost use Rattle.p8_declarations.specs.DataViews.{part_of};
 
-use p8_lexer::{Piece, Word};
+use p8_lexer::{Meaning, Piece, Word};
 use p8_tree::{Expr, Place, Text};
 
 // A part of a line of DAT.
@@ -52,28 +52,12 @@ fn part_of_word(word: Word, place: Place) -> Part
         Word::Org => Part::Org(place),
         Word::Res => Part::Res(place),
         Word::Fit => Part::Fit(place),
-        Word::IfAlways => Part::Condition(15),
-        Word::IfNever => Part::Condition(0),
-        Word::IfE => Part::Condition(10),
-        Word::IfNe => Part::Condition(5),
-        Word::IfA => Part::Condition(1),
-        Word::IfB => Part::Condition(12),
-        Word::IfAe => Part::Condition(3),
-        Word::IfBe => Part::Condition(14),
-        Word::IfNcAndZ => Part::Condition(2),
-        Word::IfCAndNz => Part::Condition(4),
-        Word::IfCAndZ => Part::Condition(8),
-        Word::IfCEqZ => Part::Condition(9),
-        Word::IfCNeZ => Part::Condition(6),
-        Word::IfCOrNz => Part::Condition(13),
-        Word::IfNcOrZ => Part::Condition(11),
-        Word::IfNcOrNz => Part::Condition(7),
-        Word::Wz => Part::Effect(1),
-        Word::Wc => Part::Effect(2),
-        Word::Wr => Part::Effect(4),
-        Word::Nr => Part::Effect(8),
         Word::Jmp => Part::Jump(place),
-        _ => Part::Other(word, place),
+        _ => match word.meaning() {
+            Meaning::Condition(bits) => Part::Condition(bits),
+            Meaning::Effect(bit) => Part::Effect(bit),
+            _ => Part::Other(word, place),
+        },
     }
 }
 
