@@ -4,9 +4,10 @@ use Rattle.p8_tree.specs.Expressions.{Tree}
 use Rattle.p8_tree.specs.Sources.{Datum, Instruction, Contents, Nothing, Data, Org, Res, Fit, Instr, Line}
 use Rattle.p8_lexer.specs.declared.word.Word.{Word}
 use Rattle.p8_lexer.specs.declared.word.Word.TheVariants as word
+use Rattle.p8_lexer.specs.declared.meaning.Sought.TheVariants as sought
 use Rattle.p8_lexer.specs.Words.{word_spelled, spelling, same}
 use Rattle.p8_print.specs.Spelled.{Spelled, reserved}
-use Rattle.p8_print.specs.Tables.{beside, size_word}
+use Rattle.p8_print.specs.Tables.{word_for, size_word}
 use Rattle.p8_print.specs.Wording.{words_of, words_of_name, wrapped, words_of_count, words_of_value}
 
 -- a label, if there is one
@@ -32,28 +33,9 @@ abbrev pub words_of_data : List Datum → List Spelled
 words_of_data [] = []
 words_of_data (x ∷ xs) = words_of_datum x ++ more_data xs
 
--- the conditions but for that of each instruction that has no word for it
-unfoldable pub conditions : List (ℕ × Word)
-conditions =
-    (0, word.IfNever) ∷
-    (1, word.IfA) ∷
-    (2, word.IfNcAndZ) ∷
-    (3, word.IfAe) ∷
-    (4, word.IfCAndNz) ∷
-    (5, word.IfNe) ∷
-    (6, word.IfCNeZ) ∷
-    (7, word.IfNcOrNz) ∷
-    (8, word.IfCAndZ) ∷
-    (9, word.IfCEqZ) ∷
-    (10, word.IfE) ∷
-    (11, word.IfNcOrZ) ∷
-    (12, word.IfB) ∷
-    (13, word.IfCOrNz) ∷
-    (14, word.IfBe) ∷
-    []
-
+-- the word of a condition, but for that of each instruction that has no word for it
 abbrev pub words_of_condition : ℕ → List Spelled
-words_of_condition c = if c == 15 then [] else reserved (beside c conditions) ∷ []
+words_of_condition c = if c == 15 then [] else reserved (word_for (sought.Condition c)) ∷ []
 
 -- the word of an instruction
 abbrev pub instruction_word : List ℕ → Word

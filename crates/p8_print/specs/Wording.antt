@@ -6,7 +6,7 @@ use Rattle.p8_lexer.specs.Words.{same}
 use Rattle.p8_grammar.specs.Grammar.{result_name}
 use Rattle.p8_tree.specs.Expressions.{Tree, node, Form, Number, Str, Here, Var, Call, Unary, Binary, Assign, Change, Address, ObjectAddress, ObjConst, Built, Look, Variable, Named, Part, Memory, Register, Index, no_index, index, Bits, whole, bits, Item, single, range, Trees, no_trees, ◌▷◌, Items, no_items, ◌▸◌}
 use Rattle.p8_print.specs.Spelled.{Spelled, reserved, name, number, string}
-use Rattle.p8_print.specs.Tables.{beside, assignments, is_boolean, operator_word, change_word, is_behind, size_word, register_word, built_word}
+use Rattle.p8_print.specs.Tables.{assignment_word, is_boolean, operator_word, change_word, is_behind, size_word, register_word, built_word}
 
 abbrev pub is_number : Tree → Bool
 is_number (node p (Number n)) = true
@@ -40,7 +40,7 @@ change_with effect words = if is_behind effect then words ++ reserved (change_wo
 -- the words of an assignment, by an operator or without one
 abbrev pub words_of_assignment : Option ℕ → List Spelled
 words_of_assignment None = reserved word.Assign ∷ []
-words_of_assignment (Some k) = if is_boolean k then reserved (operator_word k) ∷ reserved word.EqualSign ∷ [] else reserved (beside k assignments) ∷ []
+words_of_assignment (Some k) = if is_boolean k then reserved (operator_word k) ∷ reserved word.EqualSign ∷ [] else reserved (assignment_word k) ∷ []
 
 abbrev mutual
   pub words_of : Tree → List Spelled

@@ -8,9 +8,9 @@ ghost use Rattle.p8_print.specs.DataWords.{words_of_label, words_of_size, words_
 use crate::expressions::{write_count, write_enclosed, write_value};
 use crate::instructions::write_instruction;
 use crate::script::Script;
-use crate::tables::size_word;
+use crate::tables::word_for;
 use crate::words::{write_variable_name, write_word};
-use p8_lexer::Word;
+use p8_lexer::{Sought, Word};
 use p8_tree::{DatBody, DatItem, DatLine, Text};
 use p8_words::NoMemory;
 use std::alloc::Global;
@@ -42,7 +42,7 @@ fn write_body(alloc: Global, script: &mut Script, body: &DatBody) -> Result<(), 
     match body {
         DatBody::Nothing => Ok(()),
         DatBody::Data(size, items) => {
-            write_word(script, size_word(*size))?;
+            write_word(script, word_for(Sought::Size(*size)))?;
             write_data(alloc, script, items.as_slice())
         }
         DatBody::Org(value) => {
@@ -98,6 +98,6 @@ fn write_size(script: &mut Script, size: Option<u8>) -> Result<(), NoMemory>
 {
     match size {
         None => Ok(()),
-        Some(size) => write_word(script, size_word(size)),
+        Some(size) => write_word(script, word_for(Sought::Size(size))),
     }
 }

@@ -7,9 +7,9 @@ ghost use Rattle.p8_print.specs.DeclarationWords.{words_of_setting, words_of_con
 
 use crate::expressions::{write_count, write_enclosed};
 use crate::script::Script;
-use crate::tables::size_word;
+use crate::tables::word_for;
 use crate::words::{write_name, write_text, write_word};
-use p8_lexer::Word;
+use p8_lexer::{Sought, Word};
 use p8_tree::{ConItem, Expr, Method, ObjItem, Text, VarItem};
 use p8_words::NoMemory;
 use std::alloc::Global;
@@ -56,7 +56,7 @@ pub(crate) fn write_variable(
 ) -> Result<(), NoMemory>
     ensures { OnOk result (script.new ≡ script.old ++ text_of_words (words_of_variable (declared_of item.now))) }
 {
-    write_word(script, size_word(item.size))?;
+    write_word(script, word_for(Sought::Size(item.size)))?;
     write_name_and_count(alloc, script, item)
 }
 

@@ -11,15 +11,12 @@ ghost use Rattle.p8_print.specs.Tables.{built_word};
 ghost use Rattle.p8_print.specs.Writing.{boxed_bits, word_before};
 
 use crate::script::Script;
-use crate::tables::{
-    assignment_word, built_word, change_word, is_behind, is_boolean, operator_word, register_word,
-    size_word,
-};
+use crate::tables::{change_word, is_behind, is_boolean, operator_word, word_for};
 use crate::words::{
     write_constant, write_name, write_number, write_separator, write_string, write_variable_name,
     write_word,
 };
-use p8_lexer::Word;
+use p8_lexer::{Sought, Word};
 use p8_tree::{Call, Expr, ExprKind, Item, Target, Text};
 use p8_words::NoMemory;
 use std::alloc::Global;
@@ -147,7 +144,7 @@ pub(crate) fn write_expr(alloc: Global, script: &mut Script, expr: &Expr) -> Res
         ExprKind::ObjectAddress(offset) => write_prefixed(alloc, script, Word::AtAt, offset),
         ExprKind::ObjConst(object, name, _) => write_constant(script, object, name),
         ExprKind::Built(code, arguments) => {
-            write_word(script, built_word(*code))?;
+            write_word(script, word_for(Sought::BuiltIn(*code)))?;
             write_arguments(alloc, script, arguments)
         }
         ExprKind::Look(code, value, items) => {
@@ -170,16 +167,16 @@ fn write_variable(alloc: Global, script: &mut Script, variable: &Target) -> Resu
         Target::Part(name, size, index, _) => {
             write_variable_name(alloc, script, name)?;
             write_word(script, Word::Dot)?;
-            write_word(script, size_word(*size))?;
+            write_word(script, word_for(Sought::Size(*size)))?;
             write_index(alloc, script, index)
         }
         Target::Memory(size, address, index, _) => {
-            write_word(script, size_word(*size))?;
+            write_word(script, word_for(Sought::Size(*size)))?;
             write_bracketed(alloc, script, address)?;
             write_index(alloc, script, index)
         }
         Target::Register(address, bits, _) => {
-            write_word(script, register_word(*address))?;
+            write_word(script, word_for(Sought::Register(*address)))?;
             write_bits(alloc, script, bits)
         }
     }
@@ -282,7 +279,7 @@ fn write_assignment(script: &mut Script, operator: Option<u8>) -> Result<(), NoM
         write_word(script, operator_word(operator))?;
         write_word(script, Word::EqualSign)
     } else {
-        write_word(script, assignment_word(operator))
+        write_word(script, word_for(Sought::Assignment(operator)))
     }
 }
 
@@ -343,7 +340,7 @@ fn write_looked_for(
 ) -> Result<(), NoMemory>
     ensures { OnOk result (script.new ≡ script.old ++ text_of_words (reserved (built_word code) ∷ reserved word_case.LeftParenthesis ∷ (words_of (tree_of value.now) ++ reserved word_case.Colon ∷ []))) }
 {
-    write_word(script, built_word(code))?;
+    write_word(script, word_for(Sought::BuiltIn(code)))?;
     write_word(script, Word::LeftParenthesis)?;
     write_expr(alloc, script, value)?;
     write_word(script, Word::Colon)

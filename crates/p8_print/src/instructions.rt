@@ -3,13 +3,13 @@
 ghost use Rattle.std.specs.Prelude.{◌≡◌, ◌++◌, OnOk};
 ghost use Rattle.p8_tree.specs.Views.{tree_of, instruction_of};
 ghost use Rattle.p8_print.specs.Spelled.{text_of_words};
-ghost use Rattle.p8_print.specs.Tables.{beside};
-ghost use Rattle.p8_print.specs.DataWords.{conditions, words_of_condition, instruction_word, is_call, source_with, words_of_operands, words_of_effect, words_of_effects, words_of_instruction};
+ghost use Rattle.p8_print.specs.DataWords.{words_of_condition, instruction_word, is_call, source_with, words_of_operands, words_of_effect, words_of_effects, words_of_instruction};
 
 use crate::expressions::{write_enclosed, write_expr};
 use crate::script::Script;
+use crate::tables::word_for;
 use crate::words::write_word;
-use p8_lexer::{Characters, Word, named};
+use p8_lexer::{Characters, Sought, Word, named};
 use p8_tree::{Expr, InstrLine, Text};
 use p8_words::NoMemory;
 use std::alloc::Global;
@@ -35,33 +35,7 @@ fn write_condition(script: &mut Script, cond: u8) -> Result<(), NoMemory>
     if cond == 15 {
         Ok(())
     } else {
-        write_word(script, condition_word(cond))
-    }
-}
-
-// The word of a condition that has one.
-#[tactic(auto, unfolding(crate::specs::DataWords::conditions))]
-fn condition_word(cond: u8) -> Word
-    ensures { result ≡ beside cond conditions }
-{
-    match cond {
-        0 => Word::IfNever,
-        1 => Word::IfA,
-        2 => Word::IfNcAndZ,
-        3 => Word::IfAe,
-        4 => Word::IfCAndNz,
-        5 => Word::IfNe,
-        6 => Word::IfCNeZ,
-        7 => Word::IfNcOrNz,
-        8 => Word::IfCAndZ,
-        9 => Word::IfCEqZ,
-        10 => Word::IfE,
-        11 => Word::IfNcOrZ,
-        12 => Word::IfB,
-        13 => Word::IfCOrNz,
-        14 => Word::IfBe,
-        // No other number has a word.
-        _ => Word::Plus,
+        write_word(script, word_for(Sought::Condition(cond)))
     }
 }
 

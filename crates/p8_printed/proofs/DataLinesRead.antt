@@ -6,6 +6,9 @@ use Rattle.p8_tree.specs.Expressions.{Tree}
 use Rattle.p8_tree.specs.Forgetting.{anywhere, tree_anywhere, contents_anywhere, line_anywhere}
 use Rattle.p8_tree.specs.Sources.{Instruction, Contents, Nothing, Data, Org, Res, Fit, Instr, Line}
 use Rattle.p8_lexer.specs.declared.word.Word.{Word}
+use Rattle.p8_lexer.specs.Words.{symbols, reserved_words, every_word}
+use Rattle.p8_lexer.specs.Meanings.{word_by}
+use Rattle.p8_lexer.specs.Table.{rows}
 use Rattle.p8_lexer.specs.declared.word.Word.TheVariants as word
 use Rattle.p8_grammar.specs.Lexemes.{in_dat}
 use Rattle.p8_lexer.specs.Pieces.{Piece}
@@ -21,14 +24,13 @@ use Rattle.p8_declarations.specs.DataParts.{Part, tree, colon, name, size, org, 
 use Rattle.p8_declarations.specs.Lines.{value, filled, instruction, body, blank, maybe_line, line_of_row}
 use Rattle.p8_print.specs.Spelled as spelled
 use Rattle.p8_print.specs.Spelled.{Spelled, reserved}
-use Rattle.p8_print.specs.Tables.{size_word, sizes}
+use Rattle.p8_print.specs.Tables.{size_word}
 use Rattle.p8_print.specs.Wording.{words_of_name, words_of_value}
 use Rattle.p8_printed.specs.Rereading.{AreSpelled}
-use Rattle.p8_print.specs.DataWords.{conditions, words_of_condition, instruction_word, words_of_operands, words_of_effects, words_of_instruction, words_of_contents, words_of_line}
+use Rattle.p8_print.specs.DataWords.{words_of_condition, instruction_word, words_of_operands, words_of_effects, words_of_instruction, words_of_contents, words_of_line}
 use Rattle.p8_printed.proofs.Readings.{IsRead, IsSize, byte_size, word_size, long_size}
 use Rattle.p8_printed.proofs.Made.{IfThere, IsLabel, plain, behind_colon, condition_number, IsCondition, a_condition, no_condition, IsInstruction, two, on_memory, one, jump, call, return, nothing, IsContents, of_data, of_org, of_res, of_fit, of_instruction, IsLine, label_alone, with_contents}
-use Rattle.p8_printed.proofs.DataParts.{plain_part}
-use Rattle.p8_printed.proofs.DataReading.{condition_part}
+use Rattle.p8_blocks.proofs.DataWords.{plain_part, condition_part}
 use Rattle.p8_printed.proofs.DataNames.{part_of_name, name_words}
 use Rattle.p8_printed.proofs.Going.{AreEnded, ended, Leading, Going, by_arrow, on, at_end, so, tree_read, behind_tree}
 use Rattle.p8_printed.proofs.Operands.{colon_part}
@@ -71,7 +73,7 @@ condition_of (return k ef) = k
 condition_of (nothing k) = k
 
 pub condition_words : (w : Word) → IsTrue (is_condition w) → ((words_of_condition (condition_number w) ≡ []) × (condition_number w ≡ 15)) ⊎ (words_of_condition (condition_number w) ≡ reserved w ∷ [])
-unfolding conditions part_of_word condition_number
+unfolding part_of_word condition_number word_by rows every_word symbols reserved_words
 condition_words word.IfAlways h = inl (refl, refl)
 condition_words word.IfNever h = inr refl
 condition_words word.IfE h = inr refl
@@ -119,7 +121,7 @@ conditions_line word.IfNcOrNz n h = refl
 conditions_line w n h = absurd cc
 
 sizes_line : (n m : ℕ) → IsSize n → target (choices state.DatLine).arrows (size_word n) m ≡ Some state.FirstData
-unfolding sizes
+unfolding word_by rows every_word symbols reserved_words
 sizes_line n m byte_size = refl
 sizes_line n m word_size = refl
 sizes_line n m long_size = refl
@@ -147,7 +149,7 @@ conditions_body word.IfNcOrNz n h = refl
 conditions_body w n h = absurd cc
 
 sizes_body : (n m : ℕ) → IsSize n → target (choices state.DatBody).arrows (size_word n) m ≡ Some state.FirstData
-unfolding sizes
+unfolding word_by rows every_word symbols reserved_words
 sizes_body n m byte_size = refl
 sizes_body n m word_size = refl
 sizes_body n m long_size = refl

@@ -6,12 +6,14 @@ use Rattle.p8_tree.specs.Expressions.{Tree}
 use Rattle.p8_tree.specs.Sources.{Datum, Instruction, Contents, Line}
 use Rattle.p8_lexer.specs.declared.word.Word.{Word}
 use Rattle.p8_lexer.specs.declared.word.Word.TheVariants as word
-use Rattle.p8_lexer.specs.Words.{spelling}
+use Rattle.p8_lexer.specs.Words.{spelling, symbols, reserved_words, every_word}
+use Rattle.p8_lexer.specs.Meanings.{word_by}
+use Rattle.p8_lexer.specs.Table.{rows}
 use Rattle.p8_grammar.specs.Lexemes.{Setting, in_dat}
 use Rattle.p8_lines.specs.Signs.{is_condition, takes_two, is_on_memory, takes_one}
 use Rattle.p8_print.specs.Spelled as spelled
 use Rattle.p8_print.specs.Spelled.{Spelled, reserved, is_free}
-use Rattle.p8_print.specs.Tables.{size_word, sizes}
+use Rattle.p8_print.specs.Tables.{size_word}
 use Rattle.p8_print.specs.Wording.{words_of_name, wrapped, words_of_count, words_of_value}
 use Rattle.p8_print.specs.DataWords.{words_of_label, words_of_size, words_of_datum, more_data, words_of_data, words_of_condition, instruction_word, is_call, source_with, words_of_operands, words_of_effects, words_of_contents, words_of_line}
 use Rattle.p8_printed.proofs.Readings.{IsRead, IsName, IsSize, byte_size, word_size, long_size}
@@ -22,7 +24,7 @@ use Rattle.p8_printed.proofs.InstructionsRead.{suiting, two_suits, memory_suits,
 use Rattle.p8_printed.proofs.DataLinesRead.{condition_of, condition_words}
 
 size_not_free : (n : ℕ) → IsSize n → is_free (size_word n) ≡ false
-unfolding sizes
+unfolding word_by rows every_word symbols reserved_words
 size_not_free n byte_size = refl
 size_not_free n word_size = refl
 size_not_free n long_size = refl

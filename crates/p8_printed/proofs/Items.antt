@@ -5,6 +5,9 @@ use Rattle.p8_tree.specs.Expressions.{Tree}
 use Rattle.p8_tree.specs.Forgetting.{IsSameTree, tree_anywhere, datum_anywhere}
 use Rattle.p8_tree.specs.Sources.{Datum}
 use Rattle.p8_lexer.specs.declared.word.Word.TheVariants as word
+use Rattle.p8_lexer.specs.Words.{symbols, reserved_words, every_word}
+use Rattle.p8_lexer.specs.Meanings.{word_by}
+use Rattle.p8_lexer.specs.Table.{rows}
 use Rattle.p8_grammar.specs.Lexemes.{in_dat, in_data_item}
 use Rattle.p8_lines.specs.declared.arrow.Arrow.{Arrow}
 use Rattle.p8_lines.specs.declared.state.State.{State}
@@ -16,12 +19,12 @@ use Rattle.p8_lines.proofs.Matching.{target}
 use Rattle.p8_declarations.specs.DataParts.{Part, tree, comma, left_bracket, right_bracket, size, part_of_word, part_of_piece}
 use Rattle.p8_declarations.specs.Lines.{Stage, before, behind, open_bracket, counted, over, datum, items, all_items}
 use Rattle.p8_print.specs.Spelled.{reserved}
-use Rattle.p8_print.specs.Tables.{size_word, sizes}
+use Rattle.p8_print.specs.Tables.{size_word}
 use Rattle.p8_print.specs.Wording.{wrapped, words_of_count}
 use Rattle.p8_print.specs.DataWords.{words_of_datum, more_data, words_of_data}
 use Rattle.p8_printed.proofs.Readings.{IsRead, IsSize, byte_size, word_size, long_size}
 use Rattle.p8_printed.proofs.Made.{IfThere, IsDatum, AreData}
-use Rattle.p8_printed.proofs.DataParts.{plain_part}
+use Rattle.p8_blocks.proofs.DataWords.{plain_part}
 use Rattle.p8_printed.proofs.Going.{AreEnded, Leading, Going, by_arrow, on, at_end, so, tree_read, behind_tree}
 use Rattle.p8_printed.proofs.Operands.{comma_part}
 
@@ -34,7 +37,7 @@ unfolding part_of_word
 right_bracket_part t m = plain_part t word.RightBracket refl m
 
 pub size_part : (n : ℕ) (t : LineToken) → IsSize n → tokens.word t ≡ size_word n → part_of_piece (piece t) ≡ size n t.place
-unfolding sizes part_of_word
+unfolding part_of_word word_by rows every_word symbols reserved_words
 size_part n t byte_size m = plain_part t word.ByteSize refl m
 size_part n t word_size m = plain_part t word.WordSize refl m
 size_part n t long_size m = plain_part t word.LongSize refl m
@@ -133,13 +136,13 @@ item_read q some goes (Some n) v c xs is more (t ∷ ts) are =
     (λ ps k. record { given = k; whole = refl }))
 
 size_in_data : (n m : ℕ) → IsSize n → target (choices state.Data).arrows (size_word n) m ≡ Some state.DataValue
-unfolding sizes
+unfolding word_by rows every_word symbols reserved_words
 size_in_data n m byte_size = refl
 size_in_data n m word_size = refl
 size_in_data n m long_size = refl
 
 size_first : (n m : ℕ) → IsSize n → target (choices state.FirstData).arrows (size_word n) m ≡ Some state.DataValue
-unfolding sizes
+unfolding word_by rows every_word symbols reserved_words
 size_first n m byte_size = refl
 size_first n m word_size = refl
 size_first n m long_size = refl

@@ -3,6 +3,9 @@ use Rattle.std.proofs.Common.{◌≡◌, ℕ, suc, ◌+◌, ◌*◌, ◌<◌, �
 use Rattle.std.specs.Prelude.{if◌then◌else◌, IsTrue, All}
 use Rattle.std.proofs.lemmas.List.Elements.{All-nil, All-cons, All-head, All-tail, All-append}
 use Rattle.p8_lexer.specs.declared.word.Word.TheVariants as word_case
+use Rattle.p8_lexer.specs.Words.{symbols, reserved_words, every_word}
+use Rattle.p8_lexer.specs.Meanings.{word_by}
+use Rattle.p8_lexer.specs.Table.{rows}
 use Rattle.p8_tree.specs.declared.places.Place.{Place}
 use Rattle.p8_tree.specs.Expressions.{Tree, node, Number, Unary, Binary, Assign, ObjectAddress, Variable, Named, no_index, no_trees, ◌▷◌}
 use Rattle.p8_tree.specs.Forgetting.{anywhere, IsSameTree}
@@ -12,12 +15,12 @@ use Rattle.p8_grammar.specs.Heights.{height}
 use Rattle.p8_grammar.proofs.FormsStand.{inside_value, behind_value}
 use Rattle.p8_print.specs.Spelled as spelled
 use Rattle.p8_print.specs.Spelled.{Spelled, reserved}
-use Rattle.p8_print.specs.Tables.{operator_word, change_word, built_ins, built_word}
+use Rattle.p8_print.specs.Tables.{operator_word, change_word, built_word}
 use Rattle.p8_print.specs.Wording.{is_number, operand_with, change_with, words_of_assignment, words_of, words_of_variable, choices_before, wrapped}
 use Rattle.p8_grammar.specs.Proper.{lexeme_in}
 use Rattle.p8_expr.specs.Sources.{IsLexeme, AreLexemes}
 use Rattle.p8_printed.specs.Lexemes.{lexeme_of_spelled, AreWords}
-use Rattle.p8_printed.proofs.TableWords.{IsPrinted, mark_word, spelled_of, Prints, mark_prints, prints, infix_prints, prefix_operator, prefix_prints, boolean_prints, boolean_number, no_boolean, assignment_word, assignment_prints, change_parts, change_word_same, stands_alone}
+use Rattle.p8_printed.proofs.TableWords.{IsPrinted, mark_word, spelled_of, Prints, mark_prints, prints, infix_prints, prefix_operator, prefix_prints, boolean_prints, boolean_number, no_boolean, assigning_word, assignment_prints, change_parts, change_word_same, stands_alone}
 use Rattle.p8_printed.proofs.Alike.{Alike, alike_begin, alike_word, alike_upto, Fits, value_too, VariablesAs, variables_as, forms_as}
 use Rattle.p8_printed.proofs.WordTokens.{none_left, first_word, split_words, last_word, all_left, all_right, all_same}
 use Rattle.p8_printed.proofs.Heights.{same_height}
@@ -195,7 +198,7 @@ abbrev look_words : ℕ → Tree → List Spelled → List Spelled
 look_words k x ws = reserved (built_word k) ∷ reserved word_case.LeftParenthesis ∷ (words_of x ++ reserved word_case.Colon ∷ ws)
 
 pub form_printed : {s : Setting} {e : Tree} {row : Row} → Forms s e row → GoodRow s row → Printed s e
-unfolding built_ins
+unfolding word_by rows every_word symbols reserved_words
 form_printed (a_number v) g = plainly (a_number v) g refl
 form_printed {s = s} (a_character {c = c} {p = p} v) (good_word g h) = number_printed s p c v (small_character c h)
 form_printed (the_place d) g = plainly (the_place d) g refl
@@ -321,15 +324,15 @@ record Operator (o : Option ℕ) : Type 0 where
   back : (s : Setting) (x : Access) (us : List Token) (rest : List Spelled) → IsTrue (is_written x) → AreWords us (words_of_assignment o ++ rest) → Operated s o x us rest
 
 -- in one word
-one_word : (o : Option ℕ) → IsLexeme (assigns o) → words_of_assignment o ≡ reserved (assignment_word o) ∷ []
+one_word : (o : Option ℕ) → IsLexeme (assigns o) → words_of_assignment o ≡ reserved (assigning_word o) ∷ []
 one_word None h = refl
-one_word (Some k) h = ap (λ b. if b then reserved (operator_word k) ∷ reserved word_case.EqualSign ∷ [] else reserved (assignment_word (Some k)) ∷ []) (no_boolean k h)
+one_word (Some k) h = ap (λ b. if b then reserved (operator_word k) ∷ reserved word_case.EqualSign ∷ [] else reserved (assigning_word (Some k)) ∷ []) (no_boolean k h)
 
 operates : (o : Option ℕ) → IsLexeme (assigns o) → Operator o
 operates o good = record {
-  words = all_same IsPrinted (one_word o good) (one_printed (reserved (assignment_word o)) print.printed);
+  words = all_same IsPrinted (one_word o good) (one_printed (reserved (assigning_word o)) print.printed);
   back = λ s x us rest w h.
-      let t = first_word us (reserved (assignment_word o)) (assigns o) rest print (h ∙ ap (λ ws. map lexeme_of_spelled (ws ++ rest)) (one_word o good)) in
+      let t = first_word us (reserved (assigning_word o)) (assigns o) rest print (h ∙ ap (λ ws. map lexeme_of_spelled (ws ++ rest)) (one_word o good)) in
       record {
         others = t.others;
         words = t.words;
@@ -338,12 +341,12 @@ operates o good = record {
       };
 }
   where
-    print : Prints (reserved (assignment_word o)) (assigns o)
+    print : Prints (reserved (assigning_word o)) (assigns o)
     print = assignment_prints o good
 
 -- in two words
 two_words : (r k : ℕ) → IsLexeme (infix_word r k) → IsTrue (is_boolean r) → words_of_assignment (Some k) ≡ reserved (operator_word k) ∷ reserved word_case.EqualSign ∷ []
-two_words r k h b = ap (λ b. if b then reserved (operator_word k) ∷ reserved word_case.EqualSign ∷ [] else reserved (assignment_word (Some k)) ∷ []) (boolean_number r k h b)
+two_words r k h b = ap (λ b. if b then reserved (operator_word k) ∷ reserved word_case.EqualSign ∷ [] else reserved (assigning_word (Some k)) ∷ []) (boolean_number r k h b)
 
 operates_by_word : (r k : ℕ) → IsLexeme (infix_word r k) → IsTrue (is_boolean r) → Operator (Some k)
 operates_by_word r k good boolean = record {

@@ -2,6 +2,9 @@
 use Rattle.std.proofs.Common.{◌≡◌, ℕ, Bool, true, false, Option, Some, None, refl, sym, ap, ◌∙◌, subst}
 use Rattle.std.specs.Prelude.{◌&&◌, not, IsTrue, option_and_then}
 use Rattle.p8_lexer.specs.declared.word.Word.{Word}
+use Rattle.p8_lexer.specs.Words.{symbols, reserved_words, every_word}
+use Rattle.p8_lexer.specs.Meanings.{word_by}
+use Rattle.p8_lexer.specs.Table.{rows}
 use Rattle.p8_lexer.specs.declared.word.Word.TheVariants as word
 use Rattle.p8_grammar.specs.Lexemes.{Mark, left_parenthesis, right_parenthesis, left_bracket, right_bracket, comma, colon, dot, dot_dot, hash, backslash, equal, Lexeme, number, name, method_result, string, mark, prefix_word, infix_word, sign, assigns, changes, address, object_address, size, register, here, string_word, constant_word, look, value, built_in, command}
 use Rattle.p8_grammar.specs.Grammar as grammar
@@ -9,7 +12,7 @@ use Rattle.p8_grammar.specs.Grammar.{Prefix, at_object, unary, prefix_of, effect
 use Rattle.p8_expr.specs.Words.{lexeme_of_word}
 use Rattle.p8_print.specs.Spelled as spelled
 use Rattle.p8_print.specs.Spelled.{Spelled, IsReadable, is_free}
-use Rattle.p8_print.specs.Tables.{beside, operators, assignments, changes_of, sizes, registers, built_ins, operator_word, is_boolean, change_word, is_behind, size_word, register_word, built_word}
+use Rattle.p8_print.specs.Tables.{operator_word, assignment_word, is_boolean, change_word, is_behind, size_word, register_word, built_word}
 use Rattle.p8_expr.specs.Sources.{IsLexeme}
 use Rattle.p8_printed.specs.Lexemes.{lexeme_of_spelled, IsInCapitals}
 
@@ -27,9 +30,9 @@ mark_word backslash = word.Backslash
 mark_word equal = word.EqualSign
 
 -- the word of an assignment that has only one
-abbrev pub assignment_word : Option ℕ → Word
-assignment_word None = word.Assign
-assignment_word (Some k) = beside k assignments
+abbrev pub assigning_word : Option ℕ → Word
+assigning_word None = word.Assign
+assigning_word (Some k) = assignment_word k
 
 -- the word that a lexeme comes from, by its first number
 abbrev pub word_of_lexeme : Lexeme → Word
@@ -38,7 +41,7 @@ word_of_lexeme method_result = word.Result
 word_of_lexeme (prefix_word r k) = operator_word k
 word_of_lexeme (infix_word r k) = operator_word k
 word_of_lexeme (sign k j) = operator_word k
-word_of_lexeme (assigns o) = assignment_word o
+word_of_lexeme (assigns o) = assigning_word o
 word_of_lexeme (changes b a) = change_word b
 word_of_lexeme address = word.At
 word_of_lexeme object_address = word.AtAt
@@ -97,17 +100,17 @@ pub record IsFor (w : Word) (x : Lexeme) : Type 0 where
 -- for all words
 
 back : (w : Word) → lexeme_of_word (word_of_lexeme (lexeme_of_word w)) ≡ lexeme_of_word w
-unfolding lexeme_of_word operators assignments changes_of sizes registers built_ins
+unfolding lexeme_of_word word_by rows every_word symbols reserved_words
 back word.PlusPlus = refl
 back _ = refl
 
 reserved_back : (w : Word) → is_free (word_of_lexeme (lexeme_of_word w)) ≡ false
-unfolding lexeme_of_word operators assignments changes_of sizes registers built_ins
+unfolding lexeme_of_word word_by rows every_word symbols reserved_words
 reserved_back word.PlusPlus = refl
 reserved_back _ = refl
 
 same_words : (w : Word) → word_behind (lexeme_of_word w) ≡ word_of_lexeme (lexeme_of_word w)
-unfolding lexeme_of_word operators assignments changes_of sizes registers built_ins
+unfolding lexeme_of_word word_by rows every_word symbols reserved_words
 same_words word.PlusPlus = refl
 same_words _ = refl
 
@@ -117,7 +120,7 @@ changes_parted word.PlusPlus = refl
 changes_parted _ = refl
 
 words_alone : (w : Word) → word_by (lexeme_of_word w) (alone (lexeme_of_word w)) ≡ word_of_lexeme (lexeme_of_word w)
-unfolding lexeme_of_word operators changes_of
+unfolding lexeme_of_word word_by rows every_word symbols reserved_words
 words_alone word.PlusPlus = refl
 words_alone _ = refl
 
@@ -245,8 +248,8 @@ boolean_number r k h b = sym (subst (λ x. by_rank x ≡ by_number x) h.1 (boole
 pub no_boolean : (k : ℕ) → IsLexeme (assigns (Some k)) → is_boolean k ≡ false
 no_boolean k h = negated (is_boolean k) (subst (λ x. by_neither x ≡ true) h.1 (booleans_neither h.0))
 
-pub assignment_prints : (o : Option ℕ) → IsLexeme (assigns o) → Prints (spelled.reserved (assignment_word o)) (assigns o)
-assignment_prints o h = reserved_prints (assignment_word o) (assigns o) (is_for (assigns o) h.0 h.1)
+pub assignment_prints : (o : Option ℕ) → IsLexeme (assigns o) → Prints (spelled.reserved (assigning_word o)) (assigns o)
+assignment_prints o h = reserved_prints (assigning_word o) (assigns o) (is_for (assigns o) h.0 h.1)
 
 -- the word of a change that stands after its variable is the word of the change before it
 pub change_word_same : (b a : ℕ) → IsLexeme (changes b a) → change_word a ≡ change_word b

@@ -7,6 +7,9 @@ use Rattle.p8_tree.specs.Expressions.{Tree}
 use Rattle.p8_tree.specs.Sources.{Declared}
 use Rattle.p8_tree.specs.Forgetting.{anywhere, declared_anywhere}
 use Rattle.p8_lexer.specs.declared.word.Word.{Word}
+use Rattle.p8_lexer.specs.Words.{symbols, reserved_words, every_word}
+use Rattle.p8_lexer.specs.Meanings.{word_by}
+use Rattle.p8_lexer.specs.Table.{rows}
 use Rattle.p8_lexer.specs.declared.word.Word.TheVariants as word_case
 use Rattle.p8_grammar.specs.Lexemes.{Setting, in_declaration}
 use Rattle.p8_lines.specs.declared.arrow.Arrow.{Arrow}
@@ -17,7 +20,7 @@ use Rattle.p8_declarations.specs.Parts.{Part, comma, left_bracket, right_bracket
 use Rattle.p8_declarations.specs.Variables.{variable, variables, sized_variables, variables_of_row}
 use Rattle.p8_print.specs.Spelled as spelled
 use Rattle.p8_print.specs.Spelled.{is_free}
-use Rattle.p8_print.specs.Tables.{sizes, size_word}
+use Rattle.p8_print.specs.Tables.{size_word}
 use Rattle.p8_print.specs.Wording.{wrapped}
 use Rattle.p8_printed.specs.Rereading.{ReadsBack}
 use Rattle.p8_print.specs.DeclarationWords.{words_of_name_and_count, words_of_variable, more_locals}
@@ -114,7 +117,7 @@ sized : {z : ℕ} (x : Declared) → IsVariable in_declaration z x → Back stat
 sized x y b = same_words (ap (λ z. spelled.reserved (size_word z) ∷ words_of_name_and_count x) (size_is y)) b
 
 variable_back : {z : ℕ} (x : Declared) → IsSize z → IsVariable in_declaration z x → Back state.VarLine (words_of_variable x) (Declares x)
-unfolding part_of_word sizes
+unfolding part_of_word word_by rows every_word symbols reserved_words
 variable_back x byte_size y = sized x y (by_size 1 word_case.ByteSize x refl (λ k. refl) (λ p. refl) y)
 variable_back x word_size y = sized x y (by_size 2 word_case.WordSize x refl (λ k. refl) (λ p. refl) y)
 variable_back x long_size y = sized x y (by_size 4 word_case.LongSize x refl (λ k. refl) (λ p. refl) y)
