@@ -79,13 +79,13 @@ Each F sign.Flag R = R (effect 1) × R (effect 2)
 Each F sign.Write R = R (effect 4) × R (effect 8)
 Each F s R = (x : Part) → R x
 
-plain_part : (t : LineToken) (w : Word) → IsTrue (is_plain w) → tokens.word t ≡ w → part_of_piece (piece t) ≡ part_of_word w t.place
+pub plain_part : (t : LineToken) (w : Word) → IsTrue (is_plain w) → tokens.word t ≡ w → part_of_piece (piece t) ≡ part_of_word w t.place
 plain_part t w plain h = ap part_of_piece (word_piece t w plain h)
 
-name_part : (t : LineToken) → tokens.word t ≡ word.Name → part_of_piece (piece t) ≡ name (map capital t.text) t.place
+pub name_part : (t : LineToken) → tokens.word t ≡ word.Name → part_of_piece (piece t) ≡ name (map capital t.text) t.place
 name_part t h = ap part_of_piece (name_piece t h)
 
-text_part : (t : LineToken) → tokens.word t ≡ word.Str → part_of_piece (piece t) ≡ text (between_quotes t.text) t.place
+pub text_part : (t : LineToken) → tokens.word t ≡ word.Str → part_of_piece (piece t) ≡ text (between_quotes t.text) t.place
 text_part t h = ap part_of_piece (text_piece t h)
 
 named : (F : Facts) (t : LineToken) → tokens.word t ≡ word.Name → IsKnown F (piece t) → F.IsName (map capital t.text)

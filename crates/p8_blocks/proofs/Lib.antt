@@ -1,5 +1,5 @@
 pub mod Pieces
-mod Closed
+pub mod Closed
 mod Following
 mod DeclarationWords
 mod Constants

@@ -30,46 +30,10 @@ use Rattle.p8_lines.specs.Lines as lines
 use Rattle.p8_lines.specs.Lines.{Follows, is_name_word, behind, Row, over, Begins, greatest_height, Leads, nowhere, by_token, by_phrase, IsTooHigh, HasTooHigh, Reads, refused}
 use Rattle.p8_lines.proofs.Splits.{Compared, same, beyond, short, compare}
 use Rattle.p8_lines.proofs.Ways.{terms_append}
-use Rattle.p8_lines.proofs.Begun.{not_nothing, nothing_begins, nothing_high, front_of}
+use Rattle.p8_lines.proofs.Begun.{real_all, not_nothing, nothing_begins, nothing_high, front_of}
 use Rattle.p8_lines.proofs.Completing.{follower}
 use Rattle.p8_blocks.proofs.Passing.{not_nested}
 use Rattle.p8_lines.proofs.Rows.{leads_way, leads_on, way_begins, front_begins, completed, limit_positive}
-
--- the words that end an expression, as tokens of a source (`p8_lines` has them without the height)
-
-record Real (t : lexemes.Token) : Type 0 where
-  is : LineToken
-  same : term is ≡ t
-
-real_mark : (p : Place) (m : Mark) → Real (token p (mark m))
-unfolding symbols lexeme_of_word
-real_mark p left_parenthesis = record { is = record { place = p; text = []; kind = kind.Symbol 58 }; same = refl }
-real_mark p right_parenthesis = record { is = record { place = p; text = []; kind = kind.Symbol 59 }; same = refl }
-real_mark p left_bracket = record { is = record { place = p; text = []; kind = kind.Symbol 60 }; same = refl }
-real_mark p right_bracket = record { is = record { place = p; text = []; kind = kind.Symbol 61 }; same = refl }
-real_mark p comma = record { is = record { place = p; text = []; kind = kind.Symbol 62 }; same = refl }
-real_mark p colon = record { is = record { place = p; text = []; kind = kind.Symbol 63 }; same = refl }
-real_mark p dot = record { is = record { place = p; text = []; kind = kind.Symbol 64 }; same = refl }
-real_mark p dot_dot = record { is = record { place = p; text = []; kind = kind.Symbol 65 }; same = refl }
-real_mark p hash = record { is = record { place = p; text = []; kind = kind.Symbol 67 }; same = refl }
-real_mark p backslash = record { is = record { place = p; text = []; kind = kind.Symbol 69 }; same = refl }
-real_mark p equal = record { is = record { place = p; text = []; kind = kind.Symbol 66 }; same = refl }
-
-real : (p : Place) {x : Lexeme} → IsEnding x → Real (token p x)
-unfolding every_word symbols reserved_words lexeme_of_word
-real p live.a_name = record { is = record { place = p; text = 65 ∷ []; kind = kind.Name }; same = refl }
-real p live.a_number = record { is = record { place = p; text = 48 ∷ []; kind = kind.Number 0 }; same = refl }
-real p live.a_string = record { is = record { place = p; text = 34 ∷ 65 ∷ 34 ∷ []; kind = kind.Str }; same = refl }
-real p live.a_change = record { is = record { place = p; text = []; kind = kind.Symbol 0 }; same = refl }
-real p live.a_size = record { is = record { place = p; text = 66 ∷ 89 ∷ 84 ∷ 69 ∷ []; kind = kind.Name }; same = refl }
-real p (live.a_mark m) = real_mark p m
-
-real_all : {ts : List lexemes.Token} → AreEndings ts → (us : List LineToken) × (terms us ≡ ts)
-real_all live.none = ([], refl)
-real_all (live.another {p = p} x y) =
-    let r = real p x in
-    let rs = real_all y in
-    (r.is ∷ rs.0, λ i. r.same i ∷ rs.1 i)
 
 -- expressions
 

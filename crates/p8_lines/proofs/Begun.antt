@@ -47,7 +47,7 @@ real p live.a_change = record { is = record { place = p; text = []; kind = kind.
 real p live.a_size = record { is = record { place = p; text = 66 ∷ 89 ∷ 84 ∷ 69 ∷ []; kind = kind.Name }; same = refl }
 real p (live.a_mark m) = real_mark p m
 
-real_all : {ts : List lexemes.Token} → AreEndings ts → (us : List LineToken) × (terms us ≡ ts)
+pub real_all : {ts : List lexemes.Token} → AreEndings ts → (us : List LineToken) × (terms us ≡ ts)
 real_all live.none = ([], refl)
 real_all (live.another {p = p} x y) =
     let r = real p x in

@@ -219,13 +219,9 @@ instruction_again x h = go h.operands
 
 -- data
 
-size_there : (o : Option ℕ) → IfThere IsSize o → made.IfThere readings.IsSize o
+size_there : (o : Option ℕ) → IfThere IsSize o → IfThere readings.IsSize o
 size_there None h = tt
 size_there (Some z) h = size_is z h
-
-tree_there : (o : Option Tree) → IfThere (IsRead in_dat) o → made.IfThere (IsRead in_dat) o
-tree_there None h = tt
-tree_there (Some e) h = h
 
 datum_again : (x : Datum) → IsProperDatum x → Again IsDatum datum_anywhere x
 datum_again x h =
@@ -233,7 +229,7 @@ datum_again x h =
     let c = there_again true (IsRead in_dat) dat_again x.count h.count in
     record {
       other = record { size = x.size; value = v.other; count = c.other };
-      holds = record { size = size_there x.size h.size; value = v.holds; count = tree_there c.other c.holds };
+      holds = record { size = size_there x.size h.size; value = v.holds; count = c.holds };
       same = λ i. record { size = x.size; value = v.same i; count = c.same i };
     }
 
@@ -254,12 +250,12 @@ contents_again sources.Nothing h some = absurd cc
 contents_again (sources.Data z xs) h some =
     let r = data_are xs (recursion_from_All IsProperDatum xs h.1) in
     record { other = sources.Data z r.other; holds = made.of_data (size_is z h.0) r.holds; same = ap (sources.Data z) r.same }
-contents_again (sources.Org e) h some = let r = value_again e h in record { other = sources.Org r.other; holds = made.of_org (tree_there r.other r.holds); same = ap sources.Org r.same }
-contents_again (sources.Res e) h some = let r = value_again e h in record { other = sources.Res r.other; holds = made.of_res (tree_there r.other r.holds); same = ap sources.Res r.same }
-contents_again (sources.Fit e) h some = let r = value_again e h in record { other = sources.Fit r.other; holds = made.of_fit (tree_there r.other r.holds); same = ap sources.Fit r.same }
+contents_again (sources.Org e) h some = let r = value_again e h in record { other = sources.Org r.other; holds = made.of_org r.holds; same = ap sources.Org r.same }
+contents_again (sources.Res e) h some = let r = value_again e h in record { other = sources.Res r.other; holds = made.of_res r.holds; same = ap sources.Res r.same }
+contents_again (sources.Fit e) h some = let r = value_again e h in record { other = sources.Fit r.other; holds = made.of_fit r.holds; same = ap sources.Fit r.same }
 contents_again (sources.Instr x) h some = let r = instruction_again x h in record { other = sources.Instr r.other; holds = made.of_instruction r.holds; same = ap sources.Instr r.same }
 
-label_there : (o : Option (List ℕ)) → IfThere names.IsLabel o → made.IfThere IsLabel o
+label_there : (o : Option (List ℕ)) → IfThere names.IsLabel o → IfThere IsLabel o
 label_there None h = tt
 label_there (Some n) h = label_is n h
 

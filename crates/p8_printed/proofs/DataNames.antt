@@ -9,7 +9,7 @@ use Rattle.p8_printed.proofs.OperandWords.{plain_words}
 use Rattle.p8_print.specs.Wording.{words_of_name}
 use Rattle.p8_printed.specs.Rereading.{IsSpelled}
 use Rattle.p8_printed.proofs.Readings.{IsName}
-use Rattle.p8_printed.proofs.DataParts.{name_part}
+use Rattle.p8_blocks.proofs.DataWords.{name_part}
 
 pub part_of_name : (n : List ℕ) (t : LineToken) → IsName n → IsSpelled (spelled.name n) t → part_of_piece (piece t) ≡ name n t.place
 unfolding spell

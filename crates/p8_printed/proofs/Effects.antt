@@ -21,8 +21,8 @@ use Rattle.p8_declarations.specs.Lines.{effects, behind_destination, operands}
 use Rattle.p8_print.specs.Spelled.{Spelled, reserved, is_free}
 use Rattle.p8_print.specs.DataWords.{words_of_effects}
 use Rattle.p8_printed.proofs.Made.{effects_number, IsEffects, some_effects, IsFlags, some_flags, sixteen, made}
-use Rattle.p8_printed.proofs.DataParts.{plain_part}
-use Rattle.p8_printed.proofs.DataReading.{halves}
+use Rattle.p8_blocks.proofs.Closed.{halves}
+use Rattle.p8_blocks.proofs.DataWords.{plain_part}
 use Rattle.p8_printed.proofs.Going.{AreEnded, Going, by_arrow, ends_here, on, at_end, so}
 
 -- the words of effects

@@ -25,7 +25,7 @@ use Rattle.p8_printed.proofs.Printed.{wrapped_printed, wrapped_back}
 use Rattle.p8_print.specs.Wording.{wrapped}
 use Rattle.p8_printed.specs.Rereading.{IsSpelled, AreSpelled}
 use Rattle.p8_printed.proofs.Readings.{IsRead}
-use Rattle.p8_printed.proofs.DataParts.{plain_part}
+use Rattle.p8_blocks.proofs.DataWords.{plain_part}
 use Rattle.p8_printed.proofs.RowSteps.{spelled_words}
 
 -- tokens are these words, with their line's end

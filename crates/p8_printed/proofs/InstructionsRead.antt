@@ -26,8 +26,7 @@ use Rattle.p8_print.specs.Wording.{wrapped}
 use Rattle.p8_print.specs.DataWords.{instruction_word, is_call, source_with, words_of_operands, words_of_effects}
 use Rattle.p8_printed.proofs.Made.{made, IsInstruction, two, on_memory, one, call, return, nothing}
 use Rattle.p8_printed.proofs.Made as made_of
-use Rattle.p8_printed.proofs.DataParts.{plain_part}
-use Rattle.p8_printed.proofs.DataReading.{two_part, memory_part, one_part}
+use Rattle.p8_blocks.proofs.DataWords.{plain_part, two_part, memory_part, one_part}
 use Rattle.p8_printed.proofs.Going.{AreEnded, Going, by_arrow, on, at_end}
 use Rattle.p8_printed.proofs.Operands.{plain_source, two_read, memory_read, one_read, none_read, call_read}
 

@@ -6,8 +6,6 @@ pub mod Variables
 pub mod Objects
 pub mod Heads
 pub mod Made
-pub mod DataParts
-pub mod DataReading
 pub mod Going
 pub mod Effects
 pub mod DataNames

@@ -22,7 +22,7 @@ use Rattle.p8_declarations.specs.DataParts.{Part, part_of_word, place_of, before
 use Rattle.p8_declarations.specs.Lines.{filled, blank, maybe_line}
 use Rattle.p8_blocks.specs.Files.{within_limits, Declare, no_line, a_blank, a_line, lines_in, lines_of_row, IsBlock, dat, IsFile, first, one_more, IsFileWithinLimits}
 use Rattle.p8_blocks.specs.Trees.{IsShallowBlock}
-use Rattle.p8_printed.proofs.DataParts.{plain_part}
+use Rattle.p8_blocks.proofs.DataWords.{plain_part}
 use Rattle.p8_printed.proofs.Going.{Going}
 use Rattle.p8_printed.proofs.Going.{so as going_so}
 use Rattle.p8_instr.specs.Instruction.{instr_of, FitsFields}

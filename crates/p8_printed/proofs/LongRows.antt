@@ -28,8 +28,7 @@ use Rattle.p8_declarations.specs.DataParts.{Part, tree, comma, hash, condition, 
 use Rattle.p8_declarations.specs.Lines.{bare, operands, source, behind_hash, behind_destination, filled, instruction, body, blank, maybe_line}
 use Rattle.p8_print.specs.DataWords.{words_of_effects}
 use Rattle.p8_printed.proofs.Made.{made, condition_number, IsEffects, some_effects, IsFlags, some_flags, sixteen}
-use Rattle.p8_printed.proofs.DataParts.{plain_part}
-use Rattle.p8_printed.proofs.DataReading.{two_part, memory_part, condition_part}
+use Rattle.p8_blocks.proofs.DataWords.{plain_part, two_part, memory_part, condition_part}
 use Rattle.p8_printed.proofs.Going.{AreEnded, Leading, Going, by_arrow, on, at_end, so}
 use Rattle.p8_printed.proofs.Effects.{HasEffects, behind_operands, behind_memory, effects_read, flags_read}
 use Rattle.p8_printed.proofs.Operands.{hash_part, comma_part, ReadsEffects}

@@ -22,7 +22,7 @@ use Rattle.p8_print.specs.Wording.{words_of_name, wrapped}
 use Rattle.p8_print.specs.DataWords.{source_with, words_of_effects}
 use Rattle.p8_printed.proofs.Readings.{IsRead}
 use Rattle.p8_printed.proofs.Made.{IsLabel, plain, behind_colon, IsEffects, IsFlags, made}
-use Rattle.p8_printed.proofs.DataParts.{plain_part}
+use Rattle.p8_blocks.proofs.DataWords.{plain_part}
 use Rattle.p8_printed.proofs.DataNames.{part_of_name, name_words}
 use Rattle.p8_printed.proofs.Going.{AreEnded, Leading, Going, by_arrow, on, tree_read, behind_tree}
 use Rattle.p8_printed.proofs.Effects.{HasEffects, behind_operands, behind_memory, effects_read, flags_read}

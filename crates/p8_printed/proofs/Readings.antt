@@ -7,6 +7,7 @@ use Rattle.p8_grammar.specs.Lexemes.{Setting, in_action, is_value, Token}
 use Rattle.p8_grammar.specs.Grammar.{IsExpression}
 use Rattle.p8_grammar.specs.Heights.{height}
 use Rattle.p8_expr.specs.Sources.{IsLexeme, AreLexemes}
+pub use Rattle.p8_blocks.proofs.DataMade.{IsSize, byte_size, word_size, long_size}
 
 -- an expression that was read from tokens of a source
 pub record IsRead (s : Setting) (e : Tree) : Type 0 where
@@ -29,9 +30,3 @@ IsName n = IsLexeme (lexemes.name n)
 
 abbrev pub IsText : List ℕ → Type 0
 IsText t = IsLexeme (lexemes.string t)
-
--- BYTE, WORD and LONG
-pub data IsSize : ℕ → Type 0 where
-  byte_size : IsSize 1
-  word_size : IsSize 2
-  long_size : IsSize 4
