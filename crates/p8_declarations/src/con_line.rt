@@ -6,7 +6,7 @@ ghost use Rattle.p8_declarations.specs.Parts.{hash, equals, left_bracket, ended,
 ghost use Rattle.p8_declarations.specs.Constants.{constant, constants, constants_named, constants_behind, constants_of_row};
 ghost use Rattle.p8_declarations.specs.Views.{parts_in, with_constant};
 
-use crate::part::{Part, is_line_end};
+use crate::part::{Part, is_line_end, without};
 use crate::row::{Behind, Row};
 use p8_lexer::Piece;
 use p8_tree::{ConItem, Expr, List, Place, Text};
@@ -67,10 +67,7 @@ impl Row {
         match self.next()? {
             Part::Hash(place) => self.setting(place),
             Part::Name(name, place) => self.constant_named(name, place),
-            other => {
-                drop(other);
-                None
-            }
+            other => without(other, None),
         }
     }
 
@@ -100,10 +97,7 @@ impl Row {
             Part::LeftBracket => self.stepped(name, place),
             Part::Comma => Some((named(name, place, None, None), Behind::Comma)),
             Part::LineEnd => self.last(named(name, place, None, None)),
-            other => {
-                drop(other);
-                None
-            }
+            other => without(other, None),
         }
     }
 
@@ -134,10 +128,7 @@ impl Row {
     {
         match self.behind() {
             Some(behind) => Some((item, behind)),
-            None => {
-                drop(item);
-                None
-            }
+            None => without(item, None),
         }
     }
 
@@ -147,10 +138,7 @@ impl Row {
     {
         match self.end() {
             Some(behind) => Some((item, behind)),
-            None => {
-                drop(item);
-                None
-            }
+            None => without(item, None),
         }
     }
 }

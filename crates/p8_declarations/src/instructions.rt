@@ -6,6 +6,7 @@ ghost use Rattle.p8_declarations.specs.DataViews.{part_of, rest, from, Affects};
 
 use crate::data_part::Part;
 use crate::data_row::Row;
+use crate::part::without;
 use p8_lexer::Word;
 use p8_tree::{Expr, ExprKind, InstrLine, Place, Target, Text};
 use p8_words::NoMemory;
@@ -58,11 +59,7 @@ fn with_effect(mut instr: InstrLine, part: Part) -> Option<InstrLine>
             Some(instr)
         }
         Part::Comma => Some(instr),
-        other => {
-            drop(other);
-            drop(instr);
-            None
-        }
+        other => without(other, without(instr, None)),
     }
 }
 
@@ -106,10 +103,7 @@ fn with_local_name(
 {
     match local(alloc, name) {
         Ok(name) => Ok(with_immediate(instr, label(name, place), place, row)),
-        Err(failed) => {
-            drop(instr);
-            Err(failed)
-        }
+        Err(failed) => without(instr, Err(failed)),
     }
 }
 
@@ -128,11 +122,7 @@ fn with_local_label(
     };
     match part {
         Part::Name(name, _) => with_local_name(alloc, instr, &name, place, row),
-        other => {
-            drop(other);
-            drop(instr);
-            Ok(None)
-        }
+        other => without(other, without(instr, Ok(None))),
     }
 }
 
@@ -148,11 +138,7 @@ fn behind_hash(alloc: Global, instr: InstrLine, mut row: Row) -> Result<Option<I
         Part::Tree(value, place) => Ok(with_immediate(instr, value, place, row)),
         Part::Name(name, place) => Ok(with_immediate(instr, label(name, place), place, row)),
         Part::Colon(place) => with_local_label(alloc, instr, place, row),
-        other => {
-            drop(other);
-            drop(instr);
-            Ok(None)
-        }
+        other => without(other, without(instr, Ok(None))),
     }
 }
 

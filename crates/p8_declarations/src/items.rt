@@ -8,6 +8,7 @@ ghost use Rattle.p8_declarations.specs.DataViews.{part_of, rest, stage_of, Steps
 
 use crate::data_part::Part;
 use crate::data_row::Row;
+use crate::part::without;
 use p8_tree::{DatItem, Expr, ExprKind, List, Place, Text};
 use p8_words::NoMemory;
 use std::alloc::Global;
@@ -48,10 +49,7 @@ fn from_size(size: Option<u8>, part: Part) -> Option<Stage>
         },
         Part::Tree(value, _) => Some(Stage::Behind(size, value)),
         Part::Text(text, place) => Some(Stage::Over(size, string(text, place), None)),
-        other => {
-            drop(other);
-            None
-        }
+        other => without(other, None),
     }
 }
 
@@ -89,11 +87,7 @@ fn from_open_bracket(size: Option<u8>, value: Expr, part: Part) -> Option<Stage>
 {
     match part {
         Part::Tree(count, _) => Some(Stage::Counted(size, value, count)),
-        other => {
-            drop(other);
-            drop(value);
-            None
-        }
+        other => without(other, without(value, None)),
     }
 }
 
@@ -103,12 +97,7 @@ fn from_count(size: Option<u8>, value: Expr, count: Expr, part: Part) -> Option<
 {
     match part {
         Part::RightBracket => Some(Stage::Over(size, value, Some(count))),
-        other => {
-            drop(other);
-            drop(value);
-            drop(count);
-            None
-        }
+        other => without(other, without(value, without(count, None))),
     }
 }
 
@@ -127,12 +116,7 @@ fn from_end(
             put(read, size, value, count)?;
             Ok(Some(Stage::Before(None)))
         }
-        other => {
-            drop(other);
-            drop(value);
-            drop(count);
-            Ok(None)
-        }
+        other => without(other, without(value, without(count, Ok(None)))),
     }
 }
 
@@ -163,10 +147,7 @@ impl Stage {
                 put(&mut read, size, value, count)?;
                 Ok(Some(read))
             }
-            other => {
-                drop(other);
-                Ok(None)
-            }
+            other => without(other, Ok(None)),
         }
     }
 }

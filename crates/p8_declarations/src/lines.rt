@@ -10,6 +10,7 @@ use crate::data_part::{Part, place_of};
 use crate::data_row::Row;
 use crate::instructions::{bare, local, operands, source};
 use crate::items::all_items;
+use crate::part::without;
 use p8_lexer::{Piece, Word};
 use p8_tree::{DatBody, DatLine, Expr, Place, Text};
 use p8_words::NoMemory;
@@ -36,16 +37,9 @@ fn value(mut row: Row) -> Option<Option<Expr>>
     match part {
         Part::Tree(tree, _) => match row.next() {
             None => Some(Some(tree)),
-            Some(other) => {
-                drop(other);
-                drop(tree);
-                None
-            }
+            Some(other) => without(other, without(tree, None)),
         },
-        other => {
-            drop(other);
-            None
-        }
+        other => without(other, None),
     }
 }
 
@@ -148,11 +142,7 @@ fn with_instruction(
     match first {
         Part::Jump(place) => with_jump(alloc, head, cond, place, row),
         Part::Other(word, place) => with_word(alloc, head, cond, word, place, row),
-        other => {
-            drop(other);
-            drop(head);
-            Ok(None)
-        }
+        other => without(other, without(head, Ok(None))),
     }
 }
 
@@ -166,10 +156,7 @@ fn with_condition(
     ensures { IfOk result (λ r. option_map line_of r ≡ instruction cond (begun head) (rest row)) }
 {
     match row.next() {
-        None => {
-            drop(head);
-            Ok(None)
-        }
+        None => without(head, Ok(None)),
         Some(first) => with_instruction(alloc, head, cond, first, row),
     }
 }
@@ -215,10 +202,7 @@ fn local_line(
             let label = local(alloc, &name)?;
             body(alloc, Head::new(place, Some(label)), row)
         }
-        other => {
-            drop(other);
-            Ok(None)
-        }
+        other => without(other, Ok(None)),
     }
 }
 

@@ -7,7 +7,7 @@ ghost use Rattle.p8_declarations.specs.Parts.{line_end, comma, bar, right_parent
 ghost use Rattle.p8_declarations.specs.Methods.{bare, with_parameter, with_result, behind_result, result_named, behind_parameters, parameters, behind_parameter, behind_name, method_of_row};
 ghost use Rattle.p8_declarations.specs.Views.{part_of, parts_in};
 
-use crate::part::Part;
+use crate::part::{Part, without};
 use crate::row::Row;
 use crate::var_line::variables_of_size;
 use p8_lexer::Piece;
@@ -57,10 +57,7 @@ fn behind_name(alloc: Global, row: Row, method: Method) -> Result<Option<Method>
     match row.next() {
         Some(Part::LeftParenthesis) => with_parameters(alloc, row, method),
         Some(part) => behind_parameters(alloc, part, row, method),
-        None => {
-            drop(method);
-            Ok(None)
-        }
+        None => without(method, Ok(None)),
     }
 }
 
@@ -93,10 +90,7 @@ fn with_parameter(method: Method, name: Text, place: Place) -> Result<Method, Al
     let mut method = method;
     match add_parameter(&mut method, name, place) {
         Ok(()) => Ok(method),
-        Err(failed) => {
-            drop(method);
-            Err(failed)
-        }
+        Err(failed) => without(method, Err(failed)),
     }
 }
 
@@ -116,10 +110,7 @@ fn behind_parenthesis(alloc: Global, row: Row, method: Method) -> Result<Option<
     let mut row = row;
     match row.next() {
         Some(part) => behind_parameters(alloc, part, row, method),
-        None => {
-            drop(method);
-            Ok(None)
-        }
+        None => without(method, Ok(None)),
     }
 }
 
@@ -146,10 +137,7 @@ fn with_result(alloc: Global, row: Row, method: Method) -> Result<Option<Method>
     let mut row = row;
     match row.name() {
         Some((name, place)) => behind_result_name(alloc, row, result_named(method, name, place)),
-        None => {
-            drop(method);
-            Ok(None)
-        }
+        None => without(method, Ok(None)),
     }
 }
 
@@ -170,10 +158,7 @@ fn behind_result_name(alloc: Global, row: Row, method: Method) -> Result<Option<
     let mut row = row;
     match row.next() {
         Some(part) => behind_result(alloc, part, row, method),
-        None => {
-            drop(method);
-            Ok(None)
-        }
+        None => without(method, Ok(None)),
     }
 }
 
@@ -189,11 +174,7 @@ fn behind_result(
     match part {
         Part::Bar => with_locals(alloc, row, method),
         Part::LineEnd => Ok(ended(&row, method)),
-        other => {
-            drop(other);
-            drop(method);
-            Ok(None)
-        }
+        other => without(other, without(method, Ok(None))),
     }
 }
 
@@ -207,14 +188,8 @@ fn with_locals(alloc: Global, row: Row, method: Method) -> Result<Option<Method>
             method.locals = locals;
             Ok(Some(method))
         }
-        Ok(None) => {
-            drop(method);
-            Ok(None)
-        }
-        Err(failed) => {
-            drop(method);
-            Err(failed)
-        }
+        Ok(None) => without(method, Ok(None)),
+        Err(failed) => without(method, Err(failed)),
     }
 }
 
@@ -240,10 +215,7 @@ impl Row {
         match self.next()? {
             Part::Comma => Some((name, place, false)),
             Part::RightParenthesis => Some((name, place, true)),
-            other => {
-                drop(other);
-                None
-            }
+            other => without(other, None),
         }
     }
 }

@@ -7,7 +7,7 @@ ghost use Rattle.p8_declarations.specs.Parts.{left_bracket};
 ghost use Rattle.p8_declarations.specs.Objects.{file_of, in_file, object_named, object, alone, objects_of_row};
 ghost use Rattle.p8_declarations.specs.Views.{parts_in, child_in};
 
-use crate::part::{Part, is_line_end};
+use crate::part::{Part, is_line_end, without};
 use crate::row::Row;
 use p8_lexer::Piece;
 use p8_tree::{Expr, List, ObjItem, Place, Text};
@@ -51,10 +51,7 @@ fn with_file_name(alloc: Global, item: ObjItem) -> Result<ObjItem, AllocError>
             item.file = file;
             Ok(item)
         }
-        Err(failed) => {
-            drop(item);
-            Err(failed)
-        }
+        Err(failed) => without(item, Err(failed)),
     }
 }
 
@@ -93,10 +90,7 @@ impl Row {
     {
         match self.next()? {
             Part::Name(name, place) => self.object_named(name, place),
-            other => {
-                drop(other);
-                None
-            }
+            other => without(other, None),
         }
     }
 
@@ -107,10 +101,7 @@ impl Row {
         match self.next()? {
             Part::Colon => self.in_file(name, place, None),
             Part::LeftBracket => self.object_counted(name, place),
-            other => {
-                drop(other);
-                None
-            }
+            other => without(other, None),
         }
     }
 
@@ -141,10 +132,7 @@ impl Row {
                 file,
                 file_place,
             }),
-            None => {
-                drop(count);
-                None
-            }
+            None => without(count, None),
         }
     }
 }

@@ -73,10 +73,7 @@ impl Part {
     {
         match self {
             Part::LineEnd => true,
-            other => {
-                drop(other);
-                false
-            }
+            other => without(other, false),
         }
     }
 
@@ -86,10 +83,7 @@ impl Part {
     {
         match self {
             Part::Colon => true,
-            other => {
-                drop(other);
-                false
-            }
+            other => without(other, false),
         }
     }
 
@@ -99,12 +93,17 @@ impl Part {
     {
         match self {
             Part::RightBracket => true,
-            other => {
-                drop(other);
-                false
-            }
+            other => without(other, false),
         }
     }
+}
+
+/// Lets go of a value, and gives this answer.
+pub fn without<T: Drop, A>(unused: T, answer: A) -> A
+    ensures { result ≡ answer }
+{
+    drop(unused);
+    answer
 }
 
 /// Whether pieces are the end of a line alone.

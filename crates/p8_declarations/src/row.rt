@@ -8,7 +8,7 @@ ghost use Rattle.p8_declarations.specs.Constants.{constants, constants_behind};
 ghost use Rattle.p8_declarations.specs.Variables.{variables, variables_behind};
 ghost use Rattle.p8_declarations.specs.Views.{part_of, parts_in, continued, has_value, has_right_bracket, has_count, has_size, has_name, has_colon, has_text, has_file, behind_of, is_end};
 
-use crate::part::Part;
+use crate::part::{Part, without};
 use p8_lexer::Piece;
 use p8_tree::{Expr, Place, Text};
 use std::alloc::Global;
@@ -51,10 +51,7 @@ impl Row {
     {
         match self.next()? {
             Part::Tree(value) => Some(value),
-            other => {
-                drop(other);
-                None
-            }
+            other => without(other, None),
         }
     }
 
@@ -99,10 +96,7 @@ impl Row {
     {
         match self.next()? {
             Part::Size(size) => Some(size),
-            other => {
-                drop(other);
-                None
-            }
+            other => without(other, None),
         }
     }
 
@@ -112,10 +106,7 @@ impl Row {
     {
         match self.next()? {
             Part::Name(name, place) => Some((name, place)),
-            other => {
-                drop(other);
-                None
-            }
+            other => without(other, None),
         }
     }
 
@@ -137,10 +128,7 @@ impl Row {
     {
         match self.next()? {
             Part::Text(text, place) => Some((text, place)),
-            other => {
-                drop(other);
-                None
-            }
+            other => without(other, None),
         }
     }
 
@@ -171,10 +159,7 @@ impl Row {
         match part {
             Part::Comma => Some(Behind::Comma),
             Part::LineEnd => self.end(),
-            other => {
-                drop(other);
-                None
-            }
+            other => without(other, None),
         }
     }
 

@@ -7,7 +7,7 @@ ghost use Rattle.p8_declarations.specs.Parts.{left_bracket, ended, with_first};
 ghost use Rattle.p8_declarations.specs.Variables.{variable, variables, variables_named, variables_behind, sized_variables, variables_of_row};
 ghost use Rattle.p8_declarations.specs.Views.{parts_in, with_variable};
 
-use crate::part::{Part, is_line_end};
+use crate::part::{Part, is_line_end, without};
 use crate::row::{Behind, Row};
 use p8_lexer::Piece;
 use p8_tree::{Expr, List, Place, Text, VarItem};
@@ -76,10 +76,7 @@ impl Row {
     {
         match self.next()? {
             Part::Name(name, place) => self.variable_named(size, name, place),
-            other => {
-                drop(other);
-                None
-            }
+            other => without(other, None),
         }
     }
 
@@ -92,10 +89,7 @@ impl Row {
             Part::LeftBracket => self.variable_counted(size, name, place),
             Part::Comma => Some((named(size, name, place, None), Behind::Comma)),
             Part::LineEnd => self.last_variable(named(size, name, place, None)),
-            other => {
-                drop(other);
-                None
-            }
+            other => without(other, None),
         }
     }
 
@@ -116,10 +110,7 @@ impl Row {
     {
         match self.behind() {
             Some(behind) => Some((item, behind)),
-            None => {
-                drop(item);
-                None
-            }
+            None => without(item, None),
         }
     }
 
@@ -129,10 +120,7 @@ impl Row {
     {
         match self.end() {
             Some(behind) => Some((item, behind)),
-            None => {
-                drop(item);
-                None
-            }
+            None => without(item, None),
         }
     }
 }

@@ -86,10 +86,7 @@ impl Row {
     {
         match self.next()? {
             Piece::Word(word, place) => Some(Sign::new(word, place)),
-            other => {
-                drop(other);
-                None
-            }
+            other => without(other, None),
         }
     }
 
@@ -99,10 +96,7 @@ impl Row {
     {
         match self.next()? {
             Piece::Tree(tree, place) => self.with_word(tree, place),
-            other => {
-                drop(other);
-                None
-            }
+            other => without(other, None),
         }
     }
 
@@ -115,10 +109,7 @@ impl Row {
                 tree: value,
                 behind: sign.role,
             }),
-            None => {
-                drop(value);
-                None
-            }
+            None => without(value, None),
         }
     }
 
@@ -141,4 +132,12 @@ impl Row {
             None
         }
     }
+}
+
+// Lets go of a value, and gives this answer.
+pub fn without<T: Drop, A>(unused: T, answer: A) -> A
+    ensures { result ≡ answer }
+{
+    drop(unused);
+    answer
 }

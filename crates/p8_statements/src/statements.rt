@@ -11,7 +11,7 @@ ghost use Rattle.p8_statements.specs.Statements.{maybe_value, counted, counting,
 ghost use Rattle.p8_statements.specs.Views.{rest_of, with_test};
 
 use crate::role::{Role, role_of};
-use crate::row::{Phrase, Row};
+use crate::row::{Phrase, Row, without};
 use p8_columns::{Action, LineKind};
 use p8_lexer::Piece;
 use p8_tree::{Expr, ExprKind, Item, List, Loop, Place, Target, Text};
@@ -58,10 +58,7 @@ fn counter_of(kind: ExprKind) -> Option<(Text, Place)>
 {
     match kind {
         ExprKind::Var(target) => name_alone(target),
-        other => {
-            drop(other);
-            None
-        }
+        other => without(other, None),
     }
 }
 
@@ -71,10 +68,7 @@ fn name_alone(target: Target) -> Option<(Text, Place)>
 {
     match target {
         Target::Named(name, None, place) => Some((name, place)),
-        other => {
-            drop(other);
-            None
-        }
+        other => without(other, None),
     }
 }
 
@@ -93,10 +87,7 @@ impl Row {
         match self.next()? {
             Piece::Word(word, _) => self.no_value(role_of(word)),
             Piece::Tree(tree, _) => self.last_value(tree),
-            other => {
-                drop(other);
-                None
-            }
+            other => without(other, None),
         }
     }
 
@@ -143,11 +134,7 @@ impl Row {
     {
         match self.value() {
             Some(step) => Some(Loop::From(name, first, last, Some(step), place)),
-            None => {
-                drop(first);
-                drop(last);
-                None
-            }
+            None => without(first, without(last, None)),
         }
     }
 
@@ -190,10 +177,7 @@ impl Row {
     {
         match self.phrase() {
             Some(Phrase { tree, behind }) => self.counted(name, place, first, tree, behind),
-            None => {
-                drop(first);
-                None
-            }
+            None => without(first, None),
         }
     }
 
@@ -257,10 +241,7 @@ impl Row {
         match self.next()? {
             Piece::Word(word, _) => self.course_before(role_of(word)),
             Piece::Tree(tree, _) => self.course_behind(tree),
-            other => {
-                drop(other);
-                None
-            }
+            other => without(other, None),
         }
     }
 
@@ -270,10 +251,7 @@ impl Row {
     {
         match self.word() {
             Some(sign) => self.course_by(tree, sign.role),
-            None => {
-                drop(tree);
-                None
-            }
+            None => without(tree, None),
         }
     }
 
@@ -334,10 +312,7 @@ impl Row {
                 },
                 behind: last.behind,
             }),
-            None => {
-                drop(low);
-                None
-            }
+            None => without(low, None),
         }
     }
 
@@ -423,10 +398,7 @@ impl Row {
         match self.next()? {
             Piece::Word(word, _) => self.line(role_of(word)),
             Piece::Tree(tree, _) => self.ending(LineKind::Plain(Action::Do(tree))),
-            other => {
-                drop(other);
-                None
-            }
+            other => without(other, None),
         }
     }
 }
