@@ -1,13 +1,12 @@
--- The counter of the access that a cog asks next is that of its life, and what it asks is what it has said last.
-use Rattle.std.proofs.Common.{◌≡◌, ◌∙◌, sym, subst, refl, ℕ, ◌<◌, List, Option, Some, slice_get, arith}
+-- The counter of a turn is that of its cog's life, and what a cog asks next is what it has said last.
+use Rattle.std.proofs.Common.{◌≡◌, sym, subst, refl, ℕ, ◌<◌, Bool, true, false, List, Option, Some, None, slice_get, length, arith}
 use Rattle.p8_access.specs.declared.kinds.Access.{Access}
 use Rattle.p8_access.specs.declared.kinds.Origin.{Origin}
 use Rattle.p8_access.specs.declared.lives.Next.{Next}
-use Rattle.p8_access.specs.declared.lives.Next.TheVariants.{At, Quiet, More}
 use Rattle.p8_access.specs.declared.order.Turn.{Turn}
 use Rattle.p8_access.specs.declared.states.CogState.{CogState}
-use Rattle.p8_access.specs.declared.states.CogState.TheVariants.{Running}
-use Rattle.p8_access.specs.Lives.{Begun, Tells, announced_by}
+use Rattle.p8_access.specs.declared.states.CogState.TheVariants.{Stopped, Starting, Running}
+use Rattle.p8_access.specs.Lives.{Begun, IsAnnounced}
 use Rattle.p8_access.specs.Worlds.{World}
 use Rattle.p8_access.specs.Hub.{cog_state}
 use Rattle.p8_access.specs.Histories.{since_begin}
@@ -16,31 +15,35 @@ use Rattle.p8_cog.specs.declared.cog_life.CogLife.{CogLife}
 use Rattle.p8_cog.specs.Lives.{asks}
 use Rattle.p8_cog.specs.WholeLives.{stands_for}
 use Rattle.p8_ledger.specs.declared.ledger.Ledger.{Ledger}
+use Rattle.p8_ledger.specs.Advances.{HasMade}
 use Rattle.p8_ledger.specs.Seats.{Sits, SitsIn}
+use Rattle.p8_ledger.specs.Standing.{FitsState}
 use Rattle.p8_ledger.specs.Records.{Record, turns, said}
+use Rattle.p8_ledger.proofs.Rows.{some-at}
 use Rattle.p8_machine.specs.Asked.{IsNextAsked}
-use Rattle.p8_machine.specs.Counters.{IsNextCounter}
-use Rattle.p8_machine.specs.Places.{announced_in, IsSpoken, AreAnnounced}
+use Rattle.p8_machine.specs.Counted.{IsCounterIn}
+use Rattle.p8_machine.specs.Places.{announced_in, AreAnnounced, Counts}
 use Rattle.p8_machine.specs.Standing.{has_spoken, Stands}
+use Rattle.p8_machine.proofs.Announced.{is-announced}
 
-same-begun : (a b : Begun) → Some a ≡ Some b → a ≡ b
-same-begun a b e = cc
+announcing : (asked : Option (ℕ × Access)) (turn : Turn) → IsAnnounced asked turn → IsAnnouncing asked
+announcing None turn is = absurd is
+announcing (Some asked) turn is = tt
 
--- what a life has said last is announced, where an access is asked below the limit of clocks
-announcing : (life : CogLife) (b : Begun) (ts : List Turn) (clocks : ℕ) (next : Next) → Tells (asks b ts) clocks next → IsSpoken next → ((asked : ℕ × Access) → announced_by next ≡ Some asked → announced_in life ≡ Some asked) → (clock : ℕ) (access : Access) → asks b ts clock access → clock < clocks → IsAnnouncing (announced_in life)
-announcing life b ts clocks (At at what) tells spoken announced clock access asked below = subst IsAnnouncing (sym (announced (at, what) refl)) tt
-announcing life b ts clocks Quiet tells spoken announced clock access asked below = absurd (let le = tells clock access asked in omega (arith, le, below))
-announcing life b ts clocks (More bound) tells spoken announced clock access asked below = absurd spoken
+-- by what the cog of a turn is doing before it
+counter-in : (running : Bool) (state : CogState) (w : World) (past : List Turn) (n : ℕ) (life : CogLife) (next : Next) (counter : Option ℕ) → FitsState running state → SitsIn asks (has_spoken life next) next w past n state → (running ≡ true → (b : Begun) (ts : List Turn) → stands_for life b ts → IsCounter b ts counter) → (running ≡ false → counter ≡ None) → IsCounterIn w past n state counter
+counter-in true (Running origin) w past n life next counter fits sits counts none = (sits.life, sits.began, counts refl sits.life (since_begin past n) sits.stood.0)
+counter-in true (Starting since origin) w past n life next counter fits sits counts none = absurd fits
+counter-in true Stopped w past n life next counter fits sits counts none = absurd fits
+counter-in false (Running origin) w past n life next counter fits sits counts none = absurd fits
+counter-in false (Starting since origin) w past n life next counter fits sits counts none = none refl
+counter-in false Stopped w past n life next counter fits sits counts none = absurd fits
 
-pub next-counter : (w : World) (r : Record) (ledger : Ledger) (lives : List CogLife) → Stands w r ledger lives → AreAnnounced ledger.sayings lives → (n : ℕ) → n < 8 → (life : CogLife) → slice_get lives n ≡ Some life → (origin : Origin) → cog_state w (turns r) n ≡ Running origin → (counter : Option ℕ) → ((b : Begun) (ts : List Turn) → stands_for life b ts → IsAnnouncing (announced_in life) → IsCounter b ts counter) → IsNextCounter w (turns r) n (cog_state w (turns r) n) counter
-next-counter w r ledger lives stands announced n near life at origin runs counter counts =
-    subst (λ (s : CogState). IsNextCounter w (turns r) n s counter) (sym runs)
-    (λ b clock access began asked below.
-    let sits : Sits asks (has_spoken life (said n r)) (said n r) w (turns r) n = subst (λ (s : CogState). SitsIn asks (has_spoken life (said n r)) (said n r) w (turns r) n s) runs (stands.seated n life at) in
-    let same : sits.life ≡ b = same-begun sits.life b (sym sits.began ∙ began) in
-    let asked_here : asks sits.life (since_begin (turns r) n) clock access = subst (λ (x : Begun). asks x (since_begin (turns r) n) clock access) (sym same) asked in
-    let is_announcing = announcing life sits.life (since_begin (turns r) n) w.clocks (said n r) sits.told sits.stood.1 (announced n life (said n r) at (stands.found.sayings n near)) clock access asked_here below in
-    subst (λ (x : Begun). IsCounter x (since_begin (turns r) n) counter) same (counts sits.life (since_begin (turns r) n) sits.stood.0 is_announcing))
+-- the counter that the life of a turn's cog has before it takes the turn is the turn's
+pub turn-counter : (w : World) (r : Record) (old new : Ledger) (lives : List CogLife) → Stands w r old lives → AreAnnounced old.sayings lives → length lives ≡ 8 → (turn : Turn) (running : Bool) → HasMade old new turn running → FitsState running (cog_state w (turns r) turn.key.cog) → (counter : Option ℕ) → ((life : CogLife) → running ≡ true → slice_get lives turn.key.cog ≡ Some life → Counts life counter) → (running ≡ false → counter ≡ None) → IsCounterIn w (turns r) turn.key.cog (cog_state w (turns r) turn.key.cog) counter
+turn-counter w r old new lives stands announced eight turn running made fits counter counts none =
+    let life = some-at lives turn.key.cog (let near : turn.key.cog < 8 = made.cog in omega (arith, eight)) in
+    counter-in running (cog_state w (turns r) turn.key.cog) w (turns r) turn.key.cog life.0 (said turn.key.cog r) counter fits (stands.seated turn.key.cog life.0 life.1) (λ runs b ts stood. counts life.0 runs life.1 b ts stood (announcing (announced_in life.0) turn (is-announced old new turn running lives made announced life.0 runs life.1))) none
 
 pub next-asked : (w : World) (r : Record) (ledger : Ledger) (lives : List CogLife) → Stands w r ledger lives → (n : ℕ) (life : CogLife) → slice_get lives n ≡ Some life → (origin : Origin) → cog_state w (turns r) n ≡ Running origin → (next : Next) → next ≡ said n r → IsNextAsked w (turns r) n (cog_state w (turns r) n) next
 next-asked w r ledger lives stands n life at origin runs next is =

@@ -1,6 +1,5 @@
 -- What public contracts cite.
 pub mod Machines
-pub mod Counters
 pub mod Asked
 pub mod Counted
 -- How a machine stands for its history, which the contract of its step cites.

@@ -16,6 +16,7 @@ use Rattle.p8_ledger.specs.Seats.{SitsIn}
 use Rattle.p8_ledger.specs.Standing.{FitsState}
 use Rattle.p8_ledger.specs.Records.{Record, turns, said}
 use Rattle.p8_ledger.specs.Ledgers.{Found}
+use Rattle.p8_machine.specs.Counted.{IsCounterIn}
 use Rattle.p8_machine.specs.Places.{IsSpoken}
 
 -- the life began with this and has had these turns, and its cog has said its next access, or that none comes
@@ -43,6 +44,12 @@ pub record Comes (w : World) (r : Record) (ledger : Ledger) (lives : List CogLif
 abbrev pub past_with : List Turn → Option Turn → List Turn
 past_with past None = past
 past_with past (Some turn) = turn ∷ past
+
+-- a past has gone on by the turn that comes next, which has this counter, if by any
+abbrev pub HasCounted : World → (old new : List Turn) → Option (Option ℕ) → Type 0
+HasCounted w old new None = new ≡ old
+HasCounted w old new (Some counter) =
+    (turn : Turn) × (new ≡ turn ∷ old) × Extends asks w old turn × IsCounterIn w old turn.key.cog (cog_state w old turn.key.cog) counter
 
 -- whether a past has gone on by one turn
 abbrev pub HasAdvanced : Bool → (old new : List Turn) → Type 0

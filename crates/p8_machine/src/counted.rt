@@ -1,5 +1,5 @@
 // A run that keeps the counter of each turn, and what each cog asks in the end.
-ghost use Rattle.std.specs.Prelude.{◌≡◌, ◌<◌, ◌≤◌, [], ℕ, List, Option, Some, length, reverse, slice_get, IfOk};
+ghost use Rattle.std.specs.Prelude.{◌≡◌, ◌<◌, ◌≤◌, [], ℕ, List, Some, length, reverse, slice_get, IfOk};
 ghost use Rattle.p8_access.specs.declared.lives.Next.{Next};
 ghost use Rattle.p8_access.specs.Proper.{IsProperOrigin};
 ghost use Rattle.p8_access.specs.Hub.{cog_state};
@@ -8,7 +8,6 @@ ghost use Rattle.p8_hub.specs.Standing.{IsHub};
 ghost use Rattle.p8_cog.specs.Lives.{asks};
 ghost use Rattle.p8_ledger.specs.Worlds.{world_of};
 ghost use Rattle.p8_machine.specs.Asked.{IsNextAsked};
-ghost use Rattle.p8_machine.specs.Counters.{IsNextCounter};
 ghost use Rattle.p8_machine.specs.Machines.{world_in, past_in, IsStanding};
 ghost use Rattle.p8_machine.specs.Counted.{AreAsked, AreCounters};
 
@@ -30,23 +29,6 @@ pub struct Counted {
     /// For each cog, in the order of their numbers: the access that it asks next, with the clock from which on it asks. `Quiet` where that
     /// clock isn't below the limit, and where the cog doesn't run.
     pub asked: [Next; 8],
-}
-
-/// The counters of the accesses that the eight cogs ask next, in the order of their numbers.
-fn next_counters(machine: &Machine) -> [Option<u16>; 8]
-    ensures length { length result ≡ 8 }
-    ensures each { IsStanding machine.now → (n : ℕ) (counter : Option ℕ) → slice_get result n ≡ Some counter → IsNextCounter (world_in machine.now) (past_in machine.now) n (cog_state (world_in machine.now) (past_in machine.now) n) counter }
-{
-    [
-        machine.counter(0),
-        machine.counter(1),
-        machine.counter(2),
-        machine.counter(3),
-        machine.counter(4),
-        machine.counter(5),
-        machine.counter(6),
-        machine.counter(7),
-    ]
 }
 
 /// What the eight cogs ask next, in the order of their numbers.
@@ -77,11 +59,10 @@ fn count_turns(alloc: Global, machine: &mut Machine) -> Result<Vec<Option<u16>>,
 {
     let mut counters = Vec::new(alloc);
     'steps: loop {
-        let next = next_counters(machine);
-        let Some(turn) = machine.step() else {
+        let Some(counter) = machine.step_counted() else {
             return Ok(counters);
         };
-        match counters.push(next[usize::from(turn.key.cog)]) {
+        match counters.push(counter) {
             Ok(()) => {}
             Err(_) => return Err(NoMemory),
         }

@@ -1,5 +1,5 @@
 // The machine's one step, and a whole run.
-ghost use Rattle.std.specs.Prelude.{◌≡◌, ◌<◌, ◌≤◌, ◌∷◌, ◌++◌, [], List, true, false, IsNone, ◌↔◌, length, reverse, IfOk, IfSome};
+ghost use Rattle.std.specs.Prelude.{◌≡◌, ◌<◌, ◌≤◌, ◌∷◌, ◌++◌, [], List, true, false, IsNone, ◌↔◌, length, reverse, IfOk, IfSome, MatchOption};
 ghost use Rattle.p8_access.specs.declared.order.Turn.{Turn};
 ghost use Rattle.p8_access.specs.Proper.{IsProperOrigin};
 ghost use Rattle.p8_access.specs.Worlds.{World};
@@ -11,9 +11,8 @@ ghost use Rattle.p8_ledger.specs.Advances.{HasMade};
 ghost use Rattle.p8_ledger.specs.Records.{Record};
 ghost use Rattle.p8_ledger.specs.Worlds.{world_of};
 ghost use Rattle.p8_machine.specs.Asked.{IsNextAsked};
-ghost use Rattle.p8_machine.specs.Counters.{IsNextCounter};
 ghost use Rattle.p8_machine.specs.Places.{AreAnnounced};
-ghost use Rattle.p8_machine.specs.Standing.{Stands, Comes, past_with, HasAdvanced};
+ghost use Rattle.p8_machine.specs.Standing.{Stands, Comes, past_with, HasAdvanced, HasCounted};
 
 use crate::seats::Seats;
 use p8_access::{Boot, CogState, Next, Turn};
@@ -83,6 +82,26 @@ impl Machine {
         }
     }
 
+    /// Makes the turn with the least key, and tells its program counter; None exactly where the history has ended.
+    #[inline(always)]
+    pub(crate) fn step_counted(&mut self) -> Option<Option<u16>>
+        ensures counted { IsStanding self.old → HasCounted (world_in self.old) (past_in self.old) (past_in self.new) result }
+        ensures over { IsStanding self.old → IsNone result ↔ IsOver asks (world_in self.old) (past_in self.old) }
+        ensures room { IfSome result (λ _. length (past_in self.old) < (world_in self.old).turns) }
+        ensures past { MatchOption result (past_in self.new ≡ past_in self.old) (λ _. (turn : Turn) × (past_in self.new ≡ turn ∷ past_in self.old)) }
+        ensures world { world_in self.new ≡ world_in self.old }
+        ensures stands { IsStanding self.old → IsStanding self.new }
+    {
+        match self.ledger.take_first(&self.script) {
+            First::Done { turn, running } => {
+                let counter = self.seats.counter(turn.key.cog, running);
+                self.settle(running);
+                Some(counter)
+            }
+            First::Ahead { .. } | First::Over => None,
+        }
+    }
+
     /// Makes the turn with the least key; false exactly where the history has ended.
     #[inline(always)]
     fn advance(&mut self) -> bool
@@ -93,12 +112,9 @@ impl Machine {
         ensures world { world_in self.new ≡ world_in self.old }
         ensures stands { IsStanding self.old → IsStanding self.new }
     {
-        match self.ledger.take_first(&self.script) {
-            First::Done { running, .. } => {
-                self.settle(running);
-                true
-            }
-            First::Ahead { .. } | First::Over => false,
+        match self.step_counted() {
+            Some(_) => true,
+            None => false,
         }
     }
 
@@ -115,19 +131,6 @@ impl Machine {
             Some(*self.ledger.newest())
         } else {
             None
-        }
-    }
-
-    /// The program counter of the access that a cog asks next below the limit of clocks: for Spin the hub address, in
-    /// bytes, of the first byte of the bytecode that asks it. `None` where the cog doesn't run, for the write with which
-    /// Spin enters its method, which no bytecode asks, and for PASM.
-    pub fn counter(&self, cog: u8) -> Option<u16>
-        requires { cog < 8 }
-        ensures { IsStanding self.now → IsNextCounter (world_in self.now) (past_in self.now) cog (cog_state (world_in self.now) (past_in self.now) cog) result }
-    {
-        match self.ledger.state(cog) {
-            CogState::Running { .. } => self.seats.lives[usize::from(cog)].counter(),
-            CogState::Starting { .. } | CogState::Stopped => None,
         }
     }
 

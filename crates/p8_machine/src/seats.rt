@@ -1,5 +1,5 @@
 // The lives of the eight cogs.
-ghost use Rattle.std.specs.Prelude.{◌≡◌, ◌<◌, ◌≤◌, ◌+◌, ◌*◌, ◌^◌, ◌++◌, ◌∷◌, [], OnOk, ℕ, List, true, false, Some, length, IsTrue, ◌↔◌, IfOk, slice_get};
+ghost use Rattle.std.specs.Prelude.{◌≡◌, ◌<◌, ◌≤◌, ◌+◌, ◌*◌, ◌^◌, ◌++◌, ◌∷◌, [], OnOk, ℕ, List, true, false, None, Some, length, IsTrue, ◌↔◌, IfOk, slice_get};
 ghost use Rattle.p8_access.specs.declared.order.Turn.{Turn};
 ghost use Rattle.p8_access.specs.Lives.{Begun, Tells, IsAnnounced, IsMadeNext, announced_by};
 ghost use Rattle.p8_access.specs.Proper.{Fits};
@@ -7,7 +7,7 @@ ghost use Rattle.p8_access.specs.Windows.{IsWindow};
 ghost use Rattle.p8_cog.specs.declared.cog_life.CogLife.{CogLife};
 ghost use Rattle.p8_cog.specs.Lives.{asks, begun_by, IsStartable};
 ghost use Rattle.p8_cog.specs.WholeLives.{cog_of};
-ghost use Rattle.p8_machine.specs.Places.{announced_in, IsSpoken, SameBut, HasAnnounced, Begins, Takes};
+ghost use Rattle.p8_machine.specs.Places.{announced_in, IsSpoken, SameBut, HasAnnounced, Begins, Counts, Takes};
 
 use p8_access::{Key, Life, Next, Origin, Ram, Turn};
 use p8_cog::CogLife;
@@ -86,6 +86,22 @@ impl Seats {
         Ok(Seats {
             lives: empty_seats(alloc, memory, region)?,
         })
+    }
+
+    /// The program counter of a turn, before its life takes it: for Spin the hub address, in bytes, of the first byte of the bytecode that asks
+    /// it. `None` for PASM, for the turn with which a life begins, whose cog doesn't run before it, and for the write with which Spin enters
+    /// its method.
+    #[inline(always)]
+    pub fn counter(&self, cog: u8, running: bool) -> Option<u16>
+        requires { cog < 8 }
+        ensures counts { (life : CogLife) → running ≡ true → slice_get self.now.lives.items cog ≡ Some life → Counts life result }
+        ensures none { running ≡ false → result ≡ None }
+    {
+        if running {
+            self.lives[usize::from(cog)].counter()
+        } else {
+            None
+        }
     }
 
     /// A life begins in a cog with its first turn, where one can begin with this origin, and tells its first access
