@@ -1,5 +1,4 @@
-use Rattle.std.proofs.Common.{◌≡◌, ◌∙◌, ap, ℕ, suc, ◌-◌, ◌<◌, List, length, arith}
-use Rattle.p8_access.specs.declared.order.Turn.{Turn}
+use Rattle.std.proofs.Common.{◌≡◌, ◌∙◌, ap, ℕ, suc, ◌-◌, ◌<◌, length, arith}
 use Rattle.p8_access.specs.Worlds.{World}
 use Rattle.p8_machine.proofs.Turning.{counted-more}
 use Rattle.p8_machine.specs.Machines.{world_in, past_in}

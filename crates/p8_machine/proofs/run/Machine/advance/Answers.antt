@@ -1,4 +1,4 @@
-use Rattle.std.proofs.Common.{◌≡◌, ◌∙◌, sym, subst, refl, true, false, List, ◌∷◌}
+use Rattle.std.proofs.Common.{◌∙◌, sym, subst}
 use Rattle.p8_access.specs.declared.order.Turn.{Turn}
 use Rattle.p8_access.specs.Histories.{Extends}
 use Rattle.p8_cog.specs.Lives.{asks}
