@@ -3,3 +3,4 @@ mod Ranges
 mod Showing
 mod Joined
 mod Missed
+mod Unchanged

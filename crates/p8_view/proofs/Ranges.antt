@@ -1,5 +1,5 @@
 -- Texts that are made number by number.
-use Rattle.std.proofs.Common.{◌≡◌, ℕ, ◌+◌, List, [], ◌∷◌, ◌++◌, sym, ap, ◌∙◌, append_assoc, arith}
+use Rattle.std.proofs.Common.{◌≡◌, ℕ, ◌+◌, List, [], ◌∷◌, ◌++◌, refl, sym, ap, ◌∙◌, append_assoc, arith}
 use Rattle.std.specs.List.{range_with_len, flat_map}
 use Rattle.std.proofs.lemmas.List.{map-id, append-nil}
 use Rattle.std.proofs.lemmas.List.Concat.{flat_map-append}
@@ -16,3 +16,8 @@ flat_map_step f n old before after so_far more =
     let all : flat_map f (range_with_len 0 (n + 1)) ≡ flat_map f (range_with_len 0 n) ++ f n =
     ap (flat_map f) (range_more n) ∙ flat_map-append f (range_with_len 0 n) (n ∷ []) ∙ ap (λ (xs : List ℕ). flat_map f (range_with_len 0 n) ++ xs) (append-nil (f n)) in
     more ∙ ap (λ (xs : List ℕ). xs ++ f n) so_far ∙ append_assoc old (flat_map f (range_with_len 0 n)) (f n) ∙ ap (λ (xs : List ℕ). old ++ xs) (sym all)
+
+-- numbers that have no text
+pub flat_map_none : (f : ℕ → List ℕ) (ns : List ℕ) → ((n : ℕ) → f n ≡ []) → flat_map f ns ≡ []
+flat_map_none f [] none = refl
+flat_map_none f (n ∷ ns) none = rw (none n, flat_map_none f ns none) refl

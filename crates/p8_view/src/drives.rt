@@ -1,6 +1,7 @@
 // How a turn changes the pins.
 ghost use Rattle.std.specs.Prelude.{◌≡◌, ◌<◌, ◌++◌, OnOk};
 ghost use Rattle.p8_pins.specs.Levels.{is_high};
+ghost use Rattle.p8_view.specs.View.{same_drives};
 ghost use Rattle.p8_view.specs.Drives.{pin_changes, pin_text, pin_word as word_of_pin, pins_text};
 
 use p8_instr::push_text;
@@ -23,6 +24,13 @@ fn is_high(pin: u8, word: u32) -> bool
     ensures { result ≡ is_high pin word }
 {
     (word >> pin) % 2 == 1
+}
+
+/// Whether the pins are the same.
+pub(crate) fn are_same(a: &Drives, b: &Drives) -> bool
+    ensures { result ≡ same_drives a.now b.now }
+{
+    a.directions == b.directions && a.high == b.high
 }
 
 impl Drives {
@@ -62,8 +70,19 @@ fn push_pin(out: &mut Vec<u8>, before: &Drives, after: &Drives, pin: u8) -> Resu
     push_text(out, after.pin_word(pin))
 }
 
-/// Appends the pins that change, with what they are then.
+/// Appends the pins that change, with what they are then. Most turns change none.
 pub(crate) fn push_pins(out: &mut Vec<u8>, before: &Drives, after: &Drives) -> Result<(), NoMemory>
+    ensures { OnOk result (out.new.items ≡ out.old.items ++ pins_text before.now after.now) }
+{
+    if are_same(before, after) {
+        Ok(())
+    } else {
+        push_each(out, before, after)
+    }
+}
+
+/// Asks each of the 32 pins whether it changes, and appends those that do.
+fn push_each(out: &mut Vec<u8>, before: &Drives, after: &Drives) -> Result<(), NoMemory>
     ensures { OnOk result (out.new.items ≡ out.old.items ++ pins_text before.now after.now) }
 {
     for pin in 0..32 {

@@ -1,21 +1,23 @@
 // The lines of the turns that are shown.
-ghost use Rattle.std.specs.Prelude.{◌≡◌, ◌<◌, ◌++◌, ◌∷◌, [], Bool, List, Option, ℕ, not, length, reverse, IfOk, OnOk};
+ghost use Rattle.std.specs.Prelude.{◌≡◌, ◌<◌, ◌++◌, ◌∷◌, [], Bool, List, Option, ℕ, not, codes, length, reverse, IfOk, OnOk};
+ghost use Rattle.std.specs.Fmt.{decimal};
 ghost use Rattle.p8_access.specs.declared.order.Turn.{Turn};
 ghost use Rattle.p8_access.specs.Worlds.{World};
+ghost use Rattle.p8_access.specs.Hub.{cog_state, origin_of};
 ghost use Rattle.p8_ledger.specs.Turns.{AreProper};
 ghost use Rattle.p8_view.specs.Following.{AreCogs};
 ghost use Rattle.p8_view.specs.Drives.{drives_of};
-ghost use Rattle.p8_view.specs.View.{counter_of, is_asked, is_loaded as is_read_of_load, is_of, is_shown, lines_of, loading, rate, same_drives, shown_line, turn_line, what_text, when_text};
+ghost use Rattle.p8_view.specs.View.{counter_of, is_asked, is_loaded as is_read_of_load, is_of, is_shown, lines_of, loading, rate, shown_line, turn_line, what_text, when_text};
 
 use crate::accesses::push_access;
 use crate::cogs::Cogs;
-use crate::drives::{Drives, push_pins};
+use crate::drives::{Drives, are_same, push_pins};
 use crate::times::{push_time, rate_of};
+use itoa::Buffer;
 use p8_access::{Access, Origin, Turn};
 use p8_instr::push_text;
 use p8_ledger::History;
 use p8_legend::Legend;
-use p8_report::push_numbered;
 use p8_words::NoMemory;
 use std::alloc::Global;
 
@@ -67,11 +69,12 @@ fn is_loaded(access: &Access, left: u16) -> bool
     }
 }
 
-/// Whether the pins are the same.
-fn are_same(a: &Drives, b: &Drives) -> bool
-    ensures { result ≡ same_drives a.now b.now }
+/// Appends the number of a cog, after the word for it and before a space.
+fn push_cog(out: &mut Vec<u8>, cog: u8) -> Result<(), NoMemory>
+    requires { cog < 8 }
+    ensures { OnOk result (out.new.items ≡ out.old.items ++ (codes "cog " ++ decimal cog ++ codes " ")) }
 {
-    a.directions == b.directions && a.high == b.high
+    push_text(out, &[b'c', b'o', b'g', b' ', b'0' + cog, b' '])
 }
 
 /// What is shown of a history, and in which words.
@@ -85,13 +88,13 @@ pub(crate) struct Showing<'a> {
 impl<'a> Showing<'a> {
     /// Appends the clock and the time of a turn, and its cog.
     fn push_when(&self, out: &mut Vec<u8>, turn: &Turn) -> Result<(), NoMemory>
+        requires { turn.now.key.cog < 8 }
         ensures { OnOk result (out.new.items ≡ out.old.items ++ when_text self.now.frequency turn.now) }
     {
-        push_numbered(out, b"", turn.key.clock)?;
+        push_text(out, Buffer::new().format(turn.key.clock).as_bytes())?;
         push_text(out, b" ")?;
         push_time(out, self.frequency, turn.key.clock)?;
-        push_numbered(out, b"cog ", u64::from(turn.key.cog))?;
-        push_text(out, b" ")
+        push_cog(out, turn.key.cog)
     }
 
     /// Appends what the cog of a turn does, which was started with `own`, with the pins that change and the place in the source.
@@ -112,22 +115,21 @@ impl<'a> Showing<'a> {
         push_text(out, b"\n")
     }
 
-    /// Appends the line of a turn, by the cogs before it and what the pins are after it.
+    /// Appends the line of a turn of a cog that was started with `own`, by what the pins are before and after it.
     fn push_line(
         &self,
         out: &mut Vec<u8>,
-        cogs: &Cogs,
-        after: &Drives,
+        own: &Origin,
         turn: &Turn,
+        before: &Drives,
+        after: &Drives,
         counter: Option<u16>,
     ) -> Result<(), NoMemory>
         requires { turn.now.key.cog < 8 }
-        ensures { (w : World) (past : List Turn) → AreCogs w past cogs.now → self.now.frequency ≡ rate w → after.now ≡ drives_of (turn.now ∷ past) → OnOk result (out.new.items ≡ out.old.items ++ turn_line self.now.legend.now w past turn.now counter) }
+        ensures { (w : World) (past : List Turn) → own.now ≡ origin_of (cog_state w past turn.now.key.cog) → before.now ≡ drives_of past → after.now ≡ drives_of (turn.now ∷ past) → self.now.frequency ≡ rate w → OnOk result (out.new.items ≡ out.old.items ++ turn_line self.now.legend.now w past turn.now counter) }
     {
-        let own = cogs.origin(turn.key.cog);
-        let before = cogs.drives();
         self.push_when(out, turn)?;
-        self.push_what(out, &own, turn, &before, after, counter)
+        self.push_what(out, own, turn, before, after, counter)
     }
 
     /// Appends the line of a turn where it is shown, and takes note of it.
@@ -142,22 +144,24 @@ impl<'a> Showing<'a> {
         ensures text { (w : World) (past : List Turn) → AreCogs w past cogs.old → self.now.frequency ≡ rate w → OnOk result (out.new.items ≡ out.old.items ++ shown_line self.now.options.now self.now.legend.now w past turn.now counter) }
         ensures cogs { (w : World) (past : List Turn) → AreCogs w past cogs.old → AreCogs w (turn.now ∷ past) cogs.new }
     {
-        let before = *cogs;
+        let own = cogs.origin(turn.key.cog);
+        let left = cogs.left(turn.key.cog);
+        let before = cogs.drives();
         cogs.note(turn);
-        if !self.shows(&before, cogs, turn) {
+        let after = cogs.drives();
+        if !self.shows(left, &before, &after, turn) {
             return Ok(());
         }
-        self.push_line(out, &before, &cogs.drives(), turn, counter)
+        self.push_line(out, &own, turn, &before, &after, counter)
     }
 
-    /// Whether a turn is shown, by the cogs before and after it.
-    fn shows(&self, before: &Cogs, after: &Cogs, turn: &Turn) -> bool
-        requires { turn.now.key.cog < 8 }
-        ensures { (w : World) (past : List Turn) → AreCogs w past before.now → AreCogs w (turn.now ∷ past) after.now → result ≡ is_shown self.now.options.now past turn.now }
+    /// Whether a turn is shown, by how many reads of its load its cog has still to make and what the pins are before and after it.
+    fn shows(&self, left: u16, before: &Drives, after: &Drives, turn: &Turn) -> bool
+        ensures { (past : List Turn) → left ≡ loading past turn.now.key.cog → before.now ≡ drives_of past → after.now ≡ drives_of (turn.now ∷ past) → result ≡ is_shown self.now.options.now past turn.now }
     {
-        let changes = !are_same(&before.drives(), &after.drives());
+        let changes = !are_same(before, after);
         self.options.asks_for(turn.key.clock, turn.key.cog, changes)
-            && !is_loaded(&turn.access, before.left(turn.key.cog))
+            && !is_loaded(&turn.access, left)
     }
 }
 
