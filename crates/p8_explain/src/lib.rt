@@ -6,8 +6,6 @@ mod entries;
 mod explaining;
 mod lines;
 mod standing;
-#[cfg(test)]
-mod tests;
 mod texts;
 
 pub use explaining::{absence, entry, explanation};

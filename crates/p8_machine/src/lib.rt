@@ -8,8 +8,6 @@
 mod counted;
 mod run;
 mod seats;
-#[cfg(test)]
-mod worked;
 
 pub use counted::{Counted, run_counted};
 pub use run::{Machine, run_alone};

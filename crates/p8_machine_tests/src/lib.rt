@@ -11,6 +11,8 @@ mod alu;
 #[cfg(test)]
 mod bytecode;
 #[cfg(test)]
+mod counters;
+#[cfg(test)]
 mod desk;
 #[cfg(test)]
 mod histories;

@@ -1,5 +1,5 @@
 //! Tests of sources and files: of tokens, expressions, trees, names, constants and `DAT`, of shelves and sinks, of what a run begins
-//! with, of images, listings, maps and legends. Whole files are read and printed by the suite of cases.
+//! with, of images, listings, maps, legends and explanations. Whole files are read and printed by the suite of cases.
 //!
 //! They stand apart from the crates that they test, because a crate with tests is proved twice.
 #![tactic(auto)]
@@ -8,6 +8,8 @@
 mod assembly;
 #[cfg(test)]
 mod components;
+#[cfg(test)]
+mod explanations;
 #[cfg(test)]
 mod expr;
 #[cfg(test)]

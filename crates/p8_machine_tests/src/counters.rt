@@ -1,7 +1,7 @@
 // The counters of a run that was worked by hand.
-use crate::run_counted;
 use p8_access::{Boot, Origin, Ram};
 use p8_ledger::Limits;
+use p8_machine::run_counted;
 use p8_pins::PinScript;
 use std::test::Fail;
 

@@ -1,5 +1,5 @@
 // Whole explanations, of sources with their refusals.
-use crate::{absence, entry, explanation};
+use p8_explain::{absence, entry, explanation};
 use p8_tree::{Fault, Place, Text};
 use p8_words::NoMemory;
 use std::alloc::Global;
