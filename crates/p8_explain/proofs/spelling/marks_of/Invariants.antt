@@ -1,0 +1,10 @@
+use Rattle.std.proofs.Common.{◌≡◌}
+use Rattle.p8_explain.specs.Marks.{AreMarks, IsMark}
+use Rattle.p8_explain.proofs.spelling.marks_of.Given as goal
+
+abbrev pub invariant-loop-at : goal.invariant-loop-at
+invariant-loop-at l = record {
+  at : l.mark.at ≡ l._at;
+  mark : IsMark l.text l.mark;
+  are : AreMarks l.text l.marks.items;
+}
