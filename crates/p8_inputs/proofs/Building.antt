@@ -9,7 +9,7 @@ use Rattle.p8_objects.specs.Outcomes.{project}
 use Rattle.p8_inputs.specs.declared.program.Format.TheVariants.{Source}
 use Rattle.p8_inputs.specs.declared.stop.Stop.{Stop}
 use Rattle.p8_inputs.specs.declared.stop.Stop.TheVariants.{Unread, Missing, NoMemory, Refused, BadProgram, BadScript, Unnamed}
-use Rattle.p8_objects.specs.Whole.{EachTree}
+use Rattle.p8_objects.specs.Whole.{AreSources, EachTree}
 use Rattle.p8_tree.specs.Proper.{IsProperFile}
 use Rattle.p8_image.specs.declared.parts.ObjectPart.{ObjectPart}
 use Rattle.p8_image.specs.Loading.{ImageValue}
@@ -45,11 +45,11 @@ module _ (files : Files) (short : Bool) (top : List ℕ) (sources : List NamedSo
   pub listing-from : (text : List ℕ) → IsListingOf short sources text → IsListingFrom files short top text
   listing-from text is = (sources, is.0, is.1, record { gathered = gathered; built = is.2 }, is.3)
 
-  pub map-from : (text : List ℕ) → IsMapOf sources text → IsMapFrom files top text
-  map-from text is = (sources, gathered, is)
+  pub map-from : (texts : List (List ℕ)) → AreSources files sources texts → (text : List ℕ) → IsMapOf texts sources text → IsMapFrom files top text
+  map-from texts are text is = (sources, gathered, texts, are, is)
 
-  pub legend-from : (legend : Legend) → IsLegendOf sources legend → IsProjectLegend files top legend
-  legend-from legend is = (sources, gathered, is)
+  pub legend-from : (texts : List (List ℕ)) → AreSources files sources texts → (legend : Legend) → IsLegendOf texts sources legend → IsProjectLegend files top legend
+  legend-from texts are legend is = (sources, gathered, texts, are, is)
 
   pub building-stops : (before now : ℕ) (stop : Stop) → StopsAtBuilding sources stop → StopsAtProgram files before now (Source short) top stop
   building-stops before now (Refused name f) stops = when_built sources gathered stops

@@ -193,9 +193,9 @@ module _ (files : List ℕ → Option (List ℕ)) where
     -- what has a map has an image
     image-of_map : (file text : List ℕ) → IsMapFrom (Some files) file text → (image : List ℕ) × IsProgram (Some files) (Source false) file image
     image-of_map file text is =
-        let map : IsMapOf is.0 text = is.2 in
+        let map : IsMapOf is.2 is.0 text = is.4 in
         let objects : List ObjectPart = objects_of is.0 map.children map.compiled in
-        (image_of map.clock objects, (is.0, map.clock, objects, record { gathered = is.1; built = map-built is.0 text map }, refl))
+        (image_of map.clock objects, (is.0, map.clock, objects, record { gathered = is.1; built = map-built is.2 is.0 text map }, refl))
 
     program-stop-one : (before now : ℕ) (format : Format) (file : List ℕ) (a b : Stop) → IsOfFiles a → IsOfFiles b → StopsAtProgram (Some files) before now format file a → StopsAtProgram (Some files) before now format file b → a ≡ b
     program-stop-one before now (Source short) file (Missing a k) (Missing b l) s t p q = missing-same (one.one_missing before now file a b k l p q)

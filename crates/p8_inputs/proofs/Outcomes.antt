@@ -1,5 +1,5 @@
 -- A source on a shelf that tells its files has one outcome.
-use Rattle.std.proofs.Common.{◌≡◌, ℕ, Bool, true, false, List, Option, Some, ap, subst, refl}
+use Rattle.std.proofs.Common.{◌≡◌, ◌∙◌, ℕ, Bool, true, false, List, [], ◌∷◌, Option, Some, None, ap, sym, subst, refl}
 use Rattle.p8_tree.specs.Projects.{NamedSource}
 use Rattle.p8_tree.specs.declared.faults.Fault.{Fault}
 use Rattle.p8_kinds.specs.declared.children.Children.{Children}
@@ -9,7 +9,8 @@ use Rattle.p8_image.specs.declared.parts.ObjectPart.{ObjectPart}
 use Rattle.p8_legend.specs.declared.legend.Legend.{Legend}
 use Rattle.p8_objects.specs.declared.fault.Mention.{Mention}
 use Rattle.p8_objects.specs.Outcomes.{Outcome, project, refused, missing, shelved, Gathers}
-use Rattle.p8_objects.specs.Whole.{IsOfFiles}
+use Rattle.p8_io.specs.Shelves.{AreStartOf}
+use Rattle.p8_objects.specs.Whole.{AreSources, IsOfFiles}
 use Rattle.p8_objects.proofs.Wholes.{whole_project}
 use Rattle.p8_names.specs.Mentions as seen
 use Rattle.p8_build.specs.Builds.{IsBuilt, IsRefusedWith, objects_of}
@@ -43,6 +44,20 @@ missing-not_refused e = cc
 as-it_stands : (sources : List NamedSource) (clock : Clock) (objects : List ObjectPart) (b : IsShortBuilt sources clock objects) → IsBuilt sources clock (objects_of sources b.children b.compiled)
 as-it_stands sources clock objects b = record { children = b.children; seen = b.seen; compiled = b.compiled; each = b.each; objects_are = refl; clock_is = b.clock_is; fits = b.fits }
 
+-- the bytes of files are one thing
+start-same : (file : Option (List ℕ)) (a b : List ℕ) → AreStartOf file a → AreStartOf file b → a ≡ b
+start-same None a b p q = absurd p
+start-same (Some file) a b p q = p ∙ sym q
+
+one-sources : (files : List ℕ → Option (List ℕ)) (sources : List NamedSource) (a b : List (List ℕ)) → AreSources (Some files) sources a → AreSources (Some files) sources b → a ≡ b
+one-sources files [] [] [] p q = refl
+one-sources files [] [] (y ∷ b) p q = absurd q
+one-sources files [] (x ∷ a) b p q = absurd p
+one-sources files (f ∷ sources) [] b p q = absurd p
+one-sources files (f ∷ sources) (x ∷ a) [] p q = absurd q
+one-sources files (f ∷ sources) (x ∷ a) (y ∷ b) p q =
+    ap (λ (z : List ℕ). z ∷ a) (start-same (files f.name) x y p.0.1 q.0.1) ∙ ap (λ (zs : List (List ℕ)). y ∷ zs) (one-sources files sources a b p.2 q.2)
+
 -- what gathering comes to is one thing
 abbrev pub OneGathered : Type 0
 OneGathered = (files : List ℕ → Option (List ℕ)) (before now : ℕ) (top : List ℕ) (a b : Outcome) → Gathers (shelved (Some files) before now) top a → Gathers (shelved (Some files) before now) top b → IsOfFiles a → IsOfFiles b → a ≡ b
@@ -64,7 +79,7 @@ OneView = (files : List NamedSource) → seen.AreDistinct files → seen.HaveNoR
 
 -- a project has one legend
 abbrev pub OneLegend : Type 0
-OneLegend = (files : List NamedSource) → seen.AreDistinct files → seen.HaveNoRing files → (a b : Legend) → IsLegendOf files a → IsLegendOf files b → AreSame a b
+OneLegend = (texts : List (List ℕ)) (files : List NamedSource) → seen.AreDistinct files → seen.HaveNoRing files → (a b : Legend) → IsLegendOf texts files a → IsLegendOf texts files b → AreSame a b
 
 abbrev pub OneRefused : Type 0
 OneRefused = (files : List NamedSource) → seen.AreDistinct files → seen.HaveNoRing files → (a b : List ℕ) (f g : Fault) → IsRefusedWith files a f → IsRefusedWith files b g → (a ≡ b) × (f ≡ g)
@@ -93,13 +108,18 @@ module _ (one : OneGathered) (same : OneBuilt) (refusal : OneRefused) (either : 
   one-map top a b p q =
       let e : p.0 ≡ q.0 = one-project top p.0 q.0 p.1 q.1 in
       let whole = whole_project (q.1 0 0) in
-      map-one q.0 (views q.0 (distinct q.0 whole.distinct) (no_ring q.0 whole.no_ring)) a b (subst (λ s. IsMapOf s a) e p.2) q.2
+      let texts : p.2 ≡ q.2 = one-sources files q.0 p.2 q.2 (subst (λ (s : List NamedSource). AreSources (Some files) s p.2) e p.3) q.3 in
+      map-one q.2 q.0 (views q.0 (distinct q.0 whole.distinct) (no_ring q.0 whole.no_ring)) a b
+      (subst (λ (ts : List (List ℕ)). IsMapOf ts q.0 a) texts (subst (λ (s : List NamedSource). IsMapOf p.2 s a) e p.4)) q.4
 
   one-legend : (top : List ℕ) (a b : Legend) → IsProjectLegend (Some files) top a → IsProjectLegend (Some files) top b → a ≡ b
   one-legend top a b p q =
       let e : p.0 ≡ q.0 = one-project top p.0 q.0 p.1 q.1 in
       let whole = whole_project (q.1 0 0) in
-      same-legend a b (legends q.0 (distinct q.0 whole.distinct) (no_ring q.0 whole.no_ring) a b (subst (λ s. IsLegendOf s a) e p.2) q.2)
+      let texts : p.2 ≡ q.2 = one-sources files q.0 p.2 q.2 (subst (λ (s : List NamedSource). AreSources (Some files) s p.2) e p.3) q.3 in
+      same-legend a b
+      (legends q.2 q.0 (distinct q.0 whole.distinct) (no_ring q.0 whole.no_ring) a b
+      (subst (λ (ts : List (List ℕ)). IsLegendOf ts q.0 a) texts (subst (λ (s : List NamedSource). IsLegendOf p.2 s a) e p.4)) q.4)
 
   not-refused : (short : Bool) (top name : List ℕ) (f : Fault) (sources : List NamedSource) (clock : Clock) (objects : List ObjectPart) → IsBuiltFrom (Some files) short top sources clock objects → IsRefusedFrom (Some files) top name f → ⊥
   not-refused short top name f sources clock objects g (while_gathered h) =

@@ -9,6 +9,7 @@ use Rattle.p8_io.specs.Shelves.{Files}
 use Rattle.p8_legend.specs.declared.legend.Legend.{Legend}
 use Rattle.p8_objects.specs.declared.fault.Mention.{Mention}
 use Rattle.p8_objects.specs.Outcomes.{Outcome, project, refused, missing, shelved, Gathers}
+use Rattle.p8_objects.specs.Whole.{AreSources}
 use Rattle.p8_build.specs.Builds.{IsBuilt, IsRefusedWith}
 use Rattle.p8_map.specs.Projects.{IsMapOf}
 use Rattle.p8_legend.specs.Projects.{IsLegendOf}
@@ -41,13 +42,15 @@ IsListingFrom files short top text =
     (sources : List NamedSource) × (clock : Clock) × (objects : List ObjectPart)
     × IsBuiltFrom files short top sources clock objects × (text ≡ listing_of (map (λ source. source.name) sources) objects)
 
--- this text is the map of the project of a top file
+-- this text is the map of the project of a top file, by the bytes of its files
 abbrev pub IsMapFrom : Files → (top text : List ℕ) → Type 0
-IsMapFrom files top text = (sources : List NamedSource) × GathersTo files top (project sources) × IsMapOf sources text
+IsMapFrom files top text =
+    (sources : List NamedSource) × GathersTo files top (project sources) × (texts : List (List ℕ)) × AreSources files sources texts × IsMapOf texts sources text
 
--- this legend is that of the project of a top file
+-- this legend is that of the project of a top file, by the bytes of its files
 abbrev pub IsProjectLegend : Files → (top : List ℕ) → Legend → Type 0
-IsProjectLegend files top legend = (sources : List NamedSource) × GathersTo files top (project sources) × IsLegendOf sources legend
+IsProjectLegend files top legend =
+    (sources : List NamedSource) × GathersTo files top (project sources) × (texts : List (List ℕ)) × AreSources files sources texts × IsLegendOf texts sources legend
 
 -- the project of a top file is refused: this file of it, for this; while it is gathered, or else when it is built
 pub data IsRefusedFrom (files : Files) (top name : List ℕ) (f : Fault) : Type 0 where

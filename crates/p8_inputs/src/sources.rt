@@ -1,10 +1,11 @@
 // What a source is built to.
-ghost use Rattle.std.specs.Prelude.{◌≡◌, ◌≤◌, ◌∷◌, [], ℕ, Bool, false, List, Err, map, IfOk, IfErr};
+ghost use Rattle.std.specs.Prelude.{◌≡◌, ◌≤◌, ◌∷◌, [], ℕ, Bool, false, List, Err, length, map, IfOk, IfErr};
 ghost use Rattle.p8_tree.specs.Projects.{NamedSource};
 ghost use Rattle.p8_tree.specs.Views.{named_sources_of};
 ghost use Rattle.p8_io.specs.Shelves.{Files};
 ghost use Rattle.p8_objects.specs.Orders.{AreAllRead as FilesAreRead, ReadsInOrder};
 ghost use Rattle.p8_objects.specs.Outcomes.{shelved, Answers};
+ghost use Rattle.p8_objects.specs.Whole.{AreSources};
 ghost use Rattle.p8_build.specs.Told.{IsRefusal};
 ghost use Rattle.p8_image.specs.Loading.{image_in as image_of_file};
 ghost use Rattle.p8_map.specs.Projects.{IsMapOf};
@@ -22,7 +23,7 @@ use p8_image::{Image, listing};
 use p8_io::Shelf;
 use p8_legend::{Legend, project_legend};
 use p8_map::project_map;
-use p8_objects::{GatherFault, discard, gather};
+use p8_objects::{GatherFault, Gathered, discard, gather};
 use p8_opt::{build_short, build_short_parts};
 use p8_tree::{List, Project, ProjectFile, Text};
 use std::alloc::{AllocError, Global};
@@ -34,17 +35,18 @@ pub(crate) struct Explained {
     pub(crate) legend: Legend,
 }
 
-/// The project of a top file.
-fn project_in<S: Shelf>(alloc: Global, file: &str, shelf: &mut S) -> Result<Project, Stop>
-    ensures project { IfOk result (λ project. IsProject (S.files shelf.old) file.now (named_sources_of project)) }
+/// The project of a top file, with the bytes of its files.
+fn project_in<S: Shelf>(alloc: Global, file: &str, shelf: &mut S) -> Result<Gathered, Stop>
+    ensures project { IfOk result (λ gathered. IsProject (S.files shelf.old) file.now (named_sources_of gathered.project)) }
+    ensures sources { IfOk result (λ gathered. AreSources (S.files shelf.old) (named_sources_of gathered.project) gathered.sources) }
     ensures stopped { (short : Bool) → IfErr result (StopsAtProgram (S.files shelf.old) (S.faults shelf.old) (S.faults shelf.new) (Source short) file.now) }
-    ensures all_read { IfOk result (λ project. FilesAreRead (named_sources_of project) (S.log shelf.old) (S.log shelf.new)) }
+    ensures all_read { IfOk result (λ gathered. FilesAreRead (named_sources_of gathered.project) (S.log shelf.old) (S.log shelf.new)) }
     ensures in_order { ReadsInOrder (S.files shelf.old) file.now (S.log shelf.old) (S.log shelf.new) }
     ensures later { S.faults shelf.old ≤ S.faults shelf.new }
     ensures kept { S.files shelf.new ≡ S.files shelf.old }
 {
     match gather(alloc, shelf, file) {
-        Ok(project) => Ok(project),
+        Ok(gathered) => Ok(gathered),
         Err(fault) => Err(stop_of_gathering(fault)),
     }
 }
@@ -137,38 +139,45 @@ fn listing_of_project(alloc: Global, short: bool, project: &Project) -> Result<V
 }
 
 /// The map of a project.
-fn map_of_project(alloc: Global, project: &Project) -> Result<Vec<u8>, Stop>
-    requires { IsWhole (named_sources_of project.now) }
-    ensures text { IfOk result (λ text. IsMapOf (named_sources_of project.now) text.items) }
+fn map_of_project(alloc: Global, project: &Project, sources: &[Text]) -> Result<Vec<u8>, Stop>
+    requires whole { IsWhole (named_sources_of project.now) }
+    requires beside { length sources.now ≡ length (named_sources_of project.now) }
+    ensures text { IfOk result (λ text. IsMapOf sources.now (named_sources_of project.now) text.items) }
     ensures stopped { IfErr result (StopsAtBuilding (named_sources_of project.now)) }
 {
-    match project_map(alloc, project) {
+    match project_map(alloc, project, sources) {
         Ok(text) => Ok(text),
         Err(fault) => Err(stop_of_building(fault)),
     }
 }
 
 /// The legend of a project.
-fn legend_of_project(alloc: Global, project: &Project) -> Result<Legend, Stop>
-    requires { IsWhole (named_sources_of project.now) }
-    ensures legend { IfOk result (IsLegendOf (named_sources_of project.now)) }
+fn legend_of_project(alloc: Global, project: &Project, sources: &[Text]) -> Result<Legend, Stop>
+    requires whole { IsWhole (named_sources_of project.now) }
+    requires beside { length sources.now ≡ length (named_sources_of project.now) }
+    ensures legend { IfOk result (IsLegendOf sources.now (named_sources_of project.now)) }
     ensures stopped { IfErr result (StopsAtBuilding (named_sources_of project.now)) }
 {
-    match project_legend(alloc, project) {
+    match project_legend(alloc, project, sources) {
         Ok(legend) => Ok(legend),
         Err(fault) => Err(stop_of_building(fault)),
     }
 }
 
 /// The image of a project with its legend.
-fn explained_project(alloc: Global, project: &Project) -> Result<Explained, Stop>
-    requires { IsWhole (named_sources_of project.now) }
+fn explained_project(
+    alloc: Global,
+    project: &Project,
+    sources: &[Text],
+) -> Result<Explained, Stop>
+    requires whole { IsWhole (named_sources_of project.now) }
+    requires beside { length sources.now ≡ length (named_sources_of project.now) }
     ensures image { IfOk result (λ read. IsImageBuiltBy false (named_sources_of project.now) read.image) }
-    ensures legend { IfOk result (λ read. IsLegendOf (named_sources_of project.now) read.legend) }
+    ensures legend { IfOk result (λ read. IsLegendOf sources.now (named_sources_of project.now) read.legend) }
     ensures stopped { IfErr result (StopsAtBuilding (named_sources_of project.now)) }
 {
     let image = image_of_project(alloc, false, project)?;
-    let legend = legend_of_project(alloc, project)?;
+    let legend = legend_of_project(alloc, project, sources)?;
     Ok(Explained { image, legend })
 }
 
@@ -187,9 +196,9 @@ pub(crate) fn image_in<S: Shelf>(
     ensures later { S.faults shelf.old ≤ S.faults shelf.new }
     ensures kept { S.files shelf.new ≡ S.files shelf.old }
 {
-    let project = project_in(alloc, file, shelf)?;
-    let image = image_of_project(alloc, short, &project);
-    discard(project);
+    let gathered = project_in(alloc, file, shelf)?;
+    let image = image_of_project(alloc, short, &gathered.project);
+    discard(gathered);
     image
 }
 
@@ -208,9 +217,9 @@ pub(crate) fn explained_in<S: Shelf>(
     ensures later { S.faults shelf.old ≤ S.faults shelf.new }
     ensures kept { S.files shelf.new ≡ S.files shelf.old }
 {
-    let project = project_in(alloc, file, shelf)?;
-    let read = explained_project(alloc, &project);
-    discard(project);
+    let gathered = project_in(alloc, file, shelf)?;
+    let read = explained_project(alloc, &gathered.project, gathered.sources.as_slice());
+    discard(gathered);
     read
 }
 
@@ -228,9 +237,9 @@ fn listing_in<S: Shelf>(
     ensures later { S.faults shelf.old ≤ S.faults shelf.new }
     ensures kept { S.files shelf.new ≡ S.files shelf.old }
 {
-    let project = project_in(alloc, file, shelf)?;
-    let text = listing_of_project(alloc, short, &project);
-    discard(project);
+    let gathered = project_in(alloc, file, shelf)?;
+    let text = listing_of_project(alloc, short, &gathered.project);
+    discard(gathered);
     text
 }
 
@@ -243,9 +252,9 @@ fn map_in<S: Shelf>(alloc: Global, file: &str, shelf: &mut S) -> Result<Vec<u8>,
     ensures later { S.faults shelf.old ≤ S.faults shelf.new }
     ensures kept { S.files shelf.new ≡ S.files shelf.old }
 {
-    let project = project_in(alloc, file, shelf)?;
-    let text = map_of_project(alloc, &project);
-    discard(project);
+    let gathered = project_in(alloc, file, shelf)?;
+    let text = map_of_project(alloc, &gathered.project, gathered.sources.as_slice());
+    discard(gathered);
     text
 }
 

@@ -27,12 +27,12 @@ if-both (Err e) P Q R p q f = tt
 abbrev pub for-map : (files : List NamedSource) (a : Accepted) → IsAcceptedProject files a → map.IsAcceptedProject files a
 for-map files a project = record { children = project.children; seen = project.seen; is = project.is }
 
-pub legend-told : (files : List NamedSource) (a : Accepted) (project : IsAcceptedProject files a)
-    → (shown : List FileNames) → shown ≡ names_of files project.children project.is.objects.xs
+pub legend-told : (sources : List (List ℕ)) (files : List NamedSource) (a : Accepted) (project : IsAcceptedProject files a)
+    → (shown : List FileNames) → shown ≡ names_of sources files project.children project.is.objects.xs
     → (rows : List Row) → rows ≡ rows_from 0 16 (objects_of files project.children project.is.objects.xs) (codes_of project.is.objects.xs)
     → (at : ℕ) → at ≡ word_at a.built.image.file 8 → (objects : List ObjectPart) → objects ≡ a.built.objects → (legend : Legend)
-    → (legend.names.ranges, legend.names.texts) ≡ names_in at shown objects → (legend.places.ranges, legend.places.texts) ≡ with_rows ([], []) shown rows → IsLegendOf files legend
-legend-told files a project shown shown_are rows rows_are at at_is objects objects_are legend names places =
+    → (legend.names.ranges, legend.names.texts) ≡ names_in at shown objects → (legend.places.ranges, legend.places.texts) ≡ with_rows ([], []) shown rows → IsLegendOf sources files legend
+legend-told sources files a project shown shown_are rows rows_are at at_is objects objects_are legend names places =
     let h = project.is in
     let compiled : List ObjectPart = objects_of files project.children h.objects.xs in
     let built : a.built.objects ≡ compiled = h.objects.are in

@@ -1,5 +1,5 @@
 -- The legend of a project, by its sources.
-use Rattle.std.specs.Prelude.{◌≡◌, List, [], Some}
+use Rattle.std.specs.Prelude.{◌≡◌, ℕ, List, [], Some}
 use Rattle.p8_tree.specs.Projects.{NamedSource}
 use Rattle.p8_kinds.specs.declared.children.Children.{Children}
 use Rattle.p8_names.specs.Children.{AreChildren}
@@ -14,8 +14,8 @@ use Rattle.p8_legend.specs.Rows.{codes_of, rows_from}
 use Rattle.p8_map.specs.Projects.{names_of}
 use Rattle.p8_legend.specs.ProjectLegends.{Named, names_in, with_rows}
 
--- the project is accepted, and this is the legend of its image, by the names of its files and the lines of their codes
-pub record IsLegendOf (files : List NamedSource) (legend : Legend) : Type 0 where
+-- the project is accepted, and this is the legend of its image, by the names of its files, whose bytes these are, and the lines of their codes
+pub record IsLegendOf (sources : List (List ℕ)) (files : List NamedSource) (legend : Legend) : Type 0 where
   pub children : List Children
   pub seen : AreChildren files children
   pub compiled : List CompiledFile
@@ -24,9 +24,9 @@ pub record IsLegendOf (files : List NamedSource) (legend : Legend) : Type 0 wher
   pub clock_is : clock_by compiled ≡ Some clock
   pub fits : FitsHub (header_by (objects_of files children compiled))
   pub names : (legend.names.ranges, legend.names.texts)
-      ≡ names_in (word_at (image_of clock (objects_of files children compiled)) 8) (names_of files children compiled) (objects_of files children compiled)
+      ≡ names_in (word_at (image_of clock (objects_of files children compiled)) 8) (names_of sources files children compiled) (objects_of files children compiled)
   pub places : (legend.places.ranges, legend.places.texts)
-      ≡ with_rows ([], []) (names_of files children compiled) (rows_from 0 16 (objects_of files children compiled) (codes_of compiled))
+      ≡ with_rows ([], []) (names_of sources files children compiled) (rows_from 0 16 (objects_of files children compiled) (codes_of compiled))
 
 -- the same ranges with the same texts
 pub record AreSame (a b : Legend) : Type 0 where

@@ -1,5 +1,5 @@
 // The legend of a project.
-ghost use Rattle.std.specs.Prelude.{◌≤◌, ◌<◌, length, map, IfOk, IfErr};
+ghost use Rattle.std.specs.Prelude.{◌≡◌, ◌≤◌, ◌<◌, length, map, IfOk, IfErr};
 ghost use Rattle.p8_tree.specs.Views.{named_sources_of, named_source_of};
 ghost use Rattle.p8_tree.specs.Projects.{most_files};
 ghost use Rattle.p8_names.specs.Children.{AreChildren};
@@ -17,27 +17,33 @@ use p8_build::{Accepted, BuildFault, FileFault, accept, told};
 use p8_kinds::Children;
 use p8_map::{names_of_accepted, variables_at};
 use p8_names::children_of;
-use p8_tree::{Project, ProjectFile};
+use p8_tree::{Project, ProjectFile, Text};
 use p8_words::{Fail, NoMemory};
 use std::alloc::Global;
 
 /// The legend of a project: the names of what stands in the image that [`build`](p8_build::build) makes of it, and the place of each
-/// bytecode, as [`legend_of_parts`] tells them.
+/// bytecode, as [`legend_of_parts`] tells them, with each name as its file spells it where it is defined. `sources` are the bytes of the project's
+/// files, in their order.
 ///
 /// The conditions, the errors and when each comes are those of [`build_parts`](p8_build::build_parts): a project has a legend exactly where
 /// it is built to an image. Beside the building it takes time in proportion to the project and to the names of its instances.
-pub fn project_legend(alloc: Global, project: &Project) -> Result<Legend, BuildFault>
+pub fn project_legend(
+    alloc: Global,
+    project: &Project,
+    sources: &[Text],
+) -> Result<Legend, BuildFault>
+    requires beside { length sources.now ≡ length (named_sources_of project.now) }
     requires first { 0 < length (named_sources_of project.now) }
     requires few { length (named_sources_of project.now) ≤ most_files }
     requires mentioned { HaveMentioned (named_sources_of project.now) }
     requires no_ring { HaveNoRing (named_sources_of project.now) }
     requires proper { AreProper (named_sources_of project.now) }
-    ensures legend { IfOk result (IsLegendOf (named_sources_of project.now)) }
+    ensures legend { IfOk result (IsLegendOf sources.now (named_sources_of project.now)) }
     ensures refused { IfErr result (IsRefusal (named_sources_of project.now)) }
 {
     let files = project.files.as_slice();
     let children = children_of(alloc, project)?;
-    match legend_of_files(alloc, files, &children) {
+    match legend_of_files(alloc, files, sources, &children) {
         Ok(legend) => Ok(legend),
         Err(Fail::Refused(refusal)) => Err(told(alloc, &files[refusal.file], refusal.fault)),
         Err(Fail::NoMemory) => Err(BuildFault::NoMemory),
@@ -48,30 +54,34 @@ pub fn project_legend(alloc: Global, project: &Project) -> Result<Legend, BuildF
 fn legend_of_files(
     alloc: Global,
     files: &[ProjectFile],
+    sources: &[Text],
     children: &[Children],
 ) -> Result<Legend, Fail<FileFault>>
+    requires beside { length sources.now ≡ length files.now }
     requires first { 0 < length files.now }
     requires few { length files.now ≤ most_files }
     requires proper { AreProper (map named_source_of files.now) }
     requires children { AreChildren (map named_source_of files.now) children.now }
-    ensures legend { IfOk result (IsLegendOf (map named_source_of files.now)) }
+    ensures legend { IfOk result (IsLegendOf sources.now (map named_source_of files.now)) }
     ensures refused { IfErr result (IfFirstRefused (map named_source_of files.now) children.now) }
 {
     let accepted = accept(alloc, files, children)?;
-    Ok(legend_of_accepted(alloc, files, &accepted)?)
+    Ok(legend_of_accepted(alloc, files, sources, &accepted)?)
 }
 
 /// The legend of an accepted project.
 fn legend_of_accepted(
     alloc: Global,
     files: &[ProjectFile],
+    sources: &[Text],
     accepted: &Accepted<'_>,
 ) -> Result<Legend, NoMemory>
+    requires beside { length sources.now ≡ length files.now }
     requires few { length files.now ≤ most_files }
     requires accepted { IsAcceptedProject (map named_source_of files.now) accepted.now }
-    ensures { IfOk result (IsLegendOf (map named_source_of files.now)) }
+    ensures { IfOk result (IsLegendOf sources.now (map named_source_of files.now)) }
 {
-    let names = names_of_accepted(alloc, files, accepted)?;
+    let names = names_of_accepted(alloc, files, sources, accepted)?;
     let table = table_of_accepted(alloc, files, accepted)?;
     let built = &accepted.built;
     legend_of_parts(

@@ -7,74 +7,65 @@ ghost use Rattle.p8_map.specs.Projects.{names_of};
 use crate::names::FileNames;
 use p8_build::Accepted;
 use p8_dat::Dat;
-use p8_kinds::{Label, Named, consts_of};
+use p8_explain::Spellings;
+use p8_kinds::{Named, consts_of};
 use p8_tree::{List, ProjectFile, Text};
 use p8_words::NoMemory;
 use std::alloc::Global;
 
-/// The names of all files of an accepted project, in the order of the files. The only error is want of memory.
+/// The names of all files of an accepted project, in the order of the files, as they spell them. `sources` are the bytes of the files, in their
+/// order. The only error is want of memory.
 pub fn names_of_accepted(
     alloc: Global,
     files: &[ProjectFile],
+    sources: &[Text],
     accepted: &Accepted<'_>,
 ) -> Result<List<FileNames>, NoMemory>
-    requires { IsAcceptedProject (map named_source_of files.now) accepted.now }
-    ensures { (project : IsAcceptedProject (map named_source_of files.now) accepted.now) → IfOk result (λ names. names ≡ names_of (map named_source_of files.now) project.children project.is.objects.xs) }
+    requires beside { length sources.now ≡ length files.now }
+    requires accepted { IsAcceptedProject (map named_source_of files.now) accepted.now }
+    ensures { (project : IsAcceptedProject (map named_source_of files.now) accepted.now) → IfOk result (λ names. names ≡ names_of sources.now (map named_source_of files.now) project.children project.is.objects.xs) }
 {
     let named = accepted.named.as_slice();
-    names_of_all(alloc, files, named, accepted.assembled.as_slice())
+    names_of_all(alloc, files, sources, named, accepted.assembled.as_slice())
 }
 
 /// The names of all files, by what was found of each.
 fn names_of_all(
     alloc: Global,
     files: &[ProjectFile],
+    sources: &[Text],
     named: &[Named<'_>],
     assembled: &[Dat],
 ) -> Result<List<FileNames>, NoMemory>
+    requires sources { length sources.now ≡ length files.now }
     requires named { length named.now ≡ length files.now }
     requires assembled { length assembled.now ≡ length files.now }
-    ensures { IfOk result (AreNamesBy (map named_source_of files.now) named.now assembled.now) }
+    ensures { IfOk result (AreNamesBy sources.now (map named_source_of files.now) named.now assembled.now) }
 {
     let mut all = List::new(alloc);
     for (index, file) in files.iter().enumerate() {
-        all.push(names_of_one(alloc, file, &named[index], &assembled[index])?)?;
+        all.push(names_of_one(
+            alloc,
+            file,
+            &sources[index],
+            &named[index],
+            &assembled[index],
+        )?)?;
     }
     Ok(all)
 }
 
-/// The names of a file.
+/// The names of a file of these bytes.
 fn names_of_one(
     alloc: Global,
     file: &ProjectFile,
+    bytes: &Text,
     named: &Named<'_>,
     dat: &Dat,
 ) -> Result<FileNames, NoMemory>
-    ensures { IfOk result (λ names. names ≡ names_by (named_source_of file.now) named.now dat.now) }
+    ensures { IfOk result (λ names. names ≡ names_by bytes.now (named_source_of file.now) named.now dat.now) }
 {
     let consts = consts_of(alloc, &named.kinds, named.children)?;
-    let labels = copies_of(alloc, dat.labels.as_slice())?;
-    FileNames::of(alloc, file, &consts, labels)
-}
-
-/// Copies of labels.
-fn copies_of(alloc: Global, labels: &[Label]) -> Result<List<Label>, NoMemory>
-    ensures { IfOk result (λ copies. copies ≡ labels.now) }
-{
-    let mut copies = List::new(alloc);
-    for label in labels {
-        copies.push(copy_of(alloc, label)?)?;
-    }
-    Ok(copies)
-}
-
-fn copy_of(alloc: Global, label: &Label) -> Result<Label, NoMemory>
-    ensures { IfOk result (λ copy. copy ≡ label.now) }
-{
-    Ok(Label {
-        name: Text::copy_of(alloc, label.name.as_slice())?,
-        offset: label.offset,
-        cog: label.cog,
-        size: label.size,
-    })
+    let source = Spellings::of(alloc, bytes.as_slice())?;
+    FileNames::of(alloc, file, &source, &consts, dat.labels.as_slice())
 }

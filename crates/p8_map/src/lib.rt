@@ -1,9 +1,10 @@
-//! The map of a project: where everything of it stands in the hub, with the names of its sources.
+//! The map of a project: where everything of it stands in the hub, with names as its sources spell them.
 #![tactic(auto)]
 
 mod accepted;
 mod header;
 mod instances;
+mod labels;
 mod mapping;
 mod methods;
 mod names;
@@ -11,6 +12,7 @@ mod objects;
 mod owners;
 mod plan;
 mod project;
+mod spelled;
 mod text;
 mod variables;
 

@@ -6,14 +6,17 @@ ghost use Rattle.p8_tree.specs.Views.{declared_of, method_of, named_source_of, t
 ghost use Rattle.p8_kinds.specs.ConstantEntries.{setting_of};
 ghost use Rattle.p8_constants.specs.Standing.{item_of, items_of as item_trees};
 ghost use Rattle.p8_names.specs.Kinds.{object_in, objects};
-ghost use Rattle.p8_map.specs.Names.{element_name, element_names, file_names, instance_names, local_name, method_names, names_by_count, variable_name};
+ghost use Rattle.p8_map.specs.Names.{element_name, element_names, file_names, instance_names, local_name, method_names, names_by_count, spelled_all, spelled_by, variable_name};
 
+use crate::labels::{label_places, labels_of};
+use crate::spelled::{behind, first, spelled_by};
 use itoa::Buffer;
 use p8_constants::{Item, count_value, items_of};
+use p8_explain::Spellings;
 use p8_instr::push_text;
 use p8_kinds::{Consts, Label};
 use p8_names::numbered;
-use p8_tree::{Expr, List, Method, ProjectFile, Text, VarItem};
+use p8_tree::{Expr, List, Method, Place, ProjectFile, Text, VarItem};
 use p8_words::NoMemory;
 use std::alloc::Global;
 
@@ -51,45 +54,56 @@ pub struct FileNames {
 }
 
 impl FileNames {
-    /// The names of a file. `consts` are the constants that it sees, `labels` those of its DAT with their places. The only error is want
-    /// of memory.
+    /// The names of a file, each as its text spells it where it is defined. `source` is the file's text, `consts` are the constants that it
+    /// sees, `labels` those of its DAT with their places. The only error is want of memory.
     pub fn of(
         alloc: Global,
         file: &ProjectFile,
+        source: &Spellings<'_>,
         consts: &Consts,
-        labels: List<Label>,
+        labels: &[Label],
     ) -> Result<FileNames, NoMemory>
-        ensures { IfOk result (λ names. names ≡ file_names (named_source_of file.now) (setting_of consts.now) labels) }
+        ensures { IfOk result (λ names. names ≡ file_names source.now (named_source_of file.now) (setting_of consts.now) labels.now) }
     {
         let items = items_of(alloc, &file.tree)?;
         let methods = numbered(alloc, &items)?;
+        let places = label_places(alloc, &items)?;
         Ok(FileNames {
             file: Text::copy_of(alloc, file.name.as_slice())?,
-            variables: variables_of(alloc, &items)?,
-            labels,
-            methods: methods_of(alloc, consts, &methods)?,
-            instances: instances_of(alloc, consts, &items)?,
+            variables: variables_of(alloc, source, &items)?,
+            labels: labels_of(alloc, source, &places, labels)?,
+            methods: methods_of(alloc, source, consts, &methods)?,
+            instances: instances_of(alloc, source, consts, &items)?,
         })
     }
 }
 
 /// The names of the variables among items.
-fn variables_of(alloc: Global, items: &[Item<'_>]) -> Result<List<Text>, NoMemory>
-    ensures { IfOk result (λ names. names ≡ flat_map variable_name (item_trees items.now)) }
+fn variables_of(
+    alloc: Global,
+    source: &Spellings<'_>,
+    items: &[Item<'_>],
+) -> Result<List<Text>, NoMemory>
+    ensures { IfOk result (λ names. names ≡ flat_map (variable_name source.now) (item_trees items.now)) }
 {
     let mut names = List::new(alloc);
     for item in items {
-        put_variable(alloc, &mut names, *item)?;
+        put_variable(alloc, &mut names, source, *item)?;
     }
     Ok(names)
 }
 
-fn put_variable(alloc: Global, names: &mut List<Text>, item: Item<'_>) -> Result<(), NoMemory>
-    ensures { OnOk result (names.new ≡ names.old ++ variable_name (item_of item.entry)) }
+fn put_variable(
+    alloc: Global,
+    names: &mut List<Text>,
+    source: &Spellings<'_>,
+    item: Item<'_>,
+) -> Result<(), NoMemory>
+    ensures { OnOk result (names.new ≡ names.old ++ variable_name source.now (item_of item.entry)) }
 {
     match item {
         Item::Variable(variable) => {
-            names.push(Text::copy_of(alloc, variable.name.as_slice())?)?;
+            names.push(source.spelled(alloc, variable.place, variable.name.as_slice())?)?;
             Ok(())
         }
         _ => Ok(()),
@@ -99,62 +113,86 @@ fn put_variable(alloc: Global, names: &mut List<Text>, item: Item<'_>) -> Result
 /// The names of some methods.
 fn methods_of(
     alloc: Global,
+    source: &Spellings<'_>,
     consts: &Consts,
     methods: &[&Method],
 ) -> Result<List<MethodNames>, NoMemory>
-    ensures { IfOk result (λ names. names ≡ map (method_names (setting_of consts.now)) (map (λ m. method_of m.now) methods.now)) }
+    ensures { IfOk result (λ names. names ≡ map (method_names source.now (setting_of consts.now)) (map (λ m. method_of m.now) methods.now)) }
 {
     let mut names = List::new(alloc);
     for method in methods {
-        names.push(names_of_method(alloc, consts, method)?)?;
+        names.push(names_of_method(alloc, source, consts, method)?)?;
     }
     Ok(names)
 }
 
-fn names_of_method(alloc: Global, consts: &Consts, method: &Method) -> Result<MethodNames, NoMemory>
-    ensures { IfOk result (λ names. names ≡ method_names (setting_of consts.now) (method_of method.now)) }
+fn names_of_method(
+    alloc: Global,
+    source: &Spellings<'_>,
+    consts: &Consts,
+    method: &Method,
+) -> Result<MethodNames, NoMemory>
+    ensures { IfOk result (λ names. names ≡ method_names source.now (setting_of consts.now) (method_of method.now)) }
 {
     Ok(MethodNames {
-        name: Text::copy_of(alloc, method.name.as_slice())?,
-        result: result_of(alloc, method)?,
-        parameters: copies_of(alloc, method.params.as_slice())?,
-        locals: locals_of(alloc, consts, method.locals.as_slice())?,
+        name: source.spelled(alloc, method.place, method.name.as_slice())?,
+        result: result_of(alloc, source, method.result_place, &method.result)?,
+        parameters: parameters_of(
+            alloc,
+            source,
+            method.param_places.as_slice(),
+            method.params.as_slice(),
+        )?,
+        locals: locals_of(alloc, source, consts, method.locals.as_slice())?,
     })
 }
 
 /// The name of a method's result, where it has one.
-fn result_of(alloc: Global, method: &Method) -> Result<Option<Text>, NoMemory>
-    ensures { IfOk result (λ name. name ≡ method.now.result) }
+fn result_of(
+    alloc: Global,
+    source: &Spellings<'_>,
+    place: Option<Place>,
+    name: &Option<Text>,
+) -> Result<Option<Text>, NoMemory>
+    ensures { IfOk result (λ spelled. spelled ≡ option_map (spelled_by source.now place) name.now) }
 {
-    match &method.result {
-        Some(name) => Ok(Some(Text::copy_of(alloc, name.as_slice())?)),
+    match name {
+        Some(name) => Ok(Some(spelled_by(alloc, source, place, name)?)),
         None => Ok(None),
     }
 }
 
-/// Copies of texts.
-fn copies_of(alloc: Global, texts: &[Text]) -> Result<List<Text>, NoMemory>
-    ensures { IfOk result (λ copies. copies ≡ texts.now) }
+/// The names of parameters, which stand at these places.
+fn parameters_of(
+    alloc: Global,
+    source: &Spellings<'_>,
+    places: &[Place],
+    parameters: &[Text],
+) -> Result<List<Text>, NoMemory>
+    ensures { IfOk result (λ names. names ≡ spelled_all source.now places.now parameters.now) }
 {
-    let mut copies = List::new(alloc);
-    for text in texts {
-        copies.push(Text::copy_of(alloc, text.as_slice())?)?;
+    let mut names = List::new(alloc);
+    let mut rest = places;
+    for name in parameters {
+        names.push(spelled_by(alloc, source, first(rest), name)?)?;
+        rest = behind(rest);
     }
-    Ok(copies)
+    Ok(names)
 }
 
 /// The names of locals.
 fn locals_of(
     alloc: Global,
+    source: &Spellings<'_>,
     consts: &Consts,
     locals: &[VarItem],
 ) -> Result<List<LocalName>, NoMemory>
-    ensures { IfOk result (λ names. names ≡ map (local_name (setting_of consts.now)) (map declared_of locals.now)) }
+    ensures { IfOk result (λ names. names ≡ map (local_name source.now (setting_of consts.now)) (map declared_of locals.now)) }
 {
     let mut names = List::new(alloc);
     for local in locals {
         names.push(LocalName {
-            name: Text::copy_of(alloc, local.name.as_slice())?,
+            name: source.spelled(alloc, local.place, local.name.as_slice())?,
             longs: count_value(consts, local.count.as_ref()),
         })?;
     }
@@ -162,12 +200,17 @@ fn locals_of(
 }
 
 /// The names of the instances of objects that items stand for.
-fn instances_of(alloc: Global, consts: &Consts, items: &[Item<'_>]) -> Result<List<Text>, NoMemory>
-    ensures { IfOk result (λ names. names ≡ flat_map (instance_names (setting_of consts.now)) (objects (item_trees items.now))) }
+fn instances_of(
+    alloc: Global,
+    source: &Spellings<'_>,
+    consts: &Consts,
+    items: &[Item<'_>],
+) -> Result<List<Text>, NoMemory>
+    ensures { IfOk result (λ names. names ≡ flat_map (instance_names source.now (setting_of consts.now)) (objects (item_trees items.now))) }
 {
     let mut names = List::new(alloc);
     for item in items {
-        put_item(alloc, &mut names, consts, *item)?;
+        put_item(alloc, &mut names, source, consts, *item)?;
     }
     Ok(names)
 }
@@ -175,14 +218,16 @@ fn instances_of(alloc: Global, consts: &Consts, items: &[Item<'_>]) -> Result<Li
 fn put_item(
     alloc: Global,
     names: &mut List<Text>,
+    source: &Spellings<'_>,
     consts: &Consts,
     item: Item<'_>,
 ) -> Result<(), NoMemory>
-    ensures { OnOk result (names.new ≡ names.old ++ flat_map (instance_names (setting_of consts.now)) (object_in (item_of item.entry))) }
+    ensures { OnOk result (names.new ≡ names.old ++ flat_map (instance_names source.now (setting_of consts.now)) (object_in (item_of item.entry))) }
 {
     match item {
         Item::Object(object) => {
-            put_instances(alloc, names, consts, &object.name, object.count.as_ref())
+            let name = source.spelled(alloc, object.place, object.name.as_slice())?;
+            put_instances(alloc, names, consts, &name, object.count.as_ref())
         }
         _ => Ok(()),
     }

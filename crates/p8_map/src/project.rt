@@ -1,5 +1,5 @@
 // The map of a project.
-ghost use Rattle.std.specs.Prelude.{◌≤◌, ◌<◌, length, map, IfOk, IfErr};
+ghost use Rattle.std.specs.Prelude.{◌≡◌, ◌≤◌, ◌<◌, length, map, IfOk, IfErr};
 ghost use Rattle.p8_tree.specs.Views.{named_sources_of, named_source_of};
 ghost use Rattle.p8_tree.specs.Projects.{most_files};
 ghost use Rattle.p8_names.specs.Children.{AreChildren};
@@ -15,26 +15,32 @@ use crate::mapping::map_text;
 use p8_build::{Accepted, BuildFault, FileFault, accept, told};
 use p8_kinds::Children;
 use p8_names::children_of;
-use p8_tree::{Project, ProjectFile};
+use p8_tree::{Project, ProjectFile, Text};
 use p8_words::{Fail, NoMemory};
 use std::alloc::Global;
 
-/// The map of a project: where everything of it stands in the hub, line by line, as [`map_text`] tells it.
+/// The map of a project: where everything of it stands in the hub, line by line, as [`map_text`] tells it, with each name as its file spells it where
+/// it is defined. `sources` are the bytes of the project's files, in their order.
 ///
 /// The conditions, the errors and when each comes are those of [`build_parts`](p8_build::build_parts): a project has a map exactly where
 /// it is built to an image. Beside the building it takes time in proportion to the project and to the text.
-pub fn project_map(alloc: Global, project: &Project) -> Result<Vec<u8>, BuildFault>
+pub fn project_map(
+    alloc: Global,
+    project: &Project,
+    sources: &[Text],
+) -> Result<Vec<u8>, BuildFault>
+    requires beside { length sources.now ≡ length (named_sources_of project.now) }
     requires first { 0 < length (named_sources_of project.now) }
     requires few { length (named_sources_of project.now) ≤ most_files }
     requires mentioned { HaveMentioned (named_sources_of project.now) }
     requires no_ring { HaveNoRing (named_sources_of project.now) }
     requires proper { AreProper (named_sources_of project.now) }
-    ensures mapped { IfOk result (λ text. IsMapOf (named_sources_of project.now) text.items) }
+    ensures mapped { IfOk result (λ text. IsMapOf sources.now (named_sources_of project.now) text.items) }
     ensures refused { IfErr result (IsRefusal (named_sources_of project.now)) }
 {
     let files = project.files.as_slice();
     let children = children_of(alloc, project)?;
-    match map_files(alloc, files, &children) {
+    match map_files(alloc, files, sources, &children) {
         Ok(text) => Ok(text),
         Err(Fail::Refused(refusal)) => Err(told(alloc, &files[refusal.file], refusal.fault)),
         Err(Fail::NoMemory) => Err(BuildFault::NoMemory),
@@ -45,29 +51,33 @@ pub fn project_map(alloc: Global, project: &Project) -> Result<Vec<u8>, BuildFau
 fn map_files(
     alloc: Global,
     files: &[ProjectFile],
+    sources: &[Text],
     children: &[Children],
 ) -> Result<Vec<u8>, Fail<FileFault>>
+    requires beside { length sources.now ≡ length files.now }
     requires first { 0 < length files.now }
     requires few { length files.now ≤ most_files }
     requires proper { AreProper (map named_source_of files.now) }
     requires children { AreChildren (map named_source_of files.now) children.now }
-    ensures mapped { IfOk result (λ text. IsMapOf (map named_source_of files.now) text.items) }
+    ensures mapped { IfOk result (λ text. IsMapOf sources.now (map named_source_of files.now) text.items) }
     ensures refused { IfErr result (IfFirstRefused (map named_source_of files.now) children.now) }
 {
     let accepted = accept(alloc, files, children)?;
-    Ok(map_accepted(alloc, files, &accepted)?)
+    Ok(map_accepted(alloc, files, sources, &accepted)?)
 }
 
 /// The map of an accepted project.
 fn map_accepted(
     alloc: Global,
     files: &[ProjectFile],
+    sources: &[Text],
     accepted: &Accepted<'_>,
 ) -> Result<Vec<u8>, NoMemory>
-    requires { IsAcceptedProject (map named_source_of files.now) accepted.now }
-    ensures { IfOk result (λ text. IsMapOf (map named_source_of files.now) text.items) }
+    requires beside { length sources.now ≡ length files.now }
+    requires accepted { IsAcceptedProject (map named_source_of files.now) accepted.now }
+    ensures { IfOk result (λ text. IsMapOf sources.now (map named_source_of files.now) text.items) }
 {
-    let names = names_of_accepted(alloc, files, accepted)?;
+    let names = names_of_accepted(alloc, files, sources, accepted)?;
     let built = &accepted.built;
     map_text(
         alloc,

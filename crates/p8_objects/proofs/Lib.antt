@@ -6,3 +6,4 @@ pub mod Logs
 mod Ordering
 pub mod Wholes
 pub mod Agreeing
+pub mod Sourcing

@@ -2,13 +2,13 @@
 use Rattle.std.specs.Prelude.{ℕ, ◌⊎◌, List, [], ◌∷◌, ◌++◌, Option, Result, Ok, Err}
 use Rattle.std.specs.Str.{IsUtf8}
 use Rattle.p8_tree.specs.declared.faults.Fault.{Fault}
-use Rattle.p8_tree.specs.declared.projects.Project.{Project}
 use Rattle.p8_tree.specs.Sources.{Source}
 use Rattle.p8_tree.specs.Projects.{NamedSource}
 use Rattle.p8_tree.specs.Views.{named_sources_of}
 use Rattle.p8_io.specs.Counts.{Rose}
 use Rattle.p8_io.specs.Shelves.{Files, IsRead, IsLacking}
 use Rattle.p8_objects.specs.declared.fault.Mention.{Mention}
+use Rattle.p8_objects.specs.declared.gathered.Gathered.{Gathered}
 use Rattle.p8_objects.specs.declared.fault.GatherFault.{GatherFault}
 use Rattle.p8_objects.specs.declared.fault.GatherFault.TheVariants as gather_case
 use Rattle.p8_objects.specs.Sources.{IsSource, IsRefused}
@@ -57,8 +57,8 @@ abbrev pub Gathers : Shelved → List ℕ → Outcome → Type 0
 Gathers shelf top o = ComesTo shelf top [] o
 
 -- each answer with its cause; want of memory is free
-abbrev pub Answers : Shelved → List ℕ → Result Project GatherFault → Type 0
-Answers shelf top (Ok p) = Gathers shelf top (project (named_sources_of p))
+abbrev pub Answers : Shelved → List ℕ → Result Gathered GatherFault → Type 0
+Answers shelf top (Ok g) = Gathers shelf top (project (named_sources_of g.project))
 Answers shelf top (Err (gather_case.Source file f)) = Gathers shelf top (refused file f)
 Answers shelf top (Err (gather_case.Missing file mention)) = Gathers shelf top (missing file mention)
 Answers shelf top (Err (gather_case.ShelfFault file)) = Gathers shelf top (failed file)

@@ -1,13 +1,14 @@
 -- internal: what reading one file of a shelf answers.
-use Rattle.std.specs.Prelude.{ℕ, ◌≡◌, ◌⊎◌, List, [], ◌∷◌, Result, Ok, Err}
+use Rattle.std.specs.Prelude.{ℕ, ◌≡◌, ◌⊎◌, List, [], ◌∷◌, ◌++◌, Result, Ok, Err}
 use Rattle.std.specs.declared.vec.Vec.{Vec}
 use Rattle.std.specs.declared.alloc.Global.{Global}
 use Rattle.p8_tree.specs.declared.projects.ProjectFile.{ProjectFile}
 use Rattle.p8_tree.specs.declared.faults.Fault.{Fault}
+use Rattle.p8_tree.specs.Sources.{Source}
 use Rattle.p8_tree.specs.Views.{source_of}
 use Rattle.p8_tree.specs.Proper.{IsProperFile}
 use Rattle.p8_io.specs.Counts.{Rose}
-use Rattle.p8_io.specs.Shelves.{Log, WereRead}
+use Rattle.p8_io.specs.Shelves.{Files, Log, WereRead}
 use Rattle.p8_io.specs.declared.shelf.ShelfError.{ShelfError}
 use Rattle.p8_io.specs.declared.shelf.ShelfError.TheVariants.{Missing, Failed, NoMemory}
 use Rattle.p8_objects.specs.declared.next.Wanted.{Wanted}
@@ -34,6 +35,13 @@ pub record IsFileOf (shelf : Shelved) (name : List ℕ) (file : ProjectFile) : T
   pub has : HasBytes shelf.files name bytes
   pub source : IsSource bytes (source_of file.tree)
   pub proper : IsProperFile (source_of file.tree)
+
+-- the bytes of the file of this name, whose tree this is, are put behind those of others
+pub record AreKept (shelf : Files) (name : List ℕ) (tree : Source) (before now : List (List ℕ)) : Type 0 where
+  pub bytes : List ℕ
+  pub has : HasBytes shelf name bytes
+  pub source : IsSource bytes tree
+  pub behind : now ≡ before ++ bytes ∷ []
 
 -- its bytes are refused by themselves
 pub record IsRefusedBy (shelf : Shelved) (name : List ℕ) (f : Fault) : Type 0 where

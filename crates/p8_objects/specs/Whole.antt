@@ -1,5 +1,5 @@
 -- What is so of each project (this project's profile).
-use Rattle.std.specs.Prelude.{◌≡◌, ℕ, List}
+use Rattle.std.specs.Prelude.{◌≡◌, ℕ, List, [], ◌∷◌}
 use Rattle.p8_tree.specs.Sources.{Child, Source}
 use Rattle.p8_tree.specs.Projects.{NamedSource}
 use Rattle.p8_io.specs.Shelves.{Files}
@@ -34,6 +34,12 @@ pub record IsReadFrom (shelf : Files) (f : NamedSource) : Type 0 where
 
 abbrev pub AreReadFrom : Files → List NamedSource → Type 0
 AreReadFrom shelf files = (i : ℕ) (f : NamedSource) → IsAt files i f → IsReadFrom shelf f
+
+-- these are the bytes of these files, one after the other
+abbrev pub AreSources : Files → List NamedSource → (sources : List (List ℕ)) → Type 0
+AreSources shelf [] [] = Unit {0}
+AreSources shelf (f ∷ files) (bytes ∷ sources) = HasBytes shelf f.name bytes × IsSource bytes f.tree × AreSources shelf files sources
+AreSources shelf _ _ = ⊥
 
 -- each tree is so
 abbrev pub EachTree : (Source → Type 0) → List NamedSource → Type 0

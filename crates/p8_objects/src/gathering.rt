@@ -5,16 +5,17 @@ ghost use Rattle.p8_tree.specs.Views.{named_sources_of};
 ghost use Rattle.p8_tree.specs.Projects.{most_files};
 ghost use Rattle.p8_objects.specs.Orders.{AreAllRead, ReadsInOrder};
 ghost use Rattle.p8_objects.specs.Outcomes.{shelved, Answers};
-ghost use Rattle.p8_objects.specs.Whole.{IsFirstFile, AreDistinct, HaveMentioned, HaveNoRing, AreReadFrom, EachTree};
+ghost use Rattle.p8_objects.specs.Whole.{IsFirstFile, AreDistinct, HaveMentioned, HaveNoRing, AreReadFrom, AreSources, EachTree};
 
 use crate::fault::GatherFault;
+use crate::gathered::Gathered;
 use crate::next::{Wanted, next_file};
 use crate::source::read_file;
 use p8_io::Shelf;
 use p8_tree::{List, Project, Text};
 use std::alloc::Global;
 
-/// Gathers the files of the project whose top file has this name, each with its tree, from a shelf.
+/// Gathers the files of the project whose top file has this name, each with its tree and its bytes, from a shelf.
 ///
 /// The top file is the first. A file that an item of `OBJ` mentions comes before the next item is looked at, unless it
 /// is among the files already: so the files come depth first, in the order of their first mention, and none is read
@@ -34,34 +35,34 @@ use std::alloc::Global;
 ///
 /// `NoMemory` may come at any point. A shelf that tells its files has one outcome, but for its faults
 /// ([`one_outcome`](crate::one_outcome)).
-pub fn gather<S: Shelf>(alloc: Global, shelf: &mut S, top: &str) -> Result<Project, GatherFault>
+pub fn gather<S: Shelf>(alloc: Global, shelf: &mut S, top: &str) -> Result<Gathered, GatherFault>
     ensures answers { Answers (shelved (S.files shelf.old) (S.faults shelf.old) (S.faults shelf.new)) top.now result }
-    ensures first { IfOk result (λ project. IsFirstFile top.now (named_sources_of project)) }
-    ensures distinct { IfOk result (λ project. AreDistinct (named_sources_of project)) }
-    ensures mentioned { IfOk result (λ project. HaveMentioned (named_sources_of project)) }
-    ensures no_ring { IfOk result (λ project. HaveNoRing (named_sources_of project)) }
-    ensures few { IfOk result (λ project. length (named_sources_of project) ≤ most_files) }
-    ensures read { IfOk result (λ project. AreReadFrom (S.files shelf.old) (named_sources_of project)) }
-    ensures proper { IfOk result (λ project. EachTree IsProperFile (named_sources_of project)) }
-    ensures all_read { IfOk result (λ project. AreAllRead (named_sources_of project) (S.log shelf.old) (S.log shelf.new)) }
+    ensures first { IfOk result (λ gathered. IsFirstFile top.now (named_sources_of gathered.project)) }
+    ensures distinct { IfOk result (λ gathered. AreDistinct (named_sources_of gathered.project)) }
+    ensures mentioned { IfOk result (λ gathered. HaveMentioned (named_sources_of gathered.project)) }
+    ensures no_ring { IfOk result (λ gathered. HaveNoRing (named_sources_of gathered.project)) }
+    ensures few { IfOk result (λ gathered. length (named_sources_of gathered.project) ≤ most_files) }
+    ensures read { IfOk result (λ gathered. AreReadFrom (S.files shelf.old) (named_sources_of gathered.project)) }
+    ensures proper { IfOk result (λ gathered. EachTree IsProperFile (named_sources_of gathered.project)) }
+    ensures sources { IfOk result (λ gathered. AreSources (S.files shelf.old) (named_sources_of gathered.project) gathered.sources) }
+    ensures all_read { IfOk result (λ gathered. AreAllRead (named_sources_of gathered.project) (S.log shelf.old) (S.log shelf.new)) }
     ensures in_order { ReadsInOrder (S.files shelf.old) top.now (S.log shelf.old) (S.log shelf.new) }
     ensures later { S.faults shelf.old ≤ S.faults shelf.new }
     ensures kept { S.files shelf.new ≡ S.files shelf.old }
 {
     let mut files = List::new(alloc);
+    let mut sources = List::new(alloc);
     let mut done = List::new(alloc);
     let mut asked = Some(Wanted {
         name: Text::copy_of(alloc, top.as_bytes())?,
         mention: None,
     });
     'files: while let Some(next) = asked {
-        files.push(read_file(alloc, shelf, next)?)?;
+        files.push(read_file(alloc, shelf, next, &mut sources)?)?;
         asked = next_file(alloc, files.as_slice(), &mut done)?;
     }
-    Ok(Project { files })
-}
-
-/// Lets a project go. A crate that does so itself has to prove once more how trees are let go.
-pub fn discard(project: Project) {
-    drop(project);
+    Ok(Gathered {
+        project: Project { files },
+        sources,
+    })
 }

@@ -2,6 +2,7 @@
 #![tactic(auto)]
 
 mod fault;
+mod gathered;
 mod gathering;
 mod laws;
 mod mentions;
@@ -9,5 +10,6 @@ mod next;
 mod source;
 
 pub use fault::{GatherFault, Mention};
-pub use gathering::{discard, gather};
+pub use gathered::{Gathered, discard};
+pub use gathering::gather;
 pub use laws::one_outcome;

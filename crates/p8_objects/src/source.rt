@@ -6,7 +6,7 @@ ghost use Rattle.p8_tree.specs.Proper.{IsProperFile};
 ghost use Rattle.p8_tree.specs.Faults.{IfRefused};
 ghost use Rattle.p8_objects.specs.Sources.{IsSource, IsRefused};
 ghost use Rattle.p8_objects.specs.Outcomes.{shelved};
-ghost use Rattle.p8_objects.specs.Reading.{IsRead, IsFileOf, IsFileFault, MayBeRead};
+ghost use Rattle.p8_objects.specs.Reading.{AreKept, IsRead, IsFileOf, IsFileFault, MayBeRead};
 
 use crate::fault::GatherFault;
 use crate::mentions::item_too_many;
@@ -14,7 +14,7 @@ use crate::next::Wanted;
 use p8_blocks::{parse, tokens_are_proper};
 use p8_io::{Shelf, ShelfError};
 use p8_lexer::lex;
-use p8_tree::{Fault, ProjectFile, Refusal, SourceFile, Text};
+use p8_tree::{Fault, List, ProjectFile, Refusal, SourceFile, Text};
 use p8_words::Fail;
 use std::alloc::Global;
 
@@ -50,13 +50,15 @@ fn read_source(alloc: Global, bytes: &[u8]) -> Result<SourceFile, Fail<Fault>>
     }
 }
 
-/// The file that is asked for, with its tree.
+/// The file that is asked for, with its tree. Its bytes are put behind those of other files.
 pub(crate) fn read_file<S: Shelf>(
     alloc: Global,
     shelf: &mut S,
     asked: Wanted,
+    sources: &mut List<Text>,
 ) -> Result<ProjectFile, GatherFault>
     ensures file { IfOk result (IsFileOf (shelved (S.files shelf.old) (S.faults shelf.old) (S.faults shelf.new)) asked.name) }
+    ensures source { IfOk result (λ file. AreKept (S.files shelf.old) asked.name (source_of file.tree) sources.old sources.new) }
     ensures fault { IfErr result (IsFileFault (shelved (S.files shelf.old) (S.faults shelf.old) (S.faults shelf.new)) asked) }
     ensures one { MayBeRead asked.name (S.log shelf.old) (S.log shelf.new) }
     ensures logged { IfOk result (λ _. WereRead (S.log shelf.old) (S.log shelf.new) (asked.name ∷ [])) }
@@ -76,7 +78,10 @@ pub(crate) fn read_file<S: Shelf>(
         Err(ShelfError::NoMemory) => return Err(GatherFault::NoMemory),
     };
     match read_source(alloc, &bytes) {
-        Ok(tree) => Ok(ProjectFile { name, tree }),
+        Ok(tree) => {
+            sources.push(Text::from_vec(bytes))?;
+            Ok(ProjectFile { name, tree })
+        }
         Err(Fail::Refused(fault)) => Err(GatherFault::Source { file: name, fault }),
         Err(Fail::NoMemory) => Err(GatherFault::NoMemory),
     }

@@ -60,13 +60,13 @@ const ENTRY: &[u8] = b"26 FrameTooLarge\n\
 const MAP: &[u8] =
     b"0000 header clkfreq 00B71B00\n0004 header clkmode 00\n0005 header checksum 6A\n0006 header pbase 0010\n\
     0008 header vbase 001C\n000A header dbase 0024\n000C header pcurr 0018\n000E header dcurr 0028\n\
-    0010 object main.spin\n0018 method 1 MAIN\n+0000 result RESULT 1\n\
+    0010 object main.spin\n0018 method 1 main\n+0000 result RESULT 1\n\
     0024 stack\n0028 free 32728\n";
 
 /// The view of `PUB main`.
 const VIEW: &[u8] =
-    b"16 1.333 us cog 0 begin of spin MAIN 0024\n8224 685.333 us cog 0 write long 0024 = 00000000\n\
-    8272 689.333 us cog 0 cogstop 0 main.spin:1 MAIN\n\
+    b"16 1.333 us cog 0 begin of spin main 0024\n8224 685.333 us cog 0 write long 0024 = 00000000\n\
+    8272 689.333 us cog 0 cogstop 0 main.spin:1 main\n\
     cog 0 is stopped at clock 8272\ncog 1 is idle\ncog 2 is idle\ncog 3 is idle\n\
     cog 4 is idle\ncog 5 is idle\ncog 6 is idle\ncog 7 is idle\n\
     3 turns are made, the last at clock 8272\nno cog makes another before clock 20000\n";

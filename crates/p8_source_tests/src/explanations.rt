@@ -1,5 +1,5 @@
 // Whole explanations, of sources with their refusals.
-use p8_explain::{absence, entry, explanation};
+use p8_explain::{Spellings, absence, entry, explanation};
 use p8_tree::{Fault, Place, Text};
 use p8_words::NoMemory;
 use std::alloc::Global;
@@ -256,5 +256,57 @@ fn absent(rt: HostRuntime) -> Result<(), Fail> {
         \x20           ^\n\
         There is no file of this name. Capitals and small letters differ, and a name without a dot gets .spin.\n";
     assert_eq!(rt; text.as_slice(), expected.as_slice());
+    Ok(())
+}
+
+/// Sources with a place, a name of a tree, and how the source spells it there: after CR LF and at a line's begin, after a tab, in UTF-16, and after more
+/// than a hundred characters. Where another word stands at the place, or none, the name stays as it is.
+static SPELLED: [(&[u8], u32, u32, &[u8], &[u8]); 7] = [
+    (
+        b"VAR\r\n  long rx_Head, tail\r\n",
+        2,
+        8,
+        b"RX_HEAD",
+        b"rx_Head",
+    ),
+    (b"DAT\r\nEntry long 5\r\n", 2, 1, b"ENTRY", b"Entry"),
+    (b"VAR\n\tlong\tCount2[2]\n", 2, 17, b"COUNT2", b"Count2"),
+    (
+        b"\xff\xfeP\0U\0B\0\r\0\n\0M\0a\0i\0n\0",
+        2,
+        1,
+        b"MAIN",
+        b"Main",
+    ),
+    (
+        b"' 34567890123456789012345678901234567890123456789012345678901234567890\n\
+            ' 34567890123456789012345678901234567890123456789012345678901234567890\nPUB go\n",
+        3,
+        5,
+        b"GO",
+        b"go",
+    ),
+    (b"PUB main\n", 1, 5, b"LED", b"LED"),
+    (b"PUB main\n", 2, 1, b"MAIN", b"MAIN"),
+];
+
+/// Whether each source spells its name so.
+fn are_spelled(alloc: Global) -> Result<bool, NoMemory> {
+    let mut all = true;
+    for (bytes, line, column, name, expected) in &SPELLED {
+        let source = Spellings::of(alloc, bytes)?;
+        let place = Place {
+            line: *line,
+            column: *column,
+        };
+        let text = source.spelled(alloc, place, name)?;
+        all = all && text.as_slice() == *expected;
+    }
+    Ok(all)
+}
+
+#[test]
+fn names_are_spelled(rt: HostRuntime) -> Result<(), Fail> {
+    assert!(rt; matches!(are_spelled(rt.alloc()), Ok(true)));
     Ok(())
 }

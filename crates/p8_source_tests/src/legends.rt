@@ -8,7 +8,7 @@ use std::alloc::Global;
 /// Two instances of one child, which has an object inside it.
 const TOP: &str = "VAR
   byte flag
-  long count[2]
+  long Count[2]
 OBJ
   ser[2] : \"serial\"
 PUB main
@@ -57,11 +57,11 @@ fn shelf(alloc: Global) -> Result<MemShelf, NoMemory> {
 
 /// The legend of the project of `top.spin`.
 fn legend_on(alloc: Global, shelf: &mut MemShelf) -> Option<Legend> {
-    let Ok(project) = gather(alloc, shelf, "top.spin") else {
+    let Ok(gathered) = gather(alloc, shelf, "top.spin") else {
         return None;
     };
-    let legend = project_legend(alloc, &project);
-    discard(project);
+    let legend = project_legend(alloc, &gathered.project, gathered.sources.as_slice());
+    discard(gathered);
     match legend {
         Ok(legend) => Some(legend),
         Err(_) => None,
@@ -81,7 +81,7 @@ fn has_all(legend: &Legend) -> bool {
 fn tells_offset(alloc: Global, legend: &Legend) -> bool {
     let mut text = Vec::new(alloc);
     match legend.push_address(&mut text, 0x4A) {
-        Ok(()) => text.as_slice() == b"COUNT+6".as_slice(),
+        Ok(()) => text.as_slice() == b"Count+6".as_slice(),
         Err(_) => false,
     }
 }

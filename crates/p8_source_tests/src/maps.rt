@@ -15,14 +15,14 @@ PUB main
 const LED: &str = "VAR
   byte flag
   long count[2]
-  word width
+  word Width
 DAT
 entry long 5
-tail byte 1
-PUB start(pin) : ok
+Tail byte 1
+PUB Start(pin) : Ok
 ";
 
-/// Names stand in capitals. Each object has 4 bytes, 4 for each method and for each object inside, its DAT in whole longs, and its code,
+/// Names stand as their file spells them where it defines them. Each object has 4 bytes, 4 for each method and for each object inside, its DAT in whole longs, and its code,
 /// which is a single RETURN.
 const MAP: &str = "0000 header clkfreq 00B71B00
 0004 header clkmode 00
@@ -33,35 +33,35 @@ const MAP: &str = "0000 header clkfreq 00B71B00
 000C header pcurr 0020
 000E header dcurr 005C
 0010 object top.spin
-0018 child LED[0] led.spin
-001C child LED[1] led.spin
-0020 method 1 MAIN
+0018 child led[0] led.spin
+001C child led[1] led.spin
+0020 method 1 main
 +0000 result RESULT 1
 0024 object led.spin
-002C label ENTRY cog 000 long
-0030 label TAIL cog 001 byte
-0034 method 1 START
-+0000 result OK 1
-+0004 parameter PIN 1
-0038 instance LED[0].* led.spin 0024
-0038 variable LED[0].COUNT long 2
-0040 variable LED[0].WIDTH word 1
-0042 variable LED[0].FLAG byte 1
-0044 instance LED[1].* led.spin 0024
-0044 variable LED[1].COUNT long 2
-004C variable LED[1].WIDTH word 1
-004E variable LED[1].FLAG byte 1
+002C label entry cog 000 long
+0030 label Tail cog 001 byte
+0034 method 1 Start
++0000 result Ok 1
++0004 parameter pin 1
+0038 instance led[0].* led.spin 0024
+0038 variable led[0].count long 2
+0040 variable led[0].Width word 1
+0042 variable led[0].flag byte 1
+0044 instance led[1].* led.spin 0024
+0044 variable led[1].count long 2
+004C variable led[1].Width word 1
+004E variable led[1].flag byte 1
 0058 stack
 005C free 32676
 ";
 
 /// The map of the project of `top.spin`.
 fn map_on(alloc: Global, shelf: &mut MemShelf) -> Result<Vec<u8>, Fail> {
-    let Ok(project) = gather(alloc, shelf, "top.spin") else {
+    let Ok(gathered) = gather(alloc, shelf, "top.spin") else {
         return Err("not gathered".into());
     };
-    let map = project_map(alloc, &project);
-    discard(project);
+    let map = project_map(alloc, &gathered.project, gathered.sources.as_slice());
+    discard(gathered);
     match map {
         Ok(text) => Ok(text),
         Err(_) => Err("no map".into()),

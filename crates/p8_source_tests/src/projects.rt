@@ -82,7 +82,7 @@ fn write_fault(out: &mut String, fault: &GatherFault) -> Result<(), AllocError> 
 fn answer(alloc: Global, shelf: &mut MemShelf) -> Result<String, AllocError> {
     let mut out = String::new(alloc);
     match gather(alloc, shelf, "a.spin") {
-        Ok(project) => write_files(&mut out, &project)?,
+        Ok(gathered) => write_files(&mut out, &gathered.project)?,
         Err(fault) => write_fault(&mut out, &fault)?,
     }
     Ok(out)

@@ -1,6 +1,8 @@
-use Rattle.std.proofs.Common.{false}
+use Rattle.std.proofs.Common.{◌∙◌, ℕ, false, List, length, ap, sym, subst}
 use Rattle.std.proofs.lemmas.Result.{IfOk-weaker, IfErr-weaker}
 use Rattle.p8_tree.specs.Views.{named_sources_of}
+use Rattle.p8_objects.specs.Whole.{AreSources}
+use Rattle.p8_objects.proofs.Sourcing.{count-of}
 use Rattle.p8_inputs.proofs.Stopping.{handed-on}
 use Rattle.p8_inputs.proofs.Building.{image-from, legend-from, building-stops}
 use Rattle.p8_inputs.proofs.sources.explained_in.Goals as goal
@@ -9,9 +11,9 @@ pub returns-clause-image : goal.returns-clause-image
 returns-clause-image g c =
     let files = g.S.Shelf.files c.args.shelf.now in
     let top = c.args.file.now in
-    let sources = named_sources_of c.in_ok-project.project in
-    let gathered = c.in_ok-project.ensures.project.gathered in
-    IfOk-weaker c.explained_project-read.result _ _ (λ read is. image-from files false top sources gathered c.in_ok-project.ensures.project.whole.proper read.image is) c.explained_project-read.ensures.image
+    let sources = named_sources_of c.in_ok-gathered.gathered.project in
+    let gathered = c.in_ok-gathered.ensures.project.gathered in
+    IfOk-weaker c.explained_project-read.result _ _ (λ read is. image-from files false top sources gathered c.in_ok-gathered.ensures.project.whole.proper read.image is) c.explained_project-read.ensures.image
 
 pub returns-clause-memory : goal.returns-clause-memory
 returns-clause-memory g c = IfOk-weaker c.explained_project-read.result _ _ (λ read is. is.1) c.explained_project-read.ensures.image
@@ -20,22 +22,30 @@ pub returns-clause-legend : goal.returns-clause-legend
 returns-clause-legend g c =
     let files = g.S.Shelf.files c.args.shelf.now in
     let top = c.args.file.now in
-    let sources = named_sources_of c.in_ok-project.project in
-    let gathered = c.in_ok-project.ensures.project.gathered in
-    IfOk-weaker c.explained_project-read.result _ _ (λ read is. legend-from files false top sources gathered read.legend is) c.explained_project-read.ensures.legend
+    let sources = named_sources_of c.in_ok-gathered.gathered.project in
+    let gathered = c.in_ok-gathered.ensures.project.gathered in
+    let are = subst (λ (texts : List (List ℕ)). AreSources files sources texts) (sym c.as_slice.ensures) c.in_ok-gathered.ensures.sources in
+    IfOk-weaker c.explained_project-read.result _ _ (λ read is. legend-from files false top sources gathered c.as_slice.result.now are read.legend is) c.explained_project-read.ensures.legend
 
 pub returns-clause-stopped : goal.returns-clause-stopped
 returns-clause-stopped g c =
     let files = g.S.Shelf.files c.args.shelf.now in
     let top = c.args.file.now in
-    let sources = named_sources_of c.in_ok-project.project in
-    let gathered = c.in_ok-project.ensures.project.gathered in
+    let sources = named_sources_of c.in_ok-gathered.gathered.project in
+    let gathered = c.in_ok-gathered.ensures.project.gathered in
     IfErr-weaker c.explained_project-read.result _ _ (λ stop stops. building-stops files false top sources gathered _ _ stop stops) c.explained_project-read.ensures.stopped
 
 pub returns-clause-all_read : goal.returns-clause-all_read
 returns-clause-all_read g c =
-    IfOk-weaker c.explained_project-read.result _ _ (λ _ is. (named_sources_of c.in_ok-project.project, c.in_ok-project.ensures.project.gathered, c.in_ok-project.ensures.all_read)) c.explained_project-read.ensures.image
+    IfOk-weaker c.explained_project-read.result _ _ (λ _ is. (named_sources_of c.in_ok-gathered.gathered.project, c.in_ok-gathered.ensures.project.gathered, c.in_ok-gathered.ensures.all_read)) c.explained_project-read.ensures.image
 
-pub returns-in_err-project-clause-stopped : goal.returns-in_err-project-clause-stopped
-returns-in_err-project-clause-stopped g c =
-    handed-on c.from_residual.result _ _ c.from_residual.ensures.1 (c.in_err-project.ensures.stopped false)
+pub returns-in_err-gathered-clause-stopped : goal.returns-in_err-gathered-clause-stopped
+returns-in_err-gathered-clause-stopped g c =
+    handed-on c.from_residual.result _ _ c.from_residual.ensures.1 (c.in_err-gathered.ensures.stopped false)
+
+pub explained_project-read-requires-clause-beside : goal.explained_project-read-requires-clause-beside
+explained_project-read-requires-clause-beside g c =
+    ap length c.as_slice.ensures ∙ count-of (g.S.Shelf.files c.args.shelf.now) (named_sources_of c.in_ok-gathered.gathered.project) c.in_ok-gathered.gathered.sources c.in_ok-gathered.ensures.sources
+
+pub explained_project-read-requires-clause-whole : goal.explained_project-read-requires-clause-whole
+explained_project-read-requires-clause-whole g c = c.in_ok-gathered.ensures.project.whole

@@ -8,22 +8,22 @@ pub returns-clause-text : goal.returns-clause-text
 returns-clause-text g c =
     let files = g.S.Shelf.files c.args.shelf.now in
     let top = c.args.file.now in
-    let sources = named_sources_of c.in_ok-project.project in
-    let gathered = c.in_ok-project.ensures.project.gathered in
+    let sources = named_sources_of c.in_ok-gathered.gathered.project in
+    let gathered = c.in_ok-gathered.ensures.project.gathered in
     IfOk-weaker c.listing_of_project-text.result _ _ (λ text is. listing-from files c.args.short top sources gathered text.items is) c.listing_of_project-text.ensures.text
 
 pub returns-clause-stopped : goal.returns-clause-stopped
 returns-clause-stopped g c =
     let files = g.S.Shelf.files c.args.shelf.now in
     let top = c.args.file.now in
-    let sources = named_sources_of c.in_ok-project.project in
-    let gathered = c.in_ok-project.ensures.project.gathered in
+    let sources = named_sources_of c.in_ok-gathered.gathered.project in
+    let gathered = c.in_ok-gathered.ensures.project.gathered in
     IfErr-weaker c.listing_of_project-text.result _ _ (λ stop stops. building-stops files c.args.short top sources gathered _ _ stop stops) c.listing_of_project-text.ensures.stopped
 
 pub returns-clause-all_read : goal.returns-clause-all_read
 returns-clause-all_read g c =
-    IfOk-weaker c.listing_of_project-text.result _ _ (λ _ is. (named_sources_of c.in_ok-project.project, c.in_ok-project.ensures.project.gathered, c.in_ok-project.ensures.all_read)) c.listing_of_project-text.ensures.text
+    IfOk-weaker c.listing_of_project-text.result _ _ (λ _ is. (named_sources_of c.in_ok-gathered.gathered.project, c.in_ok-gathered.ensures.project.gathered, c.in_ok-gathered.ensures.all_read)) c.listing_of_project-text.ensures.text
 
-pub returns-in_err-project-clause-stopped : goal.returns-in_err-project-clause-stopped
-returns-in_err-project-clause-stopped g c =
-    handed-on c.from_residual.result _ _ c.from_residual.ensures.1 (c.in_err-project.ensures.stopped c.args.short)
+pub returns-in_err-gathered-clause-stopped : goal.returns-in_err-gathered-clause-stopped
+returns-in_err-gathered-clause-stopped g c =
+    handed-on c.from_residual.result _ _ c.from_residual.ensures.1 (c.in_err-gathered.ensures.stopped c.args.short)

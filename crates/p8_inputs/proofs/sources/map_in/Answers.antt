@@ -1,6 +1,8 @@
-use Rattle.std.proofs.Common.{false}
+use Rattle.std.proofs.Common.{◌∙◌, ℕ, false, List, length, ap, sym, subst}
 use Rattle.std.proofs.lemmas.Result.{IfOk-weaker, IfErr-weaker}
 use Rattle.p8_tree.specs.Views.{named_sources_of}
+use Rattle.p8_objects.specs.Whole.{AreSources}
+use Rattle.p8_objects.proofs.Sourcing.{count-of}
 use Rattle.p8_inputs.proofs.Stopping.{handed-on}
 use Rattle.p8_inputs.proofs.Building.{map-from, building-stops}
 use Rattle.p8_inputs.proofs.sources.map_in.Goals as goal
@@ -9,22 +11,30 @@ pub returns-clause-text : goal.returns-clause-text
 returns-clause-text g c =
     let files = g.S.Shelf.files c.args.shelf.now in
     let top = c.args.file.now in
-    let sources = named_sources_of c.in_ok-project.project in
-    let gathered = c.in_ok-project.ensures.project.gathered in
-    IfOk-weaker c.map_of_project-text.result _ _ (λ text is. map-from files false top sources gathered text.items is) c.map_of_project-text.ensures.text
+    let sources = named_sources_of c.in_ok-gathered.gathered.project in
+    let gathered = c.in_ok-gathered.ensures.project.gathered in
+    let are = subst (λ (texts : List (List ℕ)). AreSources files sources texts) (sym c.as_slice.ensures) c.in_ok-gathered.ensures.sources in
+    IfOk-weaker c.map_of_project-text.result _ _ (λ text is. map-from files false top sources gathered c.as_slice.result.now are text.items is) c.map_of_project-text.ensures.text
 
 pub returns-clause-stopped : goal.returns-clause-stopped
 returns-clause-stopped g c =
     let files = g.S.Shelf.files c.args.shelf.now in
     let top = c.args.file.now in
-    let sources = named_sources_of c.in_ok-project.project in
-    let gathered = c.in_ok-project.ensures.project.gathered in
+    let sources = named_sources_of c.in_ok-gathered.gathered.project in
+    let gathered = c.in_ok-gathered.ensures.project.gathered in
     IfErr-weaker c.map_of_project-text.result _ _ (λ stop stops. building-stops files false top sources gathered _ _ stop stops) c.map_of_project-text.ensures.stopped
 
 pub returns-clause-all_read : goal.returns-clause-all_read
 returns-clause-all_read g c =
-    IfOk-weaker c.map_of_project-text.result _ _ (λ _ is. (named_sources_of c.in_ok-project.project, c.in_ok-project.ensures.project.gathered, c.in_ok-project.ensures.all_read)) c.map_of_project-text.ensures.text
+    IfOk-weaker c.map_of_project-text.result _ _ (λ _ is. (named_sources_of c.in_ok-gathered.gathered.project, c.in_ok-gathered.ensures.project.gathered, c.in_ok-gathered.ensures.all_read)) c.map_of_project-text.ensures.text
 
-pub returns-in_err-project-clause-stopped : goal.returns-in_err-project-clause-stopped
-returns-in_err-project-clause-stopped g c =
-    handed-on c.from_residual.result _ _ c.from_residual.ensures.1 (c.in_err-project.ensures.stopped false)
+pub returns-in_err-gathered-clause-stopped : goal.returns-in_err-gathered-clause-stopped
+returns-in_err-gathered-clause-stopped g c =
+    handed-on c.from_residual.result _ _ c.from_residual.ensures.1 (c.in_err-gathered.ensures.stopped false)
+
+pub map_of_project-text-requires-clause-beside : goal.map_of_project-text-requires-clause-beside
+map_of_project-text-requires-clause-beside g c =
+    ap length c.as_slice.ensures ∙ count-of (g.S.Shelf.files c.args.shelf.now) (named_sources_of c.in_ok-gathered.gathered.project) c.in_ok-gathered.gathered.sources c.in_ok-gathered.ensures.sources
+
+pub map_of_project-text-requires-clause-whole : goal.map_of_project-text-requires-clause-whole
+map_of_project-text-requires-clause-whole g c = c.in_ok-gathered.ensures.project.whole

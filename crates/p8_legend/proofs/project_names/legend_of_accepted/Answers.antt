@@ -6,8 +6,8 @@ use Rattle.p8_legend.specs.Projects.{IsLegendOf}
 use Rattle.p8_legend.proofs.OfAccepted.{if-both, for-map, legend-told}
 use Rattle.p8_legend.proofs.project_names.legend_of_accepted.Goals as goal
 
-pub names_of_accepted-requires : goal.names_of_accepted-requires
-names_of_accepted-requires c = for-map (map named_source_of c.args.files.now) c.args.accepted.now c.requires.accepted
+pub names_of_accepted-requires-clause-accepted : goal.names_of_accepted-requires-clause-accepted
+names_of_accepted-requires-clause-accepted c = for-map (map named_source_of c.args.files.now) c.args.accepted.now c.requires.accepted
 
 pub returns : goal.returns
 returns c =
@@ -19,7 +19,7 @@ returns c =
     let objects = c.as_slice-2.result.now in
     let rows = c.in_ok-table.table.rows in
     if-both c.legend_of_parts.result
-    (λ legend. (legend.names.ranges, legend.names.texts) ≡ names_in at shown objects) (λ legend. (legend.places.ranges, legend.places.texts) ≡ with_rows ([], []) shown rows) (IsLegendOf files)
+    (λ legend. (legend.names.ranges, legend.names.texts) ≡ names_in at shown objects) (λ legend. (legend.places.ranges, legend.places.texts) ≡ with_rows ([], []) shown rows) (IsLegendOf c.args.sources.now files)
     c.legend_of_parts.ensures.names c.legend_of_parts.ensures.places
-    (λ legend names places. legend-told files a project shown (c.as_slice.ensures ∙ c.in_ok-names.ensures (for-map files a project))
+    (λ legend names places. legend-told c.args.sources.now files a project shown (c.as_slice.ensures ∙ c.in_ok-names.ensures (for-map files a project))
     rows (c.in_ok-table.ensures.rows project) at (c.variables_at.ensures ∙ ap (λ (bytes : List ℕ). word_at bytes 8) c.bytes.ensures.bytes) objects c.as_slice-2.ensures legend names places)

@@ -8,5 +8,5 @@ pub returns : goal.returns
 returns c project =
     let files = map named_source_of c.args.files.now in
     IfOk-weaker c.names_of_all.result _ _
-    (λ names by. names-told files c.args.accepted.now project c.as_slice-named.result.now c.as_slice-named.ensures c.as_slice.result.now c.as_slice.ensures names by)
+    (λ names by. names-told c.args.sources.now files c.args.accepted.now project c.requires.beside c.as_slice-named.result.now c.as_slice-named.ensures c.as_slice.result.now c.as_slice.ensures names by)
     c.names_of_all.ensures

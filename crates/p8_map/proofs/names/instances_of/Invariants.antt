@@ -8,5 +8,5 @@ use Rattle.p8_map.proofs.names.instances_of.Given as goal
 
 abbrev pub invariant-loop-item : goal.invariant-loop-item
 invariant-loop-item l =
-    l.names ++ flat_map (instance_names (setting_of l.consts)) (objects (items_of (drop l.item-index l.items)))
-    ≡ flat_map (instance_names (setting_of l.consts)) (objects (items_of l.items))
+    l.names ++ flat_map (instance_names l.source (setting_of l.consts)) (objects (items_of (drop l.item-index l.items)))
+    ≡ flat_map (instance_names l.source (setting_of l.consts)) (objects (items_of l.items))

@@ -5,4 +5,4 @@ use Rattle.p8_map.specs.Names.{local_name}
 use Rattle.p8_map.proofs.names.locals_of.Given as goal
 
 abbrev pub invariant-loop-local : goal.invariant-loop-local
-invariant-loop-local l = l.names ≡ map (local_name (setting_of l.consts)) (map declared_of (take l.local-index l.locals))
+invariant-loop-local l = l.names ≡ map (local_name l.source (setting_of l.consts)) (map declared_of (take l.local-index l.locals))

@@ -5,4 +5,4 @@ use Rattle.p8_map.specs.Names.{method_names}
 use Rattle.p8_map.proofs.names.methods_of.Given as goal
 
 abbrev pub invariant-loop-method : goal.invariant-loop-method
-invariant-loop-method l = l.names ≡ map (method_names (setting_of l.consts)) (map (λ m. method_of m.now) (take l.method-index l.methods))
+invariant-loop-method l = l.names ≡ map (method_names l.source (setting_of l.consts)) (map (λ m. method_of m.now) (take l.method-index l.methods))

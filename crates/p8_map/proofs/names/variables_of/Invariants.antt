@@ -5,4 +5,4 @@ use Rattle.p8_map.specs.Names.{variable_name}
 use Rattle.p8_map.proofs.names.variables_of.Given as goal
 
 abbrev pub invariant-loop-item : goal.invariant-loop-item
-invariant-loop-item l = l.names ++ flat_map variable_name (items_of (drop l.item-index l.items)) ≡ flat_map variable_name (items_of l.items)
+invariant-loop-item l = l.names ++ flat_map (variable_name l.source) (items_of (drop l.item-index l.items)) ≡ flat_map (variable_name l.source) (items_of l.items)

@@ -12,7 +12,7 @@ returns c =
     let image = c.bytes.result.now in
     let shown = c.as_slice.result.now in
     let objects = c.as_slice-2.result.now in
-    IfOk-weaker c.map_text.result (λ text. text.items ≡ map_of image shown objects) (λ text. IsMapOf files text.items)
-    (λ text told. map-told files c.args.accepted.now c.requires c.in_ok-names.names shown (c.in_ok-names.ensures c.requires) c.as_slice.ensures
+    IfOk-weaker c.map_text.result (λ text. text.items ≡ map_of image shown objects) (λ text. IsMapOf c.args.sources.now files text.items)
+    (λ text told. map-told c.args.sources.now files c.args.accepted.now c.requires.accepted c.in_ok-names.names shown (c.in_ok-names.ensures c.requires.accepted) c.as_slice.ensures
     image c.bytes.ensures.bytes objects c.as_slice-2.ensures text.items told)
     c.map_text.ensures

@@ -8,13 +8,14 @@ use Rattle.p8_objects.specs.Outcomes as outcomes
 use Rattle.p8_objects.specs.Outcomes.{shelved, Answers}
 use Rattle.p8_objects.proofs.Calling.{told, begin, asked_for, asked_for_none, file_fault, call_fault, more, no_trees, tree_more}
 use Rattle.p8_objects.proofs.Ordering.{nothing-in_order, begin-reading, so-far, with-one, read-more}
+use Rattle.p8_objects.proofs.Sourcing.{no-sources, source-more}
 use Rattle.p8_objects.proofs.Wholes.{whole_project}
 use Rattle.p8_objects.proofs.gathering.gather.Goals as goal
 
 pub files-init : goal.files-init
 files-init g c =
     let p = begin (g.S.Shelf.files c.args.shelf.now) (g.S.Shelf.faults c.args.shelf.now) c.args.top.now c.in_ok-copy_of.field-0 c.new-files.result c.new-done.result c.new-files.ensures c.new-done.ensures (c.in_ok-copy_of.ensures ∙ c.as_bytes.ensures.value) in
-    record { stands = p.0; asked = (p.1, p.2); read = begin-reading (g.S.Shelf.files c.args.shelf.now) c.args.top.now (g.S.Shelf.log c.args.shelf.now) c.new-files.result c.new-files.ensures; on = p.3; proper = no_trees IsProperFile c.new-files.result c.new-files.ensures; later = omega arith; kept = refl }
+    record { stands = p.0; asked = (p.1, p.2); read = begin-reading (g.S.Shelf.files c.args.shelf.now) c.args.top.now (g.S.Shelf.log c.args.shelf.now) c.new-files.result c.new-files.ensures; on = p.3; sources = no-sources (g.S.Shelf.files c.args.shelf.now) c.new-files.result c.new-sources.result c.new-files.ensures c.new-sources.ensures; proper = no_trees IsProperFile c.new-files.result c.new-files.ensures; later = omega arith; kept = refl }
 
 pub returns-in_err-read_file-clause-answers : goal.returns-in_err-read_file-clause-answers
 returns-in_err-read_file-clause-answers g c =
@@ -45,6 +46,8 @@ files-preserved g c =
       read = read-more (g.S.Shelf.files c.args.shelf.now) (g.S.Shelf.files c.files.shelf) (g.S.Shelf.faults c.files.shelf) (g.S.Shelf.faults c.read_file.new.shelf) (g.S.Shelf.log c.args.shelf.now) (g.S.Shelf.log c.files.shelf) (g.S.Shelf.log c.read_file.new.shelf) c.args.top.now c.in-Some.next.name c.files.files c.push.new.self c.files.done c.in_ok-read_file.field-0
           c.files.invariant.read (asked_for c.files.asked c.in-Some.next c.files.invariant.asked c.in-Some.is).0 c.files.invariant.kept c.in_ok-read_file.ensures.file c.in_ok-read_file.ensures.logged c.in_ok-push.ensures.ok;
       on = p.1;
+      sources = source-more (g.S.Shelf.files c.args.shelf.now) (g.S.Shelf.files c.files.shelf) c.in-Some.next.name c.files.files c.push.new.self c.files.sources c.read_file.new.sources c.in_ok-read_file.field-0
+          c.files.invariant.sources c.in_ok-read_file.ensures.file.named c.files.invariant.kept c.in_ok-read_file.ensures.source c.in_ok-push.ensures.ok;
       proper = tree_more IsProperFile c.files.files c.push.new.self c.in_ok-read_file.field-0 c.files.invariant.proper c.in_ok-read_file.ensures.file.proper c.in_ok-push.ensures.ok;
       later = omega (arith, c.files.invariant.later, c.read_file.ensures.later);
       kept = c.read_file.ensures.kept ∙ c.files.invariant.kept;
@@ -71,6 +74,9 @@ returns-clause-few g c = (whole_project (returns-clause-answers g c)).few
 
 pub returns-clause-read : goal.returns-clause-read
 returns-clause-read g c = (whole_project (returns-clause-answers g c)).from
+
+pub returns-clause-sources : goal.returns-clause-sources
+returns-clause-sources g c = c.files.invariant.sources
 
 pub returns-clause-proper : goal.returns-clause-proper
 returns-clause-proper g c = c.files.invariant.proper

@@ -2,7 +2,7 @@ use Rattle.std.proofs.Common.{◌≡◌, ◌≤◌, ◌-◌, length}
 use Rattle.p8_objects.specs.Standing.{Stands}
 use Rattle.p8_objects.specs.Mentioned.{sources_of}
 use Rattle.p8_objects.specs.Goings.{CallsFor, GoesOn}
-use Rattle.p8_objects.specs.Whole.{EachTree}
+use Rattle.p8_objects.specs.Whole.{AreSources, EachTree}
 use Rattle.p8_objects.proofs.Ordering.{HaveBeenRead}
 use Rattle.p8_tree.specs.Proper.{IsProperFile}
 use Rattle.p8_tree.specs.Projects.{most_files}
@@ -14,6 +14,7 @@ invariant-files g l = record {
   asked : CallsFor l.top (sources_of l.files) l.done l.asked;
   read : HaveBeenRead (g.S.Shelf.files l.fn.shelf) l.top (g.S.Shelf.log l.fn.shelf) (g.S.Shelf.log l.shelf) (sources_of l.files);
   on : GoesOn (g.S.Shelf.files l.fn.shelf) (g.S.Shelf.faults l.fn.shelf) l.top (sources_of l.files);
+  sources : AreSources (g.S.Shelf.files l.fn.shelf) (sources_of l.files) l.sources;
   proper : EachTree IsProperFile (sources_of l.files);
   later : g.S.Shelf.faults l.fn.shelf ≤ g.S.Shelf.faults l.shelf;
   kept : g.S.Shelf.files l.shelf ≡ g.S.Shelf.files l.fn.shelf;

@@ -1,9 +1,14 @@
+use Rattle.std.proofs.Common.{◌∙◌, length, ap}
 use Rattle.p8_tree.specs.Views.{named_sources_of}
+use Rattle.p8_objects.proofs.Sourcing.{count-of}
 use Rattle.p8_inputs.proofs.Gathering.{mentioned, no_ring}
 use Rattle.p8_source_tests.proofs.maps.map_on.Goals as goal
 
 pub project_map-map-requires-clause-mentioned : goal.project_map-map-requires-clause-mentioned
-project_map-map-requires-clause-mentioned c = mentioned (named_sources_of c.in-Ok.project) c.in-Ok.ensures.mentioned
+project_map-map-requires-clause-mentioned c = mentioned (named_sources_of c.in-Ok.gathered.project) c.in-Ok.ensures.mentioned
 
 pub project_map-map-requires-clause-no_ring : goal.project_map-map-requires-clause-no_ring
-project_map-map-requires-clause-no_ring c = no_ring (named_sources_of c.in-Ok.project) c.in-Ok.ensures.no_ring
+project_map-map-requires-clause-no_ring c = no_ring (named_sources_of c.in-Ok.gathered.project) c.in-Ok.ensures.no_ring
+
+pub project_map-map-requires-clause-beside : goal.project_map-map-requires-clause-beside
+project_map-map-requires-clause-beside c = ap length c.as_slice.ensures ∙ count-of _ (named_sources_of c.in-Ok.gathered.project) c.in-Ok.gathered.sources c.in-Ok.ensures.sources
