@@ -13,3 +13,4 @@ mod Uniqueness
 pub mod Here
 mod Counting
 mod WholeCode
+pub mod Measured

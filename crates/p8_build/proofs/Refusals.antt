@@ -148,7 +148,7 @@ module _ (files : List NamedSource) (children : List Children) where
   -- ---- code
 
   -- a fault of the code of a file is one by the names and the data in hand
-  code_fault : (named : List Named) (dats : List Dat) (i : ℕ) (n : Named) (dat : Dat) (file : NamedSource) (seen : Children) (g : Fault) → AreNamed files children named → AreAssembled files children named dats → slice_get named i ≡ Some n → slice_get dats i ≡ Some dat → IsFile files children i file seen → IsRefusal files children (refusal 2 i g) → IsCodeFaultOf file.tree seen n.kinds dat g
+  pub code_fault : (named : List Named) (dats : List Dat) (i : ℕ) (n : Named) (dat : Dat) (file : NamedSource) (seen : Children) (g : Fault) → AreNamed files children named → AreAssembled files children named dats → slice_get named i ≡ Some n → slice_get dats i ≡ Some dat → IsFile files children i file seen → IsRefusal files children (refusal 2 i g) → IsCodeFaultOf file.tree seen n.kinds dat g
   code_fault named dats i n dat file seen g h k at there is r =
       let b = code_faulty i g r in
       let same = one_file b.is is in

@@ -50,13 +50,13 @@ one_refused files view n m f g x y =
 -- ---- never both
 
 module _ (files : List NamedSource) (children : List Children) (xs : List CompiledFile) (beside : length children ≡ length files) (each : AreCompiled files children xs) where
-  no_name : (i : ℕ) (f : Fault) → ¬ NameFaulty files children i f
+  pub no_name : (i : ℕ) (f : Fault) → ¬ NameFaulty files children i f
   no_name i f b =
       let within = slice_get_within files i b.file b.is.stands in
       let x = element xs i (omega (arith, each.count)) in
       (each.each i b.file b.seen x.0 b.is x.1).names.clean f b.fault
 
-  no_data : (i : ℕ) (f : Fault) → ¬ DataFaulty files children i f
+  pub no_data : (i : ℕ) (f : Fault) → ¬ DataFaulty files children i f
   no_data i f b =
       let within = slice_get_within files i b.file b.is.stands in
       let x = element xs i (omega (arith, each.count)) in

@@ -22,7 +22,6 @@ use Rattle.p8_gen.specs.declared.coder.Tables.{Tables}
 use Rattle.p8_gen.specs.Files.{first_offset, names_in}
 use Rattle.p8_gen.specs.Labels.{offset_in}
 use Rattle.p8_gen.specs.Names.{Names}
-use Rattle.p8_gen.specs.Scopes.{names_from}
 use Rattle.p8_gen.proofs.Tabled.{names_same}
 use Rattle.p8_image.specs.declared.parts.MethodPart.{MethodPart}
 use Rattle.p8_image.specs.declared.parts.ObjectPart.{ObjectPart}
@@ -30,16 +29,13 @@ use Rattle.p8_build.specs.declared.string_texts.StringText.{StringText}
 use Rattle.p8_stmt.specs.Methods.{AreResolved}
 use Rattle.p8_build.specs.Parts.{text_number, strings_of}
 use Rattle.p8_build.specs.Numbers.{text_of, number_by, AreNumbers}
+use Rattle.p8_build.specs.Measuring.{names_with}
 use Rattle.p8_build.specs.Coding.{AreReady, IsFaultOfOne, ArePartsOf, IsCoded, IsOneTooMany}
 use Rattle.p8_build.specs.Phases.{IsObjectOf, IsCodeFaultOf, object_by}
 use Rattle.p8_build.specs.declared.coding.Coded.{Coded}
 use Rattle.p8_build.specs.declared.texts.TextNumbers.{TextNumbers}
 use Rattle.p8_build.proofs.Making.{numbers_are, code_refusal, object_is}
 use Rattle.p8_build.proofs.Ready.{resolved}
-
--- the names of a method, which is counted from 0, by the tables of its file
-abbrev pub names_with : Kinds → Tables → ℕ → MethodTree → Names
-names_with kinds tables k m = names_from kinds (k + 1) tables m.place
 
 -- the words of texts
 pub words_are : (ss : List StringText) → map (λ (s : StringText). (text_of s).1) ss ≡ map (λ (x : Place × List ℕ). x.1) (map text_of ss)
@@ -54,7 +50,7 @@ module _ (source : Source) (children : Children) (kinds : Kinds) (tables : Table
     (publics : (item : ℕ) (name : List ℕ) → own tables.publics item name ≡ public_of children item name)
     (consts : setting_in tables.consts ≡ file_setting kinds children)
     (offsets : (name : List ℕ) → offset_in tables.labels name ≡ first_offset dat.labels name) where
-  same_names : (k : ℕ) (m : MethodTree) → names_with kinds tables k m ≡ names_in kinds children dat.labels (k + 1) m.place
+  pub same_names : (k : ℕ) (m : MethodTree) → names_with kinds tables k m ≡ names_in kinds children dat.labels (k + 1) m.place
   same_names k m = names_same kinds (k + 1) tables m.place children dat.labels publics consts offsets
 
   pub ready_by : (top : Bool) (ms : List MethodTree) → IsNamed source children top kinds → IsProperFile source → ms ≡ numbered (items source) → AreReady (names_with kinds tables) ms

@@ -7,8 +7,10 @@ pub mod Parts
 pub mod Files
 pub mod Builds
 pub mod Told
+pub mod Sizes
 -- internal: what the code's steps come to.
 pub mod Faults
 pub mod Numbers
 pub mod Coding
 pub mod Phases
+pub mod Measuring

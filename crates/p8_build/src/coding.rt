@@ -85,7 +85,7 @@ fn add_code(
 }
 
 /// The number of the method with this index.
-fn number_behind(index: usize) -> Result<u32, NoMemory>
+pub(crate) fn number_behind(index: usize) -> Result<u32, NoMemory>
     ensures { IfOk result (λ number. number ≡ index + 1) }
 {
     match u32::try_from(index) {

@@ -1,4 +1,4 @@
--- What a refusal or a missing file says to a person: where it is, the line with a mark under the place, what stands there, what is wrong and what often mends it. Places are
+-- What a refusal or a missing file says to a person: where it is, the line with a mark under the place, what stands there, by how much it is too large, what is wrong and what often mends it. Places are
 -- those of refusals: a line ends at LF, CR LF or CR, and a tab goes to the next column of the form 8k + 1.
 use Rattle.std.specs.Prelude.{ℕ, ◌-◌, ◌==◌, nat_le, List, [], ◌∷◌, ◌++◌, take, drop, replicate, codes, Option, Some, None, if◌then◌else◌}
 use Rattle.std.specs.Fmt.{decimal}
@@ -10,9 +10,11 @@ use Rattle.p8_lexer.specs.Lexing.{is_between, is_line_end, longest_file}
 use Rattle.p8_lexer.specs.Places.{start, behind, next_tab}
 use Rattle.p8_tree.specs.declared.faults.Fault.{Fault}
 use Rattle.p8_tree.specs.Refusals.{numbered, name_numbered}
+use Rattle.p8_build.specs.declared.sizes.Size.{Size}
 use Rattle.p8_explain.specs.Entries.{says, example, mends}
 use Rattle.p8_explain.specs.Causes.{seen, token_at}
 use Rattle.p8_explain.specs.Standing.{of_byte, of_name}
+use Rattle.p8_explain.specs.Sizes.{of_size}
 
 -- ---- a refusal
 
@@ -70,9 +72,13 @@ found (Some refusal.Unexpected) bytes line place = seen line (place.column - 1)
 found (Some refusal.Duplicate) bytes line place = of_name bytes (token_at (drop (place.column - 1) line)) place
 found _ bytes line place = []
 
-abbrev pub explanation_of : (file bytes : List ℕ) → Fault → List ℕ
-explanation_of file bytes f =
-    place_text file f.place ++ title f.number ++ shown_with (line_of bytes f.place.line) ++ advice (numbered f.number)
+-- by how much what is refused is too large, what is wrong and what often mends it
+abbrev pub said : Option Refusal → Option Size → List ℕ
+said refused size = of_size size ++ advice refused
+
+abbrev pub explanation_of : (file bytes : List ℕ) → Fault → Option Size → List ℕ
+explanation_of file bytes f size =
+    place_text file f.place ++ title f.number ++ shown_with (line_of bytes f.place.line) ++ said (numbered f.number) size
   where
     shown_with : (line : List ℕ) → List ℕ
     shown_with line = marked line f.place.column ++ found (numbered f.number) bytes line f.place

@@ -4,5 +4,6 @@ pub mod Explaining
 pub mod Causes
 pub mod Standing
 pub mod Spelling
+pub mod Sizes
 -- Machinery that only proofs need.
 pub mod Marks

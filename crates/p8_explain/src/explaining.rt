@@ -1,12 +1,14 @@
 // What a refusal says to a person.
 ghost use Rattle.std.specs.Prelude.{◌≡◌, ◌++◌, OnOk, IfOk};
-ghost use Rattle.p8_explain.specs.Explaining.{advice, found, sample, title, position, place_text, explanation_of, absence_of, entry_of};
+ghost use Rattle.p8_explain.specs.Explaining.{advice, said, found, sample, title, position, place_text, explanation_of, absence_of, entry_of};
 
 use crate::causes::{push_seen, token_at};
 use crate::entries::{example, mends, says};
 use crate::lines::{line_of, push_marked, rest_of};
+use crate::sizes::push_size;
 use crate::standing::{push_of_byte, push_of_name};
 use crate::texts::{push_decimal, push_text};
+use p8_build::Size;
 use p8_tree::{Fault, Place, Refusal, Text, refusal_name};
 use p8_words::NoMemory;
 use std::alloc::Global;
@@ -48,6 +50,19 @@ fn push_found(
         Some(Refusal::Duplicate) => push_of_name(out, bytes, token_at(rest_of(line, at)), place),
         _ => Ok(()),
     }
+}
+
+// Appends by how much what is refused is too large, what is wrong, and what often mends it.
+fn push_said(
+    out: &mut Vec<u8>,
+    refusal: Option<Refusal>,
+    size: Option<Size>,
+) -> Result<(), NoMemory>
+    ensures { OnOk result (out.new.items ≡ out.old.items ++ said refusal size) }
+{
+    push_size(out, size)?;
+    push_advice(out, refusal)?;
+    Ok(())
 }
 
 // Appends a line that is refused so.
@@ -97,16 +112,17 @@ fn push_place(out: &mut Vec<u8>, name: &Text, place: Place) -> Result<(), NoMemo
     Ok(())
 }
 
-/// What a refusal says to a person, of a file of this name and these bytes, with its number, from 1 to 30, and its place:
-/// the name of the file, the place and the refusal's name, the line with a mark under the place, what is wrong and what
-/// often mends it. Of a long line some 100 columns are shown. The only error is want of memory.
+/// What a refusal says to a person, of a file of this name and these bytes, with its number, from 1 to 30, its place and the size of
+/// what is too large: the name of the file, the place and the refusal's name, the line with a mark under the place, by how much it
+/// is too large, what is wrong and what often mends it. Of a long line some 100 columns are shown. The only error is want of memory.
 pub fn explanation(
     alloc: Global,
     name: &Text,
     bytes: &[u8],
     fault: Fault,
+    size: Option<Size>,
 ) -> Result<Vec<u8>, NoMemory>
-    ensures { IfOk result (λ text. text.items ≡ explanation_of name.now bytes.now fault) }
+    ensures { IfOk result (λ text. text.items ≡ explanation_of name.now bytes.now fault size) }
 {
     let mut out = Vec::new(alloc);
     let refusal = Refusal::numbered(fault.number);
@@ -115,7 +131,7 @@ pub fn explanation(
     push_title(&mut out, fault.number)?;
     push_marked(&mut out, line.as_slice(), fault.place.column)?;
     push_found(&mut out, refusal, bytes, line.as_slice(), fault.place)?;
-    push_advice(&mut out, refusal)?;
+    push_said(&mut out, refusal, size)?;
     Ok(out)
 }
 

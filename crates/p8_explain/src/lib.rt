@@ -6,6 +6,7 @@ mod causes;
 mod entries;
 mod explaining;
 mod lines;
+mod sizes;
 mod spelling;
 mod standing;
 mod texts;

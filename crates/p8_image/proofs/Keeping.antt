@@ -1,10 +1,10 @@
 -- Laws of numbers that are kept.
-use Rattle.std.proofs.Common.{◌≡◌, ◌≤◌, ◌<◌, ℕ, ◌+◌, ◌*◌, ◌%◌, ◌∙◌, List, [], ◌∷◌, ap, sym, arith, add_assoc, add-zero, zero-add, fold}
+use Rattle.std.proofs.Common.{◌≡◌, ◌≤◌, ◌<◌, ℕ, ◌+◌, ◌*◌, ◌%◌, ◌∙◌, min, List, [], ◌∷◌, ap, sym, arith, add_assoc, add-zero, zero-add, fold}
 use Rattle.std.proofs.lemmas.Bool.Decides.{nat_tests}
 use Rattle.p8_image.specs.Keeping.{kept}
 use Rattle.p8_image.specs.Layout.{total, whole_longs}
 
-pub kept_small : (n : ℕ) → n < 1048576 → kept n ≡ n
+pub kept_small : (n : ℕ) → n < 2147483648 → kept n ≡ n
 unfolding kept
 kept_small n h = grind (arith, nat_tests)
 
@@ -13,7 +13,7 @@ pub kept_fits : (n : ℕ) → kept n ≤ 32768 → kept n ≡ n
 unfolding kept
 kept_fits n h = grind (arith, nat_tests)
 
-pub kept_bound : (n : ℕ) → kept n < 2097152
+pub kept_bound : (n : ℕ) → kept n < 4294967296
 unfolding kept
 kept_bound n = grind (arith, nat_tests)
 
@@ -61,3 +61,7 @@ kept_twice n = grind (arith, nat_tests)
 pub kept_most : (n : ℕ) → kept n ≤ n
 unfolding kept
 kept_most n = grind (arith, nat_tests)
+
+pub kept_least : (n : ℕ) → min (kept n) 2147483648 ≡ min n 2147483648
+unfolding kept
+kept_least n = grind (arith, nat_tests)

@@ -1,11 +1,11 @@
 -- The header of a project's image, by numbers that are kept.
-use Rattle.std.proofs.Common.{◌≡◌, ◌≤◌, ◌<◌, ℕ, ◌+◌, ◌∙◌, List, [], ◌∷◌, ◌++◌, length, map, get_or, slice_index, refl, ap, sym, subst, arith}
+use Rattle.std.proofs.Common.{◌≡◌, ◌≤◌, ◌<◌, ℕ, ◌+◌, ◌∙◌, min, List, [], ◌∷◌, ◌++◌, length, map, get_or, slice_index, refl, ap, sym, subst, arith}
 use Rattle.p8_image.specs.Keeping.{kept}
-use Rattle.p8_image.specs.Layout.{codes_offset, variables_base, variables_of, first_frame, frame_size, header_by, header_bytes, bases_of, objects_bytes, bytes_with}
+use Rattle.p8_image.specs.Layout.{codes_offset, variables_base, variables_within, variables_of, first_frame, frame_size, header_by, header_bytes, bases_of, objects_bytes, bytes_with}
 use Rattle.p8_image.specs.declared.clocks.Clock.{Clock}
 use Rattle.p8_image.specs.declared.header.Header.{Header}
 use Rattle.p8_image.specs.declared.parts.ObjectPart.{ObjectPart}
-use Rattle.p8_image.proofs.Keeping.{kept_fits, kept_small, kept_most}
+use Rattle.p8_image.proofs.Keeping.{kept_fits, kept_small, kept_most, kept_add, kept_sum, kept_least}
 use Rattle.p8_image.proofs.Words.{kept_at, kept_same, same_objects}
 
 abbrev pub header : (pbase vbase dbase pcurr dcurr : ℕ) → Header
@@ -19,11 +19,16 @@ pub record Found (objects : List ObjectPart) (top : ObjectPart) (vbase variables
   pub is_variables : variables ≡ slice_index (map kept (variables_of objects)) 0
   pub is_frame : frame ≡ frame_size top.methods
 
-header_of_top : (objects : List ObjectPart) (top : ObjectPart) → 1 ≤ length objects → top ≡ get_or objects 0 top
+pub header_of_top : (objects : List ObjectPart) (top : ObjectPart) → 1 ≤ length objects → top ≡ get_or objects 0 top
     → header_by objects ≡ header 16 (variables_base objects) (first_frame objects) (16 + codes_offset top) (first_frame objects + 4 + frame_size top.methods)
 header_of_top [] top some is = absurd (omega arith)
 header_of_top (first ∷ objects) top some is =
     ap (λ (o : ObjectPart). header 16 (variables_base (first ∷ objects)) (first_frame (first ∷ objects)) (16 + codes_offset o) (first_frame (first ∷ objects) + 4 + frame_size o.methods)) (sym is)
+
+pub header_of_none : (objects : List ObjectPart) → length objects ≡ 0 → (header_by objects).dcurr ≡ first_frame objects + 4 + 0
+unfolding variables_within
+header_of_none [] none = refl
+header_of_none (first ∷ objects) none = absurd (omega arith)
 
 code_within : (objects : List ObjectPart) (top : ObjectPart) → 1 ≤ length objects → top ≡ get_or objects 0 top → codes_offset top ≤ variables_base objects
 code_within [] top some is = absurd (omega arith)
@@ -43,6 +48,16 @@ too_large {objects} {top} {vbase} {variables} {frame} found h =
     let f : frame ≡ frame_size top.methods = found.is_frame in
     let P : ℕ → Type 0 = λ dcurr. 32768 < dcurr in
     subst P (sym (ap (λ (header : Header). header.dcurr) whole)) (omega arith)
+
+-- where the first frame ends, by what is kept of it
+pub end_is : (objects : List ObjectPart) (vbase variables frame size end first : ℕ) → vbase ≡ kept (variables_base objects) → variables ≡ slice_index (map kept (variables_of objects)) 0
+    → frame ≡ kept (vbase + variables) → size ≡ first → end ≡ kept (frame + (12 + size)) → (header_by objects).dcurr ≡ first_frame objects + 4 + first → min end 2147483648 ≡ min (header_by objects).dcurr 2147483648
+end_is objects vbase variables frame size end first v n f s e whole =
+    let sum : frame ≡ kept (variables_base objects + slice_index (variables_of objects) 0) = f ∙ kept_sum vbase variables (variables_base objects) (slice_index (variables_of objects) 0) v (n ∙ kept_at (variables_of objects) 0) in
+    let all : end ≡ kept (variables_base objects + slice_index (variables_of objects) 0 + (12 + first)) =
+    e ∙ ap (λ (k : ℕ). kept (frame + (12 + k))) s ∙ ap (λ (k : ℕ). kept (k + (12 + first))) sum ∙ kept_add (variables_base objects + slice_index (variables_of objects) 0) (12 + first) in
+    let is : variables_base objects + slice_index (variables_of objects) 0 + (12 + first) ≡ (header_by objects).dcurr = omega (arith, whole) in
+    ap (λ (k : ℕ). min k 2147483648) (all ∙ ap kept is) ∙ kept_least (header_by objects).dcurr
 
 pub record Exact (objects : List ObjectPart) (vbase variables frame codes : ℕ) : Type 0 where
   pub header : header_by objects ≡ header 16 vbase (vbase + variables + 8) (16 + codes) (vbase + variables + 8 + 4 + frame)

@@ -25,7 +25,7 @@ pub use header::Header;
 pub use image::{Image, load, load_eeprom};
 pub use laws::{eeprom_comes_back, image_loads, parts_stand};
 pub use parts::{MethodPart, ObjectPart, TextUse, Variable};
-pub use project_image::layout;
+pub use project_image::{frame_end, layout};
 pub use project_listing::listing;
 pub use sizes::Offsets;
 pub use text_laws::operations_have_lines;

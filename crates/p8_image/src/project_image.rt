@@ -1,8 +1,8 @@
 // The image of a project.
-ghost use Rattle.std.specs.Prelude.{◌≡◌, ◌<◌, ◌≤◌, ◌+◌, ◌++◌, length, map, IfOk, OnOk, IfErr, IfSome, IfNone};
+ghost use Rattle.std.specs.Prelude.{◌≡◌, ◌<◌, ◌≤◌, ◌+◌, ◌^◌, ◌++◌, min, length, map, IfOk, OnOk, IfErr, IfSome, IfNone};
 ghost use Rattle.p8_image.specs.Keeping.{kept};
 ghost use Rattle.p8_image.specs.Loading.{IsImage, image_in};
-ghost use Rattle.p8_image.specs.Layout.{word, variables_of, header_by, frame_size, header_bytes, bytes_with, image_of};
+ghost use Rattle.p8_image.specs.Layout.{word, variables_of, first_frame, header_by, frame_size, header_bytes, bytes_with, image_of};
 ghost use Rattle.p8_image.specs.Projects.{BeginsWithMain, FitsHub, IsTooLarge};
 
 use crate::bytes::{number_at, push_objects, push_word};
@@ -12,7 +12,7 @@ use crate::header::Header;
 use crate::image::{Image, finished};
 use crate::parts::{MethodPart, ObjectPart};
 use crate::plan::{FIRST_BASE, bases, variables, variables_base};
-use crate::sizes::codes_offset;
+use crate::sizes::{LIMIT, add, codes_offset};
 use p8_words::{Fail, NoMemory};
 use std::alloc::Global;
 
@@ -96,6 +96,27 @@ pub fn layout(alloc: Global, clock: Clock, objects: &[ObjectPart]) -> Result<Ima
     };
     let bytes = unfinished(alloc, clock, header, &sizes, objects)?;
     Ok(Image::from_vec(finished(bytes)))
+}
+
+/// The bytes of the first frame of a project after its result.
+fn first_frame_size(objects: &[ObjectPart]) -> u32
+    ensures { (header_by objects.now).dcurr ≡ first_frame objects.now + 4 + result }
+{
+    match objects {
+        [top, ..] => frame_size(top.methods.as_slice()),
+        [] => 0,
+    }
+}
+
+/// Where the first frame of a project's image would end, whether or not the hub has room for it: what [`layout`] compares with the
+/// hub's 32,768 bytes. 2,147,483,648 stands for as many bytes or more. The only error is want of memory.
+pub fn frame_end(alloc: Global, objects: &[ObjectPart]) -> Result<u32, NoMemory>
+    ensures { IfOk result (λ end. end ≡ min (header_by objects.now).dcurr (2 ^ 31)) }
+{
+    let sizes = variables(alloc, objects)?;
+    let frame = add(variables_base(objects), u64::from(number_at(&sizes, 0)));
+    let end = add(frame, 12 + u64::from(first_frame_size(objects)));
+    Ok(end.min(LIMIT))
 }
 
 /// An image with the checksum 0.

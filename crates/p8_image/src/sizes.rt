@@ -7,15 +7,15 @@ use crate::parts::{MethodPart, ObjectPart, Variable};
 use p8_tree::Text;
 
 /// The least number of bytes that isn't kept exactly.
-const LIMIT: u32 = 1_048_576;
+pub const LIMIT: u32 = 2_147_483_648;
 
-/// A number of bytes as it is kept: exactly below 1,048,576, and above as that and the last 16 bits.
+/// A number of bytes as it is kept: exactly below 2,147,483,648, and above as that and the last 16 bits.
 ///
-/// So it is known whether an image fits the hub, and what its words are, however much an input asks for.
+/// So it is known whether an image fits the hub, by how much it doesn't, and what its words are, however much an input asks for.
 #[tactic(auto, unfolding(crate::specs::Keeping::kept))]
 fn keep(bytes: u64) -> u32
     ensures value { result ≡ kept bytes }
-    ensures bound { result < 2 ^ 21 }
+    ensures bound { result < 2 ^ 32 }
 {
     if bytes < u64::from(LIMIT) {
         bytes as u32

@@ -1,5 +1,5 @@
 -- What building a gathered project comes to.
-use Rattle.std.proofs.Common.{◌≡◌, ℕ, Bool, true, false, List, ap, refl}
+use Rattle.std.proofs.Common.{◌≡◌, ℕ, Bool, true, false, List, Option, ap, refl, subst}
 use Rattle.std.specs.Prelude.{[], ◌∷◌, map}
 use Rattle.p8_tree.specs.declared.projects.ProjectFile.{ProjectFile}
 use Rattle.p8_tree.specs.Views.{named_source_of}
@@ -14,7 +14,13 @@ use Rattle.p8_tree.specs.Proper.{IsProperFile}
 use Rattle.p8_image.specs.declared.parts.ObjectPart.{ObjectPart}
 use Rattle.p8_image.specs.Loading.{ImageValue}
 use Rattle.p8_build.specs.declared.building.Built.{Built}
-use Rattle.p8_build.specs.Told.{IsImageBuilt, IsBuiltTo}
+use Rattle.p8_tree.specs.declared.faults.Fault.{Fault}
+use Rattle.p8_build.specs.declared.fault.BuildFault.{BuildFault}
+use Rattle.p8_build.specs.declared.fault.BuildFault.TheVariants as build_case
+use Rattle.p8_build.specs.declared.sizes.Size.{Size}
+use Rattle.p8_build.specs.Builds.{IsRefusedWith}
+use Rattle.p8_build.specs.Sizes.{IsMeasured}
+use Rattle.p8_build.specs.Told.{IsImageBuilt, IsBuiltTo, IsRefusal}
 use Rattle.p8_legend.specs.declared.legend.Legend.{Legend}
 use Rattle.p8_map.specs.Projects.{IsMapOf}
 use Rattle.p8_legend.specs.Projects.{IsLegendOf}
@@ -52,7 +58,7 @@ module _ (files : Files) (short : Bool) (top : List ℕ) (sources : List NamedSo
   legend-from texts are legend is = (sources, gathered, texts, are, is)
 
   pub building-stops : (before now : ℕ) (stop : Stop) → StopsAtBuilding sources stop → StopsAtProgram files before now (Source short) top stop
-  building-stops before now (Refused name f) stops = when_built sources gathered stops
+  building-stops before now (Refused name f size) stops = when_built sources gathered stops
   building-stops before now NoMemory stops = tt
   building-stops before now (Unread name) stops = absurd stops
   building-stops before now (Missing name mention) stops = absurd stops
@@ -68,3 +74,8 @@ image-of-project files short top bytes is = (is.0, is.1, is.2, is.3, is.5)
 pub same-names : (files : List ProjectFile) → map (λ (source : NamedSource). source.name) (map named_source_of files) ≡ map (λ (file : ProjectFile). file.name) files
 same-names [] = refl
 same-names (file ∷ files) = ap (λ names. file.name ∷ names) (same-names files)
+
+-- a refusal with its size
+pub measured-stop : (sources : List NamedSource) (given : BuildFault) (name : List ℕ) (f : Fault) → given ≡ build_case.Source name f → (size : Option Size) → IsRefusal sources given
+    → (IsRefusedWith sources name f → IsMeasured sources name f size) → StopsAtBuilding sources (Refused name f size)
+measured-stop sources given name f is size refusal measures = measures (subst (IsRefusal sources) is refusal)

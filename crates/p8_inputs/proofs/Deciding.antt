@@ -19,6 +19,7 @@ use Rattle.p8_build.specs.Builds.{objects_of}
 use Rattle.p8_map.specs.Projects.{IsMapOf}
 use Rattle.p8_image.specs.Listing.{listing_of}
 use Rattle.std.specs.Prelude.{map}
+use Rattle.p8_build.specs.declared.sizes.Size.{Size}
 use Rattle.p8_inputs.specs.declared.program.Format.{Format}
 use Rattle.p8_inputs.specs.declared.program.Format.TheVariants.{Memory, Image, Eeprom, Source}
 use Rattle.p8_inputs.specs.declared.stop.Stop.{Stop}
@@ -76,8 +77,8 @@ module _ (files : List ℕ → Option (List ℕ)) where
 
   -- ---- one reason to stop is another
 
-  refused-same : {a b : List ℕ} {f g : Fault} → (a ≡ b) × (f ≡ g) → Refused a f ≡ Refused b g
-  refused-same e = λ i. Refused (e.0 i) (e.1 i)
+  refused-same : {a b : List ℕ} {f g : Fault} {s t : Option Size} → (a ≡ b) × (f ≡ g) × (s ≡ t) → Refused a f s ≡ Refused b g t
+  refused-same e = λ i. Refused (e.0 i) (e.1 i) (e.2 i)
 
   missing-same : {a b : List ℕ} {k l : Option Mention} → (a ≡ b) × (k ≡ l) → Missing a k ≡ Missing b l
   missing-same e = λ i. Missing (e.0 i) (e.1 i)
@@ -89,12 +90,12 @@ module _ (files : List ℕ → Option (List ℕ)) where
   file-stop-one before now file (Missing a k) (Missing b l) s t p q = missing-same (p.0 ∙ sym q.0, p.2 ∙ sym q.2)
   file-stop-one before now file (Unread a) b s t p q = absurd s
   file-stop-one before now file NoMemory b s t p q = absurd s
-  file-stop-one before now file (Refused a m) b s t p q = absurd p
+  file-stop-one before now file (Refused a m u) b s t p q = absurd p
   file-stop-one before now file (BadProgram a f) b s t p q = absurd p
   file-stop-one before now file (BadScript a m) b s t p q = absurd p
   file-stop-one before now file a (Unread b) s t p q = absurd t
   file-stop-one before now file a NoMemory s t p q = absurd t
-  file-stop-one before now file a (Refused b n) s t p q = absurd q
+  file-stop-one before now file a (Refused b n v) s t p q = absurd q
   file-stop-one before now file a (BadProgram b g) s t p q = absurd q
   file-stop-one before now file a (BadScript b n) s t p q = absurd q
   file-stop-one before now file (Unnamed a m) b s t p q = absurd p
@@ -104,7 +105,7 @@ module _ (files : List ℕ → Option (List ℕ)) where
   file-never_both before now file xs (Missing name mention) s is stops = read-some file name xs is stops.0 stops.1
   file-never_both before now file xs (Unread name) s is stops = s
   file-never_both before now file xs NoMemory s is stops = s
-  file-never_both before now file xs (Refused name f) s is stops = stops
+  file-never_both before now file xs (Refused name f size) s is stops = stops
   file-never_both before now file xs (BadProgram name fault) s is stops = stops
   file-never_both before now file xs (BadScript name line) s is stops = stops
   file-never_both before now file xs (Unnamed other name) s is stops = stops
@@ -123,11 +124,11 @@ module _ (files : List ℕ → Option (List ℕ)) where
   message-stop-one before now file (BadProgram a f) (BadProgram b g) s t p q = long-one file a b p.1.0 q.1.0 f g p.0 p.1.1 p.1.3 q.0 q.1.1 q.1.3
   message-stop-one before now file (Unread a) b s t p q = absurd s
   message-stop-one before now file NoMemory b s t p q = absurd s
-  message-stop-one before now file (Refused a m) b s t p q = absurd p
+  message-stop-one before now file (Refused a m u) b s t p q = absurd p
   message-stop-one before now file (BadScript a m) b s t p q = absurd p
   message-stop-one before now file a (Unread b) s t p q = absurd t
   message-stop-one before now file a NoMemory s t p q = absurd t
-  message-stop-one before now file a (Refused b n) s t p q = absurd q
+  message-stop-one before now file a (Refused b n v) s t p q = absurd q
   message-stop-one before now file a (BadScript b n) s t p q = absurd q
   message-stop-one before now file (Unnamed a m) b s t p q = absurd p
   message-stop-one before now file a (Unnamed b n) s t p q = absurd q
@@ -140,7 +141,7 @@ module _ (files : List ℕ → Option (List ℕ)) where
       omega arith
   message-never_both before now file xs (Unread name) s is few stops = s
   message-never_both before now file xs NoMemory s is few stops = s
-  message-never_both before now file xs (Refused name f) s is few stops = stops
+  message-never_both before now file xs (Refused name f size) s is few stops = stops
   message-never_both before now file xs (BadScript name line) s is few stops = stops
   message-never_both before now file xs (Unnamed other name) s is few stops = stops
 
@@ -154,11 +155,11 @@ module _ (files : List ℕ → Option (List ℕ)) where
       λ i. BadScript ((p.0 ∙ sym q.0) i) (line i)
   script-stop-one before now file (Unread a) b s t p q = absurd s
   script-stop-one before now file NoMemory b s t p q = absurd s
-  script-stop-one before now file (Refused a m) b s t p q = absurd p
+  script-stop-one before now file (Refused a m u) b s t p q = absurd p
   script-stop-one before now file (BadProgram a f) b s t p q = absurd p
   script-stop-one before now file a (Unread b) s t p q = absurd t
   script-stop-one before now file a NoMemory s t p q = absurd t
-  script-stop-one before now file a (Refused b n) s t p q = absurd q
+  script-stop-one before now file a (Refused b n v) s t p q = absurd q
   script-stop-one before now file a (BadProgram b g) s t p q = absurd q
   script-stop-one before now file (Unnamed a m) b s t p q = absurd p
   script-stop-one before now file a (Unnamed b n) s t p q = absurd q
@@ -170,7 +171,7 @@ module _ (files : List ℕ → Option (List ℕ)) where
       read-not_bad stops.1.0 xs line (subst (λ (text : List ℕ). IsReadAs text xs) same is.2) stops.1.2
   script-never_both before now file xs (Unread name) s is stops = s
   script-never_both before now file xs NoMemory s is stops = s
-  script-never_both before now file xs (Refused name f) s is stops = stops
+  script-never_both before now file xs (Refused name f size) s is stops = stops
   script-never_both before now file xs (BadProgram name fault) s is stops = stops
   script-never_both before now file xs (Unnamed other name) s is stops = stops
 
@@ -199,17 +200,17 @@ module _ (files : List ℕ → Option (List ℕ)) where
 
     program-stop-one : (before now : ℕ) (format : Format) (file : List ℕ) (a b : Stop) → IsOfFiles a → IsOfFiles b → StopsAtProgram (Some files) before now format file a → StopsAtProgram (Some files) before now format file b → a ≡ b
     program-stop-one before now (Source short) file (Missing a k) (Missing b l) s t p q = missing-same (one.one_missing before now file a b k l p q)
-    program-stop-one before now (Source short) file (Missing a k) (Refused b n) s t p q = absurd (one.missing_or_refused before now file a b k n p q)
-    program-stop-one before now (Source short) file (Refused a m) (Missing b l) s t p q = absurd (one.missing_or_refused before now file b a l m q p)
-    program-stop-one before now (Source short) file (Refused a m) (Refused b n) s t p q = refused-same (one.one_refusal file a b m n p q)
+    program-stop-one before now (Source short) file (Missing a k) (Refused b n v) s t p q = absurd (one.missing_or_refused before now file a b k n v p q)
+    program-stop-one before now (Source short) file (Refused a m u) (Missing b l) s t p q = absurd (one.missing_or_refused before now file b a l m u q p)
+    program-stop-one before now (Source short) file (Refused a m u) (Refused b n v) s t p q = refused-same (one.one_refusal file a b m n u v p q)
     program-stop-one before now (Source short) file (BadProgram a f) b s t p q = absurd p
     program-stop-one before now (Source short) file a (BadProgram b g) s t p q = absurd q
     program-stop-one before now Memory file (Missing a k) (Missing b l) s t p q = missing-same (p.0 ∙ sym q.0, p.2 ∙ sym q.2)
     program-stop-one before now Memory file (Missing a k) (BadProgram b g) s t p q = absurd (read-some b a q.0 q.2 (p.0 ∙ sym q.1) p.1)
     program-stop-one before now Memory file (BadProgram a f) (Missing b l) s t p q = absurd (read-some a b p.0 p.2 (q.0 ∙ sym p.1) q.1)
     program-stop-one before now Memory file (BadProgram a f) (BadProgram b g) s t p q = faulty-same (one-fault Memory file a b f g p.0 q.0 p.1 p.2 p.3 q.1 q.2 q.3)
-    program-stop-one before now Memory file (Refused a m) b s t p q = absurd p
-    program-stop-one before now Memory file a (Refused b n) s t p q = absurd q
+    program-stop-one before now Memory file (Refused a m u) b s t p q = absurd p
+    program-stop-one before now Memory file a (Refused b n v) s t p q = absurd q
     program-stop-one before now Image file (Missing a k) (Missing b l) s t p q = missing-same (p.0 ∙ sym q.0, p.2 ∙ sym q.2)
     program-stop-one before now Eeprom file (Missing a k) (Missing b l) s t p q = missing-same (p.0 ∙ sym q.0, p.2 ∙ sym q.2)
     program-stop-one before now Image file (Missing a k) (BadProgram b g) s t p q = absurd (read-some b a q.0 q.2 (p.0 ∙ sym q.1) p.1)
@@ -218,10 +219,10 @@ module _ (files : List ℕ → Option (List ℕ)) where
     program-stop-one before now Eeprom file (BadProgram a f) (Missing b l) s t p q = absurd (read-some a b p.0 p.2 (q.0 ∙ sym p.1) q.1)
     program-stop-one before now Image file (BadProgram a f) (BadProgram b g) s t p q = faulty-same (one-fault Image file a b f g p.0 q.0 p.1 p.2 p.3 q.1 q.2 q.3)
     program-stop-one before now Eeprom file (BadProgram a f) (BadProgram b g) s t p q = faulty-same (one-fault Eeprom file a b f g p.0 q.0 p.1 p.2 p.3 q.1 q.2 q.3)
-    program-stop-one before now Image file (Refused a m) b s t p q = absurd p
-    program-stop-one before now Eeprom file (Refused a m) b s t p q = absurd p
-    program-stop-one before now Image file a (Refused b n) s t p q = absurd q
-    program-stop-one before now Eeprom file a (Refused b n) s t p q = absurd q
+    program-stop-one before now Image file (Refused a m u) b s t p q = absurd p
+    program-stop-one before now Eeprom file (Refused a m u) b s t p q = absurd p
+    program-stop-one before now Image file a (Refused b n v) s t p q = absurd q
+    program-stop-one before now Eeprom file a (Refused b n v) s t p q = absurd q
     program-stop-one before now format file (Unread a) b s t p q = absurd s
     program-stop-one before now format file NoMemory b s t p q = absurd s
     program-stop-one before now format file (BadScript a m) b s t p q = absurd p
@@ -233,15 +234,15 @@ module _ (files : List ℕ → Option (List ℕ)) where
 
     program-never_both : (before now : ℕ) (format : Format) (file xs : List ℕ) (stop : Stop) → IsOfFiles stop → IsProgram (Some files) format file xs → StopsAtProgram (Some files) before now format file stop → ⊥
     program-never_both before now (Source short) file xs (Missing name mention) s is stops = one.not_missing before now short file name mention is.0 is.1 is.2 is.3 stops
-    program-never_both before now (Source short) file xs (Refused name f) s is stops = one.not_refused short file name f is.0 is.1 is.2 is.3 stops
+    program-never_both before now (Source short) file xs (Refused name f size) s is stops = one.not_refused short file name f size is.0 is.1 is.2 is.3 stops
     program-never_both before now (Source short) file xs (BadProgram name fault) s is stops = stops
     program-never_both before now Memory file xs (Missing name mention) s is stops = read-some file name xs is.0 stops.0 stops.1
-    program-never_both before now Memory file xs (Refused name f) s is stops = stops
+    program-never_both before now Memory file xs (Refused name f size) s is stops = stops
     program-never_both before now Memory file xs (BadProgram name fault) s is stops = there-not_faulty Memory file xs name fault is.0 is.1 stops.0 stops.1 stops.2 stops.3
     program-never_both before now Image file xs (Missing name mention) s is stops = read-some file name xs is.0 stops.0 stops.1
     program-never_both before now Eeprom file xs (Missing name mention) s is stops = read-some file name xs is.0 stops.0 stops.1
-    program-never_both before now Image file xs (Refused name f) s is stops = stops
-    program-never_both before now Eeprom file xs (Refused name f) s is stops = stops
+    program-never_both before now Image file xs (Refused name f size) s is stops = stops
+    program-never_both before now Eeprom file xs (Refused name f size) s is stops = stops
     program-never_both before now Image file xs (BadProgram name fault) s is stops = there-not_faulty Image file xs name fault is.0 is.1 stops.0 stops.1 stops.2 stops.3
     program-never_both before now Eeprom file xs (BadProgram name fault) s is stops = there-not_faulty Eeprom file xs name fault is.0 is.1 stops.0 stops.1 stops.2 stops.3
     program-never_both before now format file xs (Unread name) s is stops = s

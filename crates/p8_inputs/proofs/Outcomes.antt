@@ -14,6 +14,8 @@ use Rattle.p8_objects.specs.Whole.{AreSources, IsOfFiles}
 use Rattle.p8_objects.proofs.Wholes.{whole_project}
 use Rattle.p8_names.specs.Mentions as seen
 use Rattle.p8_build.specs.Builds.{IsBuilt, IsRefusedWith, objects_of}
+use Rattle.p8_build.specs.Sizes.{IsMeasured}
+use Rattle.p8_build.specs.declared.sizes.Size.{Size}
 use Rattle.p8_map.specs.Projects.{IsMapOf}
 use Rattle.p8_opt.specs.Shorts.{IsShortBuilt}
 use Rattle.p8_legend.specs.Projects.{AreSame, IsLegendOf}
@@ -36,6 +38,9 @@ same-missing e = (cc, cc)
 
 same-refused : {a b : List ℕ} {f g : Fault} → refused a f ≡ refused b g → (a ≡ b) × (f ≡ g)
 same-refused e = (cc, cc)
+
+with-none : {a b : List ℕ} {f g : Fault} {s t : Option Size} → (a ≡ b) × (f ≡ g) → s ≡ None → t ≡ None → (a ≡ b) × (f ≡ g) × (s ≡ t)
+with-none e none also = (e.0, e.1, none ∙ sym also)
 
 missing-not_refused : {a name : List ℕ} {mention : Option Mention} {f : Fault} → missing a mention ≡ refused name f → ⊥
 missing-not_refused e = cc
@@ -82,7 +87,7 @@ abbrev pub OneLegend : Type 0
 OneLegend = (texts : List (List ℕ)) (files : List NamedSource) → seen.AreDistinct files → seen.HaveNoRing files → (a b : Legend) → IsLegendOf texts files a → IsLegendOf texts files b → AreSame a b
 
 abbrev pub OneRefused : Type 0
-OneRefused = (files : List NamedSource) → seen.AreDistinct files → seen.HaveNoRing files → (a b : List ℕ) (f g : Fault) → IsRefusedWith files a f → IsRefusedWith files b g → (a ≡ b) × (f ≡ g)
+OneRefused = (files : List NamedSource) → seen.AreDistinct files → seen.HaveNoRing files → (a b : List ℕ) (f g : Fault) (s t : Option Size) → IsMeasured files a f s → IsMeasured files b g t → (a ≡ b) × (f ≡ g) × (s ≡ t)
 
 module _ (one : OneGathered) (same : OneBuilt) (refusal : OneRefused) (either : BuiltOrRefused) (short_same : OneShortBuilt) (views : OneView) (legends : OneLegend) (files : List ℕ → Option (List ℕ)) where
   -- what building by a choice comes to is one thing
@@ -121,31 +126,31 @@ module _ (one : OneGathered) (same : OneBuilt) (refusal : OneRefused) (either : 
       (legends q.2 q.0 (distinct q.0 whole.distinct) (no_ring q.0 whole.no_ring) a b
       (subst (λ (ts : List (List ℕ)). IsLegendOf ts q.0 a) texts (subst (λ (s : List NamedSource). IsLegendOf p.2 s a) e p.4)) q.4)
 
-  not-refused : (short : Bool) (top name : List ℕ) (f : Fault) (sources : List NamedSource) (clock : Clock) (objects : List ObjectPart) → IsBuiltFrom (Some files) short top sources clock objects → IsRefusedFrom (Some files) top name f → ⊥
-  not-refused short top name f sources clock objects g (while_gathered h) =
+  not-refused : (short : Bool) (top name : List ℕ) (f : Fault) (size : Option Size) (sources : List NamedSource) (clock : Clock) (objects : List ObjectPart) → IsBuiltFrom (Some files) short top sources clock objects → IsRefusedFrom (Some files) top name f size → ⊥
+  not-refused short top name f size sources clock objects g (while_gathered h none) =
       project-not_refused (one files 0 0 top (project sources) (refused name f) (g.gathered 0 0) (h 0 0) tt tt)
-  not-refused short top name f sources clock objects g (when_built others h told) =
+  not-refused short top name f size sources clock objects g (when_built others h told) =
       let e : others ≡ sources = one-project top others sources h g.gathered in
       let whole = whole_project (g.gathered 0 0) in
-      built-or_refused short sources (distinct sources whole.distinct) (no_ring sources whole.no_ring) clock objects name f g.built (subst (λ s. IsRefusedWith s name f) e told)
+      built-or_refused short sources (distinct sources whole.distinct) (no_ring sources whole.no_ring) clock objects name f g.built (subst (λ s. IsRefusedWith s name f) e told.refused)
 
-  missing-or-refused : (before now : ℕ) (top name other : List ℕ) (mention : Option Mention) (f : Fault) → Gathers (shelved (Some files) before now) top (missing name mention) → IsRefusedFrom (Some files) top other f → ⊥
-  missing-or-refused before now top name other mention f g (while_gathered h) =
+  missing-or-refused : (before now : ℕ) (top name other : List ℕ) (mention : Option Mention) (f : Fault) (size : Option Size) → Gathers (shelved (Some files) before now) top (missing name mention) → IsRefusedFrom (Some files) top other f size → ⊥
+  missing-or-refused before now top name other mention f size g (while_gathered h none) =
       missing-not_refused (one files before now top (missing name mention) (refused other f) g (h before now) tt tt)
-  missing-or-refused before now top name other mention f g (when_built sources h refusal) =
+  missing-or-refused before now top name other mention f size g (when_built sources h refusal) =
       project-not_missing (one files before now top (project sources) (missing name mention) (h before now) g tt tt)
 
-  one-refusal : (top a b : List ℕ) (f g : Fault) → IsRefusedFrom (Some files) top a f → IsRefusedFrom (Some files) top b g → (a ≡ b) × (f ≡ g)
-  one-refusal top a b f k (while_gathered g) (while_gathered h) =
-      same-refused (one files 0 0 top (refused a f) (refused b k) (g 0 0) (h 0 0) tt tt)
-  one-refusal top a b f k (while_gathered g) (when_built sources h told) =
+  one-refusal : (top a b : List ℕ) (f g : Fault) (s t : Option Size) → IsRefusedFrom (Some files) top a f s → IsRefusedFrom (Some files) top b g t → (a ≡ b) × (f ≡ g) × (s ≡ t)
+  one-refusal top a b f k s t (while_gathered g none) (while_gathered h also) =
+      with-none (same-refused (one files 0 0 top (refused a f) (refused b k) (g 0 0) (h 0 0) tt tt)) none also
+  one-refusal top a b f k s t (while_gathered g none) (when_built sources h told) =
       absurd (project-not_refused (one files 0 0 top (project sources) (refused a f) (h 0 0) (g 0 0) tt tt))
-  one-refusal top a b f k (when_built sources g told) (while_gathered h) =
+  one-refusal top a b f k s t (when_built sources g told) (while_gathered h none) =
       absurd (project-not_refused (one files 0 0 top (project sources) (refused b k) (g 0 0) (h 0 0) tt tt))
-  one-refusal top a b f k (when_built some g told) (when_built sources h other) =
+  one-refusal top a b f k s t (when_built some g told) (when_built sources h other) =
       let e : some ≡ sources = one-project top some sources g h in
       let whole = whole_project (h 0 0) in
-      refusal sources (distinct sources whole.distinct) (no_ring sources whole.no_ring) a b f k (subst (λ s. IsRefusedWith s a f) e told) other
+      refusal sources (distinct sources whole.distinct) (no_ring sources whole.no_ring) a b f k s t (subst (λ xs. IsMeasured xs a f s) e told) other
 
   pub one-outcome : HasOneOutcome files
   one-outcome = record {

@@ -30,7 +30,7 @@ script-since : (files : Files) (before between now : ℕ) (file : List ℕ) (sto
 script-since files before between now file (Unread name) later stops = (stops.0, since before between now later stops.1)
 script-since files before between now file (Missing name mention) later stops = (stops.0, lacking-since before between now files name later stops.1, stops.2)
 script-since files before between now file NoMemory later stops = tt
-script-since files before between now file (Refused name f) later stops = absurd stops
+script-since files before between now file (Refused name f size) later stops = absurd stops
 script-since files before between now file (BadProgram name fault) later stops = absurd stops
 script-since files before between now file (BadScript name line) later stops = stops
 script-since files before between now file (Unnamed other name) later stops = absurd stops
@@ -40,7 +40,7 @@ pub first-stops : (files : Files) (before now : ℕ) (asks : List Ask) (stop : S
 first-stops files before now asks (Unread name) stops = stops
 first-stops files before now asks (Missing name mention) stops = stops
 first-stops files before now asks NoMemory stops = tt
-first-stops files before now asks (Refused name f) stops = stops
+first-stops files before now asks (Refused name f size) stops = stops
 first-stops files before now asks (BadProgram name fault) stops = stops
 first-stops files before now asks (BadScript name line) stops = stops
 first-stops files before now asks (Unnamed file name) stops = stops
@@ -53,7 +53,7 @@ pub first-or_memory : (files : Files) (before now : ℕ) (asks : List Ask) (stop
 first-or_memory files before now asks (Unread name) stops = inr stops
 first-or_memory files before now asks (Missing name mention) stops = inr stops
 first-or_memory files before now asks NoMemory stops = inl refl
-first-or_memory files before now asks (Refused name f) stops = inr stops
+first-or_memory files before now asks (Refused name f size) stops = inr stops
 first-or_memory files before now asks (BadProgram name fault) stops = inr stops
 first-or_memory files before now asks (BadScript name line) stops = inr stops
 first-or_memory files before now asks (Unnamed file name) stops = inr stops
@@ -77,7 +77,7 @@ pub file-stops : (files : Files) (before now : ℕ) (file : List ℕ) (stop : St
 file-stops files before now file (Unread name) stops = stops
 file-stops files before now file (Missing name mention) stops = stops
 file-stops files before now file NoMemory stops = tt
-file-stops files before now file (Refused name f) stops = absurd stops
+file-stops files before now file (Refused name f size) stops = absurd stops
 file-stops files before now file (BadProgram name fault) stops = absurd stops
 file-stops files before now file (BadScript name line) stops = absurd stops
 file-stops files before now file (Unnamed other name) stops = absurd stops
@@ -88,7 +88,7 @@ file-since : (files : Files) (before between now : ℕ) (file : List ℕ) (stop 
 file-since files before between now file (Unread name) later stops = (stops.0, since before between now later stops.1)
 file-since files before between now file (Missing name mention) later stops = (stops.0, lacking-since before between now files name later stops.1, stops.2)
 file-since files before between now file NoMemory later stops = tt
-file-since files before between now file (Refused name f) later stops = absurd stops
+file-since files before between now file (Refused name f size) later stops = absurd stops
 file-since files before between now file (BadProgram name fault) later stops = absurd stops
 file-since files before between now file (BadScript name line) later stops = absurd stops
 file-since files before between now file (Unnamed other name) later stops = absurd stops

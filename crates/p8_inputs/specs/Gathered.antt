@@ -7,10 +7,10 @@ use Rattle.p8_image.specs.declared.clocks.Clock.{Clock}
 use Rattle.p8_image.specs.declared.parts.ObjectPart.{ObjectPart}
 use Rattle.p8_io.specs.Shelves.{Files}
 use Rattle.p8_objects.specs.Outcomes.{project}
-use Rattle.p8_objects.specs.Whole.{HaveMentioned, HaveNoRing, EachTree}
+use Rattle.p8_objects.specs.Whole.{AreDistinct, HaveMentioned, HaveNoRing, EachTree}
 use Rattle.p8_image.specs.Layout.{image_of}
 use Rattle.p8_image.specs.Loading.{ImageValue, image_in}
-use Rattle.p8_build.specs.Builds.{IsRefusedWith}
+use Rattle.p8_build.specs.Sizes.{IsMeasured}
 use Rattle.p8_image.specs.Listing.{listing_of}
 use Rattle.p8_inputs.specs.Sources.{GathersTo, IsBuiltBy}
 use Rattle.p8_inputs.specs.declared.stop.Stop.{Stop}
@@ -20,6 +20,7 @@ use Rattle.p8_inputs.specs.declared.stop.Stop.TheVariants as stop
 pub record IsWhole (sources : List NamedSource) : Type 0 where
   pub some : 0 < length sources
   pub few : length sources ≤ most_files
+  pub distinct : AreDistinct sources
   pub mentioned : HaveMentioned sources
   pub no_ring : HaveNoRing sources
   pub proper : EachTree IsProperFile sources
@@ -45,6 +46,6 @@ IsListingOf short sources text =
 
 -- why a project isn't built
 abbrev pub StopsAtBuilding : List NamedSource → Stop → Type 0
-StopsAtBuilding sources (stop.Refused name f) = IsRefusedWith sources name f
+StopsAtBuilding sources (stop.Refused name f size) = IsMeasured sources name f size
 StopsAtBuilding sources stop.NoMemory = Unit {0}
 StopsAtBuilding sources _ = ⊥

@@ -1,6 +1,5 @@
 // What a source is built to.
 ghost use Rattle.std.specs.Prelude.{◌≡◌, ◌≤◌, ◌∷◌, [], ℕ, Bool, false, List, Err, length, map, IfOk, IfErr};
-ghost use Rattle.p8_tree.specs.Projects.{NamedSource};
 ghost use Rattle.p8_tree.specs.Views.{named_sources_of};
 ghost use Rattle.p8_io.specs.Shelves.{Files};
 ghost use Rattle.p8_objects.specs.Orders.{AreAllRead as FilesAreRead, ReadsInOrder};
@@ -18,7 +17,7 @@ ghost use Rattle.p8_inputs.specs.Sources.{IsImageFrom, IsListingFrom, IsMapFrom,
 ghost use Rattle.p8_inputs.specs.declared.program.Format.TheVariants.{Source};
 
 use crate::stop::Stop;
-use p8_build::{BuildFault, Built, build, build_parts};
+use p8_build::{BuildFault, Built, build, build_parts, measure};
 use p8_image::{Image, listing};
 use p8_io::Shelf;
 use p8_legend::{Legend, project_legend};
@@ -26,6 +25,7 @@ use p8_map::project_map;
 use p8_objects::{GatherFault, Gathered, discard, gather};
 use p8_opt::{build_short, build_short_parts};
 use p8_tree::{List, Project, ProjectFile, Text};
+use p8_words::NoMemory;
 use std::alloc::{AllocError, Global};
 
 /// An image with its legend.
@@ -57,19 +57,27 @@ fn stop_of_gathering(fault: GatherFault) -> Stop
         → Answers (shelved files before now) top (Err fault) → StopsAtProgram files before now (Source short) top result }
 {
     match fault {
-        GatherFault::Source { file, fault } => Stop::Refused { file, fault },
+        GatherFault::Source { file, fault } => Stop::Refused {
+            file,
+            fault,
+            size: None,
+        },
         GatherFault::Missing { file, mention } => Stop::Missing { file, mention },
         GatherFault::ShelfFault { file } => Stop::Unread { file },
         GatherFault::NoMemory => Stop::NoMemory,
     }
 }
 
-/// Why a project isn't built.
-fn stop_of_building(fault: BuildFault) -> Stop
-    ensures { (sources : List NamedSource) → IsRefusal sources fault → StopsAtBuilding sources result }
+/// Why a project isn't built, with the size of what is too large.
+fn stop_of_building(alloc: Global, project: &Project, fault: BuildFault) -> Stop
+    requires { IsWhole (named_sources_of project.now) }
+    ensures { IsRefusal (named_sources_of project.now) fault → StopsAtBuilding (named_sources_of project.now) result }
 {
     match fault {
-        BuildFault::Source { file, fault } => Stop::Refused { file, fault },
+        BuildFault::Source { file, fault } => match measure(alloc, project, fault.number) {
+            Ok(size) => Stop::Refused { file, fault, size },
+            Err(NoMemory) => Stop::NoMemory,
+        },
         BuildFault::NoMemory => Stop::NoMemory,
     }
 }
@@ -108,7 +116,7 @@ fn image_of_project(alloc: Global, short: bool, project: &Project) -> Result<Ima
 {
     match built_image(alloc, short, project) {
         Ok(image) => Ok(image),
-        Err(fault) => Err(stop_of_building(fault)),
+        Err(fault) => Err(stop_of_building(alloc, project, fault)),
     }
 }
 
@@ -131,7 +139,7 @@ fn listing_of_project(alloc: Global, short: bool, project: &Project) -> Result<V
 {
     let built = match built_parts(alloc, short, project) {
         Ok(built) => built,
-        Err(fault) => return Err(stop_of_building(fault)),
+        Err(fault) => return Err(stop_of_building(alloc, project, fault)),
     };
     let names = names_of(alloc, project.files.as_slice())?;
     let text = listing(alloc, names.as_slice(), built.objects.as_slice())?;
@@ -147,7 +155,7 @@ fn map_of_project(alloc: Global, project: &Project, sources: &[Text]) -> Result<
 {
     match project_map(alloc, project, sources) {
         Ok(text) => Ok(text),
-        Err(fault) => Err(stop_of_building(fault)),
+        Err(fault) => Err(stop_of_building(alloc, project, fault)),
     }
 }
 
@@ -160,16 +168,12 @@ fn legend_of_project(alloc: Global, project: &Project, sources: &[Text]) -> Resu
 {
     match project_legend(alloc, project, sources) {
         Ok(legend) => Ok(legend),
-        Err(fault) => Err(stop_of_building(fault)),
+        Err(fault) => Err(stop_of_building(alloc, project, fault)),
     }
 }
 
 /// The image of a project with its legend.
-fn explained_project(
-    alloc: Global,
-    project: &Project,
-    sources: &[Text],
-) -> Result<Explained, Stop>
+fn explained_project(alloc: Global, project: &Project, sources: &[Text]) -> Result<Explained, Stop>
     requires whole { IsWhole (named_sources_of project.now) }
     requires beside { length sources.now ≡ length (named_sources_of project.now) }
     ensures image { IfOk result (λ read. IsImageBuiltBy false (named_sources_of project.now) read.image) }
@@ -264,8 +268,8 @@ fn map_in<S: Shelf>(alloc: Global, file: &str, shelf: &mut S) -> Result<Vec<u8>,
 /// # Errors
 ///
 /// What comes first: `Missing` and `Unread` of a file of the project, `Refused` of one with its first refusal while the project is
-/// gathered ([`gather`](p8_objects::gather)) or else when it is built ([`build`](p8_build::build)), with short code or not. `NoMemory` may come at
-/// any point. The shelf's files stay as they were, and its count never falls.
+/// gathered ([`gather`](p8_objects::gather)) or else when it is built ([`build`](p8_build::build)), with short code or not, and then with the size of
+/// what is too large ([`measure`](p8_build::measure)). `NoMemory` may come at any point. The shelf's files stay as they were, and its count never falls.
 pub fn image_of_source<S: Shelf>(
     alloc: Global,
     short: bool,

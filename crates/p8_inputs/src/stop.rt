@@ -8,6 +8,7 @@ use crate::telling::{
     tell_bad_program, tell_bad_script, tell_missing, tell_no_memory, tell_refused, tell_unnamed,
     tell_unread,
 };
+use p8_build::Size;
 use p8_image::LoadFault;
 use p8_io::Sink;
 use p8_objects::Mention;
@@ -35,6 +36,8 @@ pub enum Stop {
         file: Text,
         /// Why, and where in the file.
         fault: Fault,
+        /// The size of what is too large, at a 26 and a 28.
+        size: Option<Size>,
     },
     /// The file to run is no image, or too long for hub memory.
     BadProgram {
@@ -79,7 +82,7 @@ impl Stop {
             Stop::Unread { file } => tell_unread(file.as_slice(), faults),
             Stop::Missing { file, .. } => tell_missing(file.as_slice(), faults),
             Stop::NoMemory => tell_no_memory(faults),
-            Stop::Refused { file, fault } => tell_refused(file.as_slice(), *fault, faults),
+            Stop::Refused { file, fault, .. } => tell_refused(file.as_slice(), *fault, faults),
             Stop::BadProgram { file, fault } => tell_bad_program(file.as_slice(), *fault, faults),
             Stop::BadScript { file, line } => tell_bad_script(file.as_slice(), *line, faults),
             Stop::Unnamed { file, name } => tell_unnamed(file.as_slice(), name.as_slice(), faults),

@@ -129,7 +129,7 @@ shown files (Some file) text p = λ (none : Some file ≡ None). some-not_none n
 
 -- a reason that shows in a file lies in the files
 shown-certain : (reason : Stop) → ¬ (shown_file reason ≡ None) → IsOfFiles reason
-shown-certain (stop.Refused name f) shows = tt
+shown-certain (stop.Refused name f size) shows = tt
 shown-certain (stop.Missing name mention) shows = tt
 shown-certain (stop.Unread name) shows = absurd (shows refl)
 shown-certain stop.NoMemory shows = absurd (shows refl)
@@ -207,7 +207,7 @@ none-stopped : (o : Outside) (reason : Stop) → IsCertain (stopped reason) → 
 none-stopped o (stop.Unread name) s p = p
 none-stopped o (stop.Missing name mention) s p = p
 none-stopped o stop.NoMemory s p = s
-none-stopped o (stop.Refused name f) s p = p
+none-stopped o (stop.Refused name f size) s p = p
 none-stopped o (stop.BadProgram name fault) s p = p
 none-stopped o (stop.BadScript name line) s p = p
 none-stopped o (stop.Unnamed file name) s p = p
@@ -273,7 +273,7 @@ module _ (one_check : HasOneCheck) (one : (files : List ℕ → Option (List ℕ
   complete o command (stopped (stop.Unread name)) p files due told certain is quiet out_quiet = absurd (quiet (unread-risen o command name p))
   complete o command (stopped (stop.Missing name mention)) p files due told certain is quiet out_quiet = inl (one-verdict o command files (stopped (stop.Missing name mention)) due told tt certain p is)
   complete o command (stopped stop.NoMemory) p files due told certain is quiet out_quiet = inr (inl refl)
-  complete o command (stopped (stop.Refused name f)) p files due told certain is quiet out_quiet = inl (one-verdict o command files (stopped (stop.Refused name f)) due told tt certain p is)
+  complete o command (stopped (stop.Refused name f size)) p files due told certain is quiet out_quiet = inl (one-verdict o command files (stopped (stop.Refused name f size)) due told tt certain p is)
   complete o command (stopped (stop.BadProgram name fault)) p files due told certain is quiet out_quiet = inl (one-verdict o command files (stopped (stop.BadProgram name fault)) due told tt certain p is)
   complete o command (stopped (stop.BadScript name line)) p files due told certain is quiet out_quiet = inl (one-verdict o command files (stopped (stop.BadScript name line)) due told tt certain p is)
   complete o command (stopped (stop.Unnamed file name)) p files due told certain is quiet out_quiet = inl (one-verdict o command files (stopped (stop.Unnamed file name)) due told tt certain p is)

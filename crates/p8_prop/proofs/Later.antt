@@ -7,6 +7,7 @@ use Rattle.p8_io.specs.Shelves.{Files, IsLacking}
 use Rattle.p8_objects.specs.declared.fault.Mention.{Mention}
 use Rattle.p8_objects.specs.Outcomes as outcomes
 use Rattle.p8_objects.specs.Outcomes.{Outcome, shelved, IsAbsent, ComesTo}
+use Rattle.p8_build.specs.declared.sizes.Size.{Size}
 use Rattle.p8_inputs.specs.declared.program.Format.{Format}
 use Rattle.p8_inputs.specs.declared.program.Format.TheVariants.{Memory, Image, Eeprom, Source}
 use Rattle.p8_inputs.specs.declared.stop.Stop.{Stop}
@@ -63,14 +64,14 @@ module _ (b n m : ℕ) (earlier : b ≤ n) (later : n ≤ m) where
     missing-at (reading.message file) name mention p = (p.0, lacking-later files name p.1, p.2)
 
     -- a refusal is no matter of counts
-    refusal-at : (ask : Ask) (name : List ℕ) (f : Fault) → StopsAt files b n ask (stop.Refused name f) → StopsAt files b m ask (stop.Refused name f)
-    refusal-at (reading.program format file) name f p = p
-    refusal-at (reading.viewing format file other) name f p = p
-    refusal-at (reading.listing short file) name f p = p
-    refusal-at (reading.mapping file) name f p = p
-    refusal-at (reading.script file) name f p = p
-    refusal-at (reading.history file) name f p = p
-    refusal-at (reading.message file) name f p = p
+    refusal-at : (ask : Ask) (name : List ℕ) (f : Fault) (size : Option Size) → StopsAt files b n ask (stop.Refused name f size) → StopsAt files b m ask (stop.Refused name f size)
+    refusal-at (reading.program format file) name f size p = p
+    refusal-at (reading.viewing format file other) name f size p = p
+    refusal-at (reading.listing short file) name f size p = p
+    refusal-at (reading.mapping file) name f size p = p
+    refusal-at (reading.script file) name f size p = p
+    refusal-at (reading.history file) name f size p = p
+    refusal-at (reading.message file) name f size p = p
 
     first-later : (reason : Stop) → ((ask : Ask) → StopsAt files b n ask reason → StopsAt files b m ask reason) → (asks : List Ask) → StopsFirst files b n asks reason → StopsFirst files b m asks reason
     first-later reason at [] p = p
@@ -78,7 +79,7 @@ module _ (b n m : ℕ) (earlier : b ≤ n) (later : n ≤ m) where
     first-later reason at (ask ∷ asks) (inr more) = inr (more.0, first-later reason at asks more.1)
 
     pub reason-later : (asks : List Ask) (reason : Stop) → ¬ (shown_file reason ≡ None) → Stops files b n asks reason → Stops files b m asks reason
-    reason-later asks (stop.Refused name f) shows p = first-later (stop.Refused name f) (λ ask. refusal-at ask name f) asks p
+    reason-later asks (stop.Refused name f size) shows p = first-later (stop.Refused name f size) (λ ask. refusal-at ask name f size) asks p
     reason-later asks (stop.Missing name (Some mention)) shows p = first-later (stop.Missing name (Some mention)) (λ ask. missing-at ask name (Some mention)) asks p
     reason-later asks (stop.Missing name None) shows p = absurd (shows refl)
     reason-later asks (stop.Unread name) shows p = absurd (shows refl)

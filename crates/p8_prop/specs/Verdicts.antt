@@ -54,7 +54,7 @@ pub data Verdict : Type 0 where
 
 -- the file in which a reason shows: a refused source, or the source that mentions a missing file
 abbrev pub shown_file : Stop → Option (List ℕ)
-shown_file (stop.Refused name f) = Some name
+shown_file (stop.Refused name f size) = Some name
 shown_file (stop.Missing name (Some mention)) = Some mention.file
 shown_file (stop.Missing name None) = None
 shown_file (stop.Unread name) = None
@@ -73,7 +73,7 @@ StopsCommand o (Some command) reason = Stops o.shelf.files o.shelf.before o.shel
 StopsCommand o None stop.NoMemory = Unit {0}
 StopsCommand o None (stop.Unread name) = ⊥
 StopsCommand o None (stop.Missing name mention) = ⊥
-StopsCommand o None (stop.Refused name f) = ⊥
+StopsCommand o None (stop.Refused name f size) = ⊥
 StopsCommand o None (stop.BadProgram name fault) = ⊥
 StopsCommand o None (stop.BadScript name line) = ⊥
 StopsCommand o None (stop.Unnamed file name) = ⊥
@@ -113,7 +113,7 @@ abbrev pub stop_status : Stop → Status
 stop_status (stop.Unread file) = status.ShelfFault
 stop_status (stop.Missing file mention) = status.Missing
 stop_status stop.NoMemory = status.NoMemory
-stop_status (stop.Refused file f) = status.Refused
+stop_status (stop.Refused file f size) = status.Refused
 stop_status (stop.BadProgram file fault) = status.BadImage
 stop_status (stop.BadScript file line) = status.BadScript
 stop_status (stop.Unnamed file name) = status.Missing
@@ -128,7 +128,7 @@ status_of (unwritten text) = status.SinkFault
 
 -- the explanation of a reason that shows in a file with these bytes
 unfoldable pub explanation : Stop → (bytes : List ℕ) → List ℕ
-explanation (stop.Refused file f) bytes = explanation_of file bytes f
+explanation (stop.Refused file f size) bytes = explanation_of file bytes f size
 explanation (stop.Missing file (Some mention)) bytes = absence_of mention.file bytes mention.place file
 explanation _ bytes = []
 

@@ -135,7 +135,7 @@ fn explanation_of(alloc: Global, stop: &Stop, bytes: &[u8]) -> Result<Vec<u8>, N
     ensures { IfOk result (λ text. text.items ≡ explanation stop.now bytes.now) }
 {
     match stop {
-        Stop::Refused { file, fault } => explanation(alloc, file, bytes, *fault),
+        Stop::Refused { file, fault, size } => explanation(alloc, file, bytes, *fault, *size),
         Stop::Missing { file, mention } => match mention {
             Some(mention) => absence(alloc, &mention.file, bytes, mention.place, file),
             None => Ok(Vec::new(alloc)),

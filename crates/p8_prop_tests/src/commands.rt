@@ -50,6 +50,22 @@ const ABSENCE: &str = "lost.spin:2:7: kid.spin is missing\n\
     \x20     ^\n\
     There is no file of this name. Capitals and small letters differ, and a name without a dot gets .spin.\n";
 
+/// The explanation of a method whose frame has its result and 2,048 longs of locals.
+const LARGE_FRAME: &str = "large.spin:1:5: 26 FrameTooLarge\n\
+    PUB main | a[2048]\n\
+    \x20   ^\n\
+    The frame has 2049 longs, 1 more than 2048.\n\
+    The method's result, parameters and locals are more than 2,048 longs, or it holds more than 128 values at once.\n\
+    Put large arrays into VAR.\n";
+
+/// The explanation of an image with 16 bytes of header, 12 of the object, 32,732 of variables, 8 before the first frame and 4 of its result.
+const LARGE_IMAGE: &str = "wide.spin:1:1: 28 ImageTooLarge\n\
+    VAR\n\
+    ^\n\
+    The image with its variables and the first frame has 32772 bytes, 4 more than 32768.\n\
+    The program, its variables and the first method's frame don't fit into 32,768 bytes.\n\
+    Shorten arrays or code.\n";
+
 /// What is told of the refusal 26.
 const ENTRY: &[u8] = b"26 FrameTooLarge\n\
     The method's result, parameters and locals are more than 2,048 longs, or it holds more than 128 values at once.\n\
@@ -89,8 +105,9 @@ const USAGE: &str =
     "prop: usage: prop build|list FILE, prop raw|run FILE CLOCKS [--pins F] [--turns K] [--dump A:N] [--alone]\n";
 
 /// The files of the shelf: an image, an empty file, a bad pin script, three good sources, two bad ones, one that mentions a bad
-/// one and one that mentions none, a message and the script that sends it, and two history files.
-static FILES: [(&str, &[u8]); 14] = [
+/// one and one that mentions none, one whose method is too large, one that mentions it and one whose image is too large, a message
+/// and the script that sends it, and two history files.
+static FILES: [(&str, &[u8]); 17] = [
     ("a.binary", IMAGE),
     ("empty.binary", b""),
     ("a.pins", b"9000 1"),
@@ -101,6 +118,9 @@ static FILES: [(&str, &[u8]); 14] = [
     ("next.spin", b"PUB main\n\ta := next\n"),
     ("outer.spin", b"OBJ\n  n : \"next\"\nPUB main\n"),
     ("lost.spin", b"OBJ\n  k : \"kid\"\nPUB main\n"),
+    ("large.spin", b"PUB main | a[2048]\n"),
+    ("deep.spin", b"OBJ\n  d : \"large\"\nPUB main\n"),
+    ("wide.spin", b"VAR\n  long a[8183]\nPUB main\n"),
     ("a.txt", b"A"),
     ("sent.pins", SENT),
     ("a.history", HISTORY),
@@ -223,7 +243,7 @@ fn carries_commands_out(rt: HostRuntime) {
 
 /// Calls whose files or whose text are at fault. The refused file that is explained stands below the top file, and is the one
 /// that is read once more: where that read fails the refusal's line is told.
-static FAULTS: [Refusal; 16] = [
+static FAULTS: [Refusal; 18] = [
     (
         "build bad.spin",
         0,
@@ -303,6 +323,8 @@ static FAULTS: [Refusal; 16] = [
         "prop: kid.spin is missing\n",
     ),
     ("explain lost.spin", 0, 0, Status::Missing, ABSENCE),
+    ("explain deep.spin", 0, 0, Status::Refused, LARGE_FRAME),
+    ("explain wide.spin", 0, 0, Status::Refused, LARGE_IMAGE),
     (
         "explain lost.spin",
         3,

@@ -1,5 +1,7 @@
 // Whole explanations, of sources with their refusals.
+use p8_build::Size;
 use p8_explain::{Spellings, absence, entry, explanation};
+use p8_stmt::MethodSize;
 use p8_tree::{Fault, Place, Text};
 use p8_words::NoMemory;
 use std::alloc::Global;
@@ -18,7 +20,7 @@ fn explained(
         number,
         place: Place { line, column },
     };
-    explanation(alloc, &name, bytes, fault)
+    explanation(alloc, &name, bytes, fault, None)
 }
 
 /// A token that can't stand where it does, told apart by what its line shows: after a tab, in UTF-16, with CR LF, in a long line.
@@ -221,6 +223,59 @@ fn duplicates(rt: HostRuntime) -> Result<(), Fail> {
         let text = explained(rt.alloc(), bytes, 14, line, column)?;
         assert_eq!(rt; text.as_slice(), expected);
     }
+    Ok(())
+}
+
+/// The explanation of a file `m.spin` of which this is too large.
+fn sized(
+    alloc: Global,
+    bytes: &[u8],
+    number: u8,
+    place: Place,
+    size: Size,
+) -> Result<Vec<u8>, NoMemory> {
+    let name = Text::copy_of(alloc, b"m.spin")?;
+    explanation(alloc, &name, bytes, Fault { number, place }, Some(size))
+}
+
+/// A frame of one long too many with too much on the stack, one whose longs aren't told any more, and an image of one long too many.
+#[test]
+fn sizes(rt: HostRuntime) -> Result<(), Fail> {
+    let place = Place { line: 1, column: 5 };
+    let size = Size::Method(MethodSize {
+        longs: 2049,
+        held: 130,
+    });
+    let text = sized(rt.alloc(), b"PUB main | a[2048]\n", 26, place, size)?;
+    let expected = b"m.spin:1:5: 26 FrameTooLarge\n\
+        PUB main | a[2048]\n\
+        \x20   ^\n\
+        The frame has 2049 longs, 1 more than 2048.\n\
+        The method holds 130 values at once, 2 more than 128.\n\
+        The method's result, parameters and locals are more than 2,048 longs, or it holds more than 128 values at once.\n\
+        Put large arrays into VAR.\n";
+    assert_eq!(rt; text.as_slice(), expected.as_slice());
+    let size = Size::Method(MethodSize {
+        longs: u32::MAX,
+        held: 1,
+    });
+    let text = sized(rt.alloc(), b"PUB main | a[-1]\n", 26, place, size)?;
+    let expected = b"m.spin:1:5: 26 FrameTooLarge\n\
+        PUB main | a[-1]\n\
+        \x20   ^\n\
+        The frame has at least 4294967295 longs, at least 4294965247 more than 2048.\n\
+        The method's result, parameters and locals are more than 2,048 longs, or it holds more than 128 values at once.\n\
+        Put large arrays into VAR.\n";
+    assert_eq!(rt; text.as_slice(), expected.as_slice());
+    let place = Place { line: 1, column: 1 };
+    let text = sized(rt.alloc(), b"PUB main\n", 28, place, Size::Image(32_772))?;
+    let expected = b"m.spin:1:1: 28 ImageTooLarge\n\
+        PUB main\n\
+        ^\n\
+        The image with its variables and the first frame has 32772 bytes, 4 more than 32768.\n\
+        The program, its variables and the first method's frame don't fit into 32,768 bytes.\n\
+        Shorten arrays or code.\n";
+    assert_eq!(rt; text.as_slice(), expected.as_slice());
     Ok(())
 }
 

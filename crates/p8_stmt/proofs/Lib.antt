@@ -8,3 +8,4 @@ pub mod Steps
 pub mod Choices
 pub mod Held
 pub mod Least
+pub mod Sizes

@@ -1,6 +1,6 @@
 -- What a method is compiled to, and which method can't be.
 -- Sources: the public Spin bytecode listing of the Propeller P8X32A; the limits, numbers and places are this project's profile.
-use Rattle.std.specs.Prelude.{◌≡◌, ℕ, ◌+◌, ◌*◌, ◌<◌, List, [], ◌∷◌, length, map, flat_map, take, Contains, Option, Some, None}
+use Rattle.std.specs.Prelude.{◌≡◌, ℕ, ◌+◌, ◌-◌, ◌*◌, ◌^◌, ◌<◌, min, List, [], ◌∷◌, length, map, flat_map, take, Contains, Option, Some, None}
 use Rattle.p8_tree.specs.declared.places.Place.{Place}
 use Rattle.p8_tree.specs.Expressions.{Tree}
 use Rattle.p8_tree.specs.Proper.{AreProperStatements}
@@ -22,6 +22,7 @@ use Rattle.p8_gen.specs.Methods.{bytes_of, method_code}
 use Rattle.p8_gen.specs.Depths.{held_in}
 use Rattle.p8_gen.specs.Uses.{line_of, use_of}
 use Rattle.p8_stmt.specs.declared.code.MethodCode.{MethodCode}
+use Rattle.p8_stmt.specs.declared.frames.MethodSize.{MethodSize}
 
 -- ---- what is compiled
 
@@ -64,6 +65,17 @@ pub record IsCodeOf (names : Names) (m : MethodTree) (code : MethodCode) : Type 
   pub strings : map use_of code.strings ≡ map (use_in (method_code names m.body)) (method_code names m.body).texts
   pub lines : map line_of code.lines ≡ (method_code names m.body).lines
 
+-- ---- how large a method is
+
+-- the longs of its frame: its result, its parameters and its locals
+abbrev pub frame_longs : Names → MethodTree → ℕ
+frame_longs names m = 1 + length m.params + longs_in names.constants m.locals
+
+-- what 26 compares with its limits: the longs of the frame, and how many longs are held at once on the operand stack; the greatest number of 32 bits, and
+-- of 16, stands for itself and for all above it
+abbrev pub size_of : Names → MethodTree → MethodSize
+size_of names m = record { longs = min (frame_longs names m) (2 ^ 32 - 1); held = min (held_in names m.body) (2 ^ 16 - 1) }
+
 -- ---- refusals
 
 -- how many longs a frame may have, with its result, and how many a method may hold on the operand stack
@@ -76,5 +88,5 @@ most_held = 128
 -- 25 at a statement with a jump that goes too far for its width; 26 at the name of a method whose frame is too large, or that holds too much
 pub data IsMethodFault (names : Names) (m : MethodTree) (f : Fault) : Type 0 where
   jump_too_far : (place : Place) → Contains (method_code names m.body).too_far place → fault JumpTooFar place ≡ f → IsMethodFault names m f
-  frame_too_large : most_longs < 1 + length m.params + longs_in names.constants m.locals → fault FrameTooLarge m.place ≡ f → IsMethodFault names m f
+  frame_too_large : most_longs < frame_longs names m → fault FrameTooLarge m.place ≡ f → IsMethodFault names m f
   holds_too_much : most_held < held_in names m.body → fault FrameTooLarge m.place ≡ f → IsMethodFault names m f

@@ -9,12 +9,12 @@ ghost use Rattle.p8_gen.specs.Operations.{IsWhole};
 ghost use Rattle.p8_gen.specs.Scopes.{names_from, names_of};
 ghost use Rattle.p8_gen.specs.Names.{widened, wide_in};
 ghost use Rattle.p8_gen.specs.Uses.{line_of, use_of, way_of};
-ghost use Rattle.p8_stmt.specs.Methods.{AreResolved, IsCodeOf, IsMethodFault, most_longs, rebodied};
+ghost use Rattle.p8_stmt.specs.Methods.{AreResolved, IsCodeOf, IsMethodFault, most_longs, rebodied, size_of};
 ghost use Rattle.p8_stmt.specs.Spelled.{placed};
 
 use crate::context::Context;
 use crate::faults::first_fault;
-use crate::frames::{is_too_large, longs_in};
+use crate::frames::{MethodSize, frame_longs, is_too_large, longs_in};
 use crate::spelling::{place_uses, put_ops};
 use crate::statement_depths::held_in;
 use p8_gen::{Coder, Kept, Line, StringUse, Tables, Way, Writer};
@@ -104,6 +104,24 @@ pub fn method_code_with(
     match first_fault(alloc, kept.too_far.as_slice(), method.place, too_large)? {
         Some(fault) => Err(Fail::Refused(fault)),
         None => Ok(coded(alloc, kept, longs, depth)?),
+    }
+}
+
+/// How large a method is, whether or not it can be compiled: what the refusal 26 compares with its limits.
+pub fn method_size(kinds: &Kinds, tables: &Tables, method: &Method, number: u32) -> MethodSize
+    ensures { result ≡ size_of (names_from kinds.now number tables.now method.now.place) (method_of method.now) }
+{
+    let coder = Coder {
+        kinds,
+        number,
+        tables,
+        widths: &[],
+        statement: method.place,
+    };
+    let longs = longs_in(&coder, method.locals.as_slice());
+    MethodSize {
+        longs: frame_longs(method.params.len(), longs),
+        held: held_in(&coder, method.body.as_slice()),
     }
 }
 

@@ -16,6 +16,7 @@ mod statement_depths;
 mod statements;
 mod widths;
 
-pub use code::{CodeFault, MethodCode, method_code, method_code_with, method_ways};
+pub use code::{CodeFault, MethodCode, method_code, method_code_with, method_size, method_ways};
+pub use frames::MethodSize;
 pub use jump_laws::{one_short_code, short_code_has_no_fault, short_code_is_no_longer};
 pub use short::short_code;

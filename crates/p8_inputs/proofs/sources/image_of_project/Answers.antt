@@ -1,5 +1,4 @@
-use Rattle.p8_tree.specs.Views.{named_sources_of}
 use Rattle.p8_inputs.proofs.sources.image_of_project.Goals as goal
 
 pub returns-in-Err-clause-stopped : goal.returns-in-Err-clause-stopped
-returns-in-Err-clause-stopped c = c.stop_of_building.ensures (named_sources_of c.args.project.now) c.in-Err.ensures.refused
+returns-in-Err-clause-stopped c = c.stop_of_building.ensures c.in-Err.ensures.refused

@@ -1,7 +1,6 @@
 use Rattle.std.proofs.Common.{◌∙◌, ap, ap₂, sym}
 use Rattle.std.specs.Prelude.{map}
 use Rattle.p8_tree.specs.declared.projects.ProjectFile.{ProjectFile}
-use Rattle.p8_tree.specs.Views.{named_sources_of}
 use Rattle.p8_image.specs.Listing.{listing_of}
 use Rattle.p8_inputs.proofs.Building.{same-names}
 use Rattle.p8_inputs.proofs.sources.listing_of_project.Goals as goal
@@ -13,4 +12,4 @@ returns-clause-text c =
     (built.0, c.in-Ok.built.objects, built.1, c.in_ok-text.ensures ∙ ap₂ listing_of names c.as_slice-3.ensures)
 
 pub returns-in-Err-clause-stopped : goal.returns-in-Err-clause-stopped
-returns-in-Err-clause-stopped c = c.stop_of_building.ensures (named_sources_of c.args.project.now) c.in-Err.ensures.refused
+returns-in-Err-clause-stopped c = c.stop_of_building.ensures c.in-Err.ensures.refused

@@ -12,4 +12,4 @@ pub project_map-requires-clause-proper : goal.project_map-requires-clause-proper
 project_map-requires-clause-proper c i file stands = c.requires.whole.proper i file (record { is = stands })
 
 pub returns-in-Err-clause-stopped : goal.returns-in-Err-clause-stopped
-returns-in-Err-clause-stopped c = c.stop_of_building.ensures (named_sources_of c.args.project.now) c.in-Err.ensures.refused
+returns-in-Err-clause-stopped c = c.stop_of_building.ensures c.in-Err.ensures.refused

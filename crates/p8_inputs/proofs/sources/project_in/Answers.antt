@@ -12,7 +12,7 @@ returns-in-Ok-clause-project g c =
     let answers = subst (λ r. Answers (shelved files before now) c.args.file.now r) c.in-Ok.is c.gather.ensures.answers in
     record {
       gathered = project-gathered files before now c.args.file.now (named_sources_of c.in-Ok.gathered.project) answers;
-      whole = record { some = some (named_sources_of c.in-Ok.gathered.project) c.args.file.now c.in-Ok.ensures.first; few = c.in-Ok.ensures.few; mentioned = c.in-Ok.ensures.mentioned; no_ring = c.in-Ok.ensures.no_ring; proper = c.in-Ok.ensures.proper };
+      whole = record { some = some (named_sources_of c.in-Ok.gathered.project) c.args.file.now c.in-Ok.ensures.first; few = c.in-Ok.ensures.few; distinct = c.in-Ok.ensures.distinct; mentioned = c.in-Ok.ensures.mentioned; no_ring = c.in-Ok.ensures.no_ring; proper = c.in-Ok.ensures.proper };
     }
 
 pub returns-in-Err-clause-stopped : goal.returns-in-Err-clause-stopped
