@@ -14,7 +14,8 @@ use Rattle.p8_meaning.specs.Halts.{IsSourceHalt, IsSourceAccess, AreSourceAccess
 use Rattle.p8_access.specs.declared.kinds.Answer.{Answer}
 use Rattle.p8_access.specs.Lives.{is_last}
 use Rattle.p8_access.specs.Courses.{Course, Finish, Stop, Ask, Told, Wants, Closes, told}
-use Rattle.p8_meaning.specs.Doing.{aligned, Registers, Rest, untold, costs, halts, word_in, asks, tells, is_readable, reads, writes, writes_longs, next_address, given}
+use Rattle.p8_tree.specs.declared.places.Place.{Place}
+use Rattle.p8_meaning.specs.Doing.{aligned, Registers, Rest, course_of, untold, for_statement, costs, halts, word_in, asks, tells, is_readable, reads, writes, writes_longs, next_address, given}
 use Rattle.p8_meaning.specs.Bounds.{made_of, IsSettled, IsBeginning}
 
 -- the second asks what the first asks, and goes on where the first isn't told
@@ -29,7 +30,7 @@ Grows (Ask access go) (Ask other on) = (access ≡ other) × IsSourceAccess acce
 
 -- of what is still to be done, by a bound and one that is no lesser
 pub record Goes (r t : Rest) : Type 0 where
-  pub by : (b c : ℕ) → b ≤ c → (own : Registers) → Grows (r b own) (t c own)
+  pub by : (b c : ℕ) → b ≤ c → (own : Registers) → Grows (course_of (r b own)) (course_of (t c own))
 
 abbrev pub Leads : {A : Type 0} → (k l : A → Rest) → Type 0
 Leads k l = (x : _) → Goes (k x) (l x)
@@ -117,13 +118,16 @@ own-accesses cog made (Ask access go) (Ask other on) h (answer ∷ left) all =
 pub untold-goes : (t : Rest) → Goes untold t
 untold-goes t = record { by = λ b c le own. tt }
 
-costs-by : (r t : Rest) → Goes r t → (b c : ℕ) → b ≤ c → (own : Registers) → Grows (costs r b own) (costs t c own)
+costs-by : (r t : Rest) → Goes r t → (b c : ℕ) → b ≤ c → (own : Registers) → Grows (course_of (costs r b own)) (course_of (costs t c own))
 costs-by r t g zero c le own = tt
 costs-by r t g (suc b) zero le own = absurd (omega (arith, le))
 costs-by r t g (suc b) (suc c) le own = g.by b c (omega (arith, le)) own
 
 pub costs-goes : {r t : Rest} → Goes r t → Goes (costs r) (costs t)
 costs-goes {r} {t} g = record { by = costs-by r t g }
+
+pub for_statement-goes : (place : Place) {r t : Rest} → Goes r t → Goes (for_statement place r) (for_statement place t)
+for_statement-goes place g = record { by = λ b c le own. g.by b c le (record own { statement = place }) }
 
 pub halts-goes : (reason : Reason) → IsSourceHalt reason → Goes (halts reason) (halts reason)
 halts-goes reason said = record { by = λ b c le own. (refl, said) }

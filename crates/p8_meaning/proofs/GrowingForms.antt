@@ -12,7 +12,8 @@ use Rattle.p8_access.specs.declared.kinds.Test.TheVariants as test_case
 use Rattle.p8_tree.specs.Names.{result_word}
 use Rattle.p8_tree.specs.Expressions.{Tree, node, Number, Str, Here, Var, Call, Unary, Binary, Assign, Change, Address, ObjectAddress, ObjConst, Built, Look, Variable, Named, Part, Memory, Register, Index, no_index, index, Bits, whole, bits, Item, single, range, Trees, no_trees, ◌▷◌, Items, no_items, ◌▸◌}
 use Rattle.p8_tree.specs.Sources.{MethodTree}
-use Rattle.p8_tree.specs.Statements.{Course as Loop, Forever, Count, Before, After, From, Statement, statement, Do, If, Case, Repeat, Next, Quit, Return, Abort, arm, Otherwise, nothing_else, otherwise, Statements, no_statements, ◌▹◌, Arms, no_arms, ◌⊳◌}
+use Rattle.p8_tree.specs.declared.places.Place.{Place}
+use Rattle.p8_tree.specs.Statements.{Course as Loop, Forever, Count, Before, After, From, Statement, statement, Action, Do, If, Case, Repeat, Next, Quit, Return, Abort, arm, Otherwise, nothing_else, otherwise, Statements, no_statements, ◌▹◌, Arms, no_arms, ◌⊳◌}
 use Rattle.p8_kinds.specs.declared.name_kinds.NameKind.{NameKind}
 use Rattle.p8_kinds.specs.declared.name_kinds.NameKind.TheVariants as kind_case
 use Rattle.p8_meaning.specs.Values.{count_of, difference, is_between, holds, stepped, with_pins, pins_of}
@@ -20,13 +21,13 @@ use Rattle.p8_meaning.specs.Programs.{Program, Addresses, Scope, Target, kind_of
 use Rattle.p8_meaning.specs.Doing.{aligned, Rest, Gives, untold, next_address}
 use Rattle.p8_meaning.specs.Variables.{Location, Hub, Pins, element, named, part, own_word, fetches, stores, reads_register, writes_register, assigns, replaces, changes, changes_alone}
 use Rattle.p8_meaning.specs.Builtins.{fills, moves, measures, compares, waits_for, new_cog, does_none, does_one, does_two, does_three}
-use Rattle.p8_meaning.specs.Calls.{Returned, Value, Result, uses, Callee, calls, starts_method, method_of}
+use Rattle.p8_meaning.specs.Calls.{Returned, Value, Result, uses, used, unused, Callee, calls, starts_method, method_of}
 use Rattle.p8_meaning.specs.Loops.{passes, counted}
 use Rattle.p8_meaning.specs.Expressions as expressions
 use Rattle.p8_meaning.specs.Statements as statements
-use Rattle.p8_meaning.specs.Statements.{Body}
+use Rattle.p8_meaning.specs.Statements.{Body, for_itself}
 use Rattle.p8_meaning.specs.Lives.{meaning, begins, scope_with, stops, cleared, life_of}
-use Rattle.p8_meaning.proofs.Growing.{Grows, Goes, Leads, untold-goes, costs-goes, halts-goes, if-goes, asks-goes, tells-goes, reads-goes, writes-goes, writes_longs-goes, given-goes}
+use Rattle.p8_meaning.proofs.Growing.{Grows, Goes, Leads, untold-goes, for_statement-goes, costs-goes, halts-goes, if-goes, asks-goes, tells-goes, reads-goes, writes-goes, writes_longs-goes, given-goes}
 
 -- ---- variables
 
@@ -167,6 +168,12 @@ tries_range-goes false wanted count low high found none = if-goes _ (found _) (n
 pub record GivesMore {A : Type 0} (x y : Gives A) : Type 0 where
   pub by : {k l : A → Rest} → Leads k l → Goes (x k) (y l)
 
+used-goes : {x y : Gives Returned} → GivesMore x y → {k l : ℕ → Rest} → Leads k l → Goes (used x k) (used y l)
+used-goes h g = record { by = λ b c le own. (h.by (λ x. uses-goes x (λ value. for_statement-goes own.statement (g value)))).by b c le own }
+
+unused-goes : {x y : Gives Returned} → GivesMore x y → {r t : Rest} → Goes r t → Goes (unused x r) (unused y t)
+unused-goes h g = record { by = λ b c le own. (h.by (λ x. for_statement-goes own.statement g)).by b c le own }
+
 module _ (callee other : Callee) (s : Scope) (abort aborts : Returned → Rest) (callee_goes : CalleeGoes callee other) (abort_goes : Leads abort aborts) where
   calls-goes : (trap : Bool) (target : Option Target) (arguments : List ℕ) {r t : Returned → Rest} → Leads r t → Goes (calls callee s trap target arguments r abort) (calls other s trap target arguments t aborts)
   calls-goes trap target arguments g = given-goes target (λ t.
@@ -192,7 +199,7 @@ module _ (callee other : Callee) (s : Scope) (abort aborts : Returned → Rest) 
 
   value_of_kind-goes : (name : List ℕ) (kind : Option NameKind) {k l : ℕ → Rest} → Leads k l → Goes (expressions.value_of_kind callee s abort name kind k) (expressions.value_of_kind other s aborts name kind l)
   value_of_kind-goes name (Some (kind_case.Const value)) g = g value
-  value_of_kind-goes name (Some (kind_case.Method n params)) g = calls_own-goes false (Some (kind_case.Method n params)) [] (λ x. uses-goes x g)
+  value_of_kind-goes name (Some (kind_case.Method n params)) g = used-goes (record { by = calls_own-goes false (Some (kind_case.Method n params)) [] }) g
   value_of_kind-goes name (Some (kind_case.Global size offset)) g = fetches-goes s (named s name 0) g
   value_of_kind-goes name (Some (kind_case.Local offset)) g = fetches-goes s (named s name 0) g
   value_of_kind-goes name (Some (kind_case.Label size)) g = fetches-goes s (named s name 0) g
@@ -225,7 +232,7 @@ module _ (callee other : Callee) (s : Scope) (abort aborts : Returned → Rest) 
     evaluates-goes (node place Here) g = untold-goes untold
     evaluates-goes (node place (Var v)) g = evaluates_variable-goes v g
     evaluates-goes (node place (Call trap object i method at arguments)) g =
-        makes_call-goes trap object method (record { by = evaluates_all-goes arguments }) (record { by = indexes-goes i }) (λ x. uses-goes x g)
+        used-goes (record { by = makes_call-goes trap object method (record { by = evaluates_all-goes arguments }) (record { by = indexes-goes i }) }) g
     evaluates-goes (node place (Unary operator e)) g = evaluates-goes e (λ a. g _)
     evaluates-goes (node place (Binary operator left right)) g = evaluates-goes left (λ a. evaluates-goes right (λ b. g _))
     evaluates-goes (node place (Assign v operator e)) g = evaluates-goes e (λ right. locates-goes v (λ p. assigns-goes s operator p right g))
@@ -306,9 +313,9 @@ module _ (callee other : Callee) (s : Scope) (abort aborts : Returned → Rest) 
     looks_at-goes up wanted (range e f) found none count = evaluates-goes e (λ low. evaluates-goes f (λ high. tries_range-goes up wanted count low high found none))
 
   pub acts-goes : (e : Tree) {r t : Rest} → Goes r t → Goes (expressions.acts callee s abort e r) (expressions.acts other s aborts e t)
-  acts-goes (node place (Var (Named name no_index at))) g = calls_own-goes false (kind_of s name) [] (λ x. g)
+  acts-goes (node place (Var (Named name no_index at))) g = unused-goes (record { by = calls_own-goes false (kind_of s name) [] }) g
   acts-goes (node place (Call trap object i method at arguments)) g =
-      makes_call-goes trap object method (record { by = evaluates_all-goes arguments }) (record { by = indexes-goes i }) (λ x. g)
+      unused-goes (record { by = makes_call-goes trap object method (record { by = evaluates_all-goes arguments }) (record { by = indexes-goes i }) }) g
   acts-goes (node place (Change v change)) g = locates-goes v (λ p. changes_alone-goes s change p g)
   acts-goes (node place (Var (Named name (index e) at))) g = evaluates-goes (node place (Var (Named name (index e) at))) (λ x. g)
   acts-goes (node place (Var (Part name size i at))) g = evaluates-goes (node place (Var (Part name size i at))) (λ x. g)
@@ -343,6 +350,13 @@ counted-goes (suc more) h g = record { by = λ b c le own. (h.by (costs-goes (co
 -- a body, by what follows NEXT, QUIT and itself
 pub record BodyGoes (body other : Body) : Type 0 where
   pub by : {n m q p r t : Rest} → Goes n m → Goes q p → Goes r t → Goes (body n q r) (other m p t)
+
+for_itself-goes : (place : Place) {body other : Body} → BodyGoes body other → {n m q p r t : Rest} → Goes n m → Goes q p → Goes r t → Goes (for_itself place body n q r) (for_itself place other m p t)
+for_itself-goes place h next quit g = record {
+  by = λ b c le own.
+      let back : Place = own.statement in
+      (h.by (for_statement-goes back next) (for_statement-goes back quit) (for_statement-goes back g)).by b c le (record own { statement = place });
+}
 
 module _ (most more : ℕ) (le : most ≤ more) (callee other : Callee) (s : Scope) (return returns abort aborts : Returned → Rest) (callee_goes : CalleeGoes callee other) (return_goes : Leads return returns) (abort_goes : Leads abort aborts) where
   value-goes : (e : Tree) {k l : ℕ → Rest} → Leads k l → Goes (statements.value_of most callee s return abort e k) (statements.value_of more other s returns aborts e l)
@@ -382,17 +396,20 @@ module _ (most more : ℕ) (le : most ≤ more) (callee other : Callee) (s : Sco
 
   mutual
     executes-goes : (x : Statement) {n m q p r t : Rest} → Goes n m → Goes q p → Goes r t → Goes (statements.executes most callee s return abort x n q r) (statements.executes more other s returns aborts x m p t)
-    executes-goes (statement place (Do e)) next quit g = acts-goes callee other s abort aborts callee_goes abort_goes e g
-    executes-goes (statement place (If arms rest)) next quit g = chooses-goes arms next quit g (executes_other-goes rest next quit g)
-    executes-goes (statement place (Case e arms rest)) next quit g =
+    executes-goes (statement place action) next quit g = for_itself-goes place (record { by = acts_out-goes action }) next quit g
+
+    acts_out-goes : (x : Action) {n m q p r t : Rest} → Goes n m → Goes q p → Goes r t → Goes (statements.acts_out most callee s return abort x n q r) (statements.acts_out more other s returns aborts x m p t)
+    acts_out-goes (Do e) next quit g = acts-goes callee other s abort aborts callee_goes abort_goes e g
+    acts_out-goes (If arms rest) next quit g = chooses-goes arms next quit g (executes_other-goes rest next quit g)
+    acts_out-goes (Case e arms rest) next quit g =
         value-goes e (λ value. matches-goes value arms next quit g (executes_other-goes rest next quit g))
-    executes-goes (statement place (Repeat loop body)) next quit g = repeats-goes loop (record { by = executes_all-goes body }) g
-    executes-goes (statement place Next) next quit g = next
-    executes-goes (statement place Quit) next quit g = quit
-    executes-goes (statement place (Return None)) next quit g = return_goes (Result s.frame)
-    executes-goes (statement place (Return (Some e))) next quit g = value-goes e (λ value. return_goes (Value value))
-    executes-goes (statement place (Abort None)) next quit g = abort_goes (Result s.frame)
-    executes-goes (statement place (Abort (Some e))) next quit g = value-goes e (λ value. abort_goes (Value value))
+    acts_out-goes (Repeat loop body) next quit g = repeats-goes loop (record { by = executes_all-goes body }) g
+    acts_out-goes Next next quit g = next
+    acts_out-goes Quit next quit g = quit
+    acts_out-goes (Return None) next quit g = return_goes (Result s.frame)
+    acts_out-goes (Return (Some e)) next quit g = value-goes e (λ value. return_goes (Value value))
+    acts_out-goes (Abort None) next quit g = abort_goes (Result s.frame)
+    acts_out-goes (Abort (Some e)) next quit g = value-goes e (λ value. abort_goes (Value value))
 
     pub executes_all-goes : (body : Statements) {n m q p r t : Rest} → Goes n m → Goes q p → Goes r t → Goes (statements.executes_all most callee s return abort body n q r) (statements.executes_all more other s returns aborts body m p t)
     executes_all-goes no_statements next quit g = g
@@ -420,7 +437,7 @@ module _ (most more : ℕ) (le : most ≤ more) (callee other : Callee) (s : Sco
 begins-goes_on : (most more : ℕ) → most ≤ more → (callee other : Callee) → CalleeGoes callee other → (s : Scope) (m : MethodTree) (arguments : List ℕ) {r t p q : Returned → Rest} → Leads r t → Leads p q → Goes (begins most callee s m arguments r p) (begins more other s m arguments t q)
 begins-goes_on most more le callee other callee_goes s m arguments {r} {t} {p} {q} return abort =
     writes_longs-goes (0 ∷ arguments) s.frame
-    (executes_all-goes most more le callee other s r t p q callee_goes return abort m.body (untold-goes untold) (untold-goes untold) (return (Result s.frame)))
+    (executes_all-goes most more le callee other s r t p q callee_goes return abort m.body (untold-goes untold) (untold-goes untold) (for_statement-goes m.place (return (Result s.frame))))
 
 pub meaning-goes : (program : Program) (addresses : Addresses) (par : ℕ) (most more : ℕ) → most ≤ more → CalleeGoes (meaning most program addresses par) (meaning more program addresses par)
 meaning-goes program addresses par zero more le = record { by = λ target arguments frame active return abort. untold-goes _ }

@@ -7,7 +7,7 @@ use Rattle.std.proofs.lemmas.Option.{slice_get-map}
 use Rattle.std.proofs.lemmas.List.Elements.{All-head, All-tail}
 use Rattle.p8_tree.specs.Sources.{Source, MethodTree, BlockTree, Con, Var, Obj, Method, Dat}
 use Rattle.p8_meaning.specs.Programs.{Program, File, Addresses, Target, public_method, private_method, methods_of, numbered}
-use Rattle.p8_meaning.specs.Doing.{Rest, untold, given, writes_longs}
+use Rattle.p8_meaning.specs.Doing.{Rest, untold, for_statement, given, writes_longs}
 use Rattle.p8_meaning.specs.Calls.{Callee, Returned, Result, method_of}
 use Rattle.p8_meaning.specs.Lives.{meaning, begins, scope_with}
 use Rattle.p8_meaning.specs.Constants.{Constants}
@@ -36,7 +36,7 @@ module _ (program other : Program) (addresses : Addresses) (par : ℕ) where
   begins-same most callee before same target file source folds m arguments frame active return abort =
       ap (λ k. begins (suc most) k (scope_with other addresses par target (record file { source = source }) (folded_method (constants_of file target.method) m) frame active) (folded_method (constants_of file target.method) m) arguments return abort) same
       ∙ ap (writes_longs frame (0 ∷ arguments))
-      (body-same most before (scope_with program addresses par target file m frame active) return abort other source folds m.body untold untold (return (Result frame)))
+      (body-same most before (scope_with program addresses par target file m frame active) return abort other source folds m.body untold untold (for_statement m.place (return (Result frame))))
 
   file-same : (most : ℕ) (callee before : Callee) → callee ≡ before → (target : Target) (arguments : List ℕ) (frame active : ℕ) (return abort : Returned → Rest) (file : File) (source : Source) → Folds file source
       → given (method_of (record file { source = source }) target.method) (λ m. begins (suc most) callee (scope_with other addresses par target (record file { source = source }) m frame active) m arguments return abort)

@@ -13,7 +13,7 @@ use Rattle.p8_access.specs.declared.kinds.Access.TheVariants.{CogInit}
 use Rattle.p8_meaning.specs.Builtins.{cog_named, long_address}
 use Rattle.p8_meaning.specs.Doing.{Rest, Gives, given, asks, writes_longs}
 use Rattle.p8_meaning.specs.Variables.{Location, Hub, Pins, element, size_of, address_of_kind, address_of, named, part, fetches, stores, reduced, assigns, replaces, changes, changes_alone}
-use Rattle.p8_meaning.specs.Calls.{Returned, uses, Callee, calls, starts_method, method_of}
+use Rattle.p8_meaning.specs.Calls.{Returned, used, Callee, calls, starts_method, method_of}
 use Rattle.p8_meaning.specs.Expressions as expressions
 use Rattle.p8_meaning.specs.Projects.{folded_method, constants_of}
 
@@ -111,7 +111,7 @@ module _ (program : Program) (source : Source) (s : Scope) where
 
       value_of_kind-same : (name : List ℕ) (kind : Option NameKind) (go : ℕ → Rest) → expressions.value_of_kind callee (moved program source s) abort name kind go ≡ expressions.value_of_kind callee s abort name kind go
       value_of_kind-same name (Some (kind_case.Const value)) go = refl
-      value_of_kind-same name (Some (kind_case.Method n params)) go = calls_own-same false (Some (kind_case.Method n params)) [] (λ x. uses x go)
+      value_of_kind-same name (Some (kind_case.Method n params)) go = λ i. used (λ k. calls_own-same false (Some (kind_case.Method n params)) [] k i) go
       value_of_kind-same name (Some (kind_case.Local offset)) go = λ i. fetches-same (named-same name 0 i) go i
       value_of_kind-same name (Some (kind_case.Global size offset)) go = λ i. fetches-same (named-same name 0 i) go i
       value_of_kind-same name (Some (kind_case.Label size)) go = λ i. fetches-same (named-same name 0 i) go i

@@ -15,7 +15,7 @@ use Rattle.p8_meaning.specs.Programs.{Program, Scope, kind_of, scope_setting, ob
 use Rattle.p8_meaning.specs.Doing.{Rest, Gives}
 use Rattle.p8_meaning.specs.Variables.{Location, Pins, element, address_at}
 use Rattle.p8_meaning.specs.Builtins.{new_cog, does_one, does_two, does_three}
-use Rattle.p8_meaning.specs.Calls.{Returned, uses, Callee}
+use Rattle.p8_meaning.specs.Calls.{Returned, used, unused, Callee}
 use Rattle.p8_meaning.specs.Expressions as expressions
 use Rattle.p8_meaning.specs.Constants.{value_meant, value_behind, both, constant_value, number_length, code_length, within, shorter_number}
 use Rattle.p8_meaning.specs.Folding.{number_or, folded, form_with, variable_with, index_with, bits_with, item_with, trees_with, arguments_with, items_with, folded_inside}
@@ -192,8 +192,8 @@ module _ (callee : Callee) (s : Scope) (abort : Returned → Rest) (program : Pr
     form-same place Here go = refl
     form-same place (Var v) go = variable-same v go
     form-same place (Call stops object i method at arguments) go =
-        call-same stops object method (expressions.evaluates_all callee (moved program source s) abort (trees_with (shorter_number (constants_of s.file s.method)) arguments)) (expressions.evaluates_all callee s abort arguments)
-        (expressions.indexes callee (moved program source s) abort (index_with (shorter_number (constants_of s.file s.method)) i)) (expressions.indexes callee s abort i) (evaluates_all-same arguments) (indexes-same i) (λ x. uses x go)
+        λ j. used (λ k. call-same stops object method (expressions.evaluates_all callee (moved program source s) abort (trees_with (shorter_number (constants_of s.file s.method)) arguments)) (expressions.evaluates_all callee s abort arguments)
+        (expressions.indexes callee (moved program source s) abort (index_with (shorter_number (constants_of s.file s.method)) i)) (expressions.indexes callee s abort i) (evaluates_all-same arguments) (indexes-same i) k j) go
     form-same place (Unary operator e) go = evaluates-same e (λ a. go (unary_value operator a))
     form-same place (Binary operator e f) go = λ i. evaluates-same e (λ a. evaluates-same f (λ b. go (binary_value operator a b)) i) i
     form-same place (Assign v operator e) go = λ i. evaluates-same e (λ right. locates-same v (λ p. assigns-same program source s operator p right go i) i) i
@@ -283,10 +283,10 @@ module _ (callee : Callee) (s : Scope) (abort : Returned → Rest) (program : Pr
 
   -- an expression alone
   pub acts-same : (e : Tree) (go : Rest) → expressions.acts callee (moved program source s) abort (folded_inside (constants_of s.file s.method) e) go ≡ expressions.acts callee s abort e go
-  acts-same (node place (Var (Named name no_index at))) go = calls_own-same program source s folds callee abort false (kind_of s name) [] (λ x. go)
+  acts-same (node place (Var (Named name no_index at))) go = λ j. unused (λ k. calls_own-same program source s folds callee abort false (kind_of s name) [] k j) go
   acts-same (node place (Call stops object i method at arguments)) go =
-      call-same stops object method (expressions.evaluates_all callee (moved program source s) abort (trees_with (shorter_number (constants_of s.file s.method)) arguments)) (expressions.evaluates_all callee s abort arguments)
-      (expressions.indexes callee (moved program source s) abort (index_with (shorter_number (constants_of s.file s.method)) i)) (expressions.indexes callee s abort i) (evaluates_all-same arguments) (indexes-same i) (λ x. go)
+      λ j. unused (λ k. call-same stops object method (expressions.evaluates_all callee (moved program source s) abort (trees_with (shorter_number (constants_of s.file s.method)) arguments)) (expressions.evaluates_all callee s abort arguments)
+      (expressions.indexes callee (moved program source s) abort (index_with (shorter_number (constants_of s.file s.method)) i)) (expressions.indexes callee s abort i) (evaluates_all-same arguments) (indexes-same i) k j) go
   acts-same (node place (Change v change)) go = λ i. locates-same v (λ p. changes_alone-same program source s change p go i) i
   acts-same (node place (Var (Named name (index e) at))) go = form-same place (Var (Named name (index e) at)) (λ x. go)
   acts-same (node place (Var (Part name size i at))) go = form-same place (Var (Part name size i at)) (λ x. go)

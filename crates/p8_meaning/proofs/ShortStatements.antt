@@ -3,18 +3,18 @@ use Rattle.std.proofs.Common.{◌≡◌, refl, sym, ap, ◌∙◌, ℕ, suc, ◌
 use Rattle.p8_tree.specs.declared.places.Place.{Place}
 use Rattle.p8_tree.specs.Sources.{Source}
 use Rattle.p8_tree.specs.Expressions.{Tree, node, Number, Str, Here, Var, Call, Unary, Binary, Assign, Change, Address, ObjectAddress, ObjConst, Built, Look, Item, single, range, Items, no_items, ◌▸◌}
-use Rattle.p8_tree.specs.Statements.{Course as Loop, Forever, Count, Before, After, From, Statement, statement, Do, If, Case, Repeat, Next, Quit, Return, Abort, arm, Otherwise, nothing_else, otherwise, Statements, no_statements, ◌▹◌, Arms, no_arms, ◌⊳◌}
+use Rattle.p8_tree.specs.Statements.{Course as Loop, Forever, Count, Before, After, From, Statement, statement, Action, Do, If, Case, Repeat, Next, Quit, Return, Abort, arm, Otherwise, nothing_else, otherwise, Statements, no_statements, ◌▹◌, Arms, no_arms, ◌⊳◌}
 use Rattle.p8_meaning.specs.Values as values
 use Rattle.p8_meaning.specs.Values.{difference, is_between, stepped}
 use Rattle.p8_meaning.specs.Programs.{Program, Scope}
-use Rattle.p8_meaning.specs.Doing.{Rest}
+use Rattle.p8_meaning.specs.Doing.{Registers, Rest, for_statement}
 use Rattle.p8_meaning.specs.Variables.{Location, named, stores}
 use Rattle.p8_meaning.specs.Calls.{Returned, Value, Callee}
 use Rattle.p8_meaning.specs.Loops.{passes, counted}
 use Rattle.p8_meaning.specs.Statements as statements
-use Rattle.p8_meaning.specs.Statements.{Body}
+use Rattle.p8_meaning.specs.Statements.{Body, for_itself}
 use Rattle.p8_meaning.specs.Constants.{constant_value, shorter_number}
-use Rattle.p8_meaning.specs.Folding.{folded, folded_items, item_with, folded_course, holds, number_in, kept_count, kept_before, kept, loop, Chain, Going, Ended, Known, known, with_arm, whole_chain, chain, joined, folded_statement, folded_body, folded_other, folded_chain, folded_arms}
+use Rattle.p8_meaning.specs.Folding.{folded, folded_items, item_with, folded_course, holds, number_in, kept_count, kept_before, kept, loop, Chain, Going, Ended, Known, known, with_arm, whole_chain, chain, joined, folded_statement, folded_action, folded_body, folded_other, folded_chain, folded_arms}
 use Rattle.p8_meaning.specs.Projects.{constants_of}
 use Rattle.p8_meaning.proofs.Scopes.{moved, Folds, named-same, fetches-same}
 use Rattle.p8_meaning.proofs.ShortExpressions.{Worth, worth, evaluates-same, acts-same}
@@ -84,35 +84,38 @@ module _ (most : ℕ) (callee : Callee) (s : Scope) (return abort : Returned →
   -- what is left of a loop
   count_left : (b : Bool) (place : Place) (e : Tree) (n : ℕ) (body : Statements) (next quit go : Rest) → (n == 0) ≡ b → Worth (Some n) (statements.value_of (suc most) callee (moved program source s) return abort e)
       → statements.executes_all (suc most) callee (moved program source s) return abort (loop place (if b then None else Some (Count e)) body) next quit go
-      ≡ statements.repeats (suc most) callee (moved program source s) return abort (Count e) (statements.executes_all (suc most) callee (moved program source s) return abort body) go
-  count_left true place e n body next quit go is h =
-      ap (λ b. if b then go else counted (difference n 1) (λ again. statements.executes_all (suc most) callee (moved program source s) return abort body again go again) go) (sym is)
-      ∙ sym (h (λ count. if count == 0 then go else counted (difference count 1) (λ again. statements.executes_all (suc most) callee (moved program source s) return abort body again go again) go))
+      ≡ for_itself place (λ next quit go. statements.repeats (suc most) callee (moved program source s) return abort (Count e) (statements.executes_all (suc most) callee (moved program source s) return abort body) go) next quit go
+  count_left true place e n body next quit go is h = λ i. for_itself place (λ next quit go. no_pass i go) next quit go
+    where
+      no_pass : ◌≡◌ {A = Rest → Rest} (λ go. go) (λ go. statements.repeats (suc most) callee (moved program source s) return abort (Count e) (statements.executes_all (suc most) callee (moved program source s) return abort body) go)
+      no_pass = λ i go.
+          (ap (λ b. if b then go else counted (difference n 1) (λ again. statements.executes_all (suc most) callee (moved program source s) return abort body again go again) go) (sym is)
+          ∙ sym (h (λ count. if count == 0 then go else counted (difference count 1) (λ again. statements.executes_all (suc most) callee (moved program source s) return abort body again go again) go))) i
   count_left false place e n body next quit go is h = refl
 
   counted_does : (o : Option ℕ) (place : Place) (e : Tree) (body : Statements) (next quit go : Rest) → Worth o (statements.value_of (suc most) callee (moved program source s) return abort e)
       → statements.executes_all (suc most) callee (moved program source s) return abort (loop place (kept_count o e) body) next quit go
-      ≡ statements.repeats (suc most) callee (moved program source s) return abort (Count e) (statements.executes_all (suc most) callee (moved program source s) return abort body) go
+      ≡ for_itself place (λ next quit go. statements.repeats (suc most) callee (moved program source s) return abort (Count e) (statements.executes_all (suc most) callee (moved program source s) return abort body) go) next quit go
   counted_does None place e body next quit go h = refl
   counted_does (Some n) place e body next quit go h = count_left (n == 0) place e n body next quit go refl h
 
   before_left : (b : Bool) (place : Place) (body : Statements) (next quit go : Rest)
       → statements.executes_all (suc most) callee (moved program source s) return abort (loop place (if b then Some Forever else None) body) next quit go
-      ≡ passes (suc most) (λ again. if b then statements.executes_all (suc most) callee (moved program source s) return abort body again go again else go)
+      ≡ for_itself place (λ next quit go. passes (suc most) (λ again. if b then statements.executes_all (suc most) callee (moved program source s) return abort body again go again else go)) next quit go
   before_left true place body next quit go = refl
   before_left false place body next quit go = λ i bound own. go bound own
 
   before_does : (o : Option ℕ) (place : Place) (until : Bool) (e : Tree) (body : Statements) (next quit go : Rest) → Worth o (statements.value_of (suc most) callee (moved program source s) return abort e)
       → statements.executes_all (suc most) callee (moved program source s) return abort (loop place (kept_before until o e) body) next quit go
-      ≡ statements.repeats (suc most) callee (moved program source s) return abort (Before until e) (statements.executes_all (suc most) callee (moved program source s) return abort body) go
+      ≡ for_itself place (λ next quit go. statements.repeats (suc most) callee (moved program source s) return abort (Before until e) (statements.executes_all (suc most) callee (moved program source s) return abort body) go) next quit go
   before_does None place until e body next quit go h = refl
   before_does (Some n) place until e body next quit go h =
       before_left (holds until n) place body next quit go
-      ∙ (λ i. passes (suc most) (λ again. sym (h (λ value. if values.holds until value then statements.executes_all (suc most) callee (moved program source s) return abort body again go again else go)) i))
+      ∙ (λ i. for_itself place (λ next quit go. passes (suc most) (λ again. sym (h (λ value. if values.holds until value then statements.executes_all (suc most) callee (moved program source s) return abort body again go again else go)) i)) next quit go)
 
   loop_does : (place : Place) (course : Loop) (body : Statements) (next quit go : Rest)
       → statements.executes_all (suc most) callee (moved program source s) return abort (loop place (kept course) body) next quit go
-      ≡ statements.repeats (suc most) callee (moved program source s) return abort course (statements.executes_all (suc most) callee (moved program source s) return abort body) go
+      ≡ for_itself place (λ next quit go. statements.repeats (suc most) callee (moved program source s) return abort course (statements.executes_all (suc most) callee (moved program source s) return abort body) go) next quit go
   loop_does place (Count e) body next quit go = counted_does (number_in e) place e body next quit go (number-worth e)
   loop_does place (Before until e) body next quit go = before_does (number_in e) place until e body next quit go (number-worth e)
   loop_does place Forever body next quit go = refl
@@ -152,16 +155,32 @@ module _ (most : ℕ) (callee : Callee) (s : Scope) (return abort : Returned →
       ∙ ap (λ met. statements.chooses (suc most) callee (moved program source s) return abort arms next quit go (if holds negated v then met else other)) same
       ∙ ap (λ x. statements.chooses (suc most) callee (moved program source s) return abort arms next quit go x) (sym (decided negated v e (statements.executes_all (suc most) callee s return abort whole_body next quit go) other h))
 
+  -- a body that stands for the whole statement does the same for the statement around it
+  one_back : (x : Statement) (place : Place) (next quit go : Rest) →
+      statements.executes (suc most) callee (moved program source s) return abort x (for_statement place next) (for_statement place quit) (for_statement place go) ≡ for_statement place (statements.executes (suc most) callee (moved program source s) return abort x next quit go)
+  one_back (statement inside action) place next quit go = refl
+
+  spliced_at : (body : Statements) (place inside : Place) (next quit go : Rest) (bound : ℕ) (own : Registers)
+      → statements.executes_all (suc most) callee (moved program source s) return abort body (for_statement place next) (for_statement place quit) (for_statement place go) bound (record own { statement = inside })
+      ≡ statements.executes_all (suc most) callee (moved program source s) return abort body next quit go bound (record own { statement = place })
+  spliced_at no_statements place inside next quit go bound own = refl
+  spliced_at (body ▹ last) place inside next quit go bound own =
+      ap (λ r. statements.executes_all (suc most) callee (moved program source s) return abort body (for_statement place next) (for_statement place quit) r bound (record own { statement = inside })) (one_back last place next quit go)
+      ∙ spliced_at body place inside next quit (statements.executes (suc most) callee (moved program source s) return abort last next quit go) bound own
+
+  spliced : (body : Statements) (place : Place) (next quit go : Rest) → statements.executes_all (suc most) callee (moved program source s) return abort body next quit go ≡ for_itself place (statements.executes_all (suc most) callee (moved program source s) return abort body) next quit go
+  spliced body place next quit go = λ i bound own. sym (spliced_at body own.statement place next quit go bound own) i
+
   whole_does : (place : Place) (arms : Arms) (other : Otherwise) (next quit go : Rest)
       → statements.executes_all (suc most) callee (moved program source s) return abort (whole_chain place arms other) next quit go
-      ≡ statements.chooses (suc most) callee (moved program source s) return abort arms next quit go (statements.executes_other (suc most) callee (moved program source s) return abort other next quit go)
+      ≡ for_itself place (λ next quit go. statements.chooses (suc most) callee (moved program source s) return abort arms next quit go (statements.executes_other (suc most) callee (moved program source s) return abort other next quit go)) next quit go
   whole_does place no_arms nothing_else next quit go = refl
-  whole_does place no_arms (otherwise body) next quit go = refl
+  whole_does place no_arms (otherwise body) next quit go = spliced body place next quit go
   whole_does place (arms ⊳ last) other next quit go = refl
 
   left_does : (place : Place) (left : Chain) (other : Otherwise) (next quit go : Rest)
       → statements.executes_all (suc most) callee (moved program source s) return abort (chain place left other) next quit go
-      ≡ chain_does left next quit go (statements.executes_other (suc most) callee (moved program source s) return abort other next quit go)
+      ≡ for_itself place (λ next quit go. chain_does left next quit go (statements.executes_other (suc most) callee (moved program source s) return abort other next quit go)) next quit go
   left_does place (Going arms) other next quit go = whole_does place arms other next quit go
   left_does place (Ended arms body) other next quit go = whole_does place arms (otherwise body) next quit go
 
@@ -176,22 +195,28 @@ module _ (most : ℕ) (callee : Callee) (s : Scope) (return abort : Returned →
   mutual
     statement-same : (x : Statement) (next quit go : Rest)
         → statements.executes_all (suc most) callee (moved program source s) return abort (folded_statement (constants_of s.file s.method) x) next quit go ≡ statements.executes (suc most) callee s return abort x next quit go
-    statement-same (statement place (Do e)) next quit go = acts-same callee s abort program source folds e go
-    statement-same (statement place (If arms other)) next quit go =
+    statement-same (statement place action) next quit go = action-same place action next quit go
+
+    action-same : (place : Place) (action : Action) (next quit go : Rest)
+        → statements.executes_all (suc most) callee (moved program source s) return abort (folded_action (constants_of s.file s.method) place action) next quit go ≡ for_itself place (statements.acts_out (suc most) callee s return abort action) next quit go
+    action-same place (Do e) next quit go = λ i. for_itself place (λ next quit go. acts-same callee s abort program source folds e go i) next quit go
+    action-same place (If arms other) next quit go =
         left_does place (folded_chain (constants_of s.file s.method) arms) (folded_other (constants_of s.file s.method) other) next quit go
-        ∙ chain-same arms next quit go (statements.executes_other (suc most) callee (moved program source s) return abort (folded_other (constants_of s.file s.method) other) next quit go)
-        ∙ ap (λ x. statements.chooses (suc most) callee s return abort arms next quit go x) (other-same other next quit go)
-    statement-same (statement place (Case e arms other)) next quit go = λ i.
-        value-same e (λ value. matches-same value arms next quit go (other-same other next quit go i) i) i
-    statement-same (statement place (Repeat course body)) next quit go =
+        ∙ (λ i. for_itself place (λ next quit go.
+        (chain-same arms next quit go (statements.executes_other (suc most) callee (moved program source s) return abort (folded_other (constants_of s.file s.method) other) next quit go)
+        ∙ ap (λ x. statements.chooses (suc most) callee s return abort arms next quit go x) (other-same other next quit go)) i) next quit go)
+    action-same place (Case e arms other) next quit go = λ i. for_itself place (λ next quit go.
+        value-same e (λ value. matches-same value arms next quit go (other-same other next quit go i) i) i) next quit go
+    action-same place (Repeat course body) next quit go =
         loop_does place (folded_course (constants_of s.file s.method) course) (folded_body (constants_of s.file s.method) body) next quit go
-        ∙ repeats-same course (statements.executes_all (suc most) callee (moved program source s) return abort (folded_body (constants_of s.file s.method) body)) (statements.executes_all (suc most) callee s return abort body) (body-same body) go
-    statement-same (statement place Next) next quit go = refl
-    statement-same (statement place Quit) next quit go = refl
-    statement-same (statement place (Return None)) next quit go = refl
-    statement-same (statement place (Return (Some e))) next quit go = value-same e (λ value. return (Value value))
-    statement-same (statement place (Abort None)) next quit go = refl
-    statement-same (statement place (Abort (Some e))) next quit go = value-same e (λ value. abort (Value value))
+        ∙ (λ i. for_itself place (λ next quit go.
+        repeats-same course (statements.executes_all (suc most) callee (moved program source s) return abort (folded_body (constants_of s.file s.method) body)) (statements.executes_all (suc most) callee s return abort body) (body-same body) go i) next quit go)
+    action-same place Next next quit go = refl
+    action-same place Quit next quit go = refl
+    action-same place (Return None) next quit go = refl
+    action-same place (Return (Some e)) next quit go = λ i. for_itself place (λ next quit go. value-same e (λ value. return (Value value)) i) next quit go
+    action-same place (Abort None) next quit go = refl
+    action-same place (Abort (Some e)) next quit go = λ i. for_itself place (λ next quit go. value-same e (λ value. abort (Value value)) i) next quit go
 
     pub body-same : (body : Statements) (next quit go : Rest)
         → statements.executes_all (suc most) callee (moved program source s) return abort (folded_body (constants_of s.file s.method) body) next quit go ≡ statements.executes_all (suc most) callee s return abort body next quit go

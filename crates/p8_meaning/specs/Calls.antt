@@ -7,7 +7,7 @@ use Rattle.p8_access.specs.declared.kinds.Reason.TheVariants as Why
 use Rattle.p8_access.specs.declared.kinds.Access.TheVariants.{CogInit}
 use Rattle.p8_tree.specs.Sources.{MethodTree}
 use Rattle.p8_meaning.specs.Programs.{File, Scope, Target, numbered, methods_of, locals_size, setting_of, object_target}
-use Rattle.p8_meaning.specs.Doing.{Rest, Gives, halts, costs, asks, reads, writes_longs, given}
+use Rattle.p8_meaning.specs.Doing.{Rest, Gives, halts, comes_back, costs, asks, reads, writes_longs, given}
 use Rattle.p8_meaning.specs.Builtins.{cog_named, long_address}
 
 -- ---- what a method gives
@@ -42,6 +42,14 @@ abbrev pub calls_object : Callee → Scope → (stops : Bool) → (item position
 calls_object callee s stops item position count index method arguments return abort =
     if nat_lt index count then calls callee s stops (object_target s item (position + index) method) arguments return abort
     else halts Why.Table
+
+-- A call whose value is used: the read of a RESULT is still done for the statement that returns, and what follows for the one that calls.
+abbrev pub used : Gives Returned → Gives ℕ
+used call go = comes_back (λ back. call (λ given. uses given (λ value. back (go value))))
+
+-- one whose value isn't used
+abbrev pub unused : Gives Returned → Rest → Rest
+unused call go = comes_back (λ back. call (λ given. back go))
 
 -- ---- starts
 

@@ -13,7 +13,7 @@ use Rattle.p8_meaning.specs.Programs.{Scope, kind_of, object_constant, scope_set
 use Rattle.p8_meaning.specs.Doing.{Rest, Gives, untold}
 use Rattle.p8_meaning.specs.Variables.{Location, Pins, element, named, part, address_at, fetches, assigns, changes, changes_alone}
 use Rattle.p8_meaning.specs.Builtins.{new_cog, starts_pasm, does_none, does_one, does_two, does_three}
-use Rattle.p8_meaning.specs.Calls.{Callee, Returned, uses, calls, calls_object, starts_method}
+use Rattle.p8_meaning.specs.Calls.{Callee, Returned, calls, calls_object, used, unused, starts_method}
 
 -- ---- LOOKUP and LOOKDOWN: an item is tried with the count of its first value. Items are evaluated up to the first that has what is looked
 -- for (profile).
@@ -74,8 +74,7 @@ module _ (callee : Callee) (s : Scope) (abort : Returned → Rest) where
   -- a name alone: a constant, a call of a method without parameters, or a variable
   abbrev pub value_of_kind : (name : List ℕ) → Option NameKind → Gives ℕ
   value_of_kind name (Some (kind_case.Const value)) go = go value
-  value_of_kind name (Some (kind_case.Method number params)) go =
-      calls_own false (Some (kind_case.Method number params)) [] (λ given. uses given go)
+  value_of_kind name (Some (kind_case.Method number params)) go = used (calls_own false (Some (kind_case.Method number params)) []) go
   value_of_kind name kind go = fetches s (named s name 0) go
 
   abbrev pub value_of_name : (name : List ℕ) → Gives ℕ
@@ -101,7 +100,7 @@ module _ (callee : Callee) (s : Scope) (abort : Returned → Rest) where
     evaluates (node place Here) go = untold
     evaluates (node place (Var v)) go = evaluates_variable v go
     evaluates (node place (Call stops object i method at arguments)) go =
-        makes_call stops object method (evaluates_all arguments) (indexes i) (λ given. uses given go)
+        used (makes_call stops object method (evaluates_all arguments) (indexes i)) go
     evaluates (node place (Unary operator e)) go = evaluates e (λ a. go (unary_value operator a))
     evaluates (node place (Binary operator left right)) go = evaluates left (λ a. evaluates right (λ b. go (binary_value operator a b)))
     evaluates (node place (Assign v operator e)) go = evaluates e (λ right. locates v (λ where_is. assigns s operator where_is right go))
@@ -173,7 +172,7 @@ module _ (callee : Callee) (s : Scope) (abort : Returned → Rest) where
   -- ---- an expression alone, whose value isn't used
 
   abbrev pub acts : Tree → Rest → Rest
-  acts (node place (Var (Named name no_index at))) go = calls_own false (kind_of s name) [] (λ given. go)
-  acts (node place (Call stops object i method at arguments)) go = makes_call stops object method (evaluates_all arguments) (indexes i) (λ given. go)
+  acts (node place (Var (Named name no_index at))) go = unused (calls_own false (kind_of s name) []) go
+  acts (node place (Call stops object i method at arguments)) go = unused (makes_call stops object method (evaluates_all arguments) (indexes i)) go
   acts (node place (Change v change)) go = locates v (λ where_is. changes_alone s change where_is go)
   acts e go = evaluates e (λ value. go)

@@ -2,10 +2,11 @@
 -- Sources: the Propeller Manual v1.2, "IF", "CASE", "REPEAT", "NEXT", "QUIT", "RETURN" and "ABORT" of the Spin chapter.
 use Rattle.std.specs.Prelude.{ℕ, ◌==◌, Bool, Option, Some, None, if◌then◌else◌}
 use Rattle.p8_tree.specs.Expressions.{Tree, Item, single, range, Items, no_items, ◌▸◌}
-use Rattle.p8_tree.specs.Statements.{Course, Forever, Count, Before, After, From, Statement, statement, Do, If, Case, Repeat, Next, Quit, Return, Abort, arm, Otherwise, nothing_else, otherwise, Statements, no_statements, ◌▹◌, Arms, no_arms, ◌⊳◌}
+use Rattle.p8_tree.specs.declared.places.Place.{Place}
+use Rattle.p8_tree.specs.Statements.{Course, Forever, Count, Before, After, From, Statement, statement, Action, Do, If, Case, Repeat, Next, Quit, Return, Abort, arm, Otherwise, nothing_else, otherwise, Statements, no_statements, ◌▹◌, Arms, no_arms, ◌⊳◌}
 use Rattle.p8_meaning.specs.Values.{is_between, difference, holds, stepped}
 use Rattle.p8_meaning.specs.Programs.{Scope}
-use Rattle.p8_meaning.specs.Doing.{Rest, Gives, untold}
+use Rattle.p8_meaning.specs.Doing.{Rest, Gives, untold, for_statement, comes_back}
 use Rattle.p8_meaning.specs.Variables.{Location, named, fetches, stores}
 use Rattle.p8_meaning.specs.Calls.{Callee, Returned, Value, Result}
 use Rattle.p8_meaning.specs.Expressions.{evaluates, acts}
@@ -14,6 +15,10 @@ use Rattle.p8_meaning.specs.Loops.{passes, counted}
 -- what a statement does, by what follows NEXT, QUIT and the statement itself
 abbrev pub Body : Type 0
 Body = (next quit go : Rest) → Rest
+
+-- a statement's action is done for the statement itself, and what follows for the one around it
+abbrev pub for_itself : Place → Body → Body
+for_itself place action next quit go = comes_back (λ back. for_statement place (action (back next) (back quit) (back go)))
 
 module _ (most : ℕ) (callee : Callee) (s : Scope) (return abort : Returned → Rest) where
   abbrev pub value_of : Tree → Gives ℕ
@@ -67,17 +72,20 @@ module _ (most : ℕ) (callee : Callee) (s : Scope) (return abort : Returned →
 
   abbrev mutual
     pub executes : Statement → Body
-    executes (statement place (Do e)) next quit go = acts callee s abort e go
-    executes (statement place (If arms other)) next quit go = chooses arms next quit go (executes_other other next quit go)
-    executes (statement place (Case e arms other)) next quit go =
+    executes (statement place action) = for_itself place (acts_out action)
+
+    pub acts_out : Action → Body
+    acts_out (Do e) next quit go = acts callee s abort e go
+    acts_out (If arms other) next quit go = chooses arms next quit go (executes_other other next quit go)
+    acts_out (Case e arms other) next quit go =
         value_of e (λ value. matches value arms next quit go (executes_other other next quit go))
-    executes (statement place (Repeat course body)) next quit go = repeats course (executes_all body) go
-    executes (statement place Next) next quit go = next
-    executes (statement place Quit) next quit go = quit
-    executes (statement place (Return None)) next quit go = return (Result s.frame)
-    executes (statement place (Return (Some e))) next quit go = value_of e (λ value. return (Value value))
-    executes (statement place (Abort None)) next quit go = abort (Result s.frame)
-    executes (statement place (Abort (Some e))) next quit go = value_of e (λ value. abort (Value value))
+    acts_out (Repeat course body) next quit go = repeats course (executes_all body) go
+    acts_out Next next quit go = next
+    acts_out Quit next quit go = quit
+    acts_out (Return None) next quit go = return (Result s.frame)
+    acts_out (Return (Some e)) next quit go = value_of e (λ value. return (Value value))
+    acts_out (Abort None) next quit go = abort (Result s.frame)
+    acts_out (Abort (Some e)) next quit go = value_of e (λ value. abort (Value value))
 
     pub executes_all : Statements → Body
     executes_all no_statements next quit go = go
