@@ -17,7 +17,7 @@ use Rattle.p8_bcog.specs.Accesses.{ends, gets, is_readable, read_of}
 use Rattle.p8_bcog.specs.Newest.{trapping}
 use Rattle.p8_bcog.specs.Code.{method_at}
 use Rattle.p8_bcog.specs.Calls as calling
-use Rattle.p8_meaning.specs.Doing.{Registers, Rest, costs, halts, reads, writes_longs, next_address}
+use Rattle.p8_meaning.specs.Doing.{Registers, Rest, course_of, costs, halts, reads, writes_longs, next_address}
 use Rattle.p8_meaning.specs.Programs.{Program, Addresses, File, Target}
 use Rattle.p8_tree.specs.Sources.{MethodTree}
 use Rattle.p8_meaning.specs.Lives.{IsInstance}
@@ -274,12 +274,12 @@ module _ (memory : List ℕ) (cog : ℕ) (program : Program) (addresses : Addres
         -- the bytecode of a call, which comes to the call of this method
         pub called-meets : (p : ℕ) (course : State → Course State) → Does memory cog p course q → (stack : List ℕ) →
             ((own : Registers) → course (at c q (length xs) (mark ∷ marks) stack own) ≡ calling.calls_method memory target.instance.base target.instance.variables target.method (calling_at own)) →
-            (fine : Bool) → nat_lt (length c.calls + 1) 128 ≡ fine → (f : ℕ) (own : Registers) → f ≤ bound → M memory cog f (Finish (at c p (length xs) (mark ∷ marks) stack own)) ((if fine then costs (follows frame (length c.calls + 1 + 1)) else halts Why.Deep) f own)
+            (fine : Bool) → nat_lt (length c.calls + 1) 128 ≡ fine → (f : ℕ) (own : Registers) → f ≤ bound → M memory cog f (Finish (at c p (length xs) (mark ∷ marks) stack own)) (course_of ((if fine then costs (follows frame (length c.calls + 1 + 1)) else halts Why.Deep) f own))
         called-meets p course h stack is true shallow zero own le = meets-untold (engine memory cog) _
         called-meets p course h stack is true shallow (suc f) own le =
             pays memory cog c p q (length xs) (mark ∷ marks) course h stack own (suc f) _
             (let few : length c.calls < 127 = omega (arith, ltb-true (length c.calls + 1) 128 shallow) in
-            subst (λ (d : Course State). M memory cog f d (follows frame (length c.calls + 1 + 1) f own)) (sym (is own ∙ allowed-is own few)) (begun-meets f own le few).meets)
+            subst (λ (d : Course State). M memory cog f d (course_of (follows frame (length c.calls + 1 + 1) f own))) (sym (is own ∙ allowed-is own few)) (begun-meets f own le few).meets)
         called-meets p course h stack is false shallow f own le =
             pays memory cog c p q (length xs) (mark ∷ marks) course h stack own f _
             (subst (λ (d : Course State). M memory cog (less f) d (Stop Why.Deep)) (sym (is own ∙ deep-is own (omega (arith, ltb-false (length c.calls + 1) 128 shallow)))) (meets-halt (engine memory cog) (less f) Why.Deep))

@@ -7,7 +7,7 @@ use Rattle.p8_words.specs.Operators.{unary_value, binary_value, or_zero}
 use Rattle.p8_bcog.specs.declared.marks.Mark.{Mark}
 use Rattle.p8_kinds.specs.Values as constants
 use Rattle.std.proofs.lemmas.Bool.{eqb-true}
-use Rattle.p8_meaning.specs.Doing.{Rest}
+use Rattle.p8_meaning.specs.Doing.{Rest, for_statement}
 use Rattle.p8_meaning.specs.Programs.{object_constant, own_target, kind_of, setting_of}
 use Rattle.p8_meaning.specs.Variables.{Location, Pins, element, named, part, address_at, fetches, assigns, changes}
 use Rattle.p8_meaning.specs.Calls.{uses, starts_method}
@@ -20,7 +20,7 @@ use Rattle.p8_compiled.proofs.Places.{at, left_on}
 use Rattle.p8_compiled.proofs.Calling.{opened-low}
 use Rattle.p8_meaning.specs.Builtins as builtins
 use Rattle.p8_compiled.proofs.Stepping.{by-gives, by-text, by-one, by-two, by-three, by-four, by-names}
-use Rattle.p8_compiled.proofs.Forms.{Working, depth, items_depth, item_depth, built_depth, begun_depth, trees_depth, names_depth, index_depth, bits_depth, room, fits_stack, marked, fits_marks, Stands, up, s, K, Then, up_all, mark_of, opens-meets, own-meets, object-meets, used-back, read-meets, assign-meets, change-meets, name-meets, constant-meets, none-meets, one-meets, two-meets, three-meets, start-meets, where-deep, Gives_at, begun_pasm-meets, begun_name-meets, item-tried, both-tried, signed_same, where-is, longer}
+use Rattle.p8_compiled.proofs.Forms.{Working, depth, items_depth, item_depth, built_depth, begun_depth, trees_depth, names_depth, index_depth, bits_depth, room, fits_stack, marked, fits_marks, Stands, up, s, K, Then, backs, for-meets, up_all, mark_of, opens-meets, own-meets, object-meets, used-back, read-meets, assign-meets, change-meets, name-meets, constant-meets, none-meets, one-meets, two-meets, three-meets, start-meets, where-deep, Gives_at, begun_pasm-meets, begun_name-meets, item-tried, both-tried, signed_same, where-is, longer}
 
 module _ (w : Working) where
   open w use {t, c, callee, abort, placed, most, ok, g, begun, top, lesser, aborts, is_instance, is_file}
@@ -35,19 +35,25 @@ module _ (w : Working) where
     evaluates-meets (node place Here) p q h b base marks xs here fits few k m = absurd h
     evaluates-meets (node place (Var v)) p q h b base marks xs here fits few k m = variable-meets v p q h b base marks xs here fits (omega (arith, few)) k m
     evaluates-meets (node place (Call stops None i name inside arguments)) p q h b base marks xs here fits few k m =
-        opens-meets w p h.0 base marks xs false stops h.2 (omega (arith, few, (fits_marks w))) b (expressions.evaluates callee (s w) abort (node place (Call stops None i name inside arguments)) k)
-        (values-meets arguments h.0 h.1 h.3 b (length xs) (mark_of w base false stops ∷ marks) xs (record { low = opened-low here.low (mark_of w base false stops); within = here.within }) (omega (arith, fits)) (omega (arith, few)) (λ values. expressions.calls_own callee (s w) abort stops (t.file.kind t.method name) values (λ x. uses x k))
-        (λ values is. own-meets w q base marks xs b here (omega (arith, fits)) (omega (arith, few)) false stops (λ x. uses x k) (used-back w q base marks xs b stops (omega (arith, fits, (fits_stack w))) k m) h.1 (t.file.kind t.method name) values
-        (subst (λ n. standing.OwnCallAt t (t.file.kind t.method name) n h.1 q) (sym is) h.4)))
+        let does : (ℕ → Rest) → Rest = λ go. expressions.makes_call callee (s w) abort stops None name (expressions.evaluates_all callee (s w) abort arguments) (expressions.indexes callee (s w) abort i) (λ x. uses x go) in
+        backs w b (at c p base marks xs) (λ back. does (λ value. back (k value))) (λ at_hand.
+        let go : ℕ → Rest = λ value. for_statement at_hand (k value) in
+        opens-meets w p h.0 base marks xs false stops h.2 (omega (arith, few, (fits_marks w))) b (does go)
+        (values-meets arguments h.0 h.1 h.3 b (length xs) (mark_of w base false stops ∷ marks) xs (record { low = opened-low here.low (mark_of w base false stops); within = here.within }) (omega (arith, fits)) (omega (arith, few)) (λ values. expressions.calls_own callee (s w) abort stops (t.file.kind t.method name) values (λ x. uses x go))
+        (λ values is. own-meets w q base marks xs b here (omega (arith, fits)) (omega (arith, few)) false stops (λ x. uses x go) (used-back w q base marks xs b stops (omega (arith, fits, (fits_stack w))) go (λ value. for-meets w q base marks (xs ++ value ∷ []) b at_hand (k value) (m value))) h.1 (t.file.kind t.method name) values
+        (subst (λ n. standing.OwnCallAt t (t.file.kind t.method name) n h.1 q) (sym is) h.4))))
     evaluates-meets (node place (Call stops (Some object) i name inside arguments)) p q h b base marks xs here fits few k m =
         let under : Stands w b (length xs) (mark_of w base false stops ∷ marks) xs = record { low = opened-low here.low (mark_of w base false stops); within = here.within } in
-        opens-meets w p h.0 base marks xs false stops h.3 (omega (arith, few, (fits_marks w))) b (expressions.evaluates callee (s w) abort (node place (Call stops (Some object) i name inside arguments)) k)
+        let does : (ℕ → Rest) → Rest = λ go. expressions.makes_call callee (s w) abort stops (Some object) name (expressions.evaluates_all callee (s w) abort arguments) (expressions.indexes callee (s w) abort i) (λ x. uses x go) in
+        backs w b (at c p base marks xs) (λ back. does (λ value. back (k value))) (λ at_hand.
+        let go : ℕ → Rest = λ value. for_statement at_hand (k value) in
+        opens-meets w p h.0 base marks xs false stops h.3 (omega (arith, few, (fits_marks w))) b (does go)
         (values-meets arguments h.0 h.1 h.4 b (length xs) (mark_of w base false stops ∷ marks) xs under (omega (arith, fits)) (omega (arith, few))
-        (λ values. expressions.indexes callee (s w) abort i (λ chosen. expressions.calls_of_object callee (s w) abort stops (t.file.kind t.method object) chosen name values (λ x. uses x k)))
+        (λ values. expressions.indexes callee (s w) abort i (λ chosen. expressions.calls_of_object callee (s w) abort stops (t.file.kind t.method object) chosen name values (λ x. uses x go)))
         (λ values is. index-meets i h.1 h.2 h.5 b (length xs) (mark_of w base false stops ∷ marks) (xs ++ values) (up_all w under values) (omega (arith, fits, is, length-append xs values)) (omega (arith, few))
-        (λ chosen. expressions.calls_of_object callee (s w) abort stops (t.file.kind t.method object) chosen name values (λ x. uses x k))
-        (λ names named. object-meets w q base marks xs b here (omega (arith, fits)) (omega (arith, few)) false stops (λ x. uses x k) (used-back w q base marks xs b stops (omega (arith, fits, (fits_stack w))) k m)
-        object name values (omega (arith, fits, is, length-append xs values, (fits_stack w))) h.2 i names named (t.file.kind t.method object) refl (subst (λ count. standing.ObjectCallAt t (t.file.kind t.method object) i name count h.2 q) (sym is) h.6))))
+        (λ chosen. expressions.calls_of_object callee (s w) abort stops (t.file.kind t.method object) chosen name values (λ x. uses x go))
+        (λ names named. object-meets w q base marks xs b here (omega (arith, fits)) (omega (arith, few)) false stops (λ x. uses x go) (used-back w q base marks xs b stops (omega (arith, fits, (fits_stack w))) go (λ value. for-meets w q base marks (xs ++ value ∷ []) b at_hand (k value) (m value)))
+        object name values (omega (arith, fits, is, length-append xs values, (fits_stack w))) h.2 i names named (t.file.kind t.method object) refl (subst (λ count. standing.ObjectCallAt t (t.file.kind t.method object) i name count h.2 q) (sym is) h.6)))))
     evaluates-meets (node place (Unary operator e)) p q h b base marks xs here fits few k m =
         where-is w (operator == 0xEC) h
         (λ h0 is. evaluates-meets e p q h0 b base marks xs here (omega (arith, fits)) (omega (arith, few)) (λ a. k (unary_value operator a))

@@ -7,7 +7,7 @@ use Rattle.p8_tree.specs.declared.places.Place.{Place}
 use Rattle.p8_tree.specs.Heights.{height}
 use Rattle.p8_tree.specs.Proper.{IfThere, IsProperExpression, IsDone, IsProperTest, AreProperTests, IsProperCourse, IsProperStatement, AreProperStatements, AreProperArms, AreProperChoices, IsProperOtherwise}
 use Rattle.p8_tree.specs.Expressions.{Tree, node, Number, Str, Here, Var, Call, Unary, Binary, Assign, Change, Address, ObjectAddress, ObjConst, Built, Look, Variable, Named, Part, Memory, Register, no_index, index, Item, single, range, Items, no_items, ◌▸◌}
-use Rattle.p8_tree.specs.Statements.{Course as Loop, Forever, Count, Before, After, From, Statement, statement, Do, If, Case, Repeat, Next, Quit, Return, Abort, arm, Otherwise, nothing_else, otherwise, Statements, no_statements, ◌▹◌, Arms, no_arms, ◌⊳◌}
+use Rattle.p8_tree.specs.Statements.{Course as Loop, Forever, Count, Before, After, From, Statement, statement, Action, Do, If, Case, Repeat, Next, Quit, Return, Abort, arm, Otherwise, nothing_else, otherwise, Statements, no_statements, ◌▹◌, Arms, no_arms, ◌⊳◌}
 use Rattle.p8_bcog.specs.declared.marks.Mark.{Mark}
 use Rattle.p8_bcog.specs.declared.state.State.{State}
 use Rattle.p8_bcog.specs.declared.step.Wanted.TheVariants as wanted_case
@@ -16,7 +16,7 @@ use Rattle.p8_bcog.specs.Newest.{trapping}
 use Rattle.p8_bcog.specs.Places as places
 use Rattle.p8_bcog.specs.Calls as calling
 use Rattle.p8_meaning.specs.Values.{holds, stepped}
-use Rattle.p8_meaning.specs.Doing.{Registers, Rest, costs}
+use Rattle.p8_meaning.specs.Doing.{Registers, Rest, course_of, for_statement, costs}
 use Rattle.p8_meaning.specs.Variables.{Location, named, stores, assigns, changes_alone}
 use Rattle.p8_meaning.specs.Calls.{Returned, Value, Result}
 use Rattle.p8_meaning.specs.Loops.{passes, counted}
@@ -34,7 +34,7 @@ use Rattle.p8_compiled.proofs.Stack.{one-is, two-is, three-is}
 use Rattle.p8_compiled.proofs.Places.{at, follows-read, follows-write}
 use Rattle.p8_compiled.proofs.Stepping.{less, less-le, M, pays, by, by-course, by-one, by-two, by-three}
 use Rattle.p8_compiled.proofs.Calling.{opened-low, Above, GivesBack, Returns, called, back-unused}
-use Rattle.p8_compiled.proofs.Forms.{Working, Stands, Then, K, E, s, room, marked, fits_stack, fits_marks, up, longer, mark_of, opens-meets, own-meets, object-meets, assign-meets, change_alone-meets, up_all}
+use Rattle.p8_compiled.proofs.Forms.{Working, Stands, Then, backs, for-meets, K, E, s, room, marked, fits_stack, fits_marks, up, longer, mark_of, opens-meets, own-meets, object-meets, assign-meets, change_alone-meets, up_all}
 use Rattle.p8_compiled.proofs.Evaluating.{evaluates-meets, names-meets, index-meets, values-meets, built-meets}
 
 module _ (w : Working) where
@@ -100,7 +100,7 @@ module _ (w : Working) where
 
   -- what follows a jump that pays for one of the bound
   abbrev pub Paid : (b : ℕ) → (Registers → State) → Rest → Type 0
-  Paid b state r = (f : ℕ) (own : Registers) → f ≤ b → M t.memory t.cog (less f) (Finish (state own)) (r f own)
+  Paid b state r = (f : ℕ) (own : Registers) → f ≤ b → M t.memory t.cog (less f) (Finish (state own)) (course_of (r f own))
 
   paid : (b : ℕ) (state : Registers → State) (r : Rest) → Then w b state r → Paid b state r
   paid b state r m f own le = weaken (E w) (less-le f) (m f own le).meets
@@ -123,7 +123,7 @@ module _ (w : Working) where
   jump-meets p q target h b xs r m f own le = by t.memory t.cog c p q (length g.stack) g.marks (bodies.jumps target) h xs own f r (m f own le)
 
   jump_paid-meets : (p q target : ℕ) → At t p (bodies.jumps target) q → (b : ℕ) (xs : List ℕ) (r : Rest) → Paid b (St target xs) r → Then w b (St p xs) r
-  jump_paid-meets p q target h b xs r m f own le = record { meets = pays t.memory t.cog c p q (length g.stack) g.marks (bodies.jumps target) h xs own f (r f own) (m f own le) }
+  jump_paid-meets p q target h b xs r m f own le = record { meets = pays t.memory t.cog c p q (length g.stack) g.marks (bodies.jumps target) h xs own f (course_of (r f own)) (m f own le) }
 
   at-end : {p q : ℕ} (b : ℕ) (xs : List ℕ) (r : Rest) → p ≡ q → Then w b (St q xs) r → Then w b (St p xs) r
   at-end b xs r is m f own le = subst (λ (place : ℕ). K w f own (Finish (St place xs own)) r) (sym is) (m f own le)
@@ -157,26 +157,35 @@ module _ (w : Working) where
   act-meets : (e : Tree) (p q : ℕ) → bodies.ActAt t e p q → height e ≤ 64 → (b : ℕ) (xs : List ℕ) → Fine b xs → length xs + act_depth e ≤ room w → (k : Rest) → Then w b (St q xs) k → Then w b (St p xs) (expressions.acts callee (s w) abort e k)
   act-meets (node place (Var (Named name no_index inside))) p q h low b xs here fits k m =
       let high : length g.marks ≤ marked w = omega (arith, few_marks) in
-      opens-meets w p h.0 (length g.stack) g.marks xs true false h.1 (omega (arith, high, fits_marks w)) b (expressions.acts callee (s w) abort (node place (Var (Named name no_index inside))) k)
-      (λ f own le. subst (λ (ys : List ℕ). K w f own (Finish (at c h.0 (length xs) (mark_of w (length g.stack) true false ∷ g.marks) ys own)) (expressions.acts callee (s w) abort (node place (Var (Named name no_index inside))) k)) (append-nil xs)
-      (own-meets w q (length g.stack) g.marks xs b here (omega (arith, fits)) high true false (λ x. k) (unused-back q xs b false k m) h.0 (t.file.kind t.method name) [] h.2 f own le))
+      let does : Rest → Rest = λ go. expressions.calls_own callee (s w) abort false (t.file.kind t.method name) [] (λ x. go) in
+      backs w b (St p xs) (λ back. does (back k)) (λ at_hand.
+      let go : Rest = for_statement at_hand k in
+      opens-meets w p h.0 (length g.stack) g.marks xs true false h.1 (omega (arith, high, fits_marks w)) b (does go)
+      (λ f own le. subst (λ (ys : List ℕ). K w f own (Finish (at c h.0 (length xs) (mark_of w (length g.stack) true false ∷ g.marks) ys own)) (does go)) (append-nil xs)
+      (own-meets w q (length g.stack) g.marks xs b here (omega (arith, fits)) high true false (λ x. go) (unused-back q xs b false go (for-meets w q (length g.stack) g.marks xs b at_hand k m)) h.0 (t.file.kind t.method name) [] h.2 f own le)))
   act-meets (node place (Call stops None i name inside arguments)) p q h low b xs here fits k m =
       let high : length g.marks ≤ marked w = omega (arith, few_marks) in
-      opens-meets w p h.0 (length g.stack) g.marks xs true stops h.2 (omega (arith, high, fits_marks w)) b (expressions.acts callee (s w) abort (node place (Call stops None i name inside arguments)) k)
-      (values-meets w arguments h.0 h.1 h.3 b (length xs) (mark_of w (length g.stack) true stops ∷ g.marks) xs (record { low = opened-low here.low (mark_of w (length g.stack) true stops); within = here.within }) (omega (arith, fits)) (omega (arith, low, few_marks)) (λ values. expressions.calls_own callee (s w) abort stops (t.file.kind t.method name) values (λ x. k))
-      (λ values is. own-meets w q (length g.stack) g.marks xs b here (omega (arith, fits)) high true stops (λ x. k) (unused-back q xs b stops k m) h.1 (t.file.kind t.method name) values
-      (subst (λ n. standing.OwnCallAt t (t.file.kind t.method name) n h.1 q) (sym is) h.4)))
+      let does : Rest → Rest = λ go. expressions.makes_call callee (s w) abort stops None name (expressions.evaluates_all callee (s w) abort arguments) (expressions.indexes callee (s w) abort i) (λ x. go) in
+      backs w b (St p xs) (λ back. does (back k)) (λ at_hand.
+      let go : Rest = for_statement at_hand k in
+      opens-meets w p h.0 (length g.stack) g.marks xs true stops h.2 (omega (arith, high, fits_marks w)) b (does go)
+      (values-meets w arguments h.0 h.1 h.3 b (length xs) (mark_of w (length g.stack) true stops ∷ g.marks) xs (record { low = opened-low here.low (mark_of w (length g.stack) true stops); within = here.within }) (omega (arith, fits)) (omega (arith, low, few_marks)) (λ values. expressions.calls_own callee (s w) abort stops (t.file.kind t.method name) values (λ x. go))
+      (λ values is. own-meets w q (length g.stack) g.marks xs b here (omega (arith, fits)) high true stops (λ x. go) (unused-back q xs b stops go (for-meets w q (length g.stack) g.marks xs b at_hand k m)) h.1 (t.file.kind t.method name) values
+      (subst (λ n. standing.OwnCallAt t (t.file.kind t.method name) n h.1 q) (sym is) h.4))))
   act-meets (node place (Call stops (Some object) i name inside arguments)) p q h low b xs here fits k m =
       let high : length g.marks ≤ marked w = omega (arith, few_marks) in
       let mark : Mark = mark_of w (length g.stack) true stops in
       let under : Stands w b (length xs) (mark ∷ g.marks) xs = record { low = opened-low here.low mark; within = here.within } in
-      opens-meets w p h.0 (length g.stack) g.marks xs true stops h.3 (omega (arith, high, fits_marks w)) b (expressions.acts callee (s w) abort (node place (Call stops (Some object) i name inside arguments)) k)
+      let does : Rest → Rest = λ go. expressions.makes_call callee (s w) abort stops (Some object) name (expressions.evaluates_all callee (s w) abort arguments) (expressions.indexes callee (s w) abort i) (λ x. go) in
+      backs w b (St p xs) (λ back. does (back k)) (λ at_hand.
+      let go : Rest = for_statement at_hand k in
+      opens-meets w p h.0 (length g.stack) g.marks xs true stops h.3 (omega (arith, high, fits_marks w)) b (does go)
       (values-meets w arguments h.0 h.1 h.4 b (length xs) (mark ∷ g.marks) xs under (omega (arith, fits)) (omega (arith, low, few_marks))
-      (λ values. expressions.indexes callee (s w) abort i (λ chosen. expressions.calls_of_object callee (s w) abort stops (t.file.kind t.method object) chosen name values (λ x. k)))
+      (λ values. expressions.indexes callee (s w) abort i (λ chosen. expressions.calls_of_object callee (s w) abort stops (t.file.kind t.method object) chosen name values (λ x. go)))
       (λ values is. index-meets w i h.1 h.2 h.5 b (length xs) (mark ∷ g.marks) (xs ++ values) (up_all w under values) (omega (arith, fits, is, length-append xs values)) (omega (arith, low, few_marks))
-      (λ chosen. expressions.calls_of_object callee (s w) abort stops (t.file.kind t.method object) chosen name values (λ x. k))
-      (λ names named. object-meets w q (length g.stack) g.marks xs b here (omega (arith, fits)) high true stops (λ x. k) (unused-back q xs b stops k m)
-      object name values (omega (arith, fits, is, length-append xs values, fits_stack w)) h.2 i names named (t.file.kind t.method object) refl (subst (λ count. standing.ObjectCallAt t (t.file.kind t.method object) i name count h.2 q) (sym is) h.6))))
+      (λ chosen. expressions.calls_of_object callee (s w) abort stops (t.file.kind t.method object) chosen name values (λ x. go))
+      (λ names named. object-meets w q (length g.stack) g.marks xs b here (omega (arith, fits)) high true stops (λ x. go) (unused-back q xs b stops go (for-meets w q (length g.stack) g.marks xs b at_hand k m))
+      object name values (omega (arith, fits, is, length-append xs values, fits_stack w)) h.2 i names named (t.file.kind t.method object) refl (subst (λ count. standing.ObjectCallAt t (t.file.kind t.method object) i name count h.2 q) (sym is) h.6)))))
   act-meets (node place (Change v change)) p q h low b xs here fits k m =
       names-meets w v p h.0 h.1 b (length g.stack) g.marks xs here (omega (arith, fits)) (omega (arith, low, few_marks)) (λ where_is. changes_alone (s w) change where_is k)
       (λ names is. change_alone-meets w h.0 q (length g.stack) g.marks xs here.low.low b (omega (arith, fits, fits_stack w)) v h.2 change h.3 names is k m)
@@ -271,8 +280,8 @@ module _ (w : Working) where
     more-meets p2 p3 q h b xs here fits n more is r m zero own le = record { meets = meets-untold (E w) (St p3 (xs ++ n ∷ []) own) }
     more-meets p2 p3 q h b xs here fits n more is r m (suc f) own le = record {
       meets =
-          pays t.memory t.cog c p3 q (length g.stack) g.marks (takes_one 1 (bodies.ends_loop p2)) h (xs ++ n ∷ []) own (suc f) (r f own)
-          (subst (λ (d : Course State). M t.memory t.cog f d (r f own)) (sym (one-is (St q (xs ++ n ∷ []) own) xs n 1 (bodies.ends_loop p2) (refl, here.low.low, fits)
+          pays t.memory t.cog c p3 q (length g.stack) g.marks (takes_one 1 (bodies.ends_loop p2)) h (xs ++ n ∷ []) own (suc f) (course_of (r f own))
+          (subst (λ (d : Course State). M t.memory t.cog f d (course_of (r f own))) (sym (one-is (St q (xs ++ n ∷ []) own) xs n 1 (bodies.ends_loop p2) (refl, here.low.low, fits)
           ∙ ap (λ (left : ℕ). Finish (if left == 0 then St q xs own else St p2 (xs ++ left ∷ []) own)) is
           ∙ ap (λ (so : Bool). Finish (if so then St q xs own else St p2 (xs ++ suc more ∷ []) own)) (not_zero more))) (m f own le).meets);
     }
@@ -316,7 +325,7 @@ module _ (w : Working) where
           (λ y f own le. record {
             meets =
                 pays t.memory t.cog c h.1 q (length g.stack) g.marks (takes_two 0 (bodies.steps_by_one t v target)) h.4 ((xs ++ x ∷ []) ++ y ∷ []) own f _
-                (subst (λ (d : Course State). M t.memory t.cog (less f) d (statements.steps most_passes callee (s w) return abort counter 1 x y again k f own)) (sym (two-is (St q ((xs ++ x ∷ []) ++ y ∷ []) own) xs x y 0 (bodies.steps_by_one t v target) (append_assoc xs (x ∷ []) (y ∷ []), here.low.low, fits)))
+                (subst (λ (d : Course State). M t.memory t.cog (less f) d (course_of (statements.steps most_passes callee (s w) return abort counter 1 x y again k f own))) (sym (two-is (St q ((xs ++ x ∷ []) ++ y ∷ []) own) xs x y 0 (bodies.steps_by_one t v target) (append_assoc xs (x ∷ []) (y ∷ []), here.low.low, fits)))
                 (steps-follow 1 x y f own le).meets);
           }))
       pass_ends-meet from to (Some e) p h low high proper deep =
@@ -326,14 +335,14 @@ module _ (w : Working) where
           (λ y f own le. record {
             meets =
                 pays t.memory t.cog c h.2 q (length g.stack) g.marks (takes_three 0 (bodies.steps_by t v target)) h.6 (((xs ++ by ∷ []) ++ x ∷ []) ++ y ∷ []) own f _
-                (subst (λ (d : Course State). M t.memory t.cog (less f) d (statements.steps most_passes callee (s w) return abort counter by x y again k f own))
+                (subst (λ (d : Course State). M t.memory t.cog (less f) d (course_of (statements.steps most_passes callee (s w) return abort counter by x y again k f own)))
                 (sym (three-is (St q (((xs ++ by ∷ []) ++ x ∷ []) ++ y ∷ []) own) xs by x y 0 (bodies.steps_by t v target) (append_assoc (xs ++ by ∷ []) (x ∷ []) (y ∷ []) ∙ append_assoc xs (by ∷ []) (x ∷ y ∷ []), here.low.low, fits)))
                 (steps-follow by x y f own le).meets);
           })))
 
     -- ---- loops
 
-    m-if : (so : Bool) (count f : ℕ) (own : Registers) (x y : State) (r u : Rest) → M t.memory t.cog count (Finish x) (r f own) → M t.memory t.cog count (Finish y) (u f own) → M t.memory t.cog count (Finish (if so then x else y)) ((if so then r else u) f own)
+    m-if : (so : Bool) (count f : ℕ) (own : Registers) (x y : State) (r u : Rest) → M t.memory t.cog count (Finish x) (course_of (r f own)) → M t.memory t.cog count (Finish y) (course_of (u f own)) → M t.memory t.cog count (Finish (if so then x else y)) (course_of ((if so then r else u) f own))
     m-if true count f own x y r u m n = m
     m-if false count f own x y r u m n = n
 
@@ -343,8 +352,8 @@ module _ (w : Working) where
     tail-meets until e target p p1 q h jump low b xs here fits again k jumps m =
         value-meets e p p1 h low b xs here (omega (arith, fits)) (λ value. if holds until value then again else k)
         (λ value f own le. record {
-          meets = pays t.memory t.cog c p1 q (length g.stack) g.marks (takes_one 0 (bodies.jumps_where until target)) jump (xs ++ value ∷ []) own f ((if holds until value then again else k) f own)
-              (subst (λ (d : Course State). M t.memory t.cog (less f) d ((if holds until value then again else k) f own)) (sym (one-is (St q (xs ++ value ∷ []) own) xs value 0 (bodies.jumps_where until target) (refl, here.low.low, omega (arith, fits, fits_stack w))))
+          meets = pays t.memory t.cog c p1 q (length g.stack) g.marks (takes_one 0 (bodies.jumps_where until target)) jump (xs ++ value ∷ []) own f (course_of ((if holds until value then again else k) f own))
+              (subst (λ (d : Course State). M t.memory t.cog (less f) d (course_of ((if holds until value then again else k) f own))) (sym (one-is (St q (xs ++ value ∷ []) own) xs value 0 (bodies.jumps_where until target) (refl, here.low.low, omega (arith, fits, fits_stack w))))
               (m-if (holds until value) (less f) f own (St target xs own) (St q xs own) again k (jumps f own le) (paid b (St q xs) k m f own le)));
         })
 
@@ -452,29 +461,45 @@ module _ (w : Working) where
         one_fits : (e : Tree) (xs : List ℕ) → length xs + depth e ≤ room w → length xs + 1 ≤ 16384
         one_fits e xs fits = omega (arith, fits, fits_stack w, depth-positive e)
 
+        -- what follows NEXT and QUIT, for a statement
+        around-for : (inner : Inner) (b : ℕ) (xs : List ℕ) (next quit : Rest) (place : Place) → IsAround inner b xs next quit → IsAround inner b xs (for_statement place next) (for_statement place quit)
+        around-for outside b xs next quit place around = tt
+        around-for (plain nx qt) b xs next quit place around = (λ f own le. around.0 f (record own { statement = place }) le, for-meets w qt (length g.stack) g.marks xs b place quit around.1)
+        around-for (with_count nx qt) b xs next quit place around =
+            (around.0, around.1, around.2, around.3, λ f own le. around.4 f (record own { statement = place }) le, for-meets w qt (length g.stack) g.marks around.1 b place quit around.5)
+
         mutual
           statement-meets : (x : Statement) (inner : Inner) (p q : ℕ) → bodies.StatementAt t x inner p q → IsProperStatement x → (b : ℕ) (xs : List ℕ) → Fine b xs → length xs + statement_depth x ≤ room w → (next quit k : Rest) → IsAround inner b xs next quit → Then w b (St q xs) k →
               Then w b (St p xs) (statements.executes most_passes callee (s w) return abort x next quit k)
-          statement-meets (statement place (Do e)) inner p q h proper b xs here fits next quit k around m = act-meets e p q h (done-low e proper) b xs here fits k m
-          statement-meets (statement place (If arms other)) inner p q h proper b xs here fits next quit k around m =
+          statement-meets (statement place action) inner p q h proper b xs here fits next quit k around m =
+              let does : (Rest → Rest) → Rest = λ back. statements.acts_out most_passes callee (s w) return abort action (back next) (back quit) (back k) in
+              backs w b (St p xs) (λ back. for_statement place (does back))
+              (λ outer. for-meets w p (length g.stack) g.marks xs b place (does (for_statement outer))
+              (action-meets place action inner p q h proper b xs here fits (for_statement outer next) (for_statement outer quit) (for_statement outer k) (around-for inner b xs next quit outer around)
+              (for-meets w q (length g.stack) g.marks xs b outer k m)))
+
+          action-meets : (place : Place) (action : Action) (inner : Inner) (p q : ℕ) → bodies.StatementAt t (statement place action) inner p q → IsProperStatement (statement place action) → (b : ℕ) (xs : List ℕ) → Fine b xs → length xs + statement_depth (statement place action) ≤ room w → (next quit k : Rest) → IsAround inner b xs next quit → Then w b (St q xs) k →
+              Then w b (St p xs) (statements.acts_out most_passes callee (s w) return abort action next quit k)
+          action-meets place (Do e) inner p q h proper b xs here fits next quit k around m = act-meets e p q h (done-low e proper) b xs here fits k m
+          action-meets place (If arms other) inner p q h proper b xs here fits next quit k around m =
               arms-meet arms inner q p h.0 h.1 proper.1 b xs here (omega (arith, fits)) next quit k (statements.executes_other most_passes callee (s w) return abort other next quit k) around m
               (other-meets other inner h.0 q h.2 proper.2 b xs here (omega (arith, fits)) next quit k around m)
-          statement-meets (statement place (Case e arms other)) inner p q h proper b xs here fits next quit k around m =
+          action-meets place (Case e arms other) inner p q h proper b xs here fits next quit k around m =
               let rest : Rest = statements.executes_other most_passes callee (s w) return abort other next quit k in
               value-meets e p h.0 h.4 proper.0.1 b xs here (omega (arith, fits)) (λ value. statements.matches most_passes callee (s w) return abort value arms next quit k rest)
               (λ value. choices-meet value arms inner q h.0 h.1 h.5 proper.1 b xs here (omega (arith, fits)) next quit k rest around m
               (drop-meets h.1 h.2 h.6 b xs here (omega (arith, fits)) value rest
               (other-meets other inner h.2 h.3 h.7 proper.2 b xs here (omega (arith, fits)) next quit k around (end-meets h.3 q h.8 b xs k m))))
-          statement-meets (statement place (Repeat loop body)) inner p q h proper b xs here fits next quit k around m =
+          action-meets place (Repeat loop body) inner p q h proper b xs here fits next quit k around m =
               repeats-meet loop (bodies.BodyAt t body) (body_depth body) (statements.executes_all most_passes callee (s w) return abort body)
               (λ inner p q h b xs here fits next quit k around m. body-meets body inner p q h proper.1 b xs here fits next quit k around m) p q h proper.0 b xs here fits k m
-          statement-meets (statement place Next) inner p q h proper b xs here fits next quit k around m = next-meets inner p q h b xs next quit around
-          statement-meets (statement place Quit) inner p q h proper b xs here fits next quit k around m = quit-meets inner p q h b xs here (omega (arith, fits)) next quit around
-          statement-meets (statement place (Return None)) inner p q h proper b xs here fits next quit k around m = return_result-meets p q h b xs here
-          statement-meets (statement place (Return (Some e))) inner p q h proper b xs here fits next quit k around m =
+          action-meets place Next inner p q h proper b xs here fits next quit k around m = next-meets inner p q h b xs next quit around
+          action-meets place Quit inner p q h proper b xs here fits next quit k around m = quit-meets inner p q h b xs here (omega (arith, fits)) next quit around
+          action-meets place (Return None) inner p q h proper b xs here fits next quit k around m = return_result-meets p q h b xs here
+          action-meets place (Return (Some e)) inner p q h proper b xs here fits next quit k around m =
               value-meets e p h.0 h.1 proper.1 b xs here fits (λ value. return (Value value)) (λ value. return_value-meets h.0 q h.2 b xs here (one_fits e xs fits) value)
-          statement-meets (statement place (Abort None)) inner p q h proper b xs here fits next quit k around m = abort_result-meets p q h b xs here
-          statement-meets (statement place (Abort (Some e))) inner p q h proper b xs here fits next quit k around m =
+          action-meets place (Abort None) inner p q h proper b xs here fits next quit k around m = abort_result-meets p q h b xs here
+          action-meets place (Abort (Some e)) inner p q h proper b xs here fits next quit k around m =
               value-meets e p h.0 h.1 proper.1 b xs here fits (λ value. abort (Value value)) (λ value. abort_value-meets h.0 q h.2 b xs here (one_fits e xs fits) value)
 
           pub body-meets : (body : Statements) (inner : Inner) (p q : ℕ) → bodies.BodyAt t body inner p q → AreProperStatements body → (b : ℕ) (xs : List ℕ) → Fine b xs → length xs + body_depth body ≤ room w → (next quit k : Rest) → IsAround inner b xs next quit → Then w b (St q xs) k →

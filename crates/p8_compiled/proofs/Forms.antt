@@ -25,7 +25,7 @@ use Rattle.p8_tree.specs.Sources.{MethodTree}
 use Rattle.std.proofs.lemmas.Bool.{lt-ltb, lt-leb, ltb-true}
 use Rattle.p8_bcog.specs.Places as places
 use Rattle.p8_meaning.specs.Values.{changed, gives_old, count_of, is_between, sum_of, difference, distance, toward}
-use Rattle.p8_meaning.specs.Doing.{Registers, Rest, Gives, halts, untold, asks, tells, reads, writes_longs, given}
+use Rattle.p8_meaning.specs.Doing.{Registers, Rest, Gives, for_statement, comes_back, halts, untold, asks, tells, reads, writes_longs, given}
 use Rattle.p8_meaning.specs.Programs.{File, Scope, Target, object_target, target_of, instance_at, own_target, kind_of, setting_of, locals_size}
 use Rattle.p8_meaning.specs.Variables.{Location, Hub, named, fetches, stores, reduced, assigns, changes, changes_alone, replaces}
 use Rattle.p8_meaning.specs.Calls.{Callee, Returned, uses, calls, method_of, starts_method}
@@ -151,6 +151,13 @@ module _ (w : Working) where
   -- what a state follows, with each bound up to b
   abbrev pub Then : (b : ℕ) → (Registers → State) → Rest → Type 0
   Then b state r = (f : ℕ) (own : Registers) → f ≤ b → K f own (Finish (state own)) r
+
+  -- what comes back to the statement at hand, whichever it is
+  pub backs : (b : ℕ) (state : Registers → State) (does : (Rest → Rest) → Rest) → ((place : Place) → Then b state (does (for_statement place))) → Then b state (comes_back does)
+  backs b state does m f own le = record { meets = (m own.statement f own le).meets }
+
+  pub for-meets : (q base : ℕ) (marks : List Mark) (xs : List ℕ) (b : ℕ) (place : Place) (r : Rest) → Then b (at c q base marks xs) r → Then b (at c q base marks xs) (for_statement place r)
+  for-meets q base marks xs b place r m f own le = record { meets = (m f (record own { statement = place }) le).meets }
 
   finish-left : (q base : ℕ) (marks : List Mark) (xs : List ℕ) (used : Bool) (value f : ℕ) (own : Registers) (r : Rest) → K f own (Finish (at c q base marks (left_on used xs value) own)) r → K f own (Finish (left_by (if_used used value) (at c q base marks xs own))) r
   finish-left q base marks xs true value f own r m = m
@@ -399,9 +406,13 @@ module _ (w : Working) where
         ((value : ℕ) → Then b (at c q base marks (xs ++ value ∷ [])) (k value)) → Then b (at c p base marks xs) (expressions.value_of_kind callee s abort name kind k)
     kind-meets here high few fits name v reads (Some (kind_case.Const value)) h k m f own le = by-gives t.memory t.cog c p q base marks xs own low f (k value) value h fits (m value f own le)
     kind-meets here high few fits name v reads (Some (kind_case.Method n params)) h k m f own le =
-        opens-meets p h.0 base marks xs false false h.1 (omega (arith, few, fits_marks)) b (expressions.value_of_kind callee s abort name (Some (kind_case.Method n params)) k)
-        (λ f own le. subst (λ (ys : List ℕ). K f own (Finish (at c h.0 (length xs) (mark_of base false false ∷ marks) ys own)) (expressions.value_of_kind callee s abort name (Some (kind_case.Method n params)) k)) (append-nil xs)
-        (own-meets q base marks xs b here high few false false (λ x. uses x k) (used-back q base marks xs b false fits k m) h.0 (Some (kind_case.Method n params)) [] h.2 f own le)) f own le
+        backs b (at c p base marks xs) (λ back. expressions.calls_own callee s abort false (Some (kind_case.Method n params)) [] (λ x. uses x (λ value. back (k value)))) (λ place.
+        let go : ℕ → Rest = λ value. for_statement place (k value) in
+        let does : Rest = expressions.calls_own callee s abort false (Some (kind_case.Method n params)) [] (λ x. uses x go) in
+        opens-meets p h.0 base marks xs false false h.1 (omega (arith, few, fits_marks)) b does
+        (λ f own le. subst (λ (ys : List ℕ). K f own (Finish (at c h.0 (length xs) (mark_of base false false ∷ marks) ys own)) does) (append-nil xs)
+        (own-meets q base marks xs b here high few false false (λ x. uses x go)
+        (used-back q base marks xs b false fits go (λ value. for-meets q base marks (xs ++ value ∷ []) b place (k value) (m value))) h.0 (Some (kind_case.Method n params)) [] h.2 f own le))) f own le
     kind-meets here high few fits name v reads (Some (kind_case.Global size offset)) h k m f own le = reads h k m f own le
     kind-meets here high few fits name v reads (Some (kind_case.Local offset)) h k m f own le = reads h k m f own le
     kind-meets here high few fits name v reads (Some (kind_case.Label size)) h k m f own le = reads h k m f own le

@@ -7,7 +7,7 @@ use Rattle.p8_access.specs.declared.kinds.Answer.{Answer}
 use Rattle.p8_access.specs.Lives.{is_last}
 use Rattle.p8_access.specs.Courses.{Course, Finish, Stop, Ask, Told, Wants, Leaves, Closes, told}
 use Rattle.p8_compiled.specs.Keeps.{forgets}
-use Rattle.p8_meaning.specs.Doing.{Registers, Rest, halts, asks, word_in}
+use Rattle.p8_meaning.specs.Doing.{Registers, Rest, course_of, halts, asks, word_in}
 use Rattle.p8_access.specs.Replays.{Engine, told_step, told_after}
 
 module _ {S : Type 0} (e : Engine S) where
@@ -83,7 +83,7 @@ module _ {S : Type 0} (e : Engine S) where
   -- ---- the same of what is still to be done, with this bound and these registers; there are at least so many bytecodes
 
   pub record Follows (count f : ℕ) (own : Registers) (d : Course S) (r : Rest) : Type 0 where
-    pub meets : Meets count d (r f own)
+    pub meets : Meets count d (course_of (r f own))
 
   pub follows-if : (b : Bool) {count f : ℕ} {own : Registers} {d c : Course S} {r t : Rest} → Follows count f own d r → Follows count f own c t → Follows count f own (if b then d else c) (if b then r else t)
   follows-if true m n = m

@@ -16,7 +16,7 @@ use Rattle.p8_bcog.specs.Accesses.{ends}
 use Rattle.p8_bcog.specs.Code.{method_at}
 use Rattle.p8_bcog.specs.Replay.{first_of, first_with, enters_at}
 use Rattle.p8_bcog.specs.Calls as calling
-use Rattle.p8_meaning.specs.Doing.{Registers, Rest, untold, given}
+use Rattle.p8_meaning.specs.Doing.{Registers, Rest, course_of, untold, for_statement, given}
 use Rattle.p8_meaning.specs.Programs.{Program, Addresses, File, Scope, Target, frame_size, locals_size, setting_of}
 use Rattle.p8_meaning.specs.Calls.{Returned, Result, method_of}
 use Rattle.p8_meaning.specs.Statements as statements
@@ -36,7 +36,7 @@ use Rattle.p8_meaning.proofs.GrowingForms.{life-goes}
 use Rattle.p8_meaning.specs.Bounds.{made_of, IsSettled, IsBeginning}
 use Rattle.p8_compiled.proofs.Ends.{settled-later, made-later}
 use Rattle.p8_compiled.proofs.Calling.{Room, CallsOk, Returns, Aborts, frame_of, follows-gives}
-use Rattle.p8_compiled.proofs.Forms.{Working, Stands}
+use Rattle.p8_compiled.proofs.Forms.{Working, Stands, for-meets}
 use Rattle.p8_compiled.proofs.Executing.{body-meets, return_result-meets}
 
 -- the first of some accesses, all of which a source makes
@@ -105,17 +105,17 @@ module _ (memory : List ℕ) (cog : ℕ) (program : Program) (addresses : Addres
 
     -- the body of the method
     pub method-meets : (own : Registers) → F memory cog f own (Finish (at here (method_at memory target.instance.base target.instance.variables target.method).entry (length stack) marks stack own))
-        (statements.executes_all (suc d) (meaning d program addresses par) scope return abort tree.body untold untold (return (Result frame)))
+        (statements.executes_all (suc d) (meaning d program addresses par) scope return abort tree.body untold untold (for_statement tree.place (return (Result frame))))
     method-meets own =
         let code = is_placed.code in
-        subst (λ (s : Scope). F memory cog f own (Finish (at here (method_at memory target.instance.base target.instance.variables target.method).entry (length stack) marks stack own)) (statements.executes_all (suc d) (meaning d program addresses par) s return abort tree.body untold untold (return (Result frame)))) scope-is
-        (body-meets working (suc d) return (omega (arith, within)) returns tree.body outside _ code.0 code.2 is_placed.proper f stack starts (omega (arith, room.values, is_placed.shallow)) untold untold (return (Result frame)) tt
-        (return_result-meets working (suc d) return (omega (arith, within)) returns code.0 code.1 code.3 f stack starts) f own (omega arith))
+        subst (λ (s : Scope). F memory cog f own (Finish (at here (method_at memory target.instance.base target.instance.variables target.method).entry (length stack) marks stack own)) (statements.executes_all (suc d) (meaning d program addresses par) s return abort tree.body untold untold (for_statement tree.place (return (Result frame))))) scope-is
+        (body-meets working (suc d) return (omega (arith, within)) returns tree.body outside _ code.0 code.2 is_placed.proper f stack starts (omega (arith, room.values, is_placed.shallow)) untold untold (for_statement tree.place (return (Result frame))) tt
+        (for-meets working code.0 (length stack) marks stack f tree.place (return (Result frame)) (return_result-meets working (suc d) return (omega (arith, within)) returns code.0 code.1 code.3 f stack starts)) f own (omega arith))
 
   -- what a method does after the writes that begin it
   abbrev body : (par d : ℕ) (target : Target) (file : File) (tree : MethodTree) (frame active : ℕ) (return abort : Returned → Rest) → Rest
   body par d target file tree frame active return abort =
-      statements.executes_all (suc d) (meaning d program addresses par) (scope_with program addresses par target file tree frame active) return abort tree.body untold untold (return (Result frame))
+      statements.executes_all (suc d) (meaning d program addresses par) (scope_with program addresses par target file tree frame active) return abort tree.body untold untold (for_statement tree.place (return (Result frame)))
 
   size-is : (frame size count locals declared : ℕ) → size ≡ (4 * count + locals) % 2 ^ 16 → locals ≡ declared → (frame + 4 + size) % 2 ^ 16 ≡ (frame + 4 + (4 * count + declared)) % 2 ^ 16
   size-is frame size count locals declared is same = omega (arith, is, same)
@@ -157,8 +157,8 @@ module _ (memory : List ℕ) (cog : ℕ) (program : Program) (addresses : Addres
       let begins_at : Course State = enters_at (first_with entry target.instance.base target.instance.variables frame (frame_size file tree)) in
       let means : Option File → Rest = λ o. given o (λ file. given (method_of file target.method) (λ m. begins (suc f) (meaning f program addresses frame) (scope_with program addresses frame target file m frame 1) m [] (stops cog) (stops cog))) in
       let means_tree : Option MethodTree → Rest = λ o. given o (λ m. begins (suc f) (meaning f program addresses frame) (scope_with program addresses frame target file m frame 1) m [] (stops cog) (stops cog)) in
-      subst (λ (o : Option File). M memory cog f begins_at (means o f cleared)) (sym is_file)
-      (subst (λ (o : Option MethodTree). M memory cog f begins_at (means_tree o f cleared)) (sym is_tree)
+      subst (λ (o : Option File). M memory cog f begins_at (course_of (means o f cleared))) (sym is_file)
+      (subst (λ (o : Option MethodTree). M memory cog f begins_at (course_of (means_tree o f cleared))) (sym is_tree)
       (follows-asks (engine memory cog) _ (λ word. body frame f target file tree frame 1 (stops cog) (stops cog))
       (λ answer. method-meets f frame (calls-ok frame f) target is_instance file is_file tree is_tree frame (frame_size file tree) [] refl [] []
       (record { values = omega arith; opened = omega arith; few = omega arith; below = refl }) (stops cog) (stops cog) f (omega arith) (first-returns f frame) (first-aborts f frame) cleared)).meets)

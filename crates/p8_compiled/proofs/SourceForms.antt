@@ -9,8 +9,9 @@ use Rattle.p8_access.specs.declared.kinds.Access.TheVariants as asked
 use Rattle.p8_tree.specs.Names.{result_word}
 use Rattle.p8_tree.specs.Expressions.{Tree, node, Number, Str, Here, Var, Call, Unary, Binary, Assign, Change, Address, ObjectAddress, ObjConst, Built, Look, Variable, Named, Part, Memory, Register, Index, no_index, index, Bits, whole, bits, Item, single, range, Trees, no_trees, ◌▷◌, Items, no_items, ◌▸◌}
 use Rattle.p8_tree.specs.Lists.{count_of_trees, tree_list}
+use Rattle.p8_tree.specs.declared.places.Place.{Place}
 use Rattle.p8_tree.specs.Sources.{MethodTree}
-use Rattle.p8_tree.specs.Statements.{Course as Loop, Forever, Count, Before, After, From, Statement, statement, Do, If, Case, Repeat, Next, Quit, Return, Abort, arm, Otherwise, nothing_else, otherwise, Statements, no_statements, ◌▹◌, Arms, no_arms, ◌⊳◌}
+use Rattle.p8_tree.specs.Statements.{Course as Loop, Forever, Count, Before, After, From, Statement, statement, Action, Do, If, Case, Repeat, Next, Quit, Return, Abort, arm, Otherwise, nothing_else, otherwise, Statements, no_statements, ◌▹◌, Arms, no_arms, ◌⊳◌}
 use Rattle.p8_kinds.specs.declared.name_kinds.NameKind.{NameKind}
 use Rattle.p8_kinds.specs.declared.name_kinds.NameKind.TheVariants as kind_case
 use Rattle.p8_meaning.specs.Values.{difference, is_between, holds, stepped}
@@ -125,7 +126,8 @@ module _ (program : Program) (addresses : Addresses) where
     -- a name alone
     value_of_kind-holds : (name : List ℕ) (k : Option NameKind) {g : ℕ → Rest} → L g → H (expressions.value_of_kind callee s abort name k g)
     value_of_kind-holds name (Some (kind_case.Const value)) g = g value
-    value_of_kind-holds name (Some (kind_case.Method n params)) g = calls_own-holds false (Some (kind_case.Method n params)) [] (λ x. sources.uses-holds program addresses x g)
+    value_of_kind-holds name (Some (kind_case.Method n params)) g =
+        record { by = λ b own. (calls_own-holds false (Some (kind_case.Method n params)) [] (λ x. sources.uses-holds program addresses x (λ value. sources.for_statement-holds program addresses own.statement (g value)))).by b own }
     value_of_kind-holds name (Some (kind_case.Global size offset)) g = sources.fetches-holds program addresses s (named s name 0) g
     value_of_kind-holds name (Some (kind_case.Local offset)) g = sources.fetches-holds program addresses s (named s name 0) g
     value_of_kind-holds name (Some (kind_case.Label size)) g = sources.fetches-holds program addresses s (named s name 0) g
@@ -209,9 +211,13 @@ module _ (program : Program) (addresses : Addresses) where
       evaluates-holds (node place Here) p q h g = absurd h
       evaluates-holds (node place (Var v)) p q h g = evaluates_variable-holds v p q h g
       evaluates-holds (node place (Call trap None i method at arguments)) p q h g =
-          evaluates_all-holds arguments h.0 h.1 h.3 (λ values is. calls_own-holds trap (kind method) values (λ x. sources.uses-holds program addresses x g))
+          record { by = λ b own. (evaluates_all-holds arguments h.0 h.1 h.3 (λ values is. calls_own-holds trap (kind method) values (λ x. sources.uses-holds program addresses x (λ value. sources.for_statement-holds program addresses own.statement (g value))))).by b own }
       evaluates-holds (node place (Call trap (Some object) i method at arguments)) p q h g =
-          evaluates_all-holds arguments h.0 h.1 h.4 (λ values is. indexes-holds i h.1 h.2 h.5 (λ number. calls_of_object-holds trap object (kind object) refl number method values (λ x. sources.uses-holds program addresses x g)))
+          record {
+            by = λ b own.
+                (evaluates_all-holds arguments h.0 h.1 h.4 (λ values is. indexes-holds i h.1 h.2 h.5 (λ number. calls_of_object-holds trap object (kind object) refl number method values
+                (λ x. sources.uses-holds program addresses x (λ value. sources.for_statement-holds program addresses own.statement (g value)))))).by b own;
+          }
       evaluates-holds (node place (Unary operator e)) p q h g =
           where-either (operator == 0xEC) h (λ h0. evaluates-holds e p q h0 (λ a. g _)) (λ h1. evaluates-holds e p h1.0 h1.1 (λ a. g _))
       evaluates-holds (node place (Binary operator left right)) p q h g = evaluates-holds left p h.0 h.2 (λ a. evaluates-holds right h.0 h.1 h.3 (λ b. g _))
@@ -302,10 +308,15 @@ module _ (program : Program) (addresses : Addresses) where
 
     -- an expression alone
     acts-holds : (e : Tree) (p q : ℕ) → bodies.ActAt t e p q → {r : Rest} → H r → H (expressions.acts callee s abort e r)
-    acts-holds (node place (Var (Named name no_index at))) p q h g = calls_own-holds false (kind name) [] (λ x. g)
-    acts-holds (node place (Call trap None i method at arguments)) p q h g = evaluates_all-holds arguments h.0 h.1 h.3 (λ values is. calls_own-holds trap (kind method) values (λ x. g))
+    acts-holds (node place (Var (Named name no_index at))) p q h g = record { by = λ b own. (calls_own-holds false (kind name) [] (λ x. sources.for_statement-holds program addresses own.statement g)).by b own }
+    acts-holds (node place (Call trap None i method at arguments)) p q h g =
+        record { by = λ b own. (evaluates_all-holds arguments h.0 h.1 h.3 (λ values is. calls_own-holds trap (kind method) values (λ x. sources.for_statement-holds program addresses own.statement g))).by b own }
     acts-holds (node place (Call trap (Some object) i method at arguments)) p q h g =
-        evaluates_all-holds arguments h.0 h.1 h.4 (λ values is. indexes-holds i h.1 h.2 h.5 (λ number. calls_of_object-holds trap object (kind object) refl number method values (λ x. g)))
+        record {
+          by = λ b own.
+              (evaluates_all-holds arguments h.0 h.1 h.4 (λ values is. indexes-holds i h.1 h.2 h.5 (λ number. calls_of_object-holds trap object (kind object) refl number method values
+              (λ x. sources.for_statement-holds program addresses own.statement g)))).by b own;
+        }
     acts-holds (node place (Change v change)) p q h g = locates-holds v p h.0 h.1 (λ where_is. sources.changes_alone-holds program addresses s change where_is g)
     acts-holds (node place (Assign v operator e)) p q h g =
         evaluates-holds e p h.0 h.2 (λ right. locates-holds v h.0 h.1 h.3 (λ where_is. sources.assigns-holds program addresses s operator where_is right (λ x. g)))
@@ -370,17 +381,24 @@ module _ (program : Program) (addresses : Addresses) where
 
       mutual
         executes-holds : (x : Statement) (inner : Inner) (p q : ℕ) → bodies.StatementAt t x inner p q → {n k r : Rest} → H n → H k → H r → H (statements.executes most callee s return abort x n k r)
-        executes-holds (statement place (Do e)) inner p q h next quit g = acts-holds e p q h g
-        executes-holds (statement place (If arms rest)) inner p q h next quit g = chooses-holds arms inner q p h.0 h.1 next quit g (executes_other-holds rest inner h.0 q h.2 next quit g)
-        executes-holds (statement place (Case e arms rest)) inner p q h next quit g =
+        executes-holds (statement place action) inner p q h next quit g = record {
+          by = λ b own.
+              (acts_out-holds place action inner p q h (sources.for_statement-holds program addresses own.statement next) (sources.for_statement-holds program addresses own.statement quit)
+              (sources.for_statement-holds program addresses own.statement g)).by b (record own { statement = place });
+        }
+
+        acts_out-holds : (place : Place) (action : Action) (inner : Inner) (p q : ℕ) → bodies.StatementAt t (statement place action) inner p q → {n k r : Rest} → H n → H k → H r → H (statements.acts_out most callee s return abort action n k r)
+        acts_out-holds place (Do e) inner p q h next quit g = acts-holds e p q h g
+        acts_out-holds place (If arms rest) inner p q h next quit g = chooses-holds arms inner q p h.0 h.1 next quit g (executes_other-holds rest inner h.0 q h.2 next quit g)
+        acts_out-holds place (Case e arms rest) inner p q h next quit g =
             evaluates-holds e p h.0 h.4 (λ value. matches-holds value arms inner q h.0 h.1 h.5 next quit g (executes_other-holds rest inner h.2 h.3 h.7 next quit g))
-        executes-holds (statement place (Repeat loop body)) inner p q h next quit g = repeats-holds loop (bodies.BodyAt t body) (λ i a b k. record { by = executes_all-holds body i a b k }) p q h g
-        executes-holds (statement place Next) inner p q h next quit g = next
-        executes-holds (statement place Quit) inner p q h next quit g = quit
-        executes-holds (statement place (Return None)) inner p q h next quit g = return_holds (Result frame)
-        executes-holds (statement place (Return (Some e))) inner p q h next quit g = evaluates-holds e p h.0 h.1 (λ value. return_holds (Value value))
-        executes-holds (statement place (Abort None)) inner p q h next quit g = abort_holds (Result frame)
-        executes-holds (statement place (Abort (Some e))) inner p q h next quit g = evaluates-holds e p h.0 h.1 (λ value. abort_holds (Value value))
+        acts_out-holds place (Repeat loop body) inner p q h next quit g = repeats-holds loop (bodies.BodyAt t body) (λ i a b k. record { by = executes_all-holds body i a b k }) p q h g
+        acts_out-holds place Next inner p q h next quit g = next
+        acts_out-holds place Quit inner p q h next quit g = quit
+        acts_out-holds place (Return None) inner p q h next quit g = return_holds (Result frame)
+        acts_out-holds place (Return (Some e)) inner p q h next quit g = evaluates-holds e p h.0 h.1 (λ value. return_holds (Value value))
+        acts_out-holds place (Abort None) inner p q h next quit g = abort_holds (Result frame)
+        acts_out-holds place (Abort (Some e)) inner p q h next quit g = evaluates-holds e p h.0 h.1 (λ value. abort_holds (Value value))
 
         pub executes_all-holds : (body : Statements) (inner : Inner) (p q : ℕ) → bodies.BodyAt t body inner p q → {n k r : Rest} → H n → H k → H r → H (statements.executes_all most callee s return abort body n k r)
         executes_all-holds no_statements inner p q h next quit g = g

@@ -14,7 +14,7 @@ use Rattle.p8_compiled.specs.Bodies.{outside}
 use Rattle.p8_compiled.specs.Keeps.{Placed, entered}
 use Rattle.p8_compiled.specs.Told.{FramesFit}
 use Rattle.p8_compiled.proofs.Starts.{StaysInProject}
-use Rattle.p8_compiled.proofs.Sources.{Only, Leads, Holds, only-made, untold-holds, tells-holds, writes_longs-holds, given-holds}
+use Rattle.p8_compiled.proofs.Sources.{Only, Leads, Holds, only-made, untold-holds, for_statement-holds, tells-holds, writes_longs-holds, given-holds}
 use Rattle.p8_compiled.proofs.SourceForms.{CalleeHolds, executes_all-holds}
 
 module _ (program : Program) (addresses : Addresses) (memory : List ℕ) (cog : ℕ) (placed : Placed memory cog program addresses) (fits : FramesFit program) where
@@ -25,7 +25,7 @@ module _ (program : Program) (addresses : Addresses) (memory : List ℕ) (cog : 
       let code = (placed.method target is_instance file is_file m is_method).code in
       writes_longs-holds program addresses (0 ∷ arguments) frame
       (executes_all-holds program addresses memory cog fits callee calls par target is_instance file is_file m frame active abort aborts most return returns
-      m.body outside (entered memory cog program addresses target).entry code.0 code.2 (untold-holds program addresses) (untold-holds program addresses) (returns (Result frame)))
+      m.body outside (entered memory cog program addresses target).entry code.0 code.2 (untold-holds program addresses) (untold-holds program addresses) (for_statement-holds program addresses m.place (returns (Result frame))))
 
   meaning-by : (par most : ℕ) → CalleeHolds program addresses (meaning most program addresses par) → (target : Target) → IsInstance program addresses target.instance → (arguments : List ℕ) (frame active : ℕ) {return abort : Returned → Rest} → Leads program addresses return → Leads program addresses abort →
       Holds program addresses (meaning (suc most) program addresses par target arguments frame active return abort)

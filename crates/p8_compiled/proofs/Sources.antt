@@ -17,7 +17,8 @@ use Rattle.p8_access.specs.Courses.{Course, Finish, Stop, Ask, Told, told}
 use Rattle.p8_meaning.specs.Bounds.{made_of}
 use Rattle.p8_meaning.specs.Values.{count_of, with_pins, pins_of}
 use Rattle.p8_meaning.specs.Programs.{Program, Addresses, Scope}
-use Rattle.p8_meaning.specs.Doing.{aligned, Registers, Rest, untold, costs, halts, word_in, asks, tells, is_readable, reads, writes, writes_longs, next_address, given}
+use Rattle.p8_tree.specs.declared.places.Place.{Place}
+use Rattle.p8_meaning.specs.Doing.{aligned, Registers, Rest, course_of, untold, for_statement, costs, halts, word_in, asks, tells, is_readable, reads, writes, writes_longs, next_address, given}
 use Rattle.p8_meaning.specs.Variables.{Location, Hub, Pins, own_word, fetches, stores, reads_register, writes_register, assigns, replaces, changes, changes_alone}
 use Rattle.p8_meaning.specs.Builtins.{fills, moves, measures, compares, waits_for, long_address, does_none, does_one, does_two, does_three}
 use Rattle.p8_meaning.specs.Calls.{Returned, Value, Result, uses}
@@ -49,7 +50,7 @@ module _ (program : Program) (addresses : Addresses) where
   Only (Ask access go) = P access × ((answer : Answer) → Only (go answer))
 
   pub record Holds (r : Rest) : Type 0 where
-    pub by : (b : ℕ) (own : Registers) → Only (r b own)
+    pub by : (b : ℕ) (own : Registers) → Only (course_of (r b own))
 
   abbrev pub Leads : {A : Type 0} → (A → Rest) → Type 0
   Leads k = (x : _) → Holds (k x)
@@ -74,12 +75,15 @@ module _ (program : Program) (addresses : Addresses) where
   pub untold-holds : Holds untold
   untold-holds = record { by = λ b own. tt }
 
-  costs-by : (r : Rest) → Holds r → (b : ℕ) (own : Registers) → Only (costs r b own)
+  costs-by : (r : Rest) → Holds r → (b : ℕ) (own : Registers) → Only (course_of (costs r b own))
   costs-by r g zero own = tt
   costs-by r g (suc b) own = g.by b own
 
   pub costs-holds : {r : Rest} → Holds r → Holds (costs r)
   costs-holds {r} g = record { by = costs-by r g }
+
+  pub for_statement-holds : (place : Place) {r : Rest} → Holds r → Holds (for_statement place r)
+  for_statement-holds place g = record { by = λ b own. g.by b (record own { statement = place }) }
 
   pub halts-holds : (reason : Reason) → Holds (halts reason)
   halts-holds reason = record { by = λ b own. tt }

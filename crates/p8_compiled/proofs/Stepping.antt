@@ -7,7 +7,7 @@ use Rattle.p8_bcog.specs.declared.state.State.{State}
 use Rattle.p8_bcog.specs.Bytecodes.{bytecode, does_found}
 use Rattle.p8_bcog.specs.Code.{fetched}
 use Rattle.p8_bcog.specs.Replay.{engine_of}
-use Rattle.p8_meaning.specs.Doing.{Registers, Rest}
+use Rattle.p8_meaning.specs.Doing.{Registers, Rest, course_of}
 use Rattle.p8_compiled.specs.Courses.{Does, gives, takes_none, takes_one, takes_two, takes_three, takes_four, takes_names, takes_value}
 use Rattle.p8_compiled.specs.Standing.{gives_text}
 use Rattle.p8_compiled.proofs.Meets.{Meets, Follows, weaken, meets-step}
@@ -51,7 +51,7 @@ module _ (memory : List ℕ) (cog : ℕ) where
         one-more f (at c p base marks stack own) t (subst (λ (d : Course State). M (less f) d t) (sym (found-is p q course h (at c p base marks stack own) refl)) m)
 
     pub by : (course : State → Course State) → Does memory cog p course q → (stack : List ℕ) (own : Registers) (f : ℕ) (r : Rest) → F f own (course (at c q base marks stack own)) r → F f own (Finish (at c p base marks stack own)) r
-    by course h stack own f r m = record { meets = pays course h stack own f (r f own) (weaken engine (less-le f) m.meets) }
+    by course h stack own f r m = record { meets = pays course h stack own f (course_of (r f own)) (weaken engine (less-le f) m.meets) }
 
     -- where the course is known at this stack
     pub by-course : (course : State → Course State) → Does memory cog p course q → (stack : List ℕ) (own : Registers) (f : ℕ) (r : Rest) (d : Course State) → course (at c q base marks stack own) ≡ d → F f own d r → F f own (Finish (at c p base marks stack own)) r

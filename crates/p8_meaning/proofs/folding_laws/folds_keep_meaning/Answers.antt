@@ -1,16 +1,11 @@
 use Rattle.std.proofs.Common.{[], suc}
 use Rattle.p8_access.specs.Courses.{told}
-use Rattle.p8_meaning.specs.Doing.{course_of, statement_after}
-use Rattle.p8_meaning.specs.Lives.{says, says_for, stops, cleared}
+use Rattle.p8_meaning.specs.Doing.{course_of}
+use Rattle.p8_meaning.specs.Lives.{says, stops, cleared}
 use Rattle.p8_meaning.proofs.Meanings.{meaning-same}
 use Rattle.p8_meaning.proofs.folding_laws.folds_keep_meaning.Goals as goal
 
-pub returns-clause-accesses : goal.returns-clause-accesses
+pub returns : goal.returns
 unfolding says
-returns-clause-accesses c = λ program other are addresses target frame cog answers f i.
+returns c = λ program other are addresses target frame cog answers f i.
     told cog [] (course_of (meaning-same program other addresses frame are (suc f) target [] frame 1 (stops cog) (stops cog) i f cleared)) answers
-
-pub returns-clause-statements : goal.returns-clause-statements
-unfolding says_for
-returns-clause-statements c = λ program other are addresses target frame cog answers f i.
-    statement_after (meaning-same program other addresses frame are (suc f) target [] frame 1 (stops cog) (stops cog) i f cleared) answers
