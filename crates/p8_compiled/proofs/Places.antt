@@ -2,7 +2,6 @@
 use Rattle.std.proofs.Common.{◌≡◌, refl, subst, ℕ, Bool, true, false, List, [], ◌∷◌, ◌++◌, Option}
 use Rattle.p8_access.specs.declared.kinds.Access.TheVariants as access_case
 use Rattle.p8_access.specs.Courses.{Finish}
-use Rattle.p8_access.specs.Replays.{Engine}
 use Rattle.p8_bcog.specs.declared.calls.Call.{Call}
 use Rattle.p8_bcog.specs.declared.marks.Mark.{Mark}
 use Rattle.p8_bcog.specs.declared.state.State.{State}
@@ -10,12 +9,13 @@ use Rattle.p8_bcog.specs.declared.step.Wanted.{Wanted}
 use Rattle.p8_bcog.specs.Accesses.{ends, is_readable}
 use Rattle.p8_bcog.specs.Operands.{left_by}
 use Rattle.p8_bcog.specs.Places as places
+use Rattle.p8_meaning.specs.Values.{with_pins}
 use Rattle.p8_meaning.specs.Doing.{Registers, Rest}
 use Rattle.p8_meaning.specs.Programs.{Scope}
 use Rattle.p8_meaning.specs.Variables.{Location, Hub, Pins, fetches, stores, reduced}
 use Rattle.p8_compiled.specs.Courses.{place_of}
 use Rattle.p8_compiled.specs.Standing.{IsRegister, is_par, is_cnt, is_ina, is_outa, is_dira}
-use Rattle.p8_compiled.proofs.Meets.{Follows, meets-ask, follows-if, follows-halts, follows-asks}
+use Rattle.p8_compiled.proofs.Meets.{Reading, Follows, meets-ask, follows-if, follows-halts, follows-asks}
 
 -- what of a cog stays the same while a method's body is carried out
 pub record Frame : Type 0 where
@@ -59,7 +59,7 @@ pub reduced-is : (where_is : Location) (value : ℕ) → places.reduced (place_o
 reduced-is (Hub width address) value = refl
 reduced-is (Pins register high low) value = refl
 
-module _ (e : Engine State) (c : Frame) (q base : ℕ) (marks : List Mark) (stack : List ℕ) where
+module _ (e : Reading State) (c : Frame) (q base : ℕ) (marks : List Mark) (stack : List ℕ) where
   -- a read
   pub follows-read : (s : Scope) → s.par ≡ c.par → (wanted : Wanted) (where_is : Location) → IsThere false where_is → (count f : ℕ) (own : Registers) (go : ℕ → Rest) →
       ((value : ℕ) → Follows e count f own (places.uses wanted (place_of where_is) value (at c q base marks stack own)) (go value)) →
@@ -82,5 +82,5 @@ module _ (e : Engine State) (c : Frame) (q base : ℕ) (marks : List Mark) (stac
       Follows e count f own (places.writes_place (place_of where_is) value left (at c q base marks stack own)) (stores where_is value go)
   unfolding places.writes_place places.writes_register ends
   follows-write (Hub width address) there value left count f own go m = follows-asks e _ (λ word. go) (λ answer. m own)
-  follows-write (Pins register high low) is_outa value left count f own go m = record { meets = meets-ask e count _ (λ answer. (m _).meets) }
-  follows-write (Pins register high low) is_dira value left count f own go m = record { meets = meets-ask e count _ (λ answer. (m _).meets) }
+  follows-write (Pins register high low) is_outa value left count f own go m = record { meets = meets-ask e count _ (λ answer. (m (record own { outa = with_pins high low value own.outa })).meets) }
+  follows-write (Pins register high low) is_dira value left count f own go m = record { meets = meets-ask e count _ (λ answer. (m (record own { dira = with_pins high low value own.dira })).meets) }

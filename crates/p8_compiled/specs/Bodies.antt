@@ -1,6 +1,7 @@
 -- Where the code of statements stands, and of methods.
 use Rattle.std.specs.Prelude.{ℕ, ◌==◌, ◌≡◌, ◌⊎◌, Bool, true, false, [], Option, Some, None, if◌then◌else◌}
 use Rattle.p8_access.specs.Courses.{Course, Finish}
+use Rattle.p8_tree.specs.declared.places.Place.{Place}
 use Rattle.p8_tree.specs.Lists.{count_of_trees}
 use Rattle.p8_tree.specs.Expressions.{Tree, node, Var, Call, Assign, Change, Built, Variable, Named, no_index, Item, single, range, Items, no_items, ◌▸◌}
 use Rattle.p8_tree.specs.Statements.{Course as Loop, Forever, Count, Before, After, From, Statement, statement, Do, If, Case, Repeat, Next, Quit, Return, Abort, arm, Otherwise, nothing_else, otherwise, Statements, no_statements, ◌▹◌, Arms, no_arms, ◌⊳◌}
@@ -11,7 +12,7 @@ use Rattle.p8_bcog.specs.Places as places
 use Rattle.p8_bcog.specs.Calls as calling
 use Rattle.p8_meaning.specs.Values.{holds}
 use Rattle.p8_compiled.specs.Courses.{takes_one, takes_two, takes_three, takes_value, goes_to, goes_if, drops}
-use Rattle.p8_compiled.specs.Standing.{Compiled, At, site_of, writes, opens, OwnCallAt, ObjectCallAt, AssignAt, ChangeAt, HasRegister, ValueAt, NamesAt, IndexAt, ValuesAt, BuiltAt}
+use Rattle.p8_compiled.specs.Standing.{Compiled, on, At, site_of, writes, opens, OwnCallAt, ObjectCallAt, AssignAt, ChangeAt, HasRegister, ValueAt, NamesAt, IndexAt, ValuesAt, BuiltAt}
 
 -- ---- what the bytecodes of statements do
 
@@ -111,17 +112,17 @@ LoopAt t (From name from to step place) Body p q =
 
 abbrev mutual
   pub StatementAt : Compiled → Statement → Inner → (p q : ℕ) → Type 0
-  StatementAt t (statement place (Do e)) inner p q = ActAt t e p q
-  StatementAt t (statement place (If arms other)) inner p q = (p1 : ℕ) × ArmsAt t arms inner q p p1 × OtherAt t other inner p1 q
+  StatementAt t (statement place (Do e)) inner p q = ActAt (on t place) e p q
+  StatementAt t (statement place (If arms other)) inner p q = (p1 : ℕ) × ArmsAt t place arms inner q p p1 × OtherAt t other inner p1 q
   StatementAt t (statement place (Case e arms other)) inner p q =
-      (p1 p2 p3 p4 : ℕ) × ValueAt t e p p1 × ChoicesAt t arms inner q p1 p2 × At t p2 (takes_one 0 drops) p3 × OtherAt t other inner p3 p4 × EndAt t p4 q
-  StatementAt t (statement place (Repeat course body)) inner p q = LoopAt t course (BodyAt t body) p q
-  StatementAt t (statement place Next) inner p q = NextAt t inner p q
-  StatementAt t (statement place Quit) inner p q = QuitAt t inner p q
-  StatementAt t (statement place (Return None)) inner p q = At t p (calling.return_result t.cog) q
-  StatementAt t (statement place (Return (Some e))) inner p q = (p1 : ℕ) × ValueAt t e p p1 × At t p1 (calling.return_value t.cog) q
-  StatementAt t (statement place (Abort None)) inner p q = At t p (calling.abort_result t.cog) q
-  StatementAt t (statement place (Abort (Some e))) inner p q = (p1 : ℕ) × ValueAt t e p p1 × At t p1 (calling.abort_value t.cog) q
+      (p1 p2 p3 p4 : ℕ) × ValueAt (on t place) e p p1 × ChoicesAt t place arms inner q p1 p2 × At (on t place) p2 (takes_one 0 drops) p3 × OtherAt t other inner p3 p4 × EndAt (on t place) p4 q
+  StatementAt t (statement place (Repeat course body)) inner p q = LoopAt (on t place) course (BodyAt t body) p q
+  StatementAt t (statement place Next) inner p q = NextAt (on t place) inner p q
+  StatementAt t (statement place Quit) inner p q = QuitAt (on t place) inner p q
+  StatementAt t (statement place (Return None)) inner p q = At (on t place) p (calling.return_result t.cog) q
+  StatementAt t (statement place (Return (Some e))) inner p q = (p1 : ℕ) × ValueAt (on t place) e p p1 × At (on t place) p1 (calling.return_value t.cog) q
+  StatementAt t (statement place (Abort None)) inner p q = At (on t place) p (calling.abort_result t.cog) q
+  StatementAt t (statement place (Abort (Some e))) inner p q = (p1 : ℕ) × ValueAt (on t place) e p p1 × At (on t place) p1 (calling.abort_value t.cog) q
 
   pub BodyAt : Compiled → Statements → Inner → (p q : ℕ) → Type 0
   BodyAt t no_statements inner p q = p ≡ q
@@ -132,18 +133,18 @@ abbrev mutual
   OtherAt t (otherwise body) inner p q = BodyAt t body inner p q
 
   -- the arms of an IF chain, from p up to where none holds; `end` is after the chain
-  pub ArmsAt : Compiled → Arms → Inner → (end p q : ℕ) → Type 0
-  ArmsAt t no_arms inner end p q = p ≡ q
-  ArmsAt t (arms ⊳ arm (no_items ▸ single e) negated body) inner end p q =
-      (p1 p2 p3 p4 : ℕ) × ArmsAt t arms inner end p p1 × ValueAt t e p1 p2 × At t p2 (takes_one 0 (jumps_unless negated q)) p3 × BodyAt t body inner p3 p4 × EndAt t p4 end
-  ArmsAt t (arms ⊳ last) inner end p q = ⊥
+  pub ArmsAt : Compiled → (place : Place) → Arms → Inner → (end p q : ℕ) → Type 0
+  ArmsAt t place no_arms inner end p q = p ≡ q
+  ArmsAt t place (arms ⊳ arm (no_items ▸ single e) negated body) inner end p q =
+      (p1 p2 p3 p4 : ℕ) × ArmsAt t place arms inner end p p1 × ValueAt (on t place) e p1 p2 × At (on t place) p2 (takes_one 0 (jumps_unless negated q)) p3 × BodyAt t body inner p3 p4 × EndAt (on t place) p4 end
+  ArmsAt t place (arms ⊳ last) inner end p q = ⊥
 
   -- the tests of a CASE, and somewhere the bodies of its arms
-  pub ChoicesAt : Compiled → Arms → Inner → (end p q : ℕ) → Type 0
-  ChoicesAt t no_arms inner end p q = p ≡ q
-  ChoicesAt t (arms ⊳ arm items negated body) inner end p q =
-      (p1 a a1 a2 : ℕ) × ChoicesAt t arms inner end p p1 × FitsAt t items a p1 q × At t a (takes_one 0 drops) a1 × BodyAt t body inner a1 a2 × EndAt t a2 end
+  pub ChoicesAt : Compiled → (place : Place) → Arms → Inner → (end p q : ℕ) → Type 0
+  ChoicesAt t place no_arms inner end p q = p ≡ q
+  ChoicesAt t place (arms ⊳ arm items negated body) inner end p q =
+      (p1 a a1 a2 : ℕ) × ChoicesAt t place arms inner end p p1 × FitsAt (on t place) items a p1 q × At (on t place) a (takes_one 0 drops) a1 × BodyAt t body inner a1 a2 × EndAt (on t place) a2 end
 
--- a method: its body, and a return
+-- a method: its body, and a return, which is made from no statement of the body
 abbrev pub MethodAt : Compiled → Statements → (p : ℕ) → Type 0
 MethodAt t body p = (p1 q : ℕ) × BodyAt t body outside p p1 × At t p1 (calling.return_result t.cog) q

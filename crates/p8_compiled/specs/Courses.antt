@@ -1,6 +1,7 @@
 -- What the bytecodes of a compiler do, by what they take from the operand stack and where they go on.
 use Rattle.std.specs.Prelude.{ℕ, ◌+◌, ◌-◌, ◌≡◌, Bool, true, false, List, length, drop, Option, Some, None, if◌then◌else◌}
 use Rattle.p8_access.specs.Courses.{Course, Finish}
+use Rattle.p8_tree.specs.declared.places.Place.{Place}
 use Rattle.p8_instr.specs.declared.op.Op.{Op}
 use Rattle.p8_bcog.specs.declared.state.State.{State}
 use Rattle.p8_bcog.specs.declared.place.Place as place
@@ -10,9 +11,9 @@ use Rattle.p8_bcog.specs.Code.{fetched}
 use Rattle.p8_bcog.specs.Bytecodes.{row}
 use Rattle.p8_meaning.specs.Variables.{Location, Hub, Pins}
 
--- at p stands a bytecode that does this, and q is the place after it
-abbrev pub Does : (memory : List ℕ) (cog p : ℕ) → (State → Course State) → (q : ℕ) → Type 0
-Does memory cog p course q = (op : Op) × (fetched memory p ≡ Some (op, q)) × ((s : State) → s.at ≡ q → row memory cog op s ≡ course s)
+-- at p stands a bytecode that does this, and that is made from the statement at hand; q is the place after it
+abbrev pub Does : (memory : List ℕ) (cog : ℕ) (line : ℕ → Place) (hand : Place) (p : ℕ) → (State → Course State) → (q : ℕ) → Type 0
+Does memory cog line hand p course q = (op : Op) × (fetched memory p ≡ Some (op, q)) × ((s : State) → s.at ≡ q → row memory cog op s ≡ course s) × (line p ≡ hand)
 
 abbrev pub goes_to : (p : ℕ) → State → State
 goes_to p s = record s { at = p }

@@ -7,6 +7,7 @@ use Rattle.p8_access.specs.declared.kinds.Test.TheVariants as test_case
 use Rattle.p8_access.specs.declared.kinds.Reason.TheVariants as Why
 use Rattle.p8_access.specs.declared.kinds.Access.TheVariants as access_case
 use Rattle.p8_access.specs.Courses.{Course, Finish, Stop}
+use Rattle.p8_tree.specs.declared.places.Place.{Place}
 use Rattle.p8_tree.specs.Names.{result_word}
 use Rattle.p8_tree.specs.Expressions.{Tree, node, Number, Str, Here, Var, Call, Unary, Binary, Assign, Change, Address, ObjectAddress, ObjConst, Built, Look, Variable, Named, Part, Memory, Register, Index, no_index, index, Bits, whole, bits, Item, single, range, Trees, no_trees, ◌▷◌, Items, no_items, ◌▸◌}
 use Rattle.p8_words.specs.Operators.{unary_value, binary_value, or_zero}
@@ -104,7 +105,8 @@ pub record IsOperation (effect : ℕ) (used : Bool) (operator : ℕ) : Type 0 wh
 
 -- ---- the code of a method
 
--- which method, of which file of a project, in which memory
+-- which method, of which file of a project, in which memory; from which statement the bytecode at an address is made, and the place of the statement whose
+-- code this is
 pub record Compiled : Type 0 where
   pub memory : List ℕ
   pub cog : ℕ
@@ -113,6 +115,12 @@ pub record Compiled : Type 0 where
   pub number : ℕ
   pub file : File
   pub method : ℕ
+  pub line : ℕ → Place
+  pub hand : Place
+
+-- the code of a statement
+abbrev pub on : Compiled → Place → Compiled
+on t hand = record t { hand = hand }
 
 -- where the method is read, as the cog stands there
 abbrev pub scope_of : Compiled → State → Scope
@@ -137,7 +145,7 @@ abbrev pub names_method : Compiled → List ℕ → Bool
 names_method t name = is_method_kind (t.file.kind t.method name)
 
 abbrev pub At : Compiled → (p : ℕ) → (State → Course State) → (q : ℕ) → Type 0
-At t p course q = Does t.memory t.cog p course q
+At t p course q = Does t.memory t.cog t.line t.hand p course q
 
 abbrev pub site_of : Compiled → Variable → List ℕ → State → place.Place
 site_of t v names st = place_of (site (scope_of t st) v names)

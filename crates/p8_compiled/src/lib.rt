@@ -8,7 +8,7 @@ mod laws;
 mod template_laws;
 mod told_laws;
 
-pub use laws::code_keeps_meaning;
+pub use laws::{accesses_are_asked_for_their_statements, code_keeps_meaning};
 pub use template_laws::{
     code_ends_where_its_bytes_do, templates_have_operations, templates_stand, widths_move_places,
 };

@@ -20,7 +20,7 @@ use Rattle.p8_kinds.specs.declared.name_kinds.NameKind.{NameKind}
 use Rattle.p8_kinds.specs.declared.name_kinds.NameKind.TheVariants as kind
 use Rattle.p8_words.specs.Operators.{unary_values, binary_values}
 use Rattle.p8_meaning.specs.Programs.{File, Program, Addresses, Instance, Target}
-use Rattle.p8_meaning.specs.Lives.{says}
+use Rattle.p8_meaning.specs.Lives.{says, says_for}
 
 -- ---- trees, all at one place
 
@@ -321,3 +321,46 @@ measured : runs (one_method (no_statements ▹ act (Repeat (After true (node her
     ≡ Wants (Write Long 0x28 0 ∷ Write Byte 0x24 255 ∷ Read Byte 0 ∷ Read Byte 1 ∷ Read Byte 2 ∷ Read Byte 3 ∷ []) (CogStop 0)
 unfolding says
 measured = refl
+
+-- VAR
+--   long a
+-- PUB main | i
+--   a := 1
+--   repeat i from 0 to 2
+--     a := i
+abbrev place : ℕ → Place
+place line = record { line = line; column = 3 }
+
+abbrev placed : File
+placed = file
+    (method true (codes "MAIN") [] (codes "I" ∷ [])
+    (no_statements ▹ statement (place 4) (Do (node here (Assign (variable (codes "A")) None (number 1))))
+    ▹ statement (place 5) (Repeat (From (codes "I") (number 0) (number 2) None here) (no_statements ▹ statement (place 6) (Do (node here (Assign (variable (codes "A")) None (read (codes "I"))))))))
+    ∷ [])
+    ((codes "A", kind.Global 4 0) ∷ (codes "I", kind.Local 4) ∷ [])
+
+-- the statement for which the access is asked that comes after these answers
+abbrev asks : List Answer → Option Place
+asks answers = says_for (placed ∷ []) (addresses 0x24) (main 0x24) 0x30 0 answers 3
+
+-- `a := 1`, the loop's begin, `a := i`, and the loop again at the end of the pass
+first : asks (Done ∷ []) ≡ Some (place 4)
+unfolding says_for
+first = refl
+
+second : asks (Done ∷ Done ∷ []) ≡ Some (place 5)
+unfolding says_for
+second = refl
+
+third : asks (Done ∷ Done ∷ Done ∷ []) ≡ Some (place 6)
+unfolding says_for
+third = refl
+
+fifth : asks (Done ∷ Done ∷ Done ∷ Value 0 ∷ Done ∷ []) ≡ Some (place 5)
+unfolding says_for
+fifth = refl
+
+-- the cog's stop of itself is the method's own, at the place of its name
+last : asks (Done ∷ Done ∷ Done ∷ Value 0 ∷ Done ∷ Value 2 ∷ Done ∷ []) ≡ Some here
+unfolding says_for
+last = refl
