@@ -14,12 +14,20 @@ use Rattle.p8_bcog.specs.Bytecodes.{row}
 use Rattle.p8_gen.specs.Pieces.{Written, Piece, nothing, one, ◌⨾◌, from_start, up_to_end, up_to_jumps, of_statement, text, offset, told, jump, jump_size, end_of_jump}
 use Rattle.p8_gen.proofs.Widths.{Alike}
 use Rattle.p8_compiled.specs.Courses.{Does}
-use Rattle.std.proofs.lemmas.List.Elements.{All-append}
-use Rattle.p8_compiled.specs.Placing.{HasCode, IsNear, AreOps}
+use Rattle.std.proofs.lemmas.List.Elements.{All-append, All-nil, All-cons, All-head, All-tail}
+use Rattle.p8_compiled.specs.Placing.{HasCode, IsLine, HasLines, IsNear, AreOps}
 use Rattle.p8_compiled.proofs.Fetching.{stands-behind, lies-low, Reaches, reaches, no-first, no-second, leads-to}
 
-pub record Stand (memory : List ℕ) (base : ℕ) (a : Piece) (R : (p q : ℕ) → Type 0) : Type 0 where
-  pub by : (w : Written) → HasCode memory base (a w) → HasCode memory base w × R (base + w.end) (base + (a w).end)
+-- a memory has the code, and each bytecode of it is made from the statement of its line
+pub record Has (memory : List ℕ) (base : ℕ) (line : ℕ → Place) (w : Written) : Type 0 where
+  pub code : HasCode memory base w
+  pub lines : HasLines line base w.lines
+
+-- for code that is made from the statement at hand
+pub record Stand (memory : List ℕ) (base : ℕ) (line : ℕ → Place) (hand : Place) (a : Piece) (R : (p q : ℕ) → Type 0) : Type 0 where
+  pub by : (w : Written) → w.statement ≡ hand → Has memory base line (a w) → Has memory base line w × R (base + w.end) (base + (a w).end)
+  -- after it the same statement goes on as before
+  pub keeps : (w : Written) → (a w).statement ≡ w.statement
   -- the bytecodes that it appends are such as there are
   pub exist : (w : Written) → IsNear (a w) → IsNear w × (AreOps w.ops → AreOps (a w).ops)
 
@@ -34,98 +42,107 @@ same-jumps-at : (piece : ℕ → ℕ → Piece) (w : Written) → ((x y i j : �
 same-jumps-at piece w same = (same (piece 0 0 w).end 0 (piece 0 0 w).jumps 0).counts w w refl
 
 -- the same, for what stands there by how many jumps come before the piece and up to its end
-pub record Counted (memory : List ℕ) (base : ℕ) (a : Piece) (R : (i j p q : ℕ) → Type 0) : Type 0 where
-  pub by : (w : Written) → HasCode memory base (a w) → HasCode memory base w × R w.jumps (a w).jumps (base + w.end) (base + (a w).end)
+pub record Counted (memory : List ℕ) (base : ℕ) (line : ℕ → Place) (hand : Place) (a : Piece) (R : (i j p q : ℕ) → Type 0) : Type 0 where
+  pub by : (w : Written) → w.statement ≡ hand → Has memory base line (a w) → Has memory base line w × R w.jumps (a w).jumps (base + w.end) (base + (a w).end)
+  pub keeps : (w : Written) → (a w).statement ≡ w.statement
   pub exist : (w : Written) → IsNear (a w) → IsNear w × (AreOps w.ops → AreOps (a w).ops)
 
-module _ {memory : List ℕ} {base : ℕ} where
-  pub nothings : Stand memory base nothing (λ p q. p ≡ q)
-  nothings = record { by = λ w h. (h, refl); exist = λ w near. (near, λ are. are) }
+module _ {memory : List ℕ} {base : ℕ} {line : ℕ → Place} {hand : Place} where
+  pub nothings : Stand memory base line hand nothing (λ p q. p ≡ q)
+  nothings = record { by = λ w at h. (h, refl); keeps = λ w. refl; exist = λ w near. (near, λ are. are) }
 
-  pub both : {a b : Piece} {R S : (p q : ℕ) → Type 0} → Stand memory base a R → Stand memory base b S → Stand memory base (a ⨾ b) (λ p q. (p1 : ℕ) × R p p1 × S p1 q)
+  pub both : {a b : Piece} {R S : (p q : ℕ) → Type 0} → Stand memory base line hand a R → Stand memory base line hand b S → Stand memory base line hand (a ⨾ b) (λ p q. (p1 : ℕ) × R p p1 × S p1 q)
   both {a} {b} {R} {S} x y = record {
-    by = λ w h.
-        let v = y.by (a w) h in
-        let u = x.by w v.0 in
+    by = λ w at h.
+        let v = y.by (a w) (x.keeps w ∙ at) h in
+        let u = x.by w at v.0 in
         (u.0, (base + (a w).end, u.1, v.1));
+    keeps = λ w. y.keeps (a w) ∙ x.keeps w;
     exist = λ w near.
         let v = y.exist (a w) near in
         let u = x.exist w v.0 in
         (u.0, λ are. v.1 (u.1 are));
   }
 
-  pub three : {a b c : Piece} {R S T : (p q : ℕ) → Type 0} → Stand memory base a R → Stand memory base b S → Stand memory base c T → Stand memory base (a ⨾ b ⨾ c) (λ p q. (p1 p2 : ℕ) × R p p1 × S p1 p2 × T p2 q)
+  pub three : {a b c : Piece} {R S T : (p q : ℕ) → Type 0} → Stand memory base line hand a R → Stand memory base line hand b S → Stand memory base line hand c T → Stand memory base line hand (a ⨾ b ⨾ c) (λ p q. (p1 p2 : ℕ) × R p p1 × S p1 p2 × T p2 q)
   three {a} {b} {c} x y z = record {
-    by = λ w h.
-        let v = z.by (b (a w)) h in
-        let u = (both x y).by w v.0 in
+    by = λ w at h.
+        let v = z.by (b (a w)) ((both x y).keeps w ∙ at) h in
+        let u = (both x y).by w at v.0 in
         (u.0, (u.1.0, base + (b (a w)).end, u.1.1, u.1.2, v.1));
+    keeps = (both (both x y) z).keeps;
     exist = (both (both x y) z).exist;
   }
 
-  pub four : {a b c d : Piece} {R S T U : (p q : ℕ) → Type 0} → Stand memory base a R → Stand memory base b S → Stand memory base c T → Stand memory base d U → Stand memory base (a ⨾ b ⨾ c ⨾ d) (λ p q. (p1 p2 p3 : ℕ) × R p p1 × S p1 p2 × T p2 p3 × U p3 q)
+  pub four : {a b c d : Piece} {R S T U : (p q : ℕ) → Type 0} → Stand memory base line hand a R → Stand memory base line hand b S → Stand memory base line hand c T → Stand memory base line hand d U → Stand memory base line hand (a ⨾ b ⨾ c ⨾ d) (λ p q. (p1 p2 p3 : ℕ) × R p p1 × S p1 p2 × T p2 p3 × U p3 q)
   four {a} {b} {c} {d} x y z s = record {
-    by = λ w h.
-        let v = s.by (c (b (a w))) h in
-        let u = (three x y z).by w v.0 in
+    by = λ w at h.
+        let v = s.by (c (b (a w))) ((three x y z).keeps w ∙ at) h in
+        let u = (three x y z).by w at v.0 in
         (u.0, (u.1.0, u.1.1, base + (c (b (a w))).end, u.1.2, u.1.3, u.1.4, v.1));
+    keeps = (both (both (both x y) z) s).keeps;
     exist = (both (both (both x y) z) s).exist;
   }
 
-  -- the piece of a statement stands for the same
-  pub of : {a : Piece} {R : (p q : ℕ) → Type 0} (s : Place) → Stand memory base a R → Stand memory base (of_statement s a) R
+  -- the piece of a statement stands for the same, whichever statement is at hand around it
+  pub of : {a : Piece} {R : (p q : ℕ) → Type 0} (s : Place) → Stand memory base line s a R → Stand memory base line hand (of_statement s a) R
   of s x = record {
-    by = λ w h.
-        let v = x.by (record w { statement = s }) (record { begins = h.begins; rest = h.rest; bytes = h.bytes; ends = h.ends; near = h.near }) in
-        (record { begins = v.0.begins; rest = v.0.rest; bytes = v.0.bytes; ends = v.0.ends; near = v.0.near }, v.1);
+    by = λ w at h.
+        let v = x.by (record w { statement = s }) refl
+            (record { code = record { begins = h.code.begins; rest = h.code.rest; bytes = h.code.bytes; ends = h.code.ends; near = h.code.near }; lines = h.lines }) in
+        (record { code = record { begins = v.0.code.begins; rest = v.0.code.rest; bytes = v.0.code.bytes; ends = v.0.code.ends; near = v.0.code.near }; lines = v.0.lines }, v.1);
+    keeps = λ w. refl;
     exist = λ w near.
         let v = x.exist (record w { statement = s }) (record { low = near.low; near = near.near }) in
         (record { low = v.0.low; near = v.0.near }, v.1);
   }
 
   -- the same piece for what follows from it
-  pub so : {a : Piece} {R S : (p q : ℕ) → Type 0} → Stand memory base a R → ((p q : ℕ) → R p q → S p q) → Stand memory base a S
-  so {a} x f = record { by = λ w h. let v = x.by w h in (v.0, f (base + w.end) (base + (a w).end) v.1); exist = x.exist }
+  pub so : {a : Piece} {R S : (p q : ℕ) → Type 0} → Stand memory base line hand a R → ((p q : ℕ) → R p q → S p q) → Stand memory base line hand a S
+  so {a} x f = record { by = λ w at h. let v = x.by w at h in (v.0, f (base + w.end) (base + (a w).end) v.1); keeps = x.keeps; exist = x.exist }
 
-  pub either : {a b : Piece} {R : (p q : ℕ) → Type 0} (t : Bool) → (t ≡ true → Stand memory base a R) → (t ≡ false → Stand memory base b R) → Stand memory base (if t then a else b) R
+  pub either : {a b : Piece} {R : (p q : ℕ) → Type 0} (t : Bool) → (t ≡ true → Stand memory base line hand a R) → (t ≡ false → Stand memory base line hand b R) → Stand memory base line hand (if t then a else b) R
   either true x y = x refl
   either false x y = y refl
 
   -- ---- pieces that are told where they begin or end
 
-  pub from : {piece : ℕ → Piece} (R : (start p q : ℕ) → Type 0) → ((start : ℕ) → Stand memory base (piece start) (R (base + start))) → Stand memory base (from_start piece) (λ p q. R p p q)
-  from R x = record { by = λ w h. (x w.end).by w h; exist = λ w. (x w.end).exist w }
+  pub from : {piece : ℕ → Piece} (R : (start p q : ℕ) → Type 0) → ((start : ℕ) → Stand memory base line hand (piece start) (R (base + start))) → Stand memory base line hand (from_start piece) (λ p q. R p p q)
+  from R x = record { by = λ w at h. (x w.end).by w at h; keeps = λ w. (x w.end).keeps w; exist = λ w. (x w.end).exist w }
 
-  pub up : {piece : ℕ → Piece} (R : (end p q : ℕ) → Type 0) → ((x y : ℕ) → Alike (piece x) (piece y)) → ((end : ℕ) → Stand memory base (piece end) (R (base + end))) → Stand memory base (up_to_end piece) (λ p q. R q p q)
+  pub up : {piece : ℕ → Piece} (R : (end p q : ℕ) → Type 0) → ((x y : ℕ) → Alike (piece x) (piece y)) → ((end : ℕ) → Stand memory base line hand (piece end) (R (base + end))) → Stand memory base line hand (up_to_end piece) (λ p q. R q p q)
   up {piece} R same x = record {
-    by = λ w h.
+    by = λ w at h.
         let end : ℕ = (piece 0 w).end in
-        let v = (x end).by w h in
+        let v = (x end).by w at h in
         (v.0, subst (λ (n : ℕ). R (base + n) (base + w.end) (base + (piece end w).end)) (sym (same-end piece w same)) v.1);
+    keeps = λ w. (x (piece 0 w).end).keeps w;
     exist = λ w. (x (piece 0 w).end).exist w;
   }
 
-  pub up-jumps : {piece : ℕ → ℕ → Piece} (R : (end before p q : ℕ) → Type 0) → ((x y i j : ℕ) → Alike (piece x i) (piece y j)) → ((end before : ℕ) → Stand memory base (piece end before) (R (base + end) before))
-      → Counted memory base (up_to_jumps piece) (λ i j p q. R q j p q)
+  pub up-jumps : {piece : ℕ → ℕ → Piece} (R : (end before p q : ℕ) → Type 0) → ((x y i j : ℕ) → Alike (piece x i) (piece y j)) → ((end before : ℕ) → Stand memory base line hand (piece end before) (R (base + end) before))
+      → Counted memory base line hand (up_to_jumps piece) (λ i j p q. R q j p q)
   up-jumps {piece} R same x = record {
-    by = λ w h.
+    by = λ w at h.
         let end : ℕ = (piece 0 0 w).end in
         let before : ℕ = (piece 0 0 w).jumps in
-        let v = (x end before).by w h in (
+        let v = (x end before).by w at h in (
           v.0,
           subst (λ (n : ℕ). R (base + (piece end before w).end) n (base + w.end) (base + (piece end before w).end)) (sym (same-jumps-at piece w same))
               (subst (λ (n : ℕ). R (base + n) before (base + w.end) (base + (piece end before w).end)) (sym (same-end-at piece w same)) v.1),
         );
+    keeps = λ w. (x (piece 0 0 w).end (piece 0 0 w).jumps).keeps w;
     exist = λ w. (x (piece 0 0 w).end (piece 0 0 w).jumps).exist w;
   }
 
   -- one piece up to a number of jumps, and another one from there
-  pub meet : {a b : Piece} {R S : (i p q : ℕ) → Type 0} → Counted memory base a (λ i j p q. R j p q) → Counted memory base b (λ i j p q. S i p q) → Stand memory base (a ⨾ b) (λ p q. (i p1 : ℕ) × R i p p1 × S i p1 q)
+  pub meet : {a b : Piece} {R S : (i p q : ℕ) → Type 0} → Counted memory base line hand a (λ i j p q. R j p q) → Counted memory base line hand b (λ i j p q. S i p q) → Stand memory base line hand (a ⨾ b) (λ p q. (i p1 : ℕ) × R i p p1 × S i p1 q)
   meet {a} {b} x y = record {
-    by = λ w h.
-        let v = y.by (a w) h in
-        let u = x.by w v.0 in
+    by = λ w at h.
+        let v = y.by (a w) (x.keeps w ∙ at) h in
+        let u = x.by w at v.0 in
         (u.0, ((a w).jumps, base + (a w).end, u.1, v.1));
+    keeps = λ w. y.keeps (a w) ∙ x.keeps w;
     exist = λ w near.
         let v = y.exist (a w) near in
         let u = x.exist w v.0 in
@@ -152,21 +169,32 @@ pub jump-size : (code : ℕ) (wide : Bool) (off : ℕ) → operands_of code ≡ 
 jump-size code true off is = ap (λ found. suc (length (operand_bytes found (has_long_place (jump_op code true off)) (jump_op code true off)))) (sym is)
 jump-size code false off is = ap (λ found. suc (length (operand_bytes found (has_long_place (jump_op code false off)) (jump_op code false off)))) (sym is)
 
-module _ (memory : List ℕ) (cog base : ℕ) where
-  pub one-stand : (op : Op) (course : State → Course State) → IsOp op → ((s : State) → row memory cog op s ≡ course s) → Stand memory base (one op) (λ p q. Does memory cog p course q)
+-- the line of the last bytecode, and those before it
+pub lines-split : (line : ℕ → Place) (base : ℕ) (xs : List (ℕ × Place)) (y : ℕ × Place) → HasLines line base (xs ++ y ∷ []) → HasLines line base xs × (line (base + y.0) ≡ y.1)
+lines-split line base [] y h = (All-nil (IsLine line base), All-head (IsLine line base) y [] h)
+lines-split line base (x ∷ xs) y h =
+    let r = lines-split line base xs y (All-tail (IsLine line base) x (xs ++ y ∷ []) h) in
+    (All-cons (IsLine line base) x xs (All-head (IsLine line base) x (xs ++ y ∷ []) h) r.0, r.1)
+
+module _ (memory : List ℕ) (cog base : ℕ) (line : ℕ → Place) (hand : Place) where
+  pub one-stand : (op : Op) (course : State → Course State) → IsOp op → ((s : State) → row memory cog op s ≡ course s) → Stand memory base line hand (one op) (λ p q. Does memory cog line hand p course q)
   one-stand op course is does = record {
-    by = λ w h.
-        let b = stands-behind memory base w (one op w) op [] refl refl (sym (append-nil w.too_far)) is h in
-        (b.before, (op, b.fetches, λ s there. does s));
+    by = λ w at h.
+        let l = lines-split line base w.lines (w.end, w.statement) h.lines in
+        let b = stands-behind memory base w (one op w) op [] refl refl (sym (append-nil w.too_far)) is h.code in
+        (record { code = b.before; lines = l.0 }, (op, b.fetches, (λ s there. does s), l.1 ∙ at));
+    keeps = λ w. refl;
     exist = λ w near. one-exists w (one op w) op [] _ refl refl (sym (append-nil w.too_far)) is near;
   }
 
-  pub text-stand : (place : Place) (number : ℕ) (course : State → Course State) → IsOp (record (bare 0x87) { first = number }) → ((s : State) → row memory cog (record (bare 0x87) { first = number }) s ≡ course s) → Stand memory base (text place number) (λ p q. Does memory cog p course q)
+  pub text-stand : (place : Place) (number : ℕ) (course : State → Course State) → IsOp (record (bare 0x87) { first = number }) → ((s : State) → row memory cog (record (bare 0x87) { first = number }) s ≡ course s) → Stand memory base line hand (text place number) (λ p q. Does memory cog line hand p course q)
   text-stand place number course is does = record {
-    by = λ w h.
+    by = λ w at h.
+        let l = lines-split line base w.lines (w.end, w.statement) h.lines in
         let op : Op = record (bare 0x87) { first = number } in
-        let b = stands-behind memory base w (text place number w) op [] refl refl (sym (append-nil w.too_far)) is h in
-        (b.before, (op, b.fetches, λ s there. does s));
+        let b = stands-behind memory base w (text place number w) op [] refl refl (sym (append-nil w.too_far)) is h.code in
+        (record { code = b.before; lines = l.0 }, (op, b.fetches, (λ s there. does s), l.1 ∙ at));
+    keeps = λ w. refl;
     exist = λ w near. one-exists w (text place number w) (record (bare 0x87) { first = number }) [] _ refl refl (sym (append-nil w.too_far)) is near;
   }
 
@@ -180,19 +208,21 @@ module _ (memory : List ℕ) (cog base : ℕ) where
       record { operands = subst (λ (found : Option Operands). FitsOperands found (jump_op code wide (offset from to))) (sym is) (refl, r.is_offset) }
 
   pub jump-stand : (wide : ℕ → Bool) (statement : Place) (code to : ℕ) (course : (target : ℕ) → State → Course State) → operands_of code ≡ Some Offset
-      → ((form : Bool) (off : ℕ) (s : State) → row memory cog (jump_op code form off) s ≡ course ((s.at + off) % 2 ^ 16) s) → Stand memory base (jump wide statement code to) (λ p q. Does memory cog p (course (base + to)) q)
+      → ((form : Bool) (off : ℕ) (s : State) → row memory cog (jump_op code form off) s ≡ course ((s.at + off) % 2 ^ 16) s) → Stand memory base line hand (jump wide statement code to) (λ p q. Does memory cog line hand p (course (base + to)) q)
   jump-stand wide statement code to course is does = record {
-    by = λ w h.
+    by = λ w at h.
+        let l = lines-split line base w.lines (w.end, w.statement) h.lines in
         let v : Written = jump wide statement code to w in
         let form : Bool = wide w.jumps in
         let end : ℕ = end_of_jump wide w in
         let off : ℕ = offset end to in
         let op : Op = jump_op code form off in
-        let low : base + end ≤ 32768 = lies-low memory base w v op refl h in
-        let r : Reaches form end to = reaches form statement end to (no-far form statement w end to h.near) in
+        let low : base + end ≤ 32768 = lies-low memory base w v op refl h.code in
+        let r : Reaches form end to = reaches form statement end to (no-far form statement w end to h.code.near) in
         let is_op : IsOp op = jump-is code form end to is r in
-        let b = stands-behind memory base w v op (told form statement end to) refl (ap (λ n. w.end + n) (jump-size code form off is)) refl is_op h in
-        (b.before, (op, b.fetches, λ s there. does form off s ∙ ap (λ target. course target s) (leads-to form base end to s.at there r low)));
+        let b = stands-behind memory base w v op (told form statement end to) refl (ap (λ n. w.end + n) (jump-size code form off is)) refl is_op h.code in
+        (record { code = b.before; lines = l.0 }, (op, b.fetches, (λ s there. does form off s ∙ ap (λ target. course target s) (leads-to form base end to s.at there r low)), l.1 ∙ at));
+    keeps = λ w. refl;
     exist = λ w near.
         let v : Written = jump wide statement code to w in
         let form : Bool = wide w.jumps in

@@ -1,5 +1,6 @@
 -- Where a memory has the bytes of a method's code.
-use Rattle.std.specs.Prelude.{◌≡◌, ℕ, ◌≤◌, List, [], ◌++◌, length, drop, All}
+use Rattle.std.specs.Prelude.{◌≡◌, ℕ, ◌+◌, ◌≤◌, List, [], ◌++◌, length, drop, All}
+use Rattle.p8_tree.specs.declared.places.Place.{Place}
 use Rattle.p8_instr.specs.declared.op.Op.{Op}
 use Rattle.p8_instr.specs.Spelling.{IsOp}
 use Rattle.p8_bcog.specs.Code.{code_of}
@@ -14,6 +15,13 @@ pub record HasCode (memory : List ℕ) (base : ℕ) (w : Written) : Type 0 where
   pub bytes : drop base (code_of memory) ≡ bytes_of w ++ rest
   pub ends : w.end ≡ length (bytes_of w)
   pub near : w.too_far ≡ []
+
+-- from the address `base` on each bytecode is made from the statement of its line
+abbrev pub IsLine : (line : ℕ → Place) (base : ℕ) → ℕ × Place → Type 0
+IsLine line base x = line (base + x.0) ≡ x.1
+
+abbrev pub HasLines : (line : ℕ → Place) (base : ℕ) → List (ℕ × Place) → Type 0
+HasLines line base lines = All (IsLine line base) lines
 
 -- code whose places lie within the lower half of memory, with no jump that goes too far
 pub record IsNear (w : Written) : Type 0 where

@@ -7,18 +7,19 @@ ghost use Rattle.p8_tree.specs.declared.faults.Fault.{Fault};
 ghost use Rattle.p8_kinds.specs.Misuses.{MisuseInStatements};
 ghost use Rattle.p8_gen.specs.Methods.{bytes_of, method_code};
 ghost use Rattle.p8_gen.specs.Names.{Names, widened};
-ghost use Rattle.p8_compiled.specs.Standing.{Compiled};
+ghost use Rattle.p8_compiled.specs.Standing.{Compiled, on};
 ghost use Rattle.p8_compiled.specs.Bodies.{MethodAt};
-ghost use Rattle.p8_compiled.specs.Placing.{HasCode, IsNear, AreOps};
+ghost use Rattle.p8_compiled.specs.Placing.{HasCode, HasLines, IsNear, AreOps};
 ghost use Rattle.p8_compiled.specs.Agreeing.{Agrees, environment};
 ghost use Rattle.p8_compiled.specs.Moving.{AreSameWays};
 
-/// Law: where a memory has the bytes of a method's code, there stands the method, in the sense in which code keeps its meaning.
+/// Law: where a memory has the bytes of a method's code, there stands the method, in the sense in which code keeps its meaning. Each of its bytecodes
+/// is made from the statement of its line.
 ///
 /// The statements are those of a source that was read, with each NEXT and each QUIT in a loop, and no name of theirs is used
 /// against its kind. The names of the code generator agree with those of the project and its image.
 pub fn templates_stand()
-    ensures { (n : Names) → (t : Compiled) → (base : ℕ) → Agrees n t → (ss : Statements) → AreProperStatements ss → IsTrue (leave_loops false ss) → ((f : Fault) → ¬ MisuseInStatements (environment n) ss f) → HasCode t.memory base (method_code n ss) → MethodAt t ss base }
+    ensures { (n : Names) → (t : Compiled) → (base : ℕ) → Agrees n t → (ss : Statements) → AreProperStatements ss → IsTrue (leave_loops false ss) → ((f : Fault) → ¬ MisuseInStatements (environment n) ss f) → HasCode t.memory base (method_code n ss) → HasLines t.line base (method_code n ss).lines → MethodAt (on t n.statement) ss base }
 {}
 
 /// Law: the code of a method ends where its bytes do.
