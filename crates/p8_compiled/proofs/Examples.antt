@@ -99,9 +99,13 @@ addresses = record {
   top = record { file = 0; base = 0x10; variables = 0x24 };
 }
 
+-- all bytecodes are made from statements at this place
+abbrev line : ℕ → Place
+line address = here
+
 module _ (cog : ℕ) where
   abbrev t : Compiled
-  t = record { memory = memory; cog = cog; program = program; addresses = addresses; number = 0; file = file; method = 1 }
+  t = record { memory = memory; cog = cog; program = program; addresses = addresses; number = 0; file = file; method = 1; line = line; hand = here }
 
   -- a long of the frame or of VAR is its own first element
   first_element : (address : ℕ) → address + 0 * 4 ≡ address
@@ -110,24 +114,24 @@ module _ (cog : ℕ) where
   -- 35, 38 02
   gives-0 : (p q : ℕ) → fetched memory p ≡ Some (bare 0x35, q) → At t p (gives 0) q
   unfolding row return_row constant_row
-  gives-0 p q is = (bare 0x35, is, λ s there. refl)
+  gives-0 p q is = (bare 0x35, is, (λ s there. refl), refl)
 
   gives-2 : At t 0x1D (gives 2) 0x1F
   unfolding row return_row constant_row rows
-  gives-2 = (record (bare 0x38) { first = 2 }, refl, λ s there. refl)
+  gives-2 = (record (bare 0x38) { first = 2 }, refl, (λ s there. refl), refl)
 
   -- 65, 64, 41
   writes-i : At t 0x19 (takes_value 0 0 (standing.writes t false i)) 0x1A
   unfolding row short_variable acts pops rows
-  writes-i = (bare 0x65, refl, λ s there. ap (λ address. tested 1 0 s (places.writes_place (place_case.Memory Long (address % 2 ^ 16)) (operand s 0) None (taken 1 s))) (sym (first_element (s.frame + 4))))
+  writes-i = (bare 0x65, refl, (λ s there. ap (λ address. tested 1 0 s (places.writes_place (place_case.Memory Long (address % 2 ^ 16)) (operand s 0) None (taken 1 s))) (sym (first_element (s.frame + 4)))), refl)
 
   reads-i : At t 0x1A (takes_names 0 1 (standing.reads t i)) 0x1B
   unfolding row short_variable acts pushes rows
-  reads-i = (bare 0x64, refl, λ s there. ap (λ address. tested 0 1 s (places.reads_place wanted_case.Pushed (place_case.Memory Long (address % 2 ^ 16)) (taken 0 s))) (sym (first_element (s.frame + 4))))
+  reads-i = (bare 0x64, refl, (λ s there. ap (λ address. tested 0 1 s (places.reads_place wanted_case.Pushed (place_case.Memory Long (address % 2 ^ 16)) (taken 0 s))) (sym (first_element (s.frame + 4)))), refl)
 
   writes-a : At t 0x1B (takes_value 0 0 (standing.writes t false a)) 0x1C
   unfolding row short_variable acts pops rows
-  writes-a = (bare 0x41, refl, λ s there. ap (λ address. tested 1 0 s (places.writes_place (place_case.Memory Long (address % 2 ^ 16)) (operand s 0) None (taken 1 s))) (sym (first_element (s.vbase + 0))))
+  writes-a = (bare 0x41, refl, (λ s there. ap (λ address. tested 1 0 s (places.writes_place (place_case.Memory Long (address % 2 ^ 16)) (operand s 0) None (taken 1 s))) (sym (first_element (s.vbase + 0)))), refl)
 
   -- 66 02 FF F7
   steps-i : At t 0x1F (takes_two 0 (bodies.steps_by_one t i 0x1A)) 0x23
@@ -135,14 +139,15 @@ module _ (cog : ℕ) where
   steps-i = (
     record (bare 0x66) { second = 2 ^ 32 - 9; effect = 0x02; long_form = true },
     refl,
-    λ s there. ap₂ (λ target address. tested 2 0 s (places.reads_place (wanted_case.Stepped 1 (operand s 1) (operand s 0) target) (place_case.Memory Long (address % 2 ^ 16)) (taken 2 s)))
-        (ap (λ p. (p + (2 ^ 32 - 9)) % 2 ^ 16) there) (sym (first_element (s.frame + 4))),
+    (λ s there. ap₂ (λ target address. tested 2 0 s (places.reads_place (wanted_case.Stepped 1 (operand s 1) (operand s 0) target) (place_case.Memory Long (address % 2 ^ 16)) (taken 2 s)))
+        (ap (λ p. (p + (2 ^ 32 - 9)) % 2 ^ 16) there) (sym (first_element (s.frame + 4)))),
+    refl,
   )
 
   -- 32
   returns : At t 0x23 (calling.return_result cog) 0x24
   unfolding row return_row rows
-  returns = (bare 0x32, refl, λ s there. refl)
+  returns = (bare 0x32, refl, (λ s there. refl), refl)
 
   code : bodies.MethodAt t body 0x18
   unfolding rows
@@ -181,7 +186,7 @@ module _ (cog : ℕ) where
   abbrev top : Instance
   top = addresses.top
 
-  main_placed : MethodPlaced memory cog program addresses (record { instance = top; method = 1 }) file main
+  main_placed : MethodPlaced memory cog program addresses line (record { instance = top; method = 1 }) file main
   main_placed = record { is_method = refl; entry = refl; locals = refl; code = code; proper = proper; shallow = omega arith }
 
   no_object : (x y : Bool) (item position count : ℕ) → (if x then Some (kind_case.Global 4 0) else if y then Some (kind_case.Local 4) else None) ≡ Some (kind_case.Object item position count) → ⊥
@@ -199,18 +204,19 @@ module _ (cog : ℕ) where
       absurd (no_object (bytes_eq name (codes "A")) (bytes_eq name (codes "I")) item position count
       (subst (λ (g : File). g.kind method name ≡ Some (kind_case.Object item position count)) (sym (one_file outer.file f is_file)) is_object))
 
-  one_method : (m : ℕ) (tree : MethodTree) → method_of file m ≡ Some tree → MethodPlaced memory cog program addresses (record { instance = top; method = m }) file tree
+  one_method : (m : ℕ) (tree : MethodTree) → method_of file m ≡ Some tree → MethodPlaced memory cog program addresses line (record { instance = top; method = m }) file tree
   one_method zero tree is = absurd (let no : None ≡ Some tree = is in cc)
-  one_method (suc zero) tree is = let same : main ≡ tree = cc in subst (λ (x : MethodTree). MethodPlaced memory cog program addresses (record { instance = top; method = 1 }) file x) same main_placed
+  one_method (suc zero) tree is = let same : main ≡ tree = cc in subst (λ (x : MethodTree). MethodPlaced memory cog program addresses line (record { instance = top; method = 1 }) file x) same main_placed
   one_method (suc (suc m)) tree is = absurd (let no : None ≡ Some tree = is in cc)
 
-  in_file : (m : ℕ) (f : File) → file ≡ f → (tree : MethodTree) → method_of f m ≡ Some tree → MethodPlaced memory cog program addresses (record { instance = top; method = m }) f tree
-  in_file m f same = subst (λ (g : File). (tree : MethodTree) → method_of g m ≡ Some tree → MethodPlaced memory cog program addresses (record { instance = top; method = m }) g tree) same (one_method m)
+  in_file : (m : ℕ) (f : File) → file ≡ f → (tree : MethodTree) → method_of f m ≡ Some tree → MethodPlaced memory cog program addresses line (record { instance = top; method = m }) f tree
+  in_file m f same = subst (λ (g : File). (tree : MethodTree) → method_of g m ≡ Some tree → MethodPlaced memory cog program addresses line (record { instance = top; method = m }) g tree) same (one_method m)
 
   placed : Placed memory cog program addresses
   placed = record {
+    line = line;
     method = λ target is_instance f is_file tree is_tree.
-        subst (λ (x : Instance). MethodPlaced memory cog program addresses (record { instance = x; method = target.method }) f tree) (sym (only_top target.instance is_instance))
+        subst (λ (x : Instance). MethodPlaced memory cog program addresses line (record { instance = x; method = target.method }) f tree) (sym (only_top target.instance is_instance))
         (in_file target.method f (one_file target.instance.file f is_file) tree is_tree);
     object = λ outer is_instance f is_file method name item position count is index below child is_child.
         absurd (no_object (bytes_eq name (codes "A")) (bytes_eq name (codes "I")) item position count

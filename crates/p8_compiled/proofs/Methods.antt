@@ -19,7 +19,6 @@ use Rattle.p8_bcog.specs.Calls as calling
 use Rattle.p8_tree.specs.declared.places.Place.{Place}
 use Rattle.p8_access.specs.declared.order.Turn.{Turn}
 use Rattle.p8_access.specs.Timing.{Asks, Goes}
-use Rattle.p8_access.specs.Lives.{Entered}
 use Rattle.p8_access.specs.Replays.{answer_of}
 use Rattle.p8_bcog.specs.Replay.{engine_of, lived}
 use Rattle.p8_meaning.specs.Doing.{Registers, Rest, untold, for_statement, given}

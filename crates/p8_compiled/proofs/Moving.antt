@@ -1,7 +1,6 @@
 -- How a choice of wide jumps moves the places of code: which bytes and which jumps stand before a place doesn't depend on it.
-use Rattle.std.proofs.Common.{◌≡◌, ℕ, zero, suc, subst, ap, sym, ◌∙◌, ◌+◌, ◌-◌, ◌*◌, ◌<◌, ◌≤◌, ◌^◌, ◌%◌, ◌==◌, ◌&&◌, ◌||◌, nat_le, nat_lt, Bool, true, false, not, if◌then◌else◌, List, [], ◌∷◌, ◌++◌, Option, Some, None, refl, arith, length, length-append, slice_get, inl, inr}
+use Rattle.std.proofs.Common.{◌≡◌, ℕ, zero, suc, subst, ap, sym, ◌∙◌, ◌+◌, ◌-◌, ◌*◌, ◌<◌, ◌^◌, ◌%◌, ◌==◌, ◌&&◌, ◌||◌, nat_le, nat_lt, Bool, true, false, not, if◌then◌else◌, List, [], ◌∷◌, ◌++◌, Option, Some, None, refl, arith, length, length-append, slice_get, inl, inr}
 use Rattle.std.proofs.lemmas.Bool.{cases_lt}
-use Rattle.std.proofs.lemmas.Bool.Decides.{nat_tests}
 use Rattle.std.proofs.lemmas.Option.{same_Some, none-some, slice_get_within}
 use Rattle.p8_tree.specs.declared.places.Place.{Place}
 use Rattle.p8_tree.specs.Expressions.{Tree, node, Form, Number, Str, Here, Var, Call, Unary, Binary, Assign, Change, Address, ObjectAddress, ObjConst, Built, Look, Variable, Named, Part, Memory, Register, Index, no_index, index, whole, bits, single, range, Trees, no_trees, ◌▷◌, Items, no_items, ◌▸◌}
@@ -18,13 +17,13 @@ use Rattle.p8_kinds.specs.Values as constants
 use Rattle.p8_gen.specs.Names.{Names, widened}
 use Rattle.p8_gen.specs.Methods.{method_code}
 use Rattle.p8_gen.specs.Pieces.{Written, Piece, empty, from_place, nothing, one, ◌⨾◌, from_start, up_to_end, up_to_jumps, byte, text, jump, end_of_jump, jumping, end_of_jumping, of_statement}
-use Rattle.p8_gen.specs.Variables.{number, Base, Pushed, OfObject, OfVariables, OfFrame, Home, home_at, Operation, plain_op, memory_op, short_bits, short_or_long, is_short, base_bits, home_of, Pop, Using, assigned}
+use Rattle.p8_gen.specs.Variables.{number, Base, Pushed, OfObject, OfVariables, OfFrame, Home, Operation, plain_op, memory_op, short_bits, short_or_long, is_short, base_bits, home_of, Pop, Using, assigned}
 use Rattle.p8_gen.specs.Expressions.{pasm, started, built_without, own_method, method_in, callee, name_alone, counts_from, looks_down, dropped, built_value, built, starts, starts_method, value, value_of_form, operate, in_home, values, index_value, call_of_built, arguments, looks, alone}
 use Rattle.p8_gen.specs.Statements.{Loop, inside, goes_on, leaves, with_value, test_of, tests, step_of, step_effect, plain_name, zero_jump, code, code_of, body, chain, other_body, all_tests, case_bodies}
 use Rattle.p8_compiled.specs.Moving.{spent, IsSamePlace, IsSameWay, AreSameWays}
 use Rattle.p8_compiled.proofs.Choices.{within-row}
 use Rattle.p8_compiled.proofs.Truths.{both-true, below, equal}
-use Rattle.p8_compiled.proofs.Memory.{IsShort, short-code, has_short, short-there, all-short}
+use Rattle.p8_compiled.proofs.Memory.{short-code, has_short, short-there, all-short}
 
 -- ---- how long a step of REPEAT is
 

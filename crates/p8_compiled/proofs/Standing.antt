@@ -89,7 +89,7 @@ module _ {memory : List ℕ} {base : ℕ} {line : ℕ → Place} {hand : Place} 
   of s x = record {
     by = λ w at h.
         let v = x.by (record w { statement = s }) refl
-            (record { code = record { begins = h.code.begins; rest = h.code.rest; bytes = h.code.bytes; ends = h.code.ends; near = h.code.near }; lines = h.lines }) in
+        (record { code = record { begins = h.code.begins; rest = h.code.rest; bytes = h.code.bytes; ends = h.code.ends; near = h.code.near }; lines = h.lines }) in
         (record { code = record { begins = v.0.code.begins; rest = v.0.code.rest; bytes = v.0.code.bytes; ends = v.0.code.ends; near = v.0.code.near }; lines = v.0.lines }, v.1);
     keeps = λ w. refl;
     exist = λ w near.

@@ -14,6 +14,8 @@ mod laws;
 mod loops;
 mod statements;
 
-pub use folding_laws::{folded_sources_have_folded_methods, folds_keep_meaning, folds_keep_statements};
+pub use folding_laws::{
+    folded_sources_have_folded_methods, folds_keep_meaning, folds_keep_statements,
+};
 pub use laws::{greater_bound_tells_more, source_halts_are_few};
 pub use statements::folded_body;
