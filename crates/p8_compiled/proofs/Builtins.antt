@@ -31,29 +31,29 @@ use Rattle.p8_compiled.proofs.Places.{Frame, at, left_on}
 use Rattle.p8_compiled.proofs.Stepping.{engine, F}
 use Rattle.p8_compiled.proofs.Calling.{follows-gives}
 
-module _ (memory : List ℕ) (cog : ℕ) (line : ℕ → Place) (hand : Place) (c : Frame) (q base : ℕ) (marks : List Mark) (xs : List ℕ) (f : ℕ) (own : Registers) where
+module _ (memory : List ℕ) (cog : ℕ) (table : List (ℕ × Place)) (hand : Place) (c : Frame) (q base : ℕ) (marks : List Mark) (xs : List ℕ) (f : ℕ) (own : Registers) where
   abbrev e : Reading State
-  e = engine memory cog line hand
+  e = engine memory cog table hand
 
   abbrev st : State
   st = at c q base marks xs own
 
   abbrev Leaves : (used : Bool) → (ℕ → Rest) → Type 0
-  Leaves used go = (value : ℕ) → F memory cog line hand f own (Finish (at c q base marks (left_on used xs value) own)) (go value)
+  Leaves used go = (value : ℕ) → F memory cog table hand f own (Finish (at c q base marks (left_on used xs value) own)) (go value)
 
   abbrev Goes : Rest → Type 0
-  Goes go = F memory cog line hand f own (Finish st) go
+  Goes go = F memory cog table hand f own (Finish st) go
 
-  pub word-follows : (used : Bool) (access : Access) (go : ℕ → Rest) → Leaves used go → F memory cog line hand f own (standing.word_if used access st) (asks access go)
+  pub word-follows : (used : Bool) (access : Access) (go : ℕ → Rest) → Leaves used go → F memory cog table hand f own (standing.word_if used access st) (asks access go)
   unfolding gets ends
   word-follows true access go m = follows-asks e access go (λ answer. m (word_in answer))
   word-follows false access go m = follows-asks e access go (λ answer. m (word_in answer))
 
-  pub tells-follows : (access : Access) (go : Rest) → Goes go → F memory cog line hand f own (ends access None st) (tells access go)
+  pub tells-follows : (access : Access) (go : Rest) → Goes go → F memory cog table hand f own (ends access None st) (tells access go)
   unfolding ends
   tells-follows access go m = follows-asks e access (λ word. go) (λ answer. m)
 
-  pub measures-follow : (room address count : ℕ) (go : ℕ → Rest) → Leaves true go → F memory cog line hand f own (moving.counts room address count st) (builtins.measures room address count go)
+  pub measures-follow : (room address count : ℕ) (go : ℕ → Rest) → Leaves true go → F memory cog table hand f own (moving.counts room address count st) (builtins.measures room address count go)
   unfolding moving.counts
   measures-follow zero address count go m = record { meets = (follows-halts e {count = f} {f = f} {own = own} (Why.Rom (address % 2 ^ 16 / 1 * 1))).meets }
   measures-follow (suc room) address count go m = record {
@@ -62,7 +62,7 @@ module _ (memory : List ℕ) (cog : ℕ) (line : ℕ → Place) (hand : Place) (
         (λ answer. follows-if e (word_in answer == 0) (m count) (measures-follow room (address + 1) (count + 1) go m))).meets;
   }
 
-  pub compares-follow : (room first second : ℕ) (go : ℕ → Rest) → Leaves true go → F memory cog line hand f own (moving.compares room first second st) (builtins.compares room first second go)
+  pub compares-follow : (room first second : ℕ) (go : ℕ → Rest) → Leaves true go → F memory cog table hand f own (moving.compares room first second st) (builtins.compares room first second go)
   unfolding moving.compares
   compares-follow zero first second go m = record { meets = (follows-halts e {count = f} {f = f} {own = own} (Why.Rom (first % 2 ^ 16 / 1 * 1))).meets }
   compares-follow (suc room) first second go m = record {
@@ -74,7 +74,7 @@ module _ (memory : List ℕ) (cog : ℕ) (line : ℕ → Place) (hand : Place) (
         (follows-halts e _))).meets;
   }
 
-  pub fills-follow : (left : ℕ) (width : Width) (address value : ℕ) (go : Rest) → Goes go → F memory cog line hand f own (moving.fills width address value left st) (builtins.fills width address value left go)
+  pub fills-follow : (left : ℕ) (width : Width) (address value : ℕ) (go : Rest) → Goes go → F memory cog table hand f own (moving.fills width address value left st) (builtins.fills width address value left go)
   unfolding moving.fills
   fills-follow zero width address value go m = record { meets = m.meets }
   fills-follow (suc left) width address value go m = record {
@@ -82,7 +82,7 @@ module _ (memory : List ℕ) (cog : ℕ) (line : ℕ → Place) (hand : Place) (
         (follows-asks e {count = f} {f = f} {own = own} _ (λ word. builtins.fills width (next_address width address) value left go) (λ answer. fills-follow left width (next_address width address) value go m)).meets;
   }
 
-  pub moves-follow : (left : ℕ) (width : Width) (to from : ℕ) (go : Rest) → Goes go → F memory cog line hand f own (moving.moves width to from left st) (builtins.moves width to from left go)
+  pub moves-follow : (left : ℕ) (width : Width) (to from : ℕ) (go : Rest) → Goes go → F memory cog table hand f own (moving.moves width to from left st) (builtins.moves width to from left go)
   unfolding moving.moves
   moves-follow zero width to from go m = record { meets = m.meets }
   moves-follow (suc left) width to from go m = record {
@@ -93,7 +93,7 @@ module _ (memory : List ℕ) (cog : ℕ) (line : ℕ → Place) (hand : Place) (
         (follows-halts e _)).meets;
   }
 
-  pub waits-follow : (port : ℕ) (test : Test) (go : Rest) → Goes go → F memory cog line hand f own (if port == 0 then ends (access_case.Wait test) None st else Stop Why.Port) (builtins.waits_for port test go)
+  pub waits-follow : (port : ℕ) (test : Test) (go : Rest) → Goes go → F memory cog table hand f own (if port == 0 then ends (access_case.Wait test) None st else Stop Why.Port) (builtins.waits_for port test go)
   waits-follow port test go m = follows-if e (port == 0) (tells-follows (access_case.Wait test) go m) (follows-halts e Why.Port)
 
   -- ---- a start of a method: its arguments lie above the cog's number, and its stack above them
@@ -136,7 +136,7 @@ module _ (memory : List ℕ) (cog : ℕ) (line : ℕ → Place) (hand : Place) (
     abbrev start_of : ℕ → ℕ → Access
     start_of number place = access_case.CogInit (cogs.target_of number) (cogs.spin_origin begun count place)
 
-    pub start-follows : (go : ℕ → Rest) → Leaves true go → F memory cog line hand f own (cogs.start_method memory n count held) (writes_longs ((cogs.long_address stack + 4) % 2 ^ 16) arguments (asks (start_of id stack) go))
+    pub start-follows : (go : ℕ → Rest) → Leaves true go → F memory cog table hand f own (cogs.start_method memory n count held) (writes_longs ((cogs.long_address stack + 4) % 2 ^ 16) arguments (asks (start_of id stack) go))
     unfolding cogs.start_method gets
     start-follows go m =
         let given : ℕ → ℕ → Given = λ number place. Started (cogs.target_of number) (cogs.spin_origin begun count place) (count + 2) in
@@ -146,6 +146,6 @@ module _ (memory : List ℕ) (cog : ℕ) (line : ℕ → Place) (hand : Place) (
         ∙ ap (λ (so : Bool). if not so then Stop Why.Table else after (operand held 0) (take count (drop (length full - (count + 1)) full)) (given (operand held (count + 1)) (operand held 0))) is_there
         ∙ ap₂ (λ place (values : List ℕ). after place values (given (operand held (count + 1)) place)) stack-is arguments-are
         ∙ ap (λ number. after stack arguments (given number stack)) id-is in
-        subst (λ (d : Course State). F memory cog line hand f own d (writes_longs ((cogs.long_address stack + 4) % 2 ^ 16) arguments (asks (start_of id stack) go))) (sym tests)
-        (follows-gives memory cog line hand arguments ((cogs.long_address stack + 4) % 2 ^ 16) (given id stack) held f own (asks (start_of id stack) go)
-        (follows-asks e (start_of id stack) go (λ answer. subst (λ (s : State). F memory cog line hand f own (Finish (record s { stack = s.stack ++ word_in answer ∷ [] })) (go (word_in answer))) (sym (taken-is held xs above (count + 2) full-is (omega (arith, above-count)))) (m (word_in answer)))))
+        subst (λ (d : Course State). F memory cog table hand f own d (writes_longs ((cogs.long_address stack + 4) % 2 ^ 16) arguments (asks (start_of id stack) go))) (sym tests)
+        (follows-gives memory cog table hand arguments ((cogs.long_address stack + 4) % 2 ^ 16) (given id stack) held f own (asks (start_of id stack) go)
+        (follows-asks e (start_of id stack) go (λ answer. subst (λ (s : State). F memory cog table hand f own (Finish (record s { stack = s.stack ++ word_in answer ∷ [] })) (go (word_in answer))) (sym (taken-is held xs above (count + 2) full-is (omega (arith, above-count)))) (m (word_in answer)))))

@@ -42,16 +42,16 @@ three-bytes-are code l m n is ll lm ln = with-operands (record (bare code) { fir
 
 -- ---- numbers
 
-module _ (memory : List ℕ) (cog base : ℕ) (line : ℕ → Place) (hand : Place) where
+module _ (memory : List ℕ) (cog base : ℕ) (table : List (ℕ × Place)) (hand : Place) where
   abbrev pub DoesAt : (State → Course State) → (p q : ℕ) → Type 0
-  DoesAt course p q = Does memory cog line hand p course q
+  DoesAt course p q = Does memory cog table hand p course q
 
   abbrev pub Stands : Piece → ((p q : ℕ) → Type 0) → Type 0
-  Stands a R = Stand memory base line hand a R
+  Stands a R = Stand memory base table hand a R
 
   -- a bytecode that has nothing beside its byte
   pub byte-stand : (code : ℕ) (course : State → Course State) → operands_of code ≡ Some Nothing → ((s : State) → row memory cog (bare code) s ≡ course s) → Stands (byte code) (DoesAt course)
-  byte-stand code course is does = one-stand memory cog base line hand (bare code) course (bare-is code is) does
+  byte-stand code course is does = one-stand memory cog base table hand (bare code) course (bare-is code is) does
 
   pub zero-stand : Stands (byte 0x35) (DoesAt (gives 0))
   unfolding rows row return_row constant_row
@@ -67,19 +67,19 @@ module _ (memory : List ℕ) (cog base : ℕ) (line : ℕ → Place) (hand : Pla
 
   pub byte-number-stand : (n : ℕ) → n < 2 ^ 8 → Stands (with_number 0x38 n) (DoesAt (gives n))
   unfolding rows row return_row constant_row
-  byte-number-stand n lt = one-stand memory cog base line hand (record (bare 0x38) { first = n }) (gives n) (byte-is 0x38 n refl lt) (λ s. refl)
+  byte-number-stand n lt = one-stand memory cog base table hand (record (bare 0x38) { first = n }) (gives n) (byte-is 0x38 n refl lt) (λ s. refl)
 
   word-number-stand : (n : ℕ) → n < 2 ^ 16 → Stands (with_number 0x39 n) (DoesAt (gives n))
   unfolding rows row return_row constant_row
-  word-number-stand n lt = one-stand memory cog base line hand (record (bare 0x39) { first = n }) (gives n) (with-operands (record (bare 0x39) { first = n }) (Some Word) refl (refl, lt)) (λ s. refl)
+  word-number-stand n lt = one-stand memory cog base table hand (record (bare 0x39) { first = n }) (gives n) (with-operands (record (bare 0x39) { first = n }) (Some Word) refl (refl, lt)) (λ s. refl)
 
   triple-number-stand : (n : ℕ) → n < 2 ^ 24 → Stands (with_number 0x3A n) (DoesAt (gives n))
   unfolding rows row return_row constant_row
-  triple-number-stand n lt = one-stand memory cog base line hand (record (bare 0x3A) { first = n }) (gives n) (with-operands (record (bare 0x3A) { first = n }) (Some Triple) refl (refl, lt)) (λ s. refl)
+  triple-number-stand n lt = one-stand memory cog base table hand (record (bare 0x3A) { first = n }) (gives n) (with-operands (record (bare 0x3A) { first = n }) (Some Triple) refl (refl, lt)) (λ s. refl)
 
   long-number-stand : (n : ℕ) → n < 2 ^ 32 → Stands (with_number 0x3B n) (DoesAt (gives n))
   unfolding rows row return_row constant_row
-  long-number-stand n lt = one-stand memory cog base line hand (record (bare 0x3B) { first = n }) (gives n) (with-operands (record (bare 0x3B) { first = n }) (Some Long) refl (refl, lt)) (λ s. refl)
+  long-number-stand n lt = one-stand memory cog base table hand (record (bare 0x3B) { first = n }) (gives n) (with-operands (record (bare 0x3B) { first = n }) (Some Long) refl (refl, lt)) (λ s. refl)
 
   same-number : {a : Piece} (m n : ℕ) → n ≡ m → Stands a (DoesAt (gives m)) → Stands a (DoesAt (gives n))
   same-number {a} m n is x = subst (λ (v : ℕ). Stands a (DoesAt (gives v))) (sym is) x
@@ -104,19 +104,19 @@ module _ (memory : List ℕ) (cog base : ℕ) (line : ℕ → Place) (hand : Pla
 
   pub own-call-stand : (n : ℕ) → n < 2 ^ 8 → Stands (with_number 0x05 n) (DoesAt (calling.call_own memory n))
   unfolding rows row call_row
-  own-call-stand n lt = one-stand memory cog base line hand (record (bare 0x05) { first = n }) _ (byte-is 0x05 n refl lt) (λ s. refl)
+  own-call-stand n lt = one-stand memory cog base table hand (record (bare 0x05) { first = n }) _ (byte-is 0x05 n refl lt) (λ s. refl)
 
   pub object-call-stand : (position n : ℕ) → position < 2 ^ 8 → n < 2 ^ 8 → Stands (one (record (bare 0x06) { first = position; second = n })) (DoesAt (calling.call_object memory position n))
   unfolding rows row call_row
-  object-call-stand position n lp ln = one-stand memory cog base line hand (record (bare 0x06) { first = position; second = n }) _ (two-bytes-are 0x06 position n refl lp ln) (λ s. refl)
+  object-call-stand position n lp ln = one-stand memory cog base table hand (record (bare 0x06) { first = position; second = n }) _ (two-bytes-are 0x06 position n refl lp ln) (λ s. refl)
 
   pub indexed-call-stand : (position count n : ℕ) → position < 2 ^ 8 → count < 2 ^ 8 → n < 2 ^ 8 → Stands (one (record (bare 0x07) { first = position; second = count; third = n })) (DoesAt (calling.call_indexed memory position count n))
   unfolding rows row call_row
-  indexed-call-stand position count n lp lc ln = one-stand memory cog base line hand (record (bare 0x07) { first = position; second = count; third = n }) _ (three-bytes-are 0x07 position count n refl lp lc ln) (λ s. refl)
+  indexed-call-stand position count n lp lc ln = one-stand memory cog base table hand (record (bare 0x07) { first = position; second = count; third = n }) _ (three-bytes-are 0x07 position count n refl lp lc ln) (λ s. refl)
 
   pub start-stand : (n count : ℕ) → n < 2 ^ 8 → count < 2 ^ 8 → Stands (one (record (bare 0x15) { first = n; second = count })) (DoesAt (cogs.start_method memory n count))
   unfolding rows row look_row
-  start-stand n count ln lc = one-stand memory cog base line hand (record (bare 0x15) { first = n; second = count }) _ (two-bytes-are 0x15 n count refl ln lc) (λ s. refl)
+  start-stand n count ln lc = one-stand memory cog base table hand (record (bare 0x15) { first = n; second = count }) _ (two-bytes-are 0x15 n count refl ln lc) (λ s. refl)
 
   pub return-result-stand : Stands (byte 0x32) (DoesAt (calling.return_result cog))
   unfolding rows row return_row
@@ -148,32 +148,32 @@ module _ (memory : List ℕ) (cog base : ℕ) (line : ℕ → Place) (hand : Pla
 
   pub goes-stand : (wide : ℕ → Bool) (statement : Place) (to : ℕ) → Stands (jump wide statement 0x04 to) (DoesAt (bodies.jumps (base + to)))
   unfolding rows row call_row
-  goes-stand wide statement to = jump-stand memory cog base line hand wide statement 0x04 to bodies.jumps refl (λ form off s. refl)
+  goes-stand wide statement to = jump-stand memory cog base table hand wide statement 0x04 to bodies.jumps refl (λ form off s. refl)
 
   -- a jump where the value doesn't hold
   pub unless-stand : (negated : Bool) (wide : ℕ → Bool) (statement : Place) (to : ℕ) → Stands (jump wide statement (if negated then 0x0B else 0x0A) to) (DoesAt (takes_one 0 (bodies.jumps_unless negated (base + to))))
   unfolding rows row test_row control.jump_if_zero control.jump_unless_zero
   unless-stand true wide statement to =
-      jump-stand memory cog base line hand wide statement 0x0B to (λ target. takes_one 0 (bodies.jumps_unless true target)) refl
+      jump-stand memory cog base table hand wide statement 0x0B to (λ target. takes_one 0 (bodies.jumps_unless true target)) refl
       (λ form off s. ap (λ next. tested 1 0 s (Finish next)) (sym (swapped (operand s 0 == 0) (taken 1 s) _)))
   unless-stand false wide statement to =
-      jump-stand memory cog base line hand wide statement 0x0A to (λ target. takes_one 0 (bodies.jumps_unless false target)) refl
+      jump-stand memory cog base table hand wide statement 0x0A to (λ target. takes_one 0 (bodies.jumps_unless false target)) refl
       (λ form off s. ap (λ next. tested 1 0 s (Finish next)) (swapped (operand s 0 == 0) _ (taken 1 s)))
 
   -- a jump where it does
   pub where-stand : (negated : Bool) (wide : ℕ → Bool) (statement : Place) (to : ℕ) → Stands (jump wide statement (if not negated then 0x0B else 0x0A) to) (DoesAt (takes_one 0 (bodies.jumps_where negated (base + to))))
   unfolding rows row test_row control.jump_if_zero control.jump_unless_zero
   where-stand true wide statement to =
-      jump-stand memory cog base line hand wide statement 0x0A to (λ target. takes_one 0 (bodies.jumps_where true target)) refl (λ form off s. refl)
+      jump-stand memory cog base table hand wide statement 0x0A to (λ target. takes_one 0 (bodies.jumps_where true target)) refl (λ form off s. refl)
   where-stand false wide statement to =
-      jump-stand memory cog base line hand wide statement 0x0B to (λ target. takes_one 0 (bodies.jumps_where false target)) refl (λ form off s. refl)
+      jump-stand memory cog base table hand wide statement 0x0B to (λ target. takes_one 0 (bodies.jumps_where false target)) refl (λ form off s. refl)
 
   pub loop-begins-stand : (wide : ℕ → Bool) (statement : Place) (to : ℕ) → Stands (jump wide statement 0x08 to) (DoesAt (bodies.begins_loop (base + to)))
   unfolding rows row test_row control.loop_begins
-  loop-begins-stand wide statement to = jump-stand memory cog base line hand wide statement 0x08 to bodies.begins_loop refl (λ form off s. refl)
+  loop-begins-stand wide statement to = jump-stand memory cog base table hand wide statement 0x08 to bodies.begins_loop refl (λ form off s. refl)
 
   pub loop-ends-stand : (wide : ℕ → Bool) (statement : Place) (to : ℕ) → Stands (jump wide statement 0x09 to) (DoesAt (takes_one 1 (bodies.ends_loop (base + to))))
   unfolding rows row test_row control.loop_ends
   loop-ends-stand wide statement to =
-      jump-stand memory cog base line hand wide statement 0x09 to (λ target. takes_one 1 (bodies.ends_loop target)) refl
+      jump-stand memory cog base table hand wide statement 0x09 to (λ target. takes_one 1 (bodies.ends_loop target)) refl
       (λ form off s. refl)

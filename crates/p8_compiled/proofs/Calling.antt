@@ -65,22 +65,22 @@ called c q base height marks unused traps = record {
   traps = traps;
 }
 
-module _ (memory : List ℕ) (cog : ℕ) (line : ℕ → Place) where
+module _ (memory : List ℕ) (cog : ℕ) (table : List (ℕ × Place)) where
   -- what follows a return to these calls, with each bound up to b
   pub record Returns (b : ℕ) (calls : List Call) (par : ℕ) (stack : List ℕ) (marks : List Mark) (go : Returned → Rest) : Type 0 where
-    pub by : (hand : Place) (f : ℕ) (own : Registers) → f ≤ b → (returned : Returned) (given : Option ℕ) (s : State) → Above par stack marks own s → GivesBack returned s given → F memory cog line hand f own (calling.returns cog given calls s) (go returned)
+    pub by : (hand : Place) (f : ℕ) (own : Registers) → f ≤ b → (returned : Returned) (given : Option ℕ) (s : State) → Above par stack marks own s → GivesBack returned s given → F memory cog table hand f own (calling.returns cog given calls s) (go returned)
 
   -- and an abort
   pub record Aborts (b : ℕ) (calls : List Call) (par : ℕ) (stack : List ℕ) (marks : List Mark) (go : Returned → Rest) : Type 0 where
-    pub by : (hand : Place) (f : ℕ) (own : Registers) → f ≤ b → (returned : Returned) (given : Option ℕ) (s : State) → Above par stack marks own s → GivesBack returned s given → F memory cog line hand f own (calling.aborts cog given (trapping calls) s) (go returned)
+    pub by : (hand : Place) (f : ℕ) (own : Registers) → f ≤ b → (returned : Returned) (given : Option ℕ) (s : State) → Above par stack marks own s → GivesBack returned s given → F memory cog table hand f own (calling.aborts cog given (trapping calls) s) (go returned)
 
-module _ (memory : List ℕ) (cog : ℕ) (line : ℕ → Place) (hand : Place) where
+module _ (memory : List ℕ) (cog : ℕ) (table : List (ℕ × Place)) (hand : Place) where
   -- longs that are written
-  pub follows-gives : (values : List ℕ) (address : ℕ) (given : Given) (s : State) (f : ℕ) (own : Registers) (go : Rest) → F memory cog line hand f own (calling.given_to given s) go → F memory cog line hand f own (calling.gives address values given s) (writes_longs address values go)
+  pub follows-gives : (values : List ℕ) (address : ℕ) (given : Given) (s : State) (f : ℕ) (own : Registers) (go : Rest) → F memory cog table hand f own (calling.given_to given s) go → F memory cog table hand f own (calling.gives address values given s) (writes_longs address values go)
   unfolding calling.gives
   follows-gives [] address given s f own go m = m
   follows-gives (value ∷ values) address given s f own go m =
-      follows-asks (engine memory cog line hand) _ (λ word. writes_longs (next_address Long address) values go) (λ answer. follows-gives values (next_address Long address) given s f own go m)
+      follows-asks (engine memory cog table hand) _ (λ word. writes_longs (next_address Long address) values go) (λ answer. follows-gives values (next_address Long address) given s f own go m)
 
   -- ---- back in the caller
 
@@ -99,25 +99,25 @@ module _ (memory : List ℕ) (cog : ℕ) (line : ℕ → Place) (hand : Place) w
         ∙ ap (λ p. record (at c q base marks xs own) { par = p }) above.owns.par
 
   -- the value is used, or it isn't
-  pub back-unused : (c : Frame) (q base : ℕ) (xs : List ℕ) (marks : List Mark) (traps : Bool) (f : ℕ) (own : Registers) (given : Option ℕ) (s : State) (go : Rest) → Above c.par xs marks own s → F memory cog line hand f own (Finish (at c q base marks xs own)) go → F memory cog line hand f own (calling.goes_back given (called c q base (length xs) (length marks) true traps) c.calls s) go
+  pub back-unused : (c : Frame) (q base : ℕ) (xs : List ℕ) (marks : List Mark) (traps : Bool) (f : ℕ) (own : Registers) (given : Option ℕ) (s : State) (go : Rest) → Above c.par xs marks own s → F memory cog table hand f own (Finish (at c q base marks xs own)) go → F memory cog table hand f own (calling.goes_back given (called c q base (length xs) (length marks) true traps) c.calls s) go
   unfolding calling.goes_back
-  back-unused c q base xs marks traps f own given s go above m = subst (λ (st : State). F memory cog line hand f own (Finish st) go) (sym (back-is c q base xs marks true traps own s above)) m
+  back-unused c q base xs marks traps f own given s go above m = subst (λ (st : State). F memory cog table hand f own (Finish st) go) (sym (back-is c q base xs marks true traps own s above)) m
 
-  leaves-by : (returned : Returned) (given : Option ℕ) (s st : State) (f : ℕ) (own : Registers) (go : ℕ → Rest) → GivesBack returned s given → ((value : ℕ) → F memory cog line hand f own (Finish (record st { stack = st.stack ++ value ∷ [] })) (go value)) → F memory cog line hand f own (calling.leaves_value given s.frame st) (uses returned go)
+  leaves-by : (returned : Returned) (given : Option ℕ) (s st : State) (f : ℕ) (own : Registers) (go : ℕ → Rest) → GivesBack returned s given → ((value : ℕ) → F memory cog table hand f own (Finish (record st { stack = st.stack ++ value ∷ [] })) (go value)) → F memory cog table hand f own (calling.leaves_value given s.frame st) (uses returned go)
   unfolding gets
-  leaves-by (Value value) given s st f own go is m = subst (λ (g : Option ℕ). F memory cog line hand f own (calling.leaves_value g s.frame st) (go value)) (sym is) (m value)
+  leaves-by (Value value) given s st f own go is m = subst (λ (g : Option ℕ). F memory cog table hand f own (calling.leaves_value g s.frame st) (go value)) (sym is) (m value)
   leaves-by (Result frame) given s st f own go is m =
-      subst (λ (g : Option ℕ). F memory cog line hand f own (calling.leaves_value g s.frame st) (reads Long frame go)) (sym is.0)
-      (subst (λ (at_frame : ℕ). F memory cog line hand f own (calling.leaves_value None at_frame st) (reads Long frame go)) (sym is.1)
-      (follows-if (engine memory cog line hand) (is_readable Long frame) (follows-asks (engine memory cog line hand) (read_of Long frame) go (λ answer. m _)) (follows-halts (engine memory cog line hand) _)))
+      subst (λ (g : Option ℕ). F memory cog table hand f own (calling.leaves_value g s.frame st) (reads Long frame go)) (sym is.0)
+      (subst (λ (at_frame : ℕ). F memory cog table hand f own (calling.leaves_value None at_frame st) (reads Long frame go)) (sym is.1)
+      (follows-if (engine memory cog table hand) (is_readable Long frame) (follows-asks (engine memory cog table hand) (read_of Long frame) go (λ answer. m _)) (follows-halts (engine memory cog table hand) _)))
 
   pub back-used : (c : Frame) (q base : ℕ) (xs : List ℕ) (marks : List Mark) (traps : Bool) → length xs + 1 ≤ 16384 → (f : ℕ) (own : Registers) (returned : Returned) (given : Option ℕ) (s : State) (go : ℕ → Rest) → Above c.par xs marks own s → GivesBack returned s given →
-      ((value : ℕ) → F memory cog line hand f own (Finish (at c q base marks (xs ++ value ∷ []) own)) (go value)) → F memory cog line hand f own (calling.goes_back given (called c q base (length xs) (length marks) false traps) c.calls s) (uses returned go)
+      ((value : ℕ) → F memory cog table hand f own (Finish (at c q base marks (xs ++ value ∷ []) own)) (go value)) → F memory cog table hand f own (calling.goes_back given (called c q base (length xs) (length marks) false traps) c.calls s) (uses returned go)
   unfolding calling.goes_back
   back-used c q base xs marks traps fits f own returned given s go above is m =
-      subst (λ (b : Bool). F memory cog line hand f own (if b then Stop Why.Stack else calling.leaves_value given s.frame (calling.returned (called c q base (length xs) (length marks) false traps) c.calls s)) (uses returned go))
+      subst (λ (b : Bool). F memory cog table hand f own (if b then Stop Why.Stack else calling.leaves_value given s.frame (calling.returned (called c q base (length xs) (length marks) false traps) c.calls s)) (uses returned go))
       (sym (le-ltb 16384 (length xs + 1) fits))
-      (subst (λ (st : State). F memory cog line hand f own (calling.leaves_value given s.frame st) (uses returned go)) (sym (back-is c q base xs marks false traps own s above))
+      (subst (λ (st : State). F memory cog table hand f own (calling.leaves_value given s.frame st) (uses returned go)) (sym (back-is c q base xs marks false traps own s above))
       (leaves-by returned given s (at c q base marks xs own) f own go is m))
 
 -- ---- calls
@@ -190,34 +190,34 @@ pub record Room (calls : List Call) (stack : List ℕ) (marks : List Mark) : Typ
   pub few : length calls < 128
   pub below : calling.marks_below calls ≡ length marks
 
-module _ (memory : List ℕ) (cog : ℕ) (line : ℕ → Place) (program : Program) (addresses : Addresses) where
+module _ (memory : List ℕ) (cog : ℕ) (table : List (ℕ × Place)) (program : Program) (addresses : Addresses) where
   -- the methods that a callee means are begun by bytecodes, with bounds below this
   pub record CallsOk (most par : ℕ) (callee : Callee) : Type 0 where
     pub by : (target : Target) → IsInstance program addresses target.instance → (file : File) → slice_get program target.instance.file ≡ Some file → (tree : MethodTree) → method_of file target.method ≡ Some tree →
         (frame : ℕ) (calls : List Call) (arguments : List ℕ) → length arguments ≡ length tree.params → (stack : List ℕ) (marks : List Mark) → Room calls stack marks →
-        (return abort : Returned → Rest) (b : ℕ) → Returns memory cog line b calls par stack marks return → Aborts memory cog line b calls par stack marks abort →
+        (return abort : Returned → Rest) (b : ℕ) → Returns memory cog table b calls par stack marks return → Aborts memory cog table b calls par stack marks abort →
         (hand : Place) (f : ℕ) (own : Registers) → f ≤ b → f < most → (s : State) (size : ℕ) → size ≡ (4 * length arguments + (method_at memory target.instance.base target.instance.variables target.method).locals) % 2 ^ 16 →
         calling.given_to (Called (method_at memory target.instance.base target.instance.variables target.method)) s ≡ Finish (at (frame_of target frame size calls par) (method_at memory target.instance.base target.instance.variables target.method).entry (length stack) marks stack own) →
-        F memory cog line hand f own (calling.gives frame (0 ∷ arguments) (Called (method_at memory target.instance.base target.instance.variables target.method)) s) (callee target arguments frame (length calls + 1) return abort)
+        F memory cog table hand f own (calling.gives frame (0 ∷ arguments) (Called (method_at memory target.instance.base target.instance.variables target.method)) s) (callee target arguments frame (length calls + 1) return abort)
 
-  module _ (placed : Placed memory cog program addresses) (most : ℕ) (callee : Callee) (c : Frame) (ok : CallsOk most c.par callee) (g : Begun) (room : Room c.calls g.stack g.marks) (b : ℕ) (lesser : b ≤ most) (abort : Returned → Rest) (aborts : Aborts memory cog line b c.calls c.par g.stack g.marks abort) where
+  module _ (placed : Placed memory cog program addresses) (most : ℕ) (callee : Callee) (c : Frame) (ok : CallsOk most c.par callee) (g : Begun) (room : Room c.calls g.stack g.marks) (b : ℕ) (lesser : b ≤ most) (abort : Returned → Rest) (aborts : Aborts memory cog table b c.calls c.par g.stack g.marks abort) where
     module _ (q base : ℕ) (xs : List ℕ) (marks : List Mark) (low : Low g base marks xs) (unused traps : Bool) (return : Returned → Rest) (bound : ℕ) (within : bound ≤ b)
-        (back : (hand : Place) (f : ℕ) (own : Registers) → f ≤ bound → (returned : Returned) (given : Option ℕ) (s : State) → Above c.par xs marks own s → GivesBack returned s given → F memory cog line hand f own (calling.goes_back given (called c q base (length xs) (length marks) unused traps) c.calls s) (return returned)) where
+        (back : (hand : Place) (f : ℕ) (own : Registers) → f ≤ bound → (returned : Returned) (given : Option ℕ) (s : State) → Above c.par xs marks own s → GivesBack returned s given → F memory cog table hand f own (calling.goes_back given (called c q base (length xs) (length marks) unused traps) c.calls s) (return returned)) where
       -- the record of this call
       abbrev this : Call
       this = called c q base (length xs) (length marks) unused traps
 
-      returns-here : Returns memory cog line bound (this ∷ c.calls) c.par xs marks return
+      returns-here : Returns memory cog table bound (this ∷ c.calls) c.par xs marks return
       unfolding calling.returns
       returns-here = record { by = λ hand f own le returned given s above is. back hand f own le returned given s above is }
 
       abort-by : (stops : Bool) (hand : Place) (f : ℕ) (own : Registers) → f ≤ bound → (returned : Returned) (given : Option ℕ) (s : State) → Above c.par xs marks own s → GivesBack returned s given →
-          F memory cog line hand f own (calling.aborts cog given (if stops then Some (this, c.calls) else trapping c.calls) s) ((if stops then return else abort) returned)
+          F memory cog table hand f own (calling.aborts cog given (if stops then Some (this, c.calls) else trapping c.calls) s) ((if stops then return else abort) returned)
       unfolding calling.aborts
       abort-by true hand f own le returned given s above is = back hand f own le returned given s above is
       abort-by false hand f own le returned given s above is = aborts.by hand f own (omega (arith, le, within)) returned given s (above-first low above) is
 
-      aborts-here : Aborts memory cog line bound (this ∷ c.calls) c.par xs marks (if traps then return else abort)
+      aborts-here : Aborts memory cog table bound (this ∷ c.calls) c.par xs marks (if traps then return else abort)
       aborts-here = record { by = λ hand f own le returned given s above is. abort-by traps hand f own le returned given s above is }
 
       -- the mark of this call
@@ -266,22 +266,22 @@ module _ (memory : List ℕ) (cog : ℕ) (line : ℕ → Place) (program : Progr
         abbrev follows : ℕ → ℕ → Rest
         follows ends active = callee target arguments ends active return (if traps then return else abort)
 
-        begun-meets : (hand : Place) (f : ℕ) (own : Registers) → suc f ≤ bound → length c.calls < 127 → F memory cog line hand f own (calling.gives frame (0 ∷ arguments) (Called begun) (calling_at own)) (follows frame (length c.calls + 1 + 1))
+        begun-meets : (hand : Place) (f : ℕ) (own : Registers) → suc f ≤ bound → length c.calls < 127 → F memory cog table hand f own (calling.gives frame (0 ∷ arguments) (Called begun) (calling_at own)) (follows frame (length c.calls + 1 + 1))
         begun-meets hand f own le few =
-            subst (λ n. F memory cog line hand f own (calling.gives frame (0 ∷ arguments) (Called begun) (calling_at own)) (follows frame n)) (let n : length (this ∷ c.calls) + 1 ≡ length c.calls + 1 + 1 = omega arith in n)
+            subst (λ n. F memory cog table hand f own (calling.gives frame (0 ∷ arguments) (Called begun) (calling_at own)) (follows frame n)) (let n : length (this ∷ c.calls) + 1 ≡ length c.calls + 1 + 1 = omega arith in n)
             (ok.by target is_instance file is_file tree is_tree frame (this ∷ c.calls) arguments arity xs marks
             (record { values = omega (arith, values); opened = omega (arith, opened); few = omega (arith, few); below = refl })
             return (if traps then return else abort) bound returns-here aborts-here hand f own (omega (arith, le)) (omega (arith, le, within, lesser)) (calling_at own) _ size-is (entered-is own))
 
         -- the bytecode of a call, which comes to the call of this method
-        pub called-meets : (hand : Place) (p : ℕ) (course : State → Course State) → Does memory cog line hand p course q → (stack : List ℕ) →
+        pub called-meets : (hand : Place) (p : ℕ) (course : State → Course State) → Does memory cog table hand p course q → (stack : List ℕ) →
             ((own : Registers) → course (at c q (length xs) (mark ∷ marks) stack own) ≡ calling.calls_method memory target.instance.base target.instance.variables target.method (calling_at own)) →
-            (fine : Bool) → nat_lt (length c.calls + 1) 128 ≡ fine → (f : ℕ) (own : Registers) → f ≤ bound → M memory cog line hand f (Finish (at c p (length xs) (mark ∷ marks) stack own)) ((if fine then costs (follows frame (length c.calls + 1 + 1)) else halts Why.Deep) f (record own { statement = hand }))
-        called-meets hand p course h stack is true shallow zero own le = meets-untold (engine memory cog line hand) _
+            (fine : Bool) → nat_lt (length c.calls + 1) 128 ≡ fine → (f : ℕ) (own : Registers) → f ≤ bound → M memory cog table hand f (Finish (at c p (length xs) (mark ∷ marks) stack own)) ((if fine then costs (follows frame (length c.calls + 1 + 1)) else halts Why.Deep) f (record own { statement = hand }))
+        called-meets hand p course h stack is true shallow zero own le = meets-untold (engine memory cog table hand) _
         called-meets hand p course h stack is true shallow (suc f) own le =
-            pays memory cog line hand c p q (length xs) (mark ∷ marks) course h stack own (suc f) _
+            pays memory cog table hand c p q (length xs) (mark ∷ marks) course h stack own (suc f) _
             (let few : length c.calls < 127 = omega (arith, ltb-true (length c.calls + 1) 128 shallow) in
-            subst (λ (d : Course State). M memory cog line hand f d (follows frame (length c.calls + 1 + 1) f (record own { statement = hand }))) (sym (is own ∙ allowed-is own few)) (begun-meets hand f own le few).meets)
+            subst (λ (d : Course State). M memory cog table hand f d (follows frame (length c.calls + 1 + 1) f (record own { statement = hand }))) (sym (is own ∙ allowed-is own few)) (begun-meets hand f own le few).meets)
         called-meets hand p course h stack is false shallow f own le =
-            pays memory cog line hand c p q (length xs) (mark ∷ marks) course h stack own f _
-            (subst (λ (d : Course State). M memory cog line hand (less f) d (HaltsFor hand Why.Deep)) (sym (is own ∙ deep-is own (omega (arith, ltb-false (length c.calls + 1) 128 shallow)))) (meets-halt (engine memory cog line hand) (less f) Why.Deep))
+            pays memory cog table hand c p q (length xs) (mark ∷ marks) course h stack own f _
+            (subst (λ (d : Course State). M memory cog table hand (less f) d (HaltsFor hand Why.Deep)) (sym (is own ∙ deep-is own (omega (arith, ltb-false (length c.calls + 1) 128 shallow)))) (meets-halt (engine memory cog table hand) (less f) Why.Deep))

@@ -38,7 +38,7 @@ refers-to t (Register address x q) is s = absurd (cc)
 
 module _ (n : Names) (t : Compiled) (base : ℕ) where
   abbrev pub StandsAt : Op → (State → Course State) → Type 0
-  StandsAt op course = Stand t.memory base t.line t.hand (one op) (λ p q. At t p course q)
+  StandsAt op course = Stand t.memory base t.table t.hand (one op) (λ p q. At t p course q)
 
   module _ (v : Variable) (f : IsFound n t v) where
     abbrev there : State → place.Place
@@ -52,7 +52,7 @@ module _ (n : Names) (t : Compiled) (base : ℕ) where
     stands-by : (o : Operation) (course : State → Course State) → FitsEffect o (with_jump (op_for n v o) 0 false) → ((s : State) → done o (names_count v) (op_for n v o) (f.at s) s ≡ course s) → StandsAt (op_for n v o) course
     stands-by o course fits same =
         let a : Acts t.memory t.cog (op_for n v o) o (names_count v) f.at = f.acts o in
-        one-stand t.memory t.cog base t.line t.hand (op_for n v o) course (subst IsOp a.plain (a.is_op 0 false fits))
+        one-stand t.memory t.cog base t.table t.hand (op_for n v o) course (subst IsOp a.plain (a.is_op 0 false fits))
         (λ s. subst (λ (op : Op). row t.memory t.cog op s ≡ done o (names_count v) op (f.at s) s) a.plain (a.does 0 false s) ∙ same s)
 
     no-effect : (o : Operation) → effect_of o ≡ 0 → IsChange false (with_jump (op_for n v o) 0 false)
@@ -60,12 +60,12 @@ module _ (n : Names) (t : Compiled) (base : ℕ) where
 
     -- ---- without an effect
 
-    pub read-stand : Stand t.memory base t.line t.hand (one (op_for n v Push)) (ReadAt t v)
+    pub read-stand : Stand t.memory base t.table t.hand (one (op_for n v Push)) (ReadAt t v)
     unfolding pushes
     read-stand = stands-by Push (takes_names (names_count v) 1 (reads t v)) (no-effect Push refl)
         (λ s. placed (names_count v) 1 s (λ x. places.reads_place wanted_case.Pushed x (taken (names_count v) s)) (omega arith))
 
-    pub pop-stand : Stand t.memory base t.line t.hand (one (op_for n v Pop)) (AssignAt t false None v)
+    pub pop-stand : Stand t.memory base t.table t.hand (one (op_for n v Pop)) (AssignAt t false None v)
     unfolding pops
     pop-stand = stands-by Pop (takes_value (names_count v) 0 (writes t false v)) (no-effect Pop refl)
         (λ s. placed (names_count v + 1) 0 s (λ x. places.writes_place x (operand s (names_count v)) None (taken (names_count v + 1) s)) (omega arith))
@@ -88,7 +88,7 @@ module _ (n : Names) (t : Compiled) (base : ℕ) where
     store-stand true = changing 0x80 stores_left (takes_value (names_count v) 1 (writes t true v)) is-storing
         (λ s. placed (names_count v + 1) 1 s (λ x. places.writes_place x (operand s (names_count v)) (Some (operand s (names_count v))) (taken (names_count v + 1) s)) (omega arith))
 
-    pub operate-stand : (used : Bool) (k : ℕ) → IsTrue (proper.is_binary k) → Stand t.memory base t.line t.hand (one (op_for n v (Using (leaving used (effect_by k))))) (OperateAt t used k v)
+    pub operate-stand : (used : Bool) (k : ℕ) → IsTrue (proper.is_binary k) → Stand t.memory base t.table t.hand (one (op_for n v (Using (leaving used (effect_by k))))) (OperateAt t used k v)
     operate-stand used k is =
         let e : ℕ = leaving used (effect_by k) in
         let o : IsOperating used k = is-operating used k is in
@@ -97,19 +97,19 @@ module _ (n : Names) (t : Compiled) (base : ℕ) where
         ∙ placed (names_count v + 1) (leaves_if used) s (λ x. places.reads_place (wanted_case.Changed e (operand s (names_count v))) x (taken (names_count v + 1) s)) (omega arith)))
         (λ p q at. (e, o.operation, at))
 
-    pub assign-stand : (used : Bool) (operator : Option ℕ) → proper.IfThere (λ k. IsTrue (proper.is_binary k)) operator → Stand t.memory base t.line t.hand (one (op_for n v (assigned used operator))) (AssignAt t used operator v)
+    pub assign-stand : (used : Bool) (operator : Option ℕ) → proper.IfThere (λ k. IsTrue (proper.is_binary k)) operator → Stand t.memory base t.table t.hand (one (op_for n v (assigned used operator))) (AssignAt t used operator v)
     assign-stand true None is = store-stand true
     assign-stand false None is = store-stand false
     assign-stand used (Some k) is = operate-stand used k is
 
-    update-stand : (used : Bool) (effect change : ℕ) → IsUpdating used effect change → Stand t.memory base t.line t.hand (one (op_for n v (Using effect))) (UpdateAt t used change v)
+    update-stand : (used : Bool) (effect change : ℕ) → IsUpdating used effect change → Stand t.memory base t.table t.hand (one (op_for n v (Using effect))) (UpdateAt t used change v)
     update-stand used e change u =
         so (changing e (changes_itself e) (takes_names (names_count v) (leaves_if used) (updates t e v)) u.changes
         (λ s. ap (λ (b : Bool). tested (names_count v) (if b then 1 else 0) s (places.reads_place (wanted_case.Changed e 0) (f.at s) (taken (names_count v) s))) u.made.leaves
         ∙ placed (names_count v) (leaves_if used) s (λ x. places.reads_place (wanted_case.Changed e 0) x (taken (names_count v) s)) (omega arith)))
         (λ p q at. (e, u.made, at))
 
-    set-stand : (used : Bool) (effect value : ℕ) → IsSetting used effect value → Stand t.memory base t.line t.hand (one (op_for n v (Using effect))) (ReplaceAt t used value v)
+    set-stand : (used : Bool) (effect value : ℕ) → IsSetting used effect value → Stand t.memory base t.table t.hand (one (op_for n v (Using effect))) (ReplaceAt t used value v)
     set-stand true e value is =
         changing e (sets_of true value) (takes_names (names_count v) 1 (replaces t true value v)) is
         (λ s. placed (names_count v) 1 s (λ x. places.reads_place (wanted_case.Replaced value) x (taken (names_count v) s)) (omega arith))
@@ -117,17 +117,17 @@ module _ (n : Names) (t : Compiled) (base : ℕ) where
         changing e (sets_of false value) (takes_names (names_count v) 0 (replaces t false value v)) is
         (λ s. placed (names_count v) 0 s (λ x. places.writes_place x value None (taken (names_count v) s)) (omega arith))
 
-    made-stand : (used : Bool) (effect change : ℕ) → Makes used effect change → Stand t.memory base t.line t.hand (one (op_for n v (Using effect))) (ChangeAt t used change v)
-    made-stand used effect change (clears is c) = subst (λ k. Stand t.memory base t.line t.hand (one (op_for n v (Using effect))) (ChangeAt t used k v)) (sym is) (set-stand used effect 0 c)
-    made-stand used effect change (fills is c) = subst (λ k. Stand t.memory base t.line t.hand (one (op_for n v (Using effect))) (ChangeAt t used k v)) (sym is) (set-stand used effect (2 ^ 32 - 1) c)
+    made-stand : (used : Bool) (effect change : ℕ) → Makes used effect change → Stand t.memory base t.table t.hand (one (op_for n v (Using effect))) (ChangeAt t used change v)
+    made-stand used effect change (clears is c) = subst (λ k. Stand t.memory base t.table t.hand (one (op_for n v (Using effect))) (ChangeAt t used k v)) (sym is) (set-stand used effect 0 c)
+    made-stand used effect change (fills is c) = subst (λ k. Stand t.memory base t.table t.hand (one (op_for n v (Using effect))) (ChangeAt t used k v)) (sym is) (set-stand used effect (2 ^ 32 - 1) c)
     made-stand used effect change (updates_by no_clear no_fill u) =
         so (update-stand used effect change u) (λ p q at. otherwise (ReplaceAt t used 0 v p q) (change == 0x18) no_clear (otherwise (ReplaceAt t used (2 ^ 32 - 1) v p q) (change == 0x1C) no_fill at))
 
-    pub change-stand : (used : Bool) (size change : ℕ) → is_size size ≡ true → proper.is_one_of all_changes change ≡ true → Stand t.memory base t.line t.hand (one (op_for n v (Using (leaving used (effect_for size change))))) (ChangeAt t used change v)
+    pub change-stand : (used : Bool) (size change : ℕ) → is_size size ≡ true → proper.is_one_of all_changes change ≡ true → Stand t.memory base t.table t.hand (one (op_for n v (Using (leaving used (effect_for size change))))) (ChangeAt t used change v)
     change-stand used size change known is = made-stand used (leaving used (effect_for size change)) change (makes used size change known is)
 
     -- ---- addresses
 
-    pub address-stand : IsTrue (proper.is_in_memory v) → Stand t.memory base t.line t.hand (one (op_for n v Reference)) (AddressAt t v)
+    pub address-stand : IsTrue (proper.is_in_memory v) → Stand t.memory base t.table t.hand (one (op_for n v Reference)) (AddressAt t v)
     address-stand is = stands-by Reference (takes_names (names_count v) 1 (addresses_of t v)) (no-effect Reference refl)
         (λ s. placed (names_count v) 1 s (λ x. referenced (names_count v) x s) (omega arith) ∙ tested-same (names_count v) 1 s _ _ (λ _. refers-to t v is s))

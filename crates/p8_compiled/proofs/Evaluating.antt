@@ -29,9 +29,9 @@ module _ (w : Working) where
     pub evaluates-meets : (e : Tree) (p q : ℕ) → standing.ValueAt t e p q → (b base : ℕ) (marks : List Mark) (xs : List ℕ) → Stands w b base marks xs → length xs + (depth w) e ≤ (room w) → length marks + height e ≤ (marked w) → (k : ℕ → Rest) →
         ((value : ℕ) → Then w b (at c q base marks (xs ++ value ∷ [])) (k value)) → Then w b (at c p base marks xs) (expressions.evaluates callee (s w) abort e k)
     evaluates-meets (node place (Number n)) p q h b base marks xs here fits few k m =
-        λ f own le. by-gives t.memory t.cog t.line t.hand c p q base marks xs own here.low.low f (k n) n h (omega (arith, fits, (fits_stack w))) (m n f own le)
+        λ f own le. by-gives t.memory t.cog t.table t.hand c p q base marks xs own here.low.low f (k n) n h (omega (arith, fits, (fits_stack w))) (m n f own le)
     evaluates-meets (node place (Str text)) p q h b base marks xs here fits few k m =
-        λ f own le. by-text t.memory t.cog t.line t.hand c p q base marks xs own here.low.low f _ (t.addresses.text t.number place) h (omega (arith, fits, (fits_stack w))) (m _ f own le)
+        λ f own le. by-text t.memory t.cog t.table t.hand c p q base marks xs own here.low.low f _ (t.addresses.text t.number place) h (omega (arith, fits, (fits_stack w))) (m _ f own le)
     evaluates-meets (node place Here) p q h b base marks xs here fits few k m = absurd h
     evaluates-meets (node place (Var v)) p q h b base marks xs here fits few k m = variable-meets v p q h b base marks xs here fits (omega (arith, few)) k m
     evaluates-meets (node place (Call stops None i name inside arguments)) p q h b base marks xs here fits few k m =
@@ -59,11 +59,11 @@ module _ (w : Working) where
         (λ h0 is. evaluates-meets e p q h0 b base marks xs here (omega (arith, fits)) (omega (arith, few)) (λ a. k (unary_value operator a))
         (λ a f own le. subst (λ (x : ℕ). (K w) f own (Finish (at c q base marks (xs ++ x ∷ []) own)) (k (unary_value operator a))) (signed_same w operator a (eqb-true operator 0xEC is)) (m (unary_value operator a) f own le)))
         (λ h1. evaluates-meets e p h1.0 h1.1 b base marks xs here (omega (arith, fits)) (omega (arith, few)) (λ a. k (unary_value operator a))
-        (λ a f own le. by-one t.memory t.cog t.line t.hand c h1.0 q base marks xs own here.low.low f (k (unary_value operator a)) 1 (standing.applies_one operator) h1.2 a (omega (arith, fits, (fits_stack w))) (m (unary_value operator a) f own le)))
+        (λ a f own le. by-one t.memory t.cog t.table t.hand c h1.0 q base marks xs own here.low.low f (k (unary_value operator a)) 1 (standing.applies_one operator) h1.2 a (omega (arith, fits, (fits_stack w))) (m (unary_value operator a) f own le)))
     evaluates-meets (node place (Binary operator left right)) p q h b base marks xs here fits few k m =
         evaluates-meets left p h.0 h.2 b base marks xs here (omega (arith, fits)) (omega (arith, few)) (λ x. expressions.evaluates callee (s w) abort right (λ y. k (binary_value operator x y)))
         (λ x. evaluates-meets right h.0 h.1 h.3 b base marks (xs ++ x ∷ []) (up w here x) (omega (arith, fits, (longer w) xs x)) (omega (arith, few)) (λ y. k (binary_value operator x y))
-        (λ y f own le. by-two t.memory t.cog t.line t.hand c h.1 q base marks xs own here.low.low f (k (binary_value operator x y)) 1 (standing.applies_two operator) h.4 x y (omega (arith, fits, (fits_stack w))) (m (binary_value operator x y) f own le)))
+        (λ y f own le. by-two t.memory t.cog t.table t.hand c h.1 q base marks xs own here.low.low f (k (binary_value operator x y)) 1 (standing.applies_two operator) h.4 x y (omega (arith, fits, (fits_stack w))) (m (binary_value operator x y) f own le)))
     evaluates-meets (node place (Assign v operator e)) p q h b base marks xs here fits few k m =
         evaluates-meets e p h.0 h.2 b base marks xs here (omega (arith, fits)) (omega (arith, few)) (λ right. expressions.locates callee (s w) abort v (λ where_is. assigns (s w) operator where_is right k))
         (λ right. names-meets v h.0 h.1 h.3 b base marks (xs ++ right ∷ []) (up w here right) (omega (arith, fits, (longer w) xs right)) (omega (arith, few)) (λ where_is. assigns (s w) operator where_is right k)
@@ -73,19 +73,19 @@ module _ (w : Working) where
         (λ names is. change-meets w h.0 q base marks xs here.low.low b (omega (arith, fits, (fits_stack w))) v h.2 change h.3 names is k m)
     evaluates-meets (node place (Address v)) p q h b base marks xs here fits few k m =
         names-meets v p h.0 h.1 b base marks xs here (omega (arith, fits)) (omega (arith, few)) (λ where_is. k (address_at where_is))
-        (λ names is f own le. by-names t.memory t.cog t.line t.hand c h.0 q base marks xs own here.low.low f (k (address_at (site (s w) v names))) (names_count v) 1 (standing.addresses_of t v) h.2 names is (omega (arith, fits, (fits_stack w))) (m (address_at (site (s w) v names)) f own le))
+        (λ names is f own le. by-names t.memory t.cog t.table t.hand c h.0 q base marks xs own here.low.low f (k (address_at (site (s w) v names))) (names_count v) 1 (standing.addresses_of t v) h.2 names is (omega (arith, fits, (fits_stack w))) (m (address_at (site (s w) v names)) f own le))
     evaluates-meets (node place (ObjectAddress e)) p q h b base marks xs here fits few k m =
         evaluates-meets e p h.0 h.1 b base marks xs here (omega (arith, fits)) (omega (arith, few)) (λ a. k ((c.pbase + a) % 2 ^ 16))
-        (λ a f own le. by-one t.memory t.cog t.line t.hand c h.0 q base marks xs own here.low.low f (k ((c.pbase + a) % 2 ^ 16)) 1 standing.object_address h.2 a (omega (arith, fits, (fits_stack w))) (m ((c.pbase + a) % 2 ^ 16) f own le))
+        (λ a f own le. by-one t.memory t.cog t.table t.hand c h.0 q base marks xs own here.low.low f (k ((c.pbase + a) % 2 ^ 16)) 1 standing.object_address h.2 a (omega (arith, fits, (fits_stack w))) (m ((c.pbase + a) % 2 ^ 16) f own le))
     evaluates-meets (node place (ObjConst object name inside)) p q h b base marks xs here fits few k m =
-        λ f own le. by-gives t.memory t.cog t.line t.hand c p q base marks xs own here.low.low f _ (or_zero (object_constant t.file (t.file.kind t.method object) name)) h (omega (arith, fits, (fits_stack w))) (m _ f own le)
+        λ f own le. by-gives t.memory t.cog t.table t.hand c p q base marks xs own here.low.low f _ (or_zero (object_constant t.file (t.file.kind t.method object) name)) h (omega (arith, fits, (fits_stack w))) (m _ f own le)
     evaluates-meets (node place (Built code arguments)) p q h b base marks xs here fits few k m = built-meets true code arguments p q h b base marks xs here fits (omega (arith, few)) k m
     evaluates-meets (node place (Look code e items)) p q h b base marks xs here fits few k m =
         let first : ℕ = expressions.first_count code in
         evaluates-meets e p h.0 h.3 b base marks xs here (omega (arith, fits)) (omega (arith, few)) (λ wanted. expressions.looks callee (s w) abort (expressions.goes_up code) wanted items k (λ count. k 0) first)
-        (λ wanted f own le. by-gives t.memory t.cog t.line t.hand c h.0 h.1 base marks (xs ++ wanted ∷ []) own (up w here wanted).low.low f (expressions.looks callee (s w) abort (expressions.goes_up code) wanted items k (λ count. k 0) first) first h.4 (omega (arith, fits, (longer w) xs wanted, (fits_stack w)))
+        (λ wanted f own le. by-gives t.memory t.cog t.table t.hand c h.0 h.1 base marks (xs ++ wanted ∷ []) own (up w here wanted).low.low f (expressions.looks callee (s w) abort (expressions.goes_up code) wanted items k (λ count. k 0) first) first h.4 (omega (arith, fits, (longer w) xs wanted, (fits_stack w)))
         (looks-meet (expressions.goes_up code) wanted items q h.1 h.2 h.5 b base marks xs here (omega (arith, fits)) (omega (arith, few)) k (λ count. k 0) m
-        (λ count f own le. by-two t.memory t.cog t.line t.hand c h.2 q base marks xs own here.low.low f (k 0) 1 standing.look_fails h.6 wanted count (omega (arith, fits, (fits_stack w))) (m 0 f own le)) first f own le))
+        (λ count f own le. by-two t.memory t.cog t.table t.hand c h.2 q base marks xs own here.low.low f (k 0) 1 standing.look_fails h.6 wanted count (omega (arith, fits, (fits_stack w))) (m 0 f own le)) first f own le))
 
     variable-meets : (v : Variable) (p q : ℕ) → standing.VariableAt t v p q → (b base : ℕ) (marks : List Mark) (xs : List ℕ) → Stands w b base marks xs → length xs + max 1 (names_depth w v) ≤ (room w) → length marks + height_in_variable v ≤ (marked w) → (k : ℕ → Rest) →
         ((value : ℕ) → Then w b (at c q base marks (xs ++ value ∷ [])) (k value)) → Then w b (at c p base marks xs) (expressions.evaluates_variable callee (s w) abort v k)
@@ -158,12 +158,12 @@ module _ (w : Working) where
         (count : ℕ) → Then w b (at c p base marks ((xs ++ wanted ∷ []) ++ count ∷ [])) (expressions.looks_at callee (s w) abort goes wanted item found none count)
     look-meets goes wanted (single e) target p q h b base marks xs here fits few found none m n =
         λ count. evaluates-meets e p h.0 h.1 b base marks ((xs ++ wanted ∷ []) ++ count ∷ []) (up w (up w here wanted) count) (omega (arith, fits, (longer w) xs wanted, (longer w) (xs ++ wanted ∷ []) count)) (omega (arith, few)) (λ value. expressions.tries goes wanted count value found none)
-        (λ value f own le. by-three t.memory t.cog t.line t.hand c h.0 q base marks xs own here.low.low f (expressions.tries goes wanted count value found none) 2 (standing.tries_item goes target) h.2 wanted count value (omega (arith, fits, (fits_stack w)))
+        (λ value f own le. by-three t.memory t.cog t.table t.hand c h.0 q base marks xs own here.low.low f (expressions.tries goes wanted count value found none) 2 (standing.tries_item goes target) h.2 wanted count value (omega (arith, fits, (fits_stack w)))
         (item-tried w wanted count goes value target q base marks xs f own found none (λ x. m x f own le) (λ x. n x f own le)))
     look-meets goes wanted (range e d) target p q h b base marks xs here fits few found none m n =
         λ count. evaluates-meets e p h.0 h.2 b base marks ((xs ++ wanted ∷ []) ++ count ∷ []) (up w (up w here wanted) count) (omega (arith, fits, (longer w) xs wanted, (longer w) (xs ++ wanted ∷ []) count)) (omega (arith, few)) (λ low. expressions.evaluates callee (s w) abort d (λ high. expressions.tries_range goes wanted count low high found none))
         (λ low. evaluates-meets d h.0 h.1 h.3 b base marks (((xs ++ wanted ∷ []) ++ count ∷ []) ++ low ∷ []) (up w (up w (up w here wanted) count) low) (omega (arith, fits, (longer w) xs wanted, (longer w) (xs ++ wanted ∷ []) count, (longer w) ((xs ++ wanted ∷ []) ++ count ∷ []) low)) (omega (arith, few)) (λ high. expressions.tries_range goes wanted count low high found none)
-        (λ high f own le. by-four t.memory t.cog t.line t.hand c h.1 q base marks xs own here.low.low f (expressions.tries_range goes wanted count low high found none) 2 (standing.tries_both goes target) h.4 wanted count low high (omega (arith, fits, (fits_stack w)))
+        (λ high f own le. by-four t.memory t.cog t.table t.hand c h.1 q base marks xs own here.low.low f (expressions.tries_range goes wanted count low high found none) 2 (standing.tries_both goes target) h.4 wanted count low high (omega (arith, fits, (fits_stack w)))
         (both-tried w wanted count goes low high target q base marks xs f own found none (λ x. m x f own le) (λ x. n x f own le))))
 
     pub built-meets : (used : Bool) (code : ℕ) (es : Trees) (p q : ℕ) → standing.BuiltAt t used code es p q → (b base : ℕ) (marks : List Mark) (xs : List ℕ) → Stands w b base marks xs → length xs + max 1 (built_depth w code es) ≤ (room w) → length marks + height_of_trees es ≤ (marked w) → (k : ℕ → Rest) →
@@ -179,7 +179,7 @@ module _ (w : Working) where
         where-deep w (code == 0x2C) (1 + (begun_depth w) e (depth w e) (depth w d)) (max 1 (max (depth w e) (1 + (depth w) d))) xs b (at c p base marks xs)
         (expressions.begins callee (s w) abort builtins.new_cog e (expressions.evaluates callee (s w) abort e) (expressions.evaluates callee (s w) abort d) k)
         (expressions.evaluates callee (s w) abort e (λ x. expressions.evaluates callee (s w) abort d (λ y. builtins.does_two code x y k))) fits h
-        (λ h0 deep f own le. by-gives t.memory t.cog t.line t.hand c p h0.0 base marks xs own here.low.low f (expressions.begins callee (s w) abort builtins.new_cog e (expressions.evaluates callee (s w) abort e) (expressions.evaluates callee (s w) abort d) k) builtins.new_cog h0.1 (omega (arith, deep, (fits_stack w)))
+        (λ h0 deep f own le. by-gives t.memory t.cog t.table t.hand c p h0.0 base marks xs own here.low.low f (expressions.begins callee (s w) abort builtins.new_cog e (expressions.evaluates callee (s w) abort e) (expressions.evaluates callee (s w) abort d) k) builtins.new_cog h0.1 (omega (arith, deep, (fits_stack w)))
         (begins-meets used builtins.new_cog e e d (depth w e) (depth w d) b base marks
         (λ p q h xs here fits k m. evaluates-meets e p q h b base marks xs here fits (omega (arith, few)) k m) (λ p q h xs here fits k m. evaluates-meets d p q h b base marks xs here fits (omega (arith, few)) k m) h0.0 q h0.2 xs here (omega (arith, deep)) (omega (arith, few)) k m f own le))
         (λ h1 deep. evaluates-meets e p h1.0 h1.2 b base marks xs here (omega (arith, deep)) (omega (arith, few)) (λ x. expressions.evaluates callee (s w) abort d (λ y. builtins.does_two code x y k))

@@ -6,7 +6,7 @@
 --   repeat i from 0 to 2
 --     a := i
 use Rattle.std.proofs.Common.{◌≡◌, refl, sym, ap, ap₂, subst, arith, ℕ, zero, suc, ◌+◌, ◌-◌, ◌*◌, ◌%◌, ◌^◌, Bool, true, false, if◌then◌else◌, List, [], ◌∷◌, Option, Some, None}
-use Rattle.std.specs.Prelude.{codes, slice_get}
+use Rattle.std.specs.Prelude.{Contains, codes, slice_get}
 use Rattle.std.specs.Str.{bytes_eq}
 use Rattle.std.proofs.Common.{rules}
 use Rattle.p8_access.specs.declared.kinds.Width.TheVariants.{Long}
@@ -100,38 +100,38 @@ addresses = record {
 }
 
 -- all bytecodes are made from statements at this place
-abbrev line : ℕ → Place
-line address = here
+abbrev table : List (ℕ × Place)
+table = (0x18, here) ∷ (0x19, here) ∷ (0x1A, here) ∷ (0x1B, here) ∷ (0x1C, here) ∷ (0x1D, here) ∷ (0x1F, here) ∷ (0x23, here) ∷ []
 
 module _ (cog : ℕ) where
   abbrev t : Compiled
-  t = record { memory = memory; cog = cog; program = program; addresses = addresses; number = 0; file = file; method = 1; line = line; hand = here }
+  t = record { memory = memory; cog = cog; program = program; addresses = addresses; number = 0; file = file; method = 1; table = table; hand = here }
 
   -- a long of the frame or of VAR is its own first element
   first_element : (address : ℕ) → address + 0 * 4 ≡ address
   first_element address = omega arith
 
   -- 35, 38 02
-  gives-0 : (p q : ℕ) → fetched memory p ≡ Some (bare 0x35, q) → At t p (gives 0) q
+  gives-0 : (p q : ℕ) → fetched memory p ≡ Some (bare 0x35, q) → Contains table (p, here) → At t p (gives 0) q
   unfolding row return_row constant_row
-  gives-0 p q is = (bare 0x35, is, (λ s there. refl), refl)
+  gives-0 p q is made = (bare 0x35, is, (λ s there. refl), made)
 
   gives-2 : At t 0x1D (gives 2) 0x1F
   unfolding row return_row constant_row rows
-  gives-2 = (record (bare 0x38) { first = 2 }, refl, (λ s there. refl), refl)
+  gives-2 = (record (bare 0x38) { first = 2 }, refl, (λ s there. refl), (5, omega arith, refl))
 
   -- 65, 64, 41
   writes-i : At t 0x19 (takes_value 0 0 (standing.writes t false i)) 0x1A
   unfolding row short_variable acts pops rows
-  writes-i = (bare 0x65, refl, (λ s there. ap (λ address. tested 1 0 s (places.writes_place (place_case.Memory Long (address % 2 ^ 16)) (operand s 0) None (taken 1 s))) (sym (first_element (s.frame + 4)))), refl)
+  writes-i = (bare 0x65, refl, (λ s there. ap (λ address. tested 1 0 s (places.writes_place (place_case.Memory Long (address % 2 ^ 16)) (operand s 0) None (taken 1 s))) (sym (first_element (s.frame + 4)))), (1, omega arith, refl))
 
   reads-i : At t 0x1A (takes_names 0 1 (standing.reads t i)) 0x1B
   unfolding row short_variable acts pushes rows
-  reads-i = (bare 0x64, refl, (λ s there. ap (λ address. tested 0 1 s (places.reads_place wanted_case.Pushed (place_case.Memory Long (address % 2 ^ 16)) (taken 0 s))) (sym (first_element (s.frame + 4)))), refl)
+  reads-i = (bare 0x64, refl, (λ s there. ap (λ address. tested 0 1 s (places.reads_place wanted_case.Pushed (place_case.Memory Long (address % 2 ^ 16)) (taken 0 s))) (sym (first_element (s.frame + 4)))), (2, omega arith, refl))
 
   writes-a : At t 0x1B (takes_value 0 0 (standing.writes t false a)) 0x1C
   unfolding row short_variable acts pops rows
-  writes-a = (bare 0x41, refl, (λ s there. ap (λ address. tested 1 0 s (places.writes_place (place_case.Memory Long (address % 2 ^ 16)) (operand s 0) None (taken 1 s))) (sym (first_element (s.vbase + 0)))), refl)
+  writes-a = (bare 0x41, refl, (λ s there. ap (λ address. tested 1 0 s (places.writes_place (place_case.Memory Long (address % 2 ^ 16)) (operand s 0) None (taken 1 s))) (sym (first_element (s.vbase + 0)))), (3, omega arith, refl))
 
   -- 66 02 FF F7
   steps-i : At t 0x1F (takes_two 0 (bodies.steps_by_one t i 0x1A)) 0x23
@@ -141,13 +141,13 @@ module _ (cog : ℕ) where
     refl,
     (λ s there. ap₂ (λ target address. tested 2 0 s (places.reads_place (wanted_case.Stepped 1 (operand s 1) (operand s 0) target) (place_case.Memory Long (address % 2 ^ 16)) (taken 2 s)))
         (ap (λ p. (p + (2 ^ 32 - 9)) % 2 ^ 16) there) (sym (first_element (s.frame + 4)))),
-    refl,
+    (6, omega arith, refl),
   )
 
   -- 32
   returns : At t 0x23 (calling.return_result cog) 0x24
   unfolding row return_row rows
-  returns = (bare 0x32, refl, (λ s there. refl), refl)
+  returns = (bare 0x32, refl, (λ s there. refl), (7, omega arith, refl))
 
   code : bodies.MethodAt t body 0x18
   unfolding rows
@@ -161,10 +161,10 @@ module _ (cog : ℕ) where
         0x19,
         0x1A,
         0x1C,
-        gives-0 0x18 0x19 refl,
+        gives-0 0x18 0x19 refl (0, omega arith, refl),
         writes-i,
         (0x1A, refl, (0x1B, 0x1B, reads-i, refl, tt, writes-a)),
-        (0x1D, 0x1F, gives-0 0x1C 0x1D refl, gives-2, steps-i),
+        (0x1D, 0x1F, gives-0 0x1C 0x1D refl (4, omega arith, refl), gives-2, steps-i),
       ),
     ),
     returns,
@@ -186,7 +186,7 @@ module _ (cog : ℕ) where
   abbrev top : Instance
   top = addresses.top
 
-  main_placed : MethodPlaced memory cog program addresses line (record { instance = top; method = 1 }) file main
+  main_placed : MethodPlaced memory cog program addresses table (record { instance = top; method = 1 }) file main
   main_placed = record { is_method = refl; entry = refl; locals = refl; code = code; proper = proper; shallow = omega arith }
 
   no_object : (x y : Bool) (item position count : ℕ) → (if x then Some (kind_case.Global 4 0) else if y then Some (kind_case.Local 4) else None) ≡ Some (kind_case.Object item position count) → ⊥
@@ -204,19 +204,19 @@ module _ (cog : ℕ) where
       absurd (no_object (bytes_eq name (codes "A")) (bytes_eq name (codes "I")) item position count
       (subst (λ (g : File). g.kind method name ≡ Some (kind_case.Object item position count)) (sym (one_file outer.file f is_file)) is_object))
 
-  one_method : (m : ℕ) (tree : MethodTree) → method_of file m ≡ Some tree → MethodPlaced memory cog program addresses line (record { instance = top; method = m }) file tree
+  one_method : (m : ℕ) (tree : MethodTree) → method_of file m ≡ Some tree → MethodPlaced memory cog program addresses table (record { instance = top; method = m }) file tree
   one_method zero tree is = absurd (let no : None ≡ Some tree = is in cc)
-  one_method (suc zero) tree is = let same : main ≡ tree = cc in subst (λ (x : MethodTree). MethodPlaced memory cog program addresses line (record { instance = top; method = 1 }) file x) same main_placed
+  one_method (suc zero) tree is = let same : main ≡ tree = cc in subst (λ (x : MethodTree). MethodPlaced memory cog program addresses table (record { instance = top; method = 1 }) file x) same main_placed
   one_method (suc (suc m)) tree is = absurd (let no : None ≡ Some tree = is in cc)
 
-  in_file : (m : ℕ) (f : File) → file ≡ f → (tree : MethodTree) → method_of f m ≡ Some tree → MethodPlaced memory cog program addresses line (record { instance = top; method = m }) f tree
-  in_file m f same = subst (λ (g : File). (tree : MethodTree) → method_of g m ≡ Some tree → MethodPlaced memory cog program addresses line (record { instance = top; method = m }) g tree) same (one_method m)
+  in_file : (m : ℕ) (f : File) → file ≡ f → (tree : MethodTree) → method_of f m ≡ Some tree → MethodPlaced memory cog program addresses table (record { instance = top; method = m }) f tree
+  in_file m f same = subst (λ (g : File). (tree : MethodTree) → method_of g m ≡ Some tree → MethodPlaced memory cog program addresses table (record { instance = top; method = m }) g tree) same (one_method m)
 
   placed : Placed memory cog program addresses
   placed = record {
-    line = line;
+    table = table;
     method = λ target is_instance f is_file tree is_tree.
-        subst (λ (x : Instance). MethodPlaced memory cog program addresses line (record { instance = x; method = target.method }) f tree) (sym (only_top target.instance is_instance))
+        subst (λ (x : Instance). MethodPlaced memory cog program addresses table (record { instance = x; method = target.method }) f tree) (sym (only_top target.instance is_instance))
         (in_file target.method f (one_file target.instance.file f is_file) tree is_tree);
     object = λ outer is_instance f is_file method name item position count is index below child is_child.
         absurd (no_object (bytes_eq name (codes "A")) (bytes_eq name (codes "I")) item position count

@@ -1,4 +1,5 @@
 -- The code of a statement does what the statement does.
+use Rattle.std.specs.Prelude.{Contains}
 use Rattle.std.proofs.Common.{◌≡◌, inl, inr, refl, sym, ap, subst, ◌∙◌, arith, ℕ, zero, suc, max, ◌+◌, ◌<◌, ◌≤◌, ◌==◌, Bool, true, false, if◌then◌else◌, List, [], ◌∷◌, ◌++◌, length, Option, Some, None, append_assoc, append-nil}
 use Rattle.std.proofs.Math.ListN.{length-append}
 use Rattle.std.proofs.lemmas.Bool.{ne_eqb}
@@ -101,7 +102,7 @@ module _ (w : Working) where
 
   -- what follows a jump that pays for one of the bound
   abbrev pub Paid : (b : ℕ) → (Registers → State) → Rest → Type 0
-  Paid b state r = (f : ℕ) (own : Registers) → f ≤ b → M t.memory t.cog t.line t.hand (less f) (Finish (state own)) (r f (record own { statement = t.hand }))
+  Paid b state r = (f : ℕ) (own : Registers) → f ≤ b → M t.memory t.cog t.table t.hand (less f) (Finish (state own)) (r f (record own { statement = t.hand }))
 
   pub paid : (b : ℕ) (state : Registers → State) (r : Rest) → Then w b state r → Paid b state r
   paid b state r m f own le = weaken (E w) (less-le f) (m f own le).meets
@@ -121,10 +122,10 @@ module _ (w : Working) where
   -- ---- jumps
 
   jump-meets : (p q target : ℕ) → At t p (bodies.jumps target) q → (b : ℕ) (xs : List ℕ) (r : Rest) → Then w b (St target xs) r → Then w b (St p xs) r
-  jump-meets p q target h b xs r m f own le = by t.memory t.cog t.line t.hand c p q (length g.stack) g.marks (bodies.jumps target) h xs own f r (m f own le)
+  jump-meets p q target h b xs r m f own le = by t.memory t.cog t.table t.hand c p q (length g.stack) g.marks (bodies.jumps target) h xs own f r (m f own le)
 
   jump_paid-meets : (p q target : ℕ) → At t p (bodies.jumps target) q → (b : ℕ) (xs : List ℕ) (r : Rest) → Paid b (St target xs) r → Then w b (St p xs) r
-  jump_paid-meets p q target h b xs r m f own le = record { meets = pays t.memory t.cog t.line t.hand c p q (length g.stack) g.marks (bodies.jumps target) h xs own f (r f (record own { statement = t.hand })) (m f own le) }
+  jump_paid-meets p q target h b xs r m f own le = record { meets = pays t.memory t.cog t.table t.hand c p q (length g.stack) g.marks (bodies.jumps target) h xs own f (r f (record own { statement = t.hand })) (m f own le) }
 
   pub at-end : {p q : ℕ} (b : ℕ) (xs : List ℕ) (r : Rest) → p ≡ q → Then w b (St q xs) r → Then w b (St p xs) r
   at-end b xs r is m f own le = subst (λ (place : ℕ). K w f own (Finish (St place xs own)) r) (sym is) (m f own le)
@@ -140,7 +141,7 @@ module _ (w : Working) where
 
   pub drop-meets : (p q : ℕ) → At t p (takes_one 0 drops) q → (b : ℕ) (xs : List ℕ) → Fine b xs → length xs ≤ room w → (value : ℕ) (r : Rest) → Then w b (St q xs) r → Then w b (St p (xs ++ value ∷ [])) r
   drop-meets p q h b xs here fits value r m f own le =
-      by-one t.memory t.cog t.line t.hand c p q (length g.stack) g.marks xs own here.low.low f r 0 drops h value (omega (arith, fits, fits_stack w)) (m f own le)
+      by-one t.memory t.cog t.table t.hand c p q (length g.stack) g.marks xs own here.low.low f r 0 drops h value (omega (arith, fits, fits_stack w)) (m f own le)
 
   pub quit-meets : (inner : Inner) (p q : ℕ) → bodies.QuitAt t inner p q → (b : ℕ) (xs : List ℕ) → Fine b xs → length xs ≤ room w → (next quit : Rest) → IsAround inner b xs next quit → Then w b (St p xs) quit
   quit-meets outside p q h b xs here fits next quit around = absurd h
@@ -153,9 +154,9 @@ module _ (w : Working) where
 
   unused-back : (q : ℕ) (xs : List ℕ) (b : ℕ) (stops : Bool) (r : Rest) → Then w b (St q xs) r →
       (hand : Place) (f : ℕ) (own : Registers) → f ≤ b → (returned : Returned) (given : Option ℕ) (st : State) → Above c.par xs g.marks own st → GivesBack returned st given →
-      F t.memory t.cog t.line hand f own (calling.goes_back given (called c q (length g.stack) (length xs) (length g.marks) true stops) c.calls st) (for_statement t.hand r)
+      F t.memory t.cog t.table hand f own (calling.goes_back given (called c q (length g.stack) (length xs) (length g.marks) true stops) c.calls st) (for_statement t.hand r)
   unused-back q xs b stops r m hand f own le returned given st above is =
-      back-unused t.memory t.cog t.line hand c q (length g.stack) xs g.marks stops f own given st (for_statement t.hand r) above (goes-back (engine_of t.memory t.cog) (λ s. t.line s.at) t.hand r hand (m f own le))
+      back-unused t.memory t.cog t.table hand c q (length g.stack) xs g.marks stops f own given st (for_statement t.hand r) above (goes-back (engine_of t.memory t.cog) (λ s place. Contains t.table (s.at, place)) t.hand r hand (m f own le))
 
   pub act-meets : (e : Tree) (p q : ℕ) → bodies.ActAt t e p q → height e ≤ 64 → (b : ℕ) (xs : List ℕ) → Fine b xs → length xs + act_depth e ≤ room w → (k : Rest) → Then w b (St q xs) k → Then w b (St p xs) (expressions.acts callee (s w) abort e k)
   act-meets (node place (Var (Named name no_index inside))) p q h low b xs here fits k m =
@@ -226,7 +227,7 @@ module _ (w : Working) where
         Then w b (St p xs) (statements.decides most_passes callee (s w) return abort negated e met unmet)
     decides-meets negated e p p1 p2 q h jump low b xs here fits met unmet m n =
         value-meets e p p1 h low b xs here (omega (arith, fits)) (λ value. if holds negated value then met else unmet)
-        (λ value f own le. by-one t.memory t.cog t.line t.hand c p1 p2 (length g.stack) g.marks xs own here.low.low f (if holds negated value then met else unmet) 0 (bodies.jumps_unless negated q) jump value (omega (arith, fits, fits_stack w))
+        (λ value f own le. by-one t.memory t.cog t.table t.hand c p1 p2 (length g.stack) g.marks xs own here.low.low f (if holds negated value then met else unmet) 0 (bodies.jumps_unless negated q) jump value (omega (arith, fits, fits_stack w))
         (finish-if (holds negated value) f own (St p2 xs own) (St q xs own) met unmet (m f own le) (n f own le)))
 
     -- the value of a CASE lies on the stack
@@ -238,12 +239,12 @@ module _ (w : Working) where
         Then w b (St p (xs ++ v ∷ [])) (statements.fits most_passes callee (s w) return abort v x met unmet)
     fit-meets v (single e) a p q h proper b xs here fits met unmet m n =
         value-meets e p h.0 h.1 proper.1 b (xs ++ v ∷ []) (up w here v) (omega (arith, fits, longer w xs v)) (λ x. if v == x then met else unmet)
-        (λ x f own le. by-two t.memory t.cog t.line t.hand c h.0 q (length g.stack) g.marks xs own here.low.low f (if v == x then met else unmet) 1 (bodies.fits_value a) h.2 v x (omega (arith, fits, fits_stack w))
+        (λ x f own le. by-two t.memory t.cog t.table t.hand c h.0 q (length g.stack) g.marks xs own here.low.low f (if v == x then met else unmet) 1 (bodies.fits_value a) h.2 v x (omega (arith, fits, fits_stack w))
         (pushed-if (v == x) f own a q v xs met unmet (m f own le) (n f own le)))
     fit-meets v (range e d) a p q h proper b xs here fits met unmet m n =
         value-meets e p h.0 h.2 proper.0.1 b (xs ++ v ∷ []) (up w here v) (omega (arith, fits, longer w xs v)) (λ low. expressions.evaluates callee (s w) abort d (λ high. if is_between v low high then met else unmet))
         (λ low. value-meets d h.0 h.1 h.3 proper.1.1 b ((xs ++ v ∷ []) ++ low ∷ []) (up w (up w here v) low) (omega (arith, fits, longer w xs v, longer w (xs ++ v ∷ []) low)) (λ high. if is_between v low high then met else unmet)
-        (λ high f own le. by-three t.memory t.cog t.line t.hand c h.1 q (length g.stack) g.marks xs own here.low.low f (if is_between v low high then met else unmet) 1 (bodies.fits_range a) h.4 v low high (omega (arith, fits, fits_stack w))
+        (λ high f own le. by-three t.memory t.cog t.table t.hand c h.1 q (length g.stack) g.marks xs own here.low.low f (if is_between v low high then met else unmet) 1 (bodies.fits_range a) h.4 v low high (omega (arith, fits, fits_stack w))
         (pushed-if (is_between v low high) f own a q v xs met unmet (m f own le) (n f own le))))
 
     pub fits-meets : (v : ℕ) (items : Items) (a p q : ℕ) → bodies.FitsAt t items a p q → AreProperTests items → (b : ℕ) (xs : List ℕ) → Fine b xs → length xs + 1 + items_depth items ≤ room w → (met unmet : Rest) → Then w b (St a (xs ++ v ∷ [])) met → Then w b (St q (xs ++ v ∷ [])) unmet →
@@ -276,15 +277,15 @@ module _ (w : Working) where
     -- the end of a pass of a loop with a count
     last-meets : (p2 p3 q : ℕ) → At t p3 (takes_one 1 (bodies.ends_loop p2)) q → (b : ℕ) (xs : List ℕ) → Fine b xs → length xs + 1 ≤ 16384 → (n : ℕ) → difference n 1 ≡ 0 → (k : Rest) → Then w b (St q xs) k → Then w b (St p3 (xs ++ n ∷ [])) k
     last-meets p2 p3 q h b xs here fits n is k m f own le =
-        by-one t.memory t.cog t.line t.hand c p3 q (length g.stack) g.marks xs own here.low.low f k 1 (bodies.ends_loop p2) h n fits
+        by-one t.memory t.cog t.table t.hand c p3 q (length g.stack) g.marks xs own here.low.low f k 1 (bodies.ends_loop p2) h n fits
         (subst (λ (more : ℕ). K w f own (Finish (if more == 0 then St q xs own else St p2 (xs ++ more ∷ []) own)) k) (sym is) (m f own le))
 
     more-meets : (p2 p3 q : ℕ) → At t p3 (takes_one 1 (bodies.ends_loop p2)) q → (b : ℕ) (xs : List ℕ) → Fine b xs → length xs + 1 ≤ 16384 → (n more : ℕ) → difference n 1 ≡ suc more → (r : Rest) → ((f : ℕ) (own : Registers) → suc f ≤ b → K w f own (Finish (St p2 (xs ++ suc more ∷ []) own)) r) → Then w b (St p3 (xs ++ n ∷ [])) (costs r)
     more-meets p2 p3 q h b xs here fits n more is r m zero own le = record { meets = meets-untold (E w) (St p3 (xs ++ n ∷ []) own) }
     more-meets p2 p3 q h b xs here fits n more is r m (suc f) own le = record {
       meets =
-          pays t.memory t.cog t.line t.hand c p3 q (length g.stack) g.marks (takes_one 1 (bodies.ends_loop p2)) h (xs ++ n ∷ []) own (suc f) (r f (record own { statement = t.hand }))
-          (subst (λ (d : Course State). M t.memory t.cog t.line t.hand f d (r f (record own { statement = t.hand }))) (sym (one-is (St q (xs ++ n ∷ []) own) xs n 1 (bodies.ends_loop p2) (refl, here.low.low, fits)
+          pays t.memory t.cog t.table t.hand c p3 q (length g.stack) g.marks (takes_one 1 (bodies.ends_loop p2)) h (xs ++ n ∷ []) own (suc f) (r f (record own { statement = t.hand }))
+          (subst (λ (d : Course State). M t.memory t.cog t.table t.hand f d (r f (record own { statement = t.hand }))) (sym (one-is (St q (xs ++ n ∷ []) own) xs n 1 (bodies.ends_loop p2) (refl, here.low.low, fits)
           ∙ ap (λ (left : ℕ). Finish (if left == 0 then St q xs own else St p2 (xs ++ left ∷ []) own)) is
           ∙ ap (λ (so : Bool). Finish (if so then St q xs own else St p2 (xs ++ suc more ∷ []) own)) (not_zero more))) (m f own le).meets);
     }
@@ -327,8 +328,8 @@ module _ (w : Working) where
           (λ x. value-meets to h.0 h.1 h.3 high b (xs ++ x ∷ []) (up w here x) (omega (arith, deep, longer w xs x)) (λ y. statements.steps most_passes callee (s w) return abort counter 1 x y again k)
           (λ y f own le. record {
             meets =
-                pays t.memory t.cog t.line t.hand c h.1 q (length g.stack) g.marks (takes_two 0 (bodies.steps_by_one t v target)) h.4 ((xs ++ x ∷ []) ++ y ∷ []) own f _
-                (subst (λ (d : Course State). M t.memory t.cog t.line t.hand (less f) d (statements.steps most_passes callee (s w) return abort counter 1 x y again k f (record own { statement = t.hand }))) (sym (two-is (St q ((xs ++ x ∷ []) ++ y ∷ []) own) xs x y 0 (bodies.steps_by_one t v target) (append_assoc xs (x ∷ []) (y ∷ []), here.low.low, fits)))
+                pays t.memory t.cog t.table t.hand c h.1 q (length g.stack) g.marks (takes_two 0 (bodies.steps_by_one t v target)) h.4 ((xs ++ x ∷ []) ++ y ∷ []) own f _
+                (subst (λ (d : Course State). M t.memory t.cog t.table t.hand (less f) d (statements.steps most_passes callee (s w) return abort counter 1 x y again k f (record own { statement = t.hand }))) (sym (two-is (St q ((xs ++ x ∷ []) ++ y ∷ []) own) xs x y 0 (bodies.steps_by_one t v target) (append_assoc xs (x ∷ []) (y ∷ []), here.low.low, fits)))
                 (steps-follow 1 x y f own le).meets);
           }))
       pass_ends-meet from to (Some e) p h low high proper deep =
@@ -337,15 +338,15 @@ module _ (w : Working) where
           (λ x. value-meets to h.1 h.2 h.5 high b ((xs ++ by ∷ []) ++ x ∷ []) (up w (up w here by) x) (omega (arith, deep, longer w xs by, longer w (xs ++ by ∷ []) x)) (λ y. statements.steps most_passes callee (s w) return abort counter by x y again k)
           (λ y f own le. record {
             meets =
-                pays t.memory t.cog t.line t.hand c h.2 q (length g.stack) g.marks (takes_three 0 (bodies.steps_by t v target)) h.6 (((xs ++ by ∷ []) ++ x ∷ []) ++ y ∷ []) own f _
-                (subst (λ (d : Course State). M t.memory t.cog t.line t.hand (less f) d (statements.steps most_passes callee (s w) return abort counter by x y again k f (record own { statement = t.hand })))
+                pays t.memory t.cog t.table t.hand c h.2 q (length g.stack) g.marks (takes_three 0 (bodies.steps_by t v target)) h.6 (((xs ++ by ∷ []) ++ x ∷ []) ++ y ∷ []) own f _
+                (subst (λ (d : Course State). M t.memory t.cog t.table t.hand (less f) d (statements.steps most_passes callee (s w) return abort counter by x y again k f (record own { statement = t.hand })))
                 (sym (three-is (St q (((xs ++ by ∷ []) ++ x ∷ []) ++ y ∷ []) own) xs by x y 0 (bodies.steps_by t v target) (append_assoc (xs ++ by ∷ []) (x ∷ []) (y ∷ []) ∙ append_assoc xs (by ∷ []) (x ∷ y ∷ []), here.low.low, fits)))
                 (steps-follow by x y f own le).meets);
           })))
 
     -- ---- loops
 
-    m-if : (so : Bool) (count f : ℕ) (own : Registers) (x y : State) (r u : Rest) → M t.memory t.cog t.line t.hand count (Finish x) (r f (record own { statement = t.hand })) → M t.memory t.cog t.line t.hand count (Finish y) (u f (record own { statement = t.hand })) → M t.memory t.cog t.line t.hand count (Finish (if so then x else y)) ((if so then r else u) f (record own { statement = t.hand }))
+    m-if : (so : Bool) (count f : ℕ) (own : Registers) (x y : State) (r u : Rest) → M t.memory t.cog t.table t.hand count (Finish x) (r f (record own { statement = t.hand })) → M t.memory t.cog t.table t.hand count (Finish y) (u f (record own { statement = t.hand })) → M t.memory t.cog t.table t.hand count (Finish (if so then x else y)) ((if so then r else u) f (record own { statement = t.hand }))
     m-if true count f own x y r u m n = m
     m-if false count f own x y r u m n = n
 
@@ -355,8 +356,8 @@ module _ (w : Working) where
     tail-meets until e target p p1 q h jump low b xs here fits again k jumps m =
         value-meets e p p1 h low b xs here (omega (arith, fits)) (λ value. if holds until value then again else k)
         (λ value f own le. record {
-          meets = pays t.memory t.cog t.line t.hand c p1 q (length g.stack) g.marks (takes_one 0 (bodies.jumps_where until target)) jump (xs ++ value ∷ []) own f ((if holds until value then again else k) f (record own { statement = t.hand }))
-              (subst (λ (d : Course State). M t.memory t.cog t.line t.hand (less f) d ((if holds until value then again else k) f (record own { statement = t.hand }))) (sym (one-is (St q (xs ++ value ∷ []) own) xs value 0 (bodies.jumps_where until target) (refl, here.low.low, omega (arith, fits, fits_stack w))))
+          meets = pays t.memory t.cog t.table t.hand c p1 q (length g.stack) g.marks (takes_one 0 (bodies.jumps_where until target)) jump (xs ++ value ∷ []) own f ((if holds until value then again else k) f (record own { statement = t.hand }))
+              (subst (λ (d : Course State). M t.memory t.cog t.table t.hand (less f) d ((if holds until value then again else k) f (record own { statement = t.hand }))) (sym (one-is (St q (xs ++ value ∷ []) own) xs value 0 (bodies.jumps_where until target) (refl, here.low.low, omega (arith, fits, fits_stack w))))
               (m-if (holds until value) (less f) f own (St target xs own) (St q xs own) again k (jumps f own le) (paid b (St q xs) k m f own le)));
         })
 
@@ -377,7 +378,7 @@ module _ (w : Working) where
       repeats-meet (Count e) Body deep body executes p q h proper b xs here fits k m =
           let rest : ℕ → Rest = λ n. counted (difference n 1) (λ again. body again k again) k in
           value-meets e p h.0 h.3 proper.1 b xs here (omega (arith, fits)) (λ n. if n == 0 then k else rest n)
-          (λ n f own le. by-course t.memory t.cog t.line t.hand c h.0 h.1 (length g.stack) g.marks (bodies.begins_loop q) h.4 (xs ++ n ∷ []) own f (if n == 0 then k else rest n) (Finish (if n == 0 then St q xs own else St h.1 (xs ++ n ∷ []) own))
+          (λ n f own le. by-course t.memory t.cog t.table t.hand c h.0 h.1 (length g.stack) g.marks (bodies.begins_loop q) h.4 (xs ++ n ∷ []) own f (if n == 0 then k else rest n) (Finish (if n == 0 then St q xs own else St h.1 (xs ++ n ∷ []) own))
           (one-is (St h.1 (xs ++ n ∷ []) own) xs n 1 (λ a st. Finish (if a == 0 then goes_to q st else St h.1 (xs ++ n ∷ []) own)) (refl, here.low.low, omega (arith, fits, fits_stack w)))
           (finish-if (n == 0) f own (St q xs own) (St h.1 (xs ++ n ∷ []) own) k (rest n) (m f own le)
           (counted-meet h.1 h.2 q h.6 b xs here (omega (arith, fits, fits_stack w)) (λ again. body again k again) k
@@ -413,7 +414,7 @@ module _ (w : Working) where
       -- ---- statements
 
       -- a return of the method, by what follows it
-      module _ (returns : Returns t.memory t.cog t.line top c.calls c.par g.stack g.marks return) where
+      module _ (returns : Returns t.memory t.cog t.table top c.calls c.par g.stack g.marks return) where
         above-is : {b : ℕ} {xs : List ℕ} → Fine b xs → (values : List ℕ) (q : ℕ) (own : Registers) → Above c.par g.stack g.marks own (St q (xs ++ values) own)
         above-is {xs = xs} here values q own = record {
           owns = record { par = refl; outa = refl; outb = refl; dira = refl; dirb = refl };
@@ -435,26 +436,26 @@ module _ (w : Working) where
         pub return_result-meets : (p q : ℕ) → At t p (calling.return_result t.cog) q → (b : ℕ) (xs : List ℕ) → Fine b xs → Then w b (St p xs) (return (Result (s w).frame))
         unfolding calling.return_result
         return_result-meets p q h b xs here f own le =
-            by t.memory t.cog t.line t.hand c p q (length g.stack) g.marks (calling.return_result t.cog) h xs own f (return (Result (s w).frame))
+            by t.memory t.cog t.table t.hand c p q (length g.stack) g.marks (calling.return_result t.cog) h xs own f (return (Result (s w).frame))
             (returns.by t.hand f own (omega (arith, le, here.within)) (Result (s w).frame) None (St q xs own) (above-none here q own) (refl, refl))
 
         pub return_value-meets : (p q : ℕ) → At t p (calling.return_value t.cog) q → (b : ℕ) (xs : List ℕ) → Fine b xs → length xs + 1 ≤ 16384 → (value : ℕ) → Then w b (St p (xs ++ value ∷ [])) (return (Value value))
         unfolding calling.return_value
         return_value-meets p q h b xs here fits value f own le =
-            by-course t.memory t.cog t.line t.hand c p q (length g.stack) g.marks (calling.return_value t.cog) h (xs ++ value ∷ []) own f (return (Value value)) (calling.returns t.cog (Some value) c.calls (St q (xs ++ value ∷ []) own))
+            by-course t.memory t.cog t.table t.hand c p q (length g.stack) g.marks (calling.return_value t.cog) h (xs ++ value ∷ []) own f (return (Value value)) (calling.returns t.cog (Some value) c.calls (St q (xs ++ value ∷ []) own))
             (one-is (St q (xs ++ value ∷ []) own) xs value 0 (λ a st. calling.returns t.cog (Some a) c.calls (St q (xs ++ value ∷ []) own)) (refl, here.low.low, omega (arith, fits)))
             (returns.by t.hand f own (omega (arith, le, here.within)) (Value value) (Some value) (St q (xs ++ value ∷ []) own) (above-is here (value ∷ []) q own) refl)
 
         pub abort_result-meets : (p q : ℕ) → At t p (calling.abort_result t.cog) q → (b : ℕ) (xs : List ℕ) → Fine b xs → Then w b (St p xs) (abort (Result (s w).frame))
         unfolding calling.abort_result
         abort_result-meets p q h b xs here f own le =
-            by t.memory t.cog t.line t.hand c p q (length g.stack) g.marks (calling.abort_result t.cog) h xs own f (abort (Result (s w).frame))
+            by t.memory t.cog t.table t.hand c p q (length g.stack) g.marks (calling.abort_result t.cog) h xs own f (abort (Result (s w).frame))
             (aborts.by t.hand f own (omega (arith, le, here.within)) (Result (s w).frame) None (St q xs own) (above-none here q own) (refl, refl))
 
         pub abort_value-meets : (p q : ℕ) → At t p (calling.abort_value t.cog) q → (b : ℕ) (xs : List ℕ) → Fine b xs → length xs + 1 ≤ 16384 → (value : ℕ) → Then w b (St p (xs ++ value ∷ [])) (abort (Value value))
         unfolding calling.abort_value
         abort_value-meets p q h b xs here fits value f own le =
-            by-course t.memory t.cog t.line t.hand c p q (length g.stack) g.marks (calling.abort_value t.cog) h (xs ++ value ∷ []) own f (abort (Value value)) (calling.aborts t.cog (Some value) (trapping c.calls) (St q (xs ++ value ∷ []) own))
+            by-course t.memory t.cog t.table t.hand c p q (length g.stack) g.marks (calling.abort_value t.cog) h (xs ++ value ∷ []) own f (abort (Value value)) (calling.aborts t.cog (Some value) (trapping c.calls) (St q (xs ++ value ∷ []) own))
             (one-is (St q (xs ++ value ∷ []) own) xs value 0 (λ a st. calling.aborts t.cog (Some a) (trapping c.calls) (St q (xs ++ value ∷ []) own)) (refl, here.low.low, omega (arith, fits)))
             (aborts.by t.hand f own (omega (arith, le, here.within)) (Value value) (Some value) (St q (xs ++ value ∷ []) own) (above-is here (value ∷ []) q own) refl)
 
@@ -470,7 +471,7 @@ module _ (w : Working) where
 abbrev pub at_work : Working → Place → Working
 at_work v hand = record v { t = on v.t hand }
 
-module _ (v : Working) (most_passes : ℕ) (return : Returned → Rest) (enough : v.top < most_passes) (returns : Returns v.t.memory v.t.cog v.t.line v.top v.c.calls v.c.par v.g.stack v.g.marks return) where
+module _ (v : Working) (most_passes : ℕ) (return : Returned → Rest) (enough : v.top < most_passes) (returns : Returns v.t.memory v.t.cog v.t.table v.top v.c.calls v.c.par v.g.stack v.g.marks return) where
   open v use {t, c, callee, abort, g, top}
 
   abbrev O : Place → Working
@@ -484,15 +485,15 @@ module _ (v : Working) (most_passes : ℕ) (return : Returned → Rest) (enough 
 
   -- what follows for the statement around, and for the one inside it
   inside : (around hand : Place) (b p : ℕ) (xs : List ℕ) (r : Rest) → Then (O around) b (St v p xs) r → Then (O hand) b (St v p xs) (for_statement around r)
-  inside around hand b p xs r m f own le = goes-back (engine_of t.memory t.cog) (λ s. t.line s.at) around r hand (m f own le)
+  inside around hand b p xs r m f own le = goes-back (engine_of t.memory t.cog) (λ s place. Contains t.table (s.at, place)) around r hand (m f own le)
 
   inside-paid : (around hand : Place) (b p : ℕ) (xs : List ℕ) (r : Rest) → Paid (O around) b (St v p xs) r → Paid (O hand) b (St v p xs) (for_statement around r)
-  inside-paid around hand b p xs r m f own le = any-place (engine_of t.memory t.cog) (λ s. t.line s.at) (m f own le)
+  inside-paid around hand b p xs r m f own le = any-place (engine_of t.memory t.cog) (λ s place. Contains t.table (s.at, place)) (m f own le)
 
   -- a statement does its action for itself
   itself : (around hand : Place) (b p : ℕ) (xs : List ℕ) (action : statements.Body) (next quit k : Rest) → Then (O hand) b (St v p xs) (action (for_statement around next) (for_statement around quit) (for_statement around k))
       → Then (O around) b (St v p xs) (statements.for_itself hand action next quit k)
-  itself around hand b p xs action next quit k m f own le = record { meets = any-place (engine_of t.memory t.cog) (λ s. t.line s.at) (m f own le).meets }
+  itself around hand b p xs action next quit k m f own le = record { meets = any-place (engine_of t.memory t.cog) (λ s place. Contains t.table (s.at, place)) (m f own le).meets }
 
   around-for : (around hand : Place) (inner : Inner) (b : ℕ) (xs : List ℕ) (next quit : Rest) → IsAround (O around) inner b xs next quit → IsAround (O hand) inner b xs (for_statement around next) (for_statement around quit)
   around-for around hand outside b xs next quit is = tt

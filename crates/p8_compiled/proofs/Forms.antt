@@ -1,6 +1,6 @@
 -- What the code of each form of an expression does, by what its parts do.
 use Rattle.std.proofs.Common.{◌≡◌, refl, sym, ap, ap₂, subst, ◌∙◌, arith, ℕ, suc, max, ◌+◌, ◌-◌, ◌*◌, ◌%◌, ◌^◌, ◌<◌, ◌≤◌, ◌==◌, Bool, true, false, if◌then◌else◌, List, [], ◌∷◌, ◌++◌, length, Option, Some, None, append-nil}
-use Rattle.std.specs.Prelude.{nat_le, nat_lt, not, ◌&&◌, slice_get}
+use Rattle.std.specs.Prelude.{Contains, nat_le, nat_lt, not, ◌&&◌, slice_get}
 use Rattle.std.proofs.Math.ListN.{length-append}
 use Rattle.std.specs.Str.{bytes_eq}
 use Rattle.p8_access.specs.Courses.{Course, Finish, Stop}
@@ -77,12 +77,12 @@ pub record Working : Type 0 where
   pub abort : Returned → Rest
   pub placed : Placed t.memory t.cog t.program t.addresses
   pub most : ℕ
-  pub ok : CallsOk t.memory t.cog t.line t.program t.addresses most c.par callee
+  pub ok : CallsOk t.memory t.cog t.table t.program t.addresses most c.par callee
   pub g : Begun
   pub begun : Room c.calls g.stack g.marks
   pub top : ℕ
   pub lesser : top ≤ most
-  pub aborts : Aborts t.memory t.cog t.line top c.calls c.par g.stack g.marks abort
+  pub aborts : Aborts t.memory t.cog t.table top c.calls c.par g.stack g.marks abort
   pub is_instance : IsInstance t.program t.addresses (record { file = t.number; base = c.pbase; variables = c.vbase })
   pub is_file : slice_get t.program t.number ≡ Some t.file
 
@@ -143,10 +143,10 @@ module _ (w : Working) where
   s = standing.scope_of t (at c 0 0 [] [] cleared)
 
   abbrev pub E : Reading State
-  E = engine t.memory t.cog t.line t.hand
+  E = engine t.memory t.cog t.table t.hand
 
   abbrev pub K : ℕ → Registers → Course State → Rest → Type 0
-  K f own d r = F t.memory t.cog t.line t.hand f own d r
+  K f own d r = F t.memory t.cog t.table t.hand f own d r
 
   -- what a state follows, with each bound up to b
   abbrev pub Then : (b : ℕ) → (Registers → State) → Rest → Type 0
@@ -154,7 +154,7 @@ module _ (w : Working) where
 
   -- what comes back to the statement at hand
   pub backs : (b : ℕ) (state : Registers → State) (does : (Rest → Rest) → Rest) → Then b state (does (for_statement t.hand)) → Then b state (comes_back does)
-  backs b state does m f own le = comes-back (engine_of t.memory t.cog) (λ s. t.line s.at) t.hand does (m f own le)
+  backs b state does m f own le = comes-back (engine_of t.memory t.cog) (λ s place. Contains t.table (s.at, place)) t.hand does (m f own le)
 
   finish-left : (q base : ℕ) (marks : List Mark) (xs : List ℕ) (used : Bool) (value f : ℕ) (own : Registers) (r : Rest) → K f own (Finish (at c q base marks (left_on used xs value) own)) r → K f own (Finish (left_by (if_used used value) (at c q base marks xs own))) r
   finish-left q base marks xs true value f own r m = m
@@ -194,14 +194,14 @@ module _ (w : Working) where
 
   pub opens-meets : (p q base : ℕ) (marks : List Mark) (xs : List ℕ) (unused traps : Bool) → standing.At t p (standing.opens unused traps) q → length marks < 16384 → (b : ℕ) (r : Rest) → Then b (at c q (length xs) (mark_of base unused traps ∷ marks) xs) r → Then b (at c p base marks xs) r
   opens-meets p q base marks xs unused traps h few b r m f own le =
-      by-course t.memory t.cog t.line t.hand c p q base marks (standing.opens unused traps) h xs own f r (Finish (at c q (length xs) (mark_of base unused traps ∷ marks) xs own))
+      by-course t.memory t.cog t.table t.hand c p q base marks (standing.opens unused traps) h xs own f r (Finish (at c q (length xs) (mark_of base unused traps ∷ marks) xs own))
       (if-false (nat_le 16384 (length marks)) _ _ (lt-leb 16384 (length marks) few)) (m f own le)
 
   has-mark : {base : ℕ} {marks : List Mark} {xs : List ℕ} → Low g base marks xs → nat_lt (calling.marks_below c.calls) (suc (length marks)) ≡ true
   has-mark {marks = marks} low = lt-ltb (calling.marks_below c.calls) (suc (length marks)) (omega (arith, begun.below, ap length low.marked ∙ length-append low.opened g.marks))
 
   module _ (q base : ℕ) (marks : List Mark) (xs : List ℕ) (b : ℕ) (here : Stands b base marks xs) (values : length xs ≤ room) (opened : length marks ≤ marked) (unused stops : Bool) (return : Returned → Rest)
-      (back : (hand : Place) (f : ℕ) (own : Registers) → f ≤ b → (returned : Returned) (given : Option ℕ) (st : State) → Above c.par xs marks own st → GivesBack returned st given → F t.memory t.cog t.line hand f own (calling.goes_back given (called c q base (length xs) (length marks) unused stops) c.calls st) (return returned)) where
+      (back : (hand : Place) (f : ℕ) (own : Registers) → f ≤ b → (returned : Returned) (given : Option ℕ) (st : State) → Above c.par xs marks own st → GivesBack returned st given → F t.memory t.cog t.table hand f own (calling.goes_back given (called c q base (length xs) (length marks) unused stops) c.calls st) (return returned)) where
     abbrev this_mark : Mark
     this_mark = mark_of base unused stops
 
@@ -212,7 +212,7 @@ module _ (w : Working) where
         Then b (at c p (length xs) (this_mark ∷ marks) stack) (calls callee s stops (Some target) arguments return abort)
     target-meets p course h stack target is_instance file is_file tree is_tree arguments arity is f own le = record {
       meets =
-          called-meets t.memory t.cog t.line t.program t.addresses placed most callee c ok g begun top lesser abort aborts q base xs marks here.low unused stops return b here.within back
+          called-meets t.memory t.cog t.table t.program t.addresses placed most callee c ok g begun top lesser abort aborts q base xs marks here.low unused stops return b here.within back
           target is_instance file is_file tree is_tree arguments arity values opened t.hand p course h stack is (nat_lt (length c.calls + 1) 128) refl f own le;
     }
 
@@ -243,7 +243,7 @@ module _ (w : Working) where
   target-is item place name count n o = ap₂ (λ a d. target_of a d (λ file number. record { instance = instance_at t.addresses s.instance file place; method = number })) o.is_child o.is_named
 
   module _ (q base : ℕ) (marks : List Mark) (xs : List ℕ) (b : ℕ) (here : Stands b base marks xs) (values : length xs ≤ room) (opened : length marks ≤ marked) (unused stops : Bool) (return : Returned → Rest)
-      (back : (hand : Place) (f : ℕ) (own : Registers) → f ≤ b → (returned : Returned) (given : Option ℕ) (st : State) → Above c.par xs marks own st → GivesBack returned st given → F t.memory t.cog t.line hand f own (calling.goes_back given (called c q base (length xs) (length marks) unused stops) c.calls st) (return returned))
+      (back : (hand : Place) (f : ℕ) (own : Registers) → f ≤ b → (returned : Returned) (given : Option ℕ) (st : State) → Above c.par xs marks own st → GivesBack returned st given → F t.memory t.cog t.table hand f own (calling.goes_back given (called c q base (length xs) (length marks) unused stops) c.calls st) (return returned))
       (object : List ℕ) (item position instances : ℕ) (kind : t.file.kind t.method object ≡ Some (kind_case.Object item position instances)) (name : List ℕ) (arguments : List ℕ) (full : length (xs ++ arguments) ≤ 16384) (n : ℕ) (o : standing.IsObjectMethod t item name (length arguments) n) where
     abbrev the_mark : Mark
     the_mark = mark_of base unused stops
@@ -286,7 +286,7 @@ module _ (w : Working) where
         ∙ ap (λ (so : Bool). if not so then Stop Why.Table else calling.calls_object t.memory (position + v) n (there (xs ++ arguments) own))
         (all-true (is_object t.memory c.pbase position) (nat_lt v instances) (is_object t.memory c.pbase (position + v)) first is (placed_there v below).is_object))
     indexed-meets p v h false is = λ f own le.
-        by-course t.memory t.cog t.line t.hand c p q (length xs) (the_mark ∷ marks) (calling.call_indexed t.memory position instances n) h ((xs ++ arguments) ++ v ∷ []) own f (halts Why.Table) (Stop Why.Table)
+        by-course t.memory t.cog t.table t.hand c p q (length xs) (the_mark ∷ marks) (calling.call_indexed t.memory position instances n) h ((xs ++ arguments) ++ v ∷ []) own f (halts Why.Table) (Stop Why.Table)
         (picked-is v own ∙ ap (λ (so : Bool). if not so then Stop Why.Table else calling.calls_object t.memory (position + v) n (there (xs ++ arguments) own))
         (one-false (is_object t.memory c.pbase position) (nat_lt v instances) (is_object t.memory c.pbase (position + v)) is))
         (follows-halts E Why.Table)
@@ -306,7 +306,7 @@ module _ (w : Working) where
 
   -- the call of an object's method, by the kind of the object's name
   pub object-meets : (q base : ℕ) (marks : List Mark) (xs : List ℕ) (b : ℕ) (here : Stands b base marks xs) (values : length xs ≤ room) (opened : length marks ≤ marked) (unused stops : Bool) (return : Returned → Rest)
-      (back : (hand : Place) (f : ℕ) (own : Registers) → f ≤ b → (returned : Returned) (given : Option ℕ) (st : State) → Above c.par xs marks own st → GivesBack returned st given → F t.memory t.cog t.line hand f own (calling.goes_back given (called c q base (length xs) (length marks) unused stops) c.calls st) (return returned))
+      (back : (hand : Place) (f : ℕ) (own : Registers) → f ≤ b → (returned : Returned) (given : Option ℕ) (st : State) → Above c.par xs marks own st → GivesBack returned st given → F t.memory t.cog t.table hand f own (calling.goes_back given (called c q base (length xs) (length marks) unused stops) c.calls st) (return returned))
       (object name : List ℕ) (arguments : List ℕ) (full : length (xs ++ arguments) ≤ 16384) (p : ℕ) (i : Index) (names : List ℕ) → length names ≡ index_count i → (kind : Option NameKind) → t.file.kind t.method object ≡ kind → standing.ObjectCallAt t kind i name (length arguments) p q →
       Then b (at c p (length xs) (mark_of base unused stops ∷ marks) ((xs ++ arguments) ++ names)) (expressions.calls_of_object callee s abort stops kind (index_in i (at_number names 0)) name arguments return)
   object-meets q base marks xs b here values opened unused stops return back object name arguments full p i names is (Some (kind_case.Object item position instances)) kind h =
@@ -320,10 +320,10 @@ module _ (w : Working) where
 
   pub used-back : (q base : ℕ) (marks : List Mark) (xs : List ℕ) (b : ℕ) (stops : Bool) → length xs + 1 ≤ 16384 → (k : ℕ → Rest) → ((value : ℕ) → Then b (at c q base marks (xs ++ value ∷ [])) (k value)) →
       (hand : Place) (f : ℕ) (own : Registers) → f ≤ b → (returned : Returned) (given : Option ℕ) (st : State) → Above c.par xs marks own st → GivesBack returned st given →
-      F t.memory t.cog t.line hand f own (calling.goes_back given (called c q base (length xs) (length marks) false stops) c.calls st) (uses returned (λ value. for_statement t.hand (k value)))
+      F t.memory t.cog t.table hand f own (calling.goes_back given (called c q base (length xs) (length marks) false stops) c.calls st) (uses returned (λ value. for_statement t.hand (k value)))
   used-back q base marks xs b stops fits k m hand f own le returned given st above is =
-      back-used t.memory t.cog t.line hand c q base xs marks stops fits f own returned given st (λ value. for_statement t.hand (k value)) above is
-      (λ value. goes-back (engine_of t.memory t.cog) (λ s. t.line s.at) t.hand (k value) hand (m value f own le))
+      back-used t.memory t.cog t.table hand c q base xs marks stops fits f own returned given st (λ value. for_statement t.hand (k value)) above is
+      (λ value. goes-back (engine_of t.memory t.cog) (λ s place. Contains t.table (s.at, place)) t.hand (k value) hand (m value f own le))
 
   pub where-meets : (so : Bool) {A B : Type 0} (b : ℕ) (state : Registers → State) (r u : Rest) → WhereSo so A B → (A → Then b state r) → (B → Then b state u) → Then b state (if so then r else u)
   where-meets true b state r u h x y = x h
@@ -335,18 +335,18 @@ module _ (w : Working) where
         ((value : ℕ) → Then b (at c q base marks (xs ++ value ∷ [])) (k value)) → Then b (at c p base marks (xs ++ names)) (fetches s (site s v names) k)
     unfolding places.uses
     read-meets fits v there h names is k m f own le =
-        by-names t.memory t.cog t.line t.hand c p q base marks xs own low f (fetches s (site s v names) k) (names_count v) 1 (standing.reads t v) h names is fits
+        by-names t.memory t.cog t.table t.hand c p q base marks xs own low f (fetches s (site s v names) k) (names_count v) 1 (standing.reads t v) h names is fits
         (follows-read E c q base marks xs s refl wanted_case.Pushed (site s v names) (there-is false v there names) f f own k (λ value. m value f own le))
 
     pub assign-meets : (used : Bool) → length xs + leaves_if used ≤ 16384 → (v : Variable) → HasRegister true v → (operator : Option ℕ) → standing.AssignAt t used operator v p q → (right : ℕ) (names : List ℕ) → length names ≡ names_count v → (k : ℕ → Rest) →
         ((value : ℕ) → Then b (at c q base marks (left_on used xs value)) (k value)) → Then b (at c p base marks ((xs ++ right ∷ []) ++ names)) (assigns s operator (site s v names) right k)
     assign-meets used fits v there None h right names is k m f own le =
-        by-value t.memory t.cog t.line t.hand c p q base marks xs own low f (assigns s None (site s v names) right k) (names_count v) (leaves_if used) (standing.writes t used v) h right names is fits
+        by-value t.memory t.cog t.table t.hand c p q base marks xs own low f (assigns s None (site s v names) right k) (names_count v) (leaves_if used) (standing.writes t used v) h right names is fits
         (follows-write E c q base marks xs (site s v names) (there-is true v there names) right (if_used used right) f f own (k right) (λ o. finish-left q base marks xs used right f o (k right) (m right f o le)))
     assign-meets used fits v there (Some operator) h right names is k m f own le =
         let new : ℕ → ℕ = λ value. binary_value operator value right in
         let kept : ℕ → ℕ = λ value. reduced (site s v names) (new value) in
-        by-value t.memory t.cog t.line t.hand c p q base marks xs own low f (assigns s (Some operator) (site s v names) right k) (names_count v) (leaves_if used) (standing.operates t h.0 v) h.2 right names is fits
+        by-value t.memory t.cog t.table t.hand c p q base marks xs own low f (assigns s (Some operator) (site s v names) right k) (names_count v) (leaves_if used) (standing.operates t h.0 v) h.2 right names is fits
         (follows-read E c q base marks xs s refl (wanted_case.Changed h.0 right) (site s v names) (there-is false v (can_read v there) names) f f own (λ value. stores (site s v names) (new value) (k (kept value)))
         (λ value. subst (λ (d : Course State). K f own d (stores (site s v names) (new value) (k (kept value)))) (sym (operation-is h.1 (site s v names) value right (at c q base marks xs own)))
         (follows-write E c q base marks xs (site s v names) (there-is true v there names) (new value) (if_used used (kept value)) f f own (k (kept value)) (λ o. finish-left q base marks xs used (kept value) f o (k (kept value)) (m (kept value) f o le)))))
@@ -355,14 +355,14 @@ module _ (w : Working) where
         ((old : ℕ) → Then b (at c q base marks (xs ++ old ∷ [])) (k old)) → Then b (at c p base marks (xs ++ names)) (replaces s (site s v names) value k)
     unfolding places.uses
     replace-meets fits v there value h names is k m f own le =
-        by-names t.memory t.cog t.line t.hand c p q base marks xs own low f (replaces s (site s v names) value k) (names_count v) 1 (standing.replaces t true value v) h names is fits
+        by-names t.memory t.cog t.table t.hand c p q base marks xs own low f (replaces s (site s v names) value k) (names_count v) 1 (standing.replaces t true value v) h names is fits
         (follows-read E c q base marks xs s refl (wanted_case.Replaced value) (site s v names) (there-is false v (can_read v there) names) f f own (λ old. stores (site s v names) value (k old))
         (λ old. follows-write E c q base marks xs (site s v names) (there-is true v there names) value (Some old) f f own (k old) (λ o. m old f o le)))
 
     set-meets : length xs + 0 ≤ 16384 → (v : Variable) → HasRegister true v → (value : ℕ) → standing.ReplaceAt t false value v p q → (names : List ℕ) → length names ≡ names_count v → (k : Rest) →
         Then b (at c q base marks xs) k → Then b (at c p base marks (xs ++ names)) (stores (site s v names) value k)
     set-meets fits v there value h names is k m f own le =
-        by-names t.memory t.cog t.line t.hand c p q base marks xs own low f (stores (site s v names) value k) (names_count v) 0 (standing.replaces t false value v) h names is fits
+        by-names t.memory t.cog t.table t.hand c p q base marks xs own low f (stores (site s v names) value k) (names_count v) 0 (standing.replaces t false value v) h names is fits
         (follows-write E c q base marks xs (site s v names) (there-is true v there names) value None f f own k (λ o. m f o le))
 
     abbrev changes_to : (change : ℕ) → Location → (ℕ → Rest) → Rest
@@ -372,7 +372,7 @@ module _ (w : Working) where
         ((value : ℕ) → Then b (at c q base marks (left_on used xs value)) (k value)) → Then b (at c p base marks (xs ++ names)) (changes_to change (site s v names) k)
     update-meets used fits v there change h names is k m f own le =
         let kept : ℕ → ℕ = λ old. reduced (site s v names) (if gives_old change then old else changed change old) in
-        by-names t.memory t.cog t.line t.hand c p q base marks xs own low f (changes_to change (site s v names) k) (names_count v) (leaves_if used) (standing.updates t h.0 v) h.2 names is fits
+        by-names t.memory t.cog t.table t.hand c p q base marks xs own low f (changes_to change (site s v names) k) (names_count v) (leaves_if used) (standing.updates t h.0 v) h.2 names is fits
         (follows-read E c q base marks xs s refl (wanted_case.Changed h.0 0) (site s v names) (there-is false v (can_read v there) names) f f own (λ old. stores (site s v names) (changed change old) (k (kept old)))
         (λ old. subst (λ (d : Course State). K f own d (stores (site s v names) (changed change old) (k (kept old)))) (sym (change-is h.1 (site s v names) old (at c q base marks xs own)))
         (follows-write E c q base marks xs (site s v names) (there-is true v there names) (changed change old) (if_used used (kept old)) f f own (k (kept old)) (λ o. finish-left q base marks xs used (kept old) f o (k (kept old)) (m (kept old) f o le)))))
@@ -403,7 +403,7 @@ module _ (w : Working) where
 
     kind-meets : Stands b base marks xs → length xs ≤ room → length marks ≤ marked → length xs + 1 ≤ 16384 → (name : List ℕ) (v : Variable) → (standing.ReadAt t v p q → (k : ℕ → Rest) → ((value : ℕ) → Then b (at c q base marks (xs ++ value ∷ [])) (k value)) → Reads name v k) → (kind : Option NameKind) → standing.KindAt t v kind p q → (k : ℕ → Rest) →
         ((value : ℕ) → Then b (at c q base marks (xs ++ value ∷ [])) (k value)) → Then b (at c p base marks xs) (expressions.value_of_kind callee s abort name kind k)
-    kind-meets here high few fits name v reads (Some (kind_case.Const value)) h k m f own le = by-gives t.memory t.cog t.line t.hand c p q base marks xs own low f (k value) value h fits (m value f own le)
+    kind-meets here high few fits name v reads (Some (kind_case.Const value)) h k m f own le = by-gives t.memory t.cog t.table t.hand c p q base marks xs own low f (k value) value h fits (m value f own le)
     kind-meets here high few fits name v reads (Some (kind_case.Method n params)) h k m f own le =
         backs b (at c p base marks xs) (λ back. expressions.calls_own callee s abort false (Some (kind_case.Method n params)) [] (λ x. uses x (λ value. back (k value)))) (
         let go : ℕ → Rest = λ value. for_statement t.hand (k value) in
@@ -436,7 +436,7 @@ module _ (w : Working) where
     kept-meets : (state : Registers → State) (r : Rest) (Ends : ℕ → Type 0) (k : ℕ → Rest) → ((e : ℕ) → Ends e → ((value : ℕ) → Then b (at c e base marks (xs ++ value ∷ [])) (k value)) → Then b state r) → (used : Bool) → standing.Kept t used Ends q → Leaves used k → Then b state r
     kept-meets state r Ends k m true h n = m q h n
     kept-meets state r Ends k m false h n =
-        m h.0 h.1 (λ value f own le. by-one t.memory t.cog t.line t.hand c h.0 q base marks xs own low f (k value) 0 drops h.2 value (omega (arith, fits)) (n value f own le))
+        m h.0 h.1 (λ value f own le. by-one t.memory t.cog t.table t.hand c h.0 q base marks xs own low f (k value) 0 drops h.2 value (omega (arith, fits)) (n value f own le))
 
     -- what leaves no value
     no_value-meets : (state : Registers → State) (r : Rest) (used : Bool) {A : Type 0} → standing.Alone used A → (A → (used ≡ false) → Then b state r) → Then b state r
@@ -454,25 +454,25 @@ module _ (w : Working) where
     hub-meets : (p e : ℕ) (width : Width) (address p1 : ℕ) → standing.At t p (gives address) p1 → standing.At t p1 (takes_one 1 (standing.reads_hub width)) e → (k : ℕ → Rest) → ((value : ℕ) → Then b (at c e base marks (xs ++ value ∷ [])) (k value)) → Then b (at c p base marks xs) (reads width (address % 2 ^ 16) k)
     unfolding places.uses
     hub-meets p e width address p1 h h1 k m f own le =
-        by-gives t.memory t.cog t.line t.hand c p p1 base marks xs own low f (reads width (address % 2 ^ 16) k) address h fits
-        (by-one t.memory t.cog t.line t.hand c p1 e base marks xs own low f (reads width (address % 2 ^ 16) k) 1 (standing.reads_hub width) h1 address fits
+        by-gives t.memory t.cog t.table t.hand c p p1 base marks xs own low f (reads width (address % 2 ^ 16) k) address h fits
+        (by-one t.memory t.cog t.table t.hand c p1 e base marks xs own low f (reads width (address % 2 ^ 16) k) 1 (standing.reads_hub width) h1 address fits
         (follows-read E c e base marks xs s refl wanted_case.Pushed (Hub width (address % 2 ^ 16)) tt f f own k (λ value. m value f own le)))
 
     pub constant-meets : (used : Bool) (value p : ℕ) → standing.Alone (not used) (standing.At t p (gives value) q) → (k : ℕ → Rest) → Leaves used k → Then b (at c p base marks xs) (k value)
-    constant-meets true value p h k n f own le = by-gives t.memory t.cog t.line t.hand c p q base marks xs own low f (k value) value h fits (n value f own le)
+    constant-meets true value p h k n f own le = by-gives t.memory t.cog t.table t.hand c p q base marks xs own low f (k value) value h fits (n value f own le)
     constant-meets false value p h k n f own le = absurd h
 
     pub none-meets : (used : Bool) (code p : ℕ) → standing.NoneAt t used code p q → (k : ℕ → Rest) → Leaves used k → Then b (at c p base marks xs) (builtins.does_none code k)
     none-meets used code p h k n =
         let state : Registers → State = at c p base marks xs in
         where-meets (code == 0x3F) b state (asks access_case.CogId k) (if code == 0xC0 then reads Long 0 k else if code == 0x80 then reads Byte 4 k else if code == 0x29 then asks access_case.LockNew k else untold) h
-        (λ h0. kept-meets state (asks access_case.CogId k) (λ e. standing.At t p (takes_none 1 standing.cog_id) e) k (λ e h1 m f own le. by-none t.memory t.cog t.line t.hand c p e base marks xs own low f (asks access_case.CogId k) 1 standing.cog_id h1 fits (word-follows t.memory t.cog t.line t.hand c e base marks xs f own true access_case.CogId k (λ value. m value f own le))) used h0 n)
+        (λ h0. kept-meets state (asks access_case.CogId k) (λ e. standing.At t p (takes_none 1 standing.cog_id) e) k (λ e h1 m f own le. by-none t.memory t.cog t.table t.hand c p e base marks xs own low f (asks access_case.CogId k) 1 standing.cog_id h1 fits (word-follows t.memory t.cog t.table t.hand c e base marks xs f own true access_case.CogId k (λ value. m value f own le))) used h0 n)
         (λ h2. where-meets (code == 0xC0) b state (reads Long 0 k) (if code == 0x80 then reads Byte 4 k else if code == 0x29 then asks access_case.LockNew k else untold) h2
         (λ h0. kept-meets state (reads Long 0 k) (λ e. (p1 : ℕ) × standing.At t p (gives 0) p1 × standing.At t p1 (takes_one 1 (standing.reads_hub Long)) e) k (λ e h1 m. hub-meets p e Long 0 h1.0 h1.1 h1.2 k m) used h0 n)
         (λ h3. where-meets (code == 0x80) b state (reads Byte 4 k) (if code == 0x29 then asks access_case.LockNew k else untold) h3
         (λ h0. kept-meets state (reads Byte 4 k) (λ e. (p1 : ℕ) × standing.At t p (gives 4) p1 × standing.At t p1 (takes_one 1 (standing.reads_hub Byte)) e) k (λ e h1 m. hub-meets p e Byte 4 h1.0 h1.1 h1.2 k m) used h0 n)
         (λ h4. where-meets (code == 0x29) b state (asks access_case.LockNew k) untold h4
-        (λ h0 f own le. by-none t.memory t.cog t.line t.hand c p q base marks xs own low f (asks access_case.LockNew k) (leaves_if used) (standing.word_if used access_case.LockNew) h0 (fits_used used) (word-follows t.memory t.cog t.line t.hand c q base marks xs f own used access_case.LockNew k (λ value. n value f own le)))
+        (λ h0 f own le. by-none t.memory t.cog t.table t.hand c p q base marks xs own low f (asks access_case.LockNew k) (leaves_if used) (standing.word_if used access_case.LockNew) h0 (fits_used used) (word-follows t.memory t.cog t.table t.hand c q base marks xs f own used access_case.LockNew k (λ value. n value f own le)))
         (λ h5. absurd h5))))
 
     pub one-meets : (used : Bool) (code p a : ℕ) → standing.OneAt t used code p q → (k : ℕ → Rest) → Leaves used k → Then b (at c p base marks (xs ++ a ∷ [])) (builtins.does_one code a k)
@@ -490,17 +490,17 @@ module _ (w : Working) where
         let after2 : Rest = if code == 0x22 then frees else after3 in
         let after1 : Rest = if code == 0x21 then stops else after2 in
         where-meets (code == 0x16) b state text after1 h
-        (λ h0. kept-meets state text (λ e. standing.At t p (takes_one 1 standing.measures_text) e) k (λ e h1 m f own le. by-one t.memory t.cog t.line t.hand c p e base marks xs own low f text 1 standing.measures_text h1 a fits (measures-follow t.memory t.cog t.line t.hand c e base marks xs f own _ _ 0 k (λ value. m value f own le))) used h0 n)
+        (λ h0. kept-meets state text (λ e. standing.At t p (takes_one 1 standing.measures_text) e) k (λ e h1 m f own le. by-one t.memory t.cog t.table t.hand c p e base marks xs own low f text 1 standing.measures_text h1 a fits (measures-follow t.memory t.cog t.table t.hand c e base marks xs f own _ _ 0 k (λ value. m value f own le))) used h0 n)
         (λ h1. where-meets (code == 0x21) b state stops after2 h1
-        (λ h0. no_value-meets state stops used h0 (λ h0 is f own le. by-one t.memory t.cog t.line t.hand c p q base marks xs own low f stops 0 standing.stops_cog h0 a (omega (arith, fits)) (tells-follows t.memory t.cog t.line t.hand c q base marks xs f own (access_case.CogStop (a % 8)) (k 0) (left-none used is k n f own le))))
+        (λ h0. no_value-meets state stops used h0 (λ h0 is f own le. by-one t.memory t.cog t.table t.hand c p q base marks xs own low f stops 0 standing.stops_cog h0 a (omega (arith, fits)) (tells-follows t.memory t.cog t.table t.hand c q base marks xs f own (access_case.CogStop (a % 8)) (k 0) (left-none used is k n f own le))))
         (λ h2. where-meets (code == 0x22) b state frees after3 h2
-        (λ h0. no_value-meets state frees used h0 (λ h0 is f own le. by-one t.memory t.cog t.line t.hand c p q base marks xs own low f frees 0 standing.returns_lock h0 a (omega (arith, fits)) (tells-follows t.memory t.cog t.line t.hand c q base marks xs f own (access_case.LockRet (a % 8)) (k 0) (left-none used is k n f own le))))
+        (λ h0. no_value-meets state frees used h0 (λ h0 is f own le. by-one t.memory t.cog t.table t.hand c p q base marks xs own low f frees 0 standing.returns_lock h0 a (omega (arith, fits)) (tells-follows t.memory t.cog t.table t.hand c q base marks xs f own (access_case.LockRet (a % 8)) (k 0) (left-none used is k n f own le))))
         (λ h3. where-meets (code == 0x23) b state waits after4 h3
-        (λ h0. no_value-meets state waits used h0 (λ h0 is f own le. by-one t.memory t.cog t.line t.hand c p q base marks xs own low f waits 0 standing.waits_until h0 a (omega (arith, fits)) (tells-follows t.memory t.cog t.line t.hand c q base marks xs f own (access_case.Wait (test_case.Count a)) (k 0) (left-none used is k n f own le))))
+        (λ h0. no_value-meets state waits used h0 (λ h0 is f own le. by-one t.memory t.cog t.table t.hand c p q base marks xs own low f waits 0 standing.waits_until h0 a (omega (arith, fits)) (tells-follows t.memory t.cog t.table t.hand c q base marks xs f own (access_case.Wait (test_case.Count a)) (k 0) (left-none used is k n f own le))))
         (λ h4. where-meets (code == 0x2A) b state sets after5 h4
-        (λ h0 f own le. by-one t.memory t.cog t.line t.hand c p q base marks xs own low f sets (leaves_if used) (standing.sets_lock used) h0 a (fits_used used) (word-follows t.memory t.cog t.line t.hand c q base marks xs f own used (access_case.LockSet (a % 8)) k (λ value. n value f own le)))
+        (λ h0 f own le. by-one t.memory t.cog t.table t.hand c p q base marks xs own low f sets (leaves_if used) (standing.sets_lock used) h0 a (fits_used used) (word-follows t.memory t.cog t.table t.hand c q base marks xs f own used (access_case.LockSet (a % 8)) k (λ value. n value f own le)))
         (λ h5. where-meets (code == 0x2B) b state clears untold h5
-        (λ h0 f own le. by-one t.memory t.cog t.line t.hand c p q base marks xs own low f clears (leaves_if used) (standing.clears_lock used) h0 a (fits_used used) (word-follows t.memory t.cog t.line t.hand c q base marks xs f own used (access_case.LockClr (a % 8)) k (λ value. n value f own le)))
+        (λ h0 f own le. by-one t.memory t.cog t.table t.hand c p q base marks xs own low f clears (leaves_if used) (standing.clears_lock used) h0 a (fits_used used) (word-follows t.memory t.cog t.table t.hand c q base marks xs f own used (access_case.LockClr (a % 8)) k (λ value. n value f own le)))
         (λ h6. absurd h6))))))
 
     pub two-meets : (used : Bool) (code p x y : ℕ) → standing.TwoAt t used code p q → (k : ℕ → Rest) → Leaves used k → Then b (at c p base marks ((xs ++ x ∷ []) ++ y ∷ [])) (builtins.does_two code x y k)
@@ -508,7 +508,7 @@ module _ (w : Working) where
         let state : Registers → State = at c p base marks ((xs ++ x ∷ []) ++ y ∷ []) in
         let texts : Rest = builtins.compares (builtins.room_from (x % 2 ^ 16)) (x % 2 ^ 16) (y % 2 ^ 16) k in
         where-meets (code == 0x17) b state texts untold h
-        (λ h0. kept-meets state texts (λ e. standing.At t p (takes_two 1 standing.compares_texts) e) k (λ e h1 m f own le. by-two t.memory t.cog t.line t.hand c p e base marks xs own low f texts 1 standing.compares_texts h1 x y fits (compares-follow t.memory t.cog t.line t.hand c e base marks xs f own _ _ _ k (λ value. m value f own le))) used h0 n)
+        (λ h0. kept-meets state texts (λ e. standing.At t p (takes_two 1 standing.compares_texts) e) k (λ e h1 m f own le. by-two t.memory t.cog t.table t.hand c p e base marks xs own low f texts 1 standing.compares_texts h1 x y fits (compares-follow t.memory t.cog t.table t.hand c e base marks xs f own _ _ _ k (λ value. m value f own le))) used h0 n)
         (λ h1. absurd h1)
 
     pub three-meets : (used : Bool) (code p x y z : ℕ) → standing.ThreeAt t used code p q → (k : ℕ → Rest) → Leaves used k → Then b (at c p base marks (((xs ++ x ∷ []) ++ y ∷ []) ++ z ∷ [])) (builtins.does_three code x y z k)
@@ -529,43 +529,43 @@ module _ (w : Working) where
         (λ h1. where-meets (code == 0x19) b state (fills Word) after2 h1 (fills-meet Word)
         (λ h2. where-meets (code == 0x1A) b state (fills Long) after3 h2 (fills-meet Long)
         (λ h3. where-meets (code == 0x1B) b state equal after4 h3
-        (λ h0. no_value-meets state equal used h0 (λ h0 is f own le. by-three t.memory t.cog t.line t.hand c p q base marks xs own low f equal 0 standing.waits_equal h0 x y z (omega (arith, fits)) (waits-follow t.memory t.cog t.line t.hand c q base marks xs f own z (test_case.PinsEqual x y) (k 0) (left-none used is k n f own le))))
+        (λ h0. no_value-meets state equal used h0 (λ h0 is f own le. by-three t.memory t.cog t.table t.hand c p q base marks xs own low f equal 0 standing.waits_equal h0 x y z (omega (arith, fits)) (waits-follow t.memory t.cog t.table t.hand c q base marks xs f own z (test_case.PinsEqual x y) (k 0) (left-none used is k n f own le))))
         (λ h4. where-meets (code == 0x1C) b state (moves Byte) after5 h4 (moves-meet Byte)
         (λ h5. where-meets (code == 0x1D) b state (moves Word) after6 h5 (moves-meet Word)
         (λ h6. where-meets (code == 0x1E) b state (moves Long) after7 h6 (moves-meet Long)
         (λ h7. where-meets (code == 0x1F) b state differ untold h7
-        (λ h0. no_value-meets state differ used h0 (λ h0 is f own le. by-three t.memory t.cog t.line t.hand c p q base marks xs own low f differ 0 standing.waits_differ h0 x y z (omega (arith, fits)) (waits-follow t.memory t.cog t.line t.hand c q base marks xs f own z (test_case.PinsDiffer x y) (k 0) (left-none used is k n f own le))))
+        (λ h0. no_value-meets state differ used h0 (λ h0 is f own le. by-three t.memory t.cog t.table t.hand c p q base marks xs own low f differ 0 standing.waits_differ h0 x y z (omega (arith, fits)) (waits-follow t.memory t.cog t.table t.hand c q base marks xs f own z (test_case.PinsDiffer x y) (k 0) (left-none used is k n f own le))))
         (λ h8. absurd h8))))))))
       where
         fills-meet : (width : Width) → standing.Alone used (standing.At t p (takes_three 0 (standing.fills_row width)) q) → Then b (at c p base marks (((xs ++ x ∷ []) ++ y ∷ []) ++ z ∷ [])) (builtins.fills width (x % 2 ^ 16) y (count_of z) (k 0))
         fills-meet width h0 = no_value-meets (at c p base marks (((xs ++ x ∷ []) ++ y ∷ []) ++ z ∷ [])) (builtins.fills width (x % 2 ^ 16) y (count_of z) (k 0)) used h0
-            (λ h0 is f own le. by-three t.memory t.cog t.line t.hand c p q base marks xs own low f (builtins.fills width (x % 2 ^ 16) y (count_of z) (k 0)) 0 (standing.fills_row width) h0 x y z (omega (arith, fits)) (fills-follow t.memory t.cog t.line t.hand c q base marks xs f own (count_of z) width (x % 2 ^ 16) y (k 0) (left-none used is k n f own le)))
+            (λ h0 is f own le. by-three t.memory t.cog t.table t.hand c p q base marks xs own low f (builtins.fills width (x % 2 ^ 16) y (count_of z) (k 0)) 0 (standing.fills_row width) h0 x y z (omega (arith, fits)) (fills-follow t.memory t.cog t.table t.hand c q base marks xs f own (count_of z) width (x % 2 ^ 16) y (k 0) (left-none used is k n f own le)))
 
         moves-meet : (width : Width) → standing.Alone used (standing.At t p (takes_three 0 (standing.moves_row width)) q) → Then b (at c p base marks (((xs ++ x ∷ []) ++ y ∷ []) ++ z ∷ [])) (builtins.moves width (x % 2 ^ 16) (y % 2 ^ 16) (count_of z) (k 0))
         moves-meet width h0 = no_value-meets (at c p base marks (((xs ++ x ∷ []) ++ y ∷ []) ++ z ∷ [])) (builtins.moves width (x % 2 ^ 16) (y % 2 ^ 16) (count_of z) (k 0)) used h0
-            (λ h0 is f own le. by-three t.memory t.cog t.line t.hand c p q base marks xs own low f (builtins.moves width (x % 2 ^ 16) (y % 2 ^ 16) (count_of z) (k 0)) 0 (standing.moves_row width) h0 x y z (omega (arith, fits)) (moves-follow t.memory t.cog t.line t.hand c q base marks xs f own (count_of z) width (x % 2 ^ 16) (y % 2 ^ 16) (k 0) (left-none used is k n f own le)))
+            (λ h0 is f own le. by-three t.memory t.cog t.table t.hand c p q base marks xs own low f (builtins.moves width (x % 2 ^ 16) (y % 2 ^ 16) (count_of z) (k 0)) 0 (standing.moves_row width) h0 x y z (omega (arith, fits)) (moves-follow t.memory t.cog t.table t.hand c q base marks xs f own (count_of z) width (x % 2 ^ 16) (y % 2 ^ 16) (k 0) (left-none used is k n f own le)))
 
     -- ---- starts
 
     -- Propeller Assembly, by the cog's number, the address and PAR
     pasm-meets : (used : Bool) (p id code par : ℕ) → standing.At t p (takes_three (leaves_if used) (standing.starts_pasm used)) q → (k : ℕ → Rest) → Leaves used k → Then b (at c p base marks (((xs ++ id ∷ []) ++ code ∷ []) ++ par ∷ [])) (builtins.starts_pasm id code par k)
     pasm-meets used p id code par h k n f own le =
-        by-three t.memory t.cog t.line t.hand c p q base marks xs own low f (builtins.starts_pasm id code par k) (leaves_if used) (standing.starts_pasm used) h id code par (fits_used used)
-        (word-follows t.memory t.cog t.line t.hand c q base marks xs f own used _ k (λ value. n value f own le))
+        by-three t.memory t.cog t.table t.hand c p q base marks xs own low f (builtins.starts_pasm id code par k) (leaves_if used) (standing.starts_pasm used) h id code par (fits_used used)
+        (word-follows t.memory t.cog t.table t.hand c q base marks xs f own used _ k (λ value. n value f own le))
 
     -- a method of the same object
     pub start-meets : (used : Bool) (kind : Option NameKind) (p id : ℕ) (arguments : List ℕ) (stack : ℕ) → standing.StartAt t used kind (length arguments) p q → (k : ℕ → Rest) → Leaves used k → Then b (at c p base marks (((xs ++ id ∷ []) ++ arguments) ++ stack ∷ [])) (starts_method s id (own_target s kind) arguments stack k)
     start-meets used (Some (kind_case.Method n params)) p id arguments stack h k m =
         let target : Target = record { instance = s.instance; method = n } in
-        let placed_there : MethodPlaced t.memory t.cog t.program t.addresses placed.line target t.file h.0.0 = placed.method target is_instance t.file is_file h.0.0 h.0.1 in
+        let placed_there : MethodPlaced t.memory t.cog t.program t.addresses placed.table target t.file h.0.0 = placed.method target is_instance t.file is_file h.0.0 h.0.1 in
         let begun : entry.Callee = method_at t.memory c.pbase c.vbase n in
         let starts : ℕ → ℕ → Rest = λ code locals. writes_longs ((builtins.long_address stack + 4) % 2 ^ 16) arguments (asks (access_case.CogInit (builtins.cog_named id) (origin_case.Spin code c.pbase c.vbase (builtins.long_address stack) ((4 * length arguments + locals) % 2 ^ 16))) k) in
         kept-meets (at c p base marks (((xs ++ id ∷ []) ++ arguments) ++ stack ∷ [])) (starts_method s id (own_target s (Some (kind_case.Method n params))) arguments stack k) (λ e. standing.At t p (cogs.start_method t.memory n (length arguments)) e) k
-        (λ e h1 m f own le. by t.memory t.cog t.line t.hand c p e base marks (cogs.start_method t.memory n (length arguments)) h1 (((xs ++ id ∷ []) ++ arguments) ++ stack ∷ []) own f (starts_method s id (own_target s (Some (kind_case.Method n params))) arguments stack k)
+        (λ e h1 m f own le. by t.memory t.cog t.table t.hand c p e base marks (cogs.start_method t.memory n (length arguments)) h1 (((xs ++ id ∷ []) ++ arguments) ++ stack ∷ []) own f (starts_method s id (own_target s (Some (kind_case.Method n params))) arguments stack k)
         (subst (λ (o : Option MethodTree). K f own (cogs.start_method t.memory n (length arguments) (at c e base marks (((xs ++ id ∷ []) ++ arguments) ++ stack ∷ []) own)) (given o (λ tree. starts ((c.pbase + t.addresses.code t.number n) % 2 ^ 16) (locals_size (setting_of t.file 0) tree.locals)))) (sym h.0.1)
         (subst (λ (code : ℕ). K f own (cogs.start_method t.memory n (length arguments) (at c e base marks (((xs ++ id ∷ []) ++ arguments) ++ stack ∷ []) own)) (starts code (locals_size (setting_of t.file 0) h.0.0.locals))) (sym placed_there.entry)
         (subst (λ (locals : ℕ). K f own (cogs.start_method t.memory n (length arguments) (at c e base marks (((xs ++ id ∷ []) ++ arguments) ++ stack ∷ []) own)) (starts begun.entry locals)) placed_there.locals
-        (start-follows t.memory t.cog t.line t.hand c e base marks xs f own low id arguments stack n fits placed_there.is_method k (λ value. m value f own le)))))) used h.1 m
+        (start-follows t.memory t.cog t.table t.hand c e base marks xs f own low id arguments stack n fits placed_there.is_method k (λ value. m value f own le)))))) used h.1 m
     start-meets used (Some (kind_case.Const value)) p id arguments stack h k m = absurd h
     start-meets used (Some (kind_case.Global size offset)) p id arguments stack h k m = absurd h
     start-meets used (Some (kind_case.Local offset)) p id arguments stack h k m = absurd h

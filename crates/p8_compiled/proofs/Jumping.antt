@@ -1,4 +1,5 @@
 -- The end of a pass of REPEAT: a variable is stepped, and a jump taken back.
+use Rattle.std.specs.Prelude.{Contains}
 use Rattle.std.proofs.Common.{◌≡◌, refl, sym, ap, ◌∙◌, subst, arith, ℕ, suc, ◌+◌, ◌%◌, ◌^◌, ◌≤◌, Bool, true, false, if◌then◌else◌, List, [], length, length-append, Option, Some, None, IsTrue}
 use Rattle.p8_tree.specs.declared.places.Place.{Place}
 use Rattle.p8_tree.specs.Expressions.{Variable, Named, no_index}
@@ -52,12 +53,12 @@ operands-length _ long_place form op off = refl
 pub same-length : (op : Op) (form : Bool) (off : ℕ) → length (spelled (record op { long_form = form })) ≡ length (spelled (with_jump op off form))
 same-length op form off = ap suc (operands-length (operands_of op.code) (has_long_place op) form op off)
 
-module _ (memory : List ℕ) (cog base : ℕ) (line : ℕ → Place) (hand : Place) where
+module _ (memory : List ℕ) (cog base : ℕ) (table : List (ℕ × Place)) (hand : Place) where
   pub jumping-stand : (wide : ℕ → Bool) (statement : Place) (to : ℕ) (op : Op) (course : (target : ℕ) → State → Course State) → ((form : Bool) (off : ℕ) → IsOffset form off → IsOp (with_jump op off form))
-      → ((form : Bool) (off : ℕ) (s : State) → row memory cog (with_jump op off form) s ≡ course ((s.at + off) % 2 ^ 16) s) → Stand memory base line hand (jumping wide statement to op) (λ p q. Does memory cog line hand p (course (base + to)) q)
+      → ((form : Bool) (off : ℕ) (s : State) → row memory cog (with_jump op off form) s ≡ course ((s.at + off) % 2 ^ 16) s) → Stand memory base table hand (jumping wide statement to op) (λ p q. Does memory cog table hand p (course (base + to)) q)
   jumping-stand wide statement to op course is does = record {
     by = λ w at h.
-        let l = lines-split line base w.lines (w.end, w.statement) h.lines in
+        let l = lines-split table base w.lines (w.end, w.statement) h.lines in
         let v : Written = jumping wide statement to op w in
         let form : Bool = wide w.jumps in
         let end : ℕ = end_of_jumping wide op w in
@@ -66,7 +67,7 @@ module _ (memory : List ℕ) (cog base : ℕ) (line : ℕ → Place) (hand : Pla
         let low : base + end ≤ 32768 = lies-low memory base w v jumps refl h.code in
         let r : Reaches form end to = reaches form statement end to (no-second w.too_far (told form statement end to) h.code.near) in
         let b : Behind memory base w jumps (base + v.end) = stands-behind memory base w v jumps (told form statement end to) refl (ap (λ k. w.end + k) (same-length op form off)) refl (is form off r.is_offset) h.code in
-        (record { code = b.before; lines = l.0 }, (jumps, b.fetches, (λ s there. does form off s ∙ ap (λ target. course target s) (leads-to form base end to s.at there r low)), l.1 ∙ at));
+        (record { code = b.before; lines = l.0 }, (jumps, b.fetches, (λ s there. does form off s ∙ ap (λ target. course target s) (leads-to form base end to s.at there r low)), subst (λ (place : Place). Contains table (base + w.end, place)) at l.1));
     keeps = λ w. refl;
     exist = λ w near.
         let form : Bool = wide w.jumps in
@@ -97,18 +98,18 @@ module _ (n : Names) (t : Compiled) (base : ℕ) (name : List ℕ) (q : Place) (
       (f.acts (Using effect)).does off form s
       ∙ subst (λ (x : Op). changes 0 x (f.at s) s ≡ course ((s.at + off) % 2 ^ 16) s) (effect-is op effect (f.acts (Using effect)).effect) (same op (f.at s) s (f.site s (omega arith)))
 
-  pub step-by-one-stand : Stand t.memory base t.line t.hand (jumping wide statement to (op_for n counter (Using 0x02))) (λ p q. At t p (takes_two 0 (bodies.steps_by_one t counter (base + to))) q)
+  pub step-by-one-stand : Stand t.memory base t.table t.hand (jumping wide statement to (op_for n counter (Using 0x02))) (λ p q. At t p (takes_two 0 (bodies.steps_by_one t counter (base + to))) q)
   unfolding changes steps_by_one
   step-by-one-stand =
-      jumping-stand t.memory t.cog base t.line t.hand wide statement to (op_for n counter (Using 0x02)) (λ target. takes_two 0 (bodies.steps_by_one t counter target))
+      jumping-stand t.memory t.cog base t.table t.hand wide statement to (op_for n counter (Using 0x02)) (λ target. takes_two 0 (bodies.steps_by_one t counter target))
       (λ form off is. (f.acts (Using 0x02)).is_op off form (fits 0x02 refl refl form off is))
       (does-as 0x02 (λ target. takes_two 0 (bodies.steps_by_one t counter target))
       (λ op at s there. ap (λ x. tested 2 0 s (places.reads_place (wanted_case.Stepped 1 (operand s 1) (operand s 0) ((s.at + op.second) % 2 ^ 16)) x (taken 2 s))) there))
 
-  pub step-by-stand : Stand t.memory base t.line t.hand (jumping wide statement to (op_for n counter (Using 0x06))) (λ p q. At t p (takes_three 0 (bodies.steps_by t counter (base + to))) q)
+  pub step-by-stand : Stand t.memory base t.table t.hand (jumping wide statement to (op_for n counter (Using 0x06))) (λ p q. At t p (takes_three 0 (bodies.steps_by t counter (base + to))) q)
   unfolding changes steps
   step-by-stand =
-      jumping-stand t.memory t.cog base t.line t.hand wide statement to (op_for n counter (Using 0x06)) (λ target. takes_three 0 (bodies.steps_by t counter target))
+      jumping-stand t.memory t.cog base t.table t.hand wide statement to (op_for n counter (Using 0x06)) (λ target. takes_three 0 (bodies.steps_by t counter target))
       (λ form off is. (f.acts (Using 0x06)).is_op off form (fits 0x06 refl refl form off is))
       (does-as 0x06 (λ target. takes_three 0 (bodies.steps_by t counter target))
       (λ op at s there. ap (λ x. tested 3 0 s (places.reads_place (wanted_case.Stepped (operand s 2) (operand s 1) (operand s 0) ((s.at + op.second) % 2 ^ 16)) x (taken 3 s))) there))

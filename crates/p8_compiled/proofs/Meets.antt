@@ -15,22 +15,22 @@ use Rattle.p8_meaning.specs.Doing.{Deeds, Untold, HaltsFor, AsksFor, course_of, 
 use Rattle.p8_compiled.specs.Keeps.{forgets}
 
 -- from within a course that is made from the statement at a place on
-pub data Meets {S : Type 0} (e : Engine S) (line : S → Place) : ℕ → Place → Course S → Deeds → Type 0 where
+pub data Meets {S : Type 0} (e : Engine S) (line : S → Place → Type 0) : ℕ → Place → Course S → Deeds → Type 0 where
   is_untold : {at : Place} (s : S) → Meets e line zero at (Finish s) Untold
-  goes_on : {f g : ℕ} {at : Place} {s : S} {t : Deeds} → g ≤ suc f → Meets e line f (line s) (e.next s) t → Meets e line g at (Finish s) t
+  goes_on : {f g : ℕ} {at : Place} {s : S} {t : Deeds} (next : Place) → line s next → g ≤ suc f → Meets e line f next (e.next s) t → Meets e line g at (Finish s) t
   halts : {f : ℕ} {at : Place} (reason : Reason) → Meets e line f at (Stop reason) (HaltsFor at reason)
   asks : {f : ℕ} {at : Place} (access : Access) {go : Answer → Course S} {on : Answer → Deeds} → ((answer : Answer) → Meets e line f at (go answer) (on answer)) → Meets e line f at (Ask access go) (AsksFor at access on)
   -- after its stop of itself a cog does nothing
   ends : {f : ℕ} {at : Place} (access : Access) {go : Answer → Course S} {on : Answer → Deeds} → is_last e.cog access ≡ true → Meets e line f at (Ask access go) (AsksFor at access on)
 
-module _ {S : Type 0} (e : Engine S) (line : S → Place) where
+module _ {S : Type 0} (e : Engine S) (line : S → Place → Type 0) where
   none-less : {at : Place} (s : S) (g : ℕ) → g ≤ 0 → Meets e line g at (Finish s) Untold
   none-less s zero le = is_untold s
   none-less s (suc g) le = absurd (omega (arith, le))
 
   pub less-meets : {f g : ℕ} {at : Place} {d : Course S} {t : Deeds} → g ≤ f → Meets e line f at d t → Meets e line g at d t
   less-meets {g = g} le (is_untold s) = none-less s g le
-  less-meets le (goes_on l m) = goes_on (omega (arith, le, l)) m
+  less-meets le (goes_on next made l m) = goes_on next made (omega (arith, le, l)) m
   less-meets le (halts reason) = halts reason
   less-meets le (asks access m) = asks access (λ answer. less-meets le (m answer))
   less-meets le (ends access last) = ends access last
@@ -38,7 +38,7 @@ module _ {S : Type 0} (e : Engine S) (line : S → Place) where
   -- between two courses the place doesn't matter
   pub any-place : {f : ℕ} {at other : Place} {s : S} {t : Deeds} → Meets e line f at (Finish s) t → Meets e line f other (Finish s) t
   any-place (is_untold s) = is_untold s
-  any-place (goes_on l m) = goes_on l m
+  any-place (goes_on next made l m) = goes_on next made l m
 
   -- ---- the accesses
 
@@ -69,7 +69,7 @@ module _ {S : Type 0} (e : Engine S) (line : S → Place) where
   pub makes : {f : ℕ} {at : Place} {d : Course S} {t : Deeds} → Meets e line f at d t → (made : List Access) (answers : List Answer) → Makes f made d t answers
   unfolding told_after
   makes (is_untold s) made answers = (0, omega arith, refl)
-  makes (goes_on {s = s} le m) made answers =
+  makes (goes_on {s = s} next made_from le m) made answers =
       let r = makes m made answers in
       (suc r.0, omega (arith, le, r.1), ap forgets (told-first r.0 (Leaves made s answers)) ∙ r.2)
   makes {f} (halts reason) made [] = (f, omega arith, ap forgets (after-wants f made _))
@@ -92,7 +92,7 @@ module _ {S : Type 0} (e : Engine S) (line : S → Place) where
   asks-within : {f : ℕ} {at : Place} {d : Course S} {t : Deeds} → Meets e line f at d t → (clock : ℕ) (turns : List Turn) (due : ℕ) (access : Access)
       → played e.cog clock d turns ≡ Asks due access → statement_after t (map answer_of turns) ≡ Some at
   asks-within (is_untold s) clock turns due access here = absurd (let x : Goes s clock turns ≡ Asks due access = here in cc)
-  asks-within (goes_on {s = s} le m) clock turns due access here = absurd (let x : Goes s clock turns ≡ Asks due access = here in cc)
+  asks-within (goes_on {s = s} next made_from le m) clock turns due access here = absurd (let x : Goes s clock turns ≡ Asks due access = here in cc)
   asks-within (halts reason) clock [] due access here = refl
   asks-within (halts reason) clock (turn ∷ turns) due access here = absurd (let x : Ends ≡ Asks due access = here in cc)
   asks-within (asks a m) clock [] due access here = refl
@@ -106,15 +106,19 @@ module _ {S : Type 0} (e : Engine S) (line : S → Place) where
   asks-within (ends a {go} {on} last) clock (turn ∷ turns) due access here =
       absurd (let x : Ends ≡ Asks due access = ap (λ (b : Bool). if b then Ends else played e.cog (behind clock a turn.key.clock) (go turn.answer) turns) (sym last) ∙ here in cc)
 
+  -- the next access is asked for a statement from which the course that begins here is made
+  abbrev pub IsMadeFor : S → Deeds → List Turn → Type 0
+  IsMadeFor s t turns = (place : Place) × line s place × (statement_after t (map answer_of turns) ≡ Some place)
+
   -- after some bytecodes
   pub asks-after : {f : ℕ} {at : Place} {d : Course S} {t : Deeds} → Meets e line f at d t → (n clock : ℕ) (turns : List Turn) (s : S) (begin : ℕ) (left : List Turn) (due : ℕ) (access : Access)
-      → n < f → after e n (played e.cog clock d turns) ≡ Goes s begin left → after e (suc n) (played e.cog clock d turns) ≡ Asks due access → statement_after t (map answer_of turns) ≡ Some (line s)
+      → n < f → after e n (played e.cog clock d turns) ≡ Goes s begin left → after e (suc n) (played e.cog clock d turns) ≡ Asks due access → IsMadeFor s t turns
   unfolding after
   asks-after (is_untold x) n clock turns s begin left due access lt here there = absurd (omega (arith, lt))
-  asks-after (goes_on {s = x} le m) zero clock turns s begin left due access lt here there =
+  asks-after (goes_on {s = x} next made_from le m) zero clock turns s begin left due access lt here there =
       let same : x ≡ s = cc in
-      asks-within m (clock + e.cost x) turns due access there ∙ ap (λ y. Some (line y)) same
-  asks-after (goes_on {f} {s = x} le m) (suc n) clock turns s begin left due access lt here there =
+      (next, subst (λ y. line y next) same made_from, asks-within m (clock + e.cost x) turns due access there)
+  asks-after (goes_on {f} {s = x} next made_from le m) (suc n) clock turns s begin left due access lt here there =
       asks-after m n (clock + e.cost x) turns s begin left due access (omega (arith, le, lt)) (sym (after-first n (Goes x clock turns)) ∙ here) (sym (after-first (suc n) (Goes x clock turns)) ∙ there)
   asks-after (halts reason) n clock [] s begin left due access lt here there = absurd (let x : Asks clock _ ≡ Goes s begin left = sym (after-asks e n clock _) ∙ here in cc)
   asks-after (halts reason) n clock (turn ∷ turns) s begin left due access lt here there = absurd (let x : Ends ≡ Goes s begin left = sym (after-ends e n) ∙ here in cc)
@@ -135,9 +139,9 @@ module _ {S : Type 0} (e : Engine S) (line : S → Place) where
 -- ---- the same of what is still to be done, with this bound and these registers; there are at least so many bytecodes
 
 -- courses, the statement that each is made from, and the statement at hand
-pub record Reading (S : Type 0) : Type 0 where
+pub record Reading (S : Type 0) : Type 1 where
   pub engine : Engine S
-  pub line : S → Place
+  pub line : S → Place → Type 0
   pub hand : Place
 
 module _ {S : Type 0} (e : Reading S) where
@@ -173,7 +177,7 @@ module _ {S : Type 0} (e : Reading S) where
   follows-asks access on m = record { meets = meets-ask _ access (λ answer. (m answer).meets) }
 
 -- what comes back to the statement at hand, and goes on for it
-module _ {S : Type 0} (engine : Engine S) (line : S → Place) (hand : Place) where
+module _ {S : Type 0} (engine : Engine S) (line : S → Place → Type 0) (hand : Place) where
   abbrev reads : Place → Reading S
   reads at = record { engine = engine; line = line; hand = at }
 

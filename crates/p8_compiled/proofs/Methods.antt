@@ -1,6 +1,6 @@
 -- Whole methods, and the lives that begin with them.
 use Rattle.std.proofs.Common.{◌≡◌, refl, sym, ap, subst, ◌∙◌, arith, ℕ, zero, suc, ◌+◌, ◌*◌, ◌%◌, ◌^◌, ◌<◌, ◌≤◌, List, [], ◌∷◌, ◌++◌, map, length, Option, Some, append-nil}
-use Rattle.std.specs.Prelude.{slice_get}
+use Rattle.std.specs.Prelude.{Contains, slice_get}
 use Rattle.std.proofs.lemmas.Bool.{eq-eqb}
 use Rattle.p8_access.specs.declared.kinds.Origin.{Origin}
 use Rattle.p8_access.specs.declared.kinds.Origin.TheVariants.{Spin}
@@ -61,21 +61,21 @@ all-clean (Leaves made state left) u same begins h = first-clean made begins.0 (
 all-clean (Closes made) u same begins h = subst (λ (x : Told (Unit {0})). AreSourceAccesses x) (same tt) h
 
 module _ (memory : List ℕ) (cog : ℕ) (program : Program) (addresses : Addresses) (placed : Placed memory cog program addresses) where
-  lower_returns : {b d : ℕ} {calls : List Call} {par : ℕ} {stack : List ℕ} {marks : List Mark} {go : Returned → Rest} → d ≤ b → Returns memory cog placed.line b calls par stack marks go → Returns memory cog placed.line d calls par stack marks go
+  lower_returns : {b d : ℕ} {calls : List Call} {par : ℕ} {stack : List ℕ} {marks : List Mark} {go : Returned → Rest} → d ≤ b → Returns memory cog placed.table b calls par stack marks go → Returns memory cog placed.table d calls par stack marks go
   lower_returns within r = record { by = λ hand f own le returned given s above is. r.by hand f own (omega (arith, le, within)) returned given s above is }
 
-  lower_aborts : {b d : ℕ} {calls : List Call} {par : ℕ} {stack : List ℕ} {marks : List Mark} {go : Returned → Rest} → d ≤ b → Aborts memory cog placed.line b calls par stack marks go → Aborts memory cog placed.line d calls par stack marks go
+  lower_aborts : {b d : ℕ} {calls : List Call} {par : ℕ} {stack : List ℕ} {marks : List Mark} {go : Returned → Rest} → d ≤ b → Aborts memory cog placed.table b calls par stack marks go → Aborts memory cog placed.table d calls par stack marks go
   lower_aborts within r = record { by = λ hand f own le returned given s above is. r.by hand f own (omega (arith, le, within)) returned given s above is }
 
-  module _ (d par : ℕ) (ok : CallsOk memory cog placed.line program addresses d par (meaning d program addresses par))
+  module _ (d par : ℕ) (ok : CallsOk memory cog placed.table program addresses d par (meaning d program addresses par))
       (target : Target) (is_instance : IsInstance program addresses target.instance) (file : File) (is_file : slice_get program target.instance.file ≡ Some file) (tree : MethodTree) (is_tree : method_of file target.method ≡ Some tree)
       (frame size : ℕ) (calls : List Call) (ends_at : (frame + 4 + size) % 2 ^ 16 ≡ (frame + 4 + frame_size file tree) % 2 ^ 16) (stack : List ℕ) (marks : List Mark) (room : Room calls stack marks)
-      (return abort : Returned → Rest) (f : ℕ) (within : f ≤ d) (returns : Returns memory cog placed.line f calls par stack marks return) (aborts : Aborts memory cog placed.line f calls par stack marks abort) where
+      (return abort : Returned → Rest) (f : ℕ) (within : f ≤ d) (returns : Returns memory cog placed.table f calls par stack marks return) (aborts : Aborts memory cog placed.table f calls par stack marks abort) where
     abbrev here : Frame
     here = frame_of target frame size calls par
 
     abbrev compiled : Compiled
-    compiled = record { memory = memory; cog = cog; program = program; addresses = addresses; number = target.instance.file; file = file; method = target.method; line = placed.line; hand = tree.place }
+    compiled = record { memory = memory; cog = cog; program = program; addresses = addresses; number = target.instance.file; file = file; method = target.method; table = placed.table; hand = tree.place }
 
     abbrev working : Working
     working = record {
@@ -105,17 +105,17 @@ module _ (memory : List ℕ) (cog : ℕ) (program : Program) (addresses : Addres
     starts : Stands working f (length stack) marks stack
     starts = record { low = record { low = omega arith; values = []; stacked = sym (append-nil stack); opened = []; marked = refl }; within = omega arith }
 
-    is_placed : MethodPlaced memory cog program addresses placed.line target file tree
+    is_placed : MethodPlaced memory cog program addresses placed.table target file tree
     is_placed = placed.method target is_instance file is_file tree is_tree
 
     -- the body of the method
-    pub method-meets : (hand : Place) (own : Registers) → F memory cog placed.line hand f own (Finish (at here (method_at memory target.instance.base target.instance.variables target.method).entry (length stack) marks stack own))
+    pub method-meets : (hand : Place) (own : Registers) → F memory cog placed.table hand f own (Finish (at here (method_at memory target.instance.base target.instance.variables target.method).entry (length stack) marks stack own))
         (statements.executes_all (suc d) (meaning d program addresses par) scope return abort tree.body untold untold (for_statement tree.place (return (Result frame))))
     method-meets hand own =
         let code = is_placed.code in
-        subst (λ (s : Scope). F memory cog placed.line hand f own (Finish (at here (method_at memory target.instance.base target.instance.variables target.method).entry (length stack) marks stack own)) (statements.executes_all (suc d) (meaning d program addresses par) s return abort tree.body untold untold (for_statement tree.place (return (Result frame))))) scope-is
+        subst (λ (s : Scope). F memory cog placed.table hand f own (Finish (at here (method_at memory target.instance.base target.instance.variables target.method).entry (length stack) marks stack own)) (statements.executes_all (suc d) (meaning d program addresses par) s return abort tree.body untold untold (for_statement tree.place (return (Result frame))))) scope-is
         (body-meets working (suc d) return (omega (arith, within)) returns hand tree.body outside _ code.0 code.2 is_placed.proper f stack starts (omega (arith, room.values, is_placed.shallow)) untold untold (for_statement tree.place (return (Result frame))) tt
-        (λ g o le. goes-back (engine_of memory cog) (λ s. placed.line s.at) tree.place (return (Result frame)) hand
+        (λ g o le. goes-back (engine_of memory cog) (λ s place. Contains placed.table (s.at, place)) tree.place (return (Result frame)) hand
         (return_result-meets working (suc d) return (omega (arith, within)) returns code.0 code.1 code.3 f stack starts g o le)) f own (omega arith))
 
   -- what a method does after the writes that begin it
@@ -127,7 +127,7 @@ module _ (memory : List ℕ) (cog : ℕ) (program : Program) (addresses : Addres
   size-is frame size count locals declared is same = omega (arith, is, same)
 
   -- the methods of a project are begun by their bytecodes, at most so deep
-  pub calls-ok : (par d : ℕ) → CallsOk memory cog placed.line program addresses d par (meaning d program addresses par)
+  pub calls-ok : (par d : ℕ) → CallsOk memory cog placed.table program addresses d par (meaning d program addresses par)
   calls-ok par zero = record { by = λ target is_instance file is_file tree is_tree frame calls arguments arity stack marks room return abort b returns aborts hand f own le lt s size is entered. absurd (omega (arith, lt)) }
   calls-ok par (suc d) = record {
     by = λ target is_instance file is_file tree is_tree frame calls arguments arity stack marks room return abort b returns aborts hand f own le lt s size is entered.
@@ -135,10 +135,10 @@ module _ (memory : List ℕ) (cog : ℕ) (program : Program) (addresses : Addres
         let means_tree : Option MethodTree → Rest = λ o. given o (λ m. begins (suc d) (meaning d program addresses par) (scope_with program addresses par target file m frame (length calls + 1)) m arguments return abort) in
         let begun = method_at memory target.instance.base target.instance.variables target.method in
         let p = placed.method target is_instance file is_file tree is_tree in
-        subst (λ (o : Option File). F memory cog placed.line hand f own (calling.gives frame (0 ∷ arguments) (Called begun) s) (means o)) (sym is_file)
-        (subst (λ (o : Option MethodTree). F memory cog placed.line hand f own (calling.gives frame (0 ∷ arguments) (Called begun) s) (means_tree o)) (sym is_tree)
-        (follows-gives memory cog placed.line hand (0 ∷ arguments) frame (Called begun) s f own (body par d target file tree frame (length calls + 1) return abort)
-        (subst (λ (x : Course State). F memory cog placed.line hand f own x (body par d target file tree frame (length calls + 1) return abort)) (sym entered)
+        subst (λ (o : Option File). F memory cog placed.table hand f own (calling.gives frame (0 ∷ arguments) (Called begun) s) (means o)) (sym is_file)
+        (subst (λ (o : Option MethodTree). F memory cog placed.table hand f own (calling.gives frame (0 ∷ arguments) (Called begun) s) (means_tree o)) (sym is_tree)
+        (follows-gives memory cog placed.table hand (0 ∷ arguments) frame (Called begun) s f own (body par d target file tree frame (length calls + 1) return abort)
+        (subst (λ (x : Course State). F memory cog placed.table hand f own x (body par d target file tree frame (length calls + 1) return abort)) (sym entered)
         (method-meets d par (calls-ok par d) target is_instance file is_file tree is_tree frame size calls
         (size-is frame size (length arguments) begun.locals (locals_size (setting_of file 0) tree.locals) is p.locals ∙ ap (λ n. (frame + 4 + (4 * n + locals_size (setting_of file 0) tree.locals)) % 2 ^ 16) arity)
         stack marks room return abort f (omega (arith, lt)) (lower_returns le returns) (lower_aborts le aborts) hand own))));
@@ -146,26 +146,26 @@ module _ (memory : List ℕ) (cog : ℕ) (program : Program) (addresses : Addres
 
   -- ---- lives
 
-  first-returns : (f par : ℕ) → Returns memory cog placed.line f [] par [] [] (stops cog)
+  first-returns : (f par : ℕ) → Returns memory cog placed.table f [] par [] [] (stops cog)
   unfolding calling.returns ends
-  first-returns f par = record { by = λ hand g own le returned given s above is. record { meets = meets-last (engine memory cog placed.line hand) g (CogStop cog) (eq-eqb cog cog refl) } }
+  first-returns f par = record { by = λ hand g own le returned given s above is. record { meets = meets-last (engine memory cog placed.table hand) g (CogStop cog) (eq-eqb cog cog refl) } }
 
-  first-aborts : (f par : ℕ) → Aborts memory cog placed.line f [] par [] [] (stops cog)
+  first-aborts : (f par : ℕ) → Aborts memory cog placed.table f [] par [] [] (stops cog)
   unfolding calling.aborts ends
-  first-aborts f par = record { by = λ hand g own le returned given s above is. record { meets = meets-last (engine memory cog placed.line hand) g (CogStop cog) (eq-eqb cog cog refl) } }
+  first-aborts f par = record { by = λ hand g own le returned given s above is. record { meets = meets-last (engine memory cog placed.table hand) g (CogStop cog) (eq-eqb cog cog refl) } }
 
   -- the entry of a life, and then its method
   pub life-meets : (target : Target) (is_instance : IsInstance program addresses target.instance) (file : File) (is_file : slice_get program target.instance.file ≡ Some file) (tree : MethodTree) (is_tree : method_of file target.method ≡ Some tree) (frame f : ℕ) →
-      M memory cog placed.line no_statement f (enters_at (first_with (method_at memory target.instance.base target.instance.variables target.method).entry target.instance.base target.instance.variables frame (frame_size file tree))) (deeds_of program addresses target frame cog f)
+      M memory cog placed.table no_statement f (enters_at (first_with (method_at memory target.instance.base target.instance.variables target.method).entry target.instance.base target.instance.variables frame (frame_size file tree))) (deeds_of program addresses target frame cog f)
   unfolding ends
   life-meets target is_instance file is_file tree is_tree frame f =
       let entry = (method_at memory target.instance.base target.instance.variables target.method).entry in
       let begins_at : Course State = enters_at (first_with entry target.instance.base target.instance.variables frame (frame_size file tree)) in
       let means : Option File → Rest = λ o. given o (λ file. given (method_of file target.method) (λ m. begins (suc f) (meaning f program addresses frame) (scope_with program addresses frame target file m frame 1) m [] (stops cog) (stops cog))) in
       let means_tree : Option MethodTree → Rest = λ o. given o (λ m. begins (suc f) (meaning f program addresses frame) (scope_with program addresses frame target file m frame 1) m [] (stops cog) (stops cog)) in
-      subst (λ (o : Option File). M memory cog placed.line no_statement f begins_at (means o f cleared)) (sym is_file)
-      (subst (λ (o : Option MethodTree). M memory cog placed.line no_statement f begins_at (means_tree o f cleared)) (sym is_tree)
-      (follows-asks (engine memory cog placed.line no_statement) _ (λ word. body frame f target file tree frame 1 (stops cog) (stops cog))
+      subst (λ (o : Option File). M memory cog placed.table no_statement f begins_at (means o f cleared)) (sym is_file)
+      (subst (λ (o : Option MethodTree). M memory cog placed.table no_statement f begins_at (means_tree o f cleared)) (sym is_tree)
+      (follows-asks (engine memory cog placed.table no_statement) _ (λ word. body frame f target file tree frame 1 (stops cog) (stops cog))
       (λ answer. method-meets f frame (calls-ok frame f) target is_instance file is_file tree is_tree frame (frame_size file tree) [] refl [] []
       (record { values = omega arith; opened = omega arith; few = omega arith; below = refl }) (stops cog) (stops cog) f (omega arith) (first-returns f frame) (first-aborts f frame) no_statement cleared)).meets)
 
@@ -178,18 +178,18 @@ module _ (memory : List ℕ) (cog : ℕ) (program : Program) (addresses : Addres
       let p = placed.method target o.is_instance o.file o.is_file o.tree o.is_method in
       subst (λ (x : Origin). (g : ℕ) × (f ≤ g) × (bytes memory x cog answers g ≡ told cog [] (life_of program addresses target frame cog f) answers)) (sym o.is_origin)
       (subst (λ (entry : ℕ). (g : ℕ) × (f ≤ g) × (bytes memory (Spin entry target.instance.base target.instance.variables frame (frame_size o.file o.tree)) cog answers g ≡ told cog [] (life_of program addresses target frame cog f) answers)) (sym p.entry)
-      (makes (engine_of memory cog) (λ s. placed.line s.at) (life-meets target o.is_instance o.file o.is_file o.tree o.is_method frame f) [] answers))
+      (makes (engine_of memory cog) (λ s place. Contains placed.table (s.at, place)) (life-meets target o.is_instance o.file o.is_file o.tree o.is_method frame f) [] answers))
 
   -- The law of statements: an access that some bytecode asks is asked for the statement that the bytecode is made from.
   pub statement-law : (begin : ℕ) (origin : Origin) (target : Target) (frame : ℕ) → IsMethodOrigin program addresses origin target frame → (turns : List Turn) (n : ℕ) (s : State) (clock : ℕ) (left : List Turn) (due : ℕ) (access : Access) (bound : ℕ) → n < bound →
       lived n (record { memory = memory; origin = origin; cog = cog; begin = begin }) turns ≡ Goes s clock left → lived (suc n) (record { memory = memory; origin = origin; cog = cog; begin = begin }) turns ≡ Asks due access →
-      says_for program addresses target frame cog (map answer_of turns) bound ≡ Some (placed.line s.at)
+      (place : Place) × Contains placed.table (s.at, place) × (says_for program addresses target frame cog (map answer_of turns) bound ≡ Some place)
   unfolding says_for
   statement-law begin origin target frame o turns n s clock left due access bound lt here there =
       let p = placed.method target o.is_instance o.file o.is_file o.tree o.is_method in
       let from : ℕ → Origin = λ entry. Spin entry target.instance.base target.instance.variables frame (frame_size o.file o.tree) in
       let is : origin ≡ from (method_at memory target.instance.base target.instance.variables target.method).entry = o.is_origin ∙ ap from p.entry in
-      asks-after (engine_of memory cog) (λ s. placed.line s.at) (life-meets target o.is_instance o.file o.is_file o.tree o.is_method frame bound) n (begin + 8192) turns s clock left due access lt
+      asks-after (engine_of memory cog) (λ s place. Contains placed.table (s.at, place)) (life-meets target o.is_instance o.file o.is_file o.tree o.is_method frame bound) n (begin + 8192) turns s clock left due access lt
       (subst (λ (x : Origin). lived n (record { memory = memory; origin = x; cog = cog; begin = begin }) turns ≡ Goes s clock left) is here)
       (subst (λ (x : Origin). lived (suc n) (record { memory = memory; origin = x; cog = cog; begin = begin }) turns ≡ Asks due access) is there)
 

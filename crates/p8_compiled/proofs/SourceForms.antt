@@ -69,12 +69,12 @@ module _ (program : Program) (addresses : Addresses) where
 
   -- ---- a method at work
 
-  module _ (memory : List ℕ) (cog : ℕ) (fits : FramesFit program) (callee : Callee) (callee_holds : CalleeHolds callee) (par : ℕ) (target : Target) (is_instance : IsInstance program addresses target.instance) (file : File) (is_file : slice_get program target.instance.file ≡ Some file) (tree : MethodTree) (frame active : ℕ) (abort : Returned → Rest) (abort_holds : L abort) (line : ℕ → Place) (hand : Place) where
+  module _ (memory : List ℕ) (cog : ℕ) (fits : FramesFit program) (callee : Callee) (callee_holds : CalleeHolds callee) (par : ℕ) (target : Target) (is_instance : IsInstance program addresses target.instance) (file : File) (is_file : slice_get program target.instance.file ≡ Some file) (tree : MethodTree) (frame active : ℕ) (abort : Returned → Rest) (abort_holds : L abort) (table : List (ℕ × Place)) (hand : Place) where
     abbrev s : Scope
     s = scope_with program addresses par target file tree frame active
 
     abbrev t : standing.Compiled
-    t = compiled memory cog program addresses line target file hand
+    t = compiled memory cog program addresses table target file hand
 
     abbrev kind : List ℕ → Option NameKind
     kind name = file.kind target.method name
@@ -381,12 +381,12 @@ module _ (program : Program) (addresses : Addresses) where
 
   -- ---- statements, each with itself at hand
 
-  module _ (memory : List ℕ) (cog : ℕ) (fits : FramesFit program) (callee : Callee) (callee_holds : CalleeHolds callee) (par : ℕ) (target : Target) (is_instance : IsInstance program addresses target.instance) (file : File) (is_file : slice_get program target.instance.file ≡ Some file) (tree : MethodTree) (frame active : ℕ) (abort : Returned → Rest) (abort_holds : L abort) (line : ℕ → Place) (most : ℕ) (return : Returned → Rest) (return_holds : L return) where
+  module _ (memory : List ℕ) (cog : ℕ) (fits : FramesFit program) (callee : Callee) (callee_holds : CalleeHolds callee) (par : ℕ) (target : Target) (is_instance : IsInstance program addresses target.instance) (file : File) (is_file : slice_get program target.instance.file ≡ Some file) (tree : MethodTree) (frame active : ℕ) (abort : Returned → Rest) (abort_holds : L abort) (table : List (ℕ × Place)) (most : ℕ) (return : Returned → Rest) (return_holds : L return) where
     abbrev s' : Scope
     s' = scope_with program addresses par target file tree frame active
 
     abbrev t' : standing.Compiled
-    t' = compiled memory cog program addresses line target file tree.place
+    t' = compiled memory cog program addresses table target file tree.place
 
     mutual
       executes-holds : (x : Statement) (inner : Inner) (p q : ℕ) → bodies.StatementAt t' x inner p q → {n k r : Rest} → H n → H k → H r → H (statements.executes most callee s' return abort x n k r)
@@ -397,17 +397,17 @@ module _ (program : Program) (addresses : Addresses) where
       }
 
       acts_out-holds : (hand : Place) (action : Action) (inner : Inner) (p q : ℕ) → bodies.StatementAt t' (statement hand action) inner p q → {n k r : Rest} → H n → H k → H r → H (statements.acts_out most callee s' return abort action n k r)
-      acts_out-holds hand (Do e) inner p q h next quit g = acts-holds memory cog fits callee callee_holds par target is_instance file is_file tree frame active abort abort_holds line hand e p q h g
+      acts_out-holds hand (Do e) inner p q h next quit g = acts-holds memory cog fits callee callee_holds par target is_instance file is_file tree frame active abort abort_holds table hand e p q h g
       acts_out-holds hand (If arms rest) inner p q h next quit g = chooses-holds hand arms inner q p h.0 h.1 next quit g (executes_other-holds rest inner h.0 q h.2 next quit g)
       acts_out-holds hand (Case e arms rest) inner p q h next quit g =
-          evaluates-holds memory cog fits callee callee_holds par target is_instance file is_file tree frame active abort abort_holds line hand e p h.0 h.4 (λ value. matches-holds hand value arms inner q h.0 h.1 h.5 next quit g (executes_other-holds rest inner h.2 h.3 h.7 next quit g))
-      acts_out-holds hand (Repeat loop body) inner p q h next quit g = repeats-holds memory cog fits callee callee_holds par target is_instance file is_file tree frame active abort abort_holds line hand most return return_holds loop (bodies.BodyAt t' body) (λ i a b k. record { by = executes_all-holds body i a b k }) p q h g
+          evaluates-holds memory cog fits callee callee_holds par target is_instance file is_file tree frame active abort abort_holds table hand e p h.0 h.4 (λ value. matches-holds hand value arms inner q h.0 h.1 h.5 next quit g (executes_other-holds rest inner h.2 h.3 h.7 next quit g))
+      acts_out-holds hand (Repeat loop body) inner p q h next quit g = repeats-holds memory cog fits callee callee_holds par target is_instance file is_file tree frame active abort abort_holds table hand most return return_holds loop (bodies.BodyAt t' body) (λ i a b k. record { by = executes_all-holds body i a b k }) p q h g
       acts_out-holds hand Next inner p q h next quit g = next
       acts_out-holds hand Quit inner p q h next quit g = quit
       acts_out-holds hand (Return None) inner p q h next quit g = return_holds (Result frame)
-      acts_out-holds hand (Return (Some e)) inner p q h next quit g = evaluates-holds memory cog fits callee callee_holds par target is_instance file is_file tree frame active abort abort_holds line hand e p h.0 h.1 (λ value. return_holds (Value value))
+      acts_out-holds hand (Return (Some e)) inner p q h next quit g = evaluates-holds memory cog fits callee callee_holds par target is_instance file is_file tree frame active abort abort_holds table hand e p h.0 h.1 (λ value. return_holds (Value value))
       acts_out-holds hand (Abort None) inner p q h next quit g = abort_holds (Result frame)
-      acts_out-holds hand (Abort (Some e)) inner p q h next quit g = evaluates-holds memory cog fits callee callee_holds par target is_instance file is_file tree frame active abort abort_holds line hand e p h.0 h.1 (λ value. abort_holds (Value value))
+      acts_out-holds hand (Abort (Some e)) inner p q h next quit g = evaluates-holds memory cog fits callee callee_holds par target is_instance file is_file tree frame active abort abort_holds table hand e p h.0 h.1 (λ value. abort_holds (Value value))
 
       pub executes_all-holds : (body : Statements) (inner : Inner) (p q : ℕ) → bodies.BodyAt t' body inner p q → {n k r : Rest} → H n → H k → H r → H (statements.executes_all most callee s' return abort body n k r)
       executes_all-holds no_statements inner p q h next quit g = g
@@ -420,7 +420,7 @@ module _ (program : Program) (addresses : Addresses) where
       chooses-holds : (hand : Place) (arms : Arms) (inner : Inner) (end p q : ℕ) → bodies.ArmsAt t' hand arms inner end p q → {n k r o : Rest} → H n → H k → H r → H o → H (statements.chooses most callee s' return abort arms n k r o)
       chooses-holds hand no_arms inner end p q h next quit g rest = rest
       chooses-holds hand (arms ⊳ arm (no_items ▸ single e) negated body) inner end p q h next quit g rest =
-          chooses-holds hand arms inner end p h.0 h.4 next quit g (decides-holds memory cog fits callee callee_holds par target is_instance file is_file tree frame active abort abort_holds line hand most return return_holds negated e h.0 h.1 h.5 (executes_all-holds body inner h.2 h.3 h.7 next quit g) rest)
+          chooses-holds hand arms inner end p h.0 h.4 next quit g (decides-holds memory cog fits callee callee_holds par target is_instance file is_file tree frame active abort abort_holds table hand most return return_holds negated e h.0 h.1 h.5 (executes_all-holds body inner h.2 h.3 h.7 next quit g) rest)
       chooses-holds hand (arms ⊳ arm no_items negated body) inner end p q h next quit g rest = absurd h
       chooses-holds hand (arms ⊳ arm (no_items ▸ range e f) negated body) inner end p q h next quit g rest = absurd h
       chooses-holds hand (arms ⊳ arm (xs ▸ x ▸ y) negated body) inner end p q h next quit g rest = absurd h
@@ -428,4 +428,4 @@ module _ (program : Program) (addresses : Addresses) where
       matches-holds : (hand : Place) (value : ℕ) (arms : Arms) (inner : Inner) (end p q : ℕ) → bodies.ChoicesAt t' hand arms inner end p q → {n k r o : Rest} → H n → H k → H r → H o → H (statements.matches most callee s' return abort value arms n k r o)
       matches-holds hand value no_arms inner end p q h next quit g rest = rest
       matches-holds hand value (arms ⊳ arm items negated body) inner end p q h next quit g rest =
-          matches-holds hand value arms inner end p h.0 h.4 next quit g (fits_one-holds memory cog fits callee callee_holds par target is_instance file is_file tree frame active abort abort_holds line hand most return return_holds value items h.1 h.0 q h.5 (executes_all-holds body inner h.2 h.3 h.7 next quit g) rest)
+          matches-holds hand value arms inner end p h.0 h.4 next quit g (fits_one-holds memory cog fits callee callee_holds par target is_instance file is_file tree frame active abort abort_holds table hand most return return_holds value items h.1 h.0 q h.5 (executes_all-holds body inner h.2 h.3 h.7 next quit g) rest)

@@ -24,7 +24,7 @@ module _ (program : Program) (addresses : Addresses) (memory : List ℕ) (cog : 
   method-holds most par callee calls target is_instance file is_file m is_method arguments frame active return abort returns aborts =
       let code = (placed.method target is_instance file is_file m is_method).code in
       writes_longs-holds program addresses (0 ∷ arguments) frame
-      (executes_all-holds program addresses memory cog fits callee calls par target is_instance file is_file m frame active abort aborts placed.line most return returns
+      (executes_all-holds program addresses memory cog fits callee calls par target is_instance file is_file m frame active abort aborts placed.table most return returns
       m.body outside (entered memory cog program addresses target).entry code.0 code.2 (untold-holds program addresses) (untold-holds program addresses) (for_statement-holds program addresses m.place (returns (Result frame))))
 
   meaning-by : (par most : ℕ) → CalleeHolds program addresses (meaning most program addresses par) → (target : Target) → IsInstance program addresses target.instance → (arguments : List ℕ) (frame active : ℕ) {return abort : Returned → Rest} → Leads program addresses return → Leads program addresses abort →

@@ -71,23 +71,23 @@ any-change k is = by-list (proper.is_change k) refl is
 
 module _ (t : Compiled) (base : ℕ) where
   abbrev pub S : Piece → ((p q : ℕ) → Type 0) → Type 0
-  S piece R = Stand t.memory base t.line t.hand piece R
+  S piece R = Stand t.memory base t.table t.hand piece R
 
   abbrev C : Piece → ((i j p q : ℕ) → Type 0) → Type 0
-  C piece R = Counted t.memory base t.line t.hand piece R
+  C piece R = Counted t.memory base t.table t.hand piece R
 
   abbrev CleanDone : Names → Tree → Type 0
   CleanDone n e = (f : Fault) → MisuseDone (environment n) (name_alone e) e f → ⊥
 
   pub alone-stand : (n : Names) → Agrees n t → (e : Tree) → IsDone e → CleanDone n e → S (alone n e) (ActAt t e)
   alone-stand n a (node p (Var (Named name no_index q))) is clean =
-      both (mark-stand t.memory t.cog base t.line t.hand false false) (own-stand n t base a name 0 q (none-there _ clean))
+      both (mark-stand t.memory t.cog base t.table t.hand false false) (own-stand n t base a name 0 q (none-there _ clean))
   alone-stand n a (node p (Call trap None no_index method q args)) is clean =
-      three (mark-stand t.memory t.cog base t.line t.hand false trap) (values-stand n t base a args is.0.3 (λ f b. clean f (inr (inr b))))
+      three (mark-stand t.memory t.cog base t.table t.hand false trap) (values-stand n t base a args is.0.3 (λ f b. clean f (inr (inr b))))
       (own-stand n t base a method (count_of_trees args) q (own-none n t base a p (Call trap None no_index method q args) clean))
   alone-stand n a (node p (Call trap None (index e) method q args)) is clean = absurd (let never : false ≡ true = is.0.1.0 in cc)
   alone-stand n a (node p (Call trap (Some object) i method q args)) is clean =
-      four (mark-stand t.memory t.cog base t.line t.hand false trap) (values-stand n t base a args is.0.3 (λ f b. clean f (inr (inr b)))) (index-stand n t base a i is.0.2 (λ f b. clean f (inr (inl b))))
+      four (mark-stand t.memory t.cog base t.table t.hand false trap) (values-stand n t base a args is.0.3 (λ f b. clean f (inr (inr b)))) (index-stand n t base a i is.0.2 (λ f b. clean f (inr (inl b))))
       (object-stand n t base a object i method (count_of_trees args) p q (own-none n t base a p (Call trap (Some object) i method q args) clean))
   alone-stand n a (node p (Assign v operator e)) is clean =
       so (both (value-stand n t base a e is.0.3 (λ f b. clean f (inr (inr b))))
@@ -121,16 +121,16 @@ module _ (t : Compiled) (base : ℕ) where
   in_loop (Some loop) = true
 
   next-by : (n : Names) (counted : Bool) (next quit : ℕ) → S (jump n.wide n.statement 0x04 next) (NextAt t (inner_by counted (base + next) (base + quit)))
-  next-by n true next quit = goes-stand t.memory t.cog base t.line t.hand n.wide n.statement next
-  next-by n false next quit = goes-stand t.memory t.cog base t.line t.hand n.wide n.statement next
+  next-by n true next quit = goes-stand t.memory t.cog base t.table t.hand n.wide n.statement next
+  next-by n false next quit = goes-stand t.memory t.cog base t.table t.hand n.wide n.statement next
 
   pub next-stand : (n : Names) (l : Option Loop) → IsTrue (in_loop l) → S (goes_on n l) (NextAt t (inner_of l))
   next-stand n None is = absurd (let never : false ≡ true = is in cc)
   next-stand n (Some loop) is = next-by n loop.counted loop.next loop.quit
 
   quit-by : (n : Names) (counted : Bool) (next quit : ℕ) → S ((if counted then byte 0x14 else nothing) ⨾ jump n.wide n.statement 0x04 quit) (QuitAt t (inner_by counted (base + next) (base + quit)))
-  quit-by n true next quit = both (drop-stand t.memory t.cog base t.line t.hand) (goes-stand t.memory t.cog base t.line t.hand n.wide n.statement quit)
-  quit-by n false next quit = goes-stand t.memory t.cog base t.line t.hand n.wide n.statement quit
+  quit-by n true next quit = both (drop-stand t.memory t.cog base t.table t.hand) (goes-stand t.memory t.cog base t.table t.hand n.wide n.statement quit)
+  quit-by n false next quit = goes-stand t.memory t.cog base t.table t.hand n.wide n.statement quit
 
   pub quit-stand : (n : Names) (l : Option Loop) → IsTrue (in_loop l) → S (leaves n l) (QuitAt t (inner_of l))
   quit-stand n None is = absurd (let never : false ≡ true = is in cc)
@@ -163,10 +163,10 @@ module _ (t : Compiled) (base : ℕ) where
   pub tests-stand : (n : Names) → Agrees n t → (to : ℕ) → (xs : Items) → AreProperTests xs → CleanItems n xs → S (tests n to xs) (FitsAt t xs (base + to))
   tests-stand n a to no_items is clean = nothings
   tests-stand n a to (xs ▸ single e) is clean =
-      so (three (tests-stand n a to xs is.0 (λ f b. clean f (inl b))) (value-stand n t base a e is.1.0 (λ f b. clean f (inr b))) (value-test-stand t.memory t.cog base t.line t.hand n.wide n.statement to))
+      so (three (tests-stand n a to xs is.0 (λ f b. clean f (inl b))) (value-stand n t base a e is.1.0 (λ f b. clean f (inr b))) (value-test-stand t.memory t.cog base t.table t.hand n.wide n.statement to))
       (λ p q r. (r.0, r.2, (r.1, r.3, r.4)))
   tests-stand n a to (xs ▸ range e d) is clean =
-      so (four (tests-stand n a to xs is.0 (λ f b. clean f (inl b))) (value-stand n t base a e is.1.0.0 (λ f b. clean f (inr (inl b)))) (value-stand n t base a d is.1.1.0 (λ f b. clean f (inr (inr b)))) (range-test-stand t.memory t.cog base t.line t.hand n.wide n.statement to))
+      so (four (tests-stand n a to xs is.0 (λ f b. clean f (inl b))) (value-stand n t base a e is.1.0.0 (λ f b. clean f (inr (inl b)))) (value-stand n t base a d is.1.1.0 (λ f b. clean f (inr (inr b)))) (range-test-stand t.memory t.cog base t.table t.hand n.wide n.statement to))
       (λ p q r. (r.0, r.3, (r.1, r.2, r.4, r.5, r.6)))
 
   -- the tests of a CASE, and what follows them up to the bodies
@@ -205,7 +205,7 @@ module _ (t : Compiled) (base : ℕ) where
   EndsThere false end q = q ≡ end
 
   pub last-stand : (n : Names) (jumps : Bool) (end : ℕ) → S (last_of n jumps end) (LastAt jumps (base + end))
-  last-stand n true end = goes-stand t.memory t.cog base t.line t.hand n.wide n.statement end
+  last-stand n true end = goes-stand t.memory t.cog base t.table t.hand n.wide n.statement end
   last-stand n false end = nothings
 
   pub last-alike : (n : Names) (jumps : Bool) (end : ℕ) → Alike (last_of n jumps end) (last_of n jumps end)
@@ -220,10 +220,10 @@ module _ (t : Compiled) (base : ℕ) where
 
 module _ (t : Compiled) (base : ℕ) where
   abbrev U : (hand : Place) → Piece → ((p q : ℕ) → Type 0) → Type 0
-  U hand piece R = Stand t.memory base t.line hand piece R
+  U hand piece R = Stand t.memory base t.table hand piece R
 
   abbrev D : (hand : Place) → Piece → ((i j p q : ℕ) → Type 0) → Type 0
-  D hand piece R = Counted t.memory base t.line hand piece R
+  D hand piece R = Counted t.memory base t.table hand piece R
 
   -- the bodies of arms that stand one after the other from a place on, with so many jumps before it, each of which jumps to the end
   abbrev Bodies : (p : Place) → Names → Option Loop → (end first before : ℕ) → Arms → Type 0
@@ -273,12 +273,12 @@ module _ (t : Compiled) (base : ℕ) where
   -- ---- values of RETURN and ABORT
 
   returned-stand : (n : Names) (a : Agrees n t) (l : Option Loop) (p : Place) (e : Option Tree) → IfThere (IsProperExpression false) e → ((f : Fault) → MisuseInOption (environment n) e f → ⊥) → U p (with_value n e 0x32 0x33) (StatementAt t (statement p (Return e)) (inner_of t base l))
-  returned-stand n a l p None is clean = return-result-stand t.memory t.cog base t.line p
-  returned-stand n a l p (Some e) is clean = both (value-stand n (on t p) base (on-statement n t p a) e is.0 clean) (return-value-stand t.memory t.cog base t.line p)
+  returned-stand n a l p None is clean = return-result-stand t.memory t.cog base t.table p
+  returned-stand n a l p (Some e) is clean = both (value-stand n (on t p) base (on-statement n t p a) e is.0 clean) (return-value-stand t.memory t.cog base t.table p)
 
   aborted-stand : (n : Names) (a : Agrees n t) (l : Option Loop) (p : Place) (e : Option Tree) → IfThere (IsProperExpression false) e → ((f : Fault) → MisuseInOption (environment n) e f → ⊥) → U p (with_value n e 0x30 0x31) (StatementAt t (statement p (Abort e)) (inner_of t base l))
-  aborted-stand n a l p None is clean = abort-result-stand t.memory t.cog base t.line p
-  aborted-stand n a l p (Some e) is clean = both (value-stand n (on t p) base (on-statement n t p a) e is.0 clean) (abort-value-stand t.memory t.cog base t.line p)
+  aborted-stand n a l p None is clean = abort-result-stand t.memory t.cog base t.table p
+  aborted-stand n a l p (Some e) is clean = both (value-stand n (on t p) base (on-statement n t p a) e is.0 clean) (abort-value-stand t.memory t.cog base t.table p)
 
   -- ---- the induction
 
@@ -306,33 +306,33 @@ module _ (t : Compiled) (base : ℕ) where
         (λ end. so (meet
         (up-jumps (λ first before x y. (p1 p2 p3 p4 : ℕ) × ValueAt (on t p) e x p1 × (Bodies p n l (base + end) first before arms → ChoicesAt t p arms (inner_of t base l) (base + end) p1 p2) × At (on t p) p2 (takes_one 0 drops) p3 × OtherAt t other (inner_of t base l) p3 p4 × At (on t p) p4 (jumps (base + end)) y)
         (λ i j f g. case-alike t base n l e arms other i j f g end end)
-        (λ first before. five (on t p) base (value-stand n (on t p) base (on-statement n t p a) e is.0.0 e_clean) (all-tests-stand p n a l (base + end) first before arms is.1 arms_clean) (drop-case-stand t.memory t.cog base t.line p)
-        (other-stand p n a l other is.2 (both-true _ _ loops).1 (λ f b. clean f (inr b))) (goes-stand t.memory t.cog base t.line p n.wide n.statement end)))
+        (λ first before. five (on t p) base (value-stand n (on t p) base (on-statement n t p a) e is.0.0 e_clean) (all-tests-stand p n a l (base + end) first before arms is.1 arms_clean) (drop-case-stand t.memory t.cog base t.table p)
+        (other-stand p n a l other is.2 (both-true _ _ loops).1 (λ f b. clean f (inr b))) (goes-stand t.memory t.cog base t.table p n.wide n.statement end)))
         (bodies-stand p n a l end arms is.1 (both-true _ _ loops).0 arms_clean))
         (λ x y r. (r.2.0, r.2.1, r.2.2, r.2.3, r.2.4, r.2.5 r.3, r.2.6, r.2.7, inr (r.1, r.2.8))))
     action-stand n a l p (Repeat Forever ss) is loops clean =
         up (λ end x y. (p1 : ℕ) × BodyAt t ss (plain x end) x p1 × At (on t p) p1 (jumps x) y)
         (λ x y. widths.froms (λ i j. widths.both (widths.body-alike n n.text n.statement (inside i x false) (inside j y false) refl ss) (widths.jumps n.wide n.statement n.statement 0x04 i j)))
         (λ end. from (λ start x y. (p1 : ℕ) × BodyAt t ss (plain start (base + end)) x p1 × At (on t p) p1 (jumps start) y)
-        (λ start. both (body-stand p n a (inside start end false) ss is.1 loops (λ f b. clean f (inr b))) (goes-stand t.memory t.cog base t.line p n.wide n.statement start)))
+        (λ start. both (body-stand p n a (inside start end false) ss is.1 loops (λ f b. clean f (inr b))) (goes-stand t.memory t.cog base t.table p n.wide n.statement start)))
     action-stand n a l p (Repeat (Count e) ss) is loops clean =
         up (λ end x y. (p1 p2 p3 : ℕ) × ValueAt (on t p) e x p1 × At (on t p) p1 (begins_loop end) p2 × BodyAt t ss (with_count p3 end) p2 p3 × At (on t p) p3 (takes_one 1 (ends_loop p2)) y)
         (λ x y. widths.both (widths.both (widths.value-alike n n.text n.statement e) (widths.jumps n.wide n.statement n.statement 0x08 x y))
         (widths.froms (λ i j. widths.both (widths.ups (λ v w. widths.body-alike n n.text n.statement (inside v x true) (inside w y true) refl ss)) (widths.jumps n.wide n.statement n.statement 0x09 i j))))
-        (λ end. so (three (value-stand n (on t p) base (on-statement n t p a) e is.0.0 (λ f b. clean f (inl b))) (loop-begins-stand t.memory t.cog base t.line p n.wide n.statement end)
+        (λ end. so (three (value-stand n (on t p) base (on-statement n t p a) e is.0.0 (λ f b. clean f (inl b))) (loop-begins-stand t.memory t.cog base t.table p n.wide n.statement end)
         (from (λ start x y. (p3 : ℕ) × BodyAt t ss (with_count p3 (base + end)) x p3 × At (on t p) p3 (takes_one 1 (ends_loop start)) y)
         (λ start. both
         (up (λ next x y. BodyAt t ss (with_count next (base + end)) x y) (λ v w. widths.body-alike n n.text n.statement (inside v end true) (inside w end true) refl ss)
         (λ next. body-stand p n a (inside next end true) ss is.1 loops (λ f b. clean f (inr b))))
-        (loop-ends-stand t.memory t.cog base t.line p n.wide n.statement start))))
+        (loop-ends-stand t.memory t.cog base t.table p n.wide n.statement start))))
         (λ x y r. (r.0, r.1, r.4.0, r.2, r.3, r.4.1, r.4.2)))
     action-stand n a l p (Repeat (Before until e) ss) is loops clean =
         up (λ end x y. (p1 p2 p3 : ℕ) × ValueAt (on t p) e x p1 × At (on t p) p1 (takes_one 0 (jumps_unless until end)) p2 × BodyAt t ss (plain x end) p2 p3 × At (on t p) p3 (jumps x) y)
         (λ x y. widths.froms (λ i j. widths.both (widths.both (widths.both (widths.value-alike n n.text n.statement e) (widths.jumps n.wide n.statement n.statement (zero_jump until) x y))
         (widths.body-alike n n.text n.statement (inside i x false) (inside j y false) refl ss)) (widths.jumps n.wide n.statement n.statement 0x04 i j)))
         (λ end. from (λ start x y. (p1 p2 p3 : ℕ) × ValueAt (on t p) e x p1 × At (on t p) p1 (takes_one 0 (jumps_unless until (base + end))) p2 × BodyAt t ss (plain start (base + end)) p2 p3 × At (on t p) p3 (jumps start) y)
-        (λ start. four (value-stand n (on t p) base (on-statement n t p a) e is.0.0 (λ f b. clean f (inl b))) (unless-stand t.memory t.cog base t.line p until n.wide n.statement end)
-        (body-stand p n a (inside start end false) ss is.1 loops (λ f b. clean f (inr b))) (goes-stand t.memory t.cog base t.line p n.wide n.statement start)))
+        (λ start. four (value-stand n (on t p) base (on-statement n t p a) e is.0.0 (λ f b. clean f (inl b))) (unless-stand t.memory t.cog base t.table p until n.wide n.statement end)
+        (body-stand p n a (inside start end false) ss is.1 loops (λ f b. clean f (inr b))) (goes-stand t.memory t.cog base t.table p n.wide n.statement start)))
     action-stand n a l p (Repeat (After until e) ss) is loops clean =
         up (λ end x y. (p1 p2 : ℕ) × BodyAt t ss (plain p1 end) x p1 × ValueAt (on t p) e p1 p2 × At (on t p) p2 (takes_one 0 (jumps_where until x)) y)
         (λ x y. widths.froms (λ i j. widths.both (widths.both (widths.ups (λ v w. widths.body-alike n n.text n.statement (inside v x false) (inside w y false) refl ss)) (widths.value-alike n n.text n.statement e))
@@ -341,7 +341,7 @@ module _ (t : Compiled) (base : ℕ) where
         (λ start. three
         (up (λ next x y. BodyAt t ss (plain next (base + end)) x y) (λ v w. widths.body-alike n n.text n.statement (inside v end false) (inside w end false) refl ss)
         (λ next. body-stand p n a (inside next end false) ss is.1 loops (λ f b. clean f (inr b))))
-        (value-stand n (on t p) base (on-statement n t p a) e is.0.0 (λ f b. clean f (inl b))) (where-stand t.memory t.cog base t.line p until n.wide n.statement start)))
+        (value-stand n (on t p) base (on-statement n t p a) e is.0.0 (λ f b. clean f (inl b))) (where-stand t.memory t.cog base t.table p until n.wide n.statement start)))
     action-stand n a l p (Repeat (From name x0 y0 step q) ss) is loops clean =
         let f : IsFound n (on t p) (Named name no_index q) = found n (on t p) (on-statement n t p a) (Named name no_index q) (usable n (on t p) (on-statement n t p a) (Named name no_index q) (is.0.0, tt) (none-there _ (λ f b. clean f (inl (inl b))))) in
         up (λ end x y. (p1 p2 p3 : ℕ) × ValueAt (on t p) x0 x p1 × At (on t p) p1 (takes_value 0 0 (writes (on t p) false (Named name no_index q))) p2 × BodyAt t ss (plain p3 end) p2 p3 × PassEndAt (on t p) (Named name no_index q) x0 y0 step p2 p3 y)
@@ -377,7 +377,7 @@ module _ (t : Compiled) (base : ℕ) where
         so (both (chain-stand p n a l true end arms is.0 (both-true _ _ loops).0 (λ f b. clean f (inl b)))
         (up (λ next x y. (p2 p3 p4 : ℕ) × ValueAt (on t p) e x p2 × At (on t p) p2 (takes_one 0 (jumps_unless negated next)) p3 × BodyAt t ss (inner_of t base l) p3 p4 × LastAt (on t p) base goes (base + end) p4 y)
         (λ x y. widths.both (widths.both (widths.both (widths.value-alike n n.text n.statement e) (widths.jumps n.wide n.statement n.statement (zero_jump negated) x y)) (widths.body-alike n n.text n.statement l l (same-loop t base l) ss)) (last-alike t base n goes end))
-        (λ next. four (value-stand n (on t p) base (on-statement n t p a) e is.1.0.0 (λ f b. clean f (inr (inl (inr b))))) (unless-stand t.memory t.cog base t.line p negated n.wide n.statement next)
+        (λ next. four (value-stand n (on t p) base (on-statement n t p a) e is.1.0.0 (λ f b. clean f (inr (inl (inr b))))) (unless-stand t.memory t.cog base t.table p negated n.wide n.statement next)
         (body-stand p n a l ss is.1.1 (both-true _ _ loops).1 (λ f b. clean f (inr (inr b)))) (last-stand (on t p) base n goes end))))
         (λ x y r there. (r.0, r.2.0, r.2.1, r.2.2, r.1 tt, r.2.3, r.2.4, r.2.5, leads-on (on t p) base goes (base + end) r.2.2 y r.2.6 there))
     chain-stand p n a l goes end (arms ⊳ arm _ negated ss) is loops clean = absurd is.1.0
@@ -387,4 +387,4 @@ module _ (t : Compiled) (base : ℕ) where
     bodies-stand p n a l end no_arms is loops clean = record { by = λ w at h. (h, tt); keeps = λ w. refl; exist = λ w near. (near, λ are. are) }
     bodies-stand p n a l end (arms ⊳ arm items negated ss) is loops clean =
         one-more p n l end arms items negated ss (bodies-stand p n a l end arms is.0 (both-true _ _ loops).0 (λ f b. clean f (inl b)))
-        (three (drop-case-stand t.memory t.cog base t.line p) (body-stand p n a l ss is.1.3 (both-true _ _ loops).1 (λ f b. clean f (inr (inr b)))) (goes-stand t.memory t.cog base t.line p n.wide n.statement end))
+        (three (drop-case-stand t.memory t.cog base t.table p) (body-stand p n a l ss is.1.3 (both-true _ _ loops).1 (λ f b. clean f (inr (inr b)))) (goes-stand t.memory t.cog base t.table p n.wide n.statement end))

@@ -56,19 +56,19 @@ pub data IsWord (k : ℕ) : (used : Bool) → Type 0 where
 
 module _ (t : Compiled) (base : ℕ) where
   abbrev pub S : Piece → ((p q : ℕ) → Type 0) → Type 0
-  S a R = Stand t.memory base t.line t.hand a R
+  S a R = Stand t.memory base t.table t.hand a R
 
   -- ---- memory, without a name
 
   acts-stand : (op : Op) (o : Operation) (course : State → Course State) {named : ℕ} {at : State → place.Place} → Acts t.memory t.cog op o named at → FitsEffect o (with_jump op 0 false) → ((s : State) → done o named op (at s) s ≡ course s) → S (one op) (λ p q. At t p course q)
   acts-stand op o course {named} {at} a fits same =
-      one-stand t.memory t.cog base t.line t.hand op course (subst IsOp a.plain (a.is_op 0 false fits))
+      one-stand t.memory t.cog base t.table t.hand op course (subst IsOp a.plain (a.is_op 0 false fits))
       (λ s. subst (λ (x : Op). row t.memory t.cog x s ≡ done o named x (at s) s) a.plain (a.does 0 false s) ∙ same s)
 
   pub text-of-stand : (place : Place) (offset : ℕ) → offset < 2 ^ 15 → S (text place (offset % 2 ^ 15)) (λ p q. At t p (gives_text offset) q)
   text-of-stand place offset lt =
       let a = memory-acts t.memory t.cog false (home_at OfObject offset 1) Reference (record { size = refl; place = lt }) in
-      text-stand t.memory t.cog base t.line t.hand place (offset % 2 ^ 15) (gives_text offset) (a.is_op 0 false (refl, refl, refl))
+      text-stand t.memory t.cog base t.table t.hand place (offset % 2 ^ 15) (gives_text offset) (a.is_op 0 false (refl, refl, refl))
       (λ s. a.does 0 false s
       ∙ ap (λ x. tested 0 1 s (Finish (pushed (x % 2 ^ 16) (taken 0 s)))) (nothing-else (s.pbase + offset))
       ∙ ap (λ st. tested 0 1 s (Finish (pushed ((s.pbase + offset) % 2 ^ 16) st))) (taken-none s))
@@ -103,19 +103,19 @@ module _ (t : Compiled) (base : ℕ) where
 
   pub kept : (used : Bool) {a : Piece} {R : (p q : ℕ) → Type 0} → S a R → S (a ⨾ dropped used) (λ p q. Kept t used (λ e. R p e) q)
   kept true x = x
-  kept false x = both x (drop-stand t.memory t.cog base t.line t.hand)
+  kept false x = both x (drop-stand t.memory t.cog base t.table t.hand)
 
   -- a word without arguments
   cog-id-stand : S (with_number 0x3F 0x89) (λ p q. At t p (takes_none 1 cog_id) q)
   unfolding rows row return_row whole_register asks_word
   cog-id-stand =
-      one-stand t.memory t.cog base t.line t.hand (record (bare 0x3F) { first = 0x89 }) (takes_none 1 cog_id) (record { operands = (refl, refl, (refl, refl, refl)) })
+      one-stand t.memory t.cog base t.table t.hand (record (bare 0x3F) { first = 0x89 }) (takes_none 1 cog_id) (record { operands = (refl, refl, (refl, refl, refl)) })
       (λ s. ap (λ st. tested 0 1 s (gets access_case.CogId st)) (taken-none s))
 
   new-lock-stand : (used : Bool) → S (built used 0x29) (λ p q. At t p (takes_none (leaves_if used) (word_if used access_case.LockNew)) q)
   unfolding rows row cog_row tells asks_word
-  new-lock-stand true = byte-stand t.memory t.cog base t.line t.hand 0x29 _ refl (λ s. ap (λ st. tested 0 1 s (gets access_case.LockNew st)) (taken-none s))
-  new-lock-stand false = byte-stand t.memory t.cog base t.line t.hand 0x2D _ refl (λ s. ap (λ st. tested 0 0 s (ends access_case.LockNew None st)) (taken-none s))
+  new-lock-stand true = byte-stand t.memory t.cog base t.table t.hand 0x29 _ refl (λ s. ap (λ st. tested 0 1 s (gets access_case.LockNew st)) (taken-none s))
+  new-lock-stand false = byte-stand t.memory t.cog base t.table t.hand 0x2D _ refl (λ s. ap (λ st. tested 0 0 s (ends access_case.LockNew None st)) (taken-none s))
 
   abbrev Without : (used : Bool) → ℕ → Type 0
   Without used k = (0 == argument_count k) ≡ true → S (built_without used k) (NoneAt t used k)
@@ -124,8 +124,8 @@ module _ (t : Compiled) (base : ℕ) where
   values-stand used = (
     λ fits. kept used cog-id-stand,
     (
-      λ fits. kept used (both (byte-number-stand t.memory t.cog base t.line t.hand 4 (omega arith)) hub-byte-stand),
-      (λ fits. kept used (both (zero-stand t.memory t.cog base t.line t.hand) hub-long-stand), tt),
+      λ fits. kept used (both (byte-number-stand t.memory t.cog base t.table t.hand 4 (omega arith)) hub-byte-stand),
+      (λ fits. kept used (both (zero-stand t.memory t.cog base t.table t.hand) hub-long-stand), tt),
     ),
   )
 
@@ -139,21 +139,21 @@ module _ (t : Compiled) (base : ℕ) where
 
   size-stand : S (byte 0x16) (λ p q. At t p (takes_one 1 measures_text) q)
   unfolding rows row move_row text_size
-  size-stand = byte-stand t.memory t.cog base t.line t.hand 0x16 _ refl (λ s. refl)
+  size-stand = byte-stand t.memory t.cog base t.table t.hand 0x16 _ refl (λ s. refl)
 
   set-lock-stand : (used : Bool) → S (built used 0x2A) (λ p q. At t p (takes_one (leaves_if used) (sets_lock used)) q)
   unfolding rows row cog_row tells asks_word
-  set-lock-stand true = byte-stand t.memory t.cog base t.line t.hand 0x2A _ refl (λ s. refl)
-  set-lock-stand false = byte-stand t.memory t.cog base t.line t.hand 0x2E _ refl (λ s. refl)
+  set-lock-stand true = byte-stand t.memory t.cog base t.table t.hand 0x2A _ refl (λ s. refl)
+  set-lock-stand false = byte-stand t.memory t.cog base t.table t.hand 0x2E _ refl (λ s. refl)
 
   clear-lock-stand : (used : Bool) → S (built used 0x2B) (λ p q. At t p (takes_one (leaves_if used) (clears_lock used)) q)
   unfolding rows row cog_row tells asks_word
-  clear-lock-stand true = byte-stand t.memory t.cog base t.line t.hand 0x2B _ refl (λ s. refl)
-  clear-lock-stand false = byte-stand t.memory t.cog base t.line t.hand 0x2F _ refl (λ s. refl)
+  clear-lock-stand true = byte-stand t.memory t.cog base t.table t.hand 0x2B _ refl (λ s. refl)
+  clear-lock-stand false = byte-stand t.memory t.cog base t.table t.hand 0x2F _ refl (λ s. refl)
 
   text-size-stand : (used : Bool) → S (built used 0x16) (λ p q. Kept t used (λ e. At t p (takes_one 1 measures_text) e) q)
   text-size-stand true = size-stand
-  text-size-stand false = both size-stand (drop-stand t.memory t.cog base t.line t.hand)
+  text-size-stand false = both size-stand (drop-stand t.memory t.cog base t.table t.hand)
 
   one-stands : (used : Bool) → EachOf (One used) (0x16 ∷ 0x17 ∷ 0x28 ∷ 0x29 ∷ 0x2A ∷ 0x2B ∷ 0x2C ∷ [])
   one-stands used = (λ fits. text-size-stand used, (λ fits. absurd (cc), (λ fits. absurd (cc), (λ fits. absurd (cc), (λ fits. set-lock-stand used, (λ fits. clear-lock-stand used, (λ fits. absurd (cc), tt)))))))
@@ -180,10 +180,10 @@ module _ (t : Compiled) (base : ℕ) where
                 (
                   λ fits. absurd (cc),
                   (
-                    λ fits. byte-stand t.memory t.cog base t.line t.hand 0x21 _ refl (λ s. refl),
+                    λ fits. byte-stand t.memory t.cog base t.table t.hand 0x21 _ refl (λ s. refl),
                     (
-                      λ fits. byte-stand t.memory t.cog base t.line t.hand 0x22 _ refl (λ s. refl),
-                      (λ fits. byte-stand t.memory t.cog base t.line t.hand 0x23 _ refl (λ s. refl), tt),
+                      λ fits. byte-stand t.memory t.cog base t.table t.hand 0x22 _ refl (λ s. refl),
+                      (λ fits. byte-stand t.memory t.cog base t.table t.hand 0x23 _ refl (λ s. refl), tt),
                     ),
                   ),
                 ),
@@ -200,11 +200,11 @@ module _ (t : Compiled) (base : ℕ) where
 
   compare-stand : S (byte 0x17) (λ p q. At t p (takes_two 1 compares_texts) q)
   unfolding rows row move_row text_compare
-  compare-stand = byte-stand t.memory t.cog base t.line t.hand 0x17 _ refl (λ s. refl)
+  compare-stand = byte-stand t.memory t.cog base t.table t.hand 0x17 _ refl (λ s. refl)
 
   text-compare-stand : (used : Bool) → S (built used 0x17) (λ p q. Kept t used (λ e. At t p (takes_two 1 compares_texts) e) q)
   text-compare-stand true = compare-stand
-  text-compare-stand false = both compare-stand (drop-stand t.memory t.cog base t.line t.hand)
+  text-compare-stand false = both compare-stand (drop-stand t.memory t.cog base t.table t.hand)
 
   two-stands : (used : Bool) → EachOf (Two used) (0x16 ∷ 0x17 ∷ 0x28 ∷ 0x29 ∷ 0x2A ∷ 0x2B ∷ 0x2C ∷ [])
   two-stands used = (λ fits other. absurd (cc), (λ fits other. text-compare-stand used, (λ fits other. absurd (cc), (λ fits other. absurd (cc), (λ fits other. absurd (cc), (λ fits other. absurd (cc), (λ fits other. absurd (cc), tt)))))))
@@ -221,21 +221,21 @@ module _ (t : Compiled) (base : ℕ) where
   three-alone : EachOf (Three false) silent
   unfolding rows row move_row wait_row fill move_elements waits_for_pins
   three-alone = (
-    λ fits other. byte-stand t.memory t.cog base t.line t.hand 0x18 _ refl (λ s. refl),
+    λ fits other. byte-stand t.memory t.cog base t.table t.hand 0x18 _ refl (λ s. refl),
     (
-      λ fits other. byte-stand t.memory t.cog base t.line t.hand 0x19 _ refl (λ s. refl),
+      λ fits other. byte-stand t.memory t.cog base t.table t.hand 0x19 _ refl (λ s. refl),
       (
-        λ fits other. byte-stand t.memory t.cog base t.line t.hand 0x1A _ refl (λ s. refl),
+        λ fits other. byte-stand t.memory t.cog base t.table t.hand 0x1A _ refl (λ s. refl),
         (
-          λ fits other. byte-stand t.memory t.cog base t.line t.hand 0x1B _ refl (λ s. refl),
+          λ fits other. byte-stand t.memory t.cog base t.table t.hand 0x1B _ refl (λ s. refl),
           (
-            λ fits other. byte-stand t.memory t.cog base t.line t.hand 0x1C _ refl (λ s. refl),
+            λ fits other. byte-stand t.memory t.cog base t.table t.hand 0x1C _ refl (λ s. refl),
             (
-              λ fits other. byte-stand t.memory t.cog base t.line t.hand 0x1D _ refl (λ s. refl),
+              λ fits other. byte-stand t.memory t.cog base t.table t.hand 0x1D _ refl (λ s. refl),
               (
-                λ fits other. byte-stand t.memory t.cog base t.line t.hand 0x1E _ refl (λ s. refl),
+                λ fits other. byte-stand t.memory t.cog base t.table t.hand 0x1E _ refl (λ s. refl),
                 (
-                  λ fits other. byte-stand t.memory t.cog base t.line t.hand 0x1F _ refl (λ s. refl),
+                  λ fits other. byte-stand t.memory t.cog base t.table t.hand 0x1F _ refl (λ s. refl),
                   (λ fits other. absurd (cc), (λ fits other. absurd (cc), (λ fits other. absurd (cc), tt))),
                 ),
               ),
@@ -270,5 +270,5 @@ module _ (t : Compiled) (base : ℕ) where
 
   pub pasm-stand : (used : Bool) → S (pasm used) (λ p q. At t p (takes_three (leaves_if used) (starts_pasm used)) q)
   unfolding rows row cog_row tells asks_word
-  pasm-stand true = byte-stand t.memory t.cog base t.line t.hand 0x28 _ refl (λ s. refl)
-  pasm-stand false = byte-stand t.memory t.cog base t.line t.hand 0x2C _ refl (λ s. refl)
+  pasm-stand true = byte-stand t.memory t.cog base t.table t.hand 0x28 _ refl (λ s. refl)
+  pasm-stand false = byte-stand t.memory t.cog base t.table t.hand 0x2C _ refl (λ s. refl)

@@ -58,66 +58,66 @@ is-between k is =
     let r = both-true (not (is_unary k)) _ (implied (proper.is_binary k) _ (within-row two_operands 0xE0 32 all-have-two k least (omega (arith, most))) is) in
     record { least = least; most = most; two = is-no (is_unary k) r.0; alone = nothing-there (operands_of k) r.1 }
 
-module _ (memory : List ℕ) (cog base : ℕ) (line : ℕ → Place) (hand : Place) where
+module _ (memory : List ℕ) (cog base : ℕ) (table : List (ℕ × Place)) (hand : Place) where
   -- ---- CASE
 
-  pub value-test-stand : (wide : ℕ → Bool) (statement : Place) (to : ℕ) → Stands memory cog base line hand (jump wide statement 0x0D to) (DoesAt memory cog base line hand (takes_two 1 (fits_value (base + to))))
+  pub value-test-stand : (wide : ℕ → Bool) (statement : Place) (to : ℕ) → Stands memory cog base table hand (jump wide statement 0x0D to) (DoesAt memory cog base table hand (takes_two 1 (fits_value (base + to))))
   unfolding rows row test_row control.case_value
   value-test-stand wide statement to =
-      jump-stand memory cog base line hand wide statement 0x0D to (λ target. takes_two 1 (fits_value target)) refl
+      jump-stand memory cog base table hand wide statement 0x0D to (λ target. takes_two 1 (fits_value target)) refl
       (λ form off s. tested-same 2 1 s _ _ (λ le. ap Finish (stays (operand s 1 == operand s 0) ((s.at + off) % 2 ^ 16) s 1 le)))
 
-  pub range-test-stand : (wide : ℕ → Bool) (statement : Place) (to : ℕ) → Stands memory cog base line hand (jump wide statement 0x0E to) (DoesAt memory cog base line hand (takes_three 1 (fits_range (base + to))))
+  pub range-test-stand : (wide : ℕ → Bool) (statement : Place) (to : ℕ) → Stands memory cog base table hand (jump wide statement 0x0E to) (DoesAt memory cog base table hand (takes_three 1 (fits_range (base + to))))
   unfolding rows row test_row control.case_range
   range-test-stand wide statement to =
-      jump-stand memory cog base line hand wide statement 0x0E to (λ target. takes_three 1 (fits_range target)) refl
+      jump-stand memory cog base table hand wide statement 0x0E to (λ target. takes_three 1 (fits_range target)) refl
       (λ form off s. tested-same 3 1 s _ _ (λ le. ap Finish (stays (is_between (operand s 2) (operand s 1) (operand s 0)) ((s.at + off) % 2 ^ 16) s 2 le)))
 
   -- ---- LOOK functions
 
-  pub item-stand : (down : Bool) (wide : ℕ → Bool) (statement : Place) (to : ℕ) → Stands memory cog base line hand (jump wide statement (if down then 0x11 else 0x10) to) (DoesAt memory cog base line hand (takes_three 2 (tries_item (not down) (base + to))))
+  pub item-stand : (down : Bool) (wide : ℕ → Bool) (statement : Place) (to : ℕ) → Stands memory cog base table hand (jump wide statement (if down then 0x11 else 0x10) to) (DoesAt memory cog base table hand (takes_three 2 (tries_item (not down) (base + to))))
   unfolding rows row look_row control.lookup_value control.lookdown_value
   item-stand false wide statement to =
-      jump-stand memory cog base line hand wide statement 0x10 to (λ target. takes_three 2 (tries_item true target)) refl
+      jump-stand memory cog base table hand wide statement 0x10 to (λ target. takes_three 2 (tries_item true target)) refl
       (λ form off s. tested-same 3 2 s _ _ (λ le. ap Finish (else-same (operand s 2 == operand s 1) (jumped off (replaced 3 (operand s 0) s)) _ _ (ap (pushed (sum_of (operand s 1) 1)) (sym (pushed-taken s 2 le))))))
   item-stand true wide statement to =
-      jump-stand memory cog base line hand wide statement 0x11 to (λ target. takes_three 2 (tries_item false target)) refl
+      jump-stand memory cog base table hand wide statement 0x11 to (λ target. takes_three 2 (tries_item false target)) refl
       (λ form off s. tested-same 3 2 s _ _ (λ le. ap Finish (else-same (operand s 2 == operand s 0) (jumped off (replaced 3 (operand s 1) s)) _ _ (ap (pushed (sum_of (operand s 1) 1)) (sym (pushed-taken s 2 le))))))
 
-  pub both-stand : (down : Bool) (wide : ℕ → Bool) (statement : Place) (to : ℕ) → Stands memory cog base line hand (jump wide statement (if down then 0x13 else 0x12) to) (DoesAt memory cog base line hand (takes_four 2 (tries_both (not down) (base + to))))
+  pub both-stand : (down : Bool) (wide : ℕ → Bool) (statement : Place) (to : ℕ) → Stands memory cog base table hand (jump wide statement (if down then 0x13 else 0x12) to) (DoesAt memory cog base table hand (takes_four 2 (tries_both (not down) (base + to))))
   unfolding rows row look_row control.lookup_range control.lookdown_range
   both-stand false wide statement to =
-      jump-stand memory cog base line hand wide statement 0x12 to (λ target. takes_four 2 (tries_both true target)) refl
+      jump-stand memory cog base table hand wide statement 0x12 to (λ target. takes_four 2 (tries_both true target)) refl
       (λ form off s. tested-same 4 2 s _ _ (λ le. ap Finish (else-same (nat_le (difference (operand s 3) (operand s 2)) (distance (operand s 1) (operand s 0))) (jumped off (replaced 4 (control.toward (operand s 1) (operand s 0) (difference (operand s 3) (operand s 2))) s)) _ _ (ap (pushed (sum_of (sum_of (operand s 2) (distance (operand s 1) (operand s 0))) 1)) (sym (pushed-taken s 3 le))))))
   both-stand true wide statement to =
-      jump-stand memory cog base line hand wide statement 0x13 to (λ target. takes_four 2 (tries_both false target)) refl
+      jump-stand memory cog base table hand wide statement 0x13 to (λ target. takes_four 2 (tries_both false target)) refl
       (λ form off s. tested-same 4 2 s _ _ (λ le. ap Finish (else-same (is_between (operand s 3) (operand s 1) (operand s 0)) (jumped off (replaced 4 (sum_of (operand s 2) (distance (operand s 3) (operand s 1))) s)) _ _ (ap (pushed (sum_of (sum_of (operand s 2) (distance (operand s 1) (operand s 0))) 1)) (sym (pushed-taken s 3 le))))))
 
-  pub look-fails-stand : Stands memory cog base line hand (byte 0x0F) (DoesAt memory cog base line hand (takes_two 1 look_fails))
+  pub look-fails-stand : Stands memory cog base table hand (byte 0x0F) (DoesAt memory cog base table hand (takes_two 1 look_fails))
   unfolding rows row test_row control.look_fails
-  look-fails-stand = byte-stand memory cog base line hand 0x0F _ refl (λ s. refl)
+  look-fails-stand = byte-stand memory cog base table hand 0x0F _ refl (λ s. refl)
 
   -- ---- operators
 
-  pub unary-stand : (operator : ℕ) → IsTrue (proper.is_unary operator) → (operator == 0xEC) ≡ false → Stands memory cog base line hand (byte operator) (DoesAt memory cog base line hand (takes_one 1 (applies_one operator)))
+  pub unary-stand : (operator : ℕ) → IsTrue (proper.is_unary operator) → (operator == 0xEC) ≡ false → Stands memory cog base table hand (byte operator) (DoesAt memory cog base table hand (takes_one 1 (applies_one operator)))
   unfolding rows row operator_row
   unary-stand operator is plus =
-      each (λ k. (k == 0xEC) ≡ false → Stands memory cog base line hand (byte k) (DoesAt memory cog base line hand (takes_one 1 (applies_one k)))) (0xE6 ∷ 0xE7 ∷ 0xE9 ∷ 0xEC ∷ 0xF1 ∷ 0xF3 ∷ 0xF8 ∷ 0xFF ∷ []) (
-        λ _. byte-stand memory cog base line hand 0xE6 _ refl (λ s. refl),
+      each (λ k. (k == 0xEC) ≡ false → Stands memory cog base table hand (byte k) (DoesAt memory cog base table hand (takes_one 1 (applies_one k)))) (0xE6 ∷ 0xE7 ∷ 0xE9 ∷ 0xEC ∷ 0xF1 ∷ 0xF3 ∷ 0xF8 ∷ 0xFF ∷ []) (
+        λ _. byte-stand memory cog base table hand 0xE6 _ refl (λ s. refl),
         (
-          λ _. byte-stand memory cog base line hand 0xE7 _ refl (λ s. refl),
+          λ _. byte-stand memory cog base table hand 0xE7 _ refl (λ s. refl),
           (
-            λ _. byte-stand memory cog base line hand 0xE9 _ refl (λ s. refl),
+            λ _. byte-stand memory cog base table hand 0xE9 _ refl (λ s. refl),
             (
               λ sign. absurd (cc),
               (
-                λ _. byte-stand memory cog base line hand 0xF1 _ refl (λ s. refl),
+                λ _. byte-stand memory cog base table hand 0xF1 _ refl (λ s. refl),
                 (
-                  λ _. byte-stand memory cog base line hand 0xF3 _ refl (λ s. refl),
+                  λ _. byte-stand memory cog base table hand 0xF3 _ refl (λ s. refl),
                   (
-                    λ _. byte-stand memory cog base line hand 0xF8 _ refl (λ s. refl),
+                    λ _. byte-stand memory cog base table hand 0xF8 _ refl (λ s. refl),
                     (
-                      λ _. byte-stand memory cog base line hand 0xFF _ refl (λ s. refl),
+                      λ _. byte-stand memory cog base table hand 0xFF _ refl (λ s. refl),
                       tt,
                     ),
                   ),
@@ -140,8 +140,8 @@ module _ (memory : List ℕ) (cog base : ℕ) (line : ℕ → Place) (hand : Pla
       ∙ if-no (nat_lt k 0x80) _ _ (not-less k 0x80 (omega (arith, le)))
       ∙ if-no (nat_lt k 0xE0) _ _ (not-less k 0xE0 le)
 
-  pub binary-stand : (operator : ℕ) → IsTrue (proper.is_binary operator) → Stands memory cog base line hand (byte operator) (DoesAt memory cog base line hand (takes_two 1 (applies_two operator)))
+  pub binary-stand : (operator : ℕ) → IsTrue (proper.is_binary operator) → Stands memory cog base table hand (byte operator) (DoesAt memory cog base table hand (takes_two 1 (applies_two operator)))
   unfolding operator_row
   binary-stand operator is =
       let b : IsBetween operator = is-between operator is in
-      byte-stand memory cog base line hand operator _ b.alone (λ s. operator-row operator s b.least ∙ if-no (is_unary operator) _ _ b.two)
+      byte-stand memory cog base table hand operator _ b.alone (λ s. operator-row operator s b.least ∙ if-no (is_unary operator) _ _ b.two)

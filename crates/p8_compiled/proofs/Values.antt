@@ -59,7 +59,7 @@ has-register (Register address x q) is = register-written address is
 
 module _ (n : Names) (t : Compiled) (base : ℕ) (a : Agrees n t) where
   abbrev pub S : Piece → ((p q : ℕ) → Type 0) → Type 0
-  S piece R = Stand t.memory base t.line t.hand piece R
+  S piece R = Stand t.memory base t.table t.hand piece R
 
   -- nothing is wrong with an expression's names
   abbrev pub Clean : Tree → Type 0
@@ -76,7 +76,7 @@ module _ (n : Names) (t : Compiled) (base : ℕ) (a : Agrees n t) where
       let f = a.sound name (kinds.Method m.number count) same in
       subst (λ (k : Option NameKind). S (own_method k) (OwnCallAt t (t.file.kind t.method name) count)) (sym m.is)
       (subst (λ (k : Option NameKind). S (own_method (Some (kinds.Method m.number count))) (OwnCallAt t k count)) (sym (file-method n t a name m.number count same))
-      (so (own-call-stand t.memory t.cog base t.line t.hand m.number f.0) (λ p q at. (f.2, at))))
+      (so (own-call-stand t.memory t.cog base t.table t.hand m.number f.0) (λ p q at. (f.2, at))))
 
   pub own-stand : (name : List ℕ) (count : ℕ) (place : Place) → misuse (used_as.Method count) (kind_in (environment n) name) place ≡ None → S (own_method (n.kind name)) (OwnCallAt t (t.file.kind t.method name) count)
   own-stand name count place none = own-by name count (n.kind name) refl (called count (n.kind name) (fits-use n t a (used_as.Method count) name place none))
@@ -91,12 +91,12 @@ module _ (n : Names) (t : Compiled) (base : ℕ) (a : Agrees n t) where
   name-by : (name : List ℕ) (q : Place) (result : Bool) (kind : Option NameKind) → n.kind name ≡ (if result then Some (kinds.Local 0) else kind) → wrong used_as.Value (if result then Some (kinds.Local 0) else kind) ≡ None →
       S (name_alone n name (if result then Some (kinds.Local 0) else kind)) (λ x y. WhereSo result (ReadAt t (Named name no_index q) x y) (KindAt t (Named name no_index q) kind x y))
   name-by name q true kind is none = name-reads name q (subst IsVariableKind (sym is) tt)
-  name-by name q false (Some (kinds.Const v)) is none = number-stand t.memory t.cog base t.line t.hand v (a.sound name (kinds.Const v) is)
+  name-by name q false (Some (kinds.Const v)) is none = number-stand t.memory t.cog base t.table t.hand v (a.sound name (kinds.Const v) is)
   name-by name q false (Some (kinds.Method number params)) is none =
       let f = a.sound name (kinds.Method number params) is in
       let no_parameters : params ≡ 0 = without-parameters params none in
-      both (mark-stand t.memory t.cog base t.line t.hand true false)
-      (so (own-call-stand t.memory t.cog base t.line t.hand number f.0) (λ x y at. (subst (Fits t.file number) no_parameters f.2, at)))
+      both (mark-stand t.memory t.cog base t.table t.hand true false)
+      (so (own-call-stand t.memory t.cog base t.table t.hand number f.0) (λ x y at. (subst (Fits t.file number) no_parameters f.2, at)))
   name-by name q false (Some (kinds.Global size offset)) is none = name-reads name q (subst IsVariableKind (sym is) tt)
   name-by name q false (Some (kinds.Local offset)) is none = name-reads name q (subst IsVariableKind (sym is) tt)
   name-by name q false (Some (kinds.Label size)) is none = name-reads name q (subst IsVariableKind (sym is) tt)
@@ -111,8 +111,8 @@ module _ (n : Names) (t : Compiled) (base : ℕ) (a : Agrees n t) where
   -- ---- objects
 
   call-in-stand : (i : Index) (position count number : ℕ) → position < 2 ^ 8 → 0 < count → count < 2 ^ 8 → number < 2 ^ 8 → S (call_in position count i number) (ObjectOpAt t i position count number)
-  call-in-stand no_index position count number lp some lc ln = so (object-call-stand t.memory t.cog base t.line t.hand position number lp ln) (λ p q at. (some, at))
-  call-in-stand (index e) position count number lp some lc ln = indexed-call-stand t.memory t.cog base t.line t.hand position count number lp lc ln
+  call-in-stand no_index position count number lp some lc ln = so (object-call-stand t.memory t.cog base t.table t.hand position number lp ln) (λ p q at. (some, at))
+  call-in-stand (index e) position count number lp some lc ln = indexed-call-stand t.memory t.cog base t.table t.hand position count number lp lc ln
 
   object-by : (object : List ℕ) (i : Index) (method : List ℕ) (count : ℕ) (first second : Place) (kind : Option NameKind) → n.kind object ≡ kind → misuse_behind (environment n) kind method count first second ≡ None →
       S (method_in n kind i method) (ObjectCallAt t (t.file.kind t.method object) i method count)
@@ -139,7 +139,7 @@ module _ (n : Names) (t : Compiled) (base : ℕ) (a : Agrees n t) where
   constant-by place object name q (Some (kinds.Object item position count)) is none proper_e =
       let e : Tree = node place (ObjConst object name q) in
       subst (λ (v : Option ℕ). S (constant n e) (λ x y. At t x (gives (or_zero v)) y)) (constant-is n t a object name place q item position count (is-object n t a object item position count is))
-      (number-stand t.memory t.cog base t.line t.hand (or_zero (constants.value n.constants e)) (a.words e proper_e))
+      (number-stand t.memory t.cog base t.table t.hand (or_zero (constants.value n.constants e)) (a.words e proper_e))
   constant-by place object name q None is none proper_e = absurd (cc)
   constant-by place object name q (Some (kinds.Const v)) is none proper_e = absurd (cc)
   constant-by place object name q (Some (kinds.Global size offset)) is none proper_e = absurd (cc)
@@ -160,7 +160,7 @@ module _ (n : Names) (t : Compiled) (base : ℕ) (a : Agrees n t) where
       let f = a.sound name (kinds.Method m.number count) same in
       subst (λ (k : Option NameKind). S (start_of_method (method_number k) count ⨾ dropped used) (StartAt t used (t.file.kind t.method name) count)) (sym m.is)
       (subst (λ (k : Option NameKind). S (start_of_method m.number count ⨾ dropped used) (StartAt t used k count)) (sym (file-method n t a name m.number count same))
-      (so (kept t base used (start-stand t.memory t.cog base t.line t.hand m.number count f.0 f.1)) (λ x y k. (f.2, k))))
+      (so (kept t base used (start-stand t.memory t.cog base t.table t.hand m.number count f.0 f.1)) (λ x y k. (f.2, k))))
 
   start-of-stand : (used : Bool) (name : List ℕ) (count : ℕ) (place : Place) → misuse (used_as.Method count) (kind_in (environment n) name) place ≡ None → S (start_of_method (method_number (n.kind name)) count ⨾ dropped used) (StartAt t used (t.file.kind t.method name) count)
   start-of-stand used name count place none = start-by used name count (n.kind name) refl (called count (n.kind name) (fits-use n t a (used_as.Method count) name place none))
@@ -178,7 +178,7 @@ module _ (n : Names) (t : Compiled) (base : ℕ) (a : Agrees n t) where
   begins-by used name false (Some (kinds.Method number params)) no_kind is none first second =
       let f = a.sound name (kinds.Method number params) is in
       let no_parameters : params ≡ 0 = without-parameters params none in
-      both second (so (kept t base used (start-stand t.memory t.cog base t.line t.hand number 0 f.0 (omega arith))) (λ x y k. (subst (Fits t.file number) no_parameters f.2, k)))
+      both second (so (kept t base used (start-stand t.memory t.cog base t.table t.hand number 0 f.0 (omega arith))) (λ x y k. (subst (Fits t.file number) no_parameters f.2, k)))
   begins-by used name false (Some (kinds.Const v)) no_kind is none first second = begins-pasm used first second
   begins-by used name false (Some (kinds.Global size offset)) no_kind is none first second = begins-pasm used first second
   begins-by used name false (Some (kinds.Local offset)) no_kind is none first second = begins-pasm used first second
@@ -218,8 +218,8 @@ module _ (n : Names) (t : Compiled) (base : ℕ) (a : Agrees n t) where
   counts-stand code = counts-by (nat_le 0x12 code)
     where
       counts-by : (zero : Bool) → S (if zero then byte 0x35 else byte 0x36) (λ x y. At t x (gives (if zero then 0 else 1)) y)
-      counts-by true = zero-stand t.memory t.cog base t.line t.hand
-      counts-by false = one-given-stand t.memory t.cog base t.line t.hand
+      counts-by true = zero-stand t.memory t.cog base t.table t.hand
+      counts-by false = one-given-stand t.memory t.cog base t.table t.hand
 
   -- ---- the words of built-ins
 
@@ -270,7 +270,7 @@ module _ (n : Names) (t : Compiled) (base : ℕ) (a : Agrees n t) where
   unary-by : (operator : ℕ) (plus : Bool) → (operator == 0xEC) ≡ plus → IsTrue (proper.is_unary operator) → {x : Piece} {R : (p q : ℕ) → Type 0} → S x R →
       S (x ⨾ (if plus then nothing else byte operator)) (λ p q. WhereSo plus (R p q) ((p1 : ℕ) × R p p1 × At t p1 (takes_one 1 (rows_of.applies_one operator)) q))
   unary-by operator true is known x = x
-  unary-by operator false is known x = both x (unary-stand t.memory t.cog base t.line t.hand operator known is)
+  unary-by operator false is known x = both x (unary-stand t.memory t.cog base t.table t.hand operator known is)
 
   pub arguments-fit : (code : ℕ) (args : Trees) (place : Place) → own_misuse (environment n) place (Built code args) ≡ None → (count_of_trees args == argument_count code) ≡ true
   arguments-fit code args place none = arguments-by (count_of_trees args == argument_count code) none
@@ -283,14 +283,14 @@ module _ (n : Names) (t : Compiled) (base : ℕ) (a : Agrees n t) where
       S (if zero then constant n e else value n e ⨾ built used code) (λ p q. WhereSo zero (Alone (not used) (At t p (gives (or_zero (constants.value (setting_of t.file t.method) e))) q)) ((p1 : ℕ) × ValueAt t e p p1 × OneAt t used code p1 q))
   constant-or-call used code e true is way proper_e fits x =
       subst (λ (u : Bool). S (constant n e) (λ p q. Alone (not u) (At t p (gives (or_zero (constants.value (setting_of t.file t.method) e))) q))) (sym (no-constant used e code way (equal code 0 is)))
-      (subst (λ (v : Option ℕ). S (constant n e) (λ p q. At t p (gives (or_zero v)) q)) (a.constants e) (number-stand t.memory t.cog base t.line t.hand (or_zero (constants.value n.constants e)) (a.words e proper_e)))
+      (subst (λ (v : Option ℕ). S (constant n e) (λ p q. At t p (gives (or_zero v)) q)) (a.constants e) (number-stand t.memory t.cog base t.table t.hand (or_zero (constants.value n.constants e)) (a.words e proper_e)))
   constant-or-call used code e false is way proper_e fits x = both (x refl) (one-built t base used code (behind-one used e code way is) fits)
 
   cognew-or-call : (used : Bool) (code : ℕ) (e d : Tree) (new : Bool) → (code == 0x2C) ≡ new → IsWord code used → (2 == argument_count code) ≡ true → S (value n e) (ValueAt t e) → S (value n d) (ValueAt t d) →
       S ((if starts_method n e then arguments n e else value n e) ⨾ value n d ⨾ started n used e) (BeginsAt t used e (ValueAt t e) (ValueAt t d)) →
       S (if not new then value n e ⨾ value n d ⨾ built used code else byte 0x34 ⨾ (if starts_method n e then arguments n e else value n e) ⨾ value n d ⨾ started n used e)
       (λ p q. WhereSo new ((p1 : ℕ) × At t p (gives new_cog) p1 × BeginsAt t used e (ValueAt t e) (ValueAt t d) p1 q) ((p1 p2 : ℕ) × ValueAt t e p p1 × ValueAt t d p1 p2 × TwoAt t used code p2 q))
-  cognew-or-call used code e d true is word fits first second begins = both (ones-stand t.memory t.cog base t.line t.hand) begins
+  cognew-or-call used code e d true is word fits first second begins = both (ones-stand t.memory t.cog base t.table t.hand) begins
   cognew-or-call used code e d false is word fits first second begins = three first second (two-built t base used code word fits is)
 
   coginit-or-call : (used : Bool) (code : ℕ) (e d c : Tree) (init : Bool) → (code == 0x28) ≡ init → IsWord code used → (3 == argument_count code) ≡ true → S (value n e) (ValueAt t e) → S (value n d) (ValueAt t d) → S (value n c) (ValueAt t c) →
@@ -356,22 +356,22 @@ module _ (n : Names) (t : Compiled) (base : ℕ) (a : Agrees n t) where
     value-stand (node place form) is clean = form-stand place form is clean
 
     form-stand : (place : Place) (form : Form) → IsProperForm false form → Clean (node place form) → S (value_of_form n place form) (ValueAt t (node place form))
-    form-stand place (Number v) is clean = number-stand t.memory t.cog base t.line t.hand v is
+    form-stand place (Number v) is clean = number-stand t.memory t.cog base t.table t.hand v is
     form-stand place (Str letters) is clean =
         subst (λ (offset : ℕ). S (value_of_form n place (Str letters)) (λ p q. At t p (rows_of.gives_text offset) q)) (a.texts place) (text-of-stand t base place (n.text place) (a.near_texts place))
     form-stand place Here is clean = absurd (let never : false ≡ true = is in cc)
     form-stand place (Var v) is clean =
         read-by place v is (own-none place (Var v) clean) (names-stand v is (λ f b. clean f (inr b)))
     form-stand place (Call trap None no_index method q args) is clean =
-        three (mark-stand t.memory t.cog base t.line t.hand true trap) (values-stand args is.3 (λ f b. clean f (inr (inr b))))
+        three (mark-stand t.memory t.cog base t.table t.hand true trap) (values-stand args is.3 (λ f b. clean f (inr (inr b))))
         (own-stand method (count_of_trees args) q (own-none place (Call trap None no_index method q args) clean))
     form-stand place (Call trap None (index e) method q args) is clean = absurd (let never : false ≡ true = is.1.0 in cc)
     form-stand place (Call trap (Some object) i method q args) is clean =
-        four (mark-stand t.memory t.cog base t.line t.hand true trap) (values-stand args is.3 (λ f b. clean f (inr (inr b)))) (index-stand i is.2 (λ f b. clean f (inr (inl b))))
+        four (mark-stand t.memory t.cog base t.table t.hand true trap) (values-stand args is.3 (λ f b. clean f (inr (inr b)))) (index-stand i is.2 (λ f b. clean f (inr (inl b))))
         (object-stand object i method (count_of_trees args) place q (own-none place (Call trap (Some object) i method q args) clean))
     form-stand place (Unary operator e) is clean = unary-by operator (operator == 0xEC) refl is.0 (value-stand e is.1 (λ f b. clean f (inr b)))
     form-stand place (Binary operator x y) is clean =
-        three (value-stand x is.1 (λ f b. clean f (inr (inl b)))) (value-stand y is.2 (λ f b. clean f (inr (inr b)))) (binary-stand t.memory t.cog base t.line t.hand operator is.0)
+        three (value-stand x is.1 (λ f b. clean f (inr (inl b)))) (value-stand y is.2 (λ f b. clean f (inr (inr b)))) (binary-stand t.memory t.cog base t.table t.hand operator is.0)
     form-stand place (Assign v operator e) is clean =
         so (both (value-stand e is.3 (λ f b. clean f (inr (inr b))))
         (joined v (assigned true operator) (names-stand v is.2 (λ f b. clean f (inr (inl b)))) (assign-stand n t base v (found n t a v (usable n t a v is.2 (own-none place (Assign v operator e) clean))) true operator is.0)))
@@ -392,7 +392,7 @@ module _ (n : Names) (t : Compiled) (base : ℕ) (a : Agrees n t) where
         (λ x y. alike-both (alike-both (alike-both (value-alike n n.text n.statement e) (counts-alike code)) (looks-alike n n.text n.statement (looks_down code) x y xs)) (bytes 0x0F))
         (λ end. four (value-stand e is.2 (λ f b. clean f (inr (inl b)))) (counts-stand code)
         (so (looks-stand (looks_down code) xs is.3 (λ f b. clean f (inr (inr b))) end) (λ p q looks. subst (λ (upward : Bool). LooksAt t upward xs (base + end) p q) (looks-up code is.0) looks))
-        (look-fails-stand t.memory t.cog base t.line t.hand))
+        (look-fails-stand t.memory t.cog base t.table t.hand))
 
     pub names-stand : (v : Variable) → IsProperVariable false v → CleanVariable v → S (naming v) (NamesAt t v)
     names-stand (Named name i q) is clean = index-stand i is.1 clean
@@ -416,10 +416,10 @@ module _ (n : Names) (t : Compiled) (base : ℕ) (a : Agrees n t) where
     looks-stand : (down : Bool) (xs : Items) → AreProperItems false xs → CleanItems xs → (end : ℕ) → S (looks n down end xs) (LooksAt t (not down) xs (base + end))
     looks-stand down no_items is clean end = nothings
     looks-stand down (xs ▸ single e) is clean end =
-        so (three (looks-stand down xs is.0 (λ f b. clean f (inl b)) end) (value-stand e is.1 (λ f b. clean f (inr b))) (item-stand t.memory t.cog base t.line t.hand down n.wide n.statement end))
+        so (three (looks-stand down xs is.0 (λ f b. clean f (inl b)) end) (value-stand e is.1 (λ f b. clean f (inr b))) (item-stand t.memory t.cog base t.table t.hand down n.wide n.statement end))
         (λ p q r. (r.0, r.2, (r.1, r.3, r.4)))
     looks-stand down (xs ▸ range e d) is clean end =
-        so (four (looks-stand down xs is.0 (λ f b. clean f (inl b)) end) (value-stand e is.1.0 (λ f b. clean f (inr (inl b)))) (value-stand d is.1.1 (λ f b. clean f (inr (inr b)))) (both-stand t.memory t.cog base t.line t.hand down n.wide n.statement end))
+        so (four (looks-stand down xs is.0 (λ f b. clean f (inl b)) end) (value-stand e is.1.0 (λ f b. clean f (inr (inl b)))) (value-stand d is.1.1 (λ f b. clean f (inr (inr b)))) (both-stand t.memory t.cog base t.table t.hand down n.wide n.statement end))
         (λ p q r. (r.0, r.3, (r.1, r.2, r.4, r.5, r.6)))
 
     pub built-stand : (used : Bool) (code : ℕ) (args : Trees) → FitsUse used args code → AreProperTrees false args → (count_of_trees args == argument_count code) ≡ true → ((code == 0) ≡ false → CleanTrees args) → S (call_of_built n used code args) (BuiltAt t used code args)

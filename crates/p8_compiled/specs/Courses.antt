@@ -1,5 +1,5 @@
 -- What the bytecodes of a compiler do, by what they take from the operand stack and where they go on.
-use Rattle.std.specs.Prelude.{ℕ, ◌+◌, ◌-◌, ◌≡◌, Bool, true, false, List, length, drop, Option, Some, None, if◌then◌else◌}
+use Rattle.std.specs.Prelude.{Contains, ℕ, ◌+◌, ◌-◌, ◌≡◌, Bool, true, false, List, length, drop, Option, Some, None, if◌then◌else◌}
 use Rattle.p8_access.specs.Courses.{Course, Finish}
 use Rattle.p8_tree.specs.declared.places.Place.{Place}
 use Rattle.p8_instr.specs.declared.op.Op.{Op}
@@ -12,8 +12,8 @@ use Rattle.p8_bcog.specs.Bytecodes.{row}
 use Rattle.p8_meaning.specs.Variables.{Location, Hub, Pins}
 
 -- at p stands a bytecode that does this, and that is made from the statement at hand; q is the place after it
-abbrev pub Does : (memory : List ℕ) (cog : ℕ) (line : ℕ → Place) (hand : Place) (p : ℕ) → (State → Course State) → (q : ℕ) → Type 0
-Does memory cog line hand p course q = (op : Op) × (fetched memory p ≡ Some (op, q)) × ((s : State) → s.at ≡ q → row memory cog op s ≡ course s) × (line p ≡ hand)
+abbrev pub Does : (memory : List ℕ) (cog : ℕ) (table : List (ℕ × Place)) (hand : Place) (p : ℕ) → (State → Course State) → (q : ℕ) → Type 0
+Does memory cog table hand p course q = (op : Op) × (fetched memory p ≡ Some (op, q)) × ((s : State) → s.at ≡ q → row memory cog op s ≡ course s) × Contains table (p, hand)
 
 abbrev pub goes_to : (p : ℕ) → State → State
 goes_to p s = record s { at = p }

@@ -26,9 +26,9 @@ module _ (memory : List ℕ) (cog : ℕ) (program : Program) (addresses : Addres
     pub base : object_base memory outer.base place ≡ inner.base
     pub variables : object_variables memory outer.base outer.variables place ≡ inner.variables
 
-  -- the code of a method, with the statement from which the bytecode at an address is made
-  abbrev pub compiled : (line : ℕ → Place) → Target → File → (hand : Place) → Compiled
-  compiled line target file hand = record {
+  -- the code of a method, with such a table
+  abbrev pub compiled : (table : List (ℕ × Place)) → Target → File → (hand : Place) → Compiled
+  compiled table target file hand = record {
     memory = memory;
     cog = cog;
     program = program;
@@ -36,7 +36,7 @@ module _ (memory : List ℕ) (cog : ℕ) (program : Program) (addresses : Addres
     number = target.instance.file;
     file = file;
     method = target.method;
-    line = line;
+    table = table;
     hand = hand;
   }
 
@@ -45,19 +45,19 @@ module _ (memory : List ℕ) (cog : ℕ) (program : Program) (addresses : Addres
   entered target = method_at memory target.instance.base target.instance.variables target.method
 
   -- an entry of a method, and where its code stands
-  pub record MethodPlaced (line : ℕ → Place) (target : Target) (file : File) (tree : MethodTree) : Type 0 where
+  pub record MethodPlaced (table : List (ℕ × Place)) (target : Target) (file : File) (tree : MethodTree) : Type 0 where
     pub is_method : is_method memory target.instance.base target.method ≡ true
     pub entry : (target.instance.base + addresses.code target.instance.file target.method) % 2 ^ 16 ≡ (entered target).entry
     pub locals : (entered target).locals ≡ locals_size (setting_of file 0) tree.locals
-    pub code : MethodAt (compiled line target file tree.place) tree.body (entered target).entry
+    pub code : MethodAt (compiled table target file tree.place) tree.body (entered target).entry
     pub proper : AreProperStatements tree.body
-    pub shallow : body_depth (names_method (compiled line target file tree.place)) tree.body ≤ 128
+    pub shallow : body_depth (names_method (compiled table target file tree.place)) tree.body ≤ 128
 
   -- the tables of a memory have each method and each object instance of the project
   pub record Placed : Type 0 where
-    -- from which statement the bytecode at an address is made
-    pub line : ℕ → Place
-    pub method : (target : Target) → IsInstance program addresses target.instance → (file : File) → slice_get program target.instance.file ≡ Some file → (tree : MethodTree) → method_of file target.method ≡ Some tree → MethodPlaced line target file tree
+    -- from which statements the bytecodes at their addresses are made
+    pub table : List (ℕ × Place)
+    pub method : (target : Target) → IsInstance program addresses target.instance → (file : File) → slice_get program target.instance.file ≡ Some file → (tree : MethodTree) → method_of file target.method ≡ Some tree → MethodPlaced table target file tree
     pub object : (outer : Instance) → IsInstance program addresses outer → (file : File) → slice_get program outer.file ≡ Some file → (method : ℕ) (name : List ℕ) (item position count : ℕ) → file.kind method name ≡ Some (kind_case.Object item position count) →
         (index : ℕ) → index < count → (child : ℕ) → slice_get file.child_files item ≡ Some child → ObjectPlaced outer (position + index) (instance_at addresses outer child (position + index))
 

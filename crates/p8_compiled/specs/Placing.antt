@@ -1,5 +1,5 @@
 -- Where a memory has the bytes of a method's code.
-use Rattle.std.specs.Prelude.{◌≡◌, ℕ, ◌+◌, ◌≤◌, List, [], ◌++◌, length, drop, All}
+use Rattle.std.specs.Prelude.{Contains, ◌≡◌, ℕ, ◌+◌, ◌≤◌, List, [], ◌++◌, length, drop, All}
 use Rattle.p8_tree.specs.declared.places.Place.{Place}
 use Rattle.p8_instr.specs.declared.op.Op.{Op}
 use Rattle.p8_instr.specs.Spelling.{IsOp}
@@ -16,12 +16,12 @@ pub record HasCode (memory : List ℕ) (base : ℕ) (w : Written) : Type 0 where
   pub ends : w.end ≡ length (bytes_of w)
   pub near : w.too_far ≡ []
 
--- from the address `base` on each bytecode is made from the statement of its line
-abbrev pub IsLine : (line : ℕ → Place) (base : ℕ) → ℕ × Place → Type 0
-IsLine line base x = line (base + x.0) ≡ x.1
+-- A line of a code that stands from the address `base` on is among those of a table, which has addresses.
+abbrev pub IsLine : (table : List (ℕ × Place)) (base : ℕ) → ℕ × Place → Type 0
+IsLine table base x = Contains table (base + x.0, x.1)
 
-abbrev pub HasLines : (line : ℕ → Place) (base : ℕ) → List (ℕ × Place) → Type 0
-HasLines line base lines = All (IsLine line base) lines
+abbrev pub HasLines : (table : List (ℕ × Place)) (base : ℕ) → List (ℕ × Place) → Type 0
+HasLines table base lines = All (IsLine table base) lines
 
 -- code whose places lie within the lower half of memory, with no jump that goes too far
 pub record IsNear (w : Written) : Type 0 where

@@ -105,8 +105,8 @@ pub record IsOperation (effect : ℕ) (used : Bool) (operator : ℕ) : Type 0 wh
 
 -- ---- the code of a method
 
--- which method, of which file of a project, in which memory; from which statement the bytecode at an address is made, and the place of the statement whose
--- code this is
+-- which method, of which file of a project, in which memory; a table of addresses, with the places of the statements from which the bytecodes there are made; and
+-- the place of the statement whose code this is
 pub record Compiled : Type 0 where
   pub memory : List ℕ
   pub cog : ℕ
@@ -115,7 +115,7 @@ pub record Compiled : Type 0 where
   pub number : ℕ
   pub file : File
   pub method : ℕ
-  pub line : ℕ → Place
+  pub table : List (ℕ × Place)
   pub hand : Place
 
 -- the code of a statement
@@ -145,7 +145,7 @@ abbrev pub names_method : Compiled → List ℕ → Bool
 names_method t name = is_method_kind (t.file.kind t.method name)
 
 abbrev pub At : Compiled → (p : ℕ) → (State → Course State) → (q : ℕ) → Type 0
-At t p course q = Does t.memory t.cog t.line t.hand p course q
+At t p course q = Does t.memory t.cog t.table t.hand p course q
 
 abbrev pub site_of : Compiled → Variable → List ℕ → State → place.Place
 site_of t v names st = place_of (site (scope_of t st) v names)

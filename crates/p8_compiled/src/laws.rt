@@ -1,5 +1,6 @@
 // Laws of code that stands in a memory. The functions do nothing: their contracts are the laws.
-ghost use Rattle.std.specs.Prelude.{◌≡◌, ℕ, suc, ◌<◌, ◌≤◌, List, map, Some};
+ghost use Rattle.std.specs.Prelude.{◌≡◌, ℕ, suc, ◌<◌, ◌≤◌, Contains, List, map, Some};
+ghost use Rattle.p8_tree.specs.declared.places.Place.{Place};
 ghost use Rattle.p8_access.specs.declared.kinds.Answer.{Answer};
 ghost use Rattle.p8_access.specs.declared.kinds.Origin.{Origin};
 ghost use Rattle.p8_meaning.specs.Programs.{Program, Addresses, Target};
@@ -35,5 +36,5 @@ pub fn code_keeps_meaning()
 /// After some turns so many bytecodes are done whole, and the next one asks: then the statement for which the source asks the access that comes
 /// after the answers of those turns, told up to a greater bound, is the one that the bytecode at that address is made from.
 pub fn accesses_are_asked_for_their_statements()
-    ensures { (program : Program) → (addresses : Addresses) → (entered : Entered) → (placed : Placed entered.memory entered.cog program addresses) → (target : Target) → (frame : ℕ) → IsMethodOrigin program addresses entered.origin target frame → (turns : List Turn) → (done : ℕ) → (s : State) → (begin : ℕ) → (left : List Turn) → (clock : ℕ) → (access : Access) → lived done entered turns ≡ Goes s begin left → lived (suc done) entered turns ≡ Asks clock access → (bound : ℕ) → done < bound → says_for program addresses target frame entered.cog (map answer_of turns) bound ≡ Some (placed.line s.at) }
+    ensures { (program : Program) → (addresses : Addresses) → (entered : Entered) → (placed : Placed entered.memory entered.cog program addresses) → (target : Target) → (frame : ℕ) → IsMethodOrigin program addresses entered.origin target frame → (turns : List Turn) → (done : ℕ) → (s : State) → (begin : ℕ) → (left : List Turn) → (clock : ℕ) → (access : Access) → lived done entered turns ≡ Goes s begin left → lived (suc done) entered turns ≡ Asks clock access → (bound : ℕ) → done < bound → (place : Place) × Contains placed.table (s.at, place) × (says_for program addresses target frame entered.cog (map answer_of turns) bound ≡ Some place) }
 {}

@@ -19,7 +19,7 @@ ghost use Rattle.p8_compiled.specs.Moving.{AreSameWays};
 /// The statements are those of a source that was read, with each NEXT and each QUIT in a loop, and no name of theirs is used
 /// against its kind. The names of the code generator agree with those of the project and its image.
 pub fn templates_stand()
-    ensures { (n : Names) → (t : Compiled) → (base : ℕ) → Agrees n t → (ss : Statements) → AreProperStatements ss → IsTrue (leave_loops false ss) → ((f : Fault) → ¬ MisuseInStatements (environment n) ss f) → HasCode t.memory base (method_code n ss) → HasLines t.line base (method_code n ss).lines → MethodAt (on t n.statement) ss base }
+    ensures { (n : Names) → (t : Compiled) → (base : ℕ) → Agrees n t → (ss : Statements) → AreProperStatements ss → IsTrue (leave_loops false ss) → ((f : Fault) → ¬ MisuseInStatements (environment n) ss f) → HasCode t.memory base (method_code n ss) → HasLines t.table base (method_code n ss).lines → MethodAt (on t n.statement) ss base }
 {}
 
 /// Law: the code of a method ends where its bytes do.
