@@ -11,7 +11,7 @@ use Rattle.p8_tree.specs.declared.places.Place.{Place}
 use Rattle.p8_meaning.specs.Doing.{Deeds, Registers, Rest}
 use Rattle.p8_compiled.specs.Courses.{Does, gives, takes_none, takes_one, takes_two, takes_three, takes_four, takes_names, takes_value}
 use Rattle.p8_compiled.specs.Standing.{gives_text}
-use Rattle.p8_compiled.proofs.Meets.{Meets, goes_on, Reading, MeetsHere, Follows, weaken}
+use Rattle.p8_compiled.proofs.Meets.{goes_on, Reading, MeetsHere, Follows, weaken}
 use Rattle.p8_compiled.proofs.Stack.{fine, one-is, two-is, three-is, four-is, names-is, value-is}
 use Rattle.p8_compiled.proofs.Places.{Frame, at}
 
