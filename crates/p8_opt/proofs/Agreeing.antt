@@ -1,5 +1,6 @@
 -- The names of a method agree with those of its project.
 use Rattle.std.proofs.Common.{◌≡◌, ℕ, suc, ◌==◌, List, slice_get, Some, refl, sym, ap, ◌∙◌}
+use Rattle.p8_tree.specs.declared.places.Place.{Place}
 use Rattle.p8_tree.specs.Sources.{MethodTree}
 use Rattle.p8_tree.specs.Projects.{NamedSource}
 use Rattle.p8_constants.specs.FileItems.{items}
@@ -33,17 +34,17 @@ use Rattle.p8_opt.proofs.Sounds.{sound-of}
 
 pub agrees : (files : List NamedSource) (children : List Children) (xs : List CompiledFile) (project : IsProject files children xs) → AreProper files → (clock : Clock) → AllPartsStand clock (objects_of files children xs) → Lies (image_of clock (objects_of files children xs))
     → (cog : ℕ) (i : Instance) (file : NamedSource) (seen : Children) (x : CompiledFile) → IsThere files children xs i.file file seen x → (k : ℕ) (m : MethodTree) → slice_get (numbered (items file.tree)) k ≡ Some m
-    → HaveRoom (names_of files file seen x k m)
-    → Agrees (names_of files file seen x k m) (compiled (memory_of (image_of clock (objects_of files children xs))) cog (with_sources project.changed (program_of files children xs)) (addresses_of files xs (objects_of files children xs)) (record { instance = i; method = suc k }) (record (file_of files file.tree seen x) { source = project.changed i.file }))
-agrees files children xs project proper clock parts hub cog i file seen x there k m at right =
+    → HaveRoom (names_of files file seen x k m) → (table : List (ℕ × Place)) (hand : Place)
+    → Agrees (names_of files file seen x k m) (compiled (memory_of (image_of clock (objects_of files children xs))) cog (with_sources project.changed (program_of files children xs)) (addresses_of files xs (objects_of files children xs)) table (record { instance = i; method = suc k }) (record (file_of files file.tree seen x) { source = project.changed i.file }) hand)
+agrees files children xs project proper clock parts hub cog i file seen x there k m at right table hand =
     let whole = compiled-at files children xs project i.file file seen x there in
     let object_is = object-at files files children xs i.file file seen x there in
     record {
       kinds = λ name. kind-in-method x.kinds file.tree k m at name;
       no_result = no-result file.tree seen (i.file == 0) x.kinds whole.names (proper i.file file there.stands) k m at;
-      sound = λ name q is. sound-of files children xs project (memory_of (image_of clock (objects_of files children xs))) cog i file seen x there (proper i.file file there.stands) k m at name q is (right name q is);
+      sound = λ name q is. sound-of files children xs project (memory_of (image_of clock (objects_of files children xs))) cog table hand i file seen x there (proper i.file file there.stands) k m at name q is (right name q is);
       publics = λ item name number params is. public-method files children xs project
-          (compiled (memory_of (image_of clock (objects_of files children xs))) cog (with_sources project.changed (program_of files children xs)) (addresses_of files xs (objects_of files children xs)) (record { instance = i; method = suc k }) (record (file_of files file.tree seen x) { source = project.changed i.file }))
+          (compiled (memory_of (image_of clock (objects_of files children xs))) cog (with_sources project.changed (program_of files children xs)) (addresses_of files xs (objects_of files children xs)) table (record { instance = i; method = suc k }) (record (file_of files file.tree seen x) { source = project.changed i.file }) hand)
           i.file file seen x there refl refl item (slice_get seen.items item) name number params refl is;
       constants = λ e. value-alike (setting_of seen x) (meaning.setting_of (file_of files file.tree seen x) (suc k)) (own-alike files file.tree seen (i.file == 0) x whole.names (proper i.file file there.stands) k m at) e
           ∙ ap (λ s. value s e) (sym (setting-same (file_of files file.tree seen x) (project.changed i.file) (suc k)));

@@ -1,12 +1,11 @@
 -- The code of a method stands in the memory of an image.
-use Rattle.std.proofs.Common.{◌≡◌, ◌≤◌, ℕ, List, [], ◌∷◌, ◌++◌, map, drop, slice_index, refl, sym, ap, ◌∙◌, arith}
+use Rattle.std.proofs.Common.{◌≡◌, ◌≤◌, ℕ, List, [], ◌∷◌, ◌++◌, map, drop, slice_index, refl, sym, ap, ◌∙◌, subst, arith}
 use Rattle.std.specs.Prelude.{Contains}
 use Rattle.p8_tree.specs.declared.places.Place.{Place}
 use Rattle.p8_tree.specs.Sources.{MethodTree}
 use Rattle.p8_tree.specs.declared.faults.Fault.{Fault}
 use Rattle.p8_tree.specs.Faults.{fault}
 use Rattle.p8_tree.specs.declared.refusal.Refusal.TheVariants.{JumpTooFar}
-use Rattle.p8_instr.specs.Reading.{bare}
 use Rattle.p8_image.specs.Layout.{linked}
 use Rattle.p8_image.specs.Loading.{memory_of}
 use Rattle.p8_image.specs.Places.{Stands}
@@ -14,13 +13,13 @@ use Rattle.p8_gen.specs.declared.code.StringUse.{StringUse}
 use Rattle.p8_gen.specs.Names.{Names, moved}
 use Rattle.p8_gen.specs.Pieces.{Written}
 use Rattle.p8_gen.specs.Methods.{bytes_of, method_code}
-use Rattle.p8_gen.specs.Uses.{use_of}
+use Rattle.p8_gen.specs.Uses.{line_of, use_of}
 use Rattle.p8_stmt.specs.declared.code.MethodCode.{MethodCode}
 use Rattle.p8_stmt.specs.Methods.{IsCodeOf, IsMethodFault, jump_too_far, use_in}
-use Rattle.p8_compiled.specs.Placing.{HasCode}
+use Rattle.p8_compiled.specs.Placing.{HasCode, HasLines}
 use Rattle.p8_compiled.proofs.Lengths.{method-measured}
 use Rattle.p8_build.specs.Parts.{text_number, use_of_text}
-use Rattle.p8_opt.proofs.Linking.{zeros, same, twins}
+use Rattle.p8_opt.proofs.Linking.{zeros, twins}
 use Rattle.p8_opt.proofs.Linked.{linked-is, used}
 use Rattle.p8_image.proofs.Memories.{Lies}
 use Rattle.p8_opt.proofs.Images.{code-is, drop-is}
@@ -50,7 +49,7 @@ module _ (strings : List (Place × List ℕ)) (offsets : List ℕ) where
         let links = used text f number (λ p. refl) in
         ap (λ us. linked f us code.bytes) (uses-are code.strings ∙ ap (map links) is.strings)
         ∙ ap (linked f (map links (map (use_in bare_code) bare_code.texts))) is.bytes
-        ∙ linked-is text f number (λ p. refl) (same (bare 0x32) (twins text names s m.body).ops)
+        ∙ linked-is text f number (λ p. refl) (twins text names s m.body).ops
 
     none-in : (xs : List Place) → ((p : Place) → Contains xs p → ⊥) → xs ≡ []
     none-in [] never = refl
@@ -69,3 +68,7 @@ module _ (strings : List (Place × List ℕ)) (offsets : List ℕ) where
       ends = method-measured (moved names text s) m.body;
       near = near clean;
     }
+
+    -- it has the lines of the code
+    pub has-lines : (code : MethodCode) (table : List (ℕ × Place)) (entry : ℕ) → IsCodeOf (moved names zeros s) m code → HasLines table entry (map line_of code.lines) → HasLines table entry whole.lines
+    has-lines code table entry is lines = subst (HasLines table entry) (is.lines ∙ (twins text names s m.body).lines) lines

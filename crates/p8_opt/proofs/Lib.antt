@@ -26,6 +26,7 @@ mod Rooms
 mod Sounds
 mod RoomsWays
 mod RoomsGlobals
+mod LinesThere
 mod Agreeing
 mod Whole
 mod Labelled

@@ -1,5 +1,5 @@
 -- Code with the offsets of texts is code with 0 in their places, in which the offsets are put where texts are used.
-use Rattle.std.proofs.Common.{◌≡◌, ℕ, subst, ◌-◌, ◌%◌, ◌^◌, ◌==◌, ◌&&◌, ◌||◌, nat_le, nat_lt, Bool, true, false, not, if◌then◌else◌, List, [], ◌∷◌, ◌++◌, Option, Some, None, refl, ap, arith, length}
+use Rattle.std.proofs.Common.{◌≡◌, ℕ, subst, ◌∙◌, ◌-◌, ◌%◌, ◌^◌, ◌==◌, ◌&&◌, ◌||◌, nat_le, nat_lt, Bool, true, false, not, if◌then◌else◌, List, [], ◌∷◌, ◌++◌, Option, Some, None, refl, ap, arith, length}
 use Rattle.p8_tree.specs.declared.places.Place.{Place}
 use Rattle.p8_tree.specs.Expressions.{Tree, node, Form, Number, Str, Here, Var, Call, Unary, Binary, Assign, Change, Address, ObjectAddress, ObjConst, Built, Look, Variable, Named, Part, Memory, Register, Index, no_index, index, whole, bits, single, range, Trees, no_trees, ◌▷◌, Items, no_items, ◌▸◌}
 use Rattle.p8_tree.specs.Statements.{Forever, Count, Before, After, From, Statement, statement, Action, Do, If, Case, Repeat, Next, Quit, Return, Abort, arm, Otherwise, nothing_else, otherwise, Statements, no_statements, ◌▹◌, Arms, no_arms, ◌⊳◌}
@@ -14,6 +14,7 @@ use Rattle.p8_gen.specs.Names.{Names, moved}
 use Rattle.p8_gen.specs.Pieces.{Written, Piece, empty, from_place, nothing, one, ◌⨾◌, from_start, up_to_end, up_to_jumps, of_statement, byte, text, told, jump, end_of_jump, jumping, end_of_jumping}
 use Rattle.p8_gen.specs.Variables.{number, Home, Operation, plain_op, home_of, Pop, assigned}
 use Rattle.p8_gen.specs.Expressions.{pasm, started, built_without, own_method, method_in, callee, name_alone, counts_from, looks_down, dropped, built_value, built, starts, starts_method, value, value_of_form, operate, in_home, values, index_value, call_of_built, arguments, looks, alone}
+use Rattle.p8_gen.specs.Methods.{method_code}
 use Rattle.p8_gen.specs.Statements.{Loop, inside, goes_on, leaves, with_value, test_of, tests, step_of, step_effect, plain_name, zero_jump, code, code_of, body, chain, other_body, all_tests, case_bodies}
 
 abbrev pub zeros : Place → ℕ
@@ -35,55 +36,82 @@ pub record Twins (t : Place → ℕ) (v w : Written) : Type 0 where
   pub jumps : v.jumps ≡ w.jumps
   pub ops : Twin t v.ops v.texts w.ops
   pub far : v.too_far ≡ w.too_far
+  pub statement : v.statement ≡ w.statement
+  pub lines : v.lines ≡ w.lines
 
 -- two pieces that append such code
 pub record Joined (t : Place → ℕ) (a b : Piece) : Type 0 where
   pub by : (v w : Written) → Twins t v w → Twins t (a v) (b w)
+
+-- one line more
+line-more : (v w : Written) → v.end ≡ w.end → v.statement ≡ w.statement → v.lines ≡ w.lines → v.lines ++ (v.end, v.statement) ∷ [] ≡ w.lines ++ (w.end, w.statement) ∷ []
+line-more v w end made lines =
+    ap (λ ls. ls ++ (v.end, v.statement) ∷ []) lines
+    ∙ ap (λ n. w.lines ++ (n, v.statement) ∷ []) end
+    ∙ ap (λ p. w.lines ++ (w.end, p) ∷ []) made
 
 module _ {t : Place → ℕ} where
   nothings : Joined t nothing nothing
   nothings = record { by = λ v w h. h }
 
   same-one : (o : Op) → Joined t (one o) (one o)
-  same-one o = record { by = λ v w h. record { ends = omega (arith, h.ends); jumps = h.jumps; ops = same o h.ops; far = h.far } }
+  same-one o = record {
+    by = λ v w h. record {
+      ends = omega (arith, h.ends);
+      jumps = h.jumps;
+      ops = same o h.ops;
+      far = h.far;
+      statement = h.statement;
+      lines = line-more v w h.ends h.statement h.lines;
+    };
+  }
 
   bytes : (c : ℕ) → Joined t (byte c) (byte c)
   bytes c = same-one _
 
-  jumped : (wide : ℕ → Bool) (s : Place) (c x i a : ℕ) (v w : Written) → v.end ≡ i → v.jumps ≡ a → Twin t v.ops v.texts w.ops → v.too_far ≡ w.too_far →
+  jumped : (wide : ℕ → Bool) (s : Place) (c x i a : ℕ) (v w : Written) → v.end ≡ i → v.jumps ≡ a → Twin t v.ops v.texts w.ops → v.too_far ≡ w.too_far → v.statement ≡ w.statement → v.lines ≡ w.lines →
       Twins t (jump wide s c x v) (jump wide s c x (record w { end = i; jumps = a }))
-  jumped wide s c x i a v w end at ops far =
+  jumped wide s c x i a v w end at ops far made lines =
       let before : Written = jump wide s c x v in
       subst (λ k. Twins t before (jump wide s c x (record w { end = k; jumps = a }))) end
       (subst (λ k. Twins t before (jump wide s c x (record w { end = v.end; jumps = k }))) at
-      (record { ends = refl; jumps = refl; ops = same _ ops; far = ap (λ fs. fs ++ told (wide v.jumps) s (end_of_jump wide v) x) far }))
+      (record { ends = refl; jumps = refl; ops = same _ ops; far = ap (λ fs. fs ++ told (wide v.jumps) s (end_of_jump wide v) x) far; statement = made; lines = line-more v (record w { end = v.end }) refl made lines }))
 
   jumps : (wide : ℕ → Bool) (s : Place) (c x : ℕ) → Joined t (jump wide s c x) (jump wide s c x)
-  jumps wide s c x = record { by = λ v w h. jumped wide s c x w.end w.jumps v w h.ends h.jumps h.ops h.far }
+  jumps wide s c x = record { by = λ v w h. jumped wide s c x w.end w.jumps v w h.ends h.jumps h.ops h.far h.statement h.lines }
 
-  stepped : (wide : ℕ → Bool) (s : Place) (x i a : ℕ) (o : Op) (v w : Written) → v.end ≡ i → v.jumps ≡ a → Twin t v.ops v.texts w.ops → v.too_far ≡ w.too_far →
+  stepped : (wide : ℕ → Bool) (s : Place) (x i a : ℕ) (o : Op) (v w : Written) → v.end ≡ i → v.jumps ≡ a → Twin t v.ops v.texts w.ops → v.too_far ≡ w.too_far → v.statement ≡ w.statement → v.lines ≡ w.lines →
       Twins t (jumping wide s x o v) (jumping wide s x o (record w { end = i; jumps = a }))
-  stepped wide s x i a o v w end at ops far =
+  stepped wide s x i a o v w end at ops far made lines =
       let before : Written = jumping wide s x o v in
       subst (λ k. Twins t before (jumping wide s x o (record w { end = k; jumps = a }))) end
       (subst (λ k. Twins t before (jumping wide s x o (record w { end = v.end; jumps = k }))) at
-      (record { ends = refl; jumps = refl; ops = same _ ops; far = ap (λ fs. fs ++ told (wide v.jumps) s (end_of_jumping wide o v) x) far }))
+      (record { ends = refl; jumps = refl; ops = same _ ops; far = ap (λ fs. fs ++ told (wide v.jumps) s (end_of_jumping wide o v) x) far; statement = made; lines = line-more v (record w { end = v.end }) refl made lines }))
 
   steps : (wide : ℕ → Bool) (s : Place) (x : ℕ) (o : Op) → Joined t (jumping wide s x o) (jumping wide s x o)
-  steps wide s x o = record { by = λ v w h. stepped wide s x w.end w.jumps o v w h.ends h.jumps h.ops h.far }
+  steps wide s x o = record { by = λ v w h. stepped wide s x w.end w.jumps o v w h.ends h.jumps h.ops h.far h.statement h.lines }
 
   texts : (p : Place) → Joined t (text p (0 % 2 ^ 15)) (text p (t p % 2 ^ 15))
   unfolding rows
-  texts p = record { by = λ v w h. record { ends = omega (arith, h.ends); jumps = h.jumps; ops = named p h.ops; far = h.far } }
+  texts p = record {
+    by = λ v w h. record {
+      ends = omega (arith, h.ends);
+      jumps = h.jumps;
+      ops = named p h.ops;
+      far = h.far;
+      statement = h.statement;
+      lines = line-more v w h.ends h.statement h.lines;
+    };
+  }
 
   both : {a b c d : Piece} → Joined t a c → Joined t b d → Joined t (a ⨾ b) (c ⨾ d)
   both {a} {b} {c} {d} x y = record { by = λ v w h. y.by (a v) (c w) (x.by v w h) }
 
-  of : {a b : Piece} (s u : Place) → Joined t a b → Joined t (of_statement s a) (of_statement u b)
-  of s u x = record {
+  of : {a b : Piece} (s : Place) → Joined t a b → Joined t (of_statement s a) (of_statement s b)
+  of s x = record {
     by = λ v w h.
-        let k = x.by (record v { statement = s }) (record w { statement = u }) (record { ends = h.ends; jumps = h.jumps; ops = h.ops; far = h.far }) in
-        record { ends = k.ends; jumps = k.jumps; ops = k.ops; far = k.far };
+        let k = x.by (record v { statement = s }) (record w { statement = s }) (record { ends = h.ends; jumps = h.jumps; ops = h.ops; far = h.far; statement = refl; lines = h.lines }) in
+        record { ends = k.ends; jumps = k.jumps; ops = k.ops; far = k.far; statement = h.statement; lines = k.lines };
   }
 
   ups : {p q : ℕ → Piece} → ((x : ℕ) → Joined t (p x) (q x)) → Joined t (up_to_end p) (up_to_end q)
@@ -273,7 +301,7 @@ module _ {t : Place → ℕ} where
 
   mutual
     pub code-joined : (n : Names) (s : Place) (l : Option Loop) → (x : Statement) → Joined t (code (moved n zeros s) l x) (code (moved n t s) l x)
-    code-joined n s l (statement place action) = of place place (action-joined n place l action)
+    code-joined n s l (statement place action) = of place (action-joined n place l action)
 
     pub action-joined : (n : Names) (s : Place) (l : Option Loop) → (x : Action) → Joined t (code_of (moved n zeros s) l x) (code_of (moved n t s) l x)
     action-joined n s l (Do e) = alone-joined n s e
@@ -329,7 +357,7 @@ module _ {t : Place → ℕ} where
     all-tests-joined n s l i before (arms ⊳ arm items negated ss) =
         both (all-tests-joined n s l i before arms)
         (subst (λ k. Joined t (tests (moved n zeros s) (case_bodies (moved n zeros s) l 0 arms (from_place i before)).end items) (tests (moved n t s) k items))
-        ((bodies-joined n s l 0 arms).by (from_place i before) (from_place i before) (record { ends = refl; jumps = refl; ops = none; far = refl })).ends
+        ((bodies-joined n s l 0 arms).by (from_place i before) (from_place i before) (record { ends = refl; jumps = refl; ops = none; far = refl; statement = refl; lines = refl })).ends
         (tests-joined n s (case_bodies (moved n zeros s) l 0 arms (from_place i before)).end items))
 
     pub bodies-joined : (n : Names) (s : Place) (l : Option Loop) → (i : ℕ) → (x : Arms) → Joined t (case_bodies (moved n zeros s) l i x) (case_bodies (moved n t s) l i x)
@@ -337,6 +365,6 @@ module _ {t : Place → ℕ} where
     bodies-joined n s l i (arms ⊳ arm items negated ss) =
         both (both (both (bodies-joined n s l i arms) (bytes _)) (body-joined n s l ss)) (jumps n.wide s _ i)
 
--- the code of a method's body
-pub twins : (t : Place → ℕ) (n : Names) (s : Place) (ss : Statements) → Twins t (body (moved n zeros s) None ss empty) (body (moved n t s) None ss empty)
-twins t n s ss = (body-joined n s None ss).by empty empty (record { ends = refl; jumps = refl; ops = none; far = refl })
+-- the code of a method
+pub twins : (t : Place → ℕ) (n : Names) (s : Place) (ss : Statements) → Twins t (method_code (moved n zeros s) ss) (method_code (moved n t s) ss)
+twins t n s ss = (both (body-joined n s None ss) (of s (bytes 0x32))).by empty empty (record { ends = refl; jumps = refl; ops = none; far = refl; statement = refl; lines = refl })

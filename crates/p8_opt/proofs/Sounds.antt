@@ -6,6 +6,7 @@ use Rattle.std.proofs.lemmas.Option.{same_Some, none-some, slice_get_within}
 use Rattle.p8_stmt.specs.Methods.{rebodied}
 use Rattle.p8_opt.specs.Recoding.{IsRecodedFile}
 use Rattle.p8_tree.specs.Names.{result_word}
+use Rattle.p8_tree.specs.declared.places.Place.{Place}
 use Rattle.p8_tree.specs.Sources.{MethodTree}
 use Rattle.p8_tree.specs.Projects.{NamedSource}
 use Rattle.p8_tree.specs.Proper.{IsProperFile}
@@ -147,10 +148,10 @@ module _ (s : Setting) (all : List Item) (o : List ℕ) (number params : ℕ) wh
 
 -- ---- all kinds
 
-module _ (files : List NamedSource) (children : List Children) (xs : List CompiledFile) (project : IsProject files children xs) (memory : List ℕ) (cog : ℕ) (i : Instance) (file : NamedSource) (seen : Children) (x : CompiledFile) (there : IsThere files children xs i.file file seen x)
+module _ (files : List NamedSource) (children : List Children) (xs : List CompiledFile) (project : IsProject files children xs) (memory : List ℕ) (cog : ℕ) (table : List (ℕ × Place)) (hand : Place) (i : Instance) (file : NamedSource) (seen : Children) (x : CompiledFile) (there : IsThere files children xs i.file file seen x)
     (proper : IsProperFile file.tree) (k : ℕ) (m : MethodTree) (at : slice_get (numbered (items file.tree)) k ≡ Some m) where
   abbrev t : Compiled
-  t = compiled memory cog (with_sources project.changed (program_of files children xs)) (addresses_of files xs (objects_of files children xs)) (record { instance = i; method = suc k }) (record (file_of files file.tree seen x) { source = project.changed i.file })
+  t = compiled memory cog (with_sources project.changed (program_of files children xs)) (addresses_of files xs (objects_of files children xs)) table (record { instance = i; method = suc k }) (record (file_of files file.tree seen x) { source = project.changed i.file }) hand
 
   whole : IsRecodedFile file.tree (project.changed i.file) seen (i.file == 0) x
   whole = compiled-at files children xs project i.file file seen x there

@@ -3,6 +3,7 @@ use Rattle.std.proofs.Common.{◌≡◌, inl, inr, ℕ, suc, ◌+◌, ◌-◌, �
 use Rattle.std.specs.Str.{bytes_eq}
 use Rattle.std.proofs.lemmas.Bool.{cases_lt}
 use Rattle.std.proofs.lemmas.Option.{same_Some, none-some, slice_get_within}
+use Rattle.p8_tree.specs.declared.places.Place.{Place}
 use Rattle.p8_tree.specs.Names.{result_word}
 use Rattle.p8_tree.specs.Sources.{MethodTree}
 use Rattle.p8_tree.specs.Projects.{NamedSource}
@@ -30,12 +31,12 @@ use Rattle.p8_image.specs.Places.{AllPartsStand, base_of, entry_of}
 use Rattle.p8_gen.specs.Names.{Names, widened}
 use Rattle.p8_gen.specs.Expressions as gen
 use Rattle.p8_gen.specs.Depths.{held_in}
-use Rattle.p8_meaning.specs.Programs.{Program, Addresses, File, Instance, Target, frame_size}
+use Rattle.p8_meaning.specs.Programs.{Program, Addresses, File, Instance, Target, frame_size, instance_at}
 use Rattle.p8_meaning.specs.Calls.{method_of}
 use Rattle.p8_meaning.specs.Lives.{IsInstance, top_instance, IsMethodOrigin}
 use Rattle.p8_compiled.specs.Standing.{Compiled, names_method, is_method_kind}
 use Rattle.p8_compiled.specs.Bodies.{MethodAt}
-use Rattle.p8_compiled.specs.Keeps.{Placed, MethodPlaced, compiled}
+use Rattle.p8_compiled.specs.Keeps.{Placed, MethodPlaced, ObjectPlaced, compiled}
 use Rattle.p8_compiled.specs.Agreeing.{Agrees}
 use Rattle.p8_compiled.proofs.TemplateMethods.{method-stands}
 use Rattle.p8_compiled.specs.Told.{FramesFit, IsWorldOf}
@@ -43,6 +44,7 @@ use Rattle.p8_stmt.specs.Methods.{holds_too_much, rebodied}
 use Rattle.p8_build.specs.Parts.{AreProper, strings_of, method_part}
 use Rattle.p8_build.specs.Files.{CompiledFile, method_names, object_of}
 use Rattle.p8_build.specs.Builds.{objects_of}
+use Rattle.p8_opt.specs.Lines.{lines_of, IsWorldByLines}
 use Rattle.p8_opt.specs.Programs.{file_of, program_of, with_sources, addresses_of}
 use Rattle.p8_opt.specs.Agreements.{names_of, HaveRoom, NamesHaveRoom}
 use Rattle.p8_opt.proofs.Holding.{within}
@@ -52,7 +54,8 @@ use Rattle.p8_opt.proofs.Files.{IsThere, file-of, program-at, changed-at, object
 use Rattle.p8_opt.proofs.Counting.{element, part-at}
 use Rattle.p8_image.proofs.Memories.{Lies}
 use Rattle.p8_opt.proofs.Images.{frame-whole}
-use Rattle.p8_opt.proofs.Codes.{has-code}
+use Rattle.p8_opt.proofs.Codes.{has-code, has-lines}
+use Rattle.p8_opt.proofs.LinesThere.{method-lines}
 use Rattle.p8_opt.proofs.Instances.{IsProject, compiled-at, counts-of}
 use Rattle.p8_opt.proofs.Placing.{of-file, between, base-high, IsAt, says, is-at, object-placed}
 use Rattle.p8_opt.proofs.Agreeing.{agrees}
@@ -137,6 +140,9 @@ module _ (files : List NamedSource) (children : List Children) (xs : List Compil
   abbrev memory : List ℕ
   memory = memory_of image
 
+  abbrev table : List (ℕ × Place)
+  table = lines_of all xs
+
   -- a method of a file, in its object
   record IsMethodOf (i : ℕ) (file : NamedSource) (seen : Children) (x : CompiledFile) (k : ℕ) (m : MethodTree) : Type 0 where
     coded : IsCoded files file.tree (project.changed i) seen x k m
@@ -171,7 +177,7 @@ module _ (files : List NamedSource) (children : List Children) (xs : List Compil
 
   placed-so : (cog : ℕ) (i : Instance) → IsAt files children xs project clock parts hub i → (file : NamedSource) (seen : Children) (x : CompiledFile) → IsThere files children xs i.file file seen x
       → (k : ℕ) (m : MethodTree) → slice_get (numbered (items file.tree)) k ≡ Some m → HaveRoom (names_of files file seen x k m) → (h : IsMethodOf i.file file seen x k m)
-      → MethodPlaced memory cog program addresses (record { instance = i; method = suc k }) (changed_file i.file file seen x) (rebodied m h.coded.body)
+      → MethodPlaced memory cog program addresses table (record { instance = i; method = suc k }) (changed_file i.file file seen x) (rebodied m h.coded.body)
   placed-so cog i at file seen x there k m is right h =
       let object = object_of files file.tree seen x in
       let part = method_part (strings_of file.tree) m h.coded.code in
@@ -181,17 +187,21 @@ module _ (files : List NamedSource) (children : List Children) (xs : List Compil
       let words = s.methods k part h.part_is in
       let read = h.coded.recoded in
       let body = h.coded.body in
-      let t : Compiled = compiled memory cog program addresses (record { instance = i; method = suc k }) (changed_file i.file file seen x) in
+      let t : Compiled = compiled memory cog program addresses table (record { instance = i; method = suc k }) (changed_file i.file file seen x) m.place in
       let own = widened (method_names seen x k m) read.wide in
       let names = widened (names_of files file seen x k m) read.wide in
-      let agree : Agrees names t = with-widths (names_of files file seen x k m) t read.wide (agrees files children xs project proper clock parts hub cog i file seen x there k m is right) in
+      let agree : Agrees names t = with-widths (names_of files file seen x k m) t read.wide (agrees files children xs project proper clock parts hub cog i file seen x there k m is right table m.place) in
       let base = base_of all i.file in
       let entry = base + code_offset object k in
       let entry_is : entry ≡ (i.base + first_word memory i.base (suc k)) % 2 ^ 16 = omega (arith, h.entry, words.0, at.base_is) in
       let high = base-high files children xs project clock parts hub i.file object h.object_is in
       let has = has-code (strings_of file.tree) (text_offsets object) own m.place (rebodied m body) h.coded.code image entry read.right read.fits hub (omega (arith, high))
       ((parts i.file object h.object_is).codes k part h.part_is) in
-      let stands : MethodAt t body entry = method-stands names t entry agree body read.proper read.loops read.clean has in
+      let few = slice_get_within x.codes k h.coded.code h.coded.stands in
+      let counted = slice_get_within (numbered (items file.tree)) k m is in
+      let there_lines = method-lines all xs i.file object x h.object_is there.compiled (strings_of file.tree) (numbered (items file.tree)) refl k counted few h.coded.code h.coded.stands in
+      let lines = has-lines (strings_of file.tree) (text_offsets object) own m.place (rebodied m body) h.coded.code table entry read.right there_lines in
+      let stands : MethodAt t body entry = method-stands names t entry agree body read.proper read.loops read.clean has lines in
       let ends : method_end memory i.base ≡ length object.methods + 1 = s.method_count ∙ omega (arith, n.2) in
       let held : held_in own body ≤ 128 = elim (cases_lt 128 (held_in own body)) [
         | inl large ↦ absurd (read.fits (fault FrameTooLarge m.place) (holds_too_much large refl))
@@ -208,7 +218,7 @@ module _ (files : List NamedSource) (children : List Children) (xs : List Compil
 
   module _ (right : NamesHaveRoom project.changed files children xs) (top : ObjectPart) (first : slice_get all 0 ≡ Some top) where
     placed-by : (cog : ℕ) (target : Target) → IsInstance program addresses target.instance → (file : File) → slice_get program target.instance.file ≡ Some file → (tree : MethodTree) → method_of file target.method ≡ Some tree
-        → MethodPlaced memory cog program addresses target file tree
+        → MethodPlaced memory cog program addresses table target file tree
     placed-by cog target instance file file_is tree tree_is =
         let f = file-of project.changed files children xs target.instance.file file file_is in
         let g : File = changed_file target.instance.file f.file f.seen f.x in
@@ -218,16 +228,9 @@ module _ (files : List NamedSource) (children : List Children) (xs : List Compil
         let at = is-at files children xs project clock parts hub top first target.instance instance in
         let so = placed-so cog target.instance at f.file f.seen f.x f.there place.0 m.0 m.1
         (right target.instance instance f.file f.seen f.x f.there.stands f.there.beside f.there.compiled place.0 m.0 m.1) h in
-        subst (λ (z : File). MethodPlaced memory cog program addresses target z tree) (sym f.is)
-        (subst (λ n. MethodPlaced memory cog program addresses (record { instance = target.instance; method = n }) g tree) (sym place.1)
-        (subst (λ (z : MethodTree). MethodPlaced memory cog program addresses (record { instance = target.instance; method = suc place.0 }) g z) (same_Some (rebodied m.0 h.coded.body) tree (sym h.coded.tree_is ∙ place.2)) so))
-
-    pub placed : (cog : ℕ) → Placed memory cog program addresses
-    placed cog = record {
-      method = λ target instance file file_is tree tree_is. placed-by cog target instance file file_is tree tree_is;
-      object = λ outer instance file file_is method name item position count kind_is index less child leads.
-          object-placed files children xs project clock parts hub cog outer (is-at files children xs project clock parts hub top first outer instance) file file_is method name item position count kind_is index less child leads;
-    }
+        subst (λ (z : File). MethodPlaced memory cog program addresses table target z tree) (sym f.is)
+        (subst (λ n. MethodPlaced memory cog program addresses table (record { instance = target.instance; method = n }) g tree) (sym place.1)
+        (subst (λ (z : MethodTree). MethodPlaced memory cog program addresses table (record { instance = target.instance; method = suc place.0 }) g z) (same_Some (rebodied m.0 h.coded.body) tree (sym h.coded.tree_is ∙ place.2)) so))
 
   -- each method's frame is small
   frame-is : (i : ℕ) (file : NamedSource) (seen : Children) (x : CompiledFile) → IsThere files children xs i file seen x → (k : ℕ) (m : MethodTree) → slice_get (numbered (items file.tree)) k ≡ Some m
@@ -278,7 +281,7 @@ module _ (files : List NamedSource) (children : List Children) (xs : List Compil
 pub world-of : (files : List NamedSource) (children : List Children) (xs : List CompiledFile) (project : IsProject files children xs) → AreProper files → 0 < length files → (clock : Clock) → AllPartsStand clock (objects_of files children xs)
     → IsImage (image_of clock (objects_of files children xs)) → header_of (image_of clock (objects_of files children xs)) ≡ header_by (objects_of files children xs) → Lies (image_of clock (objects_of files children xs))
     → NamesHaveRoom project.changed files children xs → (w : World) → w.memory ≡ memory_of (image_of clock (objects_of files children xs)) → w.first ≡ start_of (header_of (image_of clock (objects_of files children xs)))
-    → IsWorldOf (with_sources project.changed (program_of files children xs)) (addresses_of files xs (objects_of files children xs)) w
+    → IsWorldByLines (with_sources project.changed (program_of files children xs)) (addresses_of files xs (objects_of files children xs)) (lines_of (objects_of files children xs) xs) w
 world-of files children xs project proper some clock parts whole header hub right w memory_is first_is =
     let all = objects_of files children xs in
     let program = with_sources project.changed (program_of files children xs) in
@@ -289,11 +292,21 @@ world-of files children xs project proper some clock parts whole header hub righ
     let there : IsThere files children xs 0 f.0 c.0 x.0 = record { stands = f.1; beside = c.1; compiled = x.1 } in
     let top = object-at files files children xs 0 f.0 c.0 x.0 there in
     let m = first-method f.0.tree c.0 x.0.kinds (compiled-at files children xs project 0 f.0 c.0 x.0 there).names in
-    record {
-      placed = λ cog less. subst (λ (memory : List ℕ). Placed memory cog program addresses) (sym memory_is) (placed files children xs project proper clock parts hub right (object_of files f.0.tree c.0 x.0) top cog);
+    let table : List (ℕ × Place) = lines_of all xs in
+    let here = placed-by files children xs project proper clock parts hub right (object_of files f.0.tree c.0 x.0) top in
+    let each : (cog : ℕ) → Placed w.memory cog program addresses = λ cog. record {
+      table = table;
+      method = λ target instance file file_is tree tree_is. subst (λ (memory : List ℕ). MethodPlaced memory cog program addresses table target file tree) (sym memory_is) (here cog target instance file file_is tree tree_is);
+      object = λ outer instance file file_is method name item position count kind_is index less child leads.
+          subst (λ (memory : List ℕ). ObjectPlaced memory cog program addresses outer (position + index) (instance_at addresses outer child (position + index))) (sym memory_is)
+          (object-placed files children xs project clock parts hub cog outer (is-at files children xs project clock parts hub (object_of files f.0.tree c.0 x.0) top outer instance) file file_is method name item position count kind_is index less child leads);
+    } in
+    let world : IsWorldOf program addresses w = record {
+      placed = λ cog less. each cog;
       fits = frames-fit files children xs project proper clock parts hub;
       target = record { instance = addresses.top; method = 1 };
       frame = first_frame all;
       begins = subst (λ (o : Origin). IsMethodOrigin program addresses o (record { instance = addresses.top; method = 1 }) (first_frame all)) (sym first_is)
           (origin-of files children xs project proper clock parts hub f.0 c.0 x.0 there whole header m.0 m.1);
-    }
+    } in
+    record { world = world; placed = each; tables = λ cog. refl }

@@ -2,6 +2,7 @@
 pub mod Programs
 pub mod Recoding
 pub mod Meaning
+pub mod Lines
 -- Machinery that only proofs need.
 pub mod Agreements
 -- What is asked of the constants and the names of a file, for the laws of folded methods.

@@ -24,6 +24,7 @@ pub use folded_laws::{
 };
 pub use laws::{one_short_build, short_images_keep_meaning, short_lives_are_told};
 pub use placed_laws::{
-    images_have_their_methods, images_keep_meaning, recoded_images_have_their_methods,
+    images_have_their_lines, images_have_their_methods, images_keep_meaning,
+    recoded_images_have_their_lines, recoded_images_have_their_methods,
     recoded_images_keep_meaning,
 };

@@ -15,12 +15,22 @@ ghost use Rattle.p8_build.specs.Parts.{AreProper};
 ghost use Rattle.p8_build.specs.Files.{CompiledFile};
 ghost use Rattle.p8_build.specs.Builds.{AreCompiled, objects_of};
 ghost use Rattle.p8_compiled.specs.Told.{IsWorldOf};
+ghost use Rattle.p8_opt.specs.Lines.{lines_of, IsWorldByLines};
 ghost use Rattle.p8_opt.specs.Programs.{program_of, with_sources, addresses_of};
 ghost use Rattle.p8_opt.specs.Recoding.{AreRecoded};
 ghost use Rattle.p8_opt.specs.Meaning.{KeepsMeaning};
 
 use p8_compiled::code_keeps_meaning;
 use p8_image::{image_loads, parts_stand};
+
+/// Law: in the memory that such an image starts with each bytecode of a method is made from the statement of its line, by the table of the lines of
+/// all codes, each at its address. The files are as below.
+pub fn recoded_images_have_their_lines()
+    ensures { (files : List NamedSource) → (changed : ℕ → Source) → (children : List Children) → (xs : List CompiledFile) → (clock : ClockOf) → AreProper files → 0 < length files → AreDistinct files → HaveMentioned files → HaveNoRing files → AreChildren files children → AreRecoded files changed children xs → FitsHub (header_by (objects_of files children xs)) → (w : World) → w.memory ≡ memory_of (image_of clock (objects_of files children xs)) → w.first ≡ start_of (header_of (image_of clock (objects_of files children xs))) → IsWorldByLines (with_sources changed (program_of files children xs)) (addresses_of files xs (objects_of files children xs)) (lines_of (objects_of files children xs) xs) w }
+{
+    image_loads();
+    parts_stand();
+}
 
 /// Law: the memory that the image of an accepted project starts with has the methods of a changed source, where its codes are those of the
 /// changed bodies, each with such jumps wide that every offset fits; and what cog 0 starts with is the first method of the top file.
@@ -31,8 +41,7 @@ use p8_image::{image_loads, parts_stand};
 pub fn recoded_images_have_their_methods()
     ensures { (files : List NamedSource) → (changed : ℕ → Source) → (children : List Children) → (xs : List CompiledFile) → (clock : ClockOf) → AreProper files → 0 < length files → AreDistinct files → HaveMentioned files → HaveNoRing files → AreChildren files children → AreRecoded files changed children xs → FitsHub (header_by (objects_of files children xs)) → (w : World) → w.memory ≡ memory_of (image_of clock (objects_of files children xs)) → w.first ≡ start_of (header_of (image_of clock (objects_of files children xs))) → IsWorldOf (with_sources changed (program_of files children xs)) (addresses_of files xs (objects_of files children xs)) w }
 {
-    image_loads();
-    parts_stand();
+    recoded_images_have_their_lines();
 }
 
 /// Law: such an image keeps the meaning of the changed source, whatever runs beside it: of each of its methods, in each frame and each cog. The
@@ -53,6 +62,14 @@ pub fn images_have_their_methods()
     ensures { (files : List NamedSource) → (children : List Children) → (xs : List CompiledFile) → (clock : ClockOf) → AreProper files → 0 < length files → AreDistinct files → HaveMentioned files → HaveNoRing files → AreChildren files children → AreCompiled files children xs → FitsHub (header_by (objects_of files children xs)) → (w : World) → w.memory ≡ memory_of (image_of clock (objects_of files children xs)) → w.first ≡ start_of (header_of (image_of clock (objects_of files children xs))) → IsWorldOf (program_of files children xs) (addresses_of files xs (objects_of files children xs)) w }
 {
     recoded_images_have_their_methods();
+}
+
+/// Law: in the memory that the image of an accepted project starts with each bytecode of a method is made from the statement of its line. The files are
+/// as above.
+pub fn images_have_their_lines()
+    ensures { (files : List NamedSource) → (children : List Children) → (xs : List CompiledFile) → (clock : ClockOf) → AreProper files → 0 < length files → AreDistinct files → HaveMentioned files → HaveNoRing files → AreChildren files children → AreCompiled files children xs → FitsHub (header_by (objects_of files children xs)) → (w : World) → w.memory ≡ memory_of (image_of clock (objects_of files children xs)) → w.first ≡ start_of (header_of (image_of clock (objects_of files children xs))) → IsWorldByLines (program_of files children xs) (addresses_of files xs (objects_of files children xs)) (lines_of (objects_of files children xs) xs) w }
+{
+    recoded_images_have_their_lines();
 }
 
 /// Law: the image of an accepted project keeps the meaning of its source, whatever runs beside it: of each of its methods, in each frame and
