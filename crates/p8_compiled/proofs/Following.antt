@@ -41,12 +41,12 @@ module _ {S : Type 0} (e : Engine S) (start : ℕ) (first : Course S) where
   -- ---- the next access
 
   -- where the next access is asked
-  record Asker (turns : List Turn) (due : ℕ) (access : Access) : Type 0 where
-    count : ℕ
-    clock : ℕ
-    course : Course S
-    stands : StandsAt turns count clock course
-    asks : played e.cog clock course [] ≡ Asks due access
+  pub record Asker (turns : List Turn) (due : ℕ) (access : Access) : Type 0 where
+    pub count : ℕ
+    pub clock : ℕ
+    pub course : Course S
+    pub stands : StandsAt turns count clock course
+    pub asks : played e.cog clock course [] ≡ Asks due access
 
   after-first : (n : ℕ) (o : Outcome S) → after e (suc n) o ≡ after e n (step e o)
   unfolding after
@@ -61,7 +61,7 @@ module _ {S : Type 0} (e : Engine S) (start : ℕ) (first : Course S) where
     paced = omega (arith, h.paced, paced s);
   }
 
-  find-asker : (paced : (s : S) → 32 ≤ e.cost s) (turns : List Turn) (due : ℕ) (access : Access) (n count clock : ℕ) (course : Course S) → StandsAt turns count clock course → after e n (played e.cog clock course []) ≡ Asks due access → Asker turns due access
+  pub find-asker : (paced : (s : S) → 32 ≤ e.cost s) (turns : List Turn) (due : ℕ) (access : Access) (n count clock : ℕ) (course : Course S) → StandsAt turns count clock course → after e n (played e.cog clock course []) ≡ Asks due access → Asker turns due access
   unfolding after
   find-asker paced turns due access n count clock (Stop reason) h asks =
       record { count = count; clock = clock; course = Stop reason; stands = h; asks = sym (after-asks e n clock (access_case.Halt reason)) ∙ asks }
@@ -117,7 +117,7 @@ module _ {S : Type 0} (e : Engine S) (start : ℕ) (first : Course S) where
         asked a go h (same ∙ what) (subst (λ (d : ℕ). IsOnTime a d turn.key.clock) when (subst (λ (x : Access). IsOnTime x due turn.key.clock) what on)) (subst (λ (d : ℕ). d ≤ turn.key.clock) when late) (is_last e.cog a) refl
 
   -- an access is asked at its clock or later
-  due-from : (clock : ℕ) (course : Course S) (due : ℕ) (access : Access) → played e.cog clock course [] ≡ Asks due access → clock ≤ due
+  pub due-from : (clock : ℕ) (course : Course S) (due : ℕ) (access : Access) → played e.cog clock course [] ≡ Asks due access → clock ≤ due
   due-from clock (Finish s) due access asks = absurd (let x : Goes s clock [] ≡ Asks due access = asks in cc)
   due-from clock (Stop reason) due access asks = let when : clock ≡ due = cc in omega (arith, when)
   due-from clock (Ask a go) due access asks = let when : earliest e.cog clock a ≡ due = cc in omega (arith, when, earliest-from e.cog clock a)

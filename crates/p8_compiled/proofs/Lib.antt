@@ -18,6 +18,7 @@ mod SourceForms
 mod SourceLives
 mod SpinLives
 mod Histories
+mod FewBytecodes
 mod EachLife
 mod CodeTold
 pub mod Truths

@@ -12,4 +12,4 @@ pub use laws::{accesses_are_asked_for_their_statements, code_keeps_meaning};
 pub use template_laws::{
     code_ends_where_its_bytes_do, templates_have_operations, templates_stand, widths_move_places,
 };
-pub use told_laws::lives_are_told;
+pub use told_laws::{lives_are_told, turns_come_after_few_bytecodes};

@@ -1,8 +1,15 @@
-// The law of the lives of a history. The function does nothing: its contract is the law.
-ghost use Rattle.std.specs.Prelude.{List};
+// Laws of the lives of a history. The functions do nothing: their contracts are the laws.
+ghost use Rattle.std.specs.Prelude.{◌≡◌, ℕ, ◌<◌, List, ◌∷◌, Some};
+ghost use Rattle.p8_access.specs.declared.kinds.Origin.{Origin};
+ghost use Rattle.p8_access.specs.declared.states.CogState.TheVariants.{Running};
+ghost use Rattle.p8_access.specs.Hub.{cog_state};
+ghost use Rattle.p8_access.specs.Lives.{Entered, SpinBegun};
+ghost use Rattle.p8_access.specs.Timing.{Goes};
+ghost use Rattle.p8_bcog.specs.declared.state.State.{State};
+ghost use Rattle.p8_bcog.specs.Replay.{lived};
 ghost use Rattle.p8_access.specs.declared.order.Turn.{Turn};
 ghost use Rattle.p8_access.specs.Worlds.{World};
-ghost use Rattle.p8_access.specs.Histories.{Legal, Ended};
+ghost use Rattle.p8_access.specs.Histories.{begun, since_begin, Legal, Ended};
 ghost use Rattle.p8_cog.specs.Lives.{asks};
 ghost use Rattle.p8_meaning.specs.Programs.{Program, Addresses};
 ghost use Rattle.p8_compiled.specs.Told.{IsWorldOf, SpinIsTold};
@@ -15,4 +22,10 @@ ghost use Rattle.p8_compiled.specs.Told.{IsWorldOf, SpinIsTold};
 pub fn lives_are_told()
     ensures legal { (program : Program) → (addresses : Addresses) → (w : World) → IsWorldOf program addresses w → (past : List Turn) → Legal asks w past → SpinIsTold program addresses w past }
     ensures ended { (program : Program) → (addresses : Addresses) → (w : World) → IsWorldOf program addresses w → (past : List Turn) → Ended asks w past → SpinIsTold program addresses w past }
+{}
+
+/// Law: in such a history each turn of a cog that runs Spin comes after fewer bytecodes than the limit of clocks, since a bytecode takes 32 clocks or more.
+/// And its life began with the memory of the world.
+pub fn turns_come_after_few_bytecodes()
+    ensures { (program : Program) → (addresses : Addresses) → (w : World) → IsWorldOf program addresses w → (turn : Turn) → (past : List Turn) → Legal asks w (turn ∷ past) → (origin : Origin) → cog_state w past turn.key.cog ≡ Running origin → (entered : Entered) → begun w past turn.key.cog ≡ Some (SpinBegun entered) → (entered.memory ≡ w.memory) × ((done : ℕ) → (s : State) → (begin : ℕ) → (left : List Turn) → lived done entered (since_begin past turn.key.cog) ≡ Goes s begin left → done < w.clocks) }
 {}
