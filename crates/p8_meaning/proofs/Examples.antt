@@ -364,3 +364,32 @@ fifth = refl
 last : asks (Done ∷ Done ∷ Done ∷ Value 0 ∷ Done ∷ Value 2 ∷ Done ∷ []) ≡ Some here
 unfolding says_for
 last = refl
+
+-- VAR
+--   long a
+-- PUB main
+--   a := one
+-- PRI one
+--   return
+abbrev calling : File
+calling = file
+    (method true (codes "MAIN") [] [] (no_statements ▹ statement (place 4) (Do (node here (Assign (variable (codes "A")) None (read (codes "ONE"))))))
+    ∷ method false (codes "ONE") [] [] (no_statements ▹ statement (place 6) (Return None))
+    ∷ [])
+    ((codes "A", kind.Global 4 0) ∷ (codes "ONE", kind.Method 2 0) ∷ [])
+
+abbrev asks_of_call : List Answer → Option Place
+asks_of_call answers = says_for (calling ∷ []) (addresses 0x24) (main 0x24) 0x30 0 answers 3
+
+-- the frame is begun for the call, the result is read for the `return`, and then the call's statement goes on
+frame_begun : asks_of_call (Done ∷ []) ≡ Some (place 4)
+unfolding says_for
+frame_begun = refl
+
+result_read : asks_of_call (Done ∷ Done ∷ []) ≡ Some (place 6)
+unfolding says_for
+result_read = refl
+
+result_stored : asks_of_call (Done ∷ Done ∷ Value 0 ∷ []) ≡ Some (place 4)
+unfolding says_for
+result_stored = refl
