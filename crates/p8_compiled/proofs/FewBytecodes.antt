@@ -1,5 +1,5 @@
 -- A turn of a Spin cog in a history comes after fewer bytecodes than the limit of clocks.
-use Rattle.std.proofs.Common.{◌≡◌, inl, inr, refl, sym, ap, subst, ◌∙◌, arith, ℕ, zero, suc, ◌+◌, ◌-◌, ◌*◌, ◌<◌, ◌≤◌, List, [], ◌∷◌, append-nil, Some}
+use Rattle.std.proofs.Common.{◌≡◌, inl, inr, refl, sym, ap, subst, ◌∙◌, arith, ℕ, zero, suc, ◌+◌, ◌-◌, ◌<◌, ◌≤◌, List, [], ◌∷◌, append-nil, Some}
 use Rattle.std.proofs.lemmas.Bool.{cases_lt}
 use Rattle.p8_access.specs.declared.kinds.Origin.{Origin}
 use Rattle.p8_access.specs.declared.kinds.Origin.TheVariants.{Pasm, Spin}
@@ -7,10 +7,9 @@ use Rattle.p8_access.specs.declared.kinds.Access.{Access}
 use Rattle.p8_access.specs.declared.order.Turn.{Turn}
 use Rattle.p8_access.specs.declared.states.CogState.{CogState}
 use Rattle.p8_access.specs.declared.states.CogState.TheVariants.{Running}
-use Rattle.p8_access.specs.Courses.{Course}
 use Rattle.p8_access.specs.Hub.{cog_state}
 use Rattle.p8_access.specs.Histories.{begun, begun_at, since_begin, IsNextRunning, IsNextIn, Legal}
-use Rattle.p8_access.specs.Lives.{Begun, Entered, PasmBegun, SpinBegun}
+use Rattle.p8_access.specs.Lives.{Begun, Entered, SpinBegun}
 use Rattle.p8_access.specs.Replays.{Engine, step, after, replayed}
 use Rattle.p8_access.specs.Replaying.{after-ends, asked-from}
 use Rattle.p8_access.specs.Timing.{Outcome, Asks, Goes, Ends, played}

@@ -15,3 +15,4 @@ mod Asked
 mod Meaning
 mod LineRows
 mod Covered
+mod RowLines

@@ -17,3 +17,5 @@ pub mod Standing
 pub mod Origins
 -- Addresses that have rows.
 pub mod Covering
+-- Which statement a table names.
+pub mod Naming

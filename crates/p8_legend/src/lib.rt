@@ -16,6 +16,7 @@ mod places;
 mod project;
 mod project_names;
 mod ranges;
+mod row_laws;
 mod rows;
 mod statement_laws;
 mod table;
@@ -30,6 +31,10 @@ pub use parts::legend_of_parts;
 pub use project::{line_table, table_of_accepted};
 pub use project_names::project_legend;
 pub use ranges::{Found, Range, Ranges};
+pub use row_laws::{
+    accesses_are_asked_for_the_statements_of_their_rows,
+    turns_are_asked_for_the_statements_of_their_rows,
+};
 pub use statement_laws::statements_stand_by_their_lines;
 pub use table::{LineTable, Row};
 pub use table_laws::{
