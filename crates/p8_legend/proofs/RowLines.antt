@@ -71,7 +71,7 @@ objects-lines file base (object ∷ objects) (x ∷ xs) are room =
     let first : further base offset ≡ base + offset = omega (arith, held, room) in
     let next : further base (size_of object) ≡ base + size_of object = omega (arith, room) in
     map-append line_in (code_rows file 1 (further base offset) x.codes) (rows_from (file + 1) (further base (size_of object)) objects (codes_of xs))
-    ∙ ap₂ (λ (as bs : List (ℕ × Place)). as ++ bs)
+    ∙ ap₂ (λ (front rest : List (ℕ × Place)). front ++ rest)
     (ap (λ n. map line_in (code_rows file 1 n x.codes)) first ∙ codes-lines file 1 (base + offset) x.codes are.0 (omega (arith, held, room)))
     (ap (λ n. map line_in (rows_from (file + 1) n objects (codes_of xs))) next ∙ objects-lines (file + 1) (base + size_of object) objects xs are.2 (omega (arith, room)))
 
