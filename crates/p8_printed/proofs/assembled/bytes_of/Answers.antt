@@ -1,4 +1,6 @@
 use Rattle.std.proofs.Common.{ap, ◌∙◌, sym, subst}
+use Rattle.p8_tree.specs.Views.{source_of}
+use Rattle.p8_tree.specs.Faults.{IsFirstFault}
 use Rattle.p8_kinds.specs.FileSettings.{file_setting}
 use Rattle.p8_dat.specs.Blocks.{dat_bytes, IsDatFault}
 use Rattle.p8_printed.specs.ReadBack.{start}
@@ -14,6 +16,6 @@ returns-in-Ok-clause-bytes c =
 pub returns-in-Err-clause-accepted : goal.returns-in-Err-clause-accepted
 returns-in-Err-clause-accepted c =
     let base = file_setting c.args.named.now.kinds c.args.named.now.children.now in
-    only_memory _
+    only_memory (IsFirstFault (IsDatFault base start (source_of c.args.named.now.file.now)))
     (λ f first. subst (λ s. ¬ IsDatFault base start s f) (sym c.requires.2) (clean base c.args.long c.requires.0 c.requires.1 c.ranges.long.fits f) first.holds)
     c.in-Err.fail c.in-Err.ensures.refused

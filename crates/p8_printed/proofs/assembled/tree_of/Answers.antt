@@ -2,6 +2,7 @@ use Rattle.std.proofs.Common.{◌≡◌, sym}
 use Rattle.std.proofs.lemmas.Result.{IfErr-weaker, IfOk-weaker}
 use Rattle.p8_tree.specs.Sources.{Source}
 use Rattle.p8_tree.specs.Views.{source_of}
+use Rattle.p8_tree.specs.declared.faults.Fault.{Fault}
 use Rattle.p8_tree.specs.Faults.{IfRefused}
 use Rattle.p8_tree.proofs.Failing.{only_memory}
 use Rattle.p8_lines.specs.Tokens.{all_tokens}
@@ -19,5 +20,5 @@ returns-clause-file c =
 pub returns-clause-accepted : goal.returns-clause-accepted
 returns-clause-accepted c =
     let r = file_read c.args.long c.ranges.long.fits c.args.source.now c.requires.source c.args.tokens.now c.requires.tokens in
-    let none = λ f. (s : Source) → ¬ IsFileWithinLimits s (all_tokens c.args.source.now c.args.tokens.now) in
+    let none : Fault → Type 0 = λ f. (s : Source) → ¬ IsFileWithinLimits s (all_tokens c.args.source.now c.args.tokens.now) in
     IfErr-weaker c.parse.result (IfRefused none) IsNotRefused (only_memory none (λ f no_file. no_file (file_with r.0) r.2)) c.parse.ensures.no_file
