@@ -57,13 +57,10 @@ fn write_mention(out: &mut String, mention: Option<&Mention>) -> Result<(), Allo
 
 fn write_fault(out: &mut String, fault: &GatherFault) -> Result<(), AllocError> {
     match fault {
-        GatherFault::Source {
-            file,
-            number,
-            place,
-        } => {
+        GatherFault::Source { file, fault } => {
+            let place = fault.place;
             write_name(out, file)?;
-            write!(out, ":{}:{}: {number}", place.line, place.column)
+            write!(out, ":{}:{}: {}", place.line, place.column, fault.number)
         }
         GatherFault::Missing { file, mention } => {
             out.push_str("missing ")?;
