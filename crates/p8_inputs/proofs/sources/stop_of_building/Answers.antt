@@ -1,5 +1,7 @@
-use Rattle.std.proofs.Common.{refl}
+use Rattle.std.proofs.Common.{refl, subst}
+use Rattle.std.specs.Prelude.{IfOk}
 use Rattle.p8_tree.specs.Views.{named_sources_of}
+use Rattle.p8_build.specs.Sizes.{IsMeasured}
 use Rattle.p8_inputs.proofs.Gathering.{distinct, mentioned, no_ring}
 use Rattle.p8_inputs.proofs.Building.{measured-stop}
 use Rattle.p8_inputs.proofs.sources.stop_of_building.Goals as goal
@@ -18,5 +20,6 @@ measure-requires-clause-proper c i file stands = c.requires.proper i file (recor
 
 pub returns-in-Ok : goal.returns-in-Ok
 returns-in-Ok c refusal =
-    measured-stop (named_sources_of c.args.project.now) c.args.fault c.in-Source.file c.in-Source.fault c.in-Source.is c.in-Ok.size refusal
-    (λ refused. c.in-Ok.ensures c.in-Source.file c.in-Source.fault refl refused)
+    let sources = named_sources_of c.args.project.now in
+    measured-stop sources c.args.fault c.in-Source.file c.in-Source.fault c.in-Source.is c.in-Ok.size refusal
+    (λ refused. subst (λ r. IfOk r (IsMeasured sources c.in-Source.file c.in-Source.fault)) c.in-Ok.is (c.measure.ensures c.in-Source.file c.in-Source.fault refl refused))

@@ -1,4 +1,4 @@
-use Rattle.std.proofs.Common.{rules}
+use Rattle.std.proofs.Common.{arith, rules}
 use Rattle.std.proofs.lemmas.Fmt.{decimal_digit}
 use Rattle.p8_view.proofs.turns.push_cog.Goals as goal
 
