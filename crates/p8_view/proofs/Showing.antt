@@ -1,6 +1,7 @@
 -- Which turns are shown, and their lines.
-use Rattle.std.proofs.Common.{◌≡◌, ◌∙◌, refl, sym, ap, subst, ℕ, zero, suc, ◌+◌, ◌<◌, ◌≤◌, Bool, true, not, ◌&&◌, if◌then◌else◌, Option, List, [], ◌∷◌, ◌++◌, length, take, reverse, get_or, append_assoc, arith}
+use Rattle.std.proofs.Common.{◌≡◌, ◌∙◌, refl, sym, ap, subst, ℕ, zero, suc, ◌+◌, ◌<◌, ◌≤◌, Bool, true, false, not, ◌&&◌, if◌then◌else◌, Option, List, [], ◌∷◌, ◌++◌, length, take, reverse, get_or, append_assoc, arith}
 use Rattle.std.proofs.lemmas.Grind.{common_steps}
+use Rattle.std.proofs.lemmas.List.{append-nil}
 use Rattle.p8_access.specs.declared.kinds.Origin.{Origin}
 use Rattle.p8_access.specs.declared.order.Turn.{Turn}
 use Rattle.p8_access.specs.Worlds.{World}
@@ -37,6 +38,12 @@ pub where_shown : (options : ViewOptions) (legend : Legend) (w : World) (past : 
     → shows ≡ is_shown options past turn → shows ≡ true → new ≡ old ++ turn_line legend w past turn counter → new ≡ old ++ shown_line options legend w past turn counter
 where_shown options legend w past turn counter shows old new is shown line =
     line ∙ ap (λ (b : Bool). old ++ (if b then turn_line legend w past turn counter else [])) (sym shown ∙ is)
+
+-- and nothing where it isn't
+pub where_hidden : (options : ViewOptions) (legend : Legend) (w : World) (past : List Turn) (turn : Turn) (counter : Option ℕ) (shows : Bool) (out : List ℕ)
+    → shows ≡ is_shown options past turn → shows ≡ false → out ≡ out ++ shown_line options legend w past turn counter
+where_hidden options legend w past turn counter shows out is hidden =
+    sym (append-nil out) ∙ ap (λ (b : Bool). out ++ (if b then turn_line legend w past turn counter else [])) (sym hidden ∙ is)
 
 -- one turn more
 next : (turns : List Turn) (i : ℕ) (d : Turn) → i < length turns → reverse (take (i + 1) turns) ≡ get_or turns i d ∷ reverse (take i turns)

@@ -10,6 +10,3 @@ returns-in-Err-Refused-clause-fault g c = (
     refused = rw c.in-Err-Refused.field-0-is at c.in-Err-Refused.ensures.refused;
   },
 )
-
-pub returns-in-Ok-clause-source : goal.returns-in-Ok-clause-source
-returns-in-Ok-clause-source g c = ?
