@@ -80,7 +80,7 @@ module _ (program : Program) (addresses : Addresses) (w : World) (world : IsWorl
       subst AreFew same (
         refl,
         few-courses (engine_of w.memory turn.key.cog) (run.clock + 8192) (enters_at (first_of (Spin entry pbase vbase frame size))) (bytecodes-paced w.memory) w.clocks turns asked.0 next.earliest turn.access asked.1
-        (omega (arith, due-late w past turn.key.cog turn.access next.earliest turn.key.clock next.due, below)) run.life,
+            (omega (arith, due-late w past turn.key.cog turn.access next.earliest turn.key.clock next.due, below)) run.life,
       )
 
   pub are-few : (origin : Origin) → cog_state w past turn.key.cog ≡ Running origin → (entered : Entered) → begun w past turn.key.cog ≡ Some (SpinBegun entered) → AreFew entered

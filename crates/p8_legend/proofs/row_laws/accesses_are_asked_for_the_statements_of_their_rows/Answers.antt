@@ -35,12 +35,12 @@ returns c files proper some distinct mentioned no_ring image is table of entered
     let Names : List ObjectPart → Type 0 = λ os. NamesStatement table.rows address (says_for program (addresses_of files b.compiled os) target frame entered.cog (map answer_of turns) bound) in
     let here : IsMethodOrigin program (addresses_of files b.compiled all) entered.origin target frame → (a : IsAskedFrom (with_memory first) turns address) → a.0 < bound → Names all =
     λ o a lt.
-        let more : a.0 + 1 ≡ suc a.0 = omega arith in
-        let next : lived (suc a.0) (with_memory first) turns ≡ Asks a.4 a.5 = ap (λ n. lived n (with_memory first) turns) (sym more) ∙ a.7 in
-        let found = c.accesses_are_asked_for_their_statements.ensures program (addresses_of files b.compiled all) (with_memory first) (world.placed entered.cog) target frame o turns a.0 a.1 a.2 a.3 a.4 a.5 a.6 next bound lt in
-        let has : Contains (lines_of all b.compiled) (address, found.0) =
-        subst (λ (n : ℕ). Contains (lines_of all b.compiled) (n, found.0)) a.8 (subst (λ (lines : List (ℕ × Place)). Contains lines (a.1.at, found.0)) (world.tables entered.cog) found.1) in
-        row-names files (c.one_for_each_project.ensures files distinct no_ring) clock is.0.objects table b of apart address found.0 _ has found.2
+    let more : a.0 + 1 ≡ suc a.0 = omega arith in
+    let next : lived (suc a.0) (with_memory first) turns ≡ Asks a.4 a.5 = ap (λ n. lived n (with_memory first) turns) (sym more) ∙ a.7 in
+    let found = c.accesses_are_asked_for_their_statements.ensures program (addresses_of files b.compiled all) (with_memory first) (world.placed entered.cog) target frame o turns a.0 a.1 a.2 a.3 a.4 a.5 a.6 next bound lt in
+    let has : Contains (lines_of all b.compiled) (address, found.0) =
+    subst (λ (n : ℕ). Contains (lines_of all b.compiled) (n, found.0)) a.8 (subst (λ (lines : List (ℕ × Place)). Contains lines (a.1.at, found.0)) (world.tables entered.cog) found.1) in
+    row-names files (c.one_for_each_project.ensures files distinct no_ring) clock is.0.objects table b of apart address found.0 _ has found.2
     in
     let in_objects = subst (λ (os : List ObjectPart). entered.memory ≡ memory_of (image_of clock os) → IsMethodOrigin program (addresses_of files b.compiled os) entered.origin target frame → Names os) (sym b.objects_are)
     (λ m o. subst (λ (x : List ℕ). (a : IsAskedFrom (with_memory x) turns address) → a.0 < bound → Names all) (sym m) (here o) asked less) in
