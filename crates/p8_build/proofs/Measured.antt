@@ -1,5 +1,6 @@
 -- The size of what is refused as too large.
 use Rattle.std.proofs.Common.{◌≡◌, ◌⊎◌, inl, inr, ℕ, zero, suc, ◌+◌, ◌^◌, ◌<◌, ◌==◌, ◌&&◌, ◌||◌, nat_lt, min, Bool, true, false, if◌then◌else◌, List, [], length, slice_get, Option, Some, None, refl, ap, sym, ◌∙◌, subst, arith}
+use Rattle.std.proofs.lemmas.Bool.{cases_lt, cases_order}
 use Rattle.std.proofs.lemmas.Bool.Decides.{nat_tests}
 use Rattle.std.specs.Prelude.{Result, Ok, Err, IfOk, OnOk}
 use Rattle.std.proofs.lemmas.Option.{slice_get_within}
@@ -128,7 +129,7 @@ module _ (names : ℕ → MethodTree → Names) (ms : List MethodTree) (place : 
   }
 
   below_or_at : (j i : ℕ) → j < i + 1 → (j < i) ⊎ (j ≡ i)
-  below_or_at j i l = omega arith
+  below_or_at j i l = elim (cases_lt j i) [ inl lower ↦ inl lower | inr above ↦ inr (omega (arith, l, above)) ]
 
   pub size_later : (i : ℕ) (m : MethodTree) (size : MethodSize) → NoneBefore names ms place i → slice_get ms i ≡ Some m → size ≡ size_of (names i m) m → is_refused_at m.place size place ≡ false → NoneBefore names ms place (i + 1)
   size_later i m size before at is h = record {
@@ -204,6 +205,9 @@ module _ (files : List NamedSource) (children : List Children) where
     | in_image e z b ↦ by (number == 28) e refl
   ]
     where
+      wrong : (p : ℕ) → p ≡ 3 → p ≡ 2 → ⊥
+      wrong p a b = omega (arith, a, b)
+
       by : (t : Bool) → r.phase ≡ 3 → (number == 28) ≡ t → IsSizeOf files children r size
       by true e t =
           of_image h.xs (told_so r 3 28 e (numbered_so ∙ equal number 28 t)) h.compiled
@@ -212,9 +216,6 @@ module _ (files : List NamedSource) (children : List Children) where
       by false e t =
           of_none (no_phase r 2 26 (λ p. wrong r.phase e p)) (no_number r 3 28 (λ n. unequal number 28 t (sym numbered_so ∙ n)))
           (is ∙ ap (λ (b : Bool). if b then Some (size_case.Image (min (header_by objects).dcurr (2 ^ 31))) else None) t)
-
-      wrong : (p : ℕ) → p ≡ 3 → p ≡ 2 → ⊥
-      wrong p a b = omega (arith, a, b)
 
 -- a fault with this number
 fault_is : (f : Fault) → f.number ≡ 26 → f ≡ fault FrameTooLarge f.place
@@ -232,18 +233,18 @@ code_told files named dats i n d f r size h k at there first other_first told =
     subst (λ (q : PhaseFault). IsSizeOf files (seen_by named) q size) same
     (by file.0 file.1 own.names (k.each i d there file.0 n.children.now n file.1 at) faulty (subst (λ (s : Source). IfSizeAt s n.children.now (compiled n.kinds d []) f size) own.source_is told))
   where
+    crash : (n : ℕ) → n ≡ 2 → n ≡ 3 → ⊥
+    crash n a b = omega (arith, a, b)
+
+    clash : (n : ℕ) → n ≡ 27 → n ≡ 26 → ⊥
+    clash n a b = omega (arith, a, b)
+
     found : (method : Option MethodSize) (file : NamedSource) → IsFile files (seen_by named) i file n.children.now → IsNamed file.tree n.children.now (i == 0) n.kinds → IsData file.tree n.children.now (compiled n.kinds d [])
         → IsCodeFaultOf file.tree n.children.now n.kinds d f → f.number ≡ 26 → IsFirstSize (method_names n.children.now (compiled n.kinds d [])) (numbered (items file.tree)) f.place method → size ≡ of_method_size method → IsSizeOf files (seen_by named) (refusal 2 i f) size
     found (Some s) file is names dat faulty e h is_size = of_method file n.children.now (compiled n.kinds d []) s (told_so (refusal 2 i f) 2 26 refl e) is names dat h is_size
     found None file is names dat (method_fault j m stands b) e h is_size =
         absurd (h j m stands (subst (IsMethodFault (method_names n.children.now (compiled n.kinds d []) j m) m) (fault_is f e) b))
     found None file is names dat (too_many j m stands b same) e h is_size = absurd (clash 27 refl (ap (λ (g : Fault). g.number) same ∙ e))
-
-    crash : (n : ℕ) → n ≡ 2 → n ≡ 3 → ⊥
-    crash n a b = omega (arith, a, b)
-
-    clash : (n : ℕ) → n ≡ 27 → n ≡ 26 → ⊥
-    clash n a b = omega (arith, a, b)
 
     by : (file : NamedSource) → IsFile files (seen_by named) i file n.children.now → IsNamed file.tree n.children.now (i == 0) n.kinds → IsData file.tree n.children.now (compiled n.kinds d [])
         → IsCodeFaultOf file.tree n.children.now n.kinds d f → IfSizeAt file.tree n.children.now (compiled n.kinds d []) f size → IsSizeOf files (seen_by named) (refusal 2 i f) size
@@ -330,11 +331,8 @@ file_within files children f holds =
 
 -- ---- there is one
 
-numbers_differ : (a b : ℕ) → (a ≡ b) ⊎ ((a < b) ⊎ (b < a))
-numbers_differ a b = omega arith
-
 one_size_at : (names : ℕ → MethodTree → Names) (ms : List MethodTree) (place : Place) (s t : MethodSize) → IsSizeAt names ms place s → IsSizeAt names ms place t → s ≡ t
-one_size_at names ms place s t a b = elim (numbers_differ a.k b.k) [
+one_size_at names ms place s t a b = elim (cases_order a.k b.k) [
   | inl same ↦
       let here : slice_get ms a.k ≡ Some b.m = subst (λ (k : ℕ). slice_get ms k ≡ Some b.m) (sym same) b.stands in
       let one : a.m ≡ b.m = some_same a.m b.m (sym a.stands ∙ here) in

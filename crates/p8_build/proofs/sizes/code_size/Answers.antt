@@ -16,8 +16,8 @@ use Rattle.p8_build.proofs.sizes.code_size.Goals as goal
 abbrev trees : List (Bor Method) → List MethodTree
 trees ms = map (λ m. method_of m.now) ms
 
-pub returns-then-number-ne26 : goal.returns-then-number-ne26
-returns-then-number-ne26 c = elsewhere c.if-number-ne26.true refl
+pub returns-then-fault-ne26 : goal.returns-then-fault-ne26
+returns-then-fault-ne26 c = elsewhere c.if-fault-ne26.true refl
 
 pub returns : goal.returns
 returns c =
@@ -27,7 +27,7 @@ returns c =
     let tables = c.in_ok-tables.tables in
     let whole = ap items_of c.deref.ensures.value ∙ c.in_ok-items.ensures in
     let methods = ap trees c.deref-2.ensures.value ∙ c.in_ok-methods.ensures ∙ ap numbered whole in
-    looked_for c.in_ok-size.size c.if-number-ne26.false
+    looked_for c.in_ok-size.size c.if-fault-ne26.false
     (sizes_along (names_with n.kinds tables) (method_names n.children.now (compiled n.kinds d [])) (trees c.deref-2.result.now) (numbered (items source)) c.args.fault.place c.in_ok-size.size
     (λ k m at. same_names source n.children.now n.kinds tables d c.in_ok-tables.ensures.publics c.in_ok-tables.ensures.consts
     (λ name. c.in_ok-tables.ensures.labels name ∙ ap (λ ls. first_offset ls name) c.as_slice.ensures) k m)

@@ -8,7 +8,7 @@ returns c =
     let named = c.args.named.now in
     let dats = c.args.assembled.now in
     let i = c.args.refusal.file in
-    let n = c.index-named-file.result in
-    let d = c.index-assembled-file.result in
-    size_from named dats c.args.refusal n d c.code_size.result (slice_get_read named (length named) i n refl c.requires.named c.index-named-file.is)
-    (slice_get_read dats (length dats) i d refl c.requires.assembled c.index-assembled-file.is) c.code_size.ensures
+    let n = c.index-named-refusal.result in
+    let d = c.index-assembled-refusal.result in
+    size_from named dats c.args.refusal n d c.code_size.result (slice_get_read named (length named) i n refl c.requires.named c.index-named-refusal.is)
+    (slice_get_read dats (length dats) i d refl c.requires.assembled c.index-assembled-refusal.is) c.code_size.ensures
