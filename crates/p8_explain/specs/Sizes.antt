@@ -20,7 +20,7 @@ abbrev pub beyond : (is_least : Bool) → (more most : ℕ) → List ℕ
 beyond is_least more most = codes ", " ++ number_text is_least more ++ codes " more than " ++ decimal most ++ codes ".\n"
 
 -- a line for a number that is above the most that it may be; the last number that can be told stands for all above it, too
-abbrev pub excess : (front : List ℕ) → (n last : ℕ) → (things : List ℕ) → (most : ℕ) → List ℕ
+unfoldable pub excess : (front : List ℕ) → (n last : ℕ) → (things : List ℕ) → (most : ℕ) → List ℕ
 excess front n last things most = if nat_lt most n then counted front (n == last) n things ++ beyond (n == last) (n - most) most else []
 
 -- a method's frame, or what it holds at once on the operand stack

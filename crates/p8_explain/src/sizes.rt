@@ -52,6 +52,7 @@ fn push_beyond(out: &mut Vec<u8>, is_least: bool, more: u64, most: u64) -> Resul
 }
 
 // Appends a line for a number that is above the most that it may be. The last number that can be told stands for all above it, too.
+#[tactic(auto, unfolding(crate::specs::Sizes::excess))]
 fn push_excess(
     out: &mut Vec<u8>,
     front: &[u8],
