@@ -7,6 +7,7 @@ use Rattle.p8_access.specs.declared.kinds.Access.{Access}
 use Rattle.p8_access.specs.declared.order.Turn.{Turn}
 use Rattle.p8_access.specs.declared.states.CogState.{CogState}
 use Rattle.p8_access.specs.declared.states.CogState.TheVariants.{Running}
+use Rattle.p8_access.specs.Courses.{Course}
 use Rattle.p8_access.specs.Hub.{cog_state}
 use Rattle.p8_access.specs.Histories.{begun, begun_at, since_begin, IsNextRunning, IsNextIn, Legal}
 use Rattle.p8_access.specs.Lives.{Begun, Entered, SpinBegun}

@@ -4,6 +4,8 @@ use Rattle.std.specs.Prelude.{option_map}
 use Rattle.std.specs.Str.{bytes_eq}
 use Rattle.p8_tree.specs.declared.places.Place.{Place}
 use Rattle.p8_tree.specs.Names.{result_word}
+use Rattle.p8_tree.specs.declared.refusal.Refusal.{Refusal}
+use Rattle.p8_tree.specs.declared.refusal.Refusal.TheVariants.{WrongArity}
 use Rattle.p8_tree.specs.Expressions.{node, ObjConst, Variable, Named, Part, Memory, Register, Trees, no_trees, ◌▷◌}
 use Rattle.p8_tree.specs.Lists.{count_of_trees, tree_list}
 use Rattle.p8_tree.specs.Proper as proper
@@ -42,10 +44,10 @@ pub counts-same : (es : Trees) → count_of es ≡ count_of_trees es
 counts-same no_trees = refl
 counts-same (es ▷ e) = let n = length-append (tree_list es) (e ∷ []) in omega (arith, n, counts-same es)
 
-abbrev seventeen : Option ℕ
-seventeen = Some 17
+abbrev arity : Option Refusal
+arity = Some WrongArity
 
-pub unless-none : (same : Bool) → (if same then None else seventeen) ≡ None → same ≡ true
+pub unless-none : (same : Bool) → (if same then None else arity) ≡ None → same ≡ true
 unless-none true is = refl
 unless-none false is = absurd (cc)
 
