@@ -70,9 +70,9 @@ parts_changes _ = true
 abbrev alone : Lexeme → Option ℕ
 alone x = option_and_then effect_of (prefix_of x)
 
-abbrev word_by : Lexeme → Option ℕ → Word
-word_by x None = word_of_lexeme x
-word_by x (Some k) = change_word k
+abbrev word_alone : Lexeme → Option ℕ → Word
+word_alone x None = word_of_lexeme x
+word_alone x (Some k) = change_word k
 
 abbrev behind_by : Option ℕ → Bool
 behind_by None = false
@@ -119,7 +119,7 @@ unfolding lexeme_of_word
 changes_parted word.PlusPlus = refl
 changes_parted _ = refl
 
-words_alone : (w : Word) → word_by (lexeme_of_word w) (alone (lexeme_of_word w)) ≡ word_of_lexeme (lexeme_of_word w)
+words_alone : (w : Word) → word_alone (lexeme_of_word w) (alone (lexeme_of_word w)) ≡ word_of_lexeme (lexeme_of_word w)
 unfolding lexeme_of_word word_by rows every_word symbols reserved_words
 words_alone word.PlusPlus = refl
 words_alone _ = refl
@@ -262,7 +262,7 @@ pub record Alone (x : Lexeme) (k : ℕ) : Type 0 where
 
 alone_word : (x : Lexeme) (w : Word) (k : ℕ) → lexeme_of_word w ≡ x → alone x ≡ Some k → spelled_of x ≡ spelled.reserved (word_of_lexeme x) → Alone x k
 alone_word x w k h e is = record {
-  word = is ∙ ap spelled.reserved (sym (subst (λ x. word_by x (alone x) ≡ word_of_lexeme x) h (words_alone w)) ∙ ap (word_by x) e);
+  word = is ∙ ap spelled.reserved (sym (subst (λ x. word_alone x (alone x) ≡ word_of_lexeme x) h (words_alone w)) ∙ ap (word_alone x) e);
   before = sym (ap behind_by e) ∙ subst (λ x. behind_by (alone x) ≡ false) h (none_behind w);
 }
 
