@@ -21,7 +21,7 @@ pub returns-in_err-file-clause-refused : goal.returns-in_err-file-clause-refused
 returns-in_err-file-clause-refused c =
     let bytes = c.args.bytes.now in
     let tokens = c.in_ok-tokens.tokens in
-    told c.from_residual.result _ (λ o. IfErr o (IfRefused (IsRefused bytes))) c.from_residual.ensures.1
+    told c.from_residual-in_err-file.result _ (λ o. IfErr o (IfRefused (IsRefused bytes))) c.from_residual-in_err-file.ensures.1
     (refused_so (λ f. Parses (all_tokens bytes tokens) (reading.fault f.number f.place)) (IsRefused bytes) (λ f. no_file tokens c.in_ok-tokens.ensures.short c.in_ok-tokens.ensures.tokens) _ c.in_err-file.ensures.lines_refused)
 
 pub returns-in-Some-clause-refused : goal.returns-in-Some-clause-refused
