@@ -13,7 +13,7 @@ use Rattle.p8_tree.specs.Sources.{Child, MethodTree, Source}
 use Rattle.p8_tree.specs.Projects.{NamedSource}
 use Rattle.p8_tree.specs.declared.faults.Fault.{Fault}
 use Rattle.p8_tree.specs.Faults.{fault}
-use Rattle.p8_tree.specs.declared.refusal.Refusal.TheVariants.{TooManyMethods}
+use Rattle.p8_tree.specs.declared.refusal.Refusal.TheVariants.{TooManyMethods, TooManyObjects}
 use Rattle.p8_kinds.specs.Meanings.{Setting}
 use Rattle.p8_constants.specs.Constants.{counted}
 use Rattle.p8_constants.specs.FileItems.{Item, constant, variable, object, method, line, items}
@@ -55,14 +55,14 @@ false-of : (n m : ℕ) → n ≤ m → nat_lt m n ≡ false
 false-of n m less = grind (arith, nat_tests)
 
 -- what would be a fault isn't so
-unbroken : (b : Bool) (place : Place) (n : ℕ) (P : Fault → Type 0) → ((f : Fault) → ((b ≡ true) × (fault n place ≡ f)) ⊎ P f → ⊥) → b ≡ false
-unbroken true place n P clean = absurd (clean (fault n place) (inl (refl, refl)))
-unbroken false place n P clean = refl
+unbroken : (b : Bool) (place : Place) (P : Fault → Type 0) → ((f : Fault) → ((b ≡ true) × (fault TooManyObjects place ≡ f)) ⊎ P f → ⊥) → b ≡ false
+unbroken true place P clean = absurd (clean (fault TooManyObjects place) (inl (refl, refl)))
+unbroken false place P clean = refl
 
 few-instances : (s : Setting) (before : ℕ) (xs : List Item) → ((f : Fault) → WrongInstancesIn s before xs f → ⊥) → before ≤ 255 → before + instances s (objects xs) ≤ 255
 few-instances s before [] clean few = omega (arith, few)
 few-instances s before (object x ∷ xs) clean few =
-    let none = unbroken (has_no_instance s x.count || passes_limit before (count_in s x.count)) x.place 20 (WrongInstancesIn s (before + count_in s x.count) xs) clean in
+    let none = unbroken (has_no_instance s x.count || passes_limit before (count_in s x.count)) x.place (WrongInstancesIn s (before + count_in s x.count) xs) clean in
     let within = (or-false (has_no_instance s x.count) (passes_limit before (count_in s x.count)) none).1 in
     let more = below-of (before + count_in s x.count) 255 (and-true (nat_le before 255) (nat_lt 255 (before + count_in s x.count)) (true-of before 255 few) within) in
     omega (arith, few-instances s (before + count_in s x.count) xs (λ f b. clean f (inr b)) more)

@@ -12,6 +12,7 @@ use Rattle.p8_tree.specs.Sources.{Contents, Datum, Declared, MethodTree, BlockTr
 use Rattle.p8_tree.specs.Proper.{is_size, IsSize, IfThere, IsProperFile, IsProperBlock, IsProperDatum, AreProperContents}
 use Rattle.p8_tree.specs.declared.faults.Fault.{Fault}
 use Rattle.p8_tree.specs.Faults.{fault}
+use Rattle.p8_tree.specs.declared.refusal.Refusal.TheVariants.{TooManyObjects}
 use Rattle.p8_words.specs.Operators.{or_zero}
 use Rattle.p8_kinds.specs.Meanings.{Setting}
 use Rattle.p8_kinds.specs.Values.{value, is_zero}
@@ -114,14 +115,14 @@ count-some s (Some e) clean none = elim (one_outcome s e) [
   | inr r ↦ absurd (clean r.first r.told.holds)
 ]
 
-flag-false : (b : Bool) (n : ℕ) (place : trees.Child) (P : Fault → Type 0) → ((f : Fault) → (IsTrue b × (fault n place.place ≡ f)) ⊎ P f → ⊥) → b ≡ false
-flag-false true n place P clean = absurd (clean (fault n place.place) (inl (refl, refl)))
-flag-false false n place P clean = refl
+flag-false : (b : Bool) (place : trees.Child) (P : Fault → Type 0) → ((f : Fault) → (IsTrue b × (fault TooManyObjects place.place ≡ f)) ⊎ P f → ⊥) → b ≡ false
+flag-false true place P clean = absurd (clean (fault TooManyObjects place.place) (inl (refl, refl)))
+flag-false false place P clean = refl
 
 pub instances-some : (s : Setting) (before : ℕ) (xs : List Item) → ((f : Fault) → InAny (HasFaultInCount s) xs f → ⊥) → ((f : Fault) → WrongInstancesIn s before xs f → ⊥) → (j : ℕ) (y : trees.Child) → slice_get (objects xs) j ≡ Some y → 0 < count_in s y.count
 instances-some s before [] clean right j y is = absurd (none-some y is)
 instances-some s before (object x ∷ xs) clean right zero y is =
-    let none = flag-false (has_no_instance s x.count || passes_limit before (count_in s x.count)) 20 x (WrongInstancesIn s (before + count_in s x.count) xs) right in
+    let none = flag-false (has_no_instance s x.count || passes_limit before (count_in s x.count)) x (WrongInstancesIn s (before + count_in s x.count) xs) right in
     subst (λ (z : trees.Child). 0 < count_in s z.count) (same_Some x y is) (count-some s x.count (λ f b. clean f (inl b)) (or-false (has_no_instance s x.count) (passes_limit before (count_in s x.count)) none))
 instances-some s before (object x ∷ xs) clean right (suc j) y is = instances-some s (before + count_in s x.count) xs (λ f b. clean f (inr b)) (λ f b. right f (inr b)) j y is
 instances-some s before (constant x ∷ xs) clean right j y is = instances-some s before xs (λ f b. clean f (inr b)) (λ f b. right f (inr b)) j y is
