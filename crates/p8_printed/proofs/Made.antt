@@ -7,7 +7,8 @@ pub use Rattle.p8_tree.specs.Proper.{IfThere}
 use Rattle.p8_grammar.specs.Lexemes.{in_data_item}
 use Rattle.p8_blocks.proofs.DataMade as blocks
 use Rattle.p8_blocks.proofs.DataMade.{Facts}
-pub use Rattle.p8_blocks.proofs.DataMade.{plain, behind_colon, condition_number, IsCondition, a_condition, no_condition, effects_number, IsEffects, some_effects, IsFlags, some_flags, sixteen, made, two, on_memory, one, jump, call, return, nothing, of_data, of_org, of_res, of_fit, of_instruction, label_alone, with_contents}
+unfoldable pub use Rattle.p8_blocks.proofs.DataMade.{condition_number}
+pub use Rattle.p8_blocks.proofs.DataMade.{plain, behind_colon, IsCondition, a_condition, no_condition, effects_number, IsEffects, some_effects, IsFlags, some_flags, sixteen, made, two, on_memory, one, jump, call, return, nothing, of_data, of_org, of_res, of_fit, of_instruction, label_alone, with_contents}
 use Rattle.p8_printed.proofs.Readings.{IsRead, IsName}
 
 abbrev read : Facts
