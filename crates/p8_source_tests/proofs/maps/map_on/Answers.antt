@@ -1,4 +1,5 @@
 use Rattle.std.proofs.Common.{◌∙◌, length, ap}
+use Rattle.p8_io.specs.contracts.memory_shelf.MemShelfShelf.TheImpl.{ghosts}
 use Rattle.p8_tree.specs.Views.{named_sources_of}
 use Rattle.p8_objects.proofs.Sourcing.{count-of}
 use Rattle.p8_inputs.proofs.Gathering.{mentioned, no_ring}
@@ -11,4 +12,4 @@ pub project_map-map-requires-clause-no_ring : goal.project_map-map-requires-clau
 project_map-map-requires-clause-no_ring c = no_ring (named_sources_of c.in-Ok.gathered.project) c.in-Ok.ensures.no_ring
 
 pub project_map-map-requires-clause-beside : goal.project_map-map-requires-clause-beside
-project_map-map-requires-clause-beside c = ap length c.as_slice.ensures ∙ count-of _ (named_sources_of c.in-Ok.gathered.project) c.in-Ok.gathered.sources c.in-Ok.ensures.sources
+project_map-map-requires-clause-beside c = ap length c.as_slice.ensures ∙ count-of (ghosts.files c.args.shelf.now) (named_sources_of c.in-Ok.gathered.project) c.in-Ok.gathered.sources c.in-Ok.ensures.sources
