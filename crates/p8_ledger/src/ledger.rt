@@ -509,7 +509,7 @@ impl Ledger {
 
     /// Makes the turn of an access where it stands among the sayings, from which it is copied into the log alone.
     #[inline(always)]
-    fn make_said(&mut self, script: &PinScript, key: Key) -> Turn
+    fn make_in_place(&mut self, script: &PinScript, key: Key) -> Turn
         requires cog { key.cog < 8 }
         requires clock { key.clock < 2 ^ 61 }
         requires room { length self.old.turns.list < self.old.turns.room }
@@ -535,6 +535,53 @@ impl Ledger {
             .settle(&self.hub, &self.sayings, &turn, self.limits.clocks);
         add(&mut self.turns, turn);
         turn
+    }
+
+    /// The access that a cog has said, where that is a plain one at this key's clock.
+    #[inline(always)]
+    fn plain_access(&self, key: Key) -> &Access
+        requires cog { key.cog < 8 }
+        requires plain { IsPlainIn self.now.sayings key.cog key.clock }
+        ensures { Suits self.now.sayings key.cog key.clock (record { access = result.now; running = true }) }
+    {
+        access_in(&self.sayings[key.cog as usize])
+    }
+
+    /// Makes the turn of an access that is said. A read or a write of the hub's memory, as most of them are, goes a way of its
+    /// own, in which the compiler knows the access: nothing is looked up in a table there, and its answer is no value that is joined with others.
+    #[inline(always)]
+    fn make_said(&mut self, script: &PinScript, key: Key) -> Turn
+        requires cog { key.cog < 8 }
+        requires clock { key.clock < 2 ^ 61 }
+        requires room { length self.old.turns.list < self.old.turns.room }
+        requires plain { IsPlainIn self.old.sayings key.cog key.clock }
+        ensures key { result.key ≡ key }
+        ensures suits { Suits self.old.sayings key.cog key.clock (record { access = result.access; running = true }) }
+        ensures answer { (w : World) (r : Record) → script.now ≡ w.script → Found w self.old r → result.answer ≡ answer_to w (turns r) key result.access }
+        ensures made { HasMade self.old self.new result true }
+        ensures found { (w : World) (r : Record) → Found w self.old r → Extends asks w (turns r) result → FitsState true (cog_state w (turns r) key.cog) → Found w self.new (Took result ∷ r) }
+    {
+        match *self.plain_access(key) {
+            Access::Write {
+                width,
+                address,
+                value,
+            } => {
+                let access = Access::Write {
+                    width,
+                    address,
+                    value,
+                };
+                let running = true;
+                self.make(script, key, Due { access, running })
+            }
+            Access::Read { width, address } => {
+                let access = Access::Read { width, address };
+                let running = true;
+                self.make(script, key, Due { access, running })
+            }
+            _ => self.make_in_place(script, key),
+        }
     }
 
     /// Makes the turn of the cog with the least front, whatever stands there. It is not inlined, so that no value of it takes a register of
