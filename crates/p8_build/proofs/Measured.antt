@@ -10,7 +10,9 @@ use Rattle.p8_tree.specs.Projects.{NamedSource}
 use Rattle.p8_tree.specs.Views.{source_of}
 use Rattle.p8_tree.specs.declared.faults.Fault.{Fault}
 use Rattle.p8_tree.specs.Faults.{fault, is_same_place, PhaseFault, IsFirstRefusal}
-use Rattle.p8_tree.specs.declared.refusal.Refusal.TheVariants.{FrameTooLarge}
+use Rattle.p8_tree.specs.declared.refusal.Refusal.{Refusal}
+use Rattle.p8_tree.specs.declared.refusal.Refusal.TheVariants.{FrameTooLarge, ImageTooLarge}
+use Rattle.p8_tree.specs.Refusals.{refusal_number}
 use Rattle.p8_words.specs.declared.failure.NoMemory.{NoMemory}
 use Rattle.p8_build.proofs.Lists.{element, one_element}
 use Rattle.p8_words.specs.declared.failure.Fail.{Fail}
@@ -167,18 +169,18 @@ sizes_along names others ms ns place (Some size) same whole h =
 
 -- ---- refusals
 
-no_number : (r : PhaseFault) (phase number : ℕ) → ¬ (r.fault.number ≡ number) → tells r phase number ≡ false
-no_number r phase number h = not_second (r.phase == phase) (r.fault.number == number) (differs r.fault.number number h)
+no_number : (r : PhaseFault) (phase : ℕ) (refused : Refusal) → ¬ (r.fault.number ≡ refusal_number refused) → tells r phase refused ≡ false
+no_number r phase refused h = not_second (r.phase == phase) (r.fault.number == refusal_number refused) (differs r.fault.number (refusal_number refused) h)
 
-no_phase : (r : PhaseFault) (phase number : ℕ) → ¬ (r.phase ≡ phase) → tells r phase number ≡ false
-no_phase r phase number h = not_first (r.phase == phase) (r.fault.number == number) (differs r.phase phase h)
+no_phase : (r : PhaseFault) (phase : ℕ) (refused : Refusal) → ¬ (r.phase ≡ phase) → tells r phase refused ≡ false
+no_phase r phase refused h = not_first (r.phase == phase) (r.fault.number == refusal_number refused) (differs r.phase phase h)
 
-told_so : (r : PhaseFault) (phase number : ℕ) → r.phase ≡ phase → r.fault.number ≡ number → tells r phase number ≡ true
-told_so r phase number p n = of_both (r.phase == phase) (r.fault.number == number) (agrees r.phase phase p) (agrees r.fault.number number n)
+told_so : (r : PhaseFault) (phase : ℕ) (refused : Refusal) → r.phase ≡ phase → r.fault.number ≡ refusal_number refused → tells r phase refused ≡ true
+told_so r phase refused p n = of_both (r.phase == phase) (r.fault.number == refusal_number refused) (agrees r.phase phase p) (agrees r.fault.number (refusal_number refused) n)
 
 -- a refusal with another number tells no size
 pub other_number : (files : List NamedSource) (children : List Children) (r : PhaseFault) (size : Option Size) → ¬ (r.fault.number ≡ 26) → ¬ (r.fault.number ≡ 28) → size ≡ None → IsSizeOf files children r size
-other_number files children r size a b is = of_none (no_number r 2 26 a) (no_number r 3 28 b) is
+other_number files children r size a b is = of_none (no_number r 2 FrameTooLarge a) (no_number r 3 ImageTooLarge b) is
 
 module _ (files : List NamedSource) (children : List Children) where
   -- nor does one of names or of data
@@ -186,7 +188,7 @@ module _ (files : List NamedSource) (children : List Children) where
   earlier_phase phase (fail_case.Refused x) r size l h was first is =
       let same : r ≡ refusal phase x.file x.fault = one_first (IsRefusal files children) r (refusal phase x.file x.fault) first h in
       let at : r.phase ≡ phase = ap (λ (q : PhaseFault). q.phase) same in
-      of_none (no_phase r 2 26 (λ e. clash phase r.phase 2 at e l)) (no_phase r 3 28 (λ e. crash phase r.phase at e l)) is
+      of_none (no_phase r 2 FrameTooLarge (λ e. clash phase r.phase 2 at e l)) (no_phase r 3 ImageTooLarge (λ e. crash phase r.phase at e l)) is
     where
       clash : (p q n : ℕ) → q ≡ p → q ≡ 2 → p < 2 → ⊥
       clash p q n a b l = omega (arith, a, b, l)
@@ -210,11 +212,11 @@ module _ (files : List NamedSource) (children : List Children) where
 
       by : (t : Bool) → r.phase ≡ 3 → (number == 28) ≡ t → IsSizeOf files children r size
       by true e t =
-          of_image h.xs (told_so r 3 28 e (numbered_so ∙ equal number 28 t)) h.compiled
+          of_image h.xs (told_so r 3 ImageTooLarge e (numbered_so ∙ equal number 28 t)) h.compiled
           (is ∙ ap (λ (b : Bool). if b then Some (size_case.Image (min (header_by objects).dcurr (2 ^ 31))) else None) t
           ∙ ap (λ (os : List ObjectPart). Some (size_case.Image (min (header_by os).dcurr (2 ^ 31)))) h.are)
       by false e t =
-          of_none (no_phase r 2 26 (λ p. wrong r.phase e p)) (no_number r 3 28 (λ n. unequal number 28 t (sym numbered_so ∙ n)))
+          of_none (no_phase r 2 FrameTooLarge (λ p. wrong r.phase e p)) (no_number r 3 ImageTooLarge (λ n. unequal number 28 t (sym numbered_so ∙ n)))
           (is ∙ ap (λ (b : Bool). if b then Some (size_case.Image (min (header_by objects).dcurr (2 ^ 31))) else None) t)
 
 -- a fault with this number
@@ -241,14 +243,14 @@ code_told files named dats i n d f r size h k at there first other_first told =
 
     found : (method : Option MethodSize) (file : NamedSource) → IsFile files (seen_by named) i file n.children.now → IsNamed file.tree n.children.now (i == 0) n.kinds → IsData file.tree n.children.now (compiled n.kinds d [])
         → IsCodeFaultOf file.tree n.children.now n.kinds d f → f.number ≡ 26 → IsFirstSize (method_names n.children.now (compiled n.kinds d [])) (numbered (items file.tree)) f.place method → size ≡ of_method_size method → IsSizeOf files (seen_by named) (refusal 2 i f) size
-    found (Some s) file is names dat faulty e h is_size = of_method file n.children.now (compiled n.kinds d []) s (told_so (refusal 2 i f) 2 26 refl e) is names dat h is_size
+    found (Some s) file is names dat faulty e h is_size = of_method file n.children.now (compiled n.kinds d []) s (told_so (refusal 2 i f) 2 FrameTooLarge refl e) is names dat h is_size
     found None file is names dat (method_fault j m stands b) e h is_size =
         absurd (h j m stands (subst (IsMethodFault (method_names n.children.now (compiled n.kinds d []) j m) m) (fault_is f e) b))
     found None file is names dat (too_many j m stands b same) e h is_size = absurd (clash 27 refl (ap (λ (g : Fault). g.number) same ∙ e))
 
     by : (file : NamedSource) → IsFile files (seen_by named) i file n.children.now → IsNamed file.tree n.children.now (i == 0) n.kinds → IsData file.tree n.children.now (compiled n.kinds d [])
         → IsCodeFaultOf file.tree n.children.now n.kinds d f → IfSizeAt file.tree n.children.now (compiled n.kinds d []) f size → IsSizeOf files (seen_by named) (refusal 2 i f) size
-    by file is names dat faulty (elsewhere differs_so is_size) = of_none (no_number (refusal 2 i f) 2 26 differs_so) (no_phase (refusal 2 i f) 3 28 (λ e. crash 2 refl e)) is_size
+    by file is names dat faulty (elsewhere differs_so is_size) = of_none (no_number (refusal 2 i f) 2 FrameTooLarge differs_so) (no_phase (refusal 2 i f) 3 ImageTooLarge (λ e. crash 2 refl e)) is_size
     by file is names dat faulty (looked_for method e h is_size) = found method file is names dat faulty e h is_size
 
 -- ---- a project
@@ -349,7 +351,7 @@ one_size_at names ms place s t a b = elim (cases_order a.k b.k) [
 contrary : true ≡ false → ⊥
 contrary h = absurd cc
 
-two_phases : (r : PhaseFault) → tells r 2 26 ≡ true → tells r 3 28 ≡ true → ⊥
+two_phases : (r : PhaseFault) → tells r 2 FrameTooLarge ≡ true → tells r 3 ImageTooLarge ≡ true → ⊥
 two_phases r a b =
     let second : r.phase ≡ 2 = equal r.phase 2 (both (r.phase == 2) (r.fault.number == 26) a).0 in
     let third : r.phase ≡ 3 = equal r.phase 3 (both (r.phase == 3) (r.fault.number == 28) b).0 in

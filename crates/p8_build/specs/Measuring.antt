@@ -5,6 +5,7 @@ use Rattle.p8_tree.specs.Sources.{MethodTree, Source}
 use Rattle.p8_tree.specs.declared.faults.Fault.{Fault}
 use Rattle.p8_tree.specs.Faults.{fault}
 use Rattle.p8_tree.specs.declared.refusal.Refusal.TheVariants.{FrameTooLarge}
+use Rattle.p8_tree.specs.Refusals.{refusal_number}
 use Rattle.p8_tree.specs.Views.{source_of}
 use Rattle.p8_words.specs.declared.failure.Fail.{Fail}
 use Rattle.p8_words.specs.declared.failure.Fail.TheVariants as fail_case
@@ -35,7 +36,7 @@ WasRefused fail_case.NoMemory = ⊥
 abbrev pub names_with : Kinds → Tables → ℕ → MethodTree → Names
 names_with kinds tables k m = names_from kinds (k + 1) tables m.place
 
--- the size of the first of some methods that is refused with 26 at a place, or none of them is
+-- the size of the first of some methods whose frame is refused as too large at a place, or none is
 abbrev pub IsFirstSize : (ℕ → MethodTree → Names) → List MethodTree → Place → Option MethodSize → Type 0
 IsFirstSize names ms place None = (k : ℕ) (m : MethodTree) → slice_get ms k ≡ Some m → ¬ IsMethodFault (names k m) m (fault FrameTooLarge place)
 IsFirstSize names ms place (Some size) = IsSizeAt names ms place size
@@ -47,8 +48,8 @@ of_method_size (Some size) = Some (size_case.Method size)
 
 -- the size that a fault of the code of a file tells
 pub data IfSizeAt (source : Source) (children : Children) (x : CompiledFile) (f : Fault) (size : Option Size) : Type 0 where
-  elsewhere : ¬ (f.number ≡ 26) → size ≡ None → IfSizeAt source children x f size
-  looked_for : (method : Option MethodSize) → f.number ≡ 26 → IsFirstSize (method_names children x) (numbered (items source)) f.place method
+  elsewhere : ¬ (f.number ≡ refusal_number FrameTooLarge) → size ≡ None → IfSizeAt source children x f size
+  looked_for : (method : Option MethodSize) → f.number ≡ refusal_number FrameTooLarge → IsFirstSize (method_names children x) (numbered (items source)) f.place method
       → size ≡ of_method_size method → IfSizeAt source children x f size
 
 -- the size that a fault of the code of a file tells, which is one of these by their numbers

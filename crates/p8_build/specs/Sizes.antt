@@ -5,7 +5,9 @@ use Rattle.p8_tree.specs.Sources.{MethodTree, Source}
 use Rattle.p8_tree.specs.Projects.{NamedSource}
 use Rattle.p8_tree.specs.declared.faults.Fault.{Fault}
 use Rattle.p8_tree.specs.Faults.{fault, PhaseFault}
-use Rattle.p8_tree.specs.declared.refusal.Refusal.TheVariants.{FrameTooLarge}
+use Rattle.p8_tree.specs.declared.refusal.Refusal.{Refusal}
+use Rattle.p8_tree.specs.declared.refusal.Refusal.TheVariants.{FrameTooLarge, ImageTooLarge}
+use Rattle.p8_tree.specs.Refusals.{refusal_number}
 use Rattle.p8_constants.specs.FileItems.{items}
 use Rattle.p8_kinds.specs.declared.children.Children.{Children}
 use Rattle.p8_names.specs.Kinds.{numbered}
@@ -19,7 +21,7 @@ use Rattle.p8_build.specs.Builds.{IsFile, AreCompiled, objects_of, IsRefusedWith
 use Rattle.p8_build.specs.declared.sizes.Size.{Size}
 use Rattle.p8_build.specs.declared.sizes.Size.TheVariants as size_case
 
--- the first of some methods, which are counted from 0, that is refused with 26 at a place has this size
+-- the first of some methods, which are counted from 0, whose frame is refused as too large at a place has this size
 pub record IsSizeAt (names : ℕ → MethodTree → Names) (ms : List MethodTree) (place : Place) (size : MethodSize) : Type 0 where
   pub k : ℕ
   pub m : MethodTree
@@ -28,18 +30,19 @@ pub record IsSizeAt (names : ℕ → MethodTree → Names) (ms : List MethodTree
   pub first : (j : ℕ) (other : MethodTree) → j < k → slice_get ms j ≡ Some other → ¬ IsMethodFault (names j other) other (fault FrameTooLarge place)
   pub size_is : size ≡ size_of (names k m) m
 
--- a refusal is one of this phase and number
-abbrev pub tells : PhaseFault → (phase number : ℕ) → Bool
-tells r phase number = (r.phase == phase) && (r.fault.number == number)
+-- what is refused in this phase is refused so
+abbrev pub tells : PhaseFault → (phase : ℕ) → Refusal → Bool
+tells r phase refused = (r.phase == phase) && (r.fault.number == refusal_number refused)
 
--- How large what a refusal of a project tells is: the method of a 26, the image of a 28 by where its first frame would end, and nothing of any other one.
+-- How large what a refusal of a project tells is: the method whose frame is too large, the image that is too large by where its first frame would end, and
+-- nothing of any other one.
 pub data IsSizeOf (files : List NamedSource) (children : List Children) (r : PhaseFault) (size : Option Size) : Type 0 where
-  of_method : (file : NamedSource) (seen : Children) (x : CompiledFile) (method : MethodSize) → tells r 2 26 ≡ true → IsFile files children r.file file seen
+  of_method : (file : NamedSource) (seen : Children) (x : CompiledFile) (method : MethodSize) → tells r 2 FrameTooLarge ≡ true → IsFile files children r.file file seen
       → IsNamed file.tree seen (r.file == 0) x.kinds → IsData file.tree seen x
       → IsSizeAt (method_names seen x) (numbered (items file.tree)) r.fault.place method → size ≡ Some (size_case.Method method) → IsSizeOf files children r size
-  of_image : (xs : List CompiledFile) → tells r 3 28 ≡ true → AreCompiled files children xs
+  of_image : (xs : List CompiledFile) → tells r 3 ImageTooLarge ≡ true → AreCompiled files children xs
       → size ≡ Some (size_case.Image (min (header_by (objects_of files children xs)).dcurr (2 ^ 31))) → IsSizeOf files children r size
-  of_none : tells r 2 26 ≡ false → tells r 3 28 ≡ false → size ≡ None → IsSizeOf files children r size
+  of_none : tells r 2 FrameTooLarge ≡ false → tells r 3 ImageTooLarge ≡ false → size ≡ None → IsSizeOf files children r size
 
 -- the project is refused: its first refusal is this fault of the file of this name, and what it tells is so large
 pub record IsMeasured (files : List NamedSource) (name : List ℕ) (f : Fault) (size : Option Size) : Type 0 where

@@ -6,9 +6,9 @@ ghost use Rattle.p8_declarations.specs.Parts.{hash, equals, left_bracket, ended,
 ghost use Rattle.p8_declarations.specs.Constants.{constant, constants, constants_named, constants_behind, constants_of_row};
 ghost use Rattle.p8_declarations.specs.Views.{parts_in, with_constant};
 
-use crate::part::{Part, is_line_end, without};
+use crate::part::{Part, is_line_end};
 use crate::row::{Behind, Row};
-use p8_lexer::Piece;
+use p8_lexer::{Piece, without};
 use p8_tree::{ConItem, Expr, List, Place, Text};
 use p8_words::NoMemory;
 use std::alloc::Global;

@@ -6,8 +6,7 @@ ghost use Rattle.p8_declarations.specs.DataViews.{part_of, rest, from, Affects};
 
 use crate::data_part::Part;
 use crate::data_row::Row;
-use crate::part::without;
-use p8_lexer::Word;
+use p8_lexer::{Word, without};
 use p8_tree::{Expr, ExprKind, InstrLine, Place, Target, Text};
 use p8_words::NoMemory;
 use std::alloc::Global;

@@ -8,7 +8,7 @@ ghost use Rattle.p8_declarations.specs.DataViews.{part_of, rest, stage_of, Steps
 
 use crate::data_part::Part;
 use crate::data_row::Row;
-use crate::part::without;
+use p8_lexer::without;
 use p8_tree::{DatItem, Expr, ExprKind, List, Place, Text};
 use p8_words::NoMemory;
 use std::alloc::Global;

@@ -4,13 +4,14 @@ ghost use Rattle.p8_tree.specs.Sources.{MethodTree};
 ghost use Rattle.p8_tree.specs.Views.{method_of};
 ghost use Rattle.p8_lexer.specs.Pieces.{pieces_of};
 ghost use Rattle.p8_declarations.specs.Parts.{line_end, comma, bar, right_parenthesis, name};
-ghost use Rattle.p8_declarations.specs.Methods.{bare, with_parameter, with_result, behind_result, result_named, behind_parameters, parameters, behind_parameter, behind_name, method_of_row};
+ghost use Rattle.p8_declarations.specs.Methods.{bare, with_parameter, with_result, behind_result, result_named, behind_parameters};
+ghost use Rattle.p8_declarations.specs.Methods.{parameters, behind_parameter, behind_name, method_of_row};
 ghost use Rattle.p8_declarations.specs.Views.{part_of, parts_in};
 
-use crate::part::{Part, without};
+use crate::part::Part;
 use crate::row::Row;
 use crate::var_line::variables_of_size;
-use p8_lexer::Piece;
+use p8_lexer::{Piece, without};
 use p8_tree::{List, Method, Place, Text};
 use p8_words::NoMemory;
 use std::alloc::{AllocError, Global};

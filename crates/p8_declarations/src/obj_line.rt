@@ -7,9 +7,9 @@ ghost use Rattle.p8_declarations.specs.Parts.{left_bracket};
 ghost use Rattle.p8_declarations.specs.Objects.{file_of, in_file, object_named, object, alone, objects_of_row};
 ghost use Rattle.p8_declarations.specs.Views.{parts_in, child_in};
 
-use crate::part::{Part, is_line_end, without};
+use crate::part::{Part, is_line_end};
 use crate::row::Row;
-use p8_lexer::Piece;
+use p8_lexer::{Piece, without};
 use p8_tree::{Expr, List, ObjItem, Place, Text};
 use p8_words::NoMemory;
 use std::alloc::{AllocError, Global};

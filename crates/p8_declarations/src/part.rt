@@ -4,7 +4,7 @@ ghost use Rattle.p8_lexer.specs.Pieces.{piece_of, pieces_of};
 ghost use Rattle.p8_declarations.specs.Parts.{line_end, colon, right_bracket, part_of_word, part_of_piece, parts, is_line_end};
 ghost use Rattle.p8_declarations.specs.Views.{part_of};
 
-use p8_lexer::{Piece, Word};
+use p8_lexer::{Piece, Word, without};
 use p8_tree::{Expr, Place, Text};
 
 /// A piece of a line, as declarations tell it apart.
@@ -96,14 +96,6 @@ impl Part {
             other => without(other, false),
         }
     }
-}
-
-/// Lets go of a value, and gives this answer.
-pub fn without<T: Drop, A>(unused: T, answer: A) -> A
-    ensures { result ≡ answer }
-{
-    drop(unused);
-    answer
 }
 
 /// Whether pieces are the end of a line alone.

@@ -6,10 +6,11 @@ ghost use Rattle.p8_lexer.specs.Pieces.{pieces_of};
 ghost use Rattle.p8_declarations.specs.Parts.{Part, line_end, colon, right_bracket, size, name, text, tree, parts};
 ghost use Rattle.p8_declarations.specs.Constants.{constants, constants_behind};
 ghost use Rattle.p8_declarations.specs.Variables.{variables, variables_behind};
-ghost use Rattle.p8_declarations.specs.Views.{part_of, parts_in, continued, has_value, has_right_bracket, has_count, has_size, has_name, has_colon, has_text, has_file, behind_of, is_end};
+ghost use Rattle.p8_declarations.specs.Views.{part_of, parts_in, continued, has_value, has_right_bracket, has_count};
+ghost use Rattle.p8_declarations.specs.Views.{has_size, has_name, has_colon, has_text, has_file, behind_of, is_end};
 
-use crate::part::{Part, without};
-use p8_lexer::Piece;
+use crate::part::Part;
+use p8_lexer::{Piece, without};
 use p8_tree::{Expr, Place, Text};
 use std::alloc::Global;
 use std::vec::IntoIter;

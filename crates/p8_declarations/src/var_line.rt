@@ -7,9 +7,9 @@ ghost use Rattle.p8_declarations.specs.Parts.{left_bracket, ended, with_first};
 ghost use Rattle.p8_declarations.specs.Variables.{variable, variables, variables_named, variables_behind, sized_variables, variables_of_row};
 ghost use Rattle.p8_declarations.specs.Views.{parts_in, with_variable};
 
-use crate::part::{Part, is_line_end, without};
+use crate::part::{Part, is_line_end};
 use crate::row::{Behind, Row};
-use p8_lexer::Piece;
+use p8_lexer::{Piece, without};
 use p8_tree::{Expr, List, Place, Text, VarItem};
 use p8_words::NoMemory;
 use std::alloc::Global;

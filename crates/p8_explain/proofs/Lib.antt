@@ -1,2 +1,1 @@
 mod Beginnings
-mod Marking

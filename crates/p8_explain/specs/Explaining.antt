@@ -5,9 +5,9 @@ use Rattle.std.specs.Fmt.{decimal}
 use Rattle.p8_tree.specs.declared.places.Place.{Place}
 use Rattle.p8_tree.specs.declared.refusal.Refusal.{Refusal}
 use Rattle.p8_tree.specs.declared.refusal.Refusal.TheVariants as refusal
-use Rattle.p8_lexer.specs.Characters.{text_of}
-use Rattle.p8_lexer.specs.Lexing.{is_between, is_line_end, longest_file}
+use Rattle.p8_lexer.specs.Lexing.{is_between, is_line_end}
 use Rattle.p8_lexer.specs.Places.{start, behind, next_tab}
+use Rattle.p8_lexer.specs.Spelling.{text_in}
 use Rattle.p8_tree.specs.declared.faults.Fault.{Fault}
 use Rattle.p8_tree.specs.Refusals.{numbered, name_numbered}
 use Rattle.p8_build.specs.declared.sizes.Size.{Size}
@@ -43,7 +43,7 @@ line_from line before p (c ∷ cs) = (if p.line == line then cell p c else []) +
 
 -- the line of this number, of what a file may have at most
 abbrev pub line_of : List ℕ → (line : ℕ) → List ℕ
-line_of bytes line = line_from line 0 start (take longest_file (text_of bytes))
+line_of bytes line = line_from line 0 start (text_in bytes)
 
 -- the columns left of what is shown
 abbrev pub left_of : (column : ℕ) → ℕ

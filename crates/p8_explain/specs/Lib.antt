@@ -1,9 +1,6 @@
--- What a refusal says to a person, and how a source spells its names.
+-- What a refusal says to a person.
 pub mod Entries
 pub mod Explaining
 pub mod Causes
 pub mod Standing
-pub mod Spelling
 pub mod Sizes
--- Machinery that only proofs need.
-pub mod Marks

@@ -1,19 +1,12 @@
 -- What stands at a refused place of a text (this project's profile). Places are those of refusals.
-use Rattle.std.specs.Prelude.{ℕ, Bool, true, false, ◌==◌, ◌&&◌, not, List, [], ◌∷◌, ◌++◌, take, slice_index, codes, Option, Some, None, if◌then◌else◌}
+use Rattle.std.specs.Prelude.{ℕ, Bool, true, false, ◌==◌, ◌&&◌, not, List, [], ◌∷◌, ◌++◌, slice_index, codes, Option, Some, None, if◌then◌else◌}
 use Rattle.std.specs.Fmt.{decimal}
 use Rattle.p8_tree.specs.declared.places.Place.{Place}
-use Rattle.p8_lexer.specs.Characters.{text_of}
-use Rattle.p8_lexer.specs.Lexing.{longest_file}
+use Rattle.p8_tree.specs.Faults.{is_same_place}
 use Rattle.p8_lexer.specs.Places.{start, behind}
+use Rattle.p8_lexer.specs.Spelling.{text_in}
 use Rattle.p8_lexer.specs.Words.{capital}
 use Rattle.p8_explain.specs.Causes.{is_of_word, token_at, quoted}
-
--- the text of a file, up to what a file may have
-abbrev pub text_within : (bytes : List ℕ) → List ℕ
-text_within bytes = take longest_file (text_of bytes)
-
-abbrev pub is_same_place : Place → Place → Bool
-is_same_place p q = (p.line == q.line) && (p.column == q.column)
 
 -- ---- a character
 
@@ -46,7 +39,7 @@ of_character (Some c) =
 abbrev pub of_byte : (bytes : List ℕ) → Place → List ℕ
 of_byte bytes place =
     if has_mark bytes && is_same_place place start then codes "The file begins with the mark of UTF-8, the bytes EF BB BF: store it without that mark.\n" else
-    of_character (character_from place 0 start (text_within bytes))
+    of_character (character_from place 0 start (text_in bytes))
 
 -- ---- a name
 
@@ -82,4 +75,4 @@ of_first name place (Some first) = quoted name ++ of_place_or_none place first
 -- of a local label, which begins with `:`, nothing is said
 abbrev pub of_name : (bytes : List ℕ) → (name : List ℕ) → Place → List ℕ
 of_name bytes name place =
-    if is_of_word (slice_index name 0) then of_first name place (first_from name 0 start (text_within bytes)) else []
+    if is_of_word (slice_index name 0) then of_first name place (first_from name 0 start (text_in bytes)) else []

@@ -1,9 +1,10 @@
 // What stands at the place where a line is refused.
 ghost use Rattle.std.specs.Prelude.{◌≡◌, ◌++◌, ◌&&◌, ◌==◌, ◌≤◌, ◌<◌, take, drop, length, slice_index, OnOk};
-ghost use Rattle.p8_explain.specs.Causes.{is_of_word, word_length, is_spelled_so, symbol_at, token_at, last_solid, ends_value, begins_value, is_equal_sign, is_reserved, is_empty_pair, are_beside, cause_of, cause_at, quoted, sentence, seen};
+ghost use Rattle.p8_explain.specs.Causes.{is_of_word, word_length, is_spelled_so, symbol_at, token_at, last_solid, ends_value, begins_value};
+ghost use Rattle.p8_explain.specs.Causes.{is_equal_sign, is_reserved, is_empty_pair, are_beside, cause_of, cause_at, quoted, sentence, seen};
 
 use crate::lines::{first_of, rest_of};
-use crate::texts::push_text;
+use p8_instr::push_text;
 use p8_lexer::{Characters, named};
 use p8_words::NoMemory;
 

@@ -1,47 +1,14 @@
 // The line of a place, as a terminal shows it.
-ghost use Rattle.std.specs.Prelude.{take, drop, ◌≡◌, ◌++◌, ◌+◌, ◌^◌, ◌<◌, ◌≤◌, length, OnOk, IfOk, if◌then◌else◌, ◌==◌, []};
-ghost use Rattle.p8_lexer.specs.Lexing.{longest_file};
-ghost use Rattle.p8_lexer.specs.Places.{behind, start};
+ghost use Rattle.std.specs.Prelude.{take, drop, ◌≡◌, ◌++◌, ◌^◌, ◌≤◌, length, OnOk, IfOk, if◌then◌else◌, ◌==◌, []};
+ghost use Rattle.p8_lexer.specs.Places.{start};
 ghost use Rattle.p8_explain.specs.Explaining.{shown, cell, line_from, line_of, left_of, marked};
 
-use crate::texts::{push_spaces, push_text};
-use p8_lexer::Characters;
+use crate::texts::push_spaces;
+use p8_instr::push_text;
+use p8_lexer::{Characters, START, behind};
 use p8_tree::Place;
 use p8_words::NoMemory;
 use std::alloc::Global;
-
-const LONGEST: usize = 1_048_576;
-
-/// Where a text begins.
-pub(crate) const START: Place = Place { line: 1, column: 1 };
-
-/// The place after a character that stands at a place, after another character.
-pub(crate) fn behind(before: u8, place: Place, c: u8) -> Place
-    requires line { place.line < 2 ^ 31 }
-    requires counted { 1 ≤ place.column }
-    requires column { place.column < 2 ^ 31 }
-    ensures place { result ≡ behind before place c }
-    ensures line { result.line ≤ place.line + 1 }
-    ensures counted { 1 ≤ result.column }
-    ensures column { result.column ≤ place.column + 8 }
-{
-    let Place { line, column } = place;
-    match c {
-        b'\n' if before == b'\r' => place,
-        b'\n' | b'\r' => Place {
-            line: line + 1,
-            column: 1,
-        },
-        b'\t' => Place {
-            line,
-            column: (column - 1) / 8 * 8 + 9,
-        },
-        _ => Place {
-            line,
-            column: column + 1,
-        },
-    }
-}
 
 // A character as a terminal shows it.
 fn shown(c: u8) -> u8
@@ -94,23 +61,11 @@ fn line_from(alloc: Global, line: u32, text: &Characters) -> Result<Vec<u8>, NoM
     Ok(out)
 }
 
-/// A text up to the length that a file may have.
-pub(crate) fn front<'a>(text: &Characters<'a>) -> Characters<'a>
-    ensures front { result ≡ take longest_file text.now }
-    ensures short { length result ≤ 2 ^ 20 }
-{
-    if text.len() <= LONGEST {
-        text.first(text.len())
-    } else {
-        text.first(LONGEST)
-    }
-}
-
 /// What a line of a file shows.
 pub(crate) fn line_of(alloc: Global, bytes: &[u8], line: u32) -> Result<Vec<u8>, NoMemory>
     ensures { IfOk result (λ v. v.items ≡ line_of bytes.now line) }
 {
-    let text = front(&Characters::of_file(bytes));
+    let text = Characters::of_front(bytes);
     line_from(alloc, line, &text)
 }
 

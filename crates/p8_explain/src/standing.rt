@@ -2,12 +2,14 @@
 ghost use Rattle.std.specs.Prelude.{◌≡◌, ◌++◌, ◌+◌, ◌^◌, ◌<◌, ◌≤◌, length, slice_index, OnOk};
 ghost use Rattle.p8_lexer.specs.Places.{start};
 ghost use Rattle.p8_lexer.specs.Words.{capital};
-ghost use Rattle.p8_explain.specs.Standing.{is_same_place, stands_at, character_from, has_mark, between, of_number, of_character, of_byte, begins_with, first_from, place_between, of_place, of_place_or_none, of_first, of_name};
+ghost use Rattle.p8_tree.specs.Faults.{is_same_place};
+ghost use Rattle.p8_explain.specs.Standing.{stands_at, character_from, has_mark, between, of_number, of_character, of_byte};
+ghost use Rattle.p8_explain.specs.Standing.{begins_with, first_from, place_between, of_place, of_place_or_none, of_first, of_name};
 
 use crate::causes::{first_character, is_of_word, push_quoted};
-use crate::lines::{START, behind, front};
-use crate::texts::{push_decimal, push_text};
-use p8_lexer::Characters;
+use crate::texts::push_decimal;
+use p8_instr::push_text;
+use p8_lexer::{Characters, START, behind};
 use p8_tree::Place;
 use p8_words::NoMemory;
 
@@ -97,7 +99,7 @@ pub(crate) fn push_of_byte(out: &mut Vec<u8>, bytes: &[u8], place: Place) -> Res
             b"The file begins with the mark of UTF-8, the bytes EF BB BF: store it without that mark.\n",
         )
     } else {
-        let text = front(&Characters::of_file(bytes));
+        let text = Characters::of_front(bytes);
         push_of_character(out, character_at(&text, place))
     }
 }
@@ -217,7 +219,7 @@ pub(crate) fn push_of_name(
     ensures { OnOk result (out.new.items ≡ out.old.items ++ of_name bytes.now name.now place) }
 {
     if is_of_word(first_character(name)) {
-        let text = front(&Characters::of_file(bytes));
+        let text = Characters::of_front(bytes);
         push_of_first(out, name, place, first_place(&text, name))
     } else {
         Ok(())

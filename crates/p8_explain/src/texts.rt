@@ -3,15 +3,8 @@ ghost use Rattle.std.specs.Prelude.{◌≡◌, ◌++◌, replicate, OnOk};
 ghost use Rattle.std.specs.Fmt.{decimal};
 
 use itoa::Buffer;
+use p8_instr::push_text;
 use p8_words::NoMemory;
-
-/// Appends a text.
-pub(crate) fn push_text(out: &mut Vec<u8>, text: &[u8]) -> Result<(), NoMemory>
-    ensures { OnOk result (out.new.items ≡ out.old.items ++ text.now) }
-{
-    out.extend_from_slice(text)?;
-    Ok(())
-}
 
 /// Appends a number in decimal digits.
 pub(crate) fn push_decimal(out: &mut Vec<u8>, number: u64) -> Result<(), NoMemory>

@@ -10,7 +10,7 @@ use Rattle.p8_image.specs.declared.clocks.Clock.{Clock}
 use Rattle.p8_image.specs.declared.parts.ObjectPart.{ObjectPart}
 use Rattle.p8_image.specs.Layout.{image_of}
 use Rattle.p8_map.specs.declared.names.FileNames.{FileNames}
-use Rattle.p8_explain.specs.Spelling.{text_in}
+use Rattle.p8_lexer.specs.Spelling.{text_in}
 use Rattle.p8_map.specs.Map.{map_of}
 use Rattle.p8_map.specs.Names.{file_names}
 use Rattle.p8_map.specs.Projects.{names_of, IsMapOf}

@@ -8,6 +8,5 @@ pub mod Orders
 pub mod Stops
 pub mod Runs
 -- Machinery that only proofs need.
-pub mod Naming
 pub mod Steps
 pub mod Gathered

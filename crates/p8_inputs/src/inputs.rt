@@ -2,9 +2,10 @@
 ghost use Rattle.std.specs.Prelude.{◌≡◌, ◌≤◌, ◌∷◌, [], length, Some, IfOk, IfErr};
 ghost use Rattle.p8_access.specs.Proper.{IsProperOrigin};
 ghost use Rattle.p8_io.specs.Shelves.{IsRead, WereRead};
-ghost use Rattle.p8_inputs.specs.Asks.{StopsAtFile, StopsAtProgram, StopsAtScript, Stops, program as program_ask, script_ask, run_asks, check_asks, most_sent, message as message_ask};
+ghost use Rattle.p8_inputs.specs.Asks.{StopsAtFile, StopsAtProgram, StopsAtScript, Stops, program as program_ask};
+ghost use Rattle.p8_inputs.specs.Asks.{script_ask, run_asks, check_asks, most_sent, message as message_ask};
 ghost use Rattle.p8_inputs.specs.Inputs.{IsScriptFor};
-ghost use Rattle.p8_inputs.specs.Naming.{name_of};
+ghost use Rattle.p8_commands.specs.Naming.{name_of};
 ghost use Rattle.p8_inputs.specs.Orders.{IsAllRead, IsReadSoFar, MayBeRead, AreAllRead, AreReadSoFar};
 ghost use Rattle.p8_inputs.specs.Runs.{Begins};
 ghost use Rattle.p8_inputs.specs.Steps.{IsBootOf, IsOfBytes};

@@ -3,7 +3,7 @@ ghost use Rattle.std.specs.Prelude.{◌≡◌, ◌≤◌, false, IfOk, OnOk, IfE
 ghost use Rattle.p8_access.specs.Proper.{IsProperOrigin};
 ghost use Rattle.p8_inputs.specs.Asks.{StopsAt, StopsAtProgram, Stops, viewing as viewing_ask, view_asks};
 ghost use Rattle.p8_inputs.specs.Legends.{HasName, IsLegendFrom, TellsNothing};
-ghost use Rattle.p8_inputs.specs.Naming.{name_of};
+ghost use Rattle.p8_commands.specs.Naming.{name_of};
 ghost use Rattle.p8_inputs.specs.Orders.{IsProgramRead, IsProgramBegun, AreAllRead, AreReadSoFar};
 ghost use Rattle.p8_inputs.specs.Runs.{Begins};
 ghost use Rattle.p8_inputs.specs.Steps.{IsBootOf, IsNameless, IsNamelessIn};

@@ -14,7 +14,7 @@ use Rattle.p8_build.specs.Files.{CompiledFile, setting_of, IsCompiled}
 use Rattle.p8_build.specs.Builds.{AreCompiled, IsBuilt, IsFile, objects_of}
 use Rattle.p8_build.proofs.One.{alike, same_labels, same_setting, same_codes}
 use Rattle.p8_build.proofs.Wholes.{one_clock, one_objects}
-use Rattle.p8_explain.specs.Spelling.{text_in}
+use Rattle.p8_lexer.specs.Spelling.{text_in}
 use Rattle.p8_legend.specs.declared.legend.Legend.{Legend}
 use Rattle.p8_legend.specs.Rows.{codes_of, rows_from}
 use Rattle.p8_map.specs.declared.names.FileNames.{FileNames}

@@ -13,7 +13,7 @@ use Rattle.p8_legend.specs.declared.table.Row.{Row}
 use Rattle.p8_map.specs.declared.instances.Instance.{Instance}
 use Rattle.p8_map.specs.declared.names.FileNames.{FileNames}
 use Rattle.p8_map.specs.declared.names.MethodNames.{MethodNames}
-use Rattle.p8_map.specs.Map.{after_size, further, instances_from, sized_bytes}
+use Rattle.p8_map.specs.Map.{after_size, instances_from, sized_bytes}
 
 -- ranges with their texts, so far
 abbrev pub Named : Type 0

@@ -1,6 +1,5 @@
 // The names of what stands in a project's objects.
 ghost use Rattle.std.specs.Prelude.{◌≡◌, ◌++◌, [], IfOk, OnOk};
-ghost use Rattle.p8_map.specs.Map.{further};
 ghost use Rattle.p8_image.specs.Layout.{codes_offset};
 ghost use Rattle.p8_legend.specs.ProjectLegends.{and_one, label_end, with_labels, with_methods, with_object, with_objects};
 
@@ -9,20 +8,13 @@ use crate::ranges::{Range, Ranges};
 use p8_image::{MethodPart, ObjectPart, Offsets};
 use p8_instr::push_text;
 use p8_kinds::Label;
-use p8_map::{FileNames, MethodNames};
+use p8_map::{FileNames, MethodNames, further};
 use p8_tree::Text;
 use p8_words::NoMemory;
 use std::alloc::Global;
 
 /// Where the first object of an image stands: after the image's header.
 const FIRST_BASE: u16 = 16;
-
-/// So many bytes after an address, mod 65,536.
-pub(crate) fn further(place: u16, bytes: u64) -> u16
-    ensures { result ≡ further place bytes }
-{
-    place.wrapping_add((bytes % 65_536) as u16)
-}
 
 /// A name behind a prefix.
 pub(crate) fn named(alloc: Global, prefix: &[u8], name: &[u8]) -> Result<Text, NoMemory>

@@ -1,43 +1,14 @@
 // The names of the variables of an instance.
 ghost use Rattle.std.specs.Prelude.{◌≡◌, OnOk};
-ghost use Rattle.p8_image.specs.Layout.{variable_size};
-ghost use Rattle.p8_map.specs.Map.{after_size as after_variables, sized_bytes as bytes_among};
 ghost use Rattle.p8_legend.specs.ProjectLegends.{and_one, with_sized, with_variables};
 
-use crate::objects::{further, named};
+use crate::objects::named;
 use crate::ranges::{Range, Ranges};
 use p8_image::Variable;
+use p8_map::{after_size, further, sized_bytes};
 use p8_tree::Text;
 use p8_words::NoMemory;
 use std::alloc::Global;
-
-/// The bytes of a variable.
-fn variable_bytes(variable: Variable) -> u64
-    ensures { result ≡ variable_size variable }
-{
-    u64::from(variable.size) * u64::from(variable.count)
-}
-
-/// The bytes of a variable among those of one size.
-fn sized_bytes(size: u8, variable: Variable) -> u64
-    ensures { result ≡ bytes_among size variable }
-{
-    if variable.size == size {
-        variable_bytes(variable)
-    } else {
-        0
-    }
-}
-
-/// The place after the variables of one size.
-fn after_size(size: u8, mut place: u16, variables: &[Variable]) -> u16
-    ensures { result ≡ after_variables size place variables.now }
-{
-    for variable in variables {
-        place = further(place, sized_bytes(size, *variable));
-    }
-    place
-}
 
 /// Puts the variables of one size, which stand one after the other, behind the names so far.
 fn push_sized(

@@ -11,3 +11,4 @@ pub mod CommentLemmas
 pub mod Cuts
 pub mod PieceKinds
 pub mod Files
+mod Marking

@@ -7,5 +7,7 @@ pub mod Table
 pub mod Lexing
 pub mod Pieces
 pub mod Proper
+pub mod Spelling
 -- What only proofs need.
 pub mod Cutting
+pub mod Marks

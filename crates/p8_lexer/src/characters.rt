@@ -1,13 +1,17 @@
 // The characters of a source, in either encoding.
 
-ghost use Rattle.std.specs.Prelude.{◌≡◌, ◌+◌, ◌-◌, ◌*◌, ◌<◌, ◌≤◌, ◌↔◌, [], IsTrue, length, drop, take, slice_get, slice_index};
+ghost use Rattle.std.specs.Prelude.{◌≡◌, ◌+◌, ◌-◌, ◌*◌, ◌^◌, ◌<◌, ◌≤◌, ◌↔◌, [], IsTrue, length, drop, take, slice_get, slice_index};
 ghost use Rattle.p8_lexer.specs.Characters.{is_utf16, ends_in_half, text_of, characters};
+ghost use Rattle.p8_lexer.specs.Spelling.{text_in};
 
 use crate::token::Token;
 use std::marker::Model;
 
 /// What stands for a unit of UTF-16 above 255.
 const WIDE: u8 = b'?';
+
+/// How many characters a file may have.
+const LONGEST: usize = 1_048_576;
 
 /// Characters of a file, each below 256: all of its text, or a part of it.
 ///
@@ -73,6 +77,19 @@ impl<'a> Characters<'a> {
                 bytes,
                 utf16: false,
             }
+        }
+    }
+
+    /// The characters of a file, of what a file may have at most: its first 1,048,576.
+    pub fn of_front(bytes: &'a [u8]) -> Characters<'a>
+        ensures front { result ≡ text_in bytes.now }
+        ensures short { length result ≤ 2 ^ 20 }
+    {
+        let text = Characters::of_file(bytes);
+        if text.len() <= LONGEST {
+            text
+        } else {
+            text.first(LONGEST)
         }
     }
 

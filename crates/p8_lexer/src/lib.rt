@@ -1,5 +1,5 @@
 //! Cutting a Spin source into tokens, and the pieces of a line: what stands in it one after the other, words, names, strings
-//! and whole expressions.
+//! and whole expressions; and how a source spells the names of its tree.
 #![tactic(auto)]
 
 mod characters;
@@ -13,15 +13,18 @@ mod number;
 mod piece;
 mod place;
 mod run;
+mod spelling;
 mod table;
 mod token;
 mod word;
 
 pub use characters::Characters;
 pub use lexer::{lex, one_answer};
-pub use line_piece::Piece;
+pub use line_piece::{Piece, without};
 pub use lookup::{named, one_word, reserved_words, word_of};
 pub use meaning::{Meaning, Sought};
 pub use p8_tree::Place;
+pub use place::{START, behind};
+pub use spelling::Spellings;
 pub use token::{Token, TokenKind, Tokens};
 pub use word::Word;

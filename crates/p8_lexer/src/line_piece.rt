@@ -1,4 +1,6 @@
 // Pieces.
+ghost use Rattle.std.specs.Prelude.{◌≡◌};
+
 use crate::word::Word;
 use p8_tree::{Expr, Place, Text};
 
@@ -13,4 +15,12 @@ pub enum Piece {
     Text(Text, Place),
     /// An expression, with the place of its first token.
     Tree(Expr, Place),
+}
+
+/// Lets go of a value, as of a piece that can't stand where it does, and gives this answer.
+pub fn without<T: Drop, A>(unused: T, answer: A) -> A
+    ensures { result ≡ answer }
+{
+    drop(unused);
+    answer
 }

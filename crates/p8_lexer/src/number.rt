@@ -1,7 +1,9 @@
 // Numbers.
 
-ghost use Rattle.std.specs.Prelude.{◌≡◌, ◌+◌, ◌-◌, ◌*◌, ◌^◌, ◌<◌, ◌≤◌, ◌⊎◌, ◌↔◌, ◌==◌, if◌then◌else◌, false, IsTrue, length, take, drop, slice_index, MatchOption, MatchResult};
-ghost use Rattle.p8_lexer.specs.Lexing.{is_digit, is_in, AllIn, AreDigits, IsFraction, IsExponent, IsFloatTail, mark, base, digit_value, value_behind, IsStuck, NoneIs};
+ghost use Rattle.std.specs.Prelude.{◌≡◌, ◌+◌, ◌-◌, ◌*◌, ◌^◌, ◌<◌, ◌≤◌, ◌⊎◌, ◌↔◌, ◌==◌, if◌then◌else◌, false};
+ghost use Rattle.std.specs.Prelude.{IsTrue, length, take, drop, slice_index, MatchOption, MatchResult};
+ghost use Rattle.p8_lexer.specs.Lexing.{is_digit, is_in, AllIn, AreDigits, IsFraction, IsExponent, IsFloatTail};
+ghost use Rattle.p8_lexer.specs.Lexing.{mark, base, digit_value, value_behind, IsStuck, NoneIs};
 ghost use Rattle.p8_lexer.specs.Cutting.{IsGreatest, IsLongest, IsCut};
 ghost use Rattle.p8_lexer.specs.declared.piece.PieceKind.TheVariants as piece;
 ghost use Rattle.p8_lexer.specs.declared.piece.Radix.TheVariants as radix;

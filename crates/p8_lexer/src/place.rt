@@ -9,12 +9,16 @@ use p8_tree::Place;
 /// Where a text begins.
 pub const START: Place = Place { line: 1, column: 1 };
 
-// The place after a character that stands at a place, after another character.
-fn behind(before: u8, place: Place, c: u8) -> Place
+/// The place after a character that stands at a place, after another character: lines end at LF, CR LF or CR, and a tab goes to the next column
+/// of the form 8k + 1.
+pub fn behind(before: u8, place: Place, c: u8) -> Place
     requires line { place.line < 2 ^ 31 }
     requires counted { 1 ≤ place.column }
     requires column { place.column < 2 ^ 31 }
-    ensures { result ≡ behind before place c }
+    ensures place { result ≡ behind before place c }
+    ensures line { result.line ≤ place.line + 1 }
+    ensures counted { 1 ≤ result.column }
+    ensures column { result.column ≤ place.column + 8 }
 {
     let Place { line, column } = place;
     match c {

@@ -15,7 +15,7 @@ use Rattle.p8_image.specs.Layout.{header_by, image_of}
 use Rattle.p8_image.specs.Loading.{ImageValue}
 use Rattle.p8_image.specs.Projects.{FitsHub}
 use Rattle.p8_map.specs.declared.names.FileNames.{FileNames}
-use Rattle.p8_explain.specs.Spelling.{text_in}
+use Rattle.p8_lexer.specs.Spelling.{text_in}
 use Rattle.p8_map.specs.Map.{map_of}
 use Rattle.p8_map.specs.Names.{file_names}
 use Rattle.p8_build.specs.declared.building.Accepted.{Accepted}

@@ -5,7 +5,8 @@ use Rattle.p8_image.specs.declared.parts.ObjectPart.{ObjectPart}
 use Rattle.p8_image.specs.Layout.{own_variables}
 use Rattle.p8_map.specs.declared.instances.Instance.{Instance}
 use Rattle.p8_map.specs.declared.names.FileNames.{FileNames}
-use Rattle.p8_map.specs.Map.{all_inside, further, instances_within, own_instance, with_inside}
+use Rattle.p8_image.specs.Listing.{further}
+use Rattle.p8_map.specs.Map.{all_inside, instances_within, own_instance, with_inside}
 
 one-deeper : (files : List FileNames) (objects : List ObjectPart) (sizes : List ℕ) (depth : ℕ) (prefix : List ℕ) (f place : ℕ) → 1 ≤ depth
     → instances_within files objects sizes depth prefix f place

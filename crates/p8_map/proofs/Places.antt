@@ -2,7 +2,8 @@
 use Rattle.std.proofs.Common.{◌≡◌, ◌∙◌, ap, ap₂, sym, refl, arith, ℕ, zero, suc, ◌+◌, ◌%◌, List, [], ◌∷◌, length, map, replicate, slice_index, add-one}
 use Rattle.p8_image.specs.declared.parts.ObjectPart.{ObjectPart}
 use Rattle.p8_image.specs.Layout.{total, own_variables, variables_within, whole_longs}
-use Rattle.p8_map.specs.Map.{further, low}
+use Rattle.p8_image.specs.Listing.{further}
+use Rattle.p8_map.specs.Map.{low}
 
 pub further_twice : (place a b : ℕ) → further (further place a) b ≡ further place (a + b)
 further_twice place a b = omega arith

@@ -7,7 +7,7 @@ use Rattle.p8_kinds.specs.FileSettings.{file_setting}
 use Rattle.p8_names.specs.Children.{AreChildren}
 use Rattle.p8_dat.specs.declared.assembling.Dat.{Dat}
 use Rattle.p8_map.specs.declared.names.FileNames.{FileNames}
-use Rattle.p8_explain.specs.Spelling.{text_in}
+use Rattle.p8_lexer.specs.Spelling.{text_in}
 use Rattle.p8_map.specs.Names.{file_names}
 use Rattle.p8_build.specs.declared.building.Accepted.{Accepted}
 use Rattle.p8_build.specs.Phases.{IsAccepted}

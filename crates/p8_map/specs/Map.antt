@@ -9,16 +9,13 @@ use Rattle.p8_image.specs.declared.parts.Variable.{Variable}
 use Rattle.p8_image.specs.declared.parts.MethodPart.{MethodPart}
 use Rattle.p8_image.specs.declared.parts.ObjectPart.{ObjectPart}
 use Rattle.p8_image.specs.Headers.{word_at}
+use Rattle.p8_image.specs.Listing.{further}
 use Rattle.p8_image.specs.Layout.{variable_size, own_variables, codes_offset, text_size, size_of, variables_of}
 use Rattle.p8_instr.specs.Numerals.{hex}
 use Rattle.p8_map.specs.declared.instances.Instance.{Instance}
 use Rattle.p8_map.specs.declared.names.LocalName.{LocalName}
 use Rattle.p8_map.specs.declared.names.MethodNames.{MethodNames}
 use Rattle.p8_map.specs.declared.names.FileNames.{FileNames}
-
--- so many bytes after an address, which has 16 bits
-abbrev pub further : ℕ → ℕ → ℕ
-further place bytes = (place + bytes) % 65536
 
 -- ---- the header, as an image has it in its first 16 bytes
 

@@ -11,7 +11,7 @@ use Rattle.p8_kinds.specs.Meanings.{Setting}
 use Rattle.p8_constants.specs.FileItems.{Item, variable, line, items}
 use Rattle.p8_constants.specs.Names.{label_name}
 use Rattle.p8_constants.specs.Rules.{count_in}
-use Rattle.p8_explain.specs.Spelling.{spelled}
+use Rattle.p8_lexer.specs.Spelling.{spelled}
 use Rattle.p8_names.specs.Kinds.{numbered, objects}
 use Rattle.p8_kinds.specs.declared.name_kinds.Label.{Label}
 use Rattle.p8_map.specs.declared.names.LocalName.{LocalName}

@@ -1,7 +1,8 @@
 // The instances of objects.
 ghost use Rattle.std.specs.Prelude.{◌≡◌, ◌++◌, codes, slice_get, slice_index, Some, None, MatchOption, OnOk, IfOk};
 ghost use Rattle.p8_image.specs.Layout.{own_variables as own_variables_of};
-ghost use Rattle.p8_map.specs.Map.{all_inside, further as further_by, instances_from, instances_within, one_inside, own_instance};
+ghost use Rattle.p8_image.specs.Listing.{further as further_by};
+ghost use Rattle.p8_map.specs.Map.{all_inside, instances_from, instances_within, one_inside, own_instance};
 
 use crate::names::FileNames;
 use crate::plan::{number_at, own_variables, sizes};

@@ -6,8 +6,8 @@ ghost use Rattle.p8_map.specs.Names.{label_place, own_place, spelled_label, spel
 
 use crate::spelled::{behind, first, spelled_by};
 use p8_constants::Item;
-use p8_explain::Spellings;
 use p8_kinds::Label;
+use p8_lexer::Spellings;
 use p8_tree::{List, Place, Text};
 use p8_words::NoMemory;
 use std::alloc::Global;

@@ -6,15 +6,16 @@ ghost use Rattle.p8_tree.specs.Views.{declared_of, method_of, named_source_of, t
 ghost use Rattle.p8_kinds.specs.ConstantEntries.{setting_of};
 ghost use Rattle.p8_constants.specs.Standing.{item_of, items_of as item_trees};
 ghost use Rattle.p8_names.specs.Kinds.{object_in, objects};
-ghost use Rattle.p8_map.specs.Names.{element_name, element_names, file_names, instance_names, local_name, method_names, names_by_count, spelled_all, spelled_by, variable_name};
+ghost use Rattle.p8_map.specs.Names.{element_name, element_names, file_names, instance_names, local_name, method_names};
+ghost use Rattle.p8_map.specs.Names.{names_by_count, spelled_all, spelled_by, variable_name};
 
 use crate::labels::{label_places, labels_of};
 use crate::spelled::{behind, first, spelled_by};
 use itoa::Buffer;
 use p8_constants::{Item, count_value, items_of};
-use p8_explain::Spellings;
 use p8_instr::push_text;
 use p8_kinds::{Consts, Label};
+use p8_lexer::Spellings;
 use p8_names::numbered;
 use p8_tree::{Expr, List, Method, Place, ProjectFile, Text, VarItem};
 use p8_words::NoMemory;

@@ -2,7 +2,9 @@
 ghost use Rattle.std.specs.Prelude.{◌≡◌, ◌++◌, ◌+◌, ◌*◌, length, OnOk};
 ghost use Rattle.std.specs.List.{flat_map};
 ghost use Rattle.p8_image.specs.Layout.{codes_offset, text_size};
-ghost use Rattle.p8_map.specs.Map.{after_codes as after_codes_from, child_line, child_lines, file_name as name_of_file, further as further_by, label_line, object_line, object_lines, objects_lines, text_line, text_lines};
+ghost use Rattle.p8_image.specs.Listing.{further as further_by};
+ghost use Rattle.p8_map.specs.Map.{after_codes as after_codes_from, child_line, child_lines, file_name as name_of_file};
+ghost use Rattle.p8_map.specs.Map.{label_line, object_line, object_lines, objects_lines, text_line, text_lines};
 
 use crate::methods::push_methods;
 use crate::names::FileNames;

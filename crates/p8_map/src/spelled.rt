@@ -2,7 +2,7 @@
 ghost use Rattle.std.specs.Prelude.{◌≡◌, drop, slice_get, IfOk};
 ghost use Rattle.p8_map.specs.Names.{spelled_by};
 
-use p8_explain::Spellings;
+use p8_lexer::Spellings;
 use p8_tree::{Place, Text};
 use p8_words::NoMemory;
 use std::alloc::Global;

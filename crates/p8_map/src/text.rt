@@ -2,7 +2,8 @@
 ghost use Rattle.std.specs.Prelude.{◌≡◌, ◌++◌, codes, OnOk};
 ghost use Rattle.std.specs.Fmt.{decimal};
 ghost use Rattle.p8_instr.specs.Numerals.{hex};
-ghost use Rattle.p8_map.specs.Map.{further as further_by, size_word as word_of_size};
+ghost use Rattle.p8_image.specs.Listing.{further as further_by};
+ghost use Rattle.p8_map.specs.Map.{size_word as word_of_size};
 
 use itoa::Buffer;
 use p8_instr::{push_text, word_digits};

@@ -56,7 +56,7 @@ fn push_sized(
 }
 
 /// The bytes of a variable among those of one size.
-fn sized_bytes(size: u8, variable: Variable) -> u64
+pub fn sized_bytes(size: u8, variable: Variable) -> u64
     ensures { result ≡ bytes_among size variable }
 {
     if variable.size == size {
@@ -67,7 +67,7 @@ fn sized_bytes(size: u8, variable: Variable) -> u64
 }
 
 /// The place after the variables of one size.
-fn after_size(size: u8, mut place: u16, variables: &[Variable]) -> u16
+pub fn after_size(size: u8, mut place: u16, variables: &[Variable]) -> u16
     ensures { result ≡ after_variables size place variables.now }
 {
     for variable in variables {

@@ -3,7 +3,8 @@
 ghost use Rattle.std.specs.Prelude.{◌≡◌, ◌++◌, OnOk, map, option_map};
 ghost use Rattle.p8_tree.specs.Views.{tree_of, constant_of, declared_of, child_of, method_of};
 ghost use Rattle.p8_print.specs.Spelled.{text_of_words};
-ghost use Rattle.p8_print.specs.DeclarationWords.{words_of_setting, words_of_constant, words_of_name_and_count, words_of_variable, words_of_child, more_names, words_of_parameters, words_of_result, more_locals, words_of_locals, words_of_head};
+ghost use Rattle.p8_print.specs.DeclarationWords.{words_of_setting, words_of_constant, words_of_name_and_count, words_of_variable, words_of_child};
+ghost use Rattle.p8_print.specs.DeclarationWords.{more_names, words_of_parameters, words_of_result, more_locals, words_of_locals, words_of_head};
 
 use crate::expressions::{write_count, write_enclosed};
 use crate::script::Script;

@@ -6,7 +6,9 @@ ghost use Rattle.p8_tree.specs.Expressions.{index};
 ghost use Rattle.p8_tree.specs.Views.{tree_of, variable_of, call_of, trees_of, items_of, item_of};
 ghost use Rattle.p8_tree.specs.Bridges.{boxed_index};
 ghost use Rattle.p8_print.specs.Spelled.{reserved, text_of_words};
-ghost use Rattle.p8_print.specs.Wording.{is_number, operand_with, change_with, object_with, words_of_trap, words_of_assignment, words_of, words_of_form, words_of_variable, words_of_index, words_of_bits, words_of_item, words_of_arguments, words_of_choices, wrapped, words_of_value, words_of_count};
+ghost use Rattle.p8_print.specs.Wording.{is_number, operand_with, change_with, object_with, words_of_trap, words_of_assignment};
+ghost use Rattle.p8_print.specs.Wording.{words_of, words_of_form, words_of_variable, words_of_index, words_of_bits, words_of_item};
+ghost use Rattle.p8_print.specs.Wording.{words_of_arguments, words_of_choices, wrapped, words_of_value, words_of_count};
 ghost use Rattle.p8_print.specs.Tables.{built_word};
 ghost use Rattle.p8_print.specs.Writing.{boxed_bits, word_before};
 

@@ -3,7 +3,8 @@
 ghost use Rattle.std.specs.Prelude.{◌≡◌, ◌++◌, OnOk};
 ghost use Rattle.p8_tree.specs.Views.{tree_of, instruction_of};
 ghost use Rattle.p8_print.specs.Spelled.{text_of_words};
-ghost use Rattle.p8_print.specs.DataWords.{words_of_condition, instruction_word, is_call, source_with, words_of_operands, words_of_effect, words_of_effects, words_of_instruction};
+ghost use Rattle.p8_print.specs.DataWords.{words_of_condition, instruction_word, is_call, source_with, words_of_operands};
+ghost use Rattle.p8_print.specs.DataWords.{words_of_effect, words_of_effects, words_of_instruction};
 
 use crate::expressions::{write_enclosed, write_expr};
 use crate::script::Script;

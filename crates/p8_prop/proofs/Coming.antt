@@ -1,6 +1,5 @@
 -- What a command comes to is what comes of it.
 use Rattle.std.proofs.Common.{◌≡◌, ◌∙◌, sym, ap, subst, refl, Bool, false, ℕ, List, [], ◌∷◌, ◌++◌, length, ◌≤◌, Option, Some, None}
-use Rattle.std.specs.Borrow.{Bor}
 use Rattle.p8_access.specs.declared.memory.Boot.{Boot}
 use Rattle.p8_access.specs.declared.order.Turn.{Turn}
 use Rattle.p8_access.specs.Worlds.{Line, World}
@@ -28,13 +27,11 @@ use Rattle.p8_inputs.specs.declared.program.Format.{Format}
 use Rattle.p8_inputs.specs.Asks.{most_sent, Given, bytes, viewed, lines, Give, history, script_ask, check_asks, bytes_in, lines_in, later_bytes_in}
 use Rattle.p8_inputs.specs.Inputs.{IsProgram, IsScriptFor}
 use Rattle.p8_inputs.specs.Legends.{HasName, IsLegendFrom}
-use Rattle.p8_inputs.specs.Naming as inputs
 use Rattle.p8_inputs.specs.Programs.{format_for, world_of, memory_by, first_by, boot_by, format_of, other_file}
 use Rattle.p8_inputs.specs.Runs.{Begins, HasProperTrees}
 use Rattle.p8_inputs.specs.Sources.{IsImageFrom, IsListingFrom, IsMapFrom}
 use Rattle.p8_commands.specs.declared.kind.ImageKind.{ImageKind}
 use Rattle.p8_commands.specs.Commands.{Command, Dump, Running, BuildSource, ListSource, MapSource, ExplainFile, Check, TypeFile, Convert, Make}
-use Rattle.p8_commands.specs.Naming as commands
 use Rattle.p8_prop.specs.declared.work.Answer.{Answer}
 use Rattle.p8_prop.specs.declared.work.Answer.TheVariants.{Text, Bad}
 use Rattle.p8_prop.specs.declared.work.Work.{Work}
@@ -43,11 +40,6 @@ use Rattle.p8_prop.specs.declared.view.Viewing.{Viewing}
 use Rattle.p8_prop.specs.Headline.{IsToldBySource, IsHistoryOf, IsBuild}
 use Rattle.p8_prop.specs.Texts.{accepted_line, dumped_range, name_in, HasVerdict, IsViewed}
 use Rattle.p8_prop.specs.Works.{IsAnswerTo, IsCheckedBy, IsRunWork, IsText, IsTextOfRun, IsTextOfView, IsViewWork, IsWork}
-
--- a borrowed name is the same, wherever it is read
-pub same-name : (name : Option (Bor (List ℕ))) → inputs.name_of name ≡ commands.name_of name
-same-name None = refl
-same-name (Some name) = refl
 
 -- an image and a listing are what is given
 pub built : (files : Files) (short : Bool) (file text : List ℕ) → IsImageFrom files short file text → IsBuild files short file text → IsText files (BuildSource short file) text

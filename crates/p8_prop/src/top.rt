@@ -34,9 +34,9 @@ use std::thread::Threads;
 /// first: the files that its objects mention are read from the shelf too. `raw`, and each other command with `--raw`, takes it for hub memory, with cog
 /// 0 started on it as PASM. `words` are those after the program's name, and are read by the rules of `clap`; `--help` and `-h` are no command.
 ///
-/// The turns of `run`, `wave`, `plot` and `make` are made by a crew of eight threads, which `starter` gives their work; where one of them isn't started, by this
-/// thread. `--alone` asks for this thread alone, which also makes the turns of every other command. The text is the same in each case. With a crew
-/// this call may wait for its threads, and what it promises it promises where it returns.
+/// The turns of `run`, `wave`, `plot` and `make` are made by a crew of eight threads, which `starter` gives their work; where one of them isn't
+/// started, by this thread. `--alone` asks for this thread alone, which also makes the turns of every other command. The text is the same in each
+/// case. With a crew this call may wait for its threads, and what it promises it promises where it returns.
 ///
 /// The words are looked at first, then the file with its project, then the pin script, then the history file; then the run is made, and then its
 /// text is written. Each of these files is read once, in this order, and none after one that stops the command, but that `explain` in the end reads

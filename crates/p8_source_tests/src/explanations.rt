@@ -1,6 +1,7 @@
 // Whole explanations, of sources with their refusals.
 use p8_build::Size;
-use p8_explain::{Spellings, absence, entry, explanation};
+use p8_explain::{absence, entry, explanation};
+use p8_lexer::Spellings;
 use p8_stmt::MethodSize;
 use p8_tree::{Fault, Place, Text};
 use p8_words::NoMemory;

@@ -22,8 +22,8 @@ Tail byte 1
 PUB Start(pin) : Ok
 ";
 
-/// Names stand as their file spells them where it defines them. Each object has 4 bytes, 4 for each method and for each object inside, its DAT in whole longs, and its code,
-/// which is a single RETURN.
+/// Names stand as their file spells them where it defines them. Each object has 4 bytes, 4 for each method and for each object inside, its DAT in
+/// whole longs, and its code, which is a single RETURN.
 const MAP: &str = "0000 header clkfreq 00B71B00
 0004 header clkmode 00
 0005 header checksum 3A

@@ -6,7 +6,7 @@ ghost use Rattle.p8_statements.specs.Rows.{sign, word_in, phrase, is_empty, is_e
 ghost use Rattle.p8_statements.specs.Views.{rest_of, reading, phrase_of};
 
 use crate::role::{Role, role_of};
-use p8_lexer::{Piece, Word};
+use p8_lexer::{Piece, Word, without};
 use p8_tree::{Expr, Place};
 use std::vec::IntoIter;
 
@@ -132,12 +132,4 @@ impl Row {
             None
         }
     }
-}
-
-// Lets go of a value, and gives this answer.
-pub fn without<T: Drop, A>(unused: T, answer: A) -> A
-    ensures { result ≡ answer }
-{
-    drop(unused);
-    answer
 }

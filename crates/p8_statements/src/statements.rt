@@ -7,13 +7,14 @@ ghost use Rattle.p8_columns.specs.Views.{kind_of};
 ghost use Rattle.p8_columns.specs.Lines as lines;
 ghost use Rattle.p8_lexer.specs.Pieces.{pieces_of};
 ghost use Rattle.p8_statements.specs.Rows.{◌▶◌, word_in, phrase, is_empty, ended, ending, value_in};
-ghost use Rattle.p8_statements.specs.Statements.{maybe_value, counted, counting, counter, course_by, course_before, course, tests_after, line, is_last_colon, other_line, is_item, statement, kind_of_row};
+ghost use Rattle.p8_statements.specs.Statements.{maybe_value, counted, counting, counter, course_by, course_before, course, tests_after};
+ghost use Rattle.p8_statements.specs.Statements.{line, is_last_colon, other_line, is_item, statement, kind_of_row};
 ghost use Rattle.p8_statements.specs.Views.{rest_of, with_test};
 
 use crate::role::{Role, role_of};
-use crate::row::{Phrase, Row, without};
+use crate::row::{Phrase, Row};
 use p8_columns::{Action, LineKind};
-use p8_lexer::Piece;
+use p8_lexer::{Piece, without};
 use p8_tree::{Expr, ExprKind, Item, List, Loop, Place, Target, Text};
 use p8_words::NoMemory;
 use std::alloc::{AllocError, Global};

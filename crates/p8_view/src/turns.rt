@@ -7,7 +7,8 @@ ghost use Rattle.p8_access.specs.Hub.{cog_state, origin_of};
 ghost use Rattle.p8_ledger.specs.Turns.{AreProper};
 ghost use Rattle.p8_view.specs.Following.{AreCogs};
 ghost use Rattle.p8_view.specs.Drives.{drives_of};
-ghost use Rattle.p8_view.specs.View.{counter_of, is_asked, is_loaded as is_read_of_load, is_of, is_shown, lines_of, loading, rate, shown_line, turn_line, what_text, when_text};
+ghost use Rattle.p8_view.specs.View.{counter_of, is_asked, is_loaded as is_read_of_load, is_of, is_shown, lines_of};
+ghost use Rattle.p8_view.specs.View.{loading, rate, shown_line, turn_line, what_text, when_text};
 
 use crate::accesses::push_access;
 use crate::cogs::Cogs;

@@ -2,7 +2,7 @@ use Rattle.std.proofs.Common.{subst, inl, inr, ◌∷◌}
 use Rattle.p8_io.specs.Shelves.{Files}
 use Rattle.p8_inputs.specs.Asks.{program, script_ask, bytes, Stops}
 use Rattle.p8_inputs.specs.Orders.{AreAllRead, AreReadSoFar}
-use Rattle.p8_inputs.specs.Naming.{name_of}
+use Rattle.p8_commands.specs.Naming.{name_of}
 use Rattle.p8_inputs.proofs.Stopping.{handed-on, script-stops}
 use Rattle.p8_inputs.proofs.inputs.read_inputs.Goals as goal
 

@@ -1,7 +1,7 @@
 use Rattle.std.proofs.Common.{subst, ◌∷◌}
 use Rattle.p8_io.specs.Shelves.{Files}
 use Rattle.p8_inputs.specs.Asks.{StopsAtFile, Stops, run_asks, check_asks, history, bytes}
-use Rattle.p8_inputs.specs.Naming.{name_of}
+use Rattle.p8_commands.specs.Naming.{name_of}
 use Rattle.p8_inputs.proofs.Logging.{some-more_read, stopped-before}
 use Rattle.p8_inputs.proofs.Stopping.{handed-on, history-stops, script-given}
 use Rattle.p8_inputs.proofs.inputs.read_recorded.Goals as goal

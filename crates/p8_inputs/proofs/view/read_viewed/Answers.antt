@@ -2,7 +2,7 @@ use Rattle.std.proofs.Common.{subst, inr, ◌∷◌}
 use Rattle.p8_io.specs.Shelves.{Files}
 use Rattle.p8_inputs.specs.Asks.{viewing, viewed, script_ask, Stops}
 use Rattle.p8_inputs.specs.Orders.{AreReadSoFar}
-use Rattle.p8_inputs.specs.Naming.{name_of}
+use Rattle.p8_commands.specs.Naming.{name_of}
 use Rattle.p8_inputs.proofs.Stopping.{handed-on, script-stops}
 use Rattle.p8_inputs.proofs.view.read_viewed.Goals as goal
 

@@ -1,5 +1,5 @@
 use Rattle.p8_inputs.specs.Asks.{viewing, StopsAt}
-use Rattle.p8_inputs.specs.Naming.{name_of}
+use Rattle.p8_commands.specs.Naming.{name_of}
 use Rattle.p8_inputs.proofs.Stopping.{handed-on}
 use Rattle.p8_inputs.proofs.Viewing.{seek-stops}
 use Rattle.p8_inputs.proofs.view.told_with.Goals as goal

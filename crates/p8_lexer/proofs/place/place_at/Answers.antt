@@ -17,6 +17,6 @@ behind-place-requires-clause-column c =
 pub loop-i-preserved : goal.loop-i-preserved
 loop-i-preserved c =
     record {
-      at = place_more c.args.text.now c.loop-i.i c.loop-i.before c.loop-i.place _ (omega arith) c.loop-i.invariant.behind c.loop-i.invariant.at (c.behind-place.ensures ∙ ap (behind c.loop-i.before c.loop-i.place) c.at-c.ensures);
+      at = place_more c.args.text.now c.loop-i.i c.loop-i.before c.loop-i.place _ (omega arith) c.loop-i.invariant.behind c.loop-i.invariant.at (c.behind-place.ensures.place ∙ ap (behind c.loop-i.before c.loop-i.place) c.at-c.ensures);
       behind = before_more c.args.text.now c.loop-i.i c.at-c.result c.at-c.ensures;
     }

@@ -1,16 +1,15 @@
-use Rattle.std.proofs.Common.{◌≡◌, ◌∙◌, subst, List, Option, ℕ}
+use Rattle.std.proofs.Common.{subst, List, Option, ℕ}
 use Rattle.p8_commands.specs.Naming.{name_of}
 use Rattle.p8_commands.specs.Seen.{dump_if_any, running}
 use Rattle.p8_inputs.specs.Asks.{Stops, view_asks}
 use Rattle.p8_inputs.specs.Legends.{HasName, IsLegendFrom}
-use Rattle.p8_inputs.specs.Naming as inputs
 use Rattle.p8_inputs.specs.Orders.{AreAllRead, AreReadSoFar}
 use Rattle.p8_inputs.specs.Programs.{format_for}
 use Rattle.p8_inputs.specs.Runs.{Begins}
 use Rattle.p8_inputs.specs.declared.program.Format.{Format}
 use Rattle.p8_inputs.proofs.Stopping.{handed-on}
-use Rattle.p8_prop.specs.Texts.{name_in, IsViewed}
-use Rattle.p8_prop.proofs.Coming.{begun, same-name, view-told}
+use Rattle.p8_prop.specs.Texts.{IsViewed}
+use Rattle.p8_prop.proofs.Coming.{begun, view-told}
 use Rattle.p8_prop.proofs.view.view_work.Goals as goal
 
 pub returns-clause-work : goal.returns-clause-work
@@ -20,11 +19,9 @@ returns-clause-work g c =
     let format = format_for c.args.raw file in
     let read = c.in_ok-read.read in
     let e = c.in_ok-read.ensures in
-    let name : inputs.name_of c.dumped_name.result ≡ name_in (dump_if_any c.args.dump) = same-name c.dumped_name.result ∙ c.dumped_name.ensures in
-    let begins = subst (λ (script : Option (List ℕ)). Begins files format file script read.inputs) (same-name c.args.run.script)
-    (subst (λ (f : Format). Begins files f file (inputs.name_of c.args.run.script) read.inputs) c.chosen.ensures e.begins) in
+    let begins = subst (λ (f : Format). Begins files f file (name_of c.args.run.script) read.inputs) c.chosen.ensures e.begins in
     let from = subst (λ (f : Format). IsLegendFrom files f file read.legend) c.chosen.ensures e.legend in
-    let named = subst (HasName read.legend) name e.named in
+    let named = subst (HasName read.legend) c.dumped_name.ensures e.named in
     let told = view-told c.runs_are_told.ensures files format (running c.args.run) read.inputs begins c.args.options (dump_if_any c.args.dump) read.legend from named in (
       record { clocks = c.requires.within.0; turns = c.requires.within.1; first = e.proper; dump = c.dumped_range-dump.ensures.in_ram },
       λ text is. told text (subst (λ (range : Option (ℕ × ℕ)). IsViewed (begun c.runs_are_told.ensures files format (running c.args.run) read.inputs begins) c.args.options read.legend range text) c.dumped_range-dump.ensures.range is),
@@ -36,7 +33,5 @@ returns-clause-so_far g c =
     let file = c.args.run.file.now in
     let before = g.S.Shelf.log c.args.shelf.now in
     let now = g.S.Shelf.log c.read_viewed.new.shelf in
-    let name : inputs.name_of c.dumped_name.result ≡ name_in (dump_if_any c.args.dump) = same-name c.dumped_name.result ∙ c.dumped_name.ensures in
-    subst (λ (text : Option (List ℕ)). AreReadSoFar files (view_asks (format_for c.args.raw file) file text (name_of c.args.run.script)) before now) name
-    (subst (λ (script : Option (List ℕ)). AreReadSoFar files (view_asks (format_for c.args.raw file) file (inputs.name_of c.dumped_name.result) script) before now) (same-name c.args.run.script)
-    (subst (λ (f : Format). AreReadSoFar files (view_asks f file (inputs.name_of c.dumped_name.result) (inputs.name_of c.args.run.script)) before now) c.chosen.ensures c.read_viewed.ensures.so_far))
+    subst (λ (text : Option (List ℕ)). AreReadSoFar files (view_asks (format_for c.args.raw file) file text (name_of c.args.run.script)) before now) c.dumped_name.ensures
+    (subst (λ (f : Format). AreReadSoFar files (view_asks f file (name_of c.dumped_name.result) (name_of c.args.run.script)) before now) c.chosen.ensures c.read_viewed.ensures.so_far)

@@ -1,5 +1,5 @@
 -- Where the search for a word may begin.
-use Rattle.std.proofs.Common.{◌≡◌, ◌∙◌, ℕ, zero, suc, ◌+◌, ◌-◌, ◌*◌, ◌/◌, ◌%◌, ◌<◌, ◌≤◌, ◌⊎◌, inl, inr, Bool, true, false, List, [], ◌∷◌, ◌++◌, length, drop, get_or, slice_get, Some, refl, sym, ap, subst, arith}
+use Rattle.std.proofs.Common.{◌≡◌, ◌∙◌, ℕ, zero, suc, ◌+◌, ◌-◌, ◌*◌, ◌/◌, ◌<◌, ◌≤◌, ◌⊎◌, inl, inr, Bool, true, false, List, [], ◌∷◌, ◌++◌, length, drop, get_or, slice_get, Some, refl, sym, ap, subst, arith}
 use Rattle.std.specs.Prelude.{◌==◌, ◌&&◌, if◌then◌else◌}
 use Rattle.std.proofs.lemmas.Bool.Decides.{nat_tests}
 use Rattle.std.proofs.lemmas.List.{drop_more}
@@ -8,9 +8,9 @@ use Rattle.p8_tree.specs.declared.places.Place.{Place}
 use Rattle.p8_tree.specs.Places.{PlaceBefore}
 use Rattle.p8_lexer.specs.Lexing.{is_letter}
 use Rattle.p8_lexer.specs.Places.{start, behind}
-use Rattle.p8_explain.specs.declared.spelling.Mark.{Mark}
-use Rattle.p8_explain.specs.Marks.{AreMarks, IsMark, LeadsTo}
-use Rattle.p8_explain.specs.Spelling.{begins_at, word_at}
+use Rattle.p8_lexer.specs.declared.spelling.Mark.{Mark}
+use Rattle.p8_lexer.specs.Marks.{AreMarks, IsMark, LeadsTo}
+use Rattle.p8_lexer.specs.Spelling.{begins_at, word_at}
 
 -- the mark of this number
 pub mark-at : (text : List ℕ) (marks : List Mark) → AreMarks text marks → (i : ℕ) (m : Mark) → slice_get marks i ≡ Some m → IsMark text m

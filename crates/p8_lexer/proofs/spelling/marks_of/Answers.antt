@@ -1,9 +1,9 @@
-use Rattle.std.proofs.Common.{◌≡◌, ◌%◌, List, refl, sym, subst, arith}
+use Rattle.std.proofs.Common.{◌%◌, List, refl, sym, subst, arith}
 use Rattle.std.specs.Prelude.{◌==◌}
-use Rattle.p8_explain.specs.declared.spelling.Mark.{Mark}
-use Rattle.p8_explain.specs.Marks.{AreMarks}
-use Rattle.p8_explain.proofs.Marking.{first-mark, one-more}
-use Rattle.p8_explain.proofs.spelling.marks_of.Goals as goal
+use Rattle.p8_lexer.specs.declared.spelling.Mark.{Mark}
+use Rattle.p8_lexer.specs.Marks.{AreMarks}
+use Rattle.p8_lexer.proofs.Marking.{first-mark, one-more}
+use Rattle.p8_lexer.proofs.spelling.marks_of.Goals as goal
 
 pub loop-at-init : goal.loop-at-init
 loop-at-init c = record {

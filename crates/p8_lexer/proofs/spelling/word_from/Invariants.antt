@@ -1,6 +1,6 @@
 use Rattle.std.proofs.Common.{◌≡◌, ◌+◌, ◌*◌, ◌≤◌, drop}
-use Rattle.p8_explain.specs.Spelling.{word_at}
-use Rattle.p8_explain.proofs.spelling.word_from.Given as goal
+use Rattle.p8_lexer.specs.Spelling.{word_at}
+use Rattle.p8_lexer.proofs.spelling.word_from.Given as goal
 
 abbrev pub invariant-loop-i : goal.invariant-loop-i
 invariant-loop-i l = record {

@@ -1,6 +1,6 @@
 use Rattle.std.proofs.Common.{◌≡◌}
-use Rattle.p8_explain.specs.Marks.{AreMarks, IsMark}
-use Rattle.p8_explain.proofs.spelling.marks_of.Given as goal
+use Rattle.p8_lexer.specs.Marks.{AreMarks, IsMark}
+use Rattle.p8_lexer.proofs.spelling.marks_of.Given as goal
 
 abbrev pub invariant-loop-at : goal.invariant-loop-at
 invariant-loop-at l = record {

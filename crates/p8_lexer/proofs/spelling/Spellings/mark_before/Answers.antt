@@ -1,6 +1,5 @@
-use Rattle.std.proofs.Common.{arith}
-use Rattle.p8_explain.proofs.Marking.{first-leads}
-use Rattle.p8_explain.proofs.spelling.Spellings.mark_before.Goals as goal
+use Rattle.p8_lexer.proofs.Marking.{first-leads}
+use Rattle.p8_lexer.proofs.spelling.Spellings.mark_before.Goals as goal
 
 pub returns-then-is_before-clause-lies : goal.returns-then-is_before-clause-lies
 returns-then-is_before-clause-lies c = c.mark_at-mark.ensures.0

@@ -4,8 +4,8 @@ use Rattle.std.proofs.Props.{props}
 use Rattle.p8_tree.specs.declared.places.Place.{Place}
 use Rattle.p8_tree.specs.Places.{PlaceBefore}
 use Rattle.p8_lexer.specs.Places.{start}
-use Rattle.p8_explain.specs.declared.spelling.Mark.{Mark}
-use Rattle.p8_explain.specs.Spelling.{word_at}
+use Rattle.p8_lexer.specs.declared.spelling.Mark.{Mark}
+use Rattle.p8_lexer.specs.Spelling.{word_at}
 
 -- a mark lies within a text, and its place isn't too far
 abbrev pub LiesIn : (text : List ℕ) → Mark → Type 0

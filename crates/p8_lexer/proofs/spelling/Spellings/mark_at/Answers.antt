@@ -1,5 +1,5 @@
-use Rattle.p8_explain.proofs.Marking.{mark-in, first-mark}
-use Rattle.p8_explain.proofs.spelling.Spellings.mark_at.Goals as goal
+use Rattle.p8_lexer.proofs.Marking.{mark-in, first-mark}
+use Rattle.p8_lexer.proofs.spelling.Spellings.mark_at.Goals as goal
 
 pub returns-in-Some : goal.returns-in-Some
 returns-in-Some c =

@@ -1,9 +1,9 @@
 use Rattle.std.proofs.Common.{◌+◌, sym, subst, arith}
 use Rattle.p8_tree.specs.declared.places.Place.{Place}
 use Rattle.p8_tree.specs.Places.{PlaceBefore}
-use Rattle.p8_explain.specs.Marks.{LeadsTo}
-use Rattle.p8_explain.proofs.Marking.{leads-on}
-use Rattle.p8_explain.proofs.spelling.next_mark.Goals as goal
+use Rattle.p8_lexer.specs.Marks.{LeadsTo}
+use Rattle.p8_lexer.proofs.Marking.{leads-on}
+use Rattle.p8_lexer.proofs.spelling.next_mark.Goals as goal
 
 pub behind-requires-clause-line : goal.behind-requires-clause-line
 behind-requires-clause-line c = let far = c.requires.mark.0.1 in omega (arith, far)

@@ -1,11 +1,11 @@
 // How a source spells its names.
 ghost use Rattle.std.specs.Prelude.{◌≡◌, ◌+◌, ◌%◌, ◌^◌, ◌<◌, ◌≤◌, ◌==◌, ◌∷◌, ◌++◌, [], take, drop, length, IfOk, OnOk, if◌then◌else◌};
-ghost use Rattle.p8_explain.specs.Marks.{AreMarks, is_prop-AreMarks, IsMark, LeadsTo, LiesIn};
-ghost use Rattle.p8_explain.specs.Spelling.{begins_at, spelled, text_in, word_at};
+ghost use Rattle.p8_lexer.specs.Marks.{AreMarks, is_prop-AreMarks, IsMark, LeadsTo, LiesIn};
+ghost use Rattle.p8_lexer.specs.Spelling.{begins_at, spelled, text_in, word_at};
 
-use crate::lines::{START, behind, front};
-use crate::texts::push_text;
-use p8_lexer::Characters;
+use crate::characters::Characters;
+use crate::place::{START, behind};
+use crate::run::is_letter;
 use p8_tree::{Place, Text};
 use p8_words::NoMemory;
 use std::alloc::Global;
@@ -54,7 +54,7 @@ impl<'a> Spellings<'a> {
     pub fn of(alloc: Global, bytes: &'a [u8]) -> Result<Spellings<'a>, NoMemory>
         ensures { IfOk result (λ spellings. spellings ≡ text_in bytes.now) }
     {
-        let text = front(&Characters::of_file(bytes));
+        let text = Characters::of_front(bytes);
         let marks = marks_of(alloc, &text)?;
         Ok(Spellings { text, marks })
     }
@@ -145,9 +145,7 @@ fn next_mark(text: &Characters, mark: Mark) -> Mark
 fn begins_at(place: Place, at: Place, c: u8) -> bool
     ensures { result ≡ begins_at place at c }
 {
-    at.line == place.line
-        && at.column == place.column
-        && matches!(c, b'A'..=b'Z' | b'a'..=b'z' | b'_')
+    at.line == place.line && at.column == place.column && is_letter(c)
 }
 
 /// How many characters stand before the word that begins at a place, looked for from a mark on; all, where no word begins there.
@@ -189,7 +187,7 @@ fn copied(alloc: Global, text: &Characters) -> Result<Vec<u8>, NoMemory>
 {
     let mut bytes = Vec::new(alloc);
     for i in 0..text.len() {
-        push_text(&mut bytes, &[text.at(i)])?;
+        bytes.extend_from_slice(&[text.at(i)])?;
     }
     Ok(bytes)
 }
