@@ -13,5 +13,6 @@ pub mod Scattering
 pub mod Driving
 pub mod Ringing
 pub mod Waiting
+pub mod Shelving
 mod Places
 mod Endings

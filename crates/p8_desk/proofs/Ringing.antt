@@ -1,5 +1,5 @@
 -- Whom an answer names, and which words the bells are.
-use Rattle.std.proofs.Common.{◌≡◌, ap, sym, subst, arith, ℕ, suc, ◌+◌, ◌*◌, ◌-◌, ◌<◌, List}
+use Rattle.std.proofs.Common.{◌≡◌, sym, subst, arith, ℕ, suc, ◌-◌, ◌<◌, List}
 use Rattle.p8_access.specs.declared.order.Turn.{Turn}
 use Rattle.p8_access.specs.declared.states.CogState.TheVariants.{Stopped}
 use Rattle.p8_access.specs.Worlds.{World}

@@ -16,7 +16,7 @@ use Rattle.p8_desk.specs.Rules.{Slot, Hand, world_in, known, Agrees, IsOfCogs, w
 use Rattle.p8_desk.specs.Runners.{Rides}
 use Rattle.p8_desk.specs.Tries.{Got, Tried, seen_by}
 use Rattle.p8_desk.specs.Work.{steps_of, Moved, Worked, IsReady, IsKept, GotIn, TriedIn, HasRoom, said_by, granting, noting_said}
-use Rattle.p8_desk.proofs.Lookups.{known-changed, known-beside, some-same}
+use Rattle.p8_desk.proofs.Lookups.{known-changed, known-beside}
 use Rattle.p8_desk.proofs.Riding.{rides-on}
 use Rattle.p8_desk.proofs.Working.{Noting, Stepped, said_known, answered_known, noting-said, noting-answer, noting-both, stepped-said, stepped-both, has-room}
 

@@ -1,6 +1,5 @@
 -- A pass over tries that make no turn.
-use Rattle.std.proofs.Common.{◌≡◌, ◌≤◌, ◌⊎◌, inl, inr, ◌∙◌, ap, sym, subst, refl, ℕ, suc, List, [], ◌∷◌, ◌++◌, arith}
-use Rattle.p8_access.specs.declared.order.Turn.{Turn}
+use Rattle.std.proofs.Common.{◌≡◌, inl, inr, ◌∙◌, ap, sym, subst, refl, ℕ, [], ◌∷◌, ◌++◌, arith}
 use Rattle.p8_access.specs.declared.lives.Next.{Next}
 use Rattle.p8_access.specs.Worlds.{World}
 use Rattle.p8_ledger.specs.declared.steps.Step.TheVariants.{Said}

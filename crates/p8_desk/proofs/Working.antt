@@ -16,7 +16,6 @@ use Rattle.p8_cog.specs.Kinds.{number_of, fact_of}
 use Rattle.p8_cog.specs.Lives.{asks}
 use Rattle.p8_cog.specs.WholeLives as Life
 use Rattle.p8_ledger.specs.declared.ledger.Ledger.{Ledger}
-use Rattle.p8_ledger.specs.declared.ledger.Taken.{Taken}
 use Rattle.p8_ledger.specs.declared.ledger.Taken.TheVariants.{Done, Over}
 use Rattle.p8_ledger.specs.declared.steps.Step.{Step}
 use Rattle.p8_ledger.specs.declared.steps.Step.TheVariants.{Took, Said}

@@ -9,6 +9,7 @@ pub mod Ends
 pub mod Starts
 -- Machinery that only proofs need.
 pub mod Rules
+pub mod Shelves
 pub mod Runners
 pub mod Taking
 pub mod Work
@@ -17,3 +18,4 @@ pub mod Driving
 pub mod Gathering
 -- What only inner contracts cite.
 pub mod Crews
+pub mod Relays

@@ -159,6 +159,10 @@ Noted step s v found after = after ≡ (noting v.0 (cog_of step) step, v.1)
 abbrev pub Rung : Move Slot → Hand → ℕ → Hand → Type 0
 Rung s v found after = after ≡ v
 
+-- a seat without a pass is told nothing
+abbrev pub Visited : Move Slot → Hand → ℕ → Hand → Type 0
+Visited s v found after = Unit {0}
+
 -- a seat gives the pass of a cog to a new seat
 abbrev pub with_passes : View → List Known → View
 with_passes v ps = record { live = v.live; start = v.start; passes = ps; holds = None }

@@ -15,7 +15,7 @@ use Rattle.p8_desk.specs.declared.tries.Outcome.{Outcome}
 use Rattle.p8_desk.specs.declared.turned.Turned.{Turned}
 use Rattle.p8_desk.specs.declared.turned.Turned.TheVariants.{Done, Held, After, Ahead, Over}
 use Rattle.p8_desk.specs.Passes.{PassSteps}
-use Rattle.p8_desk.specs.Rules.{known, world_in, noting, Agrees, IsOfCogs}
+use Rattle.p8_desk.specs.Rules.{known, noting, Agrees, IsOfCogs}
 use Rattle.p8_desk.specs.Runners.{Rides, HasFound}
 use Rattle.p8_desk.specs.Tries.{Speaks, Answers, seen_by, Got, Tried}
 

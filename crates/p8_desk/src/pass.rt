@@ -1,5 +1,5 @@
 // The pass of one cog.
-ghost use Rattle.std.specs.Prelude.{◌≡◌, length};
+ghost use Rattle.std.specs.Prelude.{◌≡◌, ◌<◌, length};
 ghost use Rattle.p8_ledger.specs.Records.{turns};
 
 use crate::rider::Rider;
@@ -32,6 +32,14 @@ impl CogPass {
         self.rider.cog
     }
 
+    /// Its place among the passes of all cogs, which is its cog's number.
+    pub(crate) fn place(&self) -> u8
+        ensures cog { result ≡ self.now.cog }
+        ensures near { result < 8 }
+    {
+        self.rider.cog
+    }
+
     /// How many turns the cog has made.
     pub fn count(&self) -> u64
         ensures { result ≡ length (turns self.now.steps.own) }
@@ -44,6 +52,11 @@ impl CogPass {
         ensures { result ≡ length (turns self.now.steps.seen) }
     {
         self.rider.known
+    }
+
+    /// Whether the life of the cog has something to do while others make turns: it has found no access yet.
+    pub(crate) fn can_run_on(&self) -> bool {
+        self.rider.runner.can_run_on()
     }
 
     /// Whether a try with this pass has answered `Over`.

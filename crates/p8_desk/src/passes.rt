@@ -1,7 +1,9 @@
 // The passes of a desk.
-ghost use Rattle.std.specs.Prelude.{◌≡◌, ◌<◌, ◌↔◌, Some, None, slice_get, slice_set, IsTrue, IfErr, OnOk, IsOk};
+ghost use Rattle.std.specs.Prelude.{◌≡◌, ◌<◌, ◌↔◌, Some, None, slice_get, slice_set, IsTrue, IfErr, OnOk, IfOk, IfSome, IsOk, replicate};
 
 use crate::pass::CogPass;
+use p8_words::NoMemory;
+use std::alloc::Global;
 use std::marker::Model;
 
 /// Eight places, each with the pass of its cog or none.
@@ -33,11 +35,23 @@ impl Passes {
         self.places[cog as usize].is_none()
     }
 
+    /// Eight empty places.
+    pub(crate) fn empty(alloc: Global) -> Result<Passes, NoMemory>
+        ensures { IfOk result (λ passes. passes ≡ replicate 8 None) }
+    {
+        let none = [None, None, None, None, None, None, None, None];
+        let Ok(places) = Vec::from_array(alloc, none) else {
+            return Err(NoMemory);
+        };
+        Ok(Passes { places })
+    }
+
     /// Takes the pass of a cog: None exactly where it is out.
     pub fn take(&mut self, cog: u8) -> Option<CogPass>
         requires { cog < 8 }
         ensures taken { slice_get self.old cog ≡ Some result }
         ensures left { self.new ≡ slice_set self.old cog None }
+        ensures cog { IfSome result (λ pass. pass.cog ≡ cog) }
     {
         self.places[cog as usize].take()
     }

@@ -89,6 +89,15 @@ impl Play<Option<Ledger>, View> for Rings {
     ghost then = { Rung };
 }
 
+/// A seat without a pass, to which nothing is told.
+pub struct Visits;
+
+impl Play<Option<Ledger>, View> for Visits {
+    ghost use Rattle.p8_desk.specs.Rules.{Visited};
+
+    ghost then = { Visited };
+}
+
 /// The cog whose pass a proof speaks of.
 pub trait Named {
     ghost use Rattle.std.specs.Prelude.{ℕ};

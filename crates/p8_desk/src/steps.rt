@@ -9,7 +9,7 @@ ghost use Rattle.p8_ledger.specs.Ledgers.{Found};
 ghost use Rattle.p8_desk.specs.declared.rule.Known.{Known};
 ghost use Rattle.p8_desk.specs.Rules.{world_in, known, Seized, Released, Noted, noting, without_pass, pass_alone, joined};
 
-use crate::rule::{Board, Joins, Named, Notes, Parts, Place, Releases, Seizes, Told};
+use crate::rule::{Board, Joins, Named, Notes, Parts, Place, Releases, Seizes, Told, Visits};
 use p8_access::{Next, Turn};
 use std::marker::Brand;
 
@@ -115,6 +115,14 @@ pub fn part(board: &Board, seat: &mut Place, cog: u8) -> Place
     ensures parted { (seat.new.me ≡ (without_pass cog seat.old.me.0, seat.old.me.1)) × (result.me ≡ (pass_alone cog seat.old.me.0, [])) }
 {
     part_named::<Brand>(board, seat, cog)
+}
+
+/// A seat that has no pass, and never gets one.
+pub fn visit(board: &Board) -> Place
+    requires { 0 < board.now.table_id.words }
+    ensures { result.table_id ≡ board.now.table_id }
+{
+    board.load_new_seat::<Visits>(0).1
 }
 
 /// Takes in the passes of another seat.

@@ -1,4 +1,4 @@
-use Rattle.std.proofs.Common.{◌≡◌, ◌<◌, ◌+◌, ◌*◌, arith, ℕ}
+use Rattle.std.proofs.Common.{arith}
 use Rattle.p8_desk.proofs.Keeping.{rings}
 use Rattle.p8_desk.proofs.Ringing.{bell-after}
 use Rattle.p8_desk.proofs.bells.ring.Goals as goal

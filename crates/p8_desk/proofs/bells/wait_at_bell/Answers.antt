@@ -1,4 +1,4 @@
-use Rattle.std.proofs.Common.{◌≡◌, ◌∙◌, ◌<◌, ◌+◌, ◌*◌, arith, ℕ, rules}
+use Rattle.std.proofs.Common.{arith, rules}
 use Rattle.p8_desk.proofs.Keeping.{rings}
 use Rattle.p8_desk.proofs.Ringing.{bell-after}
 use Rattle.p8_desk.proofs.bells.wait_at_bell.Goals as goal

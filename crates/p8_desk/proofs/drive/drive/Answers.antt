@@ -1,5 +1,5 @@
 use Rattle.std.proofs.Common.{◌∙◌, sym}
-use Rattle.p8_desk.proofs.Driving.{answered, falls, next-cog, ended-by}
+use Rattle.p8_desk.proofs.Driving.{falls, next-cog, ended-by}
 use Rattle.p8_desk.proofs.drive.drive.Goals as goal
 
 pub loop-next-smaller : goal.loop-next-smaller

@@ -1,39 +1,7 @@
-use Rattle.std.proofs.Common.{◌∙◌, ℕ, sym, ap, subst}
-use Rattle.p8_access.specs.Worlds.{World}
-use Rattle.p8_desk.specs.Passes.{PassValue, PassSteps}
+use Rattle.std.proofs.Common.{sym, subst}
 use Rattle.p8_desk.specs.Rules.{Hand}
-use Rattle.p8_desk.specs.Seats.{pass_in, or_new, Seated}
-use Rattle.p8_desk.specs.Tries.{Tried}
-use Rattle.p8_desk.specs.Work.{steps_of}
-use Rattle.p8_desk.proofs.Ringing.{named-near}
-use Rattle.p8_desk.proofs.Trying.{forgets}
-use Rattle.p8_desk.proofs.Settling.{seated-on}
+use Rattle.p8_desk.specs.Seats.{Seated}
 use Rattle.p8_desk.proofs.desk.Desk.try_turn.Goals as goal
 
-pub ride-answer-requires-clause-own : goal.ride-answer-requires-clause-own
-ride-answer-requires-clause-own c = (
-  ap (λ (p : PassValue). p.table) c.pass.view_is ∙ c.requires.table,
-  ap (λ (p : PassValue). p.world) c.pass.view_is ∙ c.requires.world,
-  c.pass.invariant.seat.near,
-)
-
-pub ride-answer-requires-clause-keeps : goal.ride-answer-requires-clause-keeps
-ride-answer-requires-clause-keeps c = (pass_in c.pass.inside.seat.me c.pass.inside.rider.cog, c.pass.invariant.seat.has, c.pass.invariant.keeps)
-
-pub tell-requires-clause-near : goal.tell-requires-clause-near
-tell-requires-clause-near c = λ other bound is.
-    let x = c.ride-answer.ensures.tried _ c.pass.invariant.seat.has c.pass.invariant.keeps in
-    named-near _ _ _ _ c.ride-answer.result other bound is (forgets _ _ _ _ _ c.ride-answer.result x.2)
-
 pub invariant_of-pass : goal.invariant_of-pass
-invariant_of-pass c =
-    let x = c.ride-answer.ensures.tried _ c.pass.invariant.seat.has c.pass.invariant.keeps in
-    subst (λ (m : Hand). Seated m c.ride-answer.new.self) (sym c.tell.ensures.same)
-    (seated-on c.pass.inside.seat.me c.ride-answer.new.seat.me c.pass.inside.rider c.ride-answer.new.self x.0 c.pass.invariant x.1 c.ride-answer.ensures.free.0 c.ride-answer.ensures.free.1 c.ride-answer.ensures.own.1 x.3)
-
-pub returns-clause-tried : goal.returns-clause-tried
-returns-clause-tried c =
-    let x = c.ride-answer.ensures.tried _ c.pass.invariant.seat.has c.pass.invariant.keeps in
-    let before = ap (λ (p : PassValue). p.steps) c.pass.view_is in
-    let after = ap (λ (o : _). steps_of (or_new c.pass.inside.rider.cog o)) (sym x.1.here) ∙ ap (λ (n : ℕ). steps_of (pass_in c.ride-answer.new.seat.me n)) (sym c.ride-answer.ensures.own.1) ∙ ap (λ (m : Hand). steps_of (pass_in m c.ride-answer.new.self.cog)) (sym c.tell.ensures.same) in
-    subst (λ (y : World × (ℕ × (PassSteps × PassSteps))). Tried y.0 y.1.0 y.1.1.0 y.1.1.1 c.ride-answer.result) (λ i. ((ap (λ (p : PassValue). p.world) c.pass.view_is ∙ c.requires.world) i, (ap (λ (p : PassValue). p.cog) c.pass.view_is i, (before i, after i)))) (forgets _ _ _ _ _ c.ride-answer.result x.2)
+invariant_of-pass c = subst (λ (m : Hand). Seated m c.pass.inside.rider) (sym c.tell.ensures.same) c.pass.invariant
