@@ -11,7 +11,7 @@ use Rattle.p8_ledger.specs.declared.fronts.Fronts.{Fronts}
 use Rattle.p8_ledger.specs.Fronts.{IsFront, IsFrontIn}
 
 -- a front that is as it was is right for a state that is as it was
-same-front : (old new : Fronts) (n limit : ℕ) (state : CogState) (said : Next) → slice_index new.clocks n ≡ slice_index old.clocks n → IsFrontIn old n limit state said → IsFrontIn new n limit state said
+pub same-front : (old new : Fronts) (n limit : ℕ) (state : CogState) (said : Next) → slice_index new.clocks n ≡ slice_index old.clocks n → IsFrontIn old n limit state said → IsFrontIn new n limit state said
 same-front old new n limit state said same front =
     (front.0, subst (λ (c : ℕ). IsFront n limit state said c front.0) (sym same) front.1)
 

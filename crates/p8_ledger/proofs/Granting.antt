@@ -1,5 +1,5 @@
 -- What stands at a cog's front, and what a ledger stands for after a turn.
-use Rattle.std.proofs.Common.{◌≡◌, ◌∙◌, ap, sym, subst, refl, ℕ, zero, suc, ◌<◌, ◌==◌, Bool, true, false, if◌then◌else◌, List, [], ◌∷◌, Option, Some, None, length, slice_get, get_or, replicate, IsTrue, ◌↔◌, arith, inl, inr}
+use Rattle.std.proofs.Common.{◌≡◌, ◌∙◌, ap, sym, subst, refl, ℕ, zero, suc, ◌<◌, ◌+◌, ◌==◌, Bool, true, false, if◌then◌else◌, List, [], ◌∷◌, Option, Some, None, length, slice_get, slice_index, get_or, replicate, IsTrue, ◌↔◌, arith, inl, inr}
 use Rattle.std.proofs.Math.ListN.{set}
 use Rattle.std.proofs.lemmas.List.{length-reverse}
 use Rattle.std.proofs.lemmas.Option.{slice_get_within, slice_get-get_or}
@@ -28,8 +28,10 @@ use Rattle.p8_ledger.proofs.Coming.{due-timely, made-proper}
 use Rattle.p8_ledger.specs.declared.due.Due.{Due}
 use Rattle.p8_ledger.specs.declared.ledger.Ledger.{Ledger}
 use Rattle.p8_ledger.specs.declared.steps.Step.{Step}
+use Rattle.p8_ledger.specs.declared.steps.Step.TheVariants.{Took}
+use Rattle.p8_ledger.proofs.Fronting.{same-front, kept-front}
 use Rattle.p8_ledger.specs.Records.{Record, cog_of, says, turns, said, whatever, IsTrueOf, IsTruthful, HasFront, HasFrontIn, HasFrontBy, IsLeastFront, Owes}
-use Rattle.p8_ledger.specs.Dues.{IsDueAt, Suits, IsPlain, IsPlainIn, AllMade}
+use Rattle.p8_ledger.specs.Dues.{IsDueAt, Suits, IsPlain, IsPlainIn, LeavesCogs, AllMade}
 use Rattle.p8_ledger.specs.Ledgers.{Found}
 use Rattle.p8_ledger.proofs.Choosing.{fast-first}
 use Rattle.p8_ledger.proofs.Least.{told-next, first-front}
@@ -190,3 +192,27 @@ plain-granted w r ledger key origin turn found near least state room suits key_i
     let said_is = found.sayings key.cog near in
     let due = due-some w r key.cog key.clock origin state (found.truth key.cog) (said key.cog r) refl turn.access (suits.next (said key.cog r) refl said_is) least.there in
     (granted w r ledger key (record { access = turn.access; running = true }) turn found least room due key_is refl answer, due.1)
+
+-- a running cog that promises a clock has its front there
+promised-front : (fronts : Fronts) (n limit bound : ℕ) (state : CogState) → FitsState true state → slice_index fronts.clocks n ≡ bound → IsFrontIn fronts n limit state (More bound)
+promised-front fronts n limit bound Stopped fits own = absurd fits
+promised-front fronts n limit bound (Starting since origin) fits own = absurd fits
+promised-front fronts n limit bound (Running origin) fits own = (None, (own, refl))
+
+-- after the turn of a running cog that starts or stops none, its own front alone has moved
+pub alone-moved : (old new : Fronts) (w : World) (r : Record) (turn : Turn) → LeavesCogs turn.access → FitsState true (cog_state w (turns r) turn.key.cog) → slice_index new.clocks turn.key.cog ≡ turn.key.clock + 1 → ((n : ℕ) → (n ≡ turn.key.cog → ⊥) → slice_index new.clocks n ≡ slice_index old.clocks n) → ((n : ℕ) → n < 8 → IsFrontIn old n w.clocks (cog_state w (turns r) n) (said n r)) → (n : ℕ) → n < 8 → IsFrontIn new n w.clocks (cog_state w (turn ∷ turns r) n) (said n (Took turn ∷ r))
+alone-moved old new w r turn leaves fits own others fronts n near =
+    let none = leaves n turn.key.clock turn.key.cog turn.answer in
+    elim (decided n turn.key.cog) [
+      | inl is ↦
+          (let same : n ≡ turn.key.cog = same-cog n turn.key.cog is in
+          let front : IsFrontIn new turn.key.cog w.clocks (cog_state w (turn ∷ turns r) turn.key.cog) (More (turn.key.clock + 1)) =
+          kept-front new w (turns r) turn turn.key.cog w.clocks (More (turn.key.clock + 1)) (leaves turn.key.cog turn.key.clock turn.key.cog turn.answer) (promised-front new turn.key.cog w.clocks (turn.key.clock + 1) (cog_state w (turns r) turn.key.cog) fits own) in
+          subst (λ (m : ℕ). IsFrontIn new m w.clocks (cog_state w (turn ∷ turns r) m) (said m (Took turn ∷ r))) (sym same)
+          (subst (λ (s : Next). IsFrontIn new turn.key.cog w.clocks (cog_state w (turn ∷ turns r) turn.key.cog) s) (sym (said-own (Took turn) r)) front))
+      | inr other ↦
+          (let differ = differ-cog n turn.key.cog other in
+          let front : IsFrontIn new n w.clocks (cog_state w (turns r) n) (said n r) = same-front old new n w.clocks (cog_state w (turns r) n) (said n r) (others n differ) (fronts n near) in
+          subst (λ (s : Next). IsFrontIn new n w.clocks (cog_state w (turn ∷ turns r) n) s) (sym (said-beside (Took turn) r n (λ e. differ (sym e))))
+          (kept-front new w (turns r) turn n w.clocks (said n r) none front))
+    ]

@@ -14,7 +14,7 @@ use Rattle.p8_access.specs.Lives.{IsMade, IsMadeNext, announced_by}
 use Rattle.p8_access.specs.Proper.{IsProper, IsNumber, IsProperOrigin}
 use Rattle.p8_access.specs.declared.states.CogState.TheVariants.{Running}
 use Rattle.p8_access.specs.Worlds.{World}
-use Rattle.p8_access.specs.Hub.{cog_state}
+use Rattle.p8_access.specs.Hub.{cog_state, change_by}
 use Rattle.p8_access.specs.Histories.{IsNext}
 use Rattle.p8_cog.specs.Lives.{asks}
 use Rattle.p8_ledger.specs.Standing.{FitsState}
@@ -53,6 +53,10 @@ IsPlain (More bound) clock = ⊥
 
 abbrev pub IsPlainIn : List Next → (n clock : ℕ) → Type 0
 IsPlainIn sayings n clock = (said : Next) → slice_get sayings n ≡ Some said → IsPlain said clock
+
+-- an access that starts or stops no cog
+abbrev pub LeavesCogs : Access → Type 0
+LeavesCogs access = (n clock cog : ℕ) (answer : Answer) → change_by n clock cog access answer ≡ None
 
 -- what is said has accesses that a life makes
 abbrev pub AllMade : List Next → Type 0

@@ -132,8 +132,8 @@ impl Fronts {
     }
 
     /// Notes the front of a cog.
-    #[inline]
-    fn put(&mut self, cog: u8, clock: u64)
+    #[inline(always)]
+    pub fn put(&mut self, cog: u8, clock: u64)
         requires { cog < 8 }
         ensures own { slice_index self.new.clocks cog ≡ clock }
         ensures others { (n : ℕ) → (n ≡ cog → ⊥) → slice_index self.new.clocks n ≡ slice_index self.old.clocks n }

@@ -22,7 +22,7 @@ ghost use Rattle.p8_region.specs.Bounded.{bounded};
 ghost use Rattle.p8_ledger.specs.declared.steps.Step.TheVariants.{Took, Said};
 ghost use Rattle.p8_ledger.specs.Records.{Record, turns, said, IsTrueOf, Owes, HasFront, IsLeastFront, NoFront};
 ghost use Rattle.p8_ledger.specs.Turns.{AreProper, is_prop-AreProper};
-ghost use Rattle.p8_ledger.specs.Dues.{IsDueAt, Suits, SuitsIf, IsPlain, IsPlainIn, AllMade, is_prop-AllMade};
+ghost use Rattle.p8_ledger.specs.Dues.{IsDueAt, Suits, SuitsIf, IsPlain, IsPlainIn, LeavesCogs, AllMade, is_prop-AllMade};
 ghost use Rattle.std.proofs.Props.{props};
 
 use crate::due::{Due, first_access};
@@ -411,6 +411,34 @@ impl Ledger {
         turn
     }
 
+    /// Makes the turn of a running cog by an access that starts and stops no cog: so its own front alone moves, and its state isn't looked at.
+    #[inline(always)]
+    fn make_alone(&mut self, script: &PinScript, key: Key, access: Access) -> Turn
+        requires cog { key.cog < 8 }
+        requires clock { key.clock < 2 ^ 61 }
+        requires suits { Suits self.old.sayings key.cog key.clock (record { access = access; running = true }) }
+        requires leaves { LeavesCogs access }
+        requires room { length self.old.turns.list < self.old.turns.room }
+        ensures key { result.key ≡ key }
+        ensures access { result.access ≡ access }
+        ensures answer { (w : World) (r : Record) → script.now ≡ w.script → Found w self.old r → result.answer ≡ answer_to w (turns r) key access }
+        ensures made { HasMade self.old self.new result true }
+        ensures found { (w : World) (r : Record) → Found w self.old r → Extends asks w (turns r) result → FitsState true (cog_state w (turns r) key.cog) → Found w self.new (Took result ∷ r) }
+    {
+        let levels = levels(script, &access, key.clock, &self.span);
+        let answer = self.hub.answer(key, &access, levels);
+        let turn = Turn {
+            key,
+            access,
+            answer,
+        };
+        let bound = key.clock + 1;
+        self.sayings[key.cog as usize] = Next::More { bound };
+        self.fronts.put(key.cog, bound);
+        add(&mut self.turns, turn);
+        turn
+    }
+
     /// Notes in which span of the script the last turn was found, where that was looked for.
     #[inline(always)]
     fn note(&mut self, searched: Option<Span>)
@@ -572,13 +600,11 @@ impl Ledger {
                     address,
                     value,
                 };
-                let running = true;
-                self.make(script, key, Due { access, running })
+                self.make_alone(script, key, access)
             }
             Access::Read { width, address } => {
                 let access = Access::Read { width, address };
-                let running = true;
-                self.make(script, key, Due { access, running })
+                self.make_alone(script, key, access)
             }
             _ => self.make_in_place(script, key),
         }
@@ -610,6 +636,19 @@ impl Ledger {
         }
     }
 
+    /// Makes the turn of the cog with the least front, whatever stands there. This is a function of its own because the compiler clears the
+    /// memory for the result of a call where the function begins that makes the call: so no turn that is plain does it.
+    #[inline(always)]
+    fn take_other(&mut self, script: &PinScript) -> First
+        ensures decides { (w : World) (r : Record) → script.now ≡ w.script → Found w self.old r → DecidesFirst w r result }
+        ensures found { (w : World) (r : Record) → script.now ≡ w.script → Found w self.old r → Found w self.new (after_first result r) }
+        ensures advances { Advances self.old self.new result }
+    {
+        // In a variable of its own, since a result that a call has written is kept in memory on the other way as well.
+        let first = self.take_any(script);
+        first
+    }
+
     /// Makes the turn of the cog with the least front, whichever it is. `script` is that of the run. It waits for
     /// nobody and takes no memory.
     #[inline(always)]
@@ -619,11 +658,7 @@ impl Ledger {
         ensures advances { Advances self.old self.new result }
     {
         match self.plain() {
-            // In a variable of its own, since a result that a call has written is kept in memory on the other way as well.
-            None => {
-                let first = self.take_any(script);
-                first
-            }
+            None => self.take_other(script),
             Some(key) => {
                 let turn = self.make_said(script, key);
                 First::Done {
