@@ -25,7 +25,8 @@ use Rattle.p8_build.specs.Builds.{AreCompiled, objects_from, objects_of, IsBuilt
 use Rattle.p8_build.proofs.Wholes.{one_objects}
 use Rattle.p8_legend.specs.declared.table.Row.{Row}
 use Rattle.p8_legend.specs.declared.table.LineTable.{LineTable}
-use Rattle.p8_legend.specs.Rows.{further, end_of, line_row, line_rows, code_rows, rows_from, codes_of, IsLineTable}
+use Rattle.p8_image.specs.Listing.{further}
+use Rattle.p8_legend.specs.Rows.{end_of, line_row, line_rows, code_rows, rows_from, codes_of, IsLineTable}
 use Rattle.p8_legend.specs.Covering.{HasRow}
 use Rattle.p8_legend.specs.Lines.{begins_from}
 use Rattle.p8_legend.proofs.LinesApart.{next-is, no-lines, bytes_in, AreAllTiled, AreFilled, filled, objects-fit}

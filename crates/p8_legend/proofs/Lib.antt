@@ -4,7 +4,6 @@ mod OneByOne
 mod Wholes
 mod Finding
 mod Examples
-mod LegendFurther
 mod Pathways
 mod OfAccepted
 pub mod OneLegend

@@ -21,7 +21,8 @@ use Rattle.p8_build.specs.Files.{CompiledFile, method_names}
 use Rattle.p8_build.proofs.Lists.{element}
 use Rattle.p8_legend.specs.declared.table.LineTable.{LineTable}
 use Rattle.p8_legend.specs.declared.table.Row.{Row}
-use Rattle.p8_legend.specs.Rows.{further, end_of, line_row, line_rows, code_rows, rows_from, codes_of, IsLineTable}
+use Rattle.p8_image.specs.Listing.{further}
+use Rattle.p8_legend.specs.Rows.{end_of, line_row, line_rows, code_rows, rows_from, codes_of, IsLineTable}
 use Rattle.p8_legend.specs.Lines.{places_of_body}
 use Rattle.p8_legend.specs.Origins.{IsPlaceIn, IsRowOf}
 use Rattle.p8_legend.proofs.Lined.{method-lines}

@@ -28,7 +28,8 @@ use Rattle.p8_build.proofs.Lists.{element}
 use Rattle.p8_build.proofs.Wholes.{one_objects}
 use Rattle.p8_legend.specs.declared.table.Row.{Row}
 use Rattle.p8_legend.specs.declared.table.LineTable.{LineTable}
-use Rattle.p8_legend.specs.Rows.{further, end_of, line_rows, code_rows, rows_from, codes_of, IsLineTable, AreApart}
+use Rattle.p8_image.specs.Listing.{further}
+use Rattle.p8_legend.specs.Rows.{end_of, line_rows, code_rows, rows_from, codes_of, IsLineTable, AreApart}
 use Rattle.p8_legend.specs.Lines.{begin_of, begins_from}
 use Rattle.p8_legend.proofs.Lined.{lines-begin}
 

@@ -21,7 +21,8 @@ use Rattle.p8_build.proofs.Wholes.{one_objects}
 use Rattle.p8_opt.specs.Lines.{line_at, lines_of_codes, lines_from, lines_of}
 use Rattle.p8_legend.specs.declared.table.Row.{Row}
 use Rattle.p8_legend.specs.declared.table.LineTable.{LineTable}
-use Rattle.p8_legend.specs.Rows.{further, end_of, line_rows, code_rows, rows_from, codes_of, IsLineTable, AreApart}
+use Rattle.p8_image.specs.Listing.{further}
+use Rattle.p8_legend.specs.Rows.{end_of, line_rows, code_rows, rows_from, codes_of, IsLineTable, AreApart}
 use Rattle.p8_legend.specs.Lines.{begins_from}
 use Rattle.p8_legend.specs.Naming.{NamesStatement}
 use Rattle.p8_legend.proofs.LinesApart.{no-lines, next-is, AreAllTiled, AreFilled, bytes_in, filled, objects-fit}

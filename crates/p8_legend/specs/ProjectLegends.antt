@@ -7,6 +7,7 @@ use Rattle.p8_image.specs.declared.parts.Variable.{Variable}
 use Rattle.p8_image.specs.declared.parts.MethodPart.{MethodPart}
 use Rattle.p8_image.specs.declared.parts.ObjectPart.{ObjectPart}
 use Rattle.p8_image.specs.Layout.{codes_offset, size_of}
+use Rattle.p8_image.specs.Listing.{further}
 use Rattle.p8_legend.specs.declared.ranges.Range.{Range}
 use Rattle.p8_legend.specs.Ranges.{with_range}
 use Rattle.p8_legend.specs.declared.table.Row.{Row}

@@ -1,6 +1,6 @@
 -- The line table of a project: for each object at its base, for each of its methods at its entry, the lines of its code.
--- The layout is that of the image.
-use Rattle.std.specs.Prelude.{◌≡◌, ℕ, ◌+◌, ◌%◌, ◌<◌, ◌≤◌, List, [], ◌∷◌, ◌++◌, length, map, slice_get, Some}
+-- The layout is that of the image; addresses are mod 65,536, which is exact in an image that fits the hub.
+use Rattle.std.specs.Prelude.{◌≡◌, ℕ, ◌+◌, ◌<◌, ◌≤◌, List, [], ◌∷◌, ◌++◌, length, map, slice_get, Some}
 use Rattle.p8_tree.specs.Projects.{NamedSource}
 use Rattle.p8_kinds.specs.declared.children.Children.{Children}
 use Rattle.p8_names.specs.Children.{AreChildren}
@@ -8,14 +8,11 @@ use Rattle.p8_gen.specs.declared.writer.Line.{Line}
 use Rattle.p8_stmt.specs.declared.code.MethodCode.{MethodCode}
 use Rattle.p8_image.specs.declared.parts.ObjectPart.{ObjectPart}
 use Rattle.p8_image.specs.Layout.{codes_offset, size_of}
+use Rattle.p8_image.specs.Listing.{further}
 use Rattle.p8_build.specs.Files.{CompiledFile}
 use Rattle.p8_build.specs.Builds.{AreCompiled, objects_of}
 use Rattle.p8_legend.specs.declared.table.Row.{Row}
 use Rattle.p8_legend.specs.declared.table.LineTable.{LineTable}
-
--- the address so many bytes further, mod 65,536, which is exact in an image that fits the hub
-abbrev pub further : (at bytes : ℕ) → ℕ
-further at bytes = (at + bytes) % 65536
 
 -- where a line ends: where the next one begins, or where the code ends, which has so many bytes
 abbrev pub end_of : (size : ℕ) → List Line → ℕ

@@ -89,7 +89,7 @@ fn push_methods(
 }
 
 /// Puts the names of an object behind the names so far, each of them behind a prefix.
-#[tactic(auto, using(crate::proofs::LegendFurther::further_low))]
+#[tactic(auto, using(crate::proofs::Further::further_low))]
 fn push_object(
     alloc: Global,
     names: &mut Ranges,
@@ -114,7 +114,7 @@ fn push_object(
 }
 
 /// The names of what stands in a project's objects, one after the other.
-#[tactic(auto, using(crate::proofs::LegendFurther::further_low))]
+#[tactic(auto, using(crate::proofs::Further::further_low))]
 pub(crate) fn names_of(
     alloc: Global,
     all: &[FileNames],

@@ -1,10 +1,11 @@
 // The rows of codes.
 ghost use Rattle.std.specs.Prelude.{◌≡◌, ◌++◌, OnOk, IfOk};
-ghost use Rattle.p8_legend.specs.Rows.{further, end_of, line_row, line_rows, code_rows, rows_from};
+ghost use Rattle.p8_legend.specs.Rows.{end_of, line_row, line_rows, code_rows, rows_from};
 
 use crate::table::{LineTable, Row};
 use p8_gen::Line;
 use p8_image::{ObjectPart, Offsets};
+use p8_map::further;
 use p8_stmt::MethodCode;
 use p8_tree::List;
 use p8_words::NoMemory;
@@ -99,11 +100,4 @@ fn row_of(file: u8, method: u8, at: u16, end: u64, line: Line) -> Row
         method,
         place: line.statement,
     }
-}
-
-/// The address so many bytes further, mod 65,536.
-fn further(at: u16, bytes: u64) -> u16
-    ensures { result ≡ further at bytes }
-{
-    ((u64::from(at) + bytes % 65_536) % 65_536) as u16
 }
