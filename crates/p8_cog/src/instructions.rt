@@ -1,32 +1,28 @@
 // What each kind of instruction does, with the turns that its accesses have had.
 ghost use Rattle.std.specs.Prelude.{ℕ, true, false, Some, None, IfSome, [], ◌∷◌, ◌≡◌, ◌<◌, ◌≤◌, ◌+◌, ◌%◌, ◌^◌};
-ghost use Rattle.p8_instr.specs.Instruction.{FitsFields};
 ghost use Rattle.p8_access.specs.Lives.{IsMade};
 ghost use Rattle.p8_access.specs.Windows.{window_of};
 ghost use Rattle.p8_cog.specs.Instructions.{source_access};
 ghost use Rattle.p8_cog.specs.declared.ending.Ending.TheVariants.{Half};
 ghost use Rattle.p8_cog.specs.declared.kind.Kind.TheVariants.{Computing, OfHub, Waiting};
 ghost use Rattle.p8_cog.specs.declared.state.State.{State};
-ghost use Rattle.p8_cog.specs.Replay.{at_hand, source_value, destination_value, effect, jumps, tested_jump, plain_next, computed, compute, register_access, result_access, written_by, ends_after, use_hub, is_port_wait, test_of, wait_effect, wait, halt, does, instruction, hub_request, played, Goes, Asks};
+ghost use Rattle.p8_cog.specs.Replay.{at_hand, source_value, destination_value, effect, fetched_before, jumps, tested_jump, plain_next, computed, compute, register_access, result_access, written_by, ends_after, use_hub, is_port_wait, test_of, wait_effect, wait, halt, does, instruction, hub_request, played, Goes, Asks};
 ghost use Rattle.p8_cog.specs.Stops.{ComesTo, Keeps, IsMadeIn, IsMadeIf, IsAtHub, Comes, is_asking, latest};
 
 use crate::ending::Ending;
 use crate::hub::{Request, answered, hub_request, is_last, plain_effect};
-use crate::kind::{
-    CTRA, DIRA, DJNZ, JMPRET, Kind, OUTA, TJZ, WAITCNT, WAITPEQ, WAITPNE, asks_for_source,
-    executed_kind, kind_of, source_access,
-};
+use crate::kind::{CTRA, DIRA, DJNZ, JMPRET, Kind, OUTA, TJZ, WAITCNT, WAITPEQ, WAITPNE, kind_of};
 use crate::state::State;
 use p8_access::{Access, Reason, Test, Turn, window};
 use p8_instr::{Effect, Instr, decode};
 
 /// The address in a cog that a value is taken as.
 #[inline(always)]
-fn address_in(value: u32) -> u16
+fn address_in(value: u32) -> u32
     ensures address { result ≡ value % 512 }
     ensures below { result < 512 }
 {
-    (value & 511) as u16
+    value & 511
 }
 
 /// Whether DJNZ, TJNZ or TJZ jumps.
@@ -73,27 +69,6 @@ fn result_access(i: Instr, value: u32) -> Option<Access>
     }
 }
 
-/// How an instruction stands at the write of its result: it is whole where that may be done.
-#[inline(always)]
-fn written(i: Instr, cog: u8, value: u32, clock: u64, had: &[Turn]) -> Ending
-    ensures comes { (next : State) → ComesTo (played (written_by (result_access i value) cog clock next) had.now) result next }
-    ensures made { IsMadeIn result }
-{
-    match result_access(i, value) {
-        None => Ending::Whole,
-        Some(access) => match had {
-            [] => Ending::Half { clock, access },
-            _ => {
-                if is_last(cog, access) {
-                    Ending::Ended
-                } else {
-                    Ending::Whole
-                }
-            }
-        },
-    }
-}
-
 /// What WAITPEQ, WAITPNE or WAITCNT waits for.
 #[inline(always)]
 fn test_of(opcode: u8, value: u32, source: u32) -> Test
@@ -126,72 +101,91 @@ fn wait_effect(opcode: u8, value: u32, source: u32) -> Effect
 }
 
 impl State {
-    /// The address at which an instruction goes on that computes and isn't a tested jump.
+    /// How an instruction stands at the write of its result: it is whole where that may be done.
     #[inline(always)]
-    fn plain_next(&self, i: Instr, source: u32) -> u16
-        requires decoded { i ≡ at_hand self.now }
-        requires at { self.now.at < 512 }
-        ensures next { result ≡ plain_next self.now source }
-        ensures below { result < 512 }
+    fn written(&self, cog: u8, value: u32, clock: u64, had: &[Turn]) -> Ending
+        ensures comes { (next : State) → ComesTo (played (written_by (result_access (at_hand self.now) value) cog clock next) had.now) result next }
+        ensures made { IsMadeIn result }
     {
-        if i.opcode == JMPRET {
-            address_in(source)
-        } else {
-            self.next()
+        match result_access(decode(self.long), value) {
+            None => Ending::Whole,
+            Some(access) => match had {
+                [] => Ending::Half { clock, access },
+                _ => {
+                    if is_last(cog, access) {
+                        Ending::Ended
+                    } else {
+                        Ending::Whole
+                    }
+                }
+            },
         }
+    }
+
+    /// Ends an instruction that computes and isn't a tested jump.
+    #[inline(always)]
+    fn end_plainly(&mut self, source: u32, given: &Effect)
+        requires given { given.now ≡ effect self.old source }
+        requires at { self.old.at < 512 }
+        requires clock { self.old.clock < 2 ^ 62 }
+        ensures ends { self.new ≡ fetched_before self.old (effect self.old source) (plain_next self.old source) (self.old.clock + 4) }
+        ensures at { self.new.at < 512 }
+        ensures clock { self.new.clock < 2 ^ 62 + 2 ^ 10 }
+    {
+        // A choice of the address alone would take a step of each instruction.
+        if self.opcode() == JMPRET {
+            let target = address_in(source);
+            self.fetch_and_write(given, target);
+        } else {
+            let at = self.next();
+            self.fetch_and_write(given, at);
+        }
+        self.clock += 4;
     }
 
     /// Ends DJNZ, TJNZ or TJZ.
     #[inline(always)]
-    fn end_tested_jump(&mut self, i: Instr, source: u32, given: Effect)
-        requires decoded { i ≡ at_hand self.old }
-        requires fits { FitsFields i }
-        requires given { given ≡ effect self.old source }
+    fn end_tested_jump(&mut self, source: u32, given: &Effect)
+        requires given { given.now ≡ effect self.old source }
         requires at { self.old.at < 512 }
         requires clock { self.old.clock < 2 ^ 62 }
         ensures ends { self.new ≡ tested_jump self.old source }
         ensures at { self.new.at < 512 }
         ensures clock { self.new.clock < 2 ^ 62 + 2 ^ 10 }
     {
-        if jumps(i.opcode, given.result) {
+        if jumps(self.opcode(), given.result) {
             let target = address_in(source);
-            self.fetch_and_write(i, given, target);
+            self.fetch_and_write(given, target);
             self.clock += 4;
         } else {
             let at = self.next();
-            self.write_and_fetch(i, given, at);
+            self.write_and_fetch(given, at);
             self.clock += 8;
         }
     }
 
     /// Ends an instruction that computes.
     #[inline(always)]
-    fn end_computed(&mut self, i: Instr, source: u32, given: Effect)
-        requires decoded { i ≡ at_hand self.old }
-        requires fits { FitsFields i }
-        requires given { given ≡ effect self.old source }
+    fn end_computed(&mut self, source: u32, given: &Effect)
+        requires given { given.now ≡ effect self.old source }
         requires at { self.old.at < 512 }
         requires clock { self.old.clock < 2 ^ 62 }
         ensures ends { self.new ≡ computed self.old source }
         ensures at { self.new.at < 512 }
         ensures clock { self.new.clock < 2 ^ 62 + 2 ^ 10 }
     {
-        if i.opcode >= DJNZ {
-            self.end_tested_jump(i, source, given);
+        if self.opcode() >= DJNZ {
+            self.end_tested_jump(source, given);
         } else {
-            let at = self.plain_next(i, source);
-            self.fetch_and_write(i, given, at);
-            self.clock += 4;
+            self.end_plainly(source, given);
         }
     }
 
     /// Does an instruction that computes, with the value of its source.
     #[inline(always)]
-    fn compute(&mut self, i: Instr, cog: u8, source: u32, had: &[Turn]) -> Ending
-        requires decoded { i ≡ at_hand self.old }
-        requires fits { FitsFields i }
-        requires first { 8 ≤ i.opcode }
-        requires last { i.opcode ≤ 59 }
+    fn compute(&mut self, cog: u8, source: u32, had: &[Turn]) -> Ending
+        requires first { 8 ≤ (at_hand self.old).opcode }
+        requires last { (at_hand self.old).opcode ≤ 59 }
         requires at { self.old.at < 512 }
         requires clock { self.old.clock < 2 ^ 62 }
         ensures comes { ComesTo (played (compute cog self.old source) had.now) result self.new }
@@ -200,10 +194,10 @@ impl State {
         ensures at { self.new.at < 512 }
         ensures clock { self.new.clock < 2 ^ 62 + 2 ^ 10 }
     {
-        let effect = self.effect(i, source);
-        match written(i, cog, effect.result, self.clock + 3, had) {
+        let effect = self.effect(source);
+        match self.written(cog, effect.result, self.clock + 3, had) {
             Ending::Whole => {
-                self.end_computed(i, source, effect);
+                self.end_computed(source, &effect);
                 Ending::Whole
             }
             Ending::Ended => Ending::Ended,
@@ -213,9 +207,7 @@ impl State {
 
     /// Ends an instruction after its access, with its result written at a clock.
     #[inline(always)]
-    fn end_after(&mut self, i: Instr, cog: u8, effect: Effect, clock: u64, had: &[Turn]) -> Ending
-        requires decoded { i ≡ at_hand self.old }
-        requires fits { FitsFields i }
+    fn end_after(&mut self, cog: u8, effect: Effect, clock: u64, had: &[Turn]) -> Ending
         requires at { self.old.at < 512 }
         requires old { self.old.clock < 2 ^ 62 }
         requires clock { clock < 2 ^ 62 + 2 ^ 3 }
@@ -225,10 +217,10 @@ impl State {
         ensures at { self.new.at < 512 }
         ensures clock { self.new.clock < 2 ^ 62 + 2 ^ 10 }
     {
-        match written(i, cog, effect.result, clock, had) {
+        match self.written(cog, effect.result, clock, had) {
             Ending::Whole => {
                 let at = self.next();
-                self.fetch_and_write(i, effect, at);
+                self.fetch_and_write(&effect, at);
                 self.clock = clock + 1;
                 Ending::Whole
             }
@@ -239,9 +231,7 @@ impl State {
 
     /// Does an instruction of the hub, with the value of its source.
     #[inline(always)]
-    fn use_hub(&mut self, i: Instr, cog: u8, source: u32, had: &[Turn]) -> Ending
-        requires decoded { i ≡ at_hand self.old }
-        requires fits { FitsFields i }
+    fn use_hub(&mut self, cog: u8, source: u32, had: &[Turn]) -> Ending
         requires cog { cog < 8 }
         requires at { self.old.at < 512 }
         requires clock { self.old.clock + 1 < 2 ^ 62 }
@@ -252,7 +242,11 @@ impl State {
         ensures at { self.new.at < 512 }
         ensures clock { self.new.clock < 2 ^ 62 + 2 ^ 10 }
     {
-        let Request { access, kept } = hub_request(i, self.destination_value(i), source);
+        let Request { access, kept } = hub_request(
+            decode(self.long),
+            self.destination_value(),
+            source,
+        );
         match had {
             [] => {
                 let clock = window(cog, self.clock + 1);
@@ -263,16 +257,14 @@ impl State {
                     return Ending::Ended;
                 }
                 let effect = answered(kept, turn.answer);
-                self.end_after(i, cog, effect, turn.key.clock + 6, left)
+                self.end_after(cog, effect, turn.key.clock + 6, left)
             }
         }
     }
 
     /// Does a wait, with the value of its source.
     #[inline(always)]
-    fn wait(&mut self, i: Instr, cog: u8, source: u32, had: &[Turn]) -> Ending
-        requires decoded { i ≡ at_hand self.old }
-        requires fits { FitsFields i }
+    fn wait(&mut self, cog: u8, source: u32, had: &[Turn]) -> Ending
         requires at { self.old.at < 512 }
         requires clock { self.old.clock < 2 ^ 62 }
         requires had { latest had.now < 2 ^ 62 }
@@ -282,18 +274,18 @@ impl State {
         ensures at { self.new.at < 512 }
         ensures clock { self.new.clock < 2 ^ 62 + 2 ^ 10 }
     {
-        let value = self.destination_value(i);
+        let value = self.destination_value();
         match had {
             [] => {
-                let test = test_of(i.opcode, value, source);
+                let test = test_of(self.opcode(), value, source);
                 Ending::Half {
                     clock: self.clock + 4,
                     access: Access::Wait { test },
                 }
             }
             [turn, left @ ..] => {
-                let effect = wait_effect(i.opcode, value, source);
-                self.end_after(i, cog, effect, turn.key.clock + 1, left)
+                let effect = wait_effect(self.opcode(), value, source);
+                self.end_after(cog, effect, turn.key.clock + 1, left)
             }
         }
     }
@@ -315,11 +307,10 @@ impl State {
 
     /// WAITPEQ or WAITPNE for the port that this machine doesn't have.
     #[inline(always)]
-    fn is_port_wait(&self, i: Instr) -> bool
-        requires { i ≡ at_hand self.now }
+    fn is_port_wait(&self) -> bool
         ensures { result ≡ is_port_wait self.now }
     {
-        self.c && i.opcode < WAITCNT
+        self.c && self.opcode() < WAITCNT
     }
 
     /// How an instruction stands that isn't the hub's and is to read its source by an access.
@@ -336,9 +327,7 @@ impl State {
 
     /// Begins or goes on with a wait.
     #[inline(always)]
-    fn begin_wait(&mut self, i: Instr, cog: u8, had: &[Turn]) -> Ending
-        requires decoded { i ≡ at_hand self.old }
-        requires fits { FitsFields i }
+    fn begin_wait(&mut self, cog: u8, had: &[Turn]) -> Ending
         requires at { self.old.at < 512 }
         requires clock { self.old.clock < 2 ^ 62 }
         requires had { latest had.now < 2 ^ 62 }
@@ -348,20 +337,18 @@ impl State {
         ensures at { self.new.at < 512 }
         ensures clock { self.new.clock < 2 ^ 62 + 2 ^ 10 }
     {
-        if self.is_port_wait(i) {
+        if self.is_port_wait() {
             return self.halted(Reason::Port, had);
         }
-        match self.source(i, had) {
-            Ok((source, left)) => self.wait(i, cog, source, left),
+        match self.source(had) {
+            Ok((source, left)) => self.wait(cog, source, left),
             Err(access) => self.asks_source(access),
         }
     }
 
     /// Begins or goes on with an instruction of the hub.
     #[inline(always)]
-    fn begin_hub(&mut self, i: Instr, cog: u8, had: &[Turn]) -> Ending
-        requires decoded { i ≡ at_hand self.old }
-        requires fits { FitsFields i }
+    fn begin_hub(&mut self, cog: u8, had: &[Turn]) -> Ending
         requires cog { cog < 8 }
         requires at { self.old.at < 512 }
         requires clock { self.old.clock + 1 < 2 ^ 62 }
@@ -372,8 +359,8 @@ impl State {
         ensures at { self.new.at < 512 }
         ensures clock { self.new.clock < 2 ^ 62 + 2 ^ 10 }
     {
-        match self.source(i, had) {
-            Ok((source, left)) => self.use_hub(i, cog, source, left),
+        match self.source(had) {
+            Ok((source, left)) => self.use_hub(cog, source, left),
             Err(access) => {
                 let clock = self.clock;
                 Ending::Half { clock, access }
@@ -383,11 +370,9 @@ impl State {
 
     /// Begins or goes on with an instruction that computes.
     #[inline(always)]
-    fn begin_computing(&mut self, i: Instr, cog: u8, had: &[Turn]) -> Ending
-        requires decoded { i ≡ at_hand self.old }
-        requires fits { FitsFields i }
-        requires first { 8 ≤ i.opcode }
-        requires last { i.opcode ≤ 59 }
+    fn begin_computing(&mut self, cog: u8, had: &[Turn]) -> Ending
+        requires first { 8 ≤ (at_hand self.old).opcode }
+        requires last { (at_hand self.old).opcode ≤ 59 }
         requires at { self.old.at < 512 }
         requires clock { self.old.clock < 2 ^ 62 }
         ensures comes { ComesTo (played (does Computing cog self.old) had.now) result self.new }
@@ -396,8 +381,8 @@ impl State {
         ensures at { self.new.at < 512 }
         ensures clock { self.new.clock < 2 ^ 62 + 2 ^ 10 }
     {
-        match self.source(i, had) {
-            Ok((source, left)) => self.compute(i, cog, source, left),
+        match self.source(had) {
+            Ok((source, left)) => self.compute(cog, source, left),
             Err(access) => self.asks_source(access),
         }
     }
@@ -415,33 +400,30 @@ impl State {
         ensures at { self.new.at < 512 }
         ensures clock { self.new.clock < 2 ^ 62 + 2 ^ 10 }
     {
-        let i = decode(self.long);
-        match kind_of(i, self.c, self.z) {
+        match kind_of(decode(self.long), self.c, self.z) {
             Kind::Skipped => {
                 self.pass();
                 Ending::Whole
             }
-            Kind::Computing => self.begin_computing(i, cog, had),
-            Kind::OfHub => self.begin_hub(i, cog, had),
-            Kind::Waiting => self.begin_wait(i, cog, had),
+            Kind::Computing => self.begin_computing(cog, had),
+            Kind::OfHub => self.begin_hub(cog, had),
+            Kind::Waiting => self.begin_wait(cog, had),
             Kind::Halting => self.halted(Reason::Opcode(self.long), had),
         }
     }
 
     /// What an instruction of the hub asks, where no access reads its source.
     #[inline(always)]
-    fn request_of(&self, i: Instr) -> Option<Request>
-        requires decoded { i ≡ at_hand self.now }
-        requires fits { FitsFields i }
+    fn request_of(&self) -> Option<Request>
         ensures none { IfSome result (λ r. source_access (at_hand self.now) ≡ None) }
         ensures request { IfSome result (λ r. r ≡ hub_request (at_hand self.now) (destination_value self.now) (source_value self.now)) }
         ensures made { IfSome result (λ r. IsMade r.access) }
     {
-        if asks_for_source(i) {
+        if self.asks_for_source() {
             return None;
         }
-        let source = self.source_value(i);
-        Some(hub_request(i, self.destination_value(i), source))
+        let source = self.source_value();
+        Some(hub_request(decode(self.long), self.destination_value(), source))
     }
 
     /// Ends the instruction at hand, which asked the hub, by its turn. Its result is `kept` where the answer
@@ -464,7 +446,7 @@ impl State {
             return Ending::Ended;
         }
         let effect = answered(kept, turn.answer);
-        self.end_after(decode(self.long), cog, effect, turn.key.clock + 6, &[])
+        self.end_after(cog, effect, turn.key.clock + 6, &[])
     }
 
     /// Goes on with the instruction at hand by its first turn.
@@ -495,20 +477,20 @@ impl State {
         ensures asks { IfSome result (λ r. (cog : ℕ) → played (instruction cog self.now) [] ≡ Asks (window_of cog (self.now.clock + 1)) r.access) }
         ensures made { IfSome result (λ r. IsMade r.access) }
     {
-        let i = decode(self.long);
-        match kind_of(i, self.c, self.z) {
-            Kind::OfHub => self.request_of(i),
+        match kind_of(decode(self.long), self.c, self.z) {
+            Kind::OfHub => self.request_of(),
             Kind::Skipped | Kind::Computing | Kind::Waiting | Kind::Halting => None,
         }
     }
 
-    /// Does an instruction that computes, and tells whether it did: it does nothing where it asks.
-    #[inline(always)]
-    fn compute_apart(&mut self, i: Instr) -> bool
-        requires decoded { i ≡ at_hand self.old }
-        requires fits { FitsFields i }
-        requires first { 8 ≤ i.opcode }
-        requires last { i.opcode ≤ 59 }
+    /// Does an instruction that computes, whatever registers it names, and tells whether it did: it does nothing
+    /// where it asks.
+    ///
+    /// It is never inlined, so that the way of most instructions holds no branch and no call behind its jump table.
+    #[inline(never)]
+    fn compute_special(&mut self) -> bool
+        requires first { 8 ≤ (at_hand self.old).opcode }
+        requires last { (at_hand self.old).opcode ≤ 59 }
         requires at { self.old.at < 512 }
         requires clock { self.old.clock < 2 ^ 62 }
         ensures done { result ≡ true → (cog : ℕ) → played (does Computing cog self.old) [] ≡ Goes self.new [] }
@@ -517,15 +499,40 @@ impl State {
         ensures at { self.new.at < 512 }
         ensures clock { self.new.clock < 2 ^ 62 + 2 ^ 10 }
     {
-        if asks_for_source(i) {
+        if self.asks_for_source() {
             return false;
         }
-        let source = self.source_value(i);
-        let effect = self.effect(i, source);
-        if result_access(i, effect.result).is_some() {
+        let source = self.source_value();
+        let effect = self.effect(source);
+        if result_access(decode(self.long), effect.result).is_some() {
             return false;
         }
-        self.end_computed(i, source, effect);
+        self.end_computed(source, &effect);
+        true
+    }
+
+    /// Does an instruction that computes, and tells whether it did: it does nothing where it asks.
+    #[inline(always)]
+    fn compute_apart(&mut self) -> bool
+        requires first { 8 ≤ (at_hand self.old).opcode }
+        requires last { (at_hand self.old).opcode ≤ 59 }
+        requires at { self.old.at < 512 }
+        requires clock { self.old.clock < 2 ^ 62 }
+        ensures done { result ≡ true → (cog : ℕ) → played (does Computing cog self.old) [] ≡ Goes self.new [] }
+        ensures asks { result ≡ false → (cog : ℕ) → is_asking (played (does Computing cog self.old) []) ≡ true }
+        ensures kept { result ≡ false → self.new ≡ self.old }
+        ensures at { self.new.at < 512 }
+        ensures clock { self.new.clock < 2 ^ 62 + 2 ^ 10 }
+    {
+        if self.has_special_source() {
+            return self.compute_special();
+        }
+        let source = self.source_value();
+        if self.has_special_destination() {
+            return self.compute_special();
+        }
+        let effect = self.effect(source);
+        self.end_computed(source, &effect);
         true
     }
 
@@ -542,13 +549,12 @@ impl State {
         ensures at { self.new.at < 512 }
         ensures clock { self.new.clock < 2 ^ 62 + 2 ^ 10 }
     {
-        let i = decode(self.long);
-        if !self.executes(i) {
+        if !self.executes() {
             self.pass();
             return true;
         }
-        match executed_kind(i.opcode) {
-            Kind::Computing => self.compute_apart(i),
+        match self.kind() {
+            Kind::Computing => self.compute_apart(),
             Kind::OfHub | Kind::Waiting | Kind::Halting | Kind::Skipped => false,
         }
     }

@@ -1,6 +1,5 @@
 // How an instruction is carried out.
 ghost use Rattle.std.specs.Prelude.{◌≡◌, ◌<◌, ◌≤◌, ◌⊎◌};
-ghost use Rattle.std.specs.Option.{is_some};
 ghost use Rattle.p8_cog.specs.Instructions.{executed_kind, kind_of, width_of, source_access};
 ghost use Rattle.p8_cog.specs.Stops.{IsComputed, IsMadeIf};
 
@@ -55,7 +54,7 @@ pub enum Kind {
 }
 
 /// How an instruction is carried out that doesn't compute, by its opcode below 8 or from 60 on.
-fn other_kind(opcode: u8) -> Kind
+pub fn other_kind(opcode: u8) -> Kind
     requires apart { (opcode < 8) ⊎ (60 ≤ opcode) }
     requires opcode { opcode < 64 }
     ensures kind { result ≡ executed_kind opcode }
@@ -125,13 +124,4 @@ pub fn source_access(i: Instr) -> Option<Access>
     } else {
         None
     }
-}
-
-/// Whether an instruction reads its source by an access.
-#[inline(always)]
-pub fn asks_for_source(i: Instr) -> bool
-    ensures { result ≡ is_some (source_access i) }
-{
-    // Most instructions name a number or a general register.
-    !i.is_immediate() && i.source >= PAR && source_access(i).is_some()
 }

@@ -4,6 +4,7 @@
 
 mod cog_life;
 mod ending;
+mod fields;
 mod hub;
 mod instructions;
 mod kind;

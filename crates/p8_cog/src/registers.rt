@@ -60,7 +60,7 @@ impl Registers {
 
     /// The long in a register.
     #[inline(always)]
-    pub fn get(&self, register: u16) -> u32
+    pub fn get(&self, register: u32) -> u32
         requires { register < 512 }
         ensures { result ≡ slice_index self.now register }
     {
@@ -69,7 +69,7 @@ impl Registers {
 
     /// Writes a register.
     #[inline(always)]
-    pub fn set(&mut self, register: u16, value: u32)
+    pub fn set(&mut self, register: u32, value: u32)
         requires { register < 512 }
         ensures { self.new ≡ slice_set self.old register value }
     {
@@ -78,7 +78,7 @@ impl Registers {
 
     /// Writes a register where the flag is set.
     #[inline(always)]
-    pub fn set_where(&mut self, flag: bool, register: u16, value: u32)
+    pub fn set_where(&mut self, flag: bool, register: u32, value: u32)
         requires { register < 512 }
         ensures { self.new ≡ (if flag then slice_set self.old register value else self.old) }
     {

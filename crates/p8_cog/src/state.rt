@@ -1,8 +1,6 @@
 // A cog between two instructions.
 ghost use Rattle.std.specs.Prelude.{ℕ, ◌≡◌, ◌<◌, ◌≤◌, ◌+◌, ◌^◌, ◌++◌, ◌∷◌, [], take, if◌then◌else◌, IfOk, IfErr};
 ghost use Rattle.p8_access.specs.Lives.{IsMade};
-ghost use Rattle.p8_instr.specs.Instruction.{FitsFields};
-ghost use Rattle.p8_instr.specs.Conditions.{is_met};
 ghost use Rattle.p8_cog.specs.Replay.{at_hand, register_value, source_value, sourced, played, Asks, Course, destination_value, next_of, effect, fetched_before, fetched_after, passed, first_with};
 ghost use Rattle.p8_cog.specs.Stops.{left_with, latest};
 
@@ -10,7 +8,7 @@ use crate::hub::value_in;
 use crate::kind::{INB, PAR, source_access};
 use crate::registers::{LOADED_LONGS, Registers};
 use p8_access::{Access, Turn};
-use p8_instr::{ALWAYS, Effect, FLAG_C, Instr, execute};
+use p8_instr::{Effect, decode, execute};
 use p8_words::NoMemory;
 use std::alloc::Global;
 
@@ -96,23 +94,14 @@ impl State {
         self.z = false;
     }
 
-    /// Whether an instruction executes.
-    #[inline(always)]
-    pub fn executes(&self, i: Instr) -> bool
-        ensures { result ≡ is_met i.cond self.now.c self.now.z }
-    {
-        // Most instructions always execute.
-        i.cond == ALWAYS || i.is_met(self.c, self.z)
-    }
-
     /// The value of a special register in the source field.
-    fn special_value(&self, register: u16) -> u32
+    fn special_value(&self, register: u32) -> u32
         requires { register < 512 }
         ensures { result ≡ register_value self.now register }
     {
-        if register == PAR {
+        if register == u32::from(PAR) {
             u32::from(self.par)
-        } else if register == INB {
+        } else if register == u32::from(INB) {
             0
         } else {
             self.registers.get(register)
@@ -121,32 +110,29 @@ impl State {
 
     /// The value of a source that isn't read by an access.
     #[inline(always)]
-    pub fn source_value(&self, i: Instr) -> u32
-        requires decoded { i ≡ at_hand self.now }
-        requires fits { FitsFields i }
+    pub fn source_value(&self) -> u32
         ensures { result ≡ source_value self.now }
     {
-        if i.is_immediate() {
-            u32::from(i.source)
-        } else if i.source < PAR {
-            self.registers.get(i.source)
+        let field = self.source_field();
+        if self.is_immediate() {
+            field
+        } else if field < u32::from(PAR) {
+            self.registers.get(field)
         } else {
-            self.special_value(i.source)
+            self.special_value(field)
         }
     }
 
     /// The value of a source of a special register, as `source` gives it.
     #[inline(always)]
-    fn special_source<'a>(&self, i: Instr, had: &'a [Turn]) -> Result<(u32, &'a [Turn]), Access>
-        requires decoded { i ≡ at_hand self.now }
-        requires fits { FitsFields i }
+    fn special_source<'a>(&self, had: &'a [Turn]) -> Result<(u32, &'a [Turn]), Access>
         ensures value { IfOk result (λ p. (clock : ℕ) (go : ℕ → Course) → played (sourced clock self.now go) had.now ≡ played (go p.0) p.1.now) }
         ensures left { IfOk result (λ p. latest p.1.now ≤ latest had.now) }
         ensures asks { IfErr result (λ access. (clock : ℕ) (go : ℕ → Course) → played (sourced clock self.now go) had.now ≡ Asks clock access) }
         ensures made { IfErr result (λ access. IsMade access) }
     {
-        match source_access(i) {
-            None => Ok((self.source_value(i), had)),
+        match source_access(decode(self.long)) {
+            None => Ok((self.source_value(), had)),
             Some(access) => match had {
                 [] => Err(access),
                 [turn, left @ ..] => Ok((value_in(turn.answer), left)),
@@ -157,96 +143,93 @@ impl State {
     /// The value of the source, and the turns that are left after its read; or the access that reads it
     /// and has had no turn.
     #[inline(always)]
-    pub fn source<'a>(&self, i: Instr, had: &'a [Turn]) -> Result<(u32, &'a [Turn]), Access>
-        requires decoded { i ≡ at_hand self.now }
-        requires fits { FitsFields i }
+    pub fn source<'a>(&self, had: &'a [Turn]) -> Result<(u32, &'a [Turn]), Access>
         ensures value { IfOk result (λ p. (clock : ℕ) (go : ℕ → Course) → played (sourced clock self.now go) had.now ≡ played (go p.0) p.1.now) }
         ensures left { IfOk result (λ p. latest p.1.now ≤ latest had.now) }
         ensures asks { IfErr result (λ access. (clock : ℕ) (go : ℕ → Course) → played (sourced clock self.now go) had.now ≡ Asks clock access) }
         ensures made { IfErr result (λ access. IsMade access) }
     {
         // Most instructions name a general register or a number.
-        if i.is_immediate() || i.source < PAR {
-            Ok((self.source_value(i), had))
+        if self.is_immediate() || self.source_field() < u32::from(PAR) {
+            Ok((self.source_value(), had))
         } else {
-            self.special_source(i, had)
+            self.special_source(had)
         }
     }
 
     /// The value of the destination.
     #[inline(always)]
-    pub fn destination_value(&self, i: Instr) -> u32
-        requires decoded { i ≡ at_hand self.now }
-        requires fits { FitsFields i }
+    pub fn destination_value(&self) -> u32
         ensures { result ≡ destination_value self.now }
     {
-        self.registers.get(i.dest)
+        self.registers.get(self.dest())
     }
 
     /// The next address.
     #[inline(always)]
-    pub fn next(&self) -> u16
+    pub fn next(&self) -> u32
         requires { self.now.at < 512 }
         ensures next { result ≡ next_of self.now }
         ensures below { result < 512 }
     {
-        (self.at + 1) & 511
+        (u32::from(self.at) + 1) & 511
     }
 
     /// The result and the flags that are computed.
     #[inline(always)]
-    pub fn effect(&self, i: Instr, source: u32) -> Effect
-        requires decoded { i ≡ at_hand self.now }
-        requires fits { FitsFields i }
-        requires first { 8 ≤ i.opcode }
-        requires last { i.opcode ≤ 59 }
+    pub fn effect(&self, source: u32) -> Effect
+        requires first { 8 ≤ (at_hand self.now).opcode }
+        requires last { (at_hand self.now).opcode ≤ 59 }
         requires at { self.now.at < 512 }
         ensures { result ≡ effect self.now source }
     {
-        let destination = self.destination_value(i);
-        execute(i, destination, source, self.c, self.z, self.next())
+        let i = decode(self.long);
+        let destination = self.destination_value();
+        execute(i, destination, source, self.c, self.z, self.next() as u16)
     }
 
     /// Goes on at an address with the long that was fetched, when the result is written.
     #[inline(always)]
-    fn go_on(&mut self, i: Instr, effect: Effect, at: u16, long: u32)
-        ensures { self.new ≡ left_with self.old i effect at long self.old.clock }
+    fn go_on(&mut self, effect: &Effect, at: u32, long: u32)
+        requires { at < 512 }
+        ensures { self.new ≡ left_with self.old (at_hand self.old) effect.now at long self.old.clock }
     {
-        self.at = at;
+        let writes_flags = self.writes_flags();
+        let writes_c = self.writes_c();
+        let writes_z = self.writes_z();
+        self.at = at as u16;
         self.long = long;
         // Most instructions write no flag.
-        if i.flags >= FLAG_C {
-            self.c = flag_of(i.writes_c(), effect.c, self.c);
-            self.z = flag_of(i.writes_z(), effect.z, self.z);
+        if writes_flags {
+            self.c = flag_of(writes_c, effect.c, self.c);
+            self.z = flag_of(writes_z, effect.z, self.z);
         }
     }
 
     /// Writes, and goes on with the long that stood at an address before. The clock stays.
     #[inline(always)]
-    pub fn fetch_and_write(&mut self, i: Instr, effect: Effect, at: u16)
-        requires decoded { i ≡ at_hand self.old }
-        requires fits { FitsFields i }
+    pub fn fetch_and_write(&mut self, effect: &Effect, at: u32)
         requires at { at < 512 }
-        ensures { self.new ≡ fetched_before self.old effect at self.old.clock }
+        ensures { self.new ≡ fetched_before self.old effect.now at self.old.clock }
     {
         let long = self.registers.get(at);
-        self.registers
-            .set_where(i.writes_result(), i.dest, effect.result);
-        self.go_on(i, effect, at, long);
+        let writes = self.writes_result();
+        let dest = self.dest();
+        self.registers.set_where(writes, dest, effect.result);
+        self.go_on(effect, at, long);
     }
 
     /// Writes, and goes on with the long that stands at an address then. The clock stays.
     #[inline(always)]
-    pub fn write_and_fetch(&mut self, i: Instr, effect: Effect, at: u16)
-        requires decoded { i ≡ at_hand self.old }
-        requires fits { FitsFields i }
+    pub fn write_and_fetch(&mut self, effect: &Effect, at: u32)
         requires at { at < 512 }
-        ensures { self.new ≡ fetched_after self.old effect at self.old.clock }
+        ensures { self.new ≡ fetched_after self.old effect.now at self.old.clock }
     {
-        self.registers
-            .set_where(i.writes_result(), i.dest, effect.result);
+        let writes = self.writes_result();
+        let dest = self.dest();
+        self.registers.set_where(writes, dest, effect.result);
         let long = self.registers.get(at);
-        self.go_on(i, effect, at, long);
+        self.go_on(effect, at, long);
     }
 
     /// Passes over an instruction.
@@ -258,7 +241,7 @@ impl State {
     {
         let at = self.next();
         self.long = self.registers.get(at);
-        self.at = at;
+        self.at = at as u16;
         self.clock += 4;
     }
 }
