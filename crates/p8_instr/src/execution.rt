@@ -31,17 +31,16 @@ pub fn execute(i: Instr, d: u32, s: u32, c: bool, z: bool, next: u16) -> Effect
     requires next { next < 512 }
     ensures { result ≡ effect_of i.opcode d s c z next }
 {
-    let n = s % 32;
     match i.opcode {
         // ROR, ROL, SHR, SHL, RCR, RCL, SAR, REV
-        8 => Effect::of(rotated_right(d, n), lowest_bit(d)),
-        9 => Effect::of(rotated_left(d, n), highest_bit(d)),
-        10 => Effect::of(d >> n, lowest_bit(d)),
-        11 => Effect::of(d << n, highest_bit(d)),
-        12 => Effect::of(shifted_right_filling(d, n, c), lowest_bit(d)),
-        13 => Effect::of(shifted_left_filling(d, n, c), highest_bit(d)),
-        14 => Effect::of(shifted_right_signed(d, n), lowest_bit(d)),
-        15 => Effect::of(reverse(d) >> n, lowest_bit(d)),
+        8 => Effect::of(rotated_right(d, s % 32), lowest_bit(d)),
+        9 => Effect::of(rotated_left(d, s % 32), highest_bit(d)),
+        10 => Effect::of(d >> (s % 32), lowest_bit(d)),
+        11 => Effect::of(d << (s % 32), highest_bit(d)),
+        12 => Effect::of(shifted_right_filling(d, s % 32, c), lowest_bit(d)),
+        13 => Effect::of(shifted_left_filling(d, s % 32, c), highest_bit(d)),
+        14 => Effect::of(shifted_right_signed(d, s % 32), lowest_bit(d)),
+        15 => Effect::of(reverse(d) >> (s % 32), lowest_bit(d)),
         // MINS, MAXS, MIN, MAX
         16 => Effect::of_comparison(greater_signed(d, s), is_below_signed(d, s), d == s),
         17 => Effect::of_comparison(lesser_signed(d, s), is_below_signed(d, s), d == s),

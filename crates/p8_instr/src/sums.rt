@@ -38,7 +38,9 @@ pub fn signed_difference_with(a: u32, b: u32, c: bool) -> Effect
 }
 
 /// The difference where the flag is set, else the sum.
-#[inline]
+///
+/// It is always inlined: a call would keep the effect of each instruction in memory.
+#[inline(always)]
 pub fn difference_or_sum(flag: bool, a: u32, b: u32) -> Effect
     ensures { result
         ≡ signed_effect (if flag then signed_value a -ℤ signed_value b else signed_value a +ℤ signed_value b) }
