@@ -35,6 +35,9 @@ pub enum Operands {
 }
 
 /// What stands after a bytecode's byte; `None` exactly where no bytecode has that byte.
+///
+/// It is always inlined, since the loop of a Spin cog is to hold it.
+#[inline(always)]
 #[tactic(auto, unfolding(crate::specs::Table::rows))]
 pub fn operands_of(code: u8) -> Option<Operands>
     ensures { result ≡ operands_of code }
