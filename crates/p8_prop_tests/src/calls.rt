@@ -1,4 +1,4 @@
-// Calls of the program whose outside fails where it is told to.
+// Calls of the program, whose outside fails where it is told to.
 use p8_io::{FailList, MemShelf, MemSink};
 use p8_prop::{Status, prop_alone};
 use p8_words::NoMemory;
@@ -13,9 +13,12 @@ const BLINK: &[u8] =
     b"VAR\n  long stack[8]\nPUB start(pin) : ok\n  ok := cognew(run(pin), @stack) + 1\n\
     PRI run(pin)\n  dira[pin]~~\n  repeat\n    !outa[pin]\n    waitcnt(clkfreq / 1000 + cnt)\n";
 
-/// Other files: a pin script, one that is none, a source without a method, a history without its head, and an image
+/// A file of a shelf: its name and its bytes.
+pub type File = (&'static str, &'static [u8]);
+
+/// Other files: the object, a pin script, one that is none, a source without a method, a history without its head, and an image
 /// without anything.
-const FILES: [(&str, &[u8]); 6] = [
+pub static FILES: [File; 6] = [
     ("blink.spin", BLINK),
     ("a.pins", b"100 00000001\n"),
     ("bad.pins", b"100 1\n"),
@@ -58,6 +61,18 @@ impl Left {
     }
 }
 
+/// The words of a line, as a command line has them.
+pub fn words_in(alloc: Global, line: &str) -> Result<Vec<String>, NoMemory> {
+    let mut words = Vec::new(alloc);
+    for word in line.split_whitespace() {
+        match words.push(String::from_str(alloc, word)?) {
+            Ok(()) => {}
+            Err(_) => return Err(NoMemory),
+        }
+    }
+    Ok(words)
+}
+
 /// The list of one call that is to fail, or of none for 0.
 fn failing_at(alloc: Global, call: u64) -> Result<FailList, NoMemory> {
     let mut fails = FailList::new(alloc);
@@ -65,40 +80,40 @@ fn failing_at(alloc: Global, call: u64) -> Result<FailList, NoMemory> {
     Ok(fails)
 }
 
-/// The words as a command line has them.
-fn words_of(alloc: Global, words: &[&str]) -> Result<Vec<String>, NoMemory> {
-    let mut line = Vec::new(alloc);
-    for word in words {
-        match line.push(String::from_str(alloc, word)?) {
-            Ok(()) => {}
-            Err(_) => return Err(NoMemory),
-        }
-    }
-    Ok(line)
-}
-
-/// The shelf of all files, with this one as `main.spin`.
-fn shelf_with(alloc: Global, main: &[u8]) -> Result<MemShelf, NoMemory> {
-    let mut shelf = MemShelf::new(alloc);
+/// A shelf of these files, with this one as `main.spin`, of which the read of this number fails.
+pub fn shelf_failing_at(
+    alloc: Global,
+    main: &[u8],
+    files: &[File],
+    read: u64,
+) -> Result<MemShelf, NoMemory> {
+    let mut shelf = MemShelf::new(alloc).with(failing_at(alloc, read)?);
     shelf.add("main.spin", main)?;
-    for (name, bytes) in FILES {
+    for (name, bytes) in files {
         shelf.add(name, bytes)?;
     }
     Ok(shelf)
 }
 
-/// Makes a call of these words, with this file as `main.spin`.
+/// A sink of which the write of this number fails.
+pub fn sink_failing_at(alloc: Global, write: u64) -> Result<MemSink, NoMemory> {
+    Ok(MemSink::new(alloc, ROOM)?.with(failing_at(alloc, write)?))
+}
+
+/// Makes a call of a line's words on a shelf of these files, with this one as `main.spin`.
 pub fn left_by(
     alloc: Global,
     main: &[u8],
-    words: &[&str],
+    files: &[File],
+    line: &str,
     failing: Failing,
 ) -> Result<Left, NoMemory> {
-    let mut shelf = shelf_with(alloc, main)?.with(failing_at(alloc, failing.read)?);
-    let mut out = MemSink::new(alloc, ROOM)?.with(failing_at(alloc, failing.write)?);
-    let mut faults = MemSink::new(alloc, ROOM)?.with(failing_at(alloc, failing.told)?);
-    let words = words_of(alloc, words)?;
+    let words = words_in(alloc, line)?;
+    let mut out = sink_failing_at(alloc, failing.write)?;
+    let mut faults = sink_failing_at(alloc, failing.told)?;
+    let mut shelf = shelf_failing_at(alloc, main, files, failing.read)?;
     let status = prop_alone(alloc, &words, &mut shelf, &mut out, &mut faults);
+    drop(shelf);
     Ok(Left {
         status,
         out,

@@ -1,9 +1,11 @@
 // Worked calls over a shelf and sinks in memory.
+use crate::calls::{Failing, File, Left, left_by, shelf_failing_at, sink_failing_at, words_in};
 use p8_desk::ThreadStarter;
-use p8_io::{FailList, MemShelf, MemSink};
-use p8_prop::{Status, prop, prop_alone};
+use p8_prop::{Status, prop};
 use p8_words::NoMemory;
 use std::alloc::Global;
+use std::sync::Wait;
+use std::thread::Threads;
 
 /// The image of `PUB main`.
 const IMAGE: &[u8] =
@@ -104,14 +106,16 @@ const PAGE: &[u8] =
 const USAGE: &str =
     "prop: usage: prop build|list FILE, prop raw|run FILE CLOCKS [--pins F] [--turns K] [--dump A:N] [--alone]\n";
 
-/// The files of the shelf: an image, an empty file, a bad pin script, three good sources, two bad ones, one that mentions a bad
+/// The source whose image that is.
+const MAIN: &[u8] = b"PUB main\n";
+
+/// Other files of the shelf: an image, an empty file, a bad pin script, two good sources, two bad ones, one that mentions a bad
 /// one and one that mentions none, one whose method is too large, one that mentions it and one whose image is too large, a message
 /// and the script that sends it, and two history files.
-static FILES: [(&str, &[u8]); 17] = [
+static FILES: [File; 16] = [
     ("a.binary", IMAGE),
     ("empty.binary", b""),
     ("a.pins", b"9000 1"),
-    ("main.spin", b"PUB main\n"),
     ("bad.spin", b"CON\n  a = 1\n"),
     ("loop.spin", b"PUB main\n  repeat\n"),
     ("five.spin", b"VAR\n  long x\nPUB main\n  x := 5\n"),
@@ -127,64 +131,16 @@ static FILES: [(&str, &[u8]); 17] = [
     ("b.history", OTHER_HISTORY),
 ];
 
-/// What a call left.
-#[derive(Drop)]
-struct Left {
-    status: Status,
-    out: MemSink,
-    faults: MemSink,
-}
-
-/// The words of a line, as a command line has them.
-fn words_in(alloc: Global, line: &str) -> Result<Vec<String>, NoMemory> {
-    let mut words = Vec::new(alloc);
-    for word in line.split_whitespace() {
-        match words.push(String::from_str(alloc, word)?) {
-            Ok(()) => {}
-            Err(_) => return Err(NoMemory),
-        }
-    }
-    Ok(words)
-}
-
-/// The list of one call that is to fail, or of none for 0.
-fn failing_at(alloc: Global, call: u64) -> Result<FailList, NoMemory> {
-    let mut fails = FailList::new(alloc);
-    fails.at(call)?;
-    Ok(fails)
-}
-
-/// The shelf of those files, of which the read of this number fails.
-fn shelf_failing_at(alloc: Global, read: u64) -> Result<MemShelf, NoMemory> {
-    let mut shelf = MemShelf::new(alloc);
-    for (name, bytes) in &FILES {
-        shelf.add(name, bytes)?;
-    }
-    Ok(shelf.with(failing_at(alloc, read)?))
-}
-
-/// A sink of which the write of this number fails.
-fn sink_failing_at(alloc: Global, write: u64) -> Result<MemSink, NoMemory> {
-    Ok(MemSink::new(alloc, 4096)?.with(failing_at(alloc, write)?))
-}
-
-/// Makes a call of a line's words, in which the read and the write of these numbers fail; for 0 none does.
-fn left_by(alloc: Global, line: &str, read: u64, write: u64) -> Result<Left, NoMemory> {
-    let words = words_in(alloc, line)?;
-    let mut shelf = shelf_failing_at(alloc, read)?;
-    let mut out = sink_failing_at(alloc, write)?;
-    let mut faults = MemSink::new(alloc, 4096)?;
-    let status = prop_alone(alloc, &words, &mut shelf, &mut out, &mut faults);
-    Ok(Left {
-        status,
-        out,
-        faults,
-    })
+/// Makes a call of a line's words on a shelf of those files, in which the read and the write of these numbers fail; for 0 none does.
+fn left(alloc: Global, line: &str, read: u64, write: u64) -> Result<Left, NoMemory> {
+    let told = 0;
+    let failing = Failing { read, write, told };
+    left_by(alloc, MAIN, &FILES, line, failing)
 }
 
 /// Whether a line's words are carried out and leave this text, and no line of a fault.
 fn leaves(alloc: Global, line: &str, text: &[u8]) -> Result<bool, NoMemory> {
-    let left = left_by(alloc, line, 0, 0)?;
+    let left = left(alloc, line, 0, 0)?;
     let is_done = left.status == Status::Ok && left.faults.bytes().is_empty();
     Ok(is_done && left.out.bytes() == text)
 }
@@ -195,9 +151,8 @@ type Refusal = (&'static str, u64, u64, Status, &'static str);
 /// Whether a call has its status and its line, and leaves no text.
 fn is_refused(alloc: Global, refusal: &Refusal) -> Result<bool, NoMemory> {
     let (line, read, write, status, fault) = *refusal;
-    let left = left_by(alloc, line, read, write)?;
-    let is_told = left.faults.bytes() == fault.as_bytes();
-    Ok(left.status == status && left.out.bytes().is_empty() && is_told)
+    let left = left(alloc, line, read, write)?;
+    Ok(left.is_refusal(status, fault))
 }
 
 /// Calls and what they write. An option stands before FILE, and another one between FILE and CLOCKS.
@@ -403,7 +358,7 @@ fn refuses_other_words(rt: HostRuntime) {
 
 /// Whether a run's wave begins as such a file does.
 fn shows_a_wave(alloc: Global) -> Result<bool, NoMemory> {
-    let left = left_by(alloc, "wave a.binary 20000 --alone", 0, 0)?;
+    let left = left(alloc, "wave a.binary 20000 --alone", 0, 0)?;
     let begin = b"$version Propeller P8X32A $end\n";
     Ok(left.status == Status::Ok && left.out.bytes().starts_with(begin))
 }
@@ -413,16 +368,18 @@ fn waves_have_a_version(rt: HostRuntime) {
     assert!(rt; matches!(shows_a_wave(rt.alloc()), Ok(true)));
 }
 
-#[test]
-fn runs_by_a_crew(rt: HostRuntime) -> Result<(), NoMemory> {
-    let alloc = rt.alloc();
+/// Whether a run by a crew leaves the text.
+fn is_run_by_a_crew<R: Threads + Wait + Clone + Send + Drop + 'static>(
+    rt: &R,
+    alloc: Global,
+) -> Result<bool, NoMemory> {
     let words = words_in(alloc, "run main.spin 20000 --dump=0000:2")?;
-    let mut shelf = shelf_failing_at(alloc, 0)?;
-    let mut out = MemSink::new(alloc, 4096)?;
-    let mut faults = MemSink::new(alloc, 4096)?;
+    let mut out = sink_failing_at(alloc, 0)?;
+    let mut faults = sink_failing_at(alloc, 0)?;
+    let mut shelf = shelf_failing_at(alloc, MAIN, &FILES, 0)?;
     let mut starter = ThreadStarter::new();
     let status = prop(
-        &rt,
+        rt,
         alloc,
         &words,
         &mut shelf,
@@ -430,6 +387,11 @@ fn runs_by_a_crew(rt: HostRuntime) -> Result<(), NoMemory> {
         &mut faults,
         &mut starter,
     );
-    assert!(rt; status == Status::Ok && out.bytes() == TEXT);
-    Ok(())
+    drop(shelf);
+    Ok(status == Status::Ok && out.bytes() == TEXT)
+}
+
+#[test]
+fn runs_by_a_crew(rt: HostRuntime) {
+    assert!(rt; matches!(is_run_by_a_crew(&rt, rt.alloc()), Ok(true)));
 }

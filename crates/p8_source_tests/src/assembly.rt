@@ -1,8 +1,7 @@
 // Assembled sources: the bytes and the labels of their DAT, or a refusal and its place.
-use p8_blocks::parse;
+use crate::sources::tree_of;
 use p8_dat::{Dat, DatFault, assemble};
 use p8_kinds::{Children, Kinds, Named};
-use p8_lexer::lex;
 use p8_tree::{List, SourceFile};
 use p8_words::Fail;
 use std::alloc::{AllocError, Global};
@@ -39,20 +38,15 @@ fn write_answer(out: &mut String, answer: Result<Dat, Fail<DatFault>>) -> Result
     }
 }
 
-// What assembling a text answers.
-fn answer(alloc: Global, text: &str) -> Result<String, AllocError> {
-    let bytes = text.as_bytes();
+// What assembling the DAT of a file answers.
+fn answer_of(alloc: Global, file: &SourceFile) -> Result<String, AllocError> {
     let mut out = String::new(alloc);
     let children = Children {
         items: List::new(alloc),
     };
-    let Ok(tokens) = lex(alloc, bytes) else {
-        return Ok(out);
-    };
-    match parse(alloc, bytes, &tokens) {
-        Ok(file) => write_answer(&mut out, assembled(alloc, &file, &children))?,
-        Err(_) => out.push_str("no file")?,
-    }
+    let answer = assembled(alloc, file, &children);
+    drop(children);
+    write_answer(&mut out, answer)?;
     Ok(out)
 }
 
@@ -67,8 +61,12 @@ static ANSWERS: [(&str, &str); 4] = [
 
 // Whether assembling a text answers so.
 fn answers(alloc: Global, text: &str, wanted: &str) -> Result<bool, AllocError> {
-    let found = answer(alloc, text)?;
-    Ok(found.as_str() == wanted)
+    let Some(file) = tree_of(alloc, text.as_bytes()) else {
+        return Ok(false);
+    };
+    let answer = answer_of(alloc, &file);
+    drop(file);
+    Ok(answer?.as_str() == wanted)
 }
 
 #[test]

@@ -6,313 +6,320 @@ use p8_stmt::MethodSize;
 use p8_tree::{Fault, Place, Text};
 use p8_words::NoMemory;
 use std::alloc::Global;
-use std::test::Fail;
 
-/// The explanation of a file `m.spin`.
-fn explained(
-    alloc: Global,
-    bytes: &[u8],
-    number: u8,
-    line: u32,
-    column: u32,
-) -> Result<Vec<u8>, NoMemory> {
+/// A source `m.spin`, the number of its refusal, the line and the column of that, the size of what is too large, and the explanation.
+type Case = (&'static [u8], u8, u32, u32, Option<Size>, &'static [u8]);
+
+/// Whether a refusal is explained so.
+fn is_explained(alloc: Global, case: &Case) -> Result<bool, NoMemory> {
+    let (bytes, number, line, column, size, expected) = *case;
     let name = Text::copy_of(alloc, b"m.spin")?;
     let fault = Fault {
         number,
         place: Place { line, column },
     };
-    explanation(alloc, &name, bytes, fault, None)
+    let text = explanation(alloc, &name, bytes, fault, size)?;
+    Ok(text.as_slice() == expected)
 }
 
-/// A token that can't stand where it does, told apart by what its line shows: after a tab, in UTF-16, with CR LF, in a long line.
+static EXPLAINED: [Case; 17] = [
+    // A token that can't stand where it does, told apart by what its line shows: after a tab, in UTF-16, with CR LF, in a long line.
+    (
+        b"PUB main\n\ta := next\n",
+        6,
+        2,
+        14,
+        None,
+        b"m.spin:2:14: 6 Unexpected\n\
+            \x20       a := next\n\
+            \x20            ^\n\
+            `next` is a reserved word, and can't be a name.\n\
+            No line begins or goes on so, or the file ends here and more must follow.\n\
+            Look at what stands before it: a missing operator, bracket, comma or colon is told at the token after it.\n",
+    ),
+    (
+        b"\xff\xfeP\0U\0B\0 \0m\0a\0i\0n\0\r\0\n\0 \0a\0 \0=\0 \01\0\r\0\n\0",
+        6,
+        2,
+        4,
+        None,
+        b"m.spin:2:4: 6 Unexpected\n\
+            \x20a = 1\n\
+            \x20  ^\n\
+            `:=` assigns; `=` alone defines constants in CON.\n\
+            No line begins or goes on so, or the file ends here and more must follow.\n\
+            Look at what stands before it: a missing operator, bracket, comma or colon is told at the token after it.\n",
+    ),
+    (
+        b"PUB main\r\n  a := \r\n  b := 1\r\n",
+        6,
+        2,
+        8,
+        None,
+        b"m.spin:2:8: 6 Unexpected\n\
+            \x20 a := \n\
+            \x20      ^\n\
+            The line ends here, where more must follow, as a name, a value, a closing bracket or the : of a CASE item.\n\
+            No line begins or goes on so, or the file ends here and more must follow.\n\
+            Look at what stands before it: a missing operator, bracket, comma or colon is told at the token after it.\n",
+    ),
+    (
+        b"CON\nx = 1 + 1 + 1 + 1 + 1 + 1 + 1 + 1 + 1 + 1 + 1 + 1 + 1 + 1 + 1 + 1 + 1 + 1 + 1\
+            \x20+ 1 + 1 + 1 + 1 + 1 + next\n",
+        6,
+        2,
+        101,
+        None,
+        b"m.spin:2:101: 6 Unexpected\n\
+            \x201 + 1 + 1 + 1 + 1 + 1 + 1 + 1 + 1 + 1 + 1 + 1 + next\n\
+            \x20                                                ^\n\
+            `next` is a reserved word, and can't be a name.\n\
+            No line begins or goes on so, or the file ends here and more must follow.\n\
+            Look at what stands before it: a missing operator, bracket, comma or colon is told at the token after it.\n",
+    ),
+    // A token that can't stand where it does, by what stands before it.
+    (
+        b"PUB main\n  m()\n",
+        6,
+        2,
+        5,
+        None,
+        b"m.spin:2:5: 6 Unexpected\n\
+            \x20 m()\n\
+            \x20   ^\n\
+            Nothing stands in these parentheses: leave them out, or write what belongs in them.\n\
+            No line begins or goes on so, or the file ends here and more must follow.\n\
+            Look at what stands before it: a missing operator, bracket, comma or colon is told at the token after it.\n",
+    ),
+    (
+        b"PUB main\n  a := 1 2\n",
+        6,
+        2,
+        10,
+        None,
+        b"m.spin:2:10: 6 Unexpected\n\
+            \x20 a := 1 2\n\
+            \x20        ^\n\
+            `2` follows another word or value, with no operator, comma, bracket or colon between them.\n\
+            No line begins or goes on so, or the file ends here and more must follow.\n\
+            Look at what stands before it: a missing operator, bracket, comma or colon is told at the token after it.\n",
+    ),
+    (
+        b"PUB main\n  + 1\n",
+        6,
+        2,
+        3,
+        None,
+        b"m.spin:2:3: 6 Unexpected\n\
+            \x20 + 1\n\
+            \x20 ^\n\
+            The line begins with `+`.\n\
+            No line begins or goes on so, or the file ends here and more must follow.\n\
+            Look at what stands before it: a missing operator, bracket, comma or colon is told at the token after it.\n",
+    ),
+    (
+        b"CON\n  x = *2\n",
+        6,
+        2,
+        7,
+        None,
+        b"m.spin:2:7: 6 Unexpected\n\
+            \x20 x = *2\n\
+            \x20     ^\n\
+            The line can be read up to `*`.\n\
+            No line begins or goes on so, or the file ends here and more must follow.\n\
+            Look at what stands before it: a missing operator, bracket, comma or colon is told at the token after it.\n",
+    ),
+    // A mark of UTF-8, a last Ctrl-Z, half a unit, and a character above 127.
+    (
+        b"\xef\xbb\xbfPUB main\n",
+        1,
+        1,
+        1,
+        None,
+        b"m.spin:1:1: 1 BadByte\n\
+            ???PUB main\n\
+            ^\n\
+            The file begins with the mark of UTF-8, the bytes EF BB BF: store it without that mark.\n\
+            No token begins with this character, or the file is UTF-16 and ends in half a unit.\n\
+            Take the character away, or type it again: a copied text may hold one that only looks like another.\n",
+    ),
+    (
+        b"PUB main\r\n\x1a",
+        1,
+        2,
+        1,
+        None,
+        b"m.spin:2:1: 1 BadByte\n\
+            ?\n\
+            ^\n\
+            This is Ctrl-Z, character 26, which some editors put at the end of a file.\n\
+            No token begins with this character, or the file is UTF-16 and ends in half a unit.\n\
+            Take the character away, or type it again: a copied text may hold one that only looks like another.\n",
+    ),
+    (
+        b"\xff\xfeP\0U",
+        1,
+        1,
+        2,
+        None,
+        b"m.spin:1:2: 1 BadByte\n\
+            P\n\
+            \x20^\n\
+            Half a unit of UTF-16 stands here, at the end of the file.\n\
+            No token begins with this character, or the file is UTF-16 and ends in half a unit.\n\
+            Take the character away, or type it again: a copied text may hold one that only looks like another.\n",
+    ),
+    (
+        b"PUB main\n\x84\n",
+        1,
+        2,
+        1,
+        None,
+        b"m.spin:2:1: 1 BadByte\n\
+            ?\n\
+            ^\n\
+            This is character 132.\n\
+            No token begins with this character, or the file is UTF-16 and ends in half a unit.\n\
+            Take the character away, or type it again: a copied text may hold one that only looks like another.\n",
+    ),
+    // A name that is defined twice, and one that the language has; another name that holds the letters doesn't count.
+    (
+        b"PRI domain\nPUB main\nPUB Main\n",
+        14,
+        3,
+        5,
+        None,
+        b"m.spin:3:5: 14 Duplicate\n\
+            PUB Main\n\
+            \x20   ^\n\
+            `Main` stands first at 2:5, where comments and strings count.\n\
+            This name has another definition. Letters in either case are the same.\n\
+            Choose another name. TRUE, XTAL1 and the language's other constants are names of every file.\n",
+    ),
+    (
+        b"PUB main\nCON true = 1\n",
+        14,
+        2,
+        5,
+        None,
+        b"m.spin:2:5: 14 Duplicate\n\
+            CON true = 1\n\
+            \x20   ^\n\
+            `true` stands nowhere before this: it is a constant of the language, or this file defines it further down.\n\
+            This name has another definition. Letters in either case are the same.\n\
+            Choose another name. TRUE, XTAL1 and the language's other constants are names of every file.\n",
+    ),
+    // A frame of one long too many with too much on the stack, one whose longs aren't told any more, and an image of one long too many.
+    (
+        b"PUB main | a[2048]\n",
+        26,
+        1,
+        5,
+        Some(Size::Method(MethodSize {
+            longs: 2049,
+            held: 130,
+        })),
+        b"m.spin:1:5: 26 FrameTooLarge\n\
+            PUB main | a[2048]\n\
+            \x20   ^\n\
+            The frame has 2049 longs, 1 more than 2048.\n\
+            The method holds 130 values at once, 2 more than 128.\n\
+            The method's result, parameters and locals are more than 2,048 longs, or it holds more than 128 values at once.\n\
+            Put large arrays into VAR.\n",
+    ),
+    (
+        b"PUB main | a[-1]\n",
+        26,
+        1,
+        5,
+        Some(Size::Method(MethodSize {
+            longs: u32::MAX,
+            held: 1,
+        })),
+        b"m.spin:1:5: 26 FrameTooLarge\n\
+            PUB main | a[-1]\n\
+            \x20   ^\n\
+            The frame has at least 4294967295 longs, at least 4294965247 more than 2048.\n\
+            The method's result, parameters and locals are more than 2,048 longs, or it holds more than 128 values at once.\n\
+            Put large arrays into VAR.\n",
+    ),
+    (
+        b"PUB main\n",
+        28,
+        1,
+        1,
+        Some(Size::Image(32_772)),
+        b"m.spin:1:1: 28 ImageTooLarge\n\
+            PUB main\n\
+            ^\n\
+            The image with its variables and the first frame has 32772 bytes, 4 more than 32768.\n\
+            The program, its variables and the first method's frame don't fit into 32,768 bytes.\n\
+            Shorten arrays or code.\n",
+    ),
+];
+
 #[test]
-fn unexpected(rt: HostRuntime) -> Result<(), Fail> {
-    let cases: [(&[u8], u32, u32, &[u8]); 4] = [
-        (
-            b"PUB main\n\ta := next\n",
-            2,
-            14,
-            b"m.spin:2:14: 6 Unexpected\n\
-                \x20       a := next\n\
-                \x20            ^\n\
-                `next` is a reserved word, and can't be a name.\n\
-                No line begins or goes on so, or the file ends here and more must follow.\n\
-                Look at what stands before it: a missing operator, bracket, comma or colon is told at the token after it.\n",
-        ),
-        (
-            b"\xff\xfeP\0U\0B\0 \0m\0a\0i\0n\0\r\0\n\0 \0a\0 \0=\0 \01\0\r\0\n\0",
-            2,
-            4,
-            b"m.spin:2:4: 6 Unexpected\n\
-                \x20a = 1\n\
-                \x20  ^\n\
-                `:=` assigns; `=` alone defines constants in CON.\n\
-                No line begins or goes on so, or the file ends here and more must follow.\n\
-                Look at what stands before it: a missing operator, bracket, comma or colon is told at the token after it.\n",
-        ),
-        (
-            b"PUB main\r\n  a := \r\n  b := 1\r\n",
-            2,
-            8,
-            b"m.spin:2:8: 6 Unexpected\n\
-                \x20 a := \n\
-                \x20      ^\n\
-                The line ends here, where more must follow, as a name, a value, a closing bracket or the : of a CASE item.\n\
-                No line begins or goes on so, or the file ends here and more must follow.\n\
-                Look at what stands before it: a missing operator, bracket, comma or colon is told at the token after it.\n",
-        ),
-        (
-            b"CON\nx = 1 + 1 + 1 + 1 + 1 + 1 + 1 + 1 + 1 + 1 + 1 + 1 + 1 + 1 + 1 + 1 + 1 + 1 + 1\
-                \x20+ 1 + 1 + 1 + 1 + 1 + next\n",
-            2,
-            101,
-            b"m.spin:2:101: 6 Unexpected\n\
-                \x201 + 1 + 1 + 1 + 1 + 1 + 1 + 1 + 1 + 1 + 1 + 1 + next\n\
-                \x20                                                ^\n\
-                `next` is a reserved word, and can't be a name.\n\
-                No line begins or goes on so, or the file ends here and more must follow.\n\
-                Look at what stands before it: a missing operator, bracket, comma or colon is told at the token after it.\n",
-        ),
-    ];
-    for (bytes, line, column, expected) in cases {
-        let text = explained(rt.alloc(), bytes, 6, line, column)?;
-        assert_eq!(rt; text.as_slice(), expected);
+fn refusals_are_explained(rt: HostRuntime) {
+    for case in &EXPLAINED {
+        assert!(rt;
+            matches!(is_explained(rt.alloc(), case), Ok(true)),
+            "{} at {}:{}",
+            case.1,
+            case.2,
+            case.3
+        );
     }
-    Ok(())
 }
 
-/// A token that can't stand where it does, by what stands before it.
+/// Refusals by their numbers, and what is told of them.
+static ENTRIES: [(u8, &[u8]); 2] = [
+    (
+        26,
+        b"26 FrameTooLarge\n\
+            The method's result, parameters and locals are more than 2,048 longs, or it holds more than 128 values at once.\n\
+            Put large arrays into VAR.\n\
+            Example: PUB main | a[2048]\n",
+    ),
+    (31, b"31 \nNo refusal has this number.\n"),
+];
+
+/// Whether each refusal is told so.
+fn are_told(alloc: Global) -> Result<bool, NoMemory> {
+    let mut all = true;
+    for (number, expected) in &ENTRIES {
+        let text = entry(alloc, *number)?;
+        all = all && text.as_slice() == *expected;
+    }
+    Ok(all)
+}
+
 #[test]
-fn told_apart(rt: HostRuntime) -> Result<(), Fail> {
-    let cases: [(&[u8], u32, u32, &[u8]); 4] = [
-        (
-            b"PUB main\n  m()\n",
-            2,
-            5,
-            b"m.spin:2:5: 6 Unexpected\n\
-                \x20 m()\n\
-                \x20   ^\n\
-                Nothing stands in these parentheses: leave them out, or write what belongs in them.\n\
-                No line begins or goes on so, or the file ends here and more must follow.\n\
-                Look at what stands before it: a missing operator, bracket, comma or colon is told at the token after it.\n",
-        ),
-        (
-            b"PUB main\n  a := 1 2\n",
-            2,
-            10,
-            b"m.spin:2:10: 6 Unexpected\n\
-                \x20 a := 1 2\n\
-                \x20        ^\n\
-                `2` follows another word or value, with no operator, comma, bracket or colon between them.\n\
-                No line begins or goes on so, or the file ends here and more must follow.\n\
-                Look at what stands before it: a missing operator, bracket, comma or colon is told at the token after it.\n",
-        ),
-        (
-            b"PUB main\n  + 1\n",
-            2,
-            3,
-            b"m.spin:2:3: 6 Unexpected\n\
-                \x20 + 1\n\
-                \x20 ^\n\
-                The line begins with `+`.\n\
-                No line begins or goes on so, or the file ends here and more must follow.\n\
-                Look at what stands before it: a missing operator, bracket, comma or colon is told at the token after it.\n",
-        ),
-        (
-            b"CON\n  x = *2\n",
-            2,
-            7,
-            b"m.spin:2:7: 6 Unexpected\n\
-                \x20 x = *2\n\
-                \x20     ^\n\
-                The line can be read up to `*`.\n\
-                No line begins or goes on so, or the file ends here and more must follow.\n\
-                Look at what stands before it: a missing operator, bracket, comma or colon is told at the token after it.\n",
-        ),
-    ];
-    for (bytes, line, column, expected) in cases {
-        let text = explained(rt.alloc(), bytes, 6, line, column)?;
-        assert_eq!(rt; text.as_slice(), expected);
-    }
-    Ok(())
+fn entries_are_told(rt: HostRuntime) {
+    assert!(rt; matches!(are_told(rt.alloc()), Ok(true)));
 }
 
-/// A mark of UTF-8, a last Ctrl-Z, half a unit, and a character above 127.
-#[test]
-fn bad_characters(rt: HostRuntime) -> Result<(), Fail> {
-    let cases: [(&[u8], u32, u32, &[u8]); 4] = [
-        (
-            b"\xef\xbb\xbfPUB main\n",
-            1,
-            1,
-            b"m.spin:1:1: 1 BadByte\n\
-                ???PUB main\n\
-                ^\n\
-                The file begins with the mark of UTF-8, the bytes EF BB BF: store it without that mark.\n\
-                No token begins with this character, or the file is UTF-16 and ends in half a unit.\n\
-                Take the character away, or type it again: a copied text may hold one that only looks like another.\n",
-        ),
-        (
-            b"PUB main\r\n\x1a",
-            2,
-            1,
-            b"m.spin:2:1: 1 BadByte\n\
-                ?\n\
-                ^\n\
-                This is Ctrl-Z, character 26, which some editors put at the end of a file.\n\
-                No token begins with this character, or the file is UTF-16 and ends in half a unit.\n\
-                Take the character away, or type it again: a copied text may hold one that only looks like another.\n",
-        ),
-        (
-            b"\xff\xfeP\0U",
-            1,
-            2,
-            b"m.spin:1:2: 1 BadByte\n\
-                P\n\
-                \x20^\n\
-                Half a unit of UTF-16 stands here, at the end of the file.\n\
-                No token begins with this character, or the file is UTF-16 and ends in half a unit.\n\
-                Take the character away, or type it again: a copied text may hold one that only looks like another.\n",
-        ),
-        (
-            b"PUB main\n\x84\n",
-            2,
-            1,
-            b"m.spin:2:1: 1 BadByte\n\
-                ?\n\
-                ^\n\
-                This is character 132.\n\
-                No token begins with this character, or the file is UTF-16 and ends in half a unit.\n\
-                Take the character away, or type it again: a copied text may hold one that only looks like another.\n",
-        ),
-    ];
-    for (bytes, line, column, expected) in cases {
-        let text = explained(rt.alloc(), bytes, 1, line, column)?;
-        assert_eq!(rt; text.as_slice(), expected);
-    }
-    Ok(())
-}
+/// The explanation of a missing file, at the place that mentions it.
+const ABSENCE: &[u8] = b"m.spin:2:13: Ser.spin is missing\n\
+    \x20       t : \"Ser\"\n\
+    \x20           ^\n\
+    There is no file of this name. Capitals and small letters differ, and a name without a dot gets .spin.\n";
 
-/// A name that is defined twice, and one that the language has; another name that holds the letters doesn't count.
-#[test]
-fn duplicates(rt: HostRuntime) -> Result<(), Fail> {
-    let cases: [(&[u8], u32, u32, &[u8]); 2] = [
-        (
-            b"PRI domain\nPUB main\nPUB Main\n",
-            3,
-            5,
-            b"m.spin:3:5: 14 Duplicate\n\
-                PUB Main\n\
-                \x20   ^\n\
-                `Main` stands first at 2:5, where comments and strings count.\n\
-                This name has another definition. Letters in either case are the same.\n\
-                Choose another name. TRUE, XTAL1 and the language's other constants are names of every file.\n",
-        ),
-        (
-            b"PUB main\nCON true = 1\n",
-            2,
-            5,
-            b"m.spin:2:5: 14 Duplicate\n\
-                CON true = 1\n\
-                \x20   ^\n\
-                `true` stands nowhere before this: it is a constant of the language, or this file defines it further down.\n\
-                This name has another definition. Letters in either case are the same.\n\
-                Choose another name. TRUE, XTAL1 and the language's other constants are names of every file.\n",
-        ),
-    ];
-    for (bytes, line, column, expected) in cases {
-        let text = explained(rt.alloc(), bytes, 14, line, column)?;
-        assert_eq!(rt; text.as_slice(), expected);
-    }
-    Ok(())
-}
-
-/// The explanation of a file `m.spin` of which this is too large.
-fn sized(
-    alloc: Global,
-    bytes: &[u8],
-    number: u8,
-    place: Place,
-    size: Size,
-) -> Result<Vec<u8>, NoMemory> {
+/// Whether it is explained so.
+fn is_absent(alloc: Global) -> Result<bool, NoMemory> {
     let name = Text::copy_of(alloc, b"m.spin")?;
-    explanation(alloc, &name, bytes, Fault { number, place }, Some(size))
-}
-
-/// A frame of one long too many with too much on the stack, one whose longs aren't told any more, and an image of one long too many.
-#[test]
-fn sizes(rt: HostRuntime) -> Result<(), Fail> {
-    let place = Place { line: 1, column: 5 };
-    let size = Size::Method(MethodSize {
-        longs: 2049,
-        held: 130,
-    });
-    let text = sized(rt.alloc(), b"PUB main | a[2048]\n", 26, place, size)?;
-    let expected = b"m.spin:1:5: 26 FrameTooLarge\n\
-        PUB main | a[2048]\n\
-        \x20   ^\n\
-        The frame has 2049 longs, 1 more than 2048.\n\
-        The method holds 130 values at once, 2 more than 128.\n\
-        The method's result, parameters and locals are more than 2,048 longs, or it holds more than 128 values at once.\n\
-        Put large arrays into VAR.\n";
-    assert_eq!(rt; text.as_slice(), expected.as_slice());
-    let size = Size::Method(MethodSize {
-        longs: u32::MAX,
-        held: 1,
-    });
-    let text = sized(rt.alloc(), b"PUB main | a[-1]\n", 26, place, size)?;
-    let expected = b"m.spin:1:5: 26 FrameTooLarge\n\
-        PUB main | a[-1]\n\
-        \x20   ^\n\
-        The frame has at least 4294967295 longs, at least 4294965247 more than 2048.\n\
-        The method's result, parameters and locals are more than 2,048 longs, or it holds more than 128 values at once.\n\
-        Put large arrays into VAR.\n";
-    assert_eq!(rt; text.as_slice(), expected.as_slice());
-    let place = Place { line: 1, column: 1 };
-    let text = sized(rt.alloc(), b"PUB main\n", 28, place, Size::Image(32_772))?;
-    let expected = b"m.spin:1:1: 28 ImageTooLarge\n\
-        PUB main\n\
-        ^\n\
-        The image with its variables and the first frame has 32772 bytes, 4 more than 32768.\n\
-        The program, its variables and the first method's frame don't fit into 32,768 bytes.\n\
-        Shorten arrays or code.\n";
-    assert_eq!(rt; text.as_slice(), expected.as_slice());
-    Ok(())
-}
-
-/// A refusal by its number.
-#[test]
-fn entries(rt: HostRuntime) -> Result<(), Fail> {
-    let text = entry(rt.alloc(), 26)?;
-    let expected = b"26 FrameTooLarge\n\
-        The method's result, parameters and locals are more than 2,048 longs, or it holds more than 128 values at once.\n\
-        Put large arrays into VAR.\n\
-        Example: PUB main | a[2048]\n";
-    assert_eq!(rt; text.as_slice(), expected.as_slice());
-    let text = entry(rt.alloc(), 31)?;
-    assert_eq!(rt;
-        text.as_slice(),
-        b"31 \nNo refusal has this number.\n".as_slice()
-    );
-    Ok(())
-}
-
-/// A missing file, at the place that mentions it.
-#[test]
-fn absent(rt: HostRuntime) -> Result<(), Fail> {
-    let name = Text::copy_of(rt.alloc(), b"m.spin")?;
-    let missing = Text::copy_of(rt.alloc(), b"Ser.spin")?;
+    let missing = Text::copy_of(alloc, b"Ser.spin")?;
     let place = Place {
         line: 2,
         column: 13,
     };
-    let text = absence(rt.alloc(), &name, b"OBJ\n\tt : \"Ser\"\n", place, &missing)?;
-    let expected = b"m.spin:2:13: Ser.spin is missing\n\
-        \x20       t : \"Ser\"\n\
-        \x20           ^\n\
-        There is no file of this name. Capitals and small letters differ, and a name without a dot gets .spin.\n";
-    assert_eq!(rt; text.as_slice(), expected.as_slice());
-    Ok(())
+    let text = absence(alloc, &name, b"OBJ\n\tt : \"Ser\"\n", place, &missing)?;
+    Ok(text.as_slice() == ABSENCE)
+}
+
+#[test]
+fn a_missing_file_is_explained(rt: HostRuntime) {
+    assert!(rt; matches!(is_absent(rt.alloc()), Ok(true)));
 }
 
 /// Sources with a place, a name of a tree, and how the source spells it there: after CR LF and at a line's begin, after a tab, in UTF-16, and after more
@@ -362,7 +369,6 @@ fn are_spelled(alloc: Global) -> Result<bool, NoMemory> {
 }
 
 #[test]
-fn names_are_spelled(rt: HostRuntime) -> Result<(), Fail> {
+fn names_are_spelled(rt: HostRuntime) {
     assert!(rt; matches!(are_spelled(rt.alloc()), Ok(true)));
-    Ok(())
 }

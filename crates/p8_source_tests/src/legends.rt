@@ -1,4 +1,5 @@
 // The legend of a small project, name for name.
+use crate::shelves::shelf_of;
 use p8_io::MemShelf;
 use p8_legend::{Legend, project_legend};
 use p8_objects::{discard, gather};
@@ -6,7 +7,7 @@ use p8_words::NoMemory;
 use std::alloc::Global;
 
 /// Two instances of one child, which has an object inside it.
-const TOP: &str = "VAR
+const TOP: &[u8] = b"VAR
   byte flag
   long Count[2]
 OBJ
@@ -14,7 +15,7 @@ OBJ
 PUB main
 ";
 
-const SERIAL: &str = "VAR
+const SERIAL: &[u8] = b"VAR
   word width
 OBJ
   buf : \"ring\"
@@ -23,7 +24,7 @@ entry long 5
 PUB start
 ";
 
-const RING: &str = "VAR
+const RING: &[u8] = b"VAR
   long head
 PUB init
 ";
@@ -46,14 +47,12 @@ static NAMES: [(&str, u16, u16); 10] = [
     ("ser[1].buf.head", 0x5C, 4),
 ];
 
-/// The shelf with the project.
-fn shelf(alloc: Global) -> Result<MemShelf, NoMemory> {
-    let mut shelf = MemShelf::new(alloc);
-    shelf.add("top.spin", TOP.as_bytes())?;
-    shelf.add("serial.spin", SERIAL.as_bytes())?;
-    shelf.add("ring.spin", RING.as_bytes())?;
-    Ok(shelf)
-}
+/// The files of the project.
+static FILES: [(&str, &[u8]); 3] = [
+    ("top.spin", TOP),
+    ("serial.spin", SERIAL),
+    ("ring.spin", RING),
+];
 
 /// The legend of the project of `top.spin`.
 fn legend_on(alloc: Global, shelf: &mut MemShelf) -> Option<Legend> {
@@ -86,13 +85,18 @@ fn tells_offset(alloc: Global, legend: &Legend) -> bool {
     }
 }
 
-fn holds(alloc: Global) -> Option<bool> {
-    let mut shelf = shelf(alloc).ok()?;
-    let legend = legend_on(alloc, &mut shelf)?;
-    Some(has_all(&legend) && tells_offset(alloc, &legend))
+/// Whether the legend of the project has all names and tells that offset.
+fn holds(alloc: Global) -> Result<bool, NoMemory> {
+    let mut shelf = shelf_of(alloc, &FILES, 0)?;
+    let legend = legend_on(alloc, &mut shelf);
+    drop(shelf);
+    match legend {
+        Some(legend) => Ok(has_all(&legend) && tells_offset(alloc, &legend)),
+        None => Ok(false),
+    }
 }
 
 #[test]
 fn tells_the_variables_of_two_instances(rt: HostRuntime) {
-    assert!(rt; matches!(holds(rt.alloc()), Some(true)));
+    assert!(rt; matches!(holds(rt.alloc()), Ok(true)));
 }

@@ -39,4 +39,8 @@ mod projects;
 #[cfg(test)]
 mod resolving;
 #[cfg(test)]
+mod shelves;
+#[cfg(test)]
+mod sources;
+#[cfg(test)]
 mod trees;

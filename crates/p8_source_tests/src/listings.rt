@@ -3,7 +3,6 @@ use p8_image::{MethodPart, ObjectPart, listing};
 use p8_tree::{List, Text};
 use p8_words::NoMemory;
 use std::alloc::Global;
-use std::test::Fail;
 
 /// A method without a frame and without texts.
 fn method(alloc: Global, code: &[u8]) -> Result<MethodPart, NoMemory> {
@@ -39,13 +38,12 @@ fn object(
     })
 }
 
-/// The listing of one object.
-fn listed(alloc: Global, dat: &[u8], code: &[u8]) -> Result<Vec<u8>, Fail> {
-    let mut names = Vec::new(alloc);
-    let mut objects = Vec::new(alloc);
-    names.push(Text::copy_of(alloc, b"main.spin")?)?;
-    objects.push(object(alloc, dat, &[code], 0)?)?;
-    Ok(listing(alloc, &names, &objects)?)
+/// Whether the listing of objects of these names is this text.
+fn is_listed(alloc: Global, names: &[Text], objects: &[ObjectPart], text: &str) -> bool {
+    match listing(alloc, names, objects) {
+        Ok(listed) => listed.as_slice() == text.as_bytes(),
+        Err(_) => false,
+    }
 }
 
 const ROW: &str = "object main.spin 0010
@@ -98,31 +96,56 @@ method 2 003A
 004F 32
 ";
 
-#[test]
-fn lists_a_dat_and_a_method(rt: HostRuntime) -> Result<(), Fail> {
-    let text = listed(rt.alloc(), b"\x04\0\xFC\xA0", b"\x32")?;
-    assert!(rt; text.as_slice() == ROW.as_bytes());
-    let dat = b"\x20\x04\0\0\x84\0\0\0\0\0\0\0\x01\x01\x01\x01";
-    let text = listed(rt.alloc(), dat, b"\x40\x36\x96\x16\x4C\x32")?;
-    assert!(rt; text.as_slice() == PADDED.as_bytes());
-    Ok(())
+/// The DAT and the code of one object, and its listing.
+static SINGLE: [(&[u8], &[u8], &str); 2] = [
+    (b"\x04\0\xFC\xA0", b"\x32", ROW),
+    (
+        b"\x20\x04\0\0\x84\0\0\0\0\0\0\0\x01\x01\x01\x01",
+        b"\x40\x36\x96\x16\x4C\x32",
+        PADDED,
+    ),
+];
+
+/// Whether the listing of one object is this text.
+fn lists_one(alloc: Global, dat: &[u8], code: &[u8], text: &str) -> Result<bool, NoMemory> {
+    let names = [Text::copy_of(alloc, b"main.spin")?];
+    let objects = [object(alloc, dat, &[code], 0)?];
+    Ok(is_listed(alloc, &names, &objects, text))
 }
 
 #[test]
-fn lists_objects_one_behind_the_other(rt: HostRuntime) -> Result<(), Fail> {
-    let alloc = rt.alloc();
-    let mut names = Vec::new(alloc);
-    let mut objects = Vec::new(alloc);
-    names.push(Text::copy_of(alloc, b"main.spin")?)?;
-    names.push(Text::copy_of(alloc, b"blink.spin")?)?;
-    let main: [&[u8]; 1] = [b"\x01\x38\x04\x06\x02\x01\x32"];
-    let blink: [&[u8]; 2] = [
-        b"\x34\x64\x43\x15\x02\x01\x36\xEC\x61\x32",
-        b"\x64\x3D\xD6\x1C\x64\x3D\xD4\x47\x35\xC0\x39\x03\xE8\xF6\x3F\x91\xEC\x23\x04\xFF\xEF\x32",
+fn lists_a_dat_and_a_method(rt: HostRuntime) {
+    for (dat, code, text) in &SINGLE {
+        assert!(rt;
+            matches!(lists_one(rt.alloc(), dat, code, text), Ok(true)),
+            "{text}"
+        );
+    }
+}
+
+/// The code of the method of the first object.
+static MAIN: [&[u8]; 1] = [b"\x01\x38\x04\x06\x02\x01\x32"];
+
+/// The codes of the methods of the object inside it.
+static BLINKING: [&[u8]; 2] = [
+    b"\x34\x64\x43\x15\x02\x01\x36\xEC\x61\x32",
+    b"\x64\x3D\xD6\x1C\x64\x3D\xD4\x47\x35\xC0\x39\x03\xE8\xF6\x3F\x91\xEC\x23\x04\xFF\xEF\x32",
+];
+
+/// Whether the listing of two objects has one behind the other.
+fn lists_two(alloc: Global) -> Result<bool, NoMemory> {
+    let names = [
+        Text::copy_of(alloc, b"main.spin")?,
+        Text::copy_of(alloc, b"blink.spin")?,
     ];
-    objects.push(object(alloc, b"", &main, 1)?)?;
-    objects.push(object(alloc, b"", &blink, 0)?)?;
-    let text = listing(alloc, &names, &objects)?;
-    assert!(rt; text.as_slice() == BLINK.as_bytes());
-    Ok(())
+    let objects = [
+        object(alloc, b"", &MAIN, 1)?,
+        object(alloc, b"", &BLINKING, 0)?,
+    ];
+    Ok(is_listed(alloc, &names, &objects, BLINK))
+}
+
+#[test]
+fn lists_objects_one_behind_the_other(rt: HostRuntime) {
+    assert!(rt; matches!(lists_two(rt.alloc()), Ok(true)));
 }

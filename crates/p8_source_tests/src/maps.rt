@@ -1,18 +1,19 @@
 // The map of a small project, line for line.
+use crate::shelves::shelf_of;
 use p8_io::MemShelf;
 use p8_map::project_map;
 use p8_objects::{discard, gather};
+use p8_words::NoMemory;
 use std::alloc::Global;
-use std::test::Fail;
 
 /// It has no variables of its own, and so no line as an instance.
-const TOP: &str = "OBJ
+const TOP: &[u8] = b"OBJ
   led[2] : \"led\"
 PUB main
 ";
 
 /// Longs come first in the memory, then words, then bytes, whatever their order here.
-const LED: &str = "VAR
+const LED: &[u8] = b"VAR
   byte flag
   long count[2]
   word Width
@@ -55,26 +56,34 @@ const MAP: &str = "0000 header clkfreq 00B71B00
 005C free 32676
 ";
 
+/// The files of the project.
+static FILES: [(&str, &[u8]); 2] = [("top.spin", TOP), ("led.spin", LED)];
+
 /// The map of the project of `top.spin`.
-fn map_on(alloc: Global, shelf: &mut MemShelf) -> Result<Vec<u8>, Fail> {
+fn map_on(alloc: Global, shelf: &mut MemShelf) -> Option<Vec<u8>> {
     let Ok(gathered) = gather(alloc, shelf, "top.spin") else {
-        return Err("not gathered".into());
+        return None;
     };
     let map = project_map(alloc, &gathered.project, gathered.sources.as_slice());
     discard(gathered);
     match map {
-        Ok(text) => Ok(text),
-        Err(_) => Err("no map".into()),
+        Ok(text) => Some(text),
+        Err(_) => None,
+    }
+}
+
+/// Whether the map is told so.
+fn is_told(alloc: Global) -> Result<bool, NoMemory> {
+    let mut shelf = shelf_of(alloc, &FILES, 0)?;
+    let map = map_on(alloc, &mut shelf);
+    drop(shelf);
+    match map {
+        Some(text) => Ok(text.as_slice() == MAP.as_bytes()),
+        None => Ok(false),
     }
 }
 
 #[test]
-fn tells_where_two_objects_stand(rt: HostRuntime) -> Result<(), Fail> {
-    let alloc = rt.alloc();
-    let mut shelf = MemShelf::new(alloc);
-    shelf.add("top.spin", TOP.as_bytes())?;
-    shelf.add("led.spin", LED.as_bytes())?;
-    let map = map_on(alloc, &mut shelf)?;
-    assert!(rt; map.as_slice() == MAP.as_bytes());
-    Ok(())
+fn tells_where_two_objects_stand(rt: HostRuntime) {
+    assert!(rt; matches!(is_told(rt.alloc()), Ok(true)));
 }

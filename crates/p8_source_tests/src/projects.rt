@@ -1,35 +1,25 @@
 // Worked projects: their files in order, and why there is none.
-use p8_io::{FailList, MemShelf};
-use p8_objects::{GatherFault, Mention, gather};
+use crate::shelves::shelf_of;
+use p8_io::MemShelf;
+use p8_objects::{GatherFault, Mention, discard, gather};
 use p8_tree::{Project, Text};
 use p8_words::NoMemory;
 use std::alloc::{AllocError, Global};
 
 // A file that mentions these, each on a line of its own; the string stands at column 7.
-const MENTIONS_A: &str = "OBJ\n  x : \"a\"\nPUB f";
+const MENTIONS_A: &[u8] = b"OBJ\n  x : \"a\"\nPUB f";
 
-const MENTIONS_B: &str = "OBJ\n  x : \"b\"\nPUB f";
+const MENTIONS_B: &[u8] = b"OBJ\n  x : \"b\"\nPUB f";
 
-const MENTIONS_B_AND_C: &str = "OBJ\n  x : \"b\"\n  y : \"c\"\nPUB f";
+const MENTIONS_B_AND_C: &[u8] = b"OBJ\n  x : \"b\"\n  y : \"c\"\nPUB f";
 
-const MENTIONS_C: &str = "OBJ\n  x : \"c\"\nPUB f";
+const MENTIONS_C: &[u8] = b"OBJ\n  x : \"c\"\nPUB f";
 
-const MENTIONS_D: &str = "OBJ\n  x : \"d\"\nPUB f";
+const MENTIONS_D: &[u8] = b"OBJ\n  x : \"d\"\nPUB f";
 
-const NO_MENTION: &str = "PUB f";
+const NO_MENTION: &[u8] = b"PUB f";
 
-const FLOATING: &str = "CON\n  x = 1.5";
-
-// A shelf whose top file is `a.spin`. Files without text aren't on it.
-fn shelf_of(alloc: Global, texts: [&str; 4]) -> Result<MemShelf, NoMemory> {
-    let mut shelf = MemShelf::new(alloc);
-    for (name, text) in ["a.spin", "b.spin", "c.spin", "d.spin"].iter().zip(texts) {
-        if !text.is_empty() {
-            shelf.add(name, text.as_bytes())?;
-        }
-    }
-    Ok(shelf)
-}
+const FLOATING: &[u8] = b"CON\n  x = 1.5";
 
 fn write_name(out: &mut String, name: &Text) -> Result<(), AllocError> {
     out.push_str(str::from_utf8(name.as_slice()).unwrap_or("?"))
@@ -79,63 +69,111 @@ fn write_fault(out: &mut String, fault: &GatherFault) -> Result<(), AllocError> 
 fn answer(alloc: Global, shelf: &mut MemShelf) -> Result<String, AllocError> {
     let mut out = String::new(alloc);
     match gather(alloc, shelf, "a.spin") {
-        Ok(gathered) => write_files(&mut out, &gathered.project)?,
+        Ok(gathered) => {
+            let written = write_files(&mut out, &gathered.project);
+            discard(gathered);
+            written?;
+        }
         Err(fault) => write_fault(&mut out, &fault)?,
     }
     Ok(out)
 }
 
-// Whether gathering answers so where the read of this number fails; for 0 none does. None where there is no memory.
-fn answers(alloc: Global, texts: [&str; 4], call: u64, wanted: &str) -> Option<bool> {
-    let mut fails = FailList::new(alloc);
-    fails.at(call).ok()?;
-    let mut shelf = shelf_of(alloc, texts).ok()?.with(fails);
-    let found = answer(alloc, &mut shelf).ok()?;
-    Some(found.as_str() == wanted)
+// Whether gathering answers so where the read of this number fails; for 0 none does.
+fn answers(
+    alloc: Global,
+    files: &[(&str, &[u8])],
+    call: u64,
+    wanted: &str,
+) -> Result<bool, NoMemory> {
+    let mut shelf = shelf_of(alloc, files, call)?;
+    let found = answer(alloc, &mut shelf);
+    drop(shelf);
+    Ok(found?.as_str() == wanted)
 }
 
-static PROJECTS: [([&str; 4], u64, &str); 11] = [
-    ([MENTIONS_B, MENTIONS_A, "", ""], 0, "b.spin:2:7: 19"),
-    ([MENTIONS_A, "", "", ""], 0, "a.spin:2:7: 19"),
+// Files, the first of them the top file, the number of the read that fails, and what gathering answers.
+type Case = (&'static [(&'static str, &'static [u8])], u64, &'static str);
+
+static PROJECTS: [Case; 11] = [
     (
-        [MENTIONS_B_AND_C, MENTIONS_C, NO_MENTION, ""],
+        &[("a.spin", MENTIONS_B), ("b.spin", MENTIONS_A)],
+        0,
+        "b.spin:2:7: 19",
+    ),
+    (&[("a.spin", MENTIONS_A)], 0, "a.spin:2:7: 19"),
+    (
+        &[
+            ("a.spin", MENTIONS_B_AND_C),
+            ("b.spin", MENTIONS_C),
+            ("c.spin", NO_MENTION),
+        ],
         0,
         "a.spin b.spin c.spin ",
     ),
     (
-        [MENTIONS_B_AND_C, MENTIONS_D, NO_MENTION, NO_MENTION],
+        &[
+            ("a.spin", MENTIONS_B_AND_C),
+            ("b.spin", MENTIONS_D),
+            ("c.spin", NO_MENTION),
+            ("d.spin", NO_MENTION),
+        ],
         0,
         "a.spin b.spin d.spin c.spin ",
     ),
     (
-        [MENTIONS_B_AND_C, NO_MENTION, "", ""],
+        &[("a.spin", MENTIONS_B_AND_C), ("b.spin", NO_MENTION)],
         0,
         "missing c.spin, at a.spin:3:7",
     ),
-    ([MENTIONS_B_AND_C, FLOATING, "", ""], 0, "b.spin:2:7: 9"),
     (
-        [MENTIONS_B_AND_C, MENTIONS_C, MENTIONS_B, ""],
+        &[("a.spin", MENTIONS_B_AND_C), ("b.spin", FLOATING)],
+        0,
+        "b.spin:2:7: 9",
+    ),
+    (
+        &[
+            ("a.spin", MENTIONS_B_AND_C),
+            ("b.spin", MENTIONS_C),
+            ("c.spin", MENTIONS_B),
+        ],
         0,
         "c.spin:2:7: 19",
     ),
     // Each read fails in turn; there is no fourth one, since no file is read twice.
     (
-        [MENTIONS_B_AND_C, MENTIONS_C, NO_MENTION, ""],
+        &[
+            ("a.spin", MENTIONS_B_AND_C),
+            ("b.spin", MENTIONS_C),
+            ("c.spin", NO_MENTION),
+        ],
         1,
         "not read a.spin",
     ),
     (
-        [MENTIONS_B_AND_C, MENTIONS_C, NO_MENTION, ""],
+        &[
+            ("a.spin", MENTIONS_B_AND_C),
+            ("b.spin", MENTIONS_C),
+            ("c.spin", NO_MENTION),
+        ],
         2,
         "not read b.spin",
     ),
     (
-        [MENTIONS_B_AND_C, MENTIONS_C, NO_MENTION, ""],
+        &[
+            ("a.spin", MENTIONS_B_AND_C),
+            ("b.spin", MENTIONS_C),
+            ("c.spin", NO_MENTION),
+        ],
         3,
         "not read c.spin",
     ),
     (
-        [MENTIONS_B_AND_C, MENTIONS_C, NO_MENTION, ""],
+        &[
+            ("a.spin", MENTIONS_B_AND_C),
+            ("b.spin", MENTIONS_C),
+            ("c.spin", NO_MENTION),
+        ],
         4,
         "a.spin b.spin c.spin ",
     ),
@@ -143,9 +181,9 @@ static PROJECTS: [([&str; 4], u64, &str); 11] = [
 
 #[test]
 fn gathers_projects(rt: HostRuntime) {
-    for (texts, call, wanted) in &PROJECTS {
+    for (files, call, wanted) in &PROJECTS {
         assert!(rt;
-            answers(rt.alloc(), *texts, *call, wanted) == Some(true),
+            matches!(answers(rt.alloc(), files, *call, wanted), Ok(true)),
             "{wanted}"
         );
     }

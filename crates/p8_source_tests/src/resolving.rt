@@ -1,29 +1,13 @@
 // The names of whole sources.
-ghost use Rattle.std.specs.Prelude.{IfSome};
 ghost use Rattle.p8_tree.specs.Proper.{IsProperFile};
 ghost use Rattle.p8_tree.specs.Views.{source_of};
 
-use p8_blocks::{parse, tokens_are_proper};
+use crate::sources::tree_of;
 use p8_kinds::{Child, ChildConst, ChildMethod, Children, Named};
-use p8_lexer::lex;
 use p8_names::resolve;
 use p8_tree::{List, SourceFile, Text};
 use p8_words::Fail;
 use std::alloc::{AllocError, Global};
-
-// The tree of a source, if it is read.
-fn tree_of(alloc: Global, source: &[u8]) -> Option<SourceFile>
-    ensures { IfSome result (λ file. IsProperFile (source_of file)) }
-{
-    tokens_are_proper();
-    let Ok(tokens) = lex(alloc, source) else {
-        return None;
-    };
-    match parse(alloc, source, &tokens) {
-        Ok(file) => Some(file),
-        Err(_) => None,
-    }
-}
 
 // What an object's file has: `LIMIT = 40` and `PUB set(value)`.
 fn kid(alloc: Global) -> Result<Child, AllocError> {
@@ -76,7 +60,11 @@ fn write_answer(
     requires { IsProperFile (source_of file.now) }
 {
     match resolve(alloc, file, children, top) {
-        Ok(named) => write_kind(out, &named, asked.0, asked.1, alloc),
+        Ok(named) => {
+            let written = write_kind(out, &named, asked.0, asked.1, alloc);
+            drop(named);
+            written
+        }
         Err(Fail::Refused(fault)) => write!(
             out,
             "{} {}:{}",
@@ -90,18 +78,27 @@ fn write_answer(
 // whole file, and what it is, or why the source is refused.
 type Case = (&'static str, usize, bool, u32, &'static str, &'static str);
 
-// Whether what a name of a source is, or why the source is refused, is what a case says.
-fn is_answered(alloc: Global, case: &Case) -> Result<bool, AllocError> {
-    let (source, objects, top, method, name, verdict) = *case;
+// What a name of a file is, or why the file is refused.
+fn answer_of(alloc: Global, file: &SourceFile, case: &Case) -> Result<String, AllocError>
+    requires { IsProperFile (source_of file.now) }
+{
+    let (_, objects, top, method, name, _) = *case;
     let mut out = String::new(alloc);
     let children = kids(alloc, objects)?;
-    let Some(file) = tree_of(alloc, source.as_bytes()) else {
+    let written = write_answer(&mut out, alloc, file, &children, top, (method, name));
+    drop(children);
+    written?;
+    Ok(out)
+}
+
+// Whether what a name of a source is, or why the source is refused, is what a case says.
+fn is_answered(alloc: Global, case: &Case) -> Result<bool, AllocError> {
+    let Some(file) = tree_of(alloc, case.0.as_bytes()) else {
         return Ok(false);
     };
-    let written = write_answer(&mut out, alloc, &file, &children, top, (method, name));
+    let answer = answer_of(alloc, &file, case);
     drop(file);
-    written?;
-    Ok(out.as_str() == verdict)
+    Ok(answer?.as_str() == case.5)
 }
 
 // Each by itself: the first fault, by place and then by number.

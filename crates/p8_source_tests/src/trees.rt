@@ -20,12 +20,16 @@ fn number(place: Place, value: u32) -> Expr
 fn assignment(alloc: Global, at: Place) -> Result<Stmt, AllocError>
     ensures { IfOk result (λ s. statement_of s ≡ statement at (Do (node at (Assign (Named (65 ∷ []) no_index at) None (node at (Var (Named (73 ∷ []) no_index at))))))) }
 {
-    let counter = Expr {
-        place: at,
-        kind: ExprKind::Var(Target::Named(Text::copy_of(alloc, b"I")?, None, at)),
-    };
-    let variable = Target::Named(Text::copy_of(alloc, b"A")?, None, at);
-    let kind = ExprKind::Assign(variable, None, Box::new(alloc, counter)?);
+    let name = Text::copy_of(alloc, b"A")?;
+    let counter = Text::copy_of(alloc, b"I")?;
+    let value = Box::new(
+        alloc,
+        Expr {
+            place: at,
+            kind: ExprKind::Var(Target::Named(counter, None, at)),
+        },
+    )?;
+    let kind = ExprKind::Assign(Target::Named(name, None, at), None, value);
     Ok(Stmt {
         place: at,
         kind: StmtKind::Do(Expr { place: at, kind }),
