@@ -61,4 +61,18 @@ impl<'a> Case<'a> {
             _ => Err(anyhow!("a case of no kind: {kind}")),
         }
     }
+
+    /// The number of what the case is of, below 8.
+    pub fn kind(&self) -> usize {
+        match self {
+            Case::Source(_) => 0,
+            Case::Tree(_) => 1,
+            Case::Names(_) => 2,
+            Case::Dat(_) => 3,
+            Case::Run(_) => 4,
+            Case::Stopped(_) => 5,
+            Case::Written(_) | Case::Unbuilt(_) => 6,
+            Case::Text(_) => 7,
+        }
+    }
 }

@@ -19,6 +19,11 @@ use std::alloc::Global;
 use std::fs::{self, Files};
 use std::process::ExitCode;
 
+/// What cases are of, by number, in the order in which they are told.
+static KINDS: [&str; 8] = [
+    "sources", "trees", "names", "dats", "runs", "stops", "projects", "texts",
+];
+
 /// How many cases of a kind there were, and how many of them agreed.
 #[derive(Clone, Copy)]
 struct Tally {
@@ -50,51 +55,31 @@ fn agrees<R: Files + Alloc<A = Global>>(rt: &R, case: &Case) -> anyhow::Result<b
     }
 }
 
+/// Runs the case of a line, tells where it differs, and counts it among those of its kind.
+fn count(rt: &HostRuntime, line: &str, tallies: &mut [Tally]) -> anyhow::Result<()> {
+    let case = Case::of_line(line)?;
+    let agrees = agrees(rt, &case)?;
+    if !agrees {
+        println!(rt; "differs: {line}")?;
+    }
+    if let Some(tally) = tallies.get_mut(case.kind()) {
+        tally.count(agrees);
+    }
+    Ok(())
+}
+
 fn suite(rt: &HostRuntime) -> anyhow::Result<bool> {
-    let mut sources = Tally { agreed: 0, all: 0 };
-    let mut trees = Tally { agreed: 0, all: 0 };
-    let mut names = Tally { agreed: 0, all: 0 };
-    let mut dats = Tally { agreed: 0, all: 0 };
-    let mut runs = Tally { agreed: 0, all: 0 };
-    let mut stops = Tally { agreed: 0, all: 0 };
-    let mut projects = Tally { agreed: 0, all: 0 };
-    let mut texts = Tally { agreed: 0, all: 0 };
+    let mut tallies = [Tally { agreed: 0, all: 0 }; 8];
     let lines = fs::read_to_string(rt, "cases.txt")?;
     for line in lines.lines() {
-        let case = Case::of_line(line)?;
-        let agrees = agrees(rt, &case)?;
-        if !agrees {
-            println!(rt; "differs: {line}")?;
-        }
-        match case {
-            Case::Source(_) => sources.count(agrees),
-            Case::Tree(_) => trees.count(agrees),
-            Case::Names(_) => names.count(agrees),
-            Case::Dat(_) => dats.count(agrees),
-            Case::Run(_) => runs.count(agrees),
-            Case::Stopped(_) => stops.count(agrees),
-            Case::Written(_) | Case::Unbuilt(_) => projects.count(agrees),
-            Case::Text(_) => texts.count(agrees),
-        }
+        count(rt, line, &mut tallies)?;
     }
-    println!(rt; "sources: {} of {} agree", sources.agreed, sources.all)?;
-    println!(rt; "trees: {} of {} agree", trees.agreed, trees.all)?;
-    println!(rt; "names: {} of {} agree", names.agreed, names.all)?;
-    println!(rt; "dats: {} of {} agree", dats.agreed, dats.all)?;
-    println!(rt; "runs: {} of {} agree", runs.agreed, runs.all)?;
-    println!(rt; "stops: {} of {} agree", stops.agreed, stops.all)?;
-    println!(rt; "projects: {} of {} agree", projects.agreed, projects.all)?;
-    println!(rt; "texts: {} of {} agree", texts.agreed, texts.all)?;
-    Ok(
-        sources.agreed == sources.all
-            && trees.agreed == trees.all
-            && names.agreed == names.all
-            && dats.agreed == dats.all
-            && runs.agreed == runs.all
-            && stops.agreed == stops.all
-            && projects.agreed == projects.all
-            && texts.agreed == texts.all,
-    )
+    let mut all = true;
+    for (kind, tally) in KINDS.iter().zip(&tallies) {
+        println!(rt; "{kind}: {} of {} agree", tally.agreed, tally.all)?;
+        all = all && tally.agreed == tally.all;
+    }
+    Ok(all)
 }
 
 fn main(rt: HostRuntime) -> anyhow::Result<ExitCode> {
