@@ -6,7 +6,7 @@ ghost use Rattle.p8_cog.specs.Instructions.{source_access};
 ghost use Rattle.p8_cog.specs.declared.ending.Ending.TheVariants.{Half};
 ghost use Rattle.p8_cog.specs.declared.kind.Kind.TheVariants.{Computing, OfHub, Waiting};
 ghost use Rattle.p8_cog.specs.declared.state.State.{State};
-ghost use Rattle.p8_cog.specs.Replay.{at_hand, source_value, destination_value, effect, fetched_before, jumps, tested_jump, plain_next, computed, compute, register_access, result_access, written_by, ends_after, use_hub, is_port_wait, test_of, wait_effect, wait, halt, does, instruction, hub_request, played, Goes, Asks};
+ghost use Rattle.p8_cog.specs.Replay.{at_hand, source_value, destination_value, effect, fetched_before, fetched_after, next_of, tested_jump, plain_next, computed, compute, register_access, result_access, written_by, ends_after, use_hub, is_port_wait, test_of, wait_effect, wait, halt, does, instruction, hub_request, played, Goes, Asks};
 ghost use Rattle.p8_cog.specs.Stops.{ComesTo, Keeps, IsMadeIn, IsMadeIf, IsAtHub, Comes, is_asking, latest};
 
 use crate::ending::Ending;
@@ -23,18 +23,6 @@ fn address_in(value: u32) -> u32
     ensures below { result < 512 }
 {
     value & 511
-}
-
-/// Whether DJNZ, TJNZ or TJZ jumps.
-#[inline(always)]
-fn jumps(opcode: u8, value: u32) -> bool
-    ensures { result ≡ jumps opcode value }
-{
-    if opcode == TJZ {
-        value == 0
-    } else {
-        value != 0
-    }
 }
 
 /// The access that a result makes in a register.
@@ -143,6 +131,34 @@ impl State {
         self.clock += 4;
     }
 
+    /// Ends DJNZ, TJNZ or TJZ where it jumps.
+    #[inline(always)]
+    fn jump(&mut self, source: u32, given: &Effect)
+        requires at { self.old.at < 512 }
+        requires clock { self.old.clock < 2 ^ 62 }
+        ensures ends { self.new ≡ fetched_before self.old given.now (source % 512) (self.old.clock + 4) }
+        ensures at { self.new.at < 512 }
+        ensures clock { self.new.clock < 2 ^ 62 + 2 ^ 10 }
+    {
+        let target = address_in(source);
+        self.fetch_and_write(given, target);
+        self.clock += 4;
+    }
+
+    /// Ends DJNZ, TJNZ or TJZ where it doesn't jump.
+    #[inline(always)]
+    fn stay(&mut self, given: &Effect)
+        requires at { self.old.at < 512 }
+        requires clock { self.old.clock < 2 ^ 62 }
+        ensures ends { self.new ≡ fetched_after self.old given.now (next_of self.old) (self.old.clock + 8) }
+        ensures at { self.new.at < 512 }
+        ensures clock { self.new.clock < 2 ^ 62 + 2 ^ 10 }
+    {
+        let at = self.next();
+        self.write_and_fetch(given, at);
+        self.clock += 8;
+    }
+
     /// Ends DJNZ, TJNZ or TJZ.
     #[inline(always)]
     fn end_tested_jump(&mut self, source: u32, given: &Effect)
@@ -153,14 +169,17 @@ impl State {
         ensures at { self.new.at < 512 }
         ensures clock { self.new.clock < 2 ^ 62 + 2 ^ 10 }
     {
-        if jumps(self.opcode(), given.result) {
-            let target = address_in(source);
-            self.fetch_and_write(given, target);
-            self.clock += 4;
+        // By branches: to compare two truths takes twice the steps.
+        if self.opcode() == TJZ {
+            if given.result == 0 {
+                self.jump(source, given);
+            } else {
+                self.stay(given);
+            }
+        } else if given.result == 0 {
+            self.stay(given);
         } else {
-            let at = self.next();
-            self.write_and_fetch(given, at);
-            self.clock += 8;
+            self.jump(source, given);
         }
     }
 

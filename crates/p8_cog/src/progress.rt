@@ -124,13 +124,16 @@ fn compute_below(state: &mut State, until: u64, budget: u32) -> u32
     ensures at { state.new.at < 512 }
     ensures clock { state.new.clock < 2 ^ 62 + 2 ^ 10 }
 {
-    for done in 0..budget {
+    // Counted down, which takes a step less than counting up to a budget.
+    let mut left = budget;
+    while left > 0 {
         if state.clock >= until {
-            return done;
+            return budget - left;
         }
         if !state.run_apart() {
-            return done;
+            return budget - left;
         }
+        left -= 1;
     }
     budget
 }
