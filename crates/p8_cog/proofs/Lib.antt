@@ -1,2 +1,4 @@
 pub mod Apart
 pub mod Every
+pub mod Leading
+pub mod Silent

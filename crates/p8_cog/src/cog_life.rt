@@ -119,6 +119,7 @@ impl Life for CogLife {
 
     ghost cog = { λ life. number_of life.kind (⟦<Cog as Life>⟧.cog life.pasm) (⟦<SpinCog as Life>⟧.cog life.spin) };
 
+    #[inline(always)]
     fn run_to_access(&mut self, until: u64, budget: u32) -> Next {
         match self.kind {
             Kind::Pasm => self.pasm.run_to_access(until, budget),
@@ -126,6 +127,7 @@ impl Life for CogLife {
         }
     }
 
+    #[inline(always)]
     fn take_answer(&mut self, turn: &Turn) {
         match self.kind {
             Kind::Pasm => self.pasm.take_answer(turn),

@@ -2,7 +2,7 @@
 //
 // Each is taken from the long where it is asked for: an `Instr` that is handed on is packed into one register of the processor
 // and taken apart again.
-ghost use Rattle.std.specs.Prelude.{ℕ, ◌≡◌, ◌<◌, false, None};
+ghost use Rattle.std.specs.Prelude.{ℕ, ◌≡◌, ◌<◌, true, false, None};
 ghost use Rattle.std.specs.Option.{is_some};
 ghost use Rattle.p8_instr.specs.Instruction.{writes_z, writes_c, writes_result, is_immediate};
 ghost use Rattle.p8_instr.specs.Conditions.{is_met};
@@ -18,6 +18,8 @@ use p8_instr::{ALWAYS, decode};
 const COMPUTED: u32 = 0x2000_0000;
 /// The least long with an opcode above those, 60.
 const BEYOND_COMPUTED: u32 = 0xF000_0000;
+/// The upper 23 bits of JMP to a number, which always executes and writes nothing.
+const JUMP: u32 = 0x5C7C_0000 >> 9;
 
 impl State {
     /// The opcode.
@@ -88,6 +90,16 @@ impl State {
         self.long >> 23 & 1 == 1
     }
 
+    /// Whether neither the result nor a flag is written.
+    #[inline(always)]
+    pub fn writes_nothing(&self) -> bool
+        ensures result { result ≡ true → writes_result (at_hand self.now) ≡ false }
+        ensures c { result ≡ true → writes_c (at_hand self.now) ≡ false }
+        ensures z { result ≡ true → writes_z (at_hand self.now) ≡ false }
+    {
+        self.long >> 23 & 7 == 0
+    }
+
     /// Whether the source field is the source's value, and no address.
     #[inline(always)]
     pub fn is_immediate(&self) -> bool
@@ -119,6 +131,12 @@ impl State {
         } else {
             Kind::Computing
         }
+    }
+
+    /// Whether it is JMP to a number. It only chooses a way: none of what is proved rests on it.
+    #[inline(always)]
+    pub fn is_jump(&self) -> bool {
+        self.long >> 9 == JUMP
     }
 
     /// Whether the source is a special register.

@@ -5,7 +5,7 @@ ghost use Rattle.p8_access.specs.Lives.{IsMade, is_last};
 ghost use Rattle.p8_access.specs.Proper.{IsAligned, IsReduced, bytes_in, value_of};
 ghost use Rattle.p8_cog.specs.Replay.{answered, hub_address, read_access, mode_access, start_access, move_request, operation_request, hub_request};
 
-use crate::kind::{HUBOP, width_of};
+use crate::kind::HUBOP;
 use p8_access::{Access, Answer, Origin, Reason, Width};
 use p8_instr::{Effect, Instr};
 
@@ -198,9 +198,11 @@ pub fn hub_request(i: Instr, value: u32, source: u32) -> Request
     ensures request { result ≡ hub_request i value source }
     ensures made { IsMade result.access }
 {
-    if i.opcode == HUBOP {
-        operation_request(source & 7, value)
-    } else {
-        move_request(i, width_of(i.opcode), value, source)
+    // Each width where it is known: else the compiler makes a number of it, and goes by that number twice.
+    match i.opcode {
+        HUBOP => operation_request(source & 7, value),
+        0 => move_request(i, Width::Byte, value, source),
+        1 => move_request(i, Width::Word, value, source),
+        _ => move_request(i, Width::Long, value, source),
     }
 }

@@ -1,19 +1,21 @@
 // What each kind of instruction does, with the turns that its accesses have had.
-ghost use Rattle.std.specs.Prelude.{ℕ, true, false, Some, None, IfSome, [], ◌∷◌, ◌≡◌, ◌<◌, ◌≤◌, ◌+◌, ◌%◌, ◌^◌};
+ghost use Rattle.std.specs.Prelude.{ℕ, true, false, Some, None, IfSome, if◌then◌else◌, [], ◌∷◌, ◌==◌, ◌≡◌, ◌<◌, ◌≤◌, ◌+◌, ◌%◌, ◌^◌};
 ghost use Rattle.p8_access.specs.Lives.{IsMade};
 ghost use Rattle.p8_access.specs.Windows.{window_of};
 ghost use Rattle.p8_cog.specs.Instructions.{source_access};
 ghost use Rattle.p8_cog.specs.declared.ending.Ending.TheVariants.{Half};
 ghost use Rattle.p8_cog.specs.declared.kind.Kind.TheVariants.{Computing, OfHub, Waiting};
 ghost use Rattle.p8_cog.specs.declared.state.State.{State};
-ghost use Rattle.p8_cog.specs.Replay.{at_hand, source_value, destination_value, effect, fetched_before, fetched_after, next_of, tested_jump, plain_next, computed, compute, register_access, result_access, written_by, ends_after, use_hub, is_port_wait, test_of, wait_effect, wait, halt, does, instruction, hub_request, played, Goes, Asks};
+ghost use Rattle.p8_cog.specs.Replay.{at_hand, source_value, destination_value, effect, fetched_before, fetched_after, next_of, computed, compute, register_access, result_access, written_by, answered, ends_after, use_hub, is_port_wait, test_of, wait_effect, wait, halt, does, instruction, hub_request, played, Goes, Asks};
 ghost use Rattle.p8_cog.specs.Stops.{ComesTo, Keeps, IsMadeIn, IsMadeIf, IsAtHub, Comes, is_asking, latest};
 
 use crate::ending::Ending;
 use crate::hub::{Request, answered, hub_request, is_last, plain_effect};
-use crate::kind::{CTRA, DIRA, DJNZ, JMPRET, Kind, OUTA, TJZ, WAITCNT, WAITPEQ, WAITPNE, kind_of};
+use crate::kind::{
+    CTRA, DIRA, DJNZ, JMPRET, Kind, OUTA, TJNZ, TJZ, WAITCNT, WAITPEQ, WAITPNE, kind_of,
+};
 use crate::state::State;
-use p8_access::{Access, Reason, Test, Turn, window};
+use p8_access::{Access, Answer, Reason, Test, Turn, window};
 use p8_instr::{Effect, Instr, decode};
 
 /// The address in a cog that a value is taken as.
@@ -110,28 +112,21 @@ impl State {
         }
     }
 
-    /// Ends an instruction that computes and isn't a tested jump.
+    /// Ends an instruction that computes and jumps nowhere.
     #[inline(always)]
-    fn end_plainly(&mut self, source: u32, given: &Effect)
-        requires given { given.now ≡ effect self.old source }
+    fn go_next(&mut self, given: &Effect)
         requires at { self.old.at < 512 }
         requires clock { self.old.clock < 2 ^ 62 }
-        ensures ends { self.new ≡ fetched_before self.old (effect self.old source) (plain_next self.old source) (self.old.clock + 4) }
+        ensures ends { self.new ≡ fetched_before self.old given.now (next_of self.old) (self.old.clock + 4) }
         ensures at { self.new.at < 512 }
         ensures clock { self.new.clock < 2 ^ 62 + 2 ^ 10 }
     {
-        // A choice of the address alone would take a step of each instruction.
-        if self.opcode() == JMPRET {
-            let target = address_in(source);
-            self.fetch_and_write(given, target);
-        } else {
-            let at = self.next();
-            self.fetch_and_write(given, at);
-        }
+        let at = self.next();
+        self.fetch_and_write(given, at);
         self.clock += 4;
     }
 
-    /// Ends DJNZ, TJNZ or TJZ where it jumps.
+    /// Ends JMPRET, or DJNZ, TJNZ or TJZ where it jumps.
     #[inline(always)]
     fn jump(&mut self, source: u32, given: &Effect)
         requires at { self.old.at < 512 }
@@ -159,44 +154,58 @@ impl State {
         self.clock += 8;
     }
 
-    /// Ends DJNZ, TJNZ or TJZ.
+    /// Ends DJNZ or TJNZ, which jump where the result isn't 0.
     #[inline(always)]
-    fn end_tested_jump(&mut self, source: u32, given: &Effect)
-        requires given { given.now ≡ effect self.old source }
+    fn jump_unless_zero(&mut self, source: u32, given: &Effect)
         requires at { self.old.at < 512 }
         requires clock { self.old.clock < 2 ^ 62 }
-        ensures ends { self.new ≡ tested_jump self.old source }
+        ensures ends { self.new ≡ (if given.now.result == 0 then fetched_after self.old given.now (next_of self.old) (self.old.clock + 8) else fetched_before self.old given.now (source % 512) (self.old.clock + 4)) }
         ensures at { self.new.at < 512 }
         ensures clock { self.new.clock < 2 ^ 62 + 2 ^ 10 }
     {
-        // By branches: to compare two truths takes twice the steps.
-        if self.opcode() == TJZ {
-            if given.result == 0 {
-                self.jump(source, given);
-            } else {
-                self.stay(given);
-            }
-        } else if given.result == 0 {
+        if given.result == 0 {
             self.stay(given);
         } else {
             self.jump(source, given);
         }
     }
 
+    /// Ends TJZ, which jumps where the result is 0.
+    #[inline(always)]
+    fn jump_if_zero(&mut self, source: u32, given: &Effect)
+        requires at { self.old.at < 512 }
+        requires clock { self.old.clock < 2 ^ 62 }
+        ensures ends { self.new ≡ (if given.now.result == 0 then fetched_before self.old given.now (source % 512) (self.old.clock + 4) else fetched_after self.old given.now (next_of self.old) (self.old.clock + 8)) }
+        ensures at { self.new.at < 512 }
+        ensures clock { self.new.clock < 2 ^ 62 + 2 ^ 10 }
+    {
+        if given.result == 0 {
+            self.jump(source, given);
+        } else {
+            self.stay(given);
+        }
+    }
+
     /// Ends an instruction that computes.
+    ///
+    /// By a `match` on the opcode, as its effect is found: the compiler then goes from each arm there to the end that it has, without a
+    /// test between.
     #[inline(always)]
     fn end_computed(&mut self, source: u32, given: &Effect)
         requires given { given.now ≡ effect self.old source }
+        requires last { (at_hand self.old).opcode ≤ 59 }
         requires at { self.old.at < 512 }
         requires clock { self.old.clock < 2 ^ 62 }
         ensures ends { self.new ≡ computed self.old source }
         ensures at { self.new.at < 512 }
         ensures clock { self.new.clock < 2 ^ 62 + 2 ^ 10 }
     {
-        if self.opcode() >= DJNZ {
-            self.end_tested_jump(source, given);
-        } else {
-            self.end_plainly(source, given);
+        match self.opcode() {
+            JMPRET => self.jump(source, given),
+            DJNZ => self.jump_unless_zero(source, given),
+            TJNZ => self.jump_unless_zero(source, given),
+            TJZ => self.jump_if_zero(source, given),
+            _ => self.go_next(given),
         }
     }
 
@@ -246,6 +255,27 @@ impl State {
             Ending::Ended => Ending::Ended,
             Ending::Half { clock, access } => Ending::Half { clock, access },
         }
+    }
+
+    /// Ends an instruction of the hub by the answer to its access, with its result written at a clock. Its result is `kept`
+    /// where the answer holds no number.
+    #[inline(always)]
+    fn end_answered(&mut self, cog: u8, kept: u32, answer: Answer, clock: u64) -> Ending
+        requires at { self.old.at < 512 }
+        requires old { self.old.clock < 2 ^ 62 }
+        requires clock { clock < 2 ^ 62 + 2 ^ 3 }
+        ensures comes { ComesTo (played (ends_after cog self.old (answered kept answer) clock) []) result self.new }
+        ensures keeps { Keeps result self.old self.new }
+        ensures made { IsMadeIn result }
+        ensures at { self.new.at < 512 }
+        ensures clock { self.new.clock < 2 ^ 62 + 2 ^ 10 }
+    {
+        // Most writes keep nothing of their answer.
+        if self.writes_nothing() {
+            return self.end_after(cog, plain_effect(kept, false), clock, &[]);
+        }
+        let effect = answered(kept, answer);
+        self.end_after(cog, effect, clock, &[])
     }
 
     /// Does an instruction of the hub, with the value of its source.
@@ -464,8 +494,25 @@ impl State {
         if is_last(cog, turn.access) {
             return Ending::Ended;
         }
-        let effect = answered(kept, turn.answer);
-        self.end_after(cog, effect, turn.key.clock + 6, &[])
+        self.end_answered(cog, kept, turn.answer, turn.key.clock + 6)
+    }
+
+    /// Goes on with the instruction at hand by its first turn, whatever it asked.
+    ///
+    /// It is never inlined, so that the way of most instructions of the hub keeps no room for it.
+    #[inline(never)]
+    fn advance_by(&mut self, cog: u8, turn: &Turn) -> Ending
+        requires at { self.old.at < 512 }
+        requires cog { cog < 8 }
+        requires clock { self.old.clock + 1 < 2 ^ 62 }
+        requires below { turn.now.key.clock < 2 ^ 62 }
+        ensures comes { ComesTo (played (instruction cog self.old) (turn.now ∷ [])) result self.new }
+        ensures keeps { Keeps result self.old self.new }
+        ensures made { IsMadeIn result }
+        ensures at { self.new.at < 512 }
+        ensures clock { self.new.clock < 2 ^ 62 + 2 ^ 10 }
+    {
+        self.advance(cog, &[*turn])
     }
 
     /// Goes on with the instruction at hand by its first turn.
@@ -485,7 +532,7 @@ impl State {
     {
         match kept {
             Some(kept) => self.answer_hub(cog, kept, turn),
-            None => self.advance(cog, &[*turn]),
+            None => self.advance_by(cog, turn),
         }
     }
 

@@ -1,9 +1,9 @@
 // How an instruction is carried out.
 ghost use Rattle.std.specs.Prelude.{◌≡◌, ◌<◌, ◌≤◌, ◌⊎◌};
-ghost use Rattle.p8_cog.specs.Instructions.{executed_kind, kind_of, width_of, source_access};
+ghost use Rattle.p8_cog.specs.Instructions.{executed_kind, kind_of, source_access};
 ghost use Rattle.p8_cog.specs.Stops.{IsComputed, IsMadeIf};
 
-use p8_access::{Access, Width};
+use p8_access::Access;
 use p8_instr::{ALWAYS, Instr};
 
 /// The register PAR.
@@ -25,8 +25,10 @@ pub const CTRA: u16 = 0x1F8;
 pub const HUBOP: u8 = 3;
 /// The opcode of JMPRET.
 pub const JMPRET: u8 = 23;
-/// The opcode of DJNZ, which TJNZ and TJZ follow.
+/// The opcode of DJNZ.
 pub const DJNZ: u8 = 57;
+/// The opcode of TJNZ.
+pub const TJNZ: u8 = 58;
 /// The opcode of TJZ.
 pub const TJZ: u8 = 59;
 /// The opcode of WAITPEQ.
@@ -94,18 +96,6 @@ pub fn kind_of(i: Instr, c: bool, z: bool) -> Kind
         executed_kind(i.opcode)
     } else {
         Kind::Skipped
-    }
-}
-
-/// How wide the access of the opcodes 0 to 2 is.
-#[inline(always)]
-pub fn width_of(opcode: u8) -> Width
-    ensures { result ≡ width_of opcode }
-{
-    match opcode {
-        0 => Width::Byte,
-        1 => Width::Word,
-        _ => Width::Long,
     }
 }
 

@@ -145,6 +145,7 @@ impl Life for Cog {
 
     ghost cog = { λ life. life.cog };
 
+    #[inline(always)]
     fn run_to_access(&mut self, until: u64, budget: u32) -> Next {
         self.asking = false;
         self.kept = None;
@@ -165,6 +166,7 @@ impl Life for Cog {
         }
     }
 
+    #[inline(always)]
     fn take_answer(&mut self, turn: &Turn) {
         let kept = self.kept;
         self.asking = false;

@@ -1,5 +1,5 @@
 // How far a cog is in the instruction at hand.
-ghost use Rattle.std.specs.Prelude.{ℕ, nat_lt, if◌then◌else◌, ◌≡◌, ◌<◌, ◌≤◌, ◌+◌, ◌*◌, ◌%◌, ◌^◌, ◌++◌, ◌∷◌, [], true, Some};
+ghost use Rattle.std.specs.Prelude.{ℕ, nat_lt, if◌then◌else◌, ◌≡◌, ◌<◌, ◌≤◌, ◌+◌, ◌-◌, ◌*◌, ◌%◌, ◌^◌, ◌++◌, ◌∷◌, [], true, Some, IfSome};
 ghost use Rattle.p8_access.specs.declared.lives.Next.TheVariants.{At, Quiet};
 ghost use Rattle.p8_access.specs.Lives.{IsMadeNext};
 ghost use Rattle.p8_cog.specs.declared.progress.Had.TheVariants.{Nothing, One, Two};
@@ -82,7 +82,27 @@ fn other_below(state: &mut State, cog: u8, until: u64) -> Next
     }
 }
 
-/// The same, and the result that is known by then.
+/// Tells the first access below a clock of an instruction of the hub whose source no access reads, and the result that is
+/// known by then.
+#[inline(always)]
+fn request_below(state: &State, cog: u8, until: u64) -> Option<Told>
+    requires cog { cog < 8 }
+    requires clock { state.now.clock + 1 < 2 ^ 62 }
+    ensures stops { IfSome result (λ told. Stops cog (Goes state.now []) state.now.clock until told.next) }
+    ensures told { IfSome result (λ told. IsTold told.next) }
+    ensures made { IfSome result (λ told. IsMadeNext told.next) }
+    ensures kept { IfSome result (λ told. (k : ℕ) → told.kept ≡ Some k → IsAtHub state.now k) }
+{
+    match state.request() {
+        None => None,
+        Some(request) => Some(Told {
+            next: below(window(cog, state.clock + 1), request.access, until),
+            kept: Some(request.kept),
+        }),
+    }
+}
+
+/// Tells the first access below a clock of an instruction that asks where it begins, and the result that is known by then.
 #[inline(always)]
 fn first_below(state: &mut State, cog: u8, until: u64) -> Told
     requires at { state.old.at < 512 }
@@ -95,11 +115,8 @@ fn first_below(state: &mut State, cog: u8, until: u64) -> Told
     ensures kept { (k : ℕ) → result.kept ≡ Some k → IsAtHub state.new k }
     ensures same { state.new ≡ state.old }
 {
-    match state.request() {
-        Some(request) => Told {
-            next: below(window(cog, state.clock + 1), request.access, until),
-            kept: Some(request.kept),
-        },
+    match request_below(state, cog, until) {
+        Some(told) => told,
         None => Told {
             next: other_below(state, cog, until),
             kept: None,
@@ -107,38 +124,99 @@ fn first_below(state: &mut State, cog: u8, until: u64) -> Told
     }
 }
 
-/// Does instructions up to one that asks, within a budget and below a clock, and tells how many.
+/// Does instructions up to one that asks, within a budget and below a clock, and tells how much of the budget is left.
 ///
 /// This loop is where a cog that computes spends its time. It is never inlined, so that no value of its caller
-/// takes a register of the processor from it.
+/// takes a register of the processor from it. What is left is what it counts: to count one thing and give back
+/// another takes a step more of each instruction.
 #[inline(never)]
 fn compute_below(state: &mut State, until: u64, budget: u32) -> u32
     requires at { state.old.at < 512 }
     requires clock { state.old.clock < 2 ^ 62 + 2 ^ 10 }
     requires until { until < 2 ^ 62 }
     ensures budget { result ≤ budget }
+    ensures leads { (cog : ℕ) → Leads cog (budget - result) (Goes state.old []) (Goes state.new []) }
+    ensures asks { 0 < result → state.new.clock < until → (cog : ℕ) → is_asking (played (instruction cog state.new) []) ≡ true }
+    ensures counts { state.old.clock + 4 * (budget - result) ≤ state.new.clock }
+    ensures stride { state.new.clock ≤ state.old.clock + 8 * (budget - result) }
+    ensures at { state.new.at < 512 }
+    ensures clock { state.new.clock < 2 ^ 62 + 2 ^ 10 }
+{
+    let mut left = budget;
+    while left > 0 {
+        if state.clock >= until {
+            return left;
+        }
+        if !state.run_apart() {
+            return left;
+        }
+        left -= 1;
+    }
+    left
+}
+
+/// Does the instruction at hand where it is a jump, within a budget and below a clock, and tells how many it did: one or none.
+///
+/// A jump is what most often stands behind an access. The compiler knows it here, so it takes a tenth of what a call of
+/// `compute_below` does.
+#[inline(always)]
+fn jump_below(state: &mut State, until: u64, budget: u32) -> u32
+    requires at { state.old.at < 512 }
+    requires clock { state.old.clock < 2 ^ 62 + 2 ^ 10 }
+    requires until { until < 2 ^ 62 }
+    ensures budget { result ≤ budget }
     ensures leads { (cog : ℕ) → Leads cog result (Goes state.old []) (Goes state.new []) }
-    ensures asks { result < budget → state.new.clock < until → (cog : ℕ) → is_asking (played (instruction cog state.new) []) ≡ true }
     ensures counts { state.old.clock + 4 * result ≤ state.new.clock }
     ensures stride { state.new.clock ≤ state.old.clock + 8 * result }
     ensures at { state.new.at < 512 }
     ensures clock { state.new.clock < 2 ^ 62 + 2 ^ 10 }
 {
-    // Counted down, which takes a step less than counting up to a budget.
-    let mut left = budget;
-    while left > 0 {
-        if state.clock >= until {
-            return budget - left;
-        }
-        if !state.run_apart() {
-            return budget - left;
-        }
-        left -= 1;
+    if budget == 0 || state.clock >= until || !state.is_jump() {
+        return 0;
     }
-    budget
+    if !state.run_apart() {
+        return 0;
+    }
+    1
 }
 
 /// Does instructions up to one that asks, within a budget and below a clock, and tells why it stopped.
+#[inline(always)]
+fn run_on(state: &mut State, cog: u8, until: u64, budget: u32) -> Ran
+    requires at { state.old.at < 512 }
+    requires cog { cog < 8 }
+    requires clock { state.old.clock < 2 ^ 62 + 2 ^ 10 }
+    requires until { until < 2 ^ 62 }
+    ensures budget { result.done ≤ budget }
+    ensures leads { Leads cog result.done (Goes state.old []) (Goes state.new []) }
+    ensures stops { Stops cog (Goes state.new []) state.new.clock until result.next }
+    ensures made { IsMadeNext result.next }
+    ensures kept { (k : ℕ) → result.kept ≡ Some k → IsAtHub state.new k }
+    ensures spent { IsSpent result.done budget state.new.clock until result.next }
+    ensures counts { state.old.clock + 4 * result.done ≤ state.new.clock }
+    ensures stride { state.new.clock ≤ state.old.clock + 8 * result.done }
+    ensures at { state.new.at < 512 }
+    ensures clock { state.new.clock < 2 ^ 62 + 2 ^ 10 }
+{
+    let left = compute_below(state, until, budget);
+    let done = budget - left;
+    if state.clock >= until {
+        let next = Next::Quiet;
+        let kept = None;
+        return Ran { done, next, kept };
+    }
+    if left > 0 {
+        let Told { next, kept } = first_below(state, cog, until);
+        return Ran { done, next, kept };
+    }
+    Ran {
+        done,
+        next: Next::More { bound: state.clock },
+        kept: None,
+    }
+}
+
+/// The same. Where the instruction at hand is a jump, or asks the hub, or does so behind that jump, no loop is entered for it.
 #[inline(always)]
 fn run(state: &mut State, cog: u8, until: u64, budget: u32) -> Ran
     requires at { state.old.at < 512 }
@@ -156,20 +234,21 @@ fn run(state: &mut State, cog: u8, until: u64, budget: u32) -> Ran
     ensures at { state.new.at < 512 }
     ensures clock { state.new.clock < 2 ^ 62 + 2 ^ 10 }
 {
-    let done = compute_below(state, until, budget);
-    if state.clock >= until {
-        let next = Next::Quiet;
-        let kept = None;
-        return Ran { done, next, kept };
+    let jumped = jump_below(state, until, budget);
+    if state.clock < until {
+        if let Some(told) = request_below(state, cog, until) {
+            return Ran {
+                done: jumped,
+                next: told.next,
+                kept: told.kept,
+            };
+        }
     }
-    if done < budget {
-        let Told { next, kept } = first_below(state, cog, until);
-        return Ran { done, next, kept };
-    }
+    let ran = run_on(state, cog, until, budget - jumped);
     Ran {
-        done,
-        next: Next::More { bound: state.clock },
-        kept: None,
+        done: jumped + ran.done,
+        next: ran.next,
+        kept: ran.kept,
     }
 }
 
@@ -183,6 +262,7 @@ impl Progress {
         requires is_half { is_half self.old.had ≡ true }
         requires half { IsHalf cog self.old }
         ensures stops { Stops cog (running_at self.new) (clock_of self.new) until result }
+        ensures told { IsTold result }
         ensures made { IsMadeNext result }
         ensures same { self.new ≡ self.old }
     {
@@ -193,6 +273,7 @@ impl Progress {
     }
 
     /// Tells the next read of the load from an address, below a clock.
+    #[inline(always)]
     pub fn next_read(&self, code: u16, until: u64) -> Next
         requires aligned { code % 4 ≡ 0 }
         requires room { code ≤ 30784 }
@@ -224,7 +305,30 @@ impl Progress {
         Stage::Running
     }
 
+    /// Tells the next access below a clock of an instruction that has had turns.
+    ///
+    /// It is never inlined, so that where an instruction has had none no room is kept for its turns.
+    #[inline(never)]
+    fn further(&mut self, cog: u8, until: u64) -> Next
+        requires at { self.old.begun.at < 512 }
+        requires cog { cog < 8 }
+        requires until { until < 2 ^ 62 }
+        requires is_half { is_half self.old.had ≡ true }
+        requires half { IsHalf cog self.old }
+        ensures stops { Stops cog (running_at self.new) (clock_of self.new) until result }
+        ensures told { IsTold result }
+        ensures made { IsMadeNext result }
+        ensures same { self.new ≡ self.old }
+    {
+        match self.had {
+            Had::Nothing => unreachable!(),
+            Had::One(first) => self.further_below(cog, until, &[first]),
+            Had::Two(first, second) => self.further_below(cog, until, &[first, second]),
+        }
+    }
+
     /// Tells the next access below a clock, and does instructions within a budget on the way there.
+    #[inline(always)]
     pub fn next_below(&mut self, cog: u8, until: u64, budget: u32) -> Ran
         requires at { self.old.begun.at < 512 }
         requires cog { cog < 8 }
@@ -245,14 +349,14 @@ impl Progress {
     {
         match self.had {
             Had::Nothing => run(&mut self.begun, cog, until, budget),
-            Had::One(first) => Ran {
+            Had::One(_) => Ran {
                 done: 0,
-                next: self.further_below(cog, until, &[first]),
+                next: self.further(cog, until),
                 kept: None,
             },
-            Had::Two(first, second) => Ran {
+            Had::Two(_, _) => Ran {
                 done: 0,
-                next: self.further_below(cog, until, &[first, second]),
+                next: self.further(cog, until),
                 kept: None,
             },
         }
@@ -354,6 +458,27 @@ impl Progress {
         }
     }
 
+    /// Takes a turn of the instruction at hand that isn't its first. It is never inlined, since few instructions have more than one.
+    #[inline(never)]
+    fn take_further(&mut self, cog: u8, turn: &Turn) -> Ending
+        requires at { self.old.begun.at < 512 }
+        requires cog { cog < 8 }
+        requires is_half { is_half self.old.had ≡ true }
+        requires half { IsHalf cog self.old }
+        requires below { turn.now.key.clock < 2 ^ 62 }
+        requires comes { Comes (step cog (running_at self.old)) turn.now }
+        ensures takes { Takes cog self.old turn.now self.new result }
+        ensures at { self.new.begun.at < 512 }
+        ensures clock { clock_of self.new < 2 ^ 62 + 2 ^ 10 }
+        ensures half { IsHalf cog self.new }
+    {
+        match self.had {
+            Had::Nothing => unreachable!(),
+            Had::One(first) => self.take_second(cog, first, turn),
+            Had::Two(first, second) => self.end_by(cog, first, second, turn),
+        }
+    }
+
     /// Takes the turn of the access that the instruction at hand asked.
     #[inline(always)]
     pub fn take(&mut self, cog: u8, kept: Option<u32>, turn: &Turn) -> Ending
@@ -370,8 +495,8 @@ impl Progress {
     {
         match self.had {
             Had::Nothing => self.take_first(cog, kept, turn),
-            Had::One(first) => self.take_second(cog, first, turn),
-            Had::Two(first, second) => self.end_by(cog, first, second, turn),
+            Had::One(_) => self.take_further(cog, turn),
+            Had::Two(_, _) => self.take_further(cog, turn),
         }
     }
 }
