@@ -1,5 +1,5 @@
--- The most frequent bytecodes, read from their first two bytes.
-use Rattle.std.proofs.Common.{◌≡◌, not, refl, sym, ap, ◌∙◌, arith, ℕ, ◌+◌, ◌-◌, ◌^◌, ◌≤◌, ◌<◌, Bool, true, false, ◌&&◌, if◌then◌else◌, nat_lt, nat_le, List, [], ◌∷◌, drop, length, slice_index, Option, Some, None, option_map, MatchOption, subst, ◌%◌, ◌==◌}
+-- The most frequent bytecodes, read from their first bytes.
+use Rattle.std.proofs.Common.{◌≡◌, not, refl, sym, ap, ◌∙◌, arith, ℕ, ◌+◌, ◌-◌, ◌*◌, ◌^◌, ◌≤◌, ◌<◌, Bool, true, false, ◌&&◌, if◌then◌else◌, nat_lt, nat_le, List, [], ◌∷◌, drop, length, slice_index, Option, Some, None, option_map, MatchOption, subst, ◌%◌, ◌==◌}
 use Rattle.std.proofs.lemmas.List.{drop_more}
 use Rattle.std.proofs.lemmas.Bool.Decides.{nat_tests}
 use Rattle.p8_access.specs.Courses.{Course, Finish}
@@ -7,7 +7,7 @@ use Rattle.p8_instr.specs.declared.op.Op.{Op}
 use Rattle.p8_instr.specs.declared.operands.Operands.{Operands}
 use Rattle.p8_instr.specs.declared.operands.Operands.TheVariants.{Nothing, Offset, ShortVariable}
 use Rattle.p8_instr.specs.Table.{rows, in_rows, is_within, operands_of, is_effect, is_step}
-use Rattle.p8_instr.specs.Reading.{bare, sign_extended, offset_in, jump_in, coded, changes_variable}
+use Rattle.p8_instr.specs.Reading.{bare, sign_extended, jump_in, coded, changes_variable}
 use Rattle.p8_bcog.specs.declared.state.State.{State}
 use Rattle.p8_bcog.specs.Operands.{tested, pushed}
 use Rattle.p8_access.specs.declared.kinds.Width.TheVariants.{Long}
@@ -19,7 +19,7 @@ use Rattle.p8_bcog.specs.Variables.{acts, short_address, short_variable}
 use Rattle.p8_bcog.specs.Control.{jump, loop_begins, loop_ends, jump_if_zero, jump_unless_zero}
 use Rattle.p8_bcog.specs.Bytecodes.{row, call_row, test_row, return_row, constant_row, operator_row, packed, does_found, clocks_of, is_slow, bytecode, clocks}
 use Rattle.p8_bcog.specs.Code.{code_of, fetched}
-use Rattle.p8_bcog.specs.Quick.{passed, found_at, IsQuick, is_fast_operator, names_long, counts}
+use Rattle.p8_bcog.specs.Quick.{passed, offset_of, jump_size, found_at, IsQuick, is_fast_operator, names_long, counts}
 
 -- ---- tests
 
@@ -60,39 +60,40 @@ quick-by byte code operand value wanted size rest s at f course is goes same com
     (ap (λ (v : ℕ). f v (passed size s)) (sym same) ∙ ap (f value) (sym goes) ∙ sym comes)
     (subst (λ (b : ℕ). IsQuick (b ∷ operand ∷ rest) s (f wanted (passed size s))) (sym is) quick)
 
--- ---- jumps of two bytes
+-- ---- jumps
 
-short-offset : (operand : ℕ) (rest : List ℕ) → nat_lt operand 128 ≡ true → offset_in (operand ∷ rest) ≡ Some (sign_extended 7 operand, false)
-short-offset operand [] is = if-yes (nat_lt operand 128) _ _ is
-short-offset operand (low ∷ rest) is = if-yes (nat_lt operand 128) _ _ is
+abbrev jumping : (code high low : ℕ) → Op
+jumping code high low = record (bare code) { first = offset_of high low; long_form = not (nat_lt high 128) }
 
-abbrev jumping : (code operand : ℕ) → Op
-jumping code operand = record (bare code) { first = sign_extended 7 operand; long_form = false }
+-- a jump with its offset, by whether that has one byte alone
+found-by : (code high low at : ℕ) (short : Bool) → further at (jump_in code (if short then Some (sign_extended 7 high, false) else Some (sign_extended 15 (high % 128 * 256 + low), true))) ≡ Some (record (bare code) { first = if short then sign_extended 7 high else sign_extended 15 (high % 128 * 256 + low); long_form = not short }, at + (if short then 2 else 3))
+found-by code high low at true = refl
+found-by code high low at false = refl
 
-found-jump : (code operand at : ℕ) (rest : List ℕ) → nat_lt operand 128 ≡ true → operands_of code ≡ Some Offset → found_at (code ∷ operand ∷ rest) at ≡ Some (jumping code operand, at + 2)
-found-jump code operand at rest is jumps =
-    ap (λ (o : Option Operands). further at (coded o code (operand ∷ rest))) jumps
-    ∙ ap (λ (o : Option (ℕ × Bool)). further at (jump_in code o)) (short-offset operand rest is)
+found-jump : (code high low at : ℕ) (rest : List ℕ) → operands_of code ≡ Some Offset → found_at (code ∷ high ∷ low ∷ rest) at ≡ Some (jumping code high low, at + jump_size high)
+found-jump code high low at rest jumps =
+    ap (λ (o : Option Operands). further at (coded o code (high ∷ low ∷ rest))) jumps
+    ∙ found-by code high low at (nat_lt high 128)
 
-pub quick-jump : (operand : ℕ) (rest : List ℕ) (s : State) → operand < 128 → IsQuick (0x04 ∷ operand ∷ rest) s (jump (sign_extended 7 operand) (passed 2 s))
+pub quick-jump : (high low : ℕ) (rest : List ℕ) (s : State) → IsQuick (0x04 ∷ high ∷ low ∷ rest) s (jump (offset_of high low) (passed (jump_size high) s))
 unfolding rows row call_row
-quick-jump operand rest s is = found-quick (0x04 ∷ operand ∷ rest) s _ _ _ (found-jump 0x04 operand s.at rest (less operand 128 is) refl) refl (λ memory cog. refl)
+quick-jump high low rest s = found-quick (0x04 ∷ high ∷ low ∷ rest) s _ _ _ (found-jump 0x04 high low s.at rest refl) refl (λ memory cog. refl)
 
-pub quick-loop-begins : (operand : ℕ) (rest : List ℕ) (s : State) → operand < 128 → IsQuick (0x08 ∷ operand ∷ rest) s (loop_begins (sign_extended 7 operand) (passed 2 s))
+pub quick-loop-begins : (high low : ℕ) (rest : List ℕ) (s : State) → IsQuick (0x08 ∷ high ∷ low ∷ rest) s (loop_begins (offset_of high low) (passed (jump_size high) s))
 unfolding rows row test_row
-quick-loop-begins operand rest s is = found-quick (0x08 ∷ operand ∷ rest) s _ _ _ (found-jump 0x08 operand s.at rest (less operand 128 is) refl) refl (λ memory cog. refl)
+quick-loop-begins high low rest s = found-quick (0x08 ∷ high ∷ low ∷ rest) s _ _ _ (found-jump 0x08 high low s.at rest refl) refl (λ memory cog. refl)
 
-pub quick-loop-ends : (operand : ℕ) (rest : List ℕ) (s : State) → operand < 128 → IsQuick (0x09 ∷ operand ∷ rest) s (loop_ends (sign_extended 7 operand) (passed 2 s))
+pub quick-loop-ends : (high low : ℕ) (rest : List ℕ) (s : State) → IsQuick (0x09 ∷ high ∷ low ∷ rest) s (loop_ends (offset_of high low) (passed (jump_size high) s))
 unfolding rows row test_row
-quick-loop-ends operand rest s is = found-quick (0x09 ∷ operand ∷ rest) s _ _ _ (found-jump 0x09 operand s.at rest (less operand 128 is) refl) refl (λ memory cog. refl)
+quick-loop-ends high low rest s = found-quick (0x09 ∷ high ∷ low ∷ rest) s _ _ _ (found-jump 0x09 high low s.at rest refl) refl (λ memory cog. refl)
 
-pub quick-jump-if-zero : (operand : ℕ) (rest : List ℕ) (s : State) → operand < 128 → IsQuick (0x0A ∷ operand ∷ rest) s (jump_if_zero (sign_extended 7 operand) (passed 2 s))
+pub quick-jump-if-zero : (high low : ℕ) (rest : List ℕ) (s : State) → IsQuick (0x0A ∷ high ∷ low ∷ rest) s (jump_if_zero (offset_of high low) (passed (jump_size high) s))
 unfolding rows row test_row
-quick-jump-if-zero operand rest s is = found-quick (0x0A ∷ operand ∷ rest) s _ _ _ (found-jump 0x0A operand s.at rest (less operand 128 is) refl) refl (λ memory cog. refl)
+quick-jump-if-zero high low rest s = found-quick (0x0A ∷ high ∷ low ∷ rest) s _ _ _ (found-jump 0x0A high low s.at rest refl) refl (λ memory cog. refl)
 
-pub quick-jump-unless-zero : (operand : ℕ) (rest : List ℕ) (s : State) → operand < 128 → IsQuick (0x0B ∷ operand ∷ rest) s (jump_unless_zero (sign_extended 7 operand) (passed 2 s))
+pub quick-jump-unless-zero : (high low : ℕ) (rest : List ℕ) (s : State) → IsQuick (0x0B ∷ high ∷ low ∷ rest) s (jump_unless_zero (offset_of high low) (passed (jump_size high) s))
 unfolding rows row test_row
-quick-jump-unless-zero operand rest s is = found-quick (0x0B ∷ operand ∷ rest) s _ _ _ (found-jump 0x0B operand s.at rest (less operand 128 is) refl) refl (λ memory cog. refl)
+quick-jump-unless-zero high low rest s = found-quick (0x0B ∷ high ∷ low ∷ rest) s _ _ _ (found-jump 0x0B high low s.at rest refl) refl (λ memory cog. refl)
 
 -- ---- constants
 
@@ -269,17 +270,40 @@ quick-count k operand rest s at course is action counted goes comes =
     fast : (e : ℕ) → e % 128 < 0x40 → (nat_le 0x54 (e % 128) && nat_le (e % 128) 0x58) ≡ false
     fast e most = grind (arith, nat_tests)
 
--- ---- the first two bytes in the code
+-- ---- the first bytes in the code
+
+two-bytes : (code : List ℕ) (at byte operand : ℕ) → at + 1 < length code → byte ≡ slice_index code at → operand ≡ slice_index code (at + 1) → drop at code ≡ byte ∷ operand ∷ drop (at + 1 + 1) code
+two-bytes code at byte operand within first second =
+    drop_more code at 0 (omega (arith, within))
+    ∙ ap (λ (bytes : List ℕ). slice_index code at ∷ bytes) (drop_more code (at + 1) 0 within)
+    ∙ ap (λ (b : ℕ). b ∷ slice_index code (at + 1) ∷ drop (at + 1 + 1) code) (sym first)
+    ∙ ap (λ (b : ℕ). byte ∷ b ∷ drop (at + 1 + 1) code) (sym second)
+
+three-bytes : (code : List ℕ) (at byte operand low : ℕ) → at + 2 < length code → byte ≡ slice_index code at → operand ≡ slice_index code (at + 1) → low ≡ slice_index code (at + 2) → drop at code ≡ byte ∷ operand ∷ low ∷ drop (at + 1 + 1 + 1) code
+three-bytes code at byte operand low within first second third =
+    let next : at + 1 + 1 ≡ at + 2 = omega arith in
+    two-bytes code at byte operand (omega (arith, within)) first second
+    ∙ ap (λ (bytes : List ℕ). byte ∷ operand ∷ bytes) (drop_more code (at + 1 + 1) 0 (omega (arith, within)))
+    ∙ ap (λ (b : ℕ). byte ∷ operand ∷ b ∷ drop (at + 1 + 1 + 1) code) (ap (λ (k : ℕ). slice_index code k) next ∙ sym third)
+
+-- what is quick by all bytes from where the cog is
+reads : (code : List ℕ) (s : State) (at : ℕ) (course : Course State) → at ≡ s.at → 16 ≤ at → IsQuick (drop at code) s course → (memory : List ℕ) (cog : ℕ) → code ≡ code_of memory → (course ≡ bytecode memory cog s) × (clocks memory s ≡ 32)
+reads code s at course is least quick memory cog of =
+    let found : fetched memory s.at ≡ found_at (drop at code) s.at =
+    if-no (nat_lt s.at 16) None (found_at (drop s.at (code_of memory)) s.at) (not-less s.at 16 (omega (arith, least, is)))
+    ∙ ap (λ (c : List ℕ). found_at (drop s.at c) s.at) (sym of)
+    ∙ ap (λ (place : ℕ). found_at (drop place code) s.at) (sym is) in
+    let does = quick memory cog in
+    (sym (ap (λ (f : Option (Op × ℕ)). does_found memory cog f s) found ∙ does.0), ap clocks_of found ∙ does.1)
 
 pub reads-two : {R : Type 0} (course : R → Course State) (code : List ℕ) (s new : State) (at byte operand : ℕ) (r : Option R) → at ≡ s.at → 16 ≤ at → at + 1 < length code → byte ≡ slice_index code at → operand ≡ slice_index code (at + 1) → MatchOption r (new ≡ s) (λ x. (rest : List ℕ) → IsQuick (byte ∷ operand ∷ rest) s (course x)) → MatchOption r (new ≡ s) (λ x. (memory : List ℕ) (cog : ℕ) → code ≡ code_of memory → (course x ≡ bytecode memory cog s) × (clocks memory s ≡ 32))
 reads-two course code s new at byte operand None is least within first second same = same
-reads-two course code s new at byte operand (Some x) is least within first second quick = λ memory cog of.
-    let found : fetched memory s.at ≡ found_at (byte ∷ operand ∷ drop (at + 1 + 1) code) s.at =
-    if-no (nat_lt s.at 16) None (found_at (drop s.at (code_of memory)) s.at) (not-less s.at 16 (omega (arith, least, is)))
-    ∙ ap (λ (c : List ℕ). found_at (drop s.at c) s.at) (sym of)
-    ∙ ap (λ (place : ℕ). found_at (drop place code) s.at) (sym is)
-    ∙ ap (λ (bytes : List ℕ). found_at bytes s.at) (drop_more code at 0 (omega (arith, within)) ∙ ap (λ (bytes : List ℕ). slice_index code at ∷ bytes) (drop_more code (at + 1) 0 within))
-    ∙ ap (λ (b : ℕ). found_at (b ∷ slice_index code (at + 1) ∷ drop (at + 1 + 1) code) s.at) (sym first)
-    ∙ ap (λ (b : ℕ). found_at (byte ∷ b ∷ drop (at + 1 + 1) code) s.at) (sym second) in
-    let does = quick (drop (at + 1 + 1) code) memory cog in
-    (sym (ap (λ (f : Option (Op × ℕ)). does_found memory cog f s) found ∙ does.0), ap clocks_of found ∙ does.1)
+reads-two course code s new at byte operand (Some x) is least within first second quick =
+    reads code s at (course x) is least
+    (subst (λ (bytes : List ℕ). IsQuick bytes s (course x)) (sym (two-bytes code at byte operand within first second)) (quick (drop (at + 1 + 1) code)))
+
+pub reads-three : {R : Type 0} (course : R → Course State) (code : List ℕ) (s new : State) (at byte operand low : ℕ) (r : Option R) → at ≡ s.at → 16 ≤ at → at + 2 < length code → byte ≡ slice_index code at → operand ≡ slice_index code (at + 1) → low ≡ slice_index code (at + 2) → MatchOption r (new ≡ s) (λ x. (rest : List ℕ) → IsQuick (byte ∷ operand ∷ low ∷ rest) s (course x)) → MatchOption r (new ≡ s) (λ x. (memory : List ℕ) (cog : ℕ) → code ≡ code_of memory → (course x ≡ bytecode memory cog s) × (clocks memory s ≡ 32))
+reads-three course code s new at byte operand low None is least within first second third same = same
+reads-three course code s new at byte operand low (Some x) is least within first second third quick =
+    reads code s at (course x) is least
+    (subst (λ (bytes : List ℕ). IsQuick bytes s (course x)) (sym (three-bytes code at byte operand low within first second third)) (quick (drop (at + 1 + 1 + 1) code)))

@@ -1,9 +1,9 @@
 -- internal: the most frequent bytecodes, read from their first bytes. No public contract cites it.
-use Rattle.std.specs.Prelude.{ℕ, ◌+◌, ◌%◌, ◌≡◌, Bool, not, ◌&&◌, nat_le, nat_lt, List, Option, Result, Ok, Err, option_map}
+use Rattle.std.specs.Prelude.{ℕ, ◌+◌, ◌*◌, ◌%◌, ◌≡◌, Bool, not, ◌&&◌, nat_le, nat_lt, if◌then◌else◌, List, Option, Result, Ok, Err, option_map}
 use Rattle.p8_access.specs.declared.kinds.Reason.{Reason}
 use Rattle.p8_access.specs.Courses.{Course, Finish, Stop}
 use Rattle.p8_instr.specs.declared.op.Op.{Op}
-use Rattle.p8_instr.specs.Reading.{op_in}
+use Rattle.p8_instr.specs.Reading.{op_in, sign_extended}
 use Rattle.p8_bcog.specs.declared.state.State.{State}
 use Rattle.p8_bcog.specs.Bytecodes.{does_found, clocks_of}
 
@@ -24,6 +24,14 @@ found_at bytes at = option_map (λ read. (read.0, at + read.1)) (op_in bytes)
 abbrev pub IsQuick : (bytes : List ℕ) → State → Course State → Type 0
 IsQuick bytes s course =
     (memory : List ℕ) (cog : ℕ) → (does_found memory cog (found_at bytes s.at) s ≡ course) × (clocks_of (found_at bytes s.at) ≡ 32)
+
+-- the offset of a jump by the two bytes after its own: where bit 7 of the first is 0 it has that byte alone
+abbrev pub offset_of : (high low : ℕ) → ℕ
+offset_of high low = if nat_lt high 128 then sign_extended 7 high else sign_extended 15 (high % 128 * 256 + low)
+
+-- how many bytes a jump has, by the one after its own
+abbrev pub jump_size : (high : ℕ) → ℕ
+jump_size high = if nat_lt high 128 then 2 else 3
 
 -- the operators that take 32 clocks
 abbrev pub is_fast_operator : (code : ℕ) → Bool

@@ -1,9 +1,9 @@
 // The most frequent bytecodes, done straight on their bytes.
-ghost use Rattle.std.specs.Prelude.{ℕ, ◌≡◌, ◌<◌, ◌≤◌, ◌+◌, ◌^◌, ◌∷◌, List, length, slice_index, IfSome, MatchOption};
+ghost use Rattle.std.specs.Prelude.{ℕ, ◌≡◌, ◌<◌, ◌≤◌, ◌+◌, ◌*◌, ◌%◌, ◌^◌, ◌∷◌, List, length, slice_index, IfSome, MatchOption};
 ghost use Rattle.p8_instr.specs.Reading.{sign_extended};
 ghost use Rattle.p8_bcog.specs.Code.{code_of};
 ghost use Rattle.p8_bcog.specs.Bytecodes.{bytecode, clocks};
-ghost use Rattle.p8_bcog.specs.Quick.{finishes, passed, IsQuick, is_fast_operator, names_long, counts};
+ghost use Rattle.p8_bcog.specs.Quick.{finishes, passed, offset_of, jump_size, IsQuick, is_fast_operator, names_long, counts};
 ghost use Rattle.p8_bcog.specs.Laters.{comes};
 ghost use Rattle.p8_bcog.specs.Ready.{IsGood};
 
@@ -13,7 +13,7 @@ use crate::state::State;
 use crate::step::Step;
 use p8_access::{Reason, Width};
 
-/// The offset of a jump of one byte, a word in two's complement.
+/// The offset of a jump by its only byte, a word in two's complement.
 #[inline]
 fn short_offset(byte: u8) -> u32
     requires { byte < 128 }
@@ -23,6 +23,39 @@ fn short_offset(byte: u8) -> u32
         u32::from(byte)
     } else {
         u32::from(byte) + 0xFFFF_FF80
+    }
+}
+
+/// A number of 15 bits with a sign as a word in two's complement.
+#[inline]
+fn extended(number: u32) -> u32
+    requires { number < 2 ^ 15 }
+    ensures { result ≡ sign_extended 15 number }
+{
+    if number < 0x4000 {
+        number
+    } else {
+        number + 0xFFFF_8000
+    }
+}
+
+/// The offset of a jump by its two bytes, a word in two's complement. Bit 7 of the first says that there are two.
+#[inline]
+fn long_offset(high: u8, low: u8) -> u32
+    ensures { result ≡ sign_extended 15 (high % 128 * 256 + low) }
+{
+    extended(u32::from(high % 128) * 256 + u32::from(low))
+}
+
+/// The offset of a jump by the two bytes after its own, of which it may have one alone.
+#[inline]
+fn offset_of(high: u8, low: u8) -> u32
+    ensures { result ≡ offset_of high low }
+{
+    if high < 128 {
+        short_offset(high)
+    } else {
+        long_offset(high, low)
     }
 }
 
@@ -69,33 +102,46 @@ impl State {
         self.at += bytes;
     }
 
-    /// Does the bytecode that these two bytes begin, if it is one of the most frequent that ask nothing and take 32 clocks.
+    /// Goes on after a jump, by the first byte of its offset.
     #[inline]
-    fn quick_on(&mut self, byte: u8, operand: u8) -> Option<Result<(), Reason>>
-        requires { self.old.at + 2 < 2 ^ 16 }
-        ensures { MatchOption result (self.new ≡ self.old) (λ finished. (rest : List ℕ) → IsQuick (byte ∷ operand ∷ rest) self.old (finishes finished self.new)) }
+    fn pass_jump(&mut self, high: u8)
+        requires { self.old.at + 3 < 2 ^ 16 }
+        ensures { self.new ≡ passed (jump_size high) self.old }
+    {
+        if high < 128 {
+            self.pass(2);
+        } else {
+            self.pass(3);
+        }
+    }
+
+    /// Does the bytecode that these three bytes begin, if it is one of the most frequent that ask nothing and take 32 clocks.
+    #[inline]
+    fn quick_on(&mut self, byte: u8, operand: u8, low: u8) -> Option<Result<(), Reason>>
+        requires { self.old.at + 3 < 2 ^ 16 }
+        ensures { MatchOption result (self.new ≡ self.old) (λ finished. (rest : List ℕ) → IsQuick (byte ∷ operand ∷ low ∷ rest) self.old (finishes finished self.new)) }
     {
         match byte {
-            0x04 if operand < 128 => {
-                self.pass(2);
-                self.jump(short_offset(operand));
+            0x04 => {
+                self.pass_jump(operand);
+                self.jump(offset_of(operand, low));
                 Some(Ok(()))
             }
-            0x08 if operand < 128 => {
-                self.pass(2);
-                Some(self.loop_begins(short_offset(operand)))
+            0x08 => {
+                self.pass_jump(operand);
+                Some(self.loop_begins(offset_of(operand, low)))
             }
-            0x09 if operand < 128 => {
-                self.pass(2);
-                Some(self.loop_ends(short_offset(operand)))
+            0x09 => {
+                self.pass_jump(operand);
+                Some(self.loop_ends(offset_of(operand, low)))
             }
-            0x0A if operand < 128 => {
-                self.pass(2);
-                Some(self.jump_if_zero(short_offset(operand)))
+            0x0A => {
+                self.pass_jump(operand);
+                Some(self.jump_if_zero(offset_of(operand, low)))
             }
-            0x0B if operand < 128 => {
-                self.pass(2);
-                Some(self.jump_unless_zero(short_offset(operand)))
+            0x0B => {
+                self.pass_jump(operand);
+                Some(self.jump_unless_zero(offset_of(operand, low)))
             }
             0x34 => {
                 self.pass(1);
@@ -157,7 +203,8 @@ impl State {
         }
     }
 
-    /// Does the bytecode that stands where the cog is, if it is one of the most frequent that ask nothing and take 32 clocks.
+    /// Does the bytecode that stands where the cog is, if it is one of the most frequent that ask nothing and take 32 clocks, and if
+    /// three bytes stand there.
     #[inline]
     pub fn quick(&mut self, code: &[u8]) -> Option<Result<(), Reason>>
         requires room { length code.now ≤ 32768 }
@@ -167,14 +214,18 @@ impl State {
         if at < 16 {
             return None;
         }
-        if at + 1 >= code.len() {
+        if at + 2 >= code.len() {
             return None;
         }
-        self.quick_on(byte_of(code, at), byte_of(code, at + 1))
+        self.quick_on(
+            byte_of(code, at),
+            byte_of(code, at + 1),
+            byte_of(code, at + 2),
+        )
     }
 
     /// Does the bytecode that stands where the cog is, if it pushes or pops a long variable that it names, or adds 1 to it or
-    /// subtracts 1.
+    /// subtracts 1. It asks for three bytes, as `quick` does, so that one test serves both.
     #[inline]
     pub fn quick_variable(&mut self, code: &[u8]) -> Option<Result<Step, Reason>>
         requires room { length code.now ≤ 32768 }
@@ -185,7 +236,7 @@ impl State {
         if at < 16 {
             return None;
         }
-        if at + 1 >= code.len() {
+        if at + 2 >= code.len() {
             return None;
         }
         self.quick_variable_on(byte_of(code, at), byte_of(code, at + 1))
