@@ -21,7 +21,7 @@ use Rattle.p8_bcog.specs.Accesses.{word_in, ends, write_of}
 use Rattle.p8_bcog.specs.Laters.{asking-is, later_on, comes}
 use Rattle.p8_bcog.specs.Replay.{enters_at, entry_of, engine_of, first_of, lived}
 use Rattle.p8_bcog.specs.Standing.{standing, come_to, is_under, is_amid, StandsIn, StandsFor}
-use Rattle.p8_bcog.specs.Stops.{stage_of, done_by, Announces}
+use Rattle.p8_bcog.specs.Stops.{stage_of, at_stage, done_by, Announces}
 use Rattle.p8_bcog.proofs.OneMore.{none_done, stage_plays, never_entering, never_over}
 
 -- ---- the turn of what was announced
@@ -158,13 +158,40 @@ taken-in memory done cog now s new clock access later r e ts turn is stands last
 }
 
 -- with any other turn the bytecode goes on; the new stage and clock are known by equations
-pub asked_stands : (counter : ℕ) (memory : List ℕ) (done more cog : ℕ) (now stage : Stage) (s new : State) (clock p word : ℕ) (access : Access) (later : Later) (r : Result Step Reason) (turn : Turn) → now ≡ Asked access later → is_last cog access ≡ false → stage ≡ stage_of r → more ≡ done_by stage → p ≡ behind clock access turn.key.clock → word ≡ word_in turn.answer → comes r new ≡ later_on later s word → (b : Begun) (ts : List Turn) → StandsFor counter memory done cog now s clock b ts → StandsFor counter memory (done + more) cog stage new p b (ts ++ turn ∷ [])
+asked_stands : (counter : ℕ) (memory : List ℕ) (done more cog : ℕ) (now stage : Stage) (s new : State) (clock p word : ℕ) (access : Access) (later : Later) (r : Result Step Reason) (turn : Turn) → now ≡ Asked access later → is_last cog access ≡ false → stage ≡ stage_of r → more ≡ done_by stage → p ≡ behind clock access turn.key.clock → word ≡ word_in turn.answer → comes r new ≡ later_on later s word → (b : Begun) (ts : List Turn) → StandsFor counter memory done cog now s clock b ts → StandsFor counter memory (done + more) cog stage new p b (ts ++ turn ∷ [])
 asked_stands counter memory done more cog now stage s new clock p word access later r turn is last staged counted at read does (SpinBegun e) ts stands =
     let core = taken-in memory done cog now s new clock access later r e ts turn is stands last (does ∙ ap (later_on later s) read) in
     subst (λ (k : ℕ). StandsIn counter memory (done + k) cog stage new p e (ts ++ turn ∷ [])) (sym counted)
     (subst (λ (q : ℕ). StandsIn counter memory (done + done_by stage) cog stage new q e (ts ++ turn ∷ [])) (sym at)
     (subst (λ (st : Stage). StandsIn counter memory (done + done_by st) cog st new (behind clock access turn.key.clock) e (ts ++ turn ∷ [])) (sym staged) core))
 asked_stands counter memory done more cog now stage s new clock p word access later r turn is last staged counted at read does (PasmBegun loaded) ts stands = absurd stands
+
+-- ---- the same where the new stage was written in its place
+
+abbrev result_at : Stage → Result Step Reason
+result_at Entering = Ok Done
+result_at Ready = Ok Done
+result_at (Asked access later) = Ok (Asking access later)
+result_at (Halted reason) = Err reason
+result_at Over = Ok Done
+
+under_staged : (stage : Stage) → is_under stage ≡ true → stage ≡ stage_of (result_at stage)
+under_staged Entering is = absurd (cc)
+under_staged Ready is = refl
+under_staged (Asked access later) is = refl
+under_staged (Halted reason) is = refl
+under_staged Over is = absurd (cc)
+
+under_comes : (stage : Stage) (s : State) → is_under stage ≡ true → comes (result_at stage) s ≡ at_stage stage s
+under_comes Entering s is = absurd (cc)
+under_comes Ready s is = refl
+under_comes (Asked access later) s is = refl
+under_comes (Halted reason) s is = refl
+under_comes Over s is = absurd (cc)
+
+pub resumed_stands : (counter : ℕ) (memory : List ℕ) (done more cog : ℕ) (now stage : Stage) (s new : State) (clock p word : ℕ) (access : Access) (later : Later) (turn : Turn) → now ≡ Asked access later → is_last cog access ≡ false → is_under stage ≡ true → more ≡ done_by stage → p ≡ behind clock access turn.key.clock → word ≡ word_in turn.answer → at_stage stage new ≡ later_on later s word → (b : Begun) (ts : List Turn) → StandsFor counter memory done cog now s clock b ts → StandsFor counter memory (done + more) cog stage new p b (ts ++ turn ∷ [])
+resumed_stands counter memory done more cog now stage s new clock p word access later turn is last under counted at read does =
+    asked_stands counter memory done more cog now stage s new clock p word access later (result_at stage) turn is last (under_staged stage under) counted at read (under_comes stage new under ∙ does)
 
 -- ---- the entry
 

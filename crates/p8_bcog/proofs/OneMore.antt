@@ -13,7 +13,6 @@ use Rattle.p8_bcog.specs.declared.stage.Stage.TheVariants.{Entering, Ready, Aske
 use Rattle.p8_bcog.specs.declared.state.State.{State}
 use Rattle.p8_bcog.specs.Bytecodes.{bytecode, clocks}
 use Rattle.p8_bcog.specs.Laters.{comes}
-use Rattle.p8_bcog.specs.Ready.{IsGood}
 use Rattle.p8_bcog.specs.Replay.{engine_of}
 use Rattle.p8_bcog.specs.Standing.{standing, is_under}
 use Rattle.p8_bcog.specs.Stops.{stage_of, is_ready, at_stage, IsSound, Leads, Led, IsBehind}
@@ -32,11 +31,6 @@ under_plays cog p Ready s more is = refl
 under_plays cog p (Asked access later) s more is = refl
 under_plays cog p (Halted reason) s more is = refl
 under_plays cog p Over s more is = absurd (cc)
-
-pub good_sound : (r : Result Step Reason) (s : State) → IsGood r s → IsSound (stage_of r) s
-good_sound (Ok Done) s good = tt
-good_sound (Ok (Asking access later)) s good = good
-good_sound (Err reason) s good = tt
 
 pub never_entering : (r : Result Step Reason) → stage_of r ≡ Entering → ⊥
 never_entering (Ok Done) is = let e : Ready ≡ Entering = is in cc
@@ -99,6 +93,3 @@ ready_behind done budget clock until stage is ends = subst (λ (st : Stage). IsB
 
 pub ready_sound : (stage : Stage) (s : State) → stage ≡ Ready → IsSound stage s
 ready_sound stage s is = subst (λ (st : Stage). IsSound st s) (sym is) tt
-
-pub sound_at : (r : Result Step Reason) (s : State) (stage : Stage) → stage_of r ≡ stage → IsGood r s → IsSound stage s
-sound_at r s stage is good = subst (λ (st : Stage). IsSound st s) is (good_sound r s good)

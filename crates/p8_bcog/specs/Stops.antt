@@ -15,7 +15,7 @@ use Rattle.p8_bcog.specs.declared.step.Step.TheVariants.{Done, Asking}
 use Rattle.p8_bcog.specs.declared.stage.Stage.{Stage}
 use Rattle.p8_bcog.specs.declared.stage.Stage.TheVariants.{Entering, Ready, Asked, Halted, Over}
 use Rattle.p8_bcog.specs.declared.state.State.{State}
-use Rattle.p8_bcog.specs.Laters.{asking}
+use Rattle.p8_bcog.specs.Laters.{asking, later_on}
 use Rattle.p8_bcog.specs.Ready.{IsReady}
 use Rattle.p8_bcog.specs.Replay.{engine_of}
 use Rattle.p8_bcog.specs.Standing.{standing, come_to}
@@ -41,6 +41,14 @@ at_stage Ready s = Finish s
 at_stage (Asked access later) s = asking access later s
 at_stage (Halted reason) s = Stop reason
 at_stage Over s = Finish s
+
+-- how what is under way goes on by the word of an answer
+abbrev pub resumed : Stage → State → (word : ℕ) → Course State
+resumed Entering s word = Finish s
+resumed Ready s word = Finish s
+resumed (Asked access later) s word = later_on later s word
+resumed (Halted reason) s word = Stop reason
+resumed Over s word = Finish s
 
 -- a bytecode is done
 abbrev pub done_by : Stage → ℕ

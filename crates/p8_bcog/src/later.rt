@@ -2,14 +2,77 @@
 ghost use Rattle.std.specs.Prelude.{◌≡◌};
 ghost use Rattle.p8_bcog.specs.Laters.{comes, later_on};
 ghost use Rattle.p8_bcog.specs.Ready.{IsGood, IsReady};
+ghost use Rattle.p8_bcog.specs.Standing.{is_under};
+ghost use Rattle.p8_bcog.specs.Stops.{at_stage, resumed, IsSound};
 
+use crate::place::Place;
+use crate::running::stage_of;
+use crate::stage::Stage;
 use crate::state::State;
-use crate::step::{Later, Step};
+use crate::step::{Later, Step, Wanted};
 use p8_access::Reason;
 
 impl State {
+    /// Goes on by the word of an answer, and tells how far the life is then. What most answers are for is done here.
+    #[inline(always)]
+    #[tactic(auto, unfolding(crate::specs::Places::uses))]
+    pub fn resume(&mut self, word: u32, stage: &mut Stage)
+        requires { IsSound stage.old self.old }
+        ensures does { at_stage stage.new self.new ≡ resumed stage.old self.old word }
+        ensures under { is_under stage.new ≡ is_under stage.old }
+        ensures sound { IsSound stage.new self.new }
+    {
+        match *stage {
+            Stage::Asked {
+                later: Later::Left { value },
+                ..
+            } => {
+                self.leave(value);
+                *stage = Stage::Ready;
+            }
+            Stage::Asked {
+                later:
+                    Later::Value {
+                        place: Place::Memory { width, address },
+                        wanted: Wanted::Changed { effect, right },
+                    },
+                ..
+            } => self.change_memory(effect, right, width, address, word, stage),
+            Stage::Asked {
+                later:
+                    Later::Value {
+                        place: Place::Memory { .. },
+                        wanted: Wanted::Pushed,
+                    },
+                ..
+            } => {
+                self.push(word);
+                *stage = Stage::Ready;
+            }
+            _ => self.resume_any(word, stage),
+        }
+    }
+
+    /// Goes on as `resume` does, whatever an answer is for. It is not inlined: the compiler clears the memory for the result of a
+    /// call where the function begins that makes the call.
+    #[inline(never)]
+    fn resume_any(&mut self, word: u32, stage: &mut Stage)
+        requires { IsSound stage.old self.old }
+        ensures does { at_stage stage.new self.new ≡ resumed stage.old self.old word }
+        ensures under { is_under stage.new ≡ is_under stage.old }
+        ensures sound { IsSound stage.new self.new }
+    {
+        match *stage {
+            Stage::Asked { later, .. } => *stage = stage_of(self.go_on(later, word)),
+            Stage::Entering => {}
+            Stage::Ready => {}
+            Stage::Halted { .. } => {}
+            Stage::Over => {}
+        }
+    }
+
     /// Goes on by the word of an answer.
-    pub fn go_on(&mut self, later: Later, word: u32) -> Result<Step, Reason>
+    fn go_on(&mut self, later: Later, word: u32) -> Result<Step, Reason>
         requires { IsReady later self.old }
         ensures does { comes result self.new ≡ later_on later self.old word }
         ensures good { IsGood result self.new }

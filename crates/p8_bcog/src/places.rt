@@ -1,15 +1,19 @@
 // Variables: hub memory, and pins of a register.
-ghost use Rattle.std.specs.Prelude.{◌≡◌, ◌<◌, ◌≤◌, ◌%◌};
+ghost use Rattle.std.specs.Prelude.{◌≡◌, ◌<◌, ◌≤◌, ◌%◌, true};
 ghost use Rattle.p8_bcog.specs.Places.{pins_in, ones, ordered, pins_of, mask_of, with_pins, register_value, register_access, writes_register, value_in, reduced, writes_place, extended, updated, leaves_old, left_of, stepped, uses, reads_place};
 ghost use Rattle.p8_bcog.specs.Laters.{comes};
+ghost use Rattle.p8_bcog.specs.declared.place.Place.TheVariants.{Memory};
 ghost use Rattle.p8_bcog.specs.declared.step.Wanted.TheVariants.{Changed};
 ghost use Rattle.p8_bcog.specs.declared.step.Later.TheVariants.{Left};
 ghost use Rattle.p8_bcog.specs.declared.step.Step.TheVariants.{Asking};
 ghost use Rattle.p8_bcog.specs.Ready.{IsGood, IsMadeIf, IsPlace, HasRoom, HasRoomFor, HasRoomToUse};
+ghost use Rattle.p8_bcog.specs.Standing.{is_under};
+ghost use Rattle.p8_bcog.specs.Stops.{at_stage, IsSound};
 
 use crate::accesses::{read_of, write_of};
 use crate::operands::{difference, is_at_most, is_between, sum_of};
 use crate::place::Place;
+use crate::stage::Stage;
 use crate::state::State;
 use crate::step::{Later, Step, Wanted};
 use p8_access::{Access, Reason, Width};
@@ -151,6 +155,7 @@ fn extended_word(value: u32) -> u32
 }
 
 /// The new value by an effect without its bit 7.
+#[inline(always)]
 fn updated(effect: u8, value: u32, right: u32) -> u32
     requires { effect < 0x60 }
     ensures { result ≡ updated effect value right }
@@ -278,6 +283,53 @@ impl State {
                 self.write_register(register, word, left)
             }
         }
+    }
+
+    /// Writes memory as `write_place` does, and tells how far the life is then.
+    #[inline(always)]
+    #[tactic(auto, unfolding(crate::specs::Places::writes_place))]
+    pub fn write_memory(
+        &self,
+        width: Width,
+        address: u16,
+        value: u32,
+        left: Option<u32>,
+        stage: &mut Stage,
+    )
+        requires room { HasRoomFor left self.now }
+        ensures does { at_stage stage.new self.now ≡ writes_place (Memory width address) value left self.now }
+        ensures under { is_under stage.new ≡ true }
+        ensures sound { IsSound stage.new self.now }
+    {
+        *stage = Stage::Asked {
+            access: write_of(width, address, value),
+            later: Later::Left { value: left },
+        };
+    }
+
+    /// Changes memory whose value was read, as `change_place` does, and tells how far the life is then.
+    #[inline(always)]
+    #[tactic(auto, unfolding(crate::specs::Places::uses))]
+    pub fn change_memory(
+        &self,
+        effect: u8,
+        right: u32,
+        width: Width,
+        address: u16,
+        value: u32,
+        stage: &mut Stage,
+    )
+        requires room { 128 ≤ effect → HasRoom self.now }
+        requires effect { effect % 128 < 0x60 }
+        ensures does { at_stage stage.new self.now ≡ uses (Changed effect right) (Memory width address) value self.now }
+        ensures under { is_under stage.new ≡ true }
+        ensures sound { IsSound stage.new self.now }
+    {
+        let place = Place::Memory { width, address };
+        let new = updated(effect % 128, value, right);
+        let kept = if leaves_old(effect % 128) { value } else { new };
+        let left = left_of(effect, place.reduced(kept));
+        self.write_memory(width, address, new, left, stage);
     }
 
     /// Changes a place whose value was read by an effect.

@@ -14,7 +14,7 @@ ghost use Rattle.p8_bcog.specs.Single.{is_prop-IsSound};
 ghost use Rattle.p8_bcog.specs.Laws.{one-asked, asked-first, asked-later, pace_holds};
 
 use crate::accesses::{word_in, write_of};
-use crate::running::{behind, done_by, earliest, is_ready, run, stage_of};
+use crate::running::{behind, done_by, earliest, is_ready, run};
 use crate::stack::{OperandStack, own_strip};
 use crate::stage::Stage;
 use crate::state::State;
@@ -297,7 +297,7 @@ impl Life for SpinCog {
                 self.reached = turn.key.clock + 7;
                 self.stage = Stage::Ready;
             }
-            Stage::Asked { access, later } => {
+            Stage::Asked { access, .. } => {
                 let clock = behind(self.clock, access, turn.key.clock);
                 self.clock = clock;
                 self.reached = clock;
@@ -305,7 +305,7 @@ impl Life for SpinCog {
                     self.stage = Stage::Over;
                     self.done += 1;
                 } else {
-                    self.stage = stage_of(self.state.go_on(later, word_in(turn.answer)));
+                    self.state.resume(word_in(turn.answer), &mut self.stage);
                     self.done += done_by(&self.stage);
                 }
             }

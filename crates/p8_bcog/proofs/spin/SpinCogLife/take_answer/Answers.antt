@@ -1,13 +1,14 @@
-use Rattle.std.proofs.Common.{◌+◌, ◌++◌, ◌∷◌, [], refl, sym, ◌∙◌, arith}
+use Rattle.std.proofs.Common.{◌+◌, ◌++◌, ◌∷◌, [], refl, sym, ap, ◌∙◌, arith}
 use Rattle.p8_access.specs.declared.kinds.Width.TheVariants.{Long}
 use Rattle.p8_access.specs.declared.kinds.Access.TheVariants.{Halt}
 use Rattle.p8_access.specs.Replaying.{behind-later, behind-near}
+use Rattle.p8_bcog.specs.declared.stage.Stage.{Stage}
 use Rattle.p8_bcog.specs.declared.stage.Stage.TheVariants.{Ready, Over}
 use Rattle.p8_bcog.specs.Accesses.{write_of}
-use Rattle.p8_bcog.proofs.OneMore.{sound_at}
 use Rattle.p8_bcog.proofs.Keeping.{announces_none, placed}
-use Rattle.p8_bcog.proofs.Answering.{came, asked_here, halted_here, entering_here, never_asks, asked_over, halted_over, asked_stands, entering_stands}
-use Rattle.p8_bcog.specs.Stops.{announced_at}
+use Rattle.p8_bcog.proofs.Answering.{came, asked_here, halted_here, entering_here, never_asks, asked_over, halted_over, resumed_stands, entering_stands}
+use Rattle.p8_bcog.specs.Standing.{is_under}
+use Rattle.p8_bcog.specs.Stops.{announced_at, resumed}
 use Rattle.p8_bcog.proofs.spin.SpinCogLife.take_answer.Goals as goal
 
 pub unreachable-requires : goal.unreachable-requires
@@ -55,8 +56,8 @@ invariant_of-self-else-is_last c =
       below = omega (arith, near, c.behind-clock.ensures, c.requires.clock);
       counts = omega (arith, later, h.2, c.behind-clock.ensures, c.args.self.now.counts, c.done_by.ensures.most);
       ready = λ is. refl;
-      sound = sound_at c.go_on.result c.go_on.new.self c.stage_of-self.result (sym c.stage_of-self.ensures) c.go_on.ensures.good;
-      announces = announces_none c.args.self.now.cog c.stage_of-self.result c.go_on.new.self c.behind-clock.result c.behind-clock.result;
+      sound = c.resume.ensures.sound;
+      announces = announces_none c.args.self.now.cog c.resume.new.stage c.resume.new.self c.behind-clock.result c.behind-clock.result;
     }
 
 pub invariant_of-self-in-Halted : goal.invariant_of-self-in-Halted
@@ -91,11 +92,12 @@ returns-then-is_last-clause-placed c = λ b ts stands live.
 
 pub returns-else-is_last-clause-stands : goal.returns-else-is_last-clause-stands
 returns-else-is_last-clause-stands c =
-    asked_stands c.args.self.now.counter c.args.self.now.code c.args.self.now.done c.done_by.result c.args.self.now.cog c.args.self.now.stage c.stage_of-self.result c.args.self.now.state c.go_on.new.self c.args.self.now.clock c.behind-clock.result c.word_in.result c.in-Asked.access c.in-Asked.later c.go_on.result c.args.turn.now c.in-Asked.is (sym c.is_last.ensures ∙ c.if-is_last.false) c.stage_of-self.ensures c.done_by.ensures.done c.behind-clock.ensures c.word_in.ensures c.go_on.ensures.does
+    resumed_stands c.args.self.now.counter c.args.self.now.code c.args.self.now.done c.done_by.result c.args.self.now.cog c.args.self.now.stage c.resume.new.stage c.args.self.now.state c.resume.new.self c.args.self.now.clock c.behind-clock.result c.word_in.result c.in-Asked.access c.in-Asked.later c.args.turn.now c.in-Asked.is (sym c.is_last.ensures ∙ c.if-is_last.false) (c.resume.ensures.under ∙ ap is_under c.in-Asked.is) c.done_by.ensures.done c.behind-clock.ensures c.word_in.ensures
+    (c.resume.ensures.does ∙ ap (λ (st : Stage). resumed st c.args.self.now.state c.word_in.result) c.in-Asked.is)
 
 pub returns-else-is_last-clause-placed : goal.returns-else-is_last-clause-placed
 returns-else-is_last-clause-placed c = λ b ts stands live.
-    placed c.args.self.now.counter c.args.self.now.code (c.args.self.now.done + c.done_by.result) c.args.self.now.cog c.stage_of-self.result c.go_on.new.self c.behind-clock.result b (ts ++ c.args.turn.now ∷ []) (returns-else-is_last-clause-stands c b ts stands) live
+    placed c.args.self.now.counter c.args.self.now.code (c.args.self.now.done + c.done_by.result) c.args.self.now.cog c.resume.new.stage c.resume.new.self c.behind-clock.result b (ts ++ c.args.turn.now ∷ []) (returns-else-is_last-clause-stands c b ts stands) live
 
 pub returns-else-is_last-clause-reached : goal.returns-else-is_last-clause-reached
 returns-else-is_last-clause-reached c =
