@@ -369,11 +369,8 @@ impl State {
         ensures sound { IsSound stage.new self.new }
         ensures under { is_under stage.new ≡ true }
     {
-        match self.quick_variable(code) {
-            Some(stepped) => {
-                *stage = stage_of(stepped);
-                32
-            }
+        match self.quick_variable(code, stage) {
+            Some(()) => 32,
             None => self.any_bytecode(memory, code, cog, stage),
         }
     }

@@ -1,14 +1,19 @@
 // What a bytecode does with a variable.
-ghost use Rattle.std.specs.Prelude.{◌≡◌, ◌+◌, ◌<◌, ◌≤◌, ◌%◌, ◌^◌};
+ghost use Rattle.std.specs.Prelude.{◌≡◌, ◌+◌, ◌<◌, ◌≤◌, ◌%◌, ◌^◌, true};
 ghost use Rattle.p8_bcog.specs.Changes.{pushes, pops, leaves, stores, sets, steps_by_one, steps, changes_alone, changes_by, is_binary_effect, changes};
+ghost use Rattle.p8_access.specs.declared.kinds.Width.TheVariants.{Long};
+ghost use Rattle.p8_bcog.specs.declared.place.Place.TheVariants.{Memory};
 ghost use Rattle.p8_bcog.specs.Laters.{comes};
 ghost use Rattle.p8_bcog.specs.Ready.{IsGood, IsPlace};
+ghost use Rattle.p8_bcog.specs.Standing.{is_under};
+ghost use Rattle.p8_bcog.specs.Stops.{at_stage, IsSound};
 
 use crate::place::Place;
 use crate::places::left_of;
+use crate::stage::Stage;
 use crate::state::State;
 use crate::step::{Step, Wanted};
-use p8_access::Reason;
+use p8_access::{Reason, Width};
 use p8_instr::Op;
 use p8_words::is_unary;
 
@@ -140,12 +145,7 @@ impl State {
 
     /// Changes a place by an effect without a right side.
     #[tactic(auto, unfolding(crate::specs::Changes::changes_alone))]
-    pub fn change_place_alone(
-        &mut self,
-        named: usize,
-        effect: u8,
-        place: Place,
-    ) -> Result<Step, Reason>
+    fn change_place_alone(&mut self, named: usize, effect: u8, place: Place) -> Result<Step, Reason>
         requires named { named ≤ 2 }
         requires place { IsPlace place }
         requires effect { effect % 128 < 0x60 }
@@ -196,6 +196,60 @@ impl State {
             self.change_place_by(named, op.effect, place)
         } else {
             self.change_place_alone(named, op.effect, place)
+        }
+    }
+
+    /// Pushes a long of memory, and tells how far the life is then.
+    #[inline]
+    #[tactic(auto, unfolding(crate::specs::Changes::pushes))]
+    pub fn push_long(&mut self, address: u16, stage: &mut Stage)
+        ensures does { at_stage stage.new self.new ≡ pushes 0 (Memory Long address) self.old }
+        ensures under { is_under stage.new ≡ true }
+        ensures sound { IsSound stage.new self.new }
+    {
+        match self.test(0, 1) {
+            Ok(()) => {
+                self.take(0);
+                self.read_memory(Wanted::Pushed, Width::Long, address, stage);
+            }
+            Err(reason) => *stage = Stage::Halted { reason },
+        }
+    }
+
+    /// Pops a value into a long of memory, and tells how far the life is then.
+    #[inline]
+    #[tactic(auto, unfolding(crate::specs::Changes::pops))]
+    pub fn pop_long(&mut self, address: u16, stage: &mut Stage)
+        ensures does { at_stage stage.new self.new ≡ pops 0 (Memory Long address) self.old }
+        ensures under { is_under stage.new ≡ true }
+        ensures sound { IsSound stage.new self.new }
+    {
+        match self.test(1, 0) {
+            Ok(()) => {
+                let value = self.operand(0);
+                self.take(1);
+                self.write_memory(Width::Long, address, value, None, stage);
+            }
+            Err(reason) => *stage = Stage::Halted { reason },
+        }
+    }
+
+    /// Changes a long of memory by an effect without a right side, and tells how far the life is then.
+    #[inline]
+    #[tactic(auto, unfolding(crate::specs::Changes::changes_alone))]
+    pub fn change_long(&mut self, effect: u8, address: u16, stage: &mut Stage)
+        requires effect { effect % 128 < 0x60 }
+        ensures does { at_stage stage.new self.new ≡ changes_alone 0 effect (Memory Long address) self.old }
+        ensures under { is_under stage.new ≡ true }
+        ensures sound { IsSound stage.new self.new }
+    {
+        match self.test(0, leaves(effect)) {
+            Ok(()) => {
+                self.take(0);
+                let wanted = Wanted::Changed { effect, right: 0 };
+                self.read_memory(wanted, Width::Long, address, stage);
+            }
+            Err(reason) => *stage = Stage::Halted { reason },
         }
     }
 }

@@ -31,19 +31,17 @@ impl State {
                 *stage = Stage::Ready;
             }
             Stage::Asked {
-                later:
-                    Later::Value {
-                        place: Place::Memory { width, address },
-                        wanted: Wanted::Changed { effect, right },
-                    },
+                later: Later::Value {
+                    place: Place::Memory { width, address },
+                    wanted: Wanted::Changed { effect, right },
+                },
                 ..
             } => self.change_memory(effect, right, width, address, word, stage),
             Stage::Asked {
-                later:
-                    Later::Value {
-                        place: Place::Memory { .. },
-                        wanted: Wanted::Pushed,
-                    },
+                later: Later::Value {
+                    place: Place::Memory { .. },
+                    wanted: Wanted::Pushed,
+                },
                 ..
             } => {
                 self.push(word);

@@ -412,4 +412,25 @@ impl State {
             },
         }
     }
+
+    /// Reads memory as `read_place` does, and tells how far the life is then.
+    #[inline(always)]
+    #[tactic(auto, unfolding(crate::specs::Places::reads_place))]
+    pub fn read_memory(&self, wanted: Wanted, width: Width, address: u16, stage: &mut Stage)
+        requires room { HasRoomToUse wanted self.now }
+        ensures does { at_stage stage.new self.now ≡ reads_place wanted (Memory width address) self.now }
+        ensures under { is_under stage.new ≡ true }
+        ensures sound { IsSound stage.new self.now }
+    {
+        match read_of(width, address) {
+            Ok(access) => {
+                let place = Place::Memory { width, address };
+                *stage = Stage::Asked {
+                    access,
+                    later: Later::Value { place, wanted },
+                };
+            }
+            Err(reason) => *stage = Stage::Halted { reason },
+        }
+    }
 }

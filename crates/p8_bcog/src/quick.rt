@@ -1,17 +1,16 @@
 // The most frequent bytecodes, done straight on their bytes.
-ghost use Rattle.std.specs.Prelude.{ℕ, ◌≡◌, ◌<◌, ◌≤◌, ◌+◌, ◌*◌, ◌%◌, ◌^◌, ◌∷◌, List, length, slice_index, IfSome, MatchOption};
+ghost use Rattle.std.specs.Prelude.{ℕ, ◌≡◌, ◌<◌, ◌≤◌, ◌+◌, ◌*◌, ◌%◌, ◌^◌, ◌∷◌, true, List, length, slice_index, IfSome, MatchOption};
 ghost use Rattle.p8_instr.specs.Reading.{sign_extended};
 ghost use Rattle.p8_bcog.specs.Code.{code_of};
 ghost use Rattle.p8_bcog.specs.Bytecodes.{bytecode, clocks};
 ghost use Rattle.p8_bcog.specs.Quick.{finishes, passed, offset_of, jump_size, IsQuick, is_fast_operator, names_long, counts};
-ghost use Rattle.p8_bcog.specs.Laters.{comes};
-ghost use Rattle.p8_bcog.specs.Ready.{IsGood};
+ghost use Rattle.p8_bcog.specs.Standing.{is_under};
+ghost use Rattle.p8_bcog.specs.Stops.{at_stage, IsSound};
 
 use crate::bytecodes::packed;
-use crate::place::Place;
+use crate::stage::Stage;
 use crate::state::State;
-use crate::step::Step;
-use p8_access::{Reason, Width};
+use p8_access::Reason;
 
 /// The offset of a jump by its only byte, a word in two's complement.
 #[inline]
@@ -172,32 +171,33 @@ impl State {
     }
 
     /// Does the bytecode that these two bytes begin, if it pushes or pops a long variable that it names, or adds 1 to it or
-    /// subtracts 1.
+    /// subtracts 1, and tells how far it is then.
     #[inline]
-    fn quick_variable_on(&mut self, byte: u8, operand: u8) -> Option<Result<Step, Reason>>
+    fn quick_variable_on(&mut self, byte: u8, operand: u8, stage: &mut Stage) -> Option<()>
         requires { self.old.at + 2 < 2 ^ 16 }
-        ensures does { MatchOption result (self.new ≡ self.old) (λ stepped. (rest : List ℕ) → IsQuick (byte ∷ operand ∷ rest) self.old (comes stepped self.new)) }
-        ensures good { IfSome result (λ stepped. IsGood stepped self.new) }
+        ensures does { MatchOption result (self.new ≡ self.old) (λ done. (rest : List ℕ) → IsQuick (byte ∷ operand ∷ rest) self.old (at_stage stage.new self.new)) }
+        ensures under { IfSome result (λ done. is_under stage.new ≡ true) }
+        ensures sound { IfSome result (λ done. IsSound stage.new self.new) }
     {
         if !names_long(byte) {
             return None;
         }
-        let place = Place::Memory {
-            width: Width::Long,
-            address: self.short_address(byte),
-        };
+        let address = self.short_address(byte);
         match byte % 4 {
             0 => {
                 self.pass(1);
-                Some(self.push_place(0, place))
+                self.push_long(address, stage);
+                Some(())
             }
             1 => {
                 self.pass(1);
-                Some(self.pop_place(0, place))
+                self.pop_long(address, stage);
+                Some(())
             }
             2 if counts(operand) => {
                 self.pass(2);
-                Some(self.change_place_alone(0, operand, place))
+                self.change_long(operand, address, stage);
+                Some(())
             }
             _ => None,
         }
@@ -225,12 +225,13 @@ impl State {
     }
 
     /// Does the bytecode that stands where the cog is, if it pushes or pops a long variable that it names, or adds 1 to it or
-    /// subtracts 1. It asks for three bytes, as `quick` does, so that one test serves both.
+    /// subtracts 1, and tells how far it is then. It asks for three bytes, as `quick` does, so that one test serves both.
     #[inline]
-    pub fn quick_variable(&mut self, code: &[u8]) -> Option<Result<Step, Reason>>
+    pub fn quick_variable(&mut self, code: &[u8], stage: &mut Stage) -> Option<()>
         requires room { length code.now ≤ 32768 }
-        ensures does { MatchOption result (self.new ≡ self.old) (λ stepped. (memory : List ℕ) (cog : ℕ) → code.now ≡ code_of memory → (comes stepped self.new ≡ bytecode memory cog self.old) × (clocks memory self.old ≡ 32)) }
-        ensures good { IfSome result (λ stepped. IsGood stepped self.new) }
+        ensures does { MatchOption result (self.new ≡ self.old) (λ done. (memory : List ℕ) (cog : ℕ) → code.now ≡ code_of memory → (at_stage stage.new self.new ≡ bytecode memory cog self.old) × (clocks memory self.old ≡ 32)) }
+        ensures under { IfSome result (λ done. is_under stage.new ≡ true) }
+        ensures sound { IfSome result (λ done. IsSound stage.new self.new) }
     {
         let at = usize::from(self.at);
         if at < 16 {
@@ -239,6 +240,6 @@ impl State {
         if at + 2 >= code.len() {
             return None;
         }
-        self.quick_variable_on(byte_of(code, at), byte_of(code, at + 1))
+        self.quick_variable_on(byte_of(code, at), byte_of(code, at + 1), stage)
     }
 }
