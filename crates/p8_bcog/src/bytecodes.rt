@@ -288,7 +288,7 @@ impl State {
     }
 
     /// The bytecodes E0 to FF are operators.
-    #[inline]
+    #[inline(always)]
     #[tactic(auto, unfolding(crate::specs::Bytecodes::operator_row))]
     pub fn operate(&mut self, code: u8) -> Result<(), Reason>
         ensures does { finishes result self.new ≡ operator_row (bare code) self.old }
@@ -375,7 +375,9 @@ impl State {
         }
     }
 
-    /// Does any bytecode as `bytecode` does.
+    /// Does any bytecode as `bytecode` does. It is not inlined, so that no value of it takes a register of the processor from the frequent
+    /// ones.
+    #[inline(never)]
     fn any_bytecode(&mut self, memory: &[u8], code: &[u8], cog: u8, stage: &mut Stage) -> u64
         requires code { code.now ≡ code_of memory.now }
         requires room { length code.now ≤ 32768 }

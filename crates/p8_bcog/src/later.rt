@@ -1,24 +1,27 @@
 // How a bytecode goes on by an answer.
 ghost use Rattle.std.specs.Prelude.{◌≡◌};
+ghost use Rattle.p8_bcog.specs.Accesses.{word_in};
 ghost use Rattle.p8_bcog.specs.Laters.{comes, later_on};
 ghost use Rattle.p8_bcog.specs.Ready.{IsGood, IsReady};
 ghost use Rattle.p8_bcog.specs.Standing.{is_under};
 ghost use Rattle.p8_bcog.specs.Stops.{at_stage, resumed, IsSound};
 
+use crate::accesses::word_in;
 use crate::place::Place;
 use crate::running::stage_of;
 use crate::stage::Stage;
 use crate::state::State;
 use crate::step::{Later, Step, Wanted};
-use p8_access::Reason;
+use p8_access::{Answer, Reason};
 
 impl State {
-    /// Goes on by the word of an answer, and tells how far the life is then. What most answers are for is done here.
+    /// Goes on by an answer, and tells how far the life is then. What most answers are for is done here, and the word of one is looked at
+    /// only where it is needed.
     #[inline(always)]
     #[tactic(auto, unfolding(crate::specs::Places::uses))]
-    pub fn resume(&mut self, word: u32, stage: &mut Stage)
+    pub fn resume(&mut self, answer: Answer, stage: &mut Stage)
         requires { IsSound stage.old self.old }
-        ensures does { at_stage stage.new self.new ≡ resumed stage.old self.old word }
+        ensures does { at_stage stage.new self.new ≡ resumed stage.old self.old (word_in answer) }
         ensures under { is_under stage.new ≡ is_under stage.old }
         ensures sound { IsSound stage.new self.new }
     {
@@ -36,7 +39,7 @@ impl State {
                     wanted: Wanted::Changed { effect, right },
                 },
                 ..
-            } => self.change_memory(effect, right, width, address, word, stage),
+            } => self.change_memory(effect, right, width, address, word_in(answer), stage),
             Stage::Asked {
                 later: Later::Value {
                     place: Place::Memory { .. },
@@ -44,24 +47,24 @@ impl State {
                 },
                 ..
             } => {
-                self.push(word);
+                self.push(word_in(answer));
                 *stage = Stage::Ready;
             }
-            _ => self.resume_any(word, stage),
+            _ => self.resume_any(answer, stage),
         }
     }
 
     /// Goes on as `resume` does, whatever an answer is for. It is not inlined: the compiler clears the memory for the result of a
     /// call where the function begins that makes the call.
     #[inline(never)]
-    fn resume_any(&mut self, word: u32, stage: &mut Stage)
+    fn resume_any(&mut self, answer: Answer, stage: &mut Stage)
         requires { IsSound stage.old self.old }
-        ensures does { at_stage stage.new self.new ≡ resumed stage.old self.old word }
+        ensures does { at_stage stage.new self.new ≡ resumed stage.old self.old (word_in answer) }
         ensures under { is_under stage.new ≡ is_under stage.old }
         ensures sound { IsSound stage.new self.new }
     {
         match *stage {
-            Stage::Asked { later, .. } => *stage = stage_of(self.go_on(later, word)),
+            Stage::Asked { later, .. } => *stage = stage_of(self.go_on(later, word_in(answer))),
             Stage::Entering => {}
             Stage::Ready => {}
             Stage::Halted { .. } => {}

@@ -58,7 +58,7 @@ impl State {
     }
 
     /// Leaves a value, if there is one.
-    #[inline]
+    #[inline(always)]
     pub fn leave(&mut self, left: Option<u32>)
         requires { HasRoomFor left self.old }
         ensures { self.new ≡ left_by left self.old }

@@ -116,6 +116,7 @@ impl Place {
     }
 
     /// A value reduced to its size.
+    #[inline(always)]
     fn reduced(self, value: u32) -> u32
         requires { IsPlace self }
         ensures { result ≡ reduced self value }

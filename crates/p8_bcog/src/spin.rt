@@ -13,7 +13,7 @@ ghost use Rattle.p8_bcog.specs.Stops.{IsSound, Stops, Announces, announced_at, i
 ghost use Rattle.p8_bcog.specs.Single.{is_prop-IsSound};
 ghost use Rattle.p8_bcog.specs.Laws.{one-asked, asked-first, asked-later, pace_holds};
 
-use crate::accesses::{word_in, write_of};
+use crate::accesses::write_of;
 use crate::running::{behind, done_by, earliest, is_ready, run};
 use crate::stack::{OperandStack, own_strip};
 use crate::stage::Stage;
@@ -79,6 +79,7 @@ fn is_last(cog: u8, access: Access) -> bool
 }
 
 /// An access that counts from a clock on, if it comes below `until`.
+#[inline(always)]
 fn below(cog: u8, clock: u64, access: Access, until: u64) -> Next
     requires cog { cog < 8 }
     requires until { until < 2 ^ 62 }
@@ -101,7 +102,8 @@ fn below(cog: u8, clock: u64, access: Access, until: u64) -> Next
     }
 }
 
-/// What a life tells that stands so.
+/// What a life tells that stands so. It is always inlined, so that its answer is written where that of the life goes.
+#[inline(always)]
 fn told(stage: &Stage, state: &State, cog: u8, clock: u64, until: u64) -> Next
     requires cog { cog < 8 }
     requires until { until < 2 ^ 62 }
@@ -305,7 +307,7 @@ impl Life for SpinCog {
                     self.stage = Stage::Over;
                     self.done += 1;
                 } else {
-                    self.state.resume(word_in(turn.answer), &mut self.stage);
+                    self.state.resume(turn.answer, &mut self.stage);
                     self.done += done_by(&self.stage);
                 }
             }

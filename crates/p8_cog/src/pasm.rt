@@ -145,7 +145,7 @@ impl Life for Cog {
 
     ghost cog = { λ life. life.cog };
 
-    #[inline(always)]
+    #[inline(never)]
     fn run_to_access(&mut self, until: u64, budget: u32) -> Next {
         self.asking = false;
         self.kept = None;

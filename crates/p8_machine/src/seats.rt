@@ -56,9 +56,9 @@ fn may_begin(origin: Origin, key: Key) -> bool
     }
 }
 
-/// The next access of a life below a clock, or that there is none.
-#[inline(always)]
-fn next_of<L: Life>(life: &mut L, until: u64) -> Next
+/// The next access of a life below a clock, or that there is none. It is never inlined, since most lives tell at once.
+#[inline(never)]
+fn later_of<L: Life>(life: &mut L, until: u64) -> Next
     requires { until < 2 ^ 61 }
     ensures keeps { (b : Begun) (ts : List Turn) → L.stands life.old b ts → L.stands life.new b ts }
     ensures tells { (b : Begun) (ts : List Turn) → L.stands life.old b ts → Tells (L.asked b ts) until result }
@@ -73,6 +73,39 @@ fn next_of<L: Life>(life: &mut L, until: u64) -> Next
             Next::At { .. } | Next::Quiet => return next,
             Next::More { .. } => {}
         }
+    }
+}
+
+/// The same. A result that a call writes is cleared where the function begins that makes the call.
+#[inline(always)]
+fn told_later<L: Life>(life: &mut L, until: u64) -> Next
+    requires { until < 2 ^ 61 }
+    ensures keeps { (b : Begun) (ts : List Turn) → L.stands life.old b ts → L.stands life.new b ts }
+    ensures tells { (b : Begun) (ts : List Turn) → L.stands life.old b ts → Tells (L.asked b ts) until result }
+    ensures announced { L.announced life.new ≡ announced_by result }
+    ensures made { IsMadeNext result }
+    ensures spoken { IsSpoken result }
+    ensures cog { L.cog life.new ≡ L.cog life.old }
+{
+    let next = later_of(life, until);
+    next
+}
+
+/// The same.
+#[inline(always)]
+fn next_of<L: Life>(life: &mut L, until: u64) -> Next
+    requires { until < 2 ^ 61 }
+    ensures keeps { (b : Begun) (ts : List Turn) → L.stands life.old b ts → L.stands life.new b ts }
+    ensures tells { (b : Begun) (ts : List Turn) → L.stands life.old b ts → Tells (L.asked b ts) until result }
+    ensures announced { L.announced life.new ≡ announced_by result }
+    ensures made { IsMadeNext result }
+    ensures spoken { IsSpoken result }
+    ensures cog { L.cog life.new ≡ L.cog life.old }
+{
+    let next = life.run_to_access(until, u32::MAX);
+    match next {
+        Next::At { .. } | Next::Quiet => next,
+        Next::More { .. } => told_later(life, until),
     }
 }
 

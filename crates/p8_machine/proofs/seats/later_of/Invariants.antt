@@ -1,7 +1,7 @@
 use Rattle.std.proofs.Common.{◌≡◌, ◌-◌, List}
 use Rattle.p8_access.specs.declared.order.Turn.{Turn}
 use Rattle.p8_access.specs.Lives.{Begun}
-use Rattle.p8_machine.proofs.seats.next_of.Given as goal
+use Rattle.p8_machine.proofs.seats.later_of.Given as goal
 
 abbrev pub invariant-asks : goal.invariant-asks
 invariant-asks g l = record {
