@@ -1,14 +1,16 @@
 -- Which fronts a turn leaves as they were.
 use Rattle.std.proofs.Common.{◌≡◌, ◌∙◌, ap, sym, subst, refl, ℕ, ◌≤◌, Bool, if◌then◌else◌, List, [], ◌∷◌, Option, Some, None, slice_get, slice_index, inl, inr}
+use Rattle.p8_access.specs.declared.kinds.Origin.{Origin}
+use Rattle.p8_access.specs.declared.kinds.Test.{Test}
 use Rattle.p8_access.specs.declared.lives.Next.{Next}
 use Rattle.p8_access.specs.declared.order.Turn.{Turn}
 use Rattle.p8_access.specs.declared.states.CogState.{CogState}
-use Rattle.p8_access.specs.declared.states.CogState.TheVariants.{Stopped, Starting}
+use Rattle.p8_access.specs.declared.states.CogState.TheVariants.{Stopped, Starting, Running}
 use Rattle.p8_access.specs.Worlds.{World}
 use Rattle.p8_access.specs.Hub.{Change, change_of, changed, cog_state}
 use Rattle.p8_access.proofs.Changes.{decided, same-cog, differ-cog, other-test}
 use Rattle.p8_ledger.specs.declared.fronts.Fronts.{Fronts}
-use Rattle.p8_ledger.specs.Fronts.{IsFront, IsFrontIn}
+use Rattle.p8_ledger.specs.Fronts.{IsSaidFront, IsFront, IsFrontIn}
 
 -- a front that is as it was is right for a state that is as it was
 pub same-front : (old new : Fronts) (n limit : ℕ) (state : CogState) (said : Next) → slice_index new.clocks n ≡ slice_index old.clocks n → IsFrontIn old n limit state said → IsFrontIn new n limit state said
@@ -37,6 +39,12 @@ kept-front old w past turn n limit said none front =
 
 pub another : (started : Option ℕ) (other n : ℕ) → started ≡ Some other → (n ≡ other → ⊥) → started ≡ Some n → ⊥
 another started other n is differ same = differ (some-number n other (sym same ∙ is))
+
+-- a running cog has the front of what it says
+pub spoken-front : (fronts : Fronts) (n limit : ℕ) (origin : Origin) (state : CogState) (next said : Next) → state ≡ Running origin → said ≡ next → (test : Option Test) × IsSaidFront limit next (slice_index fronts.clocks n) test → IsFrontIn fronts n limit state said
+spoken-front fronts n limit origin state next said runs is front =
+    subst (λ (s : CogState). IsFrontIn fronts n limit s said) (sym runs)
+    (subst (λ (s : Next). (test : Option Test) × IsSaidFront limit s (slice_index fronts.clocks n) test) (sym is) front)
 
 -- a cog that isn't the first is stopped before the first turn
 pub idle-front : (fronts : Fronts) (w : World) (n limit : ℕ) (said : Next) → (n ≡ 0 → ⊥) → limit ≤ slice_index fronts.clocks n → IsFrontIn fronts n limit (cog_state w [] n) said

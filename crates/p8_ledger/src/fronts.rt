@@ -1,5 +1,5 @@
 // The fronts of the eight cogs: before its front no turn of a cog comes, by its state and by what it has said.
-ghost use Rattle.std.specs.Prelude.{◌≡◌, ◌<◌, ◌∷◌, [], ◌^◌, ℕ, List, Some, replicate, slice_get, slice_index};
+ghost use Rattle.std.specs.Prelude.{◌≡◌, ◌<◌, ◌∷◌, [], ◌^◌, ℕ, List, Option, Some, replicate, slice_get, slice_index};
 ghost use Rattle.p8_access.specs.declared.kinds.Origin.{Origin};
 ghost use Rattle.p8_access.specs.declared.lives.Next.{Next};
 ghost use Rattle.p8_access.specs.declared.order.Turn.{Turn};
@@ -128,6 +128,18 @@ impl Fronts {
         ensures others { (n : ℕ) → (n ≡ cog → ⊥) → slice_index self.new.clocks n ≡ slice_index self.old.clocks n }
     {
         let front = front_of(cog, hub.state(cog), sayings[cog as usize], until);
+        self.put(cog, front.clock);
+    }
+
+    /// Notes the front of a running cog that says this.
+    #[inline]
+    pub fn say(&mut self, cog: u8, said: Next, until: u64)
+        requires cog { cog < 8 }
+        requires until { until < 2 ^ 61 }
+        ensures own { (test : Option Test) × IsSaidFront until said (slice_index self.new.clocks cog) test }
+        ensures others { (n : ℕ) → (n ≡ cog → ⊥) → slice_index self.new.clocks n ≡ slice_index self.old.clocks n }
+    {
+        let front = said_front(said, until);
         self.put(cog, front.clock);
     }
 

@@ -199,16 +199,15 @@ impl Ledger {
         self.sayings[cog as usize]
     }
 
-    /// Notes what a cog, below 8, says of its next access. It has to be true, and an access that a life makes.
+    /// Notes what a running cog, below 8, says of its next access. It has to be true, and an access that a life makes.
     pub fn say(&mut self, cog: u8, next: Next)
         requires cog { cog < 8 }
         requires made { IsMadeNext next }
-        ensures found { (w : World) (r : Record) → Found w self.old r → IsTrueOf w (turns r) cog next → Found w self.new (Said cog next ∷ r) }
+        ensures found { (w : World) (r : Record) → Found w self.old r → IsTrueOf w (turns r) cog next → ((origin : Origin) × (cog_state w (turns r) cog ≡ Running origin)) → Found w self.new (Said cog next ∷ r) }
         ensures said { HasSaid self.old self.new cog next }
     {
         self.sayings[cog as usize] = next;
-        self.fronts
-            .renew(&self.hub, &self.sayings, cog, self.limits.clocks);
+        self.fronts.say(cog, next, self.limits.clocks);
     }
 }
 

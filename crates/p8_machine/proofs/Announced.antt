@@ -83,6 +83,11 @@ pub newest-made : (old new : Ledger) (turn newest : Turn) (running : Bool) (befo
 newest-made old new turn newest running before made is =
     subst (λ (t : Turn). HasMade old new t running) (sym (newest-past new.turns.list before newest turn (reverse old.turns.list) is (made-past old new turn running made))) made
 
+-- so it is that turn's cog that is in hand
+pub newest-cog : (old new : Ledger) (turn newest : Turn) (running : Bool) (before : List Turn) (cog : ℕ) → HasMade old new turn running → new.turns.list ≡ before ++ newest ∷ [] → cog ≡ turn.key.cog → cog ≡ newest.key.cog
+newest-cog old new turn newest running before cog made is cog_is =
+    cog_is ∙ ap (λ (t : Turn). t.key.cog) (sym (newest-past new.turns.list before newest turn (reverse old.turns.list) is (made-past old new turn running made)))
+
 pub newest-comes : (w : World) (r : Record) (ledger : Ledger) (lives : List CogLife) (turn newest : Turn) (running : Bool) (before : List Turn) → ledger.turns.list ≡ before ++ newest ∷ [] → Comes w r ledger lives turn running → Comes w r ledger lives newest running
 newest-comes w r ledger lives turn newest running before is comes =
     subst (λ (t : Turn). Comes w r ledger lives t running) (sym (newest-past ledger.turns.list before newest turn (turns r) is comes.found.log)) comes

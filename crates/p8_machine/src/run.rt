@@ -62,19 +62,18 @@ impl Machine {
         })
     }
 
-    /// The life of the last turn's cog takes that turn where it stands in the log, or begins with it, where that cog
+    /// The life of the last turn's cog, which is `cog`, takes that turn where it stands in the log, or begins with it, where that cog
     /// runs after the turn. What the life tells of its next access the cog says at once.
     #[inline(always)]
-    fn settle(&mut self, running: bool)
-        requires { (old : Ledger) × (turn : Turn) × HasMade old self.old.ledger turn running × AreAnnounced old.sayings self.old.seats.lives.items }
+    fn settle(&mut self, cog: u8, running: bool)
+        requires { (old : Ledger) × (turn : Turn) × HasMade old self.old.ledger turn running × AreAnnounced old.sayings self.old.seats.lives.items × (cog ≡ turn.key.cog) }
         ensures stands { (turn : Turn) (r : Record) → Comes (world_in self.old) r self.old.ledger self.old.seats.lives.items turn running → IsStanding self.new }
         ensures past { past_in self.new ≡ past_in self.old }
         ensures world { world_in self.new ≡ world_in self.old }
     {
-        let turn = self.ledger.newest();
-        let cog = turn.key.cog;
         if let CogState::Running { origin } = self.ledger.state(cog) {
             let until = self.ledger.limit();
+            let turn = self.ledger.newest();
             let next = self
                 .seats
                 .settle(self.ledger.memory(), origin, turn, running, until);
@@ -95,7 +94,8 @@ impl Machine {
         match self.ledger.take_first(&self.script) {
             First::Done { turn, running } => {
                 let counter = self.seats.counter(turn.key.cog, running);
-                self.settle(running);
+                // The cog is in hand here, so it isn't read out of the log again.
+                self.settle(turn.key.cog, running);
                 Some(counter)
             }
             First::Ahead { .. } | First::Over => None,

@@ -24,7 +24,7 @@ invariant_of-self c = record {
 }
 
 pub settle-requires : goal.settle-requires
-settle-requires c = (c.args.self.now.ledger, c.in-Done.turn, c.in-Done.ensures.advances, c.args.self.now.announced)
+settle-requires c = (c.args.self.now.ledger, c.in-Done.turn, c.in-Done.ensures.advances, c.args.self.now.announced, refl)
 
 pub returns-in-Done-clause-past : goal.returns-in-Done-clause-past
 returns-in-Done-clause-past c = (c.in-Done.turn, c.settle.ensures.past ∙ made-past c.args.self.now.ledger c.take_first.new.self c.in-Done.turn c.in-Done.running c.in-Done.ensures.advances)
