@@ -471,37 +471,6 @@ impl Ledger {
         }
     }
 
-    /// What a cog, below 8, gets that asks for its turn. The least front decides: the turn is made where it is
-    /// the key of this cog's next turn. `script` is that of the run. It waits for nobody and takes no memory.
-    pub fn take(&mut self, script: &PinScript, cog: u8) -> Taken
-        requires { cog < 8 }
-        ensures decides { (w : World) (r : Record) → script.now ≡ w.script → Found w self.old r → Decides w r cog result }
-        ensures found { (w : World) (r : Record) → script.now ≡ w.script → Found w self.old r → Found w self.new (taken_by result r) }
-        ensures takes { CanBeTaken result }
-    {
-        match self.least(script) {
-            None => Taken::Over,
-            Some(Least { key, searched }) => {
-                if key.cog != cog {
-                    return Taken::After {
-                        cog: key.cog,
-                        bound: key.clock,
-                    };
-                }
-                match self.grant(script, key) {
-                    None => Taken::Ahead { bound: key.clock },
-                    Some(made) => {
-                        self.note(searched);
-                        Taken::Done {
-                            turn: made.turn,
-                            running: made.running,
-                        }
-                    }
-                }
-            }
-        }
-    }
-
     /// The least front, where there is room for a turn and that front is an access of a running cog that is no wait: so it is for most turns.
     #[inline(always)]
     fn plain(&self) -> Option<Key>
@@ -661,6 +630,63 @@ impl Ledger {
             Some(key) => {
                 let turn = self.make_said(script, key);
                 First::Done {
+                    turn,
+                    running: true,
+                }
+            }
+        }
+    }
+
+    /// What a cog, below 8, gets that asks for its turn, whatever stands at the least front. It is not inlined, for the same reason as `take_any`.
+    #[inline(never)]
+    fn take_by_front(&mut self, script: &PinScript, cog: u8) -> Taken
+        requires { cog < 8 }
+        ensures decides { (w : World) (r : Record) → script.now ≡ w.script → Found w self.old r → Decides w r cog result }
+        ensures found { (w : World) (r : Record) → script.now ≡ w.script → Found w self.old r → Found w self.new (taken_by result r) }
+        ensures takes { CanBeTaken result }
+    {
+        match self.least(script) {
+            None => Taken::Over,
+            Some(Least { key, searched }) => {
+                if key.cog != cog {
+                    return Taken::After {
+                        cog: key.cog,
+                        bound: key.clock,
+                    };
+                }
+                match self.grant(script, key) {
+                    None => Taken::Ahead { bound: key.clock },
+                    Some(made) => {
+                        self.note(searched);
+                        Taken::Done {
+                            turn: made.turn,
+                            running: made.running,
+                        }
+                    }
+                }
+            }
+        }
+    }
+
+    /// What a cog, below 8, gets that asks for its turn. The least front decides: the turn is made where it is
+    /// the key of this cog's next turn. `script` is that of the run. It waits for nobody and takes no memory.
+    pub fn take(&mut self, script: &PinScript, cog: u8) -> Taken
+        requires { cog < 8 }
+        ensures decides { (w : World) (r : Record) → script.now ≡ w.script → Found w self.old r → Decides w r cog result }
+        ensures found { (w : World) (r : Record) → script.now ≡ w.script → Found w self.old r → Found w self.new (taken_by result r) }
+        ensures takes { CanBeTaken result }
+    {
+        match self.plain() {
+            None => self.take_by_front(script, cog),
+            Some(key) => {
+                if key.cog != cog {
+                    return Taken::After {
+                        cog: key.cog,
+                        bound: key.clock,
+                    };
+                }
+                let turn = self.make_said(script, key);
+                Taken::Done {
                     turn,
                     running: true,
                 }
