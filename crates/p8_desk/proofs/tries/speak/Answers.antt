@@ -21,6 +21,6 @@ returns c = λ w r stands rides.
     let next = c.say-next.ensures.next in
     let owes = (c.owes.ensures w r stands).0 c.if-not-owes.false in
     let truth : IsTrueOf w (turns r) n c.say-next.result = subst (λ (x : Next). IsTrueOf w (turns r) n x) (sym next) (rides-true w n r c.args.runner.now rides) in
-    let found : Found w c.say.new.self (Said n c.args.runner.now.next ∷ r) = subst (λ (x : Next). Found w c.say.new.self (Said n x ∷ r)) next (c.say.ensures.found w r stands truth) in
+    let found : Found w c.say.new.self (Said n c.args.runner.now.next ∷ r) = subst (λ (x : Next). Found w c.say.new.self (Said n x ∷ r)) next (c.say.ensures.found w r stands truth owes.runs) in
     subst (λ (x : Next). Spoken w n c.args.runner.now.next r (Some x) c.say.new.self c.say-next.new.self) (sym next)
     (spoken-says w n r c.say.new.self c.args.runner.now c.say-next.new.self c.requires.found owes rides found (c.say-next.ensures.rides w n r rides))
