@@ -668,6 +668,19 @@ impl Ledger {
         }
     }
 
+    /// The same. It is a function of its own for the same reason as `take_other`.
+    #[inline(always)]
+    fn take_otherwise(&mut self, script: &PinScript, cog: u8) -> Taken
+        requires { cog < 8 }
+        ensures decides { (w : World) (r : Record) → script.now ≡ w.script → Found w self.old r → Decides w r cog result }
+        ensures found { (w : World) (r : Record) → script.now ≡ w.script → Found w self.old r → Found w self.new (taken_by result r) }
+        ensures takes { CanBeTaken result }
+    {
+        // In a variable of its own, as there.
+        let taken = self.take_by_front(script, cog);
+        taken
+    }
+
     /// What a cog, below 8, gets that asks for its turn. The least front decides: the turn is made where it is
     /// the key of this cog's next turn. `script` is that of the run. It waits for nobody and takes no memory.
     pub fn take(&mut self, script: &PinScript, cog: u8) -> Taken
@@ -677,7 +690,7 @@ impl Ledger {
         ensures takes { CanBeTaken result }
     {
         match self.plain() {
-            None => self.take_by_front(script, cog),
+            None => self.take_otherwise(script, cog),
             Some(key) => {
                 if key.cog != cog {
                     return Taken::After {
