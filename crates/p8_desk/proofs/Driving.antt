@@ -1,248 +1,166 @@
--- One try by a seat that has all passes.
-use Rattle.std.proofs.Common.{◌≡◌, ◌≢◌, ◌⊎◌, inl, inr, ⊎_elim, ◌∙◌, ap, sym, subst, refl, ℕ, ◌+◌, ◌<◌, ◌≤◌, ◌||◌, List, [], ◌∷◌, ◌++◌, length, suc, Bool, true, false, Option, Some, None, arith}
-use Rattle.std.specs.Prelude.{slice_get, slice_set}
+-- The cogs, driven one after another with the ledger in hand.
+use Rattle.std.proofs.Common.{◌≡◌, ◌≢◌, ◌∙◌, ap, sym, subst, refl, ℕ, zero, suc, ◌+◌, ◌-◌, ◌*◌, ◌<◌, ◌||◌, List, [], ◌∷◌, ◌++◌, length, Bool, true, false, Option, Some, arith}
+use Rattle.std.specs.Prelude.{slice_get, slice_set, slice_index_or}
+use Rattle.std.proofs.lemmas.List.{length-reverse}
 use mathlib.Core.Logic.{dite}
 use native.Mathlib.Decide.{ℕ_discrete}
 use Rattle.p8_access.specs.declared.order.Turn.{Turn}
 use Rattle.p8_access.specs.declared.lives.Next.{Next}
-use Rattle.p8_access.specs.declared.states.CogState.{CogState}
-use Rattle.p8_access.specs.declared.states.CogState.TheVariants.{Stopped}
 use Rattle.p8_access.specs.Worlds.{World}
-use Rattle.p8_access.specs.Hub.{cog_state}
-use Rattle.p8_ledger.specs.declared.steps.Step.{Step}
-use Rattle.p8_ledger.specs.declared.steps.Step.TheVariants.{Took, Said}
-use Rattle.p8_ledger.specs.Records.{Record, turns, mine, said, cog_of, Begins, IsLeastFront, HasFrontIn}
+use Rattle.p8_access.specs.Histories.{Ended, Legal}
+use Rattle.p8_cog.specs.Lives.{asks}
+use Rattle.p8_ledger.specs.declared.ledger.Ledger.{Ledger}
+use Rattle.p8_ledger.specs.Ledgers.{Found}
+use Rattle.p8_ledger.specs.Records.{Record, turns, mine, said, cog_of}
 use Rattle.p8_desk.specs.declared.rider.Rider.{Rider}
-use Rattle.p8_desk.specs.declared.rule.Known.{Known}
-use Rattle.p8_desk.specs.declared.rule.View.{View}
+use Rattle.p8_desk.specs.declared.tries.Outcome.{Outcome}
 use Rattle.p8_desk.specs.declared.turned.Turned.{Turned}
 use Rattle.p8_desk.specs.declared.turned.Turned.TheVariants.{Done, Held, After, Ahead, Over}
-use Rattle.p8_desk.specs.Driving.{left_to_do, next_cog}
-use Rattle.p8_desk.specs.Gathering.{Riding, Rode}
-use Rattle.p8_desk.specs.Rules.{Hand, known, world_in, Agrees, IsOfCogs, IsNewestOf}
-use Rattle.p8_desk.specs.Seats.{Keeps, is_over, pass_in, or_new}
-use Rattle.p8_desk.specs.Tries.{Speaks, Answers, seen_by}
-use Rattle.p8_desk.specs.Work.{Moved, Latest, GotIn, TriedIn}
+use Rattle.p8_desk.specs.Driving.{open_in, open_at, open_among, rest_of, rest_in, names_none, left_in, next_cog}
+use Rattle.p8_desk.specs.Gathering.{AllCarry, Rode}
+use Rattle.p8_desk.specs.Rules.{On, AreOf}
+use Rattle.p8_desk.specs.Seats.{Carries, is_over}
+use Rattle.p8_desk.specs.Tries.{Answers, seen_by}
+use Rattle.p8_desk.specs.Work.{Worked, said_by, worked_by}
 use Rattle.p8_desk.proofs.Lookups.{test-apart, some-same, none-some}
 use Rattle.p8_desk.proofs.Remaining.{tries-fall}
-use Rattle.p8_desk.proofs.Settling.{turns-spoken}
-use Rattle.p8_desk.proofs.Gathering.{set-beside, set-there, at-below}
+use Rattle.p8_desk.proofs.Riding.{rides-on}
+use Rattle.p8_desk.proofs.Carrying.{ended-same, named-by, on-none, on-worked}
+use Rattle.p8_desk.proofs.Gathering.{set-beside, set-there, at-below, index-of, rider-same}
 
--- there is a newest step, of this cog
-abbrev IsStepOf : ℕ → Record → Type 0
-IsStepOf n [] = ⊥
-IsStepOf n (step ∷ r) = cog_of step ≡ n
+-- steps of one cog are none of another's
+mine-beside : (n m : ℕ) (more r : Record) → m ≢ n → AreOf (λ k. k ≡ n) more → mine m (more ++ r) ≡ mine m r
+mine-beside n m [] r ne of_it = refl
+mine-beside n m (step ∷ more) r ne of_it = rw (test-apart (cog_of step) m (λ e. ne (sym e ∙ of_it.0))) (mine-beside n m more r ne of_it.1)
 
--- a record that a cog has gone on with
-abbrev OnBy : ℕ → Record → Record → Type 0
-OnBy n r s = (more : Record) × (more ++ r ≡ s) × ((m : ℕ) → m ≢ n → mine m s ≡ mine m r) × ((s ≡ r) ⊎ IsStepOf n s)
-
-on-none : (n : ℕ) (r : Record) → OnBy n r r
-on-none n r = ([], refl, (λ m ne. refl), inl refl)
-
-on-step : (n : ℕ) (step : Step) (r s : Record) → cog_of step ≡ n → OnBy n r s → OnBy n r (step ∷ s)
-on-step n step r s own on = (
-  step ∷ on.0,
-  ap (λ (l : Record). step ∷ l) on.1,
-  λ m ne. rw (test-apart (cog_of step) m (λ e. ne (sym e ∙ own))) (on.2 m ne),
-  inr own,
-)
-
-on-spoken : (w : World) (n : ℕ) (next : Next) (r s : Record) → Speaks w n next r s → OnBy n r s
-on-spoken w n next r s (inl x) = subst (λ (t : Record). OnBy n r t) (sym x.0) (on-step n (Said n next) r r refl (on-none n r))
-on-spoken w n next r s (inr x) = subst (λ (t : Record). OnBy n r t) (sym x.0) (on-none n r)
-
-on-answered : (w : World) (n : ℕ) (r s : Record) (answer : Turned) → Answers w s n answer → OnBy n r s → OnBy n r (seen_by answer s)
-on-answered w n r s (Done turn) a on = on-step n (Took turn) r s a.1 on
-on-answered w n r s (After other bound) a on = on
-on-answered w n r s (Ahead bound) a on = on
-on-answered w n r s Over a on = on
-on-answered w n r s (Held by) a on = on
-
-newest-near : (n : ℕ) (s : Record) → n < 8 → IsStepOf n s → IsOfCogs s
-newest-near n [] near e = absurd e
-newest-near n (step ∷ s) near e = subst (λ (m : ℕ). m < 8) (sym e) near
-
--- whose step is newest has seen all; the others have, where nothing was added
-agrees-beside : (n m : ℕ) (r s : Record) (p : Known) → m ≢ n → OnBy n r s → Agrees r m p → Agrees s m p
-agrees-beside n m r s p ne on a = record {
-  own = a.own ∙ sym (on.2 m ne);
-  seen = (on.0 ++ a.seen.0, assoc on.0 a.seen.0 p.seen ∙ ap (λ (l : Record). on.0 ++ l) a.seen.1 ∙ on.1);
-  newest = λ e. ⊎_elim (λ (same : s ≡ r). a.newest (subst (λ (l : Record). IsNewestOf m l) same e) ∙ sym same) (λ (own : IsStepOf n s). by-record s own e) on.3;
-}
-  where
-    assoc : (xs ys zs : Record) → (xs ++ ys) ++ zs ≡ xs ++ (ys ++ zs)
-    assoc [] ys zs = refl
-    assoc (x ∷ xs) ys zs = ap (λ (l : Record). x ∷ l) (assoc xs ys zs)
-
-    by-record : (s : Record) → IsStepOf n s → IsNewestOf m s → p.seen ≡ s
-    by-record [] own e = absurd own
-    by-record (step ∷ t) own e = absurd (ne (sym e ∙ own))
-
-pub latest-on : (w : World) (n : ℕ) (me after : View) (p q : Known) (answer : Turned) → n < 8 → Moved n q me after → (g : GotIn me.passes w n p q answer) → Latest after.passes q.seen
-latest-on w n me after p q answer near moved g =
-    let on : OnBy n g.got.r q.seen = subst (λ (l : Record). OnBy n g.got.r l) (sym g.got.seen) (on-answered w n g.got.r g.got.s answer g.got.answers (on-spoken w n g.got.next g.got.r g.got.s g.got.speaks)) in record {
-      newest = ⊎_elim (λ (same : q.seen ≡ g.got.r). subst IsOfCogs (sym same) g.latest.newest) (λ (own : IsStepOf n q.seen). newest-near n q.seen near own) on.3;
-      each = λ m x e. dite (ℕ_discrete m n)
-          (λ (here : m ≡ n).
-          let same : q ≡ x = some-same _ _ (sym moved.here ∙ ap (known after.passes) (sym here) ∙ e) in
-          subst (λ (y : ℕ × Known). Agrees q.seen y.0 y.1) (λ i. (sym here i, same i)) (record { own = g.got.mine; seen = ([], refl); newest = λ _. refl }))
-          (λ (ne : m ≢ n). agrees-beside n m g.got.r q.seen x ne on (g.latest.each m x (sym (moved.others m ne) ∙ e)));
+-- what the others carry stays right
+carries-beside : (w : World) (n : ℕ) (r s : Record) (rider : Rider) → rider.cog ≢ n → On (λ m. m ≡ n) r s → Legal asks w (turns s) → Carries w r rider → Carries w s rider
+carries-beside w n r s rider ne on legal c =
+    let same : mine rider.cog s ≡ mine rider.cog r = ap (mine rider.cog) (sym on.1) ∙ mine-beside n rider.cog on.0 r ne on.2 in record {
+      rides = rides-on w rider.cog rider.runner r s (on.0, on.1) same c.rides;
+      made = c.made ∙ ap (λ (l : Record). length (turns l)) (sym same);
+      few = c.few;
+      ended = λ o. (
+          let end = c.ended o in
+          let done : turns s ≡ turns r = ap turns (sym on.1) ∙ ended-same w on.0 r (subst (λ (l : Record). Legal asks w (turns l)) (sym on.1) legal) end in
+          subst (λ (l : List Turn). Ended asks w l) (sym done) end
+          );
     }
-
--- two records of which a seat knows the newest step are one
-begins-same : (r s : Record) → Begins r s → Begins s r → r ≡ s
-begins-same r s a b =
-    let one : length (a.0 ++ r) ≡ length s = ap length a.1 in
-    let two : length (b.0 ++ s) ≡ length r = ap length b.1 in
-    by-more a.0 b.0 a.1 (let x = long a.0 r in let y = long b.0 s in omega arith)
-  where
-    long : (xs ys : Record) → length (xs ++ ys) ≡ length xs + length ys
-    long [] ys = omega arith
-    long (x ∷ xs) ys = let more = long xs ys in omega arith
-
-    by-more : (more back : Record) → more ++ r ≡ s → length more ≡ 0 → r ≡ s
-    by-more [] back e none = e
-    by-more (x ∷ xs) back e none = absurd (let some : suc (length xs) ≡ 0 = none in omega arith)
-
-module _ (passes : List Known) (all : (n : ℕ) → n < 8 → (p : Known) × (known passes n ≡ Some p)) where
-  within : (r s : Record) → Latest passes r → Latest passes s → Begins r s
-  within [] s x y = (s, nil s)
-    where
-      nil : (l : Record) → l ++ [] ≡ l
-      nil [] = refl
-      nil (z ∷ l) = ap (λ (t : Record). z ∷ t) (nil l)
-  within (step ∷ r) s x y =
-      let p = all (cog_of step) x.newest in
-      subst (λ (l : Record). Begins l s) ((x.each (cog_of step) p.0 p.1).newest refl) (y.each (cog_of step) p.0 p.1).seen
-
-  pub latest-same : (r s : Record) → Latest passes r → Latest passes s → r ≡ s
-  latest-same r s x y = begins-same r s (within r s x y) (within s r y x)
-
--- where the least front is, there is one of the eight cogs
-pub near-by : (w : World) (s : Record) (n clock : ℕ) → ((m : ℕ) → 8 ≤ m → cog_state w (turns s) m ≡ Stopped) → IsLeastFront w s (record { clock = clock; cog = n }) → n < 8
-near-by w s n clock others least =
-    let none : 8 ≤ n → ⊥ = λ ge. subst (λ (c : CogState). HasFrontIn w (turns s) n c (said n s) clock) (others n ge) least.there in
-    omega arith
-
-pub next-near : (w : World) (s : Record) (m n : ℕ) (answer : Turned) → m < 8 → ((k : ℕ) → 8 ≤ k → cog_state w (turns s) k ≡ Stopped) → Answers w s m answer → next_cog m answer ≡ Some n → n < 8
-next-near w s m n (After other bound) near others a names = subst (λ (k : ℕ). k < 8) (some-same _ _ names) (near-by w s other bound others a.1)
-next-near w s m n (Done turn) near others a names = subst (λ (k : ℕ). k < 8) (some-same _ _ names) near
-next-near w s m n (Ahead bound) near others a names = subst (λ (k : ℕ). k < 8) (some-same _ _ names) near
-next-near w s m n (Held by) near others a names = absurd a
-next-near w s m n Over near others a names = absurd (none-some n names)
-
-rider-same : (a b : Rider) → Some (Some a) ≡ Some (Some b) → a ≡ b
-rider-same a b e = cc
 
 or-right : (a b : Bool) → b ≡ true → (a || b) ≡ true
 or-right true b e = refl
 or-right false b e = e
 
-module _ (w : World) (n : ℕ) (near : n < 8) (me : Hand) (riders : List (Option Rider)) (rider : Rider) (riding : Riding w me riders) (at : slice_get riders n ≡ Some (Some rider)) where
-  same : (riding.each n near).rider ≡ rider
-  same = rider-same _ _ (sym (riding.each n near).there ∙ at)
+-- one try, by the rider that is read at a cog's place
+module _ (w : World) (n : ℕ) (r : Record) (riders : List (Option Rider)) (near : n < 8) (all : AllCarry w r riders) (rider : Rider) (d : Option Rider) (read : slice_index_or riders n d ≡ Some rider) where
+  at : slice_get riders n ≡ Some (Some rider)
+  at = (all n near).there ∙ ap Some (sym (index-of riders n (Some (all n near).rider) d (all n near).there) ∙ read)
 
-  own-cog : rider.cog ≡ n
-  own-cog = ap (λ (r : Rider). r.cog) (sym same) ∙ (riding.each n near).cog
+  same : (all n near).rider ≡ rider
+  same = rider-same _ _ (sym (all n near).there ∙ at)
 
-  pub can-has : known me.0.passes rider.cog ≡ Some (riding.each n near).p
-  can-has = ap (known me.0.passes) own-cog ∙ (riding.each n near).has
+  pub its-cog : rider.cog ≡ n
+  its-cog = ap (λ (x : Rider). x.cog) (sym same) ∙ (all n near).cog
 
-  pub can-keeps : Keeps (world_in me.0.start) (riding.each n near).p rider
-  can-keeps = subst (λ (y : World × Rider). Keeps y.0 (riding.each n near).p y.1) (λ i. (sym riding.idle.world i, same i)) (riding.each n near).keeps
+  pub carried : Carries w r rider
+  carried = subst (Carries w r) same (all n near).carries
 
-  -- it isn't refused, since no other pass may hold
-  not-refused : (p q : Known) (answer : Turned) → ((by : ℕ) → answer ≡ Held by → (x : Known) → known me.0.passes by ≡ Some x → ⊥) → TriedIn me.0.passes (world_in me.0.start) rider.cog p q answer → GotIn me.0.passes (world_in me.0.start) rider.cog p q answer
-  not-refused p q (Held by) held t = let x = riding.each by t.2 in absurd (held by refl x.p x.has)
-  not-refused p q (Done turn) held t = t
-  not-refused p q (After other bound) held t = t
-  not-refused p q (Ahead bound) held t = t
-  not-refused p q Over held t = t
+  pub over-there : (new : Rider) (answer : Turned) → new.over ≡ (rider.over || is_over answer) → is_over answer ≡ true → (x : Rider) × (slice_get (slice_set riders n (Some new)) n ≡ Some (Some x)) × (x.over ≡ true)
+  over-there new answer over e = (new, set-there riders n (Some new) (at-below riders n (Some rider) at), over ∙ or-right rider.over (is_over answer) e)
 
-  module _ (after : Hand) (new : Rider) (answer : Turned) (cog : new.cog ≡ rider.cog) (free : after.0.holds ≡ None) (empty : after.1 ≡ []) (over : new.over ≡ (rider.over || is_over answer))
-      (held : (by : ℕ) → answer ≡ Held by → (x : Known) → known me.0.passes by ≡ Some x → ⊥)
-      (q : Known) (moved : Moved rider.cog q me.0 after.0) (tried : TriedIn me.0.passes (world_in me.0.start) rider.cog (riding.each n near).p q answer) (keeps : Keeps (world_in me.0.start) q new) where
-    moved-here : Moved n q me.0 after.0
-    moved-here = subst (λ (m : ℕ). Moved m q me.0 after.0) own-cog moved
+  module _ (next : Next) (outcome : Outcome) (ledger : Ledger) (new : Rider) (cog : new.cog ≡ rider.cog) (worked : Worked w rider.cog next r outcome ledger new.runner) (carries : Carries w (worked_by rider.cog outcome r) new) where
+    done : Worked w n next r outcome ledger new.runner
+    done = subst (λ (m : ℕ). Worked w m next r outcome ledger new.runner) its-cog worked
 
-    got : GotIn me.0.passes w n (riding.each n near).p q answer
-    got = subst (λ (y : World × ℕ). GotIn me.0.passes y.0 y.1 (riding.each n near).p q answer) (λ i. (riding.idle.world i, own-cog i)) (not-refused (riding.each n near).p q answer held tried)
+    own-steps : On (λ m. m ≡ n) r (worked_by n outcome r)
+    own-steps = on-worked (λ m. m ≡ n) w n refl next r r outcome ledger new.runner done (on-none (λ m. m ≡ n) r)
 
-    room : n < length riders
-    room = at-below riders n (Some rider) at
-
-    still : Riding w after (slice_set riders n (Some new))
-    still = record {
-      idle = record { live = moved.live ∙ riding.idle.live; free = free; empty = empty; world = ap world_in moved.start ∙ riding.idle.world };
-      each = λ m lt. dite (ℕ_discrete m n)
+    pub rode-as : Rode w n r ledger (slice_set riders n (Some new)) outcome.answer
+    rode-as = record {
+      next = next;
+      s = said_by n outcome.said r;
+      speaks = done.speaks;
+      answers = done.settled.answers;
+      on = λ early on. on-worked (λ m. m < 8) w n near next early r outcome ledger new.runner done on;
+      stands = done.settled.stands;
+      carry = λ m lt. dite (ℕ_discrete m n)
           (λ (here : m ≡ n). record {
-            p = q;
             rider = new;
-            has = ap (known after.0.passes) here ∙ moved-here.here;
-            there = ap (slice_get (slice_set riders n (Some new))) here ∙ set-there riders n (Some new) room;
-            cog = cog ∙ own-cog ∙ sym here;
-            keeps = subst (λ (x : World). Keeps x q new) riding.idle.world keeps;
+            there = ap (slice_get (slice_set riders n (Some new))) here ∙ set-there riders n (Some new) (at-below riders n (Some rider) at);
+            cog = cog ∙ its-cog ∙ sym here;
+            carries = subst (λ (k : ℕ). Carries w (worked_by k outcome r) new) its-cog carries;
           })
-          (λ (ne : m ≢ n). (let one = riding.each m lt in record {
-            p = one.p;
+          (λ (ne : m ≢ n). (let one = all m lt in record {
             rider = one.rider;
-            has = moved-here.others m ne ∙ one.has;
             there = set-beside riders n m (Some new) ne ∙ one.there;
             cog = one.cog;
-            keeps = one.keeps;
+            carries = carries-beside w n r _ one.rider (λ e. ne (sym one.cog ∙ e)) own-steps done.settled.stands.legal one.carries;
           }));
     }
 
-    pub rode-as : Rode w n me after (slice_set riders n (Some new)) answer
-    rode-as = record {
-      riding = still;
-      p = (riding.each n near).p;
-      q = q;
-      had = (riding.each n near).has;
-      has = moved-here.here;
-      got = got;
-      latest = latest-on w n me.0 after.0 (riding.each n near).p q answer near moved-here got;
-      others = λ m ge. ap (λ (l : List Turn). cog_state w l m) (turns-spoken w n got.got.next got.got.r got.got.s got.got.speaks) ∙ got.got.value.1.others m ge;
-      over = λ e. (new, set-there riders n (Some new) room, over ∙ or-right rider.over (is_over answer) e);
-    }
+-- cogs have gone on with a record, and the last try was answered so
+pub record Driven (w : World) (n : ℕ) (r : Record) (ledger : Ledger) (riders : List (Option Rider)) (answer : Turned) : Type 0 where
+  pub before : Record
+  pub answers : Answers w before n answer
+  pub on : On (λ m. m < 8) r (seen_by answer before)
+  pub stands : Found w ledger (seen_by answer before)
+  pub carry : AllCarry w (seen_by answer before) riders
 
--- what is known once a cog has had an answer
-pub record Answered (w : World) (n : ℕ) (me : Hand) (riders : List (Option Rider)) (answer : Turned) : Type 0 where
-  pub s : Record
-  pub p : Known
-  pub has : known me.0.passes n ≡ Some p
-  pub seen : p.seen ≡ seen_by answer s
-  pub answers : Answers w s n answer
-  pub latest : Latest me.0.passes p.seen
-  pub others : (m : ℕ) → 8 ≤ m → cog_state w (turns s) m ≡ Stopped
-  pub over : is_over answer ≡ true → (rider : Rider) × (slice_get riders n ≡ Some (Some rider)) × (rider.over ≡ true)
-
-pub answered : (w : World) (n : ℕ) (before me : Hand) (riders : List (Option Rider)) (answer : Turned) → Rode w n before me riders answer → Answered w n me riders answer
-answered w n before me riders answer rode = record {
-  s = rode.got.got.s;
-  p = rode.q;
-  has = rode.has;
-  seen = rode.got.got.seen;
-  answers = rode.got.got.answers;
-  latest = rode.latest;
-  others = rode.others;
-  over = rode.over;
+pub driven-first : (w : World) (n : ℕ) (r : Record) (ledger : Ledger) (riders : List (Option Rider)) (answer : Turned) → Rode w n r ledger riders answer → Driven w n r ledger riders answer
+driven-first w n r ledger riders answer rode = record {
+  before = rode.s;
+  answers = rode.answers;
+  on = rode.on r (on-none (λ m. m < 8) r);
+  stands = rode.stands;
+  carry = rode.carry;
 }
 
--- each try leaves less to do
-pub falls : (w : World) (m n : ℕ) (me after : Hand) (riders next_riders : List (Option Rider)) (last answer : Turned) → n < 8 → Riding w me riders → (a : Answered w m me riders last) → next_cog m last ≡ Some n → Rode w n me after next_riders answer
-    → left_to_do w (pass_in after n).seen answer < left_to_do w (pass_in me m).seen last
-falls w m n me after riders next_riders last answer near riding a names rode =
-    let g = rode.got.got in
-    let whole : g.r ≡ a.p.seen = latest-same me.0.passes (λ k lt. (let one = riding.each k lt in (one.p, one.has))) g.r a.p.seen rode.got.latest a.latest in
-    let less = tries-fall w m n last a.s g.next g.r g.s answer near a.answers names (whole ∙ a.seen) g.speaks g.answers in
-    let now : (pass_in after n).seen ≡ seen_by answer g.s = ap (λ (o : Option Known). (or_new n o).seen) rode.has ∙ g.seen in
-    let then_ : g.r ≡ (pass_in me m).seen = whole ∙ ap (λ (o : Option Known). (or_new m o).seen) (sym a.has) in
-    subst (λ (y : Record × Record). left_to_do w y.0 answer < left_to_do w y.1 last) (λ i. (sym now i, then_ i)) less
+next-of : (w : World) (s : Record) (ledger : Ledger) (m n : ℕ) (answer : Turned) → m < 8 → Found w ledger (seen_by answer s) → Answers w s m answer → next_cog m answer ≡ Some n → n < 8
+next-of w s ledger m n (After other bound) near found a names = subst (λ (k : ℕ). k < 8) (some-same _ _ names) (named-by w m s ledger (After other bound) other bound refl a found)
+next-of w s ledger m n (Done turn) near found a names = subst (λ (k : ℕ). k < 8) (some-same _ _ names) near
+next-of w s ledger m n (Ahead bound) near found a names = subst (λ (k : ℕ). k < 8) (some-same _ _ names) near
+next-of w s ledger m n (Held by) near found a names = absurd a
+next-of w s ledger m n Over near found a names = absurd (none-some n names)
 
-pub next-cog : (w : World) (m n : ℕ) (me : Hand) (riders : List (Option Rider)) (last : Turned) → m < 8 → Answered w m me riders last → next_cog m last ≡ Some n → n < 8
-next-cog w m n me riders last near a names = next-near w a.s m n last near a.others a.answers names
+-- what is left, by the ledger
+open-same : (limit k : ℕ) (sayings : List Next) (r : Record) → ((n : ℕ) → n < k → slice_get sayings n ≡ Some (said n r)) → open_among limit k sayings ≡ open_in limit k r
+open-same limit zero sayings r same = refl
+open-same limit (suc k) sayings r same =
+    let before = open-same limit k sayings r (λ n lt. same n (omega arith)) in
+    let own = ap (open_at limit) (same k (omega arith)) in
+    λ i. before i + own i
+
+rest-same : (w : World) (ledger : Ledger) (r : Record) → Found w ledger r → rest_in ledger ≡ rest_of w r
+rest-same w ledger r found =
+    let clocks : ledger.limits.clocks ≡ w.clocks = ap (λ (x : World). x.clocks) found.world in
+    let room : ledger.limits.turns ≡ w.turns = ap (λ (x : World). x.turns) found.world in
+    let made : length ledger.turns.list ≡ length (turns r) = sym (length-reverse ledger.turns.list) ∙ ap length found.log in
+    let unsaid : open_among ledger.limits.clocks 8 ledger.sayings ≡ open_in w.clocks 8 r =
+    ap (λ (limit : ℕ). open_among limit 8 ledger.sayings) clocks ∙ open-same w.clocks 8 ledger.sayings r found.sayings in
+    λ i. (room i - made i) * (clocks i + 2) + unsaid i
+
+-- the next try
+module _ (w : World) (m n : ℕ) (r : Record) (old : Ledger) (riders : List (Option Rider)) (last : Turned) (d : Driven w m r old riders last) (names : next_cog m last ≡ Some n) where
+  pub next-near : m < 8 → n < 8
+  next-near near = next-of w d.before old m n last near d.stands d.answers names
+
+  module _ (ledger : Ledger) (next_riders : List (Option Rider)) (answer : Turned) (near : n < 8) (rode : Rode w n (seen_by last d.before) ledger next_riders answer) where
+    pub driven-on : Driven w n r ledger next_riders answer
+    driven-on = record {
+      before = rode.s;
+      answers = rode.answers;
+      on = rode.on r d.on;
+      stands = rode.stands;
+      carry = rode.carry;
+    }
+
+    -- it leaves less to do
+    pub falls : left_in ledger answer < left_in old last
+    falls =
+        let less = tries-fall w m n last d.before rode.next (seen_by last d.before) rode.s answer near d.answers names refl rode.speaks rode.answers in
+        let now = rest-same w ledger (seen_by answer rode.s) rode.stands in
+        let was = rest-same w old (seen_by last d.before) d.stands in
+        subst (λ (y : ℕ × ℕ). 2 * y.0 + names_none answer < 2 * y.1 + names_none last) (λ i. (sym now i, sym was i)) less
 
 -- no cog is to try next where the history has ended
 pub ended-by : (n : ℕ) (answer : Turned) → ((next : ℕ) → next_cog n answer ≡ Some next → ⊥) → is_over answer ≡ true

@@ -18,11 +18,10 @@ use Rattle.p8_desk.specs.Gathering.{PartsOf, RidesIn, Gathered, Riding}
 use Rattle.p8_desk.specs.PassSets.{AllThere, HasOver}
 use Rattle.p8_desk.specs.Passes.{DeskValue, PassValue, PassSteps, Owns}
 use Rattle.p8_desk.specs.Rules.{Hand, known, joined, Seized}
-use Rattle.p8_desk.specs.Seats.{Keeps, pass_in}
-use Rattle.p8_desk.specs.Work.{steps_of}
+use Rattle.p8_desk.specs.Seats.{Keeps, pass_in, steps_of}
 use Rattle.p8_desk.proofs.Lookups.{some-same, known-left, known-right}
-use Rattle.p8_desk.proofs.Settling.{ended-same}
-use Rattle.p8_desk.proofs.Trying.{one_slot, first_slot}
+use Rattle.p8_desk.proofs.Carrying.{ended-same}
+use Rattle.p8_desk.proofs.Telling.{one_slot, first_slot}
 
 pub set-beside : {A : Type 0} (l : List A) (k n : ℕ) (x : A) → n ≢ k → slice_get (slice_set l k x) n ≡ slice_get l n
 set-beside [] k n x ne = refl
@@ -38,6 +37,9 @@ set-there (y ∷ l) (suc k) x lt = set-there l k x (omega arith)
 
 pub some-some : (a b : PassValue) → Some (Some a) ≡ Some (Some b) → a ≡ b
 some-some a b e = cc
+
+pub rider-same : (a b : Rider) → Some (Some a) ≡ Some (Some b) → a ≡ b
+rider-same a b e = cc
 
 -- the pass at a place, with its seat and what it keeps besides, joins those that a seat has
 module _ (desk : DeskValue) (places : List (Option PassValue)) (k : ℕ) (pass : PassValue) (table : TableId) (other : Hand) (rider : Rider) (at : slice_get places k ≡ Some (Some pass)) (owns : Owns desk pass) (cog : pass.cog ≡ k) (parts : PartsOf pass table other rider) where
@@ -127,7 +129,7 @@ ending desk places riders me after ledger eight g h out over =
     let one = o.0 in
     let a = h.7 over.0 one.p one.has in
     let seen : Begins one.p.seen r = a.seen in
-    let end : Ended asks desk.world (turns one.p.seen) = one.keeps.ended (o.2 ∙ over.3) in
+    let end : Ended asks desk.world (turns one.p.seen) = one.keeps.carries.ended (o.2 ∙ over.3) in
     let done : turns r ≡ turns one.p.seen = ap turns (sym seen.1) ∙ ended-same desk.world seen.0 one.p.seen (subst (λ (l : Record). Legal asks desk.world (turns l)) (sym seen.1) found.legal) end in record {
       r = r;
       each = λ n pass e. (let q = g.each n pass (below n pass e) e in let b = h.7 n (q.0).p (q.0).has in

@@ -1,5 +1,5 @@
 -- Each step keeps the rule.
-use Rattle.std.proofs.Common.{◌≡◌, ◌≢◌, ⊎_elim, ◌∙◌, ap, sym, subst, refl, ℕ, zero, suc, ◌==◌, ◌<◌, ◌≤◌, List, [], ◌∷◌, length, Bool, true, Option, Some, None, arith}
+use Rattle.std.proofs.Common.{◌≡◌, ◌≢◌, ⊎_elim, ◌∙◌, ap, sym, subst, refl, ℕ, zero, suc, ◌==◌, ◌<◌, ◌≤◌, List, [], ◌∷◌, ◌++◌, length, Bool, true, Option, Some, None, arith}
 use Rattle.std.specs.Prelude.{slice_set, slice_index}
 use mathlib.Core.Option.{some, none}
 use mathlib.Core.Option.{Option as Home}
@@ -10,12 +10,12 @@ use Rattle.atomic_table.proofs.Lists.{at_set}
 use Rattle.p8_ledger.specs.declared.start.Start.{Start}
 use Rattle.p8_ledger.specs.declared.steps.Step.{Step}
 use Rattle.p8_ledger.specs.declared.ledger.Ledger.{Ledger}
-use Rattle.p8_ledger.specs.Records.{Record, turns, cog_of}
+use Rattle.p8_ledger.specs.Records.{Record, turns, mine, cog_of}
 use Rattle.p8_ledger.specs.Ledgers.{Found}
 use Rattle.p8_desk.specs.declared.rule.Known.{Known}
 use Rattle.p8_desk.specs.declared.rule.View.{View}
-use Rattle.p8_desk.specs.Rules.{Slot, Hand, world_in, known, change, HomeIs, IsOfCogs, Agrees, PassFits, HoldFits, Fits, Kept, with_found, with_seen, with_step, seizing, losing, releasing, noting, Seized, Released, Noted}
-use Rattle.p8_desk.proofs.Lookups.{some-same, none-some, known-after, known-changed, test-same, test-apart}
+use Rattle.p8_desk.specs.Rules.{Slot, Hand, world_in, known, change, HomeIs, HasPass, AreOf, On, seen_as, all_seen, IsNamed, catching, Caught, CanTell, CanFree, IsOfCogs, Agrees, PassFits, HoldFits, Fits, Kept, with_found, with_seen, seizing, losing, releasing, Seized, Released}
+use Rattle.p8_desk.proofs.Lookups.{some-same, none-some, known-after, known-changed, known-cog, known-all-seen, known-seen, test-apart}
 
 -- what a step owes, at the words, homes and views of a table
 abbrev Goes : Start → ℕ → List (ℕ × Slot) → (ℕ → ℕ) → (ℕ → Hand → Type 0) → ℕ → List ℕ → List (Home Slot) → List View → Type 0
@@ -50,14 +50,6 @@ later-agrees step r m p apart was = record {
   own = rw (test-apart (cog_of step) m apart) was.own;
   seen = (step ∷ was.seen.0, ap (λ (l : Record). step ∷ l) was.seen.1);
   newest = λ s. absurd (apart s);
-}
-
--- the pass that has made it
-own-agrees : (step : Step) (r : Record) (n : ℕ) (p : Known) → cog_of step ≡ n → p.seen ≡ r → Agrees r n p → Agrees (step ∷ r) n (with_step step p)
-own-agrees step r n p own whole was = record {
-  own = rw (test-same (cog_of step) n own) (ap (λ (l : Record). step ∷ l) was.own);
-  seen = ([], ap (λ (l : Record). step ∷ l) whole);
-  newest = λ _. ap (λ (l : Record). step ∷ l) whole;
 }
 
 -- a seat that holds nothing takes the free lock word, or finds it held
@@ -217,69 +209,86 @@ module _ (start : Start) (id : ℕ) (v : View) (n : ℕ) (live : v.live ≡ true
       subst (λ (ws : List ℕ). Goes start id ((0, Some ledger) ∷ []) (λ _. 0) (λ _. Released (move 1 0 0 0 none) (v, (0, Some ledger) ∷ []) 0) 0 ws s.homes s.views) (sym h.words)
       (frees-at ledger stands h.lock h.r h.owner h.newest s.homes s.views h.bells h.home h.each at)
 
-  -- it adds a step of its cog to the record
-  module _ (step : Step) (own : cog_of step ≡ n) where
-    notes-others : (r : Record) (owner : ℕ → ℕ) (lock by : ℕ) (x : View) → by ≢ id → lock ≡ suc n → owner n ≡ id → Fits start r owner lock by x → Fits start (step ∷ r) owner lock by x
-    notes-others r owner lock by x apart locked here fits = record {
-      same_start = fits.same_start;
-      passes = λ m q e. (let was = fits.passes m q e in
-          let other : cog_of step ≢ m = λ s. apart (sym was.here ∙ ap owner (sym s ∙ own) ∙ here) in
-          record { here = was.here; cog = was.cog; agrees = later-agrees step r m q other was.agrees; locked = was.locked });
-      hold = λ m e. absurd (no-other r owner lock by x apart locked here fits m e);
-    }
+  -- a step of one of its cogs, for another seat
+  beside : (step : Step) (r : Record) (owner : ℕ → ℕ) (lock by : ℕ) (x : View) → owner (cog_of step) ≡ id → by ≢ id → lock ≡ suc n → owner n ≡ id → Fits start r owner lock by x → Fits start (step ∷ r) owner lock by x
+  beside step r owner lock by x own apart locked here fits = record {
+    same_start = fits.same_start;
+    passes = λ m q e. (let was = fits.passes m q e in
+        let other : cog_of step ≢ m = λ s. apart (sym was.here ∙ ap owner (sym s) ∙ own) in
+        record { here = was.here; cog = was.cog; agrees = later-agrees step r m q other was.agrees; locked = was.locked });
+    hold = λ m e. absurd (no-other r owner lock by x apart locked here fits m e);
+  }
 
-    notes-own : (r : Record) (owner : ℕ → ℕ) (lock : ℕ) → Fits start r owner lock id v → Fits start (step ∷ r) owner lock id (noting v n step)
-    notes-own r owner lock fits = record {
+  -- its passes see a record that has gone on by steps of their cogs
+  module _ (named : Option Record) (r : Record) (on : On (HasPass v.passes) p.seen r) (is_named : IsNamed named r) where
+    owned : (old : Record) (owner : ℕ → ℕ) (lock : ℕ) → Fits start old owner lock id v → (more : Record) → AreOf (HasPass v.passes) more → AreOf (λ m. (owner m ≡ id) × (m < 8)) more
+    owned old owner lock fits [] has_all = tt
+    owned old owner lock fits (step ∷ more) has_all =
+        let one = has_all.0 in
+        let pass = fits.passes (cog_of step) one.0 one.1 in
+        ((pass.here, pass.cog), owned old owner lock fits more has_all.1)
+
+    beside-all : (old : Record) (owner : ℕ → ℕ) (lock by : ℕ) (x : View) → by ≢ id → lock ≡ suc n → owner n ≡ id → (more : Record) → AreOf (λ m. (owner m ≡ id) × (m < 8)) more → Fits start old owner lock by x → Fits start (more ++ old) owner lock by x
+    beside-all old owner lock by x apart locked here [] own fits = fits
+    beside-all old owner lock by x apart locked here (step ∷ more) own fits =
+        beside step (more ++ old) owner lock by x own.0.0 apart locked here (beside-all old owner lock by x apart locked here more own.1 fits)
+
+    newest-of : (old : Record) (owner : ℕ → ℕ) → IsOfCogs old → (more : Record) → AreOf (λ m. (owner m ≡ id) × (m < 8)) more → IsOfCogs (more ++ old)
+    newest-of old owner newest [] own = newest
+    newest-of old owner newest (step ∷ more) own = own.0.1
+
+    catches-own : (old : Record) (owner : ℕ → ℕ) (lock : ℕ) → Fits start old owner lock id v → Fits start r owner lock id (catching v r)
+    catches-own old owner lock fits = record {
       same_start = fits.same_start;
-      passes = λ m q e. ⊎_elim
-          (λ (x : (m ≡ n) × (p : Known) × (known v.passes n ≡ Some p) × (with_step step p ≡ q)).
-          let was = fits.passes n x.1 x.2 in
-          let whole : x.1.seen ≡ r = ap (λ (y : Known). y.seen) (some-same _ _ (sym x.2 ∙ has)) ∙ (knows r owner lock fits).0 in
-          subst (λ (y : ℕ × Known). PassFits (step ∷ r) owner lock id v.holds y.0 y.1) (λ i. (sym x.0 i, x.3 i))
-          (record { here = was.here; cog = was.cog; agrees = own-agrees step r n x.1 own whole was.agrees; locked = was.locked }))
-          (λ (x : (m ≢ n) × (known v.passes m ≡ Some q)).
-          let was = fits.passes m q x.1 in
-          record { here = was.here; cog = was.cog; agrees = later-agrees step r m q (λ s. x.0 (sym s ∙ own)) was.agrees; locked = was.locked })
-          (known-after n (with_step step) v.passes m q e);
+      passes = λ m q e. (let x = known-seen r v.passes m q e in
+          let was = fits.passes m x.0 x.1 in
+          subst (λ (y : Known). PassFits r owner lock id v.holds m y) x.2
+          (record { here = was.here; cog = was.cog; agrees = record { own = ap (λ (k : ℕ). mine k r) (known-cog v.passes m x.0 x.1); seen = ([], refl); newest = λ _. refl }; locked = was.locked }));
       hold = λ m e. (let same : n ≡ m = some-same _ _ (sym holds ∙ e) in
-          let k = knows r owner lock fits in
-          subst (λ (k : ℕ). HoldFits (step ∷ r) owner lock id (change n (with_step step) v.passes) k) same
-          (record { here = k.2; locked = k.1; pass = with_step step p; known = known-changed n (with_step step) v.passes p has; seen = ap (λ (l : Record). step ∷ l) k.0 }));
+          let k = knows old owner lock fits in
+          subst (λ (k : ℕ). HoldFits r owner lock id (all_seen r v.passes) k) same
+          (record { here = k.2; locked = k.1; pass = seen_as r p; known = known-all-seen r v.passes n p has; seen = refl }));
     }
 
-    notes-at : (c : List (ℕ × Slot)) (f : ℕ → ℕ) → f (length (turns p.seen)) ≡ length (turns (step ∷ p.seen)) → (m : Move Slot) (found : ℕ) → (lock : ℕ) (r : Record) (owner : ℕ → ℕ) → lock ≤ 8 → IsOfCogs r → (hs : List (Home Slot)) (vs : List View) (bells : List ℕ)
-        → HomeIs start r lock hs → Each start r owner lock vs → get_elem? vs id ≡ some v
-        → Goes start id c f (Noted step m (v, c)) 1 (lock ∷ length (turns r) ∷ bells) hs vs
-    notes-at c f count m found lock r owner most newest hs vs bells home each at =
+    catches-at : (ledger : Ledger) → Found (world_in v.start) ledger r → (m : Move Slot) (count : ℕ) → count ≡ length (turns r) → (lock : ℕ) (old : Record) (owner : ℕ → ℕ) → lock ≤ 8 → IsOfCogs old → (hs : List (Home Slot)) (vs : List View) (bells : List ℕ)
+        → HomeIs start old lock hs → Each start old owner lock vs → get_elem? vs id ≡ some v
+        → Goes start id ((0, Some ledger) ∷ []) (λ _. count) (λ _. Caught named m (v, (0, Some ledger) ∷ []) 0) 1 (lock ∷ length (turns old) ∷ bells) hs vs
+    catches-at ledger stands m count many lock old owner most newest hs vs bells home each at =
         let mine_ = each id v at live in
-        let k = knows r owner lock mine_ in
-        let cog : n < 8 = (mine_.passes n p has).cog in
-        let of_cog : cog_of step < 8 = omega (arith, own) in
-        let out : hs ≡ none ∷ [] = subst (λ (l : ℕ). HomeIs start r l hs) k.1 home in (
-          noting v n step,
+        let k = knows old owner lock mine_ in
+        let steps = owned old owner lock mine_ on.0 on.2 in
+        let whole : on.0 ++ old ≡ r = ap (λ (l : Record). on.0 ++ l) (sym k.0) ∙ on.1 in
+        let out : hs ≡ none ∷ [] = subst (λ (l : ℕ). HomeIs start old l hs) k.1 home in (
+          catching v r,
           keeps,
           tt,
           record {
-            r = step ∷ r;
+            r = r;
             owner = owner;
             lock = lock;
             most = most;
-            newest = of_cog;
+            newest = subst IsOfCogs whole (newest-of old owner newest on.0 steps);
             bells = bells;
-            words = ap (λ (l : ℕ). lock ∷ l ∷ bells) (subst (λ (l : Record). f (length (turns l)) ≡ length (turns (step ∷ l))) k.0 count);
-            home = subst (λ (l : ℕ). HomeIs start (step ∷ r) l hs) (sym k.1) out;
-            each = each-set start (step ∷ r) owner lock vs id (noting v n step) (λ by x apart e l. notes-others r owner lock by x apart k.1 k.2 (each by x e l)) (notes-own r owner lock mine_);
+            words = ap (λ (l : ℕ). lock ∷ l ∷ bells) many;
+            home = subst (λ (l : ℕ). HomeIs start r l hs) (sym k.1) out;
+            each = each-set start r owner lock vs id (catching v r)
+                (λ by x apart e l. subst (λ (s : Record). Fits start s owner lock by x) whole (beside-all old owner lock by x apart k.1 k.2 on.0 steps (each by x e l)))
+                (catches-own old owner lock mine_);
           },
-          ap (λ (l : ℕ). (noting v l step, c)) (sym own),
+          (r, ledger, refl, stands, is_named, refl),
         )
 
-    pub notes : (slots : ℕ) (c : List (ℕ × Slot)) (f : ℕ → ℕ) → f (length (turns p.seen)) ≡ length (turns (step ∷ p.seen)) → (m : Move Slot) → Allows (Kept start) slots id (v, c) 1 f (Noted step m (v, c))
-    notes slots c f count m s h long at below =
-        subst (λ (ws : List ℕ). Goes start id c f (Noted step m (v, c)) 1 ws s.homes s.views) (sym h.words)
-        (notes-at c f count m 0 h.lock h.r h.owner h.most h.newest s.homes s.views h.bells h.home h.each at)
+    pub catches : (ledger : Ledger) → Found (world_in v.start) ledger r → (m : Move Slot) (count : ℕ) → count ≡ length (turns r) → (slots : ℕ) → Allows (Kept start) slots id (v, (0, Some ledger) ∷ []) 1 (λ _. count) (λ _. Caught named m (v, (0, Some ledger) ∷ []) 0)
+    catches ledger stands m count many slots s h long at below =
+        subst (λ (ws : List ℕ). Goes start id ((0, Some ledger) ∷ []) (λ _. count) (λ _. Caught named m (v, (0, Some ledger) ∷ []) 0) 1 ws s.homes s.views) (sym h.words)
+        (catches-at ledger stands m count many h.lock h.r h.owner h.most h.newest s.homes s.views h.bells h.home h.each at)
 
-pub frees-as : (start : Start) (slots id : ℕ) (me : Hand) → slots ≡ 1 → (n : ℕ) × (p : Known) × (ledger : Ledger) × (me.0.live ≡ true) × (me.0.holds ≡ Some n) × (known me.0.passes n ≡ Some p) × (me.1 ≡ (0, Some ledger) ∷ []) × Found (world_in me.0.start) ledger p.seen
-    → Allows (Kept start) slots id me 0 (λ _. 0) (λ _. Released (move slots 0 0 0 none) me 0)
+pub catches-as : (start : Start) (slots id count : ℕ) (named : Option Record) (me : Hand) (m : Move Slot) → CanTell named count me → Allows (Kept start) slots id me 1 (λ _. count) (λ _. Caught named m me 0)
+catches-as start slots id count named me m h =
+    subst (λ (c : List (ℕ × Slot)). Allows (Kept start) slots id (me.0, c) 1 (λ _. count) (λ _. Caught named m (me.0, c) 0)) (sym h.7)
+    (catches start id me.0 h.0 h.4 h.5 h.1 h.6 named h.2 h.9 h.11 h.3 h.8 m count h.10 slots)
+
+pub frees-as : (start : Start) (slots id : ℕ) (me : Hand) → slots ≡ 1 → CanFree me → Allows (Kept start) slots id me 0 (λ _. 0) (λ _. Released (move slots 0 0 0 none) me 0)
 frees-as start slots id me one h =
     subst (λ (y : ℕ × List (ℕ × Slot)). Allows (Kept start) y.0 id (me.0, y.1) 0 (λ _. 0) (λ _. Released (move y.0 0 0 0 none) (me.0, y.1) 0)) (λ i. (sym one i, sym h.6 i))
     (frees start id me.0 h.0 h.3 h.4 h.1 h.5 h.2 h.7)

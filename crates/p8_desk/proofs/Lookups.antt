@@ -2,7 +2,8 @@
 use Rattle.std.proofs.Common.{◌≡◌, ◌≢◌, ◌⊎◌, inl, inr, ⊎_elim, ◌∙◌, ap, sym, refl, ℕ, ◌==◌, List, [], ◌∷◌, ◌++◌, Bool, true, false, Option, Some, None, arith}
 use Rattle.std.proofs.lemmas.Bool.Decides.{nat_tests}
 use Rattle.p8_desk.specs.declared.rule.Known.{Known}
-use Rattle.p8_desk.specs.Rules.{known, change, of_same_cog, without, list_of}
+use Rattle.p8_ledger.specs.Records.{Record}
+use Rattle.p8_desk.specs.Rules.{known, change, of_same_cog, without, list_of, seen_as, all_seen}
 
 pub some-same : {A : Type 0} (a b : A) → Some a ≡ Some b → a ≡ b
 some-same a b e = cc
@@ -71,6 +72,32 @@ module _ (n : ℕ) (f : Known → Known) where
       by-tests more true here false there = rw (here, there) more
       by-tests more false here true there = rw (here, there) refl
       by-tests more false here false there = rw (here, there) more
+
+-- an entry of passes that have all seen a record
+module _ (r : Record) where
+  pub known-all-seen : (ps : List Known) (n : ℕ) (p : Known) → known ps n ≡ Some p → known (all_seen r ps) n ≡ Some (seen_as r p)
+  known-all-seen [] n p e = absurd (none-some p e)
+  known-all-seen (x ∷ ps) n p e = by-test (known-all-seen ps n p) (x.cog == n) refl
+    where
+      by-test : (known ps n ≡ Some p → known (all_seen r ps) n ≡ Some (seen_as r p)) → (b : Bool) → (x.cog == n) ≡ b → known (all_seen r (x ∷ ps)) n ≡ Some (seen_as r p)
+      by-test more true t = rw t (ap (λ (y : Known). Some (seen_as r y)) (some-same _ _ (rw t at e)))
+      by-test more false t = rw t (more (rw t at e))
+
+  pub known-seen : (ps : List Known) (n : ℕ) (q : Known) → known (all_seen r ps) n ≡ Some q → (p : Known) × (known ps n ≡ Some p) × (seen_as r p ≡ q)
+  known-seen [] n q e = absurd (none-some q e)
+  known-seen (x ∷ ps) n q e = by-test (known-seen ps n q) (x.cog == n) refl
+    where
+      by-test : (known (all_seen r ps) n ≡ Some q → (p : Known) × (known ps n ≡ Some p) × (seen_as r p ≡ q)) → (b : Bool) → (x.cog == n) ≡ b → (p : Known) × (known (x ∷ ps) n ≡ Some p) × (seen_as r p ≡ q)
+      by-test more true t = (x, rw t refl, some-same _ _ (rw t at e))
+      by-test more false t = (let y = more (rw t at e) in (y.0, rw t y.1, y.2))
+
+  pub none-seen : (ps : List Known) (n : ℕ) → known ps n ≡ None → known (all_seen r ps) n ≡ None
+  none-seen [] n e = refl
+  none-seen (x ∷ ps) n e = by-test (none-seen ps n) (x.cog == n) refl
+    where
+      by-test : (known ps n ≡ None → known (all_seen r ps) n ≡ None) → (b : Bool) → (x.cog == n) ≡ b → known (all_seen r (x ∷ ps)) n ≡ None
+      by-test more true t = absurd (some-none x (rw t at e))
+      by-test more false t = rw t (more (rw t at e))
 
 pub known-without : (n : ℕ) (ps : List Known) (m : ℕ) (q : Known) → known (without n ps) m ≡ Some q → (m ≢ n) × (known ps m ≡ Some q)
 known-without n [] m q e = absurd (none-some q e)

@@ -11,7 +11,7 @@ use Rattle.p8_desk.specs.PassSets.{AllThere, HasOver}
 use Rattle.p8_desk.specs.Passes.{DeskValue, PassValue, Owns}
 use Rattle.p8_desk.specs.Rules.{Hand, known, pass_alone, without_pass}
 use Rattle.p8_desk.specs.Seats.{Keeps, Seated, or_new, pass_in}
-use Rattle.p8_desk.proofs.Gathering.{set-beside, set-there}
+use Rattle.p8_desk.proofs.Gathering.{set-beside, set-there, rider-same}
 use Rattle.p8_desk.proofs.Lookups.{known-alone, none-beside}
 
 -- the pass of a cog, parted from a seat
@@ -45,9 +45,6 @@ pub record IsBack (desk : DeskValue) (riders : List (Option Rider)) (places : Li
 
 pub all-back : (desk : DeskValue) (riders : List (Option Rider)) (places : List (Option PassValue)) → ((n : ℕ) → n < 8 → IsBack desk riders places n) → AllThere desk places
 all-back desk riders places back = record { each = λ n lt. (let b = back n lt in (b.pass, b.there, b.owns, b.cog)) }
-
-rider-same : (a b : Rider) → Some (Some a) ≡ Some (Some b) → a ≡ b
-rider-same a b e = cc
 
 pub over-back : (desk : DeskValue) (riders : List (Option Rider)) (places : List (Option PassValue)) → ((n : ℕ) → n < 8 → IsBack desk riders places n) → (n : ℕ) (rider : Rider) → n < 8 → slice_get riders n ≡ Some (Some rider) → rider.over ≡ true → HasOver places
 over-back desk riders places back n rider lt at over =

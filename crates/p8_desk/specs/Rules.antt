@@ -13,7 +13,6 @@ use Rattle.p8_access.specs.declared.kinds.Origin.TheVariants.{Pasm}
 use Rattle.p8_access.specs.Worlds.{World}
 use Rattle.p8_ledger.specs.Worlds.{world_of}
 use Rattle.p8_ledger.specs.declared.start.Start.{Start}
-use Rattle.p8_ledger.specs.declared.steps.Step.{Step}
 use Rattle.p8_ledger.specs.declared.ledger.Ledger.{Ledger}
 use Rattle.p8_ledger.specs.Records.{Record, turns, mine, Begins, cog_of}
 use Rattle.p8_ledger.specs.Ledgers.{Found}
@@ -145,15 +144,51 @@ releasing v = record { live = v.live; start = v.start; passes = v.passes; holds 
 abbrev pub Released : Move Slot → Hand → ℕ → Hand → Type 0
 Released s v found after = after ≡ (releasing v.0, [])
 
--- the holder adds a step of its cog to the record
-abbrev pub with_step : Step → Known → Known
-with_step step p = record p { own = step ∷ p.own; seen = step ∷ p.seen }
+-- steps of cogs of which this is true
+abbrev pub AreOf : (ℕ → Type 0) → Record → Type 0
+AreOf owns [] = Unit {0}
+AreOf owns (step ∷ more) = owns (cog_of step) × AreOf owns more
 
-abbrev pub noting : View → ℕ → Step → View
-noting v n step = record { live = v.live; start = v.start; passes = change n (with_step step) v.passes; holds = v.holds }
+-- a record goes on with such steps
+abbrev pub On : (ℕ → Type 0) → Record → Record → Type 0
+On owns r s = (more : Record) × (more ++ r ≡ s) × AreOf owns more
 
-abbrev pub Noted : Step → Move Slot → Hand → ℕ → Hand → Type 0
-Noted step s v found after = after ≡ (noting v.0 (cog_of step) step, v.1)
+-- a seat has the pass of a cog
+abbrev pub HasPass : List Known → ℕ → Type 0
+HasPass passes n = (p : Known) × (known passes n ≡ Some p)
+
+-- a pass that has seen a record
+abbrev pub seen_as : Record → Known → Known
+seen_as r p = record p { own = mine p.cog r; seen = r }
+
+abbrev pub all_seen : Record → List Known → List Known
+all_seen r [] = []
+all_seen r (p ∷ ps) = seen_as r p ∷ all_seen r ps
+
+abbrev pub catching : View → Record → View
+catching v r = record { live = v.live; start = v.start; passes = all_seen r v.passes; holds = v.holds }
+
+-- this is the record that is named, if one is
+abbrev pub IsNamed : Option Record → Record → Type 0
+IsNamed None r = Unit {0}
+IsNamed (Some s) r = r ≡ s
+
+-- the holder's cogs have gone on with the record: each of its passes has seen the one for which its ledger stands now
+abbrev pub Caught : Option Record → Move Slot → Hand → ℕ → Hand → Type 0
+Caught named s v found after =
+    (r : Record) × (ledger : Ledger) × (v.1 ≡ (0, Some ledger) ∷ []) × Found (world_in v.0.start) ledger r × IsNamed named r × (after ≡ (catching v.0 r, v.1))
+
+-- a seat may do so that holds for the cog of one of its passes: the record has gone on by steps of their cogs, and has so many turns
+abbrev pub CanTell : Option Record → ℕ → Hand → Type 0
+CanTell named count me =
+    (n : ℕ) × (p : Known) × (r : Record) × (ledger : Ledger) × (me.0.live ≡ true) × (me.0.holds ≡ Some n) × (known me.0.passes n ≡ Some p)
+    × (me.1 ≡ (0, Some ledger) ∷ []) × Found (world_in me.0.start) ledger r × On (HasPass me.0.passes) p.seen r × (count ≡ length (turns r)) × IsNamed named r
+
+-- it may free the lock word where the pass of that cog has seen the record for which the ledger stands
+abbrev pub CanFree : Hand → Type 0
+CanFree me =
+    (n : ℕ) × (p : Known) × (ledger : Ledger) × (me.0.live ≡ true) × (me.0.holds ≡ Some n) × (known me.0.passes n ≡ Some p)
+    × (me.1 ≡ (0, Some ledger) ∷ []) × Found (world_in me.0.start) ledger p.seen
 
 -- a bell has changed: nothing that a seat knows does
 abbrev pub Rung : Move Slot → Hand → ℕ → Hand → Type 0

@@ -23,12 +23,9 @@ const RUNG: u64 = 1;
 /// The bell is still, and its thread sleeps there.
 const ASLEEP: u64 = 2;
 
-/// How many microseconds a thread sleeps at most whose cog doesn't come next. Then it looks again, since no clause says that
-/// a bell is rung. A shorter sleep would cost more: each one sets a timer of the system.
+/// How many microseconds a thread sleeps at most whose cog doesn't come next, or that finds the lock word held. Then it looks again,
+/// since no clause says that a bell is rung. A shorter sleep would cost more: each one sets a timer of the system.
 pub const TURN_SLEEP: u64 = 10_000;
-
-/// How many microseconds a thread sleeps at most that finds the lock word held, for which no bell is rung.
-const LOCK_SLEEP: u64 = 50;
 
 /// The word of a cog's bell. No two bells lie in one cache line, so that a thread that looks at its own disturbs no other.
 fn bell_of(cog: u8) -> usize
@@ -99,13 +96,13 @@ pub fn wait_at_bell<R: Wait>(rt: &R, board: &Board, seat: &mut Place, cog: u8, m
 }
 
 /// Waits for a while in which the pass of the cog `by` may free the lock word: for a moment awake, and where that
-/// is too short asleep at the bell of the cog `cog`.
+/// is too short asleep at the bell of the cog `cog`, which is rung once that cog comes next.
 pub fn wait_for_lock<R: Wait>(rt: &R, board: &Board, seat: &mut Place, cog: u8, by: u8)
     requires own { (seat.old.table_id ≡ board.now.table_id) × (board.now.table_id.words ≡ 72) × (cog < 8) }
     ensures own { (seat.new.table_id ≡ seat.old.table_id) × (seat.new.id ≡ seat.old.id) }
     ensures same { seat.new.me ≡ seat.old.me }
 {
     if !has_changed(board, 0, u64::from(by) + 1) {
-        wait_at_bell(rt, board, seat, cog, LOCK_SLEEP);
+        wait_at_bell(rt, board, seat, cog, TURN_SLEEP);
     }
 }

@@ -51,21 +51,21 @@ impl Desk {
         ensures over { pass.new.over ≡ (pass.old.over || is_over result) }
         ensures tried { Tried self.now.world pass.old.cog pass.old.steps pass.new.steps result }
     {
-        let answer = self.try_quietly(pass);
+        let answer = pass.rider.ride(self, &mut pass.seat);
         self.tell(&mut pass.seat, answer);
         answer
     }
 
-    /// The same without a ring: the caller sees to whoever comes next.
-    pub(crate) fn try_quietly(&self, pass: &mut CogPass) -> Turned
+    /// Makes turns with a pass, one after another, while they are its cog's and come soon after one another, at most 65 in one hold of the lock
+    /// word; answers what came of the last try. Nobody is rung for: the caller sees to whoever comes next.
+    pub(crate) fn turn_on(&self, pass: &mut CogPass) -> Turned
         requires { Owns self.now pass.old }
         ensures owns { Owns self.now pass.new }
         ensures cog { pass.new.cog ≡ pass.old.cog }
         ensures over { pass.new.over ≡ (pass.old.over || is_over result) }
-        ensures tried { Tried self.now.world pass.old.cog pass.old.steps pass.new.steps result }
         ensures near { (other : ℕ) (bound : ℕ) → result ≡ After other bound → other < 8 }
     {
-        pass.rider.ride(self, &mut pass.seat)
+        pass.rider.ride_on(self, &mut pass.seat)
     }
 
     /// Rings the bell of the cog that an answer names, or where no turn comes any more all bells.

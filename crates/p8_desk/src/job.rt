@@ -42,7 +42,7 @@ fn run_on<R: Wait>(
     ensures over { IfNone result (pass.new.over ≡ true) }
 {
     for _ in rt.forever() {
-        match desk.try_quietly(pass) {
+        match desk.turn_on(pass) {
             Turned::Done(_) => {}
             Turned::Ahead { .. } => {}
             Turned::Held { by } => desk.wait_for_desk(rt, pass, by),

@@ -55,6 +55,7 @@ fn new_place(seat: Place, runner: Runner, cog: u8) -> Option<CogPass>
         made: 0,
         known: 0,
         over: false,
+        last: 0,
     };
     Some(CogPass { seat, rider })
 }

@@ -79,7 +79,7 @@ fn ride(desk: &Desk, places: &mut Passes, cog: u8) -> Ridden
 {
     match &mut places.places[cog as usize] {
         Some(pass) => {
-            let answer = desk.try_quietly(pass);
+            let answer = desk.turn_on(pass);
             after(cog, answer, pass.can_run_on())
         }
         None => Ridden::Missing,

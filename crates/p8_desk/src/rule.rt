@@ -44,11 +44,21 @@ pub type Place = Seat<Option<Ledger>, View>;
 /// The table with its memory.
 pub type Tabletop = Table<Option<Ledger>, View, Start, DeskRule, Global>;
 
-/// The step of a record that a proof speaks of.
+/// The record that the passes of a seat come to see, where a proof names it.
 pub trait Told {
-    ghost use Rattle.p8_ledger.specs.declared.steps.Step.{Step};
+    ghost use Rattle.std.specs.Prelude.{Option};
+    ghost use Rattle.p8_ledger.specs.Records.{Record};
 
-    ghost step: { Step };
+    ghost named: { Option Record };
+}
+
+/// It isn't named: the ledger stands for it, and no more is told.
+pub struct Unnamed;
+
+impl Told for Unnamed {
+    ghost use Rattle.std.specs.Prelude.{None};
+
+    ghost named = { None };
 }
 
 /// An exchange on the lock word.
@@ -69,15 +79,15 @@ impl Play<Option<Ledger>, View> for Releases {
     ghost then = { Released };
 }
 
-/// The holder adds a step to the record.
-pub struct Notes<B> {
+/// The holder's passes see the record for which the ledger in its slot stands, which has gone on by steps of their cogs.
+pub struct CatchesUp<B> {
     told: PhantomData<B>,
 }
 
-impl<B: Told> Play<Option<Ledger>, View> for Notes<B> {
-    ghost use Rattle.p8_desk.specs.Rules.{Noted};
+impl<B: Told> Play<Option<Ledger>, View> for CatchesUp<B> {
+    ghost use Rattle.p8_desk.specs.Rules.{Caught};
 
-    ghost then = { Noted B.step };
+    ghost then = { Caught B.named };
 }
 
 /// A bell has changed, which tells nothing.

@@ -1,23 +1,21 @@
 // The steps of a seat at the table.
-ghost use Rattle.std.specs.Prelude.{◌≡◌, ◌+◌, ◌<◌, ◌^◌, true, [], ◌∷◌, Some, None, length};
+ghost use Rattle.std.specs.Prelude.{◌≡◌, ◌+◌, ◌<◌, true, [], Some, None};
 ghost use Rattle.atomic_table.specs.Table.{step as move};
 ghost use mathlib.Core.Option.{none};
-ghost use Rattle.p8_ledger.specs.declared.steps.Step.TheVariants.{Took, Said};
-ghost use Rattle.p8_ledger.specs.declared.ledger.Ledger.{Ledger};
-ghost use Rattle.p8_ledger.specs.Records.{turns};
-ghost use Rattle.p8_ledger.specs.Ledgers.{Found};
 ghost use Rattle.p8_desk.specs.declared.rule.Known.{Known};
-ghost use Rattle.p8_desk.specs.Rules.{world_in, known, Seized, Released, Noted, noting, without_pass, pass_alone, joined};
+ghost use Rattle.p8_desk.specs.Rules.{known, Seized, Released, Caught, CanTell, CanFree, without_pass, pass_alone, joined};
+ghost use Rattle.p8_desk.specs.Seats.{worked_in};
 
-use crate::rule::{Board, Joins, Named, Notes, Parts, Place, Releases, Seizes, Told, Visits};
-use p8_access::{Next, Turn};
+use crate::rule::{
+    Board, CatchesUp, Joins, Named, Parts, Place, Releases, Seizes, Told, Unnamed, Visits,
+};
+use crate::tries::Outcome;
 use std::marker::Brand;
 
 impl Told for Brand {
-    ghost use Rattle.p8_access.specs.declared.lives.Next.TheVariants.{Quiet};
-    ghost use Rattle.p8_ledger.specs.declared.steps.Step.TheVariants.{Said};
+    ghost use Rattle.std.specs.Prelude.{None};
 
-    ghost step = { Said 0 Quiet };
+    ghost named = { None };
 }
 
 impl Named for Brand {
@@ -43,57 +41,45 @@ pub fn seize(board: &Board, seat: &mut Place, cog: u8) -> u64
 pub fn release(board: &Board, seat: &mut Place)
     requires own { seat.old.table_id ≡ board.now.table_id }
     requires shape { (board.now.table_id.words ≡ 72) × (board.now.table_id.slots ≡ 1) }
-    requires holds { (n : _) × (p : Known) × (ledger : Ledger) × (seat.old.me.0.live ≡ true) × (seat.old.me.0.holds ≡ Some n) × (known seat.old.me.0.passes n ≡ Some p) × (seat.old.me.1 ≡ (0, Some ledger) ∷ []) × Found (world_in seat.old.me.0.start) ledger p.seen }
+    requires holds { CanFree seat.old.me }
     ensures own { (seat.new.table_id ≡ seat.old.table_id) × (seat.new.id ≡ seat.old.id) }
     ensures released { Released (move 1 0 0 0 none) seat.old.me 0 seat.new.me }
 {
     board.store::<Releases>(seat, 0, 0);
 }
 
-fn note_saying<B: Told>(board: &Board, seat: &mut Place, cog: u8, next: Next)
+/// The passes of the holder see the record for which its ledger stands: it has gone on by steps of their cogs, and has so many
+/// turns. What was added to it need not be told step by step.
+pub fn catch_up(board: &Board, seat: &mut Place, count: u64)
     requires own { seat.old.table_id ≡ board.now.table_id }
     requires shape { (board.now.table_id.words ≡ 72) × (board.now.table_id.slots ≡ 1) }
-    requires holds { (p : Known) × (seat.old.me.0.live ≡ true) × (seat.old.me.0.holds ≡ Some cog) × (known seat.old.me.0.passes cog ≡ Some p) }
-    requires told { B.step ≡ Said cog next }
+    requires holds { CanTell None count seat.old.me }
     ensures own { (seat.new.table_id ≡ seat.old.table_id) × (seat.new.id ≡ seat.old.id) }
-    ensures noted { Noted B.step (move 1 1 0 0 none) seat.old.me 0 seat.new.me }
+    ensures caught { Caught None (move 1 1 count 0 none) seat.old.me 0 seat.new.me }
 {
-    let _ = (cog, next);
-    board.load::<Notes<B>>(seat, 1);
+    board.store::<CatchesUp<Unnamed>>(seat, 1, count);
 }
 
-/// The holder adds what its cog says to the record.
-pub fn say(board: &Board, seat: &mut Place, cog: u8, next: Next)
+fn tell_as<B: Told>(board: &Board, seat: &mut Place, cog: u8, outcome: Outcome, count: u64)
     requires own { seat.old.table_id ≡ board.now.table_id }
     requires shape { (board.now.table_id.words ≡ 72) × (board.now.table_id.slots ≡ 1) }
-    requires holds { (p : Known) × (seat.old.me.0.live ≡ true) × (seat.old.me.0.holds ≡ Some cog) × (known seat.old.me.0.passes cog ≡ Some p) }
+    requires holds { CanTell B.named count seat.old.me }
     ensures own { (seat.new.table_id ≡ seat.old.table_id) × (seat.new.id ≡ seat.old.id) }
-    ensures noted { seat.new.me ≡ (noting seat.old.me.0 cog (Said cog next), seat.old.me.1) }
+    ensures caught { Caught B.named (move 1 1 count 0 none) seat.old.me 0 seat.new.me }
 {
-    note_saying::<Brand>(board, seat, cog, next);
+    let _ = (cog, outcome);
+    board.store::<CatchesUp<B>>(seat, 1, count);
 }
 
-fn note_turn<B: Told>(board: &Board, seat: &mut Place, turn: &Turn)
+/// The same after one try of a cog: it has gone on by what came of that, and by nothing else.
+pub fn tell(board: &Board, seat: &mut Place, cog: u8, outcome: Outcome, count: u64)
     requires own { seat.old.table_id ≡ board.now.table_id }
     requires shape { (board.now.table_id.words ≡ 72) × (board.now.table_id.slots ≡ 1) }
-    requires holds { (p : Known) × (seat.old.me.0.live ≡ true) × (seat.old.me.0.holds ≡ Some turn.now.key.cog) × (known seat.old.me.0.passes turn.now.key.cog ≡ Some p) × (length (turns p.seen) + 1 < 2 ^ 64) }
-    requires told { B.step ≡ Took turn.now }
+    requires holds { CanTell (Some (worked_in seat.old.me cog outcome)) count seat.old.me }
     ensures own { (seat.new.table_id ≡ seat.old.table_id) × (seat.new.id ≡ seat.old.id) }
-    ensures noted { Noted B.step (move 1 1 1 0 none) seat.old.me 0 seat.new.me }
+    ensures caught { Caught (Some (worked_in seat.old.me cog outcome)) (move 1 1 count 0 none) seat.old.me 0 seat.new.me }
 {
-    let _ = turn;
-    board.fetch_add::<Notes<B>>(seat, 1, 1);
-}
-
-/// The holder adds a turn of its cog to the record, and to the count of turns.
-pub fn take_turn(board: &Board, seat: &mut Place, turn: &Turn)
-    requires own { seat.old.table_id ≡ board.now.table_id }
-    requires shape { (board.now.table_id.words ≡ 72) × (board.now.table_id.slots ≡ 1) }
-    requires holds { (p : Known) × (seat.old.me.0.live ≡ true) × (seat.old.me.0.holds ≡ Some turn.now.key.cog) × (known seat.old.me.0.passes turn.now.key.cog ≡ Some p) × (length (turns p.seen) + 1 < 2 ^ 64) }
-    ensures own { (seat.new.table_id ≡ seat.old.table_id) × (seat.new.id ≡ seat.old.id) }
-    ensures noted { seat.new.me ≡ (noting seat.old.me.0 turn.now.key.cog (Took turn.now), seat.old.me.1) }
-{
-    note_turn::<Brand>(board, seat, turn);
+    tell_as::<Brand>(board, seat, cog, outcome, count);
 }
 
 fn part_named<B: Named>(board: &Board, seat: &mut Place, cog: u8) -> Place

@@ -11,8 +11,8 @@ invariant_of-places c =
     let at = read-at before c.args.cog c.index_mut.result.now c.index_mut.result.now c.places.invariant c.requires.near c.index_mut.ensures.value in
     elim c.match-index_mut.branch [
       | in-Some w ↦
-          in-place-tried before _ c.args.cog w.in-Some.pass w.try_quietly-answer.new.pass c.places.invariant (at ∙ ap Some w.in-Some.is)
-          w.try_quietly-answer.ensures.cog (ap (λ (x : Inside). x.places.items) w.places-inside-is)
+          in-place-tried before _ c.args.cog w.in-Some.pass w.turn_on-answer.new.pass c.places.invariant (at ∙ ap Some w.in-Some.is)
+          w.turn_on-answer.ensures.cog (ap (λ (x : Inside). x.places.items) w.places-inside-is)
       | in-None w ↦ in-place-same before _ c.args.cog c.index_mut.result.now c.places.invariant at (ap (λ (x : Inside). x.places.items) w.places-inside-is)
     ]
 
@@ -23,7 +23,7 @@ returns-clause-owned c =
     let owned = subst (AreOwned c.args.desk.now) (sym c.places.view_is) c.requires.owned in
     elim c.match-index_mut.branch [
       | in-Some w ↦
-          owned-put c.args.desk.now before _ c.args.cog w.try_quietly-answer.new.pass w.try_quietly-answer.ensures.owns
+          owned-put c.args.desk.now before _ c.args.cog w.turn_on-answer.new.pass w.turn_on-answer.ensures.owns
           (ap (λ (x : Inside). x.places.items) w.places-inside-is) owned
       | in-None w ↦ owned-same c.args.desk.now before _ c.args.cog c.index_mut.result.now owned at (ap (λ (x : Inside). x.places.items) w.places-inside-is)
     ]

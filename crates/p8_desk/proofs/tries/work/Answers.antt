@@ -1,8 +1,8 @@
 use Rattle.p8_desk.specs.Work.{Granted, said_by}
 use Rattle.p8_desk.proofs.tries.work.Goals as goal
 
-pub settle-answer-requires-clause-granted : goal.settle-answer-requires-clause-granted
-settle-answer-requires-clause-granted c =
+pub settle-went-requires-clause-granted : goal.settle-went-requires-clause-granted
+settle-went-requires-clause-granted c =
     let h = c.requires.stands in
     let k = c.speak-said.ensures h.0 h.1 h.3 h.4 in
     let s = said_by c.args.cog c.speak-said.result h.1 in (
@@ -17,9 +17,5 @@ returns c = λ w r script stands rides.
     let k = c.speak-said.ensures w r stands rides in
     let s = said_by c.args.cog c.speak-said.result r in
     let granted : Granted w c.args.cog s c.take-taken.result c.take-taken.new.self = (c.take-taken.ensures.found w s script k.stands, c.take-taken.ensures.decides w s script k.stands, (c.speak-said.new.ledger, k.stands)) in
-    let settled = c.settle-answer.ensures w s granted k.rides in record {
-      speaks = k.speaks;
-      truthful = k.stands.truth;
-      settled = settled;
-      count = c.count-count.ensures w _ settled.stands;
-    }
+    let settled = c.settle-went.ensures w s granted k.rides in
+    (settled.0, settled.1, record { speaks = k.speaks; truthful = k.stands.truth; settled = settled.2 })
