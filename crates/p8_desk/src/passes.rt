@@ -1,9 +1,7 @@
 // The passes of a desk.
-ghost use Rattle.std.specs.Prelude.{◌≡◌, ◌<◌, ◌↔◌, Some, None, slice_get, slice_set, IsTrue, IfErr, OnOk, IfOk, IfSome, IsOk, replicate};
+ghost use Rattle.std.specs.Prelude.{◌≡◌, ◌<◌, ◌↔◌, Some, None, slice_get, slice_set, IsTrue, IfErr, OnOk, IfSome, IsOk};
 
 use crate::pass::CogPass;
-use p8_words::NoMemory;
-use std::alloc::Global;
 use std::marker::Model;
 
 /// Eight places, each with the pass of its cog or none.
@@ -33,17 +31,6 @@ impl Passes {
         ensures { IsTrue result ↔ IsOut cog self.now }
     {
         self.places[cog as usize].is_none()
-    }
-
-    /// Eight empty places.
-    pub(crate) fn empty(alloc: Global) -> Result<Passes, NoMemory>
-        ensures { IfOk result (λ passes. passes ≡ replicate 8 None) }
-    {
-        let none = [None, None, None, None, None, None, None, None];
-        let Ok(places) = Vec::from_array(alloc, none) else {
-            return Err(NoMemory);
-        };
-        Ok(Passes { places })
     }
 
     /// Takes the pass of a cog: None exactly where it is out.

@@ -44,21 +44,11 @@ pub type Place = Seat<Option<Ledger>, View>;
 /// The table with its memory.
 pub type Tabletop = Table<Option<Ledger>, View, Start, DeskRule, Global>;
 
-/// The record that the passes of a seat come to see, where a proof names it.
+/// The record that a proof speaks of.
 pub trait Told {
-    ghost use Rattle.std.specs.Prelude.{Option};
     ghost use Rattle.p8_ledger.specs.Records.{Record};
 
-    ghost named: { Option Record };
-}
-
-/// It isn't named: the ledger stands for it, and no more is told.
-pub struct Unnamed;
-
-impl Told for Unnamed {
-    ghost use Rattle.std.specs.Prelude.{None};
-
-    ghost named = { None };
+    ghost record_told: { Record };
 }
 
 /// An exchange on the lock word.
@@ -79,15 +69,15 @@ impl Play<Option<Ledger>, View> for Releases {
     ghost then = { Released };
 }
 
-/// The holder's passes see the record for which the ledger in its slot stands, which has gone on by steps of their cogs.
-pub struct CatchesUp<B> {
+/// The passes of the holder see a record that has gone on by steps of its cog.
+pub struct Tells<B> {
     told: PhantomData<B>,
 }
 
-impl<B: Told> Play<Option<Ledger>, View> for CatchesUp<B> {
-    ghost use Rattle.p8_desk.specs.Rules.{Caught};
+impl<B: Told> Play<Option<Ledger>, View> for Tells<B> {
+    ghost use Rattle.p8_desk.specs.Rules.{Seen};
 
-    ghost then = { Caught B.named };
+    ghost then = { Seen B.record_told };
 }
 
 /// A bell has changed, which tells nothing.
@@ -97,15 +87,6 @@ impl Play<Option<Ledger>, View> for Rings {
     ghost use Rattle.p8_desk.specs.Rules.{Rung};
 
     ghost then = { Rung };
-}
-
-/// A seat without a pass, to which nothing is told.
-pub struct Visits;
-
-impl Play<Option<Ledger>, View> for Visits {
-    ghost use Rattle.p8_desk.specs.Rules.{Visited};
-
-    ghost then = { Visited };
 }
 
 /// The cog whose pass a proof speaks of.
