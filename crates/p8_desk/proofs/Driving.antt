@@ -1,166 +1,151 @@
--- The cogs, driven one after another with the ledger in hand.
-use Rattle.std.proofs.Common.{◌≡◌, ◌≢◌, ◌∙◌, ap, sym, subst, refl, ℕ, zero, suc, ◌+◌, ◌-◌, ◌*◌, ◌<◌, ◌||◌, List, [], ◌∷◌, ◌++◌, length, Bool, true, false, Option, Some, arith}
+-- One try of a cog by a seat that has all passes.
+use Rattle.std.proofs.Common.{◌≡◌, ◌≢◌, ◌∙◌, ap, sym, subst, refl, ℕ, suc, ◌<◌, ◌||◌, List, [], ◌∷◌, ◌++◌, length, Bool, true, false, Option, Some, arith}
 use Rattle.std.specs.Prelude.{slice_get, slice_set, slice_index_or}
-use Rattle.std.proofs.lemmas.List.{length-reverse}
 use mathlib.Core.Logic.{dite}
 use native.Mathlib.Decide.{ℕ_discrete}
-use Rattle.p8_access.specs.declared.order.Turn.{Turn}
-use Rattle.p8_access.specs.declared.lives.Next.{Next}
 use Rattle.p8_access.specs.Worlds.{World}
-use Rattle.p8_access.specs.Histories.{Ended, Legal}
-use Rattle.p8_cog.specs.Lives.{asks}
-use Rattle.p8_ledger.specs.declared.ledger.Ledger.{Ledger}
-use Rattle.p8_ledger.specs.Ledgers.{Found}
-use Rattle.p8_ledger.specs.Records.{Record, turns, mine, said, cog_of}
+use Rattle.p8_ledger.specs.Records.{Record, turns, mine, cog_of}
 use Rattle.p8_desk.specs.declared.rider.Rider.{Rider}
-use Rattle.p8_desk.specs.declared.tries.Outcome.{Outcome}
+use Rattle.p8_desk.specs.declared.rule.Known.{Known}
 use Rattle.p8_desk.specs.declared.turned.Turned.{Turned}
 use Rattle.p8_desk.specs.declared.turned.Turned.TheVariants.{Done, Held, After, Ahead, Over}
-use Rattle.p8_desk.specs.Driving.{open_in, open_at, open_among, rest_of, rest_in, names_none, left_in, next_cog}
-use Rattle.p8_desk.specs.Gathering.{AllCarry, Rode}
-use Rattle.p8_desk.specs.Rules.{On, AreOf}
-use Rattle.p8_desk.specs.Seats.{Carries, is_over}
+use Rattle.p8_desk.specs.Driving.{left_to_do, next_cog}
+use Rattle.p8_desk.specs.Gathering.{RidesIn, Riding, HasRode}
+use Rattle.p8_desk.specs.Rules.{Hand, known, of_same_cog, with_seen, seizing, releasing, seen_as, seeing}
+use Rattle.p8_desk.specs.Seats.{Keeps, Rode, TookDesk, pass_in, or_new}
 use Rattle.p8_desk.specs.Tries.{Answers, seen_by}
-use Rattle.p8_desk.specs.Work.{Worked, said_by, worked_by}
-use Rattle.p8_desk.proofs.Lookups.{test-apart, some-same, none-some}
-use Rattle.p8_desk.proofs.Remaining.{tries-fall}
-use Rattle.p8_desk.proofs.Riding.{rides-on}
-use Rattle.p8_desk.proofs.Carrying.{ended-same, named-by, on-none, on-worked}
+use Rattle.p8_desk.specs.Work.{Carries, is_over}
+use Rattle.p8_desk.proofs.Carrying.{carries-found, carries-beside, gone-on, named-near, others-spoken}
 use Rattle.p8_desk.proofs.Gathering.{set-beside, set-there, at-below, index-of, rider-same}
-
--- steps of one cog are none of another's
-mine-beside : (n m : ℕ) (more r : Record) → m ≢ n → AreOf (λ k. k ≡ n) more → mine m (more ++ r) ≡ mine m r
-mine-beside n m [] r ne of_it = refl
-mine-beside n m (step ∷ more) r ne of_it = rw (test-apart (cog_of step) m (λ e. ne (sym e ∙ of_it.0))) (mine-beside n m more r ne of_it.1)
-
--- what the others carry stays right
-carries-beside : (w : World) (n : ℕ) (r s : Record) (rider : Rider) → rider.cog ≢ n → On (λ m. m ≡ n) r s → Legal asks w (turns s) → Carries w r rider → Carries w s rider
-carries-beside w n r s rider ne on legal c =
-    let same : mine rider.cog s ≡ mine rider.cog r = ap (mine rider.cog) (sym on.1) ∙ mine-beside n rider.cog on.0 r ne on.2 in record {
-      rides = rides-on w rider.cog rider.runner r s (on.0, on.1) same c.rides;
-      made = c.made ∙ ap (λ (l : Record). length (turns l)) (sym same);
-      few = c.few;
-      ended = λ o. (
-          let end = c.ended o in
-          let done : turns s ≡ turns r = ap turns (sym on.1) ∙ ended-same w on.0 r (subst (λ (l : Record). Legal asks w (turns l)) (sym on.1) legal) end in
-          subst (λ (l : List Turn). Ended asks w l) (sym done) end
-          );
-    }
+use Rattle.p8_desk.proofs.Lookups.{some-same, none-some, known-changed, known-beside, known-cog, known-all-seen, known-seen}
+use Rattle.p8_desk.proofs.Remaining.{tries-fall}
 
 or-right : (a b : Bool) → b ≡ true → (a || b) ≡ true
 or-right true b e = refl
 or-right false b e = e
 
--- one try, by the rider that is read at a cog's place
-module _ (w : World) (n : ℕ) (r : Record) (riders : List (Option Rider)) (near : n < 8) (all : AllCarry w r riders) (rider : Rider) (d : Option Rider) (read : slice_index_or riders n d ≡ Some rider) where
-  at : slice_get riders n ≡ Some (Some rider)
-  at = (all n near).there ∙ ap Some (sym (index-of riders n (Some (all n near).rider) d (all n near).there) ∙ read)
+-- the rider that is read at a cog's place
+module _ (w : World) (n : ℕ) (near : n < 8) (me : Hand) (riders : List (Option Rider)) (riding : Riding w me riders) (rider : Rider) (d : Option Rider) (read : slice_index_or riders n d ≡ Some rider) where
+  one : RidesIn w me riders n
+  one = riding.each n near
 
-  same : (all n near).rider ≡ rider
-  same = rider-same _ _ (sym (all n near).there ∙ at)
+  at : slice_get riders n ≡ Some (Some rider)
+  at = one.there ∙ ap Some (sym (index-of riders n (Some one.rider) d one.there) ∙ read)
+
+  same : one.rider ≡ rider
+  same = rider-same _ _ (sym one.there ∙ at)
 
   pub its-cog : rider.cog ≡ n
-  its-cog = ap (λ (x : Rider). x.cog) (sym same) ∙ (all n near).cog
+  its-cog = ap (λ (r : Rider). r.cog) (sym same) ∙ one.cog
 
-  pub carried : Carries w r rider
-  carried = subst (Carries w r) same (all n near).carries
+  pub its-pass : (p : Known) × (known me.0.passes rider.cog ≡ Some p) × Keeps w p rider
+  its-pass = (one.p, ap (known me.0.passes) its-cog ∙ one.has, subst (Keeps w one.p) same one.keeps)
 
-  pub over-there : (new : Rider) (answer : Turned) → new.over ≡ (rider.over || is_over answer) → is_over answer ≡ true → (x : Rider) × (slice_get (slice_set riders n (Some new)) n ≡ Some (Some x)) × (x.over ≡ true)
-  over-there new answer over e = (new, set-there riders n (Some new) (at-below riders n (Some rider) at), over ∙ or-right rider.over (is_over answer) e)
+  module _ (after : Hand) (new : Rider) (count : ℕ) (answer : Turned) (cog : new.cog ≡ rider.cog) (over : new.over ≡ (rider.over || is_over answer)) where
+    abbrev riders_after : List (Option Rider)
+    riders_after = slice_set riders n (Some new)
 
-  module _ (next : Next) (outcome : Outcome) (ledger : Ledger) (new : Rider) (cog : new.cog ≡ rider.cog) (worked : Worked w rider.cog next r outcome ledger new.runner) (carries : Carries w (worked_by rider.cog outcome r) new) where
-    done : Worked w n next r outcome ledger new.runner
-    done = subst (λ (m : ℕ). Worked w m next r outcome ledger new.runner) its-cog worked
+    there : slice_get riders_after n ≡ Some (Some new)
+    there = set-there riders n (Some new) (at-below riders n (Some rider) at)
 
-    own-steps : On (λ m. m ≡ n) r (worked_by n outcome r)
-    own-steps = on-worked (λ m. m ≡ n) w n refl next r r outcome ledger new.runner done (on-none (λ m. m ≡ n) r)
+    -- each pass has seen the whole record then, and each life is right after it
+    all-ride : (t : TookDesk w n me after new count answer) → (m : ℕ) → m < 8 → RidesIn w after riders_after m
+    all-ride t m lt = dite (ℕ_discrete m n)
+        (λ (here : m ≡ n). subst (RidesIn w after riders_after) (sym here) (ends n new (of_same_cog one.p (with_seen t.r one.p)) (known-changed n (with_seen t.r) me.0.passes one.p one.has) there (cog ∙ its-cog) t.carries))
+        (λ (ne : m ≢ n).
+        let other = riding.each m lt in
+        let found = carries-found w m t.r other.p other.rider other.cog (t.agrees m other.p other.has) t.found.legal other.keeps in
+        ends m other.rider other.p (known-beside n (with_seen t.r) me.0.passes m ne ∙ other.has) (set-beside riders n m (Some new) ne ∙ other.there) other.cog
+        (carries-beside w n t.r s other.rider (λ e. ne (sym other.cog ∙ e)) (gone-on w n t.next t.r t.s answer t.speaks t.answers) t.stands.legal found))
+      where
+        s : Record
+        s = seen_by answer t.s
 
-    pub rode-as : Rode w n r ledger (slice_set riders n (Some new)) outcome.answer
-    rode-as = record {
-      next = next;
-      s = said_by n outcome.said r;
-      speaks = done.speaks;
-      answers = done.settled.answers;
-      on = λ early on. on-worked (λ m. m < 8) w n near next early r outcome ledger new.runner done on;
-      stands = done.settled.stands;
-      carry = λ m lt. dite (ℕ_discrete m n)
-          (λ (here : m ≡ n). record {
-            rider = new;
-            there = ap (slice_get (slice_set riders n (Some new))) here ∙ set-there riders n (Some new) (at-below riders n (Some rider) at);
-            cog = cog ∙ its-cog ∙ sym here;
-            carries = subst (λ (k : ℕ). Carries w (worked_by k outcome r) new) its-cog carries;
-          })
-          (λ (ne : m ≢ n). (let one = all m lt in record {
-            rider = one.rider;
-            there = set-beside riders n m (Some new) ne ∙ one.there;
-            cog = one.cog;
-            carries = carries-beside w n r _ one.rider (λ e. ne (sym one.cog ∙ e)) own-steps done.settled.stands.legal one.carries;
-          }));
+        ends : (m : ℕ) (its : Rider) (p : Known) → known (seizing me.0 n t.r).passes m ≡ Some p → slice_get riders_after m ≡ Some (Some its) → its.cog ≡ m → Carries w s its → RidesIn w after riders_after m
+        ends m its p has at_m own carries = subst (λ (a : Hand). RidesIn w a riders_after m) (sym t.hand) (record {
+          p = seen_as s p;
+          rider = its;
+          has = known-all-seen s _ m p has;
+          there = at_m;
+          cog = own;
+          keeps = record { own = ap (λ (k : ℕ). mine k s) (known-cog _ m p has ∙ sym own); carries = carries };
+        })
+
+    took-all : TookDesk w n me after new count answer → HasRode w n me after riders_after count answer
+    took-all t = record {
+      riding = record {
+        idle = record { live = ap (λ (a : Hand). a.0.live) t.hand ∙ riding.idle.live; free = ap (λ (a : Hand). a.0.holds) t.hand; empty = ap (λ (a : Hand). a.1) t.hand; world = ap (λ (a : Hand). Rattle.p8_desk.specs.Rules.world_in a.0.start) t.hand ∙ riding.idle.world };
+        each = all-ride t;
+      };
+      rider = new;
+      there = there;
+      took = t;
+      over = λ e. over ∙ or-right rider.over (is_over answer) e;
     }
 
--- cogs have gone on with a record, and the last try was answered so
-pub record Driven (w : World) (n : ℕ) (r : Record) (ledger : Ledger) (riders : List (Option Rider)) (answer : Turned) : Type 0 where
-  pub before : Record
-  pub answers : Answers w before n answer
-  pub on : On (λ m. m < 8) r (seen_by answer before)
-  pub stands : Found w ledger (seen_by answer before)
-  pub carry : AllCarry w (seen_by answer before) riders
+  pub rode-all : (after : Hand) (new : Rider) (k count : ℕ) (answer : Turned) → new.cog ≡ rider.cog → new.over ≡ (rider.over || is_over answer) → ((p : Known) → known me.0.passes rider.cog ≡ Some p → Keeps w p rider → Rode w rider.cog p me after new k count answer)
+      → HasRode w n me after (slice_set riders n (Some new)) count answer
+  rode-all after new k count answer cog over rode = by-answer answer over (subst (λ (m : ℕ). Rode w m its-pass.0 me after new k count answer) its-cog (rode its-pass.0 its-pass.1 its-pass.2))
+    where
+      by-answer : (a : Turned) → new.over ≡ (rider.over || is_over a) → Rode w n its-pass.0 me after new k count a → HasRode w n me after (slice_set riders n (Some new)) count a
+      by-answer (Held by) over t = (let x = riding.each by t.0.near in absurd (t.0.elsewhere x.p x.has))
+      by-answer (Done turn) over t = took-all after new count (Done turn) cog over t
+      by-answer (After other bound) over t = took-all after new count (After other bound) cog over t
+      by-answer (Ahead bound) over t = took-all after new count (Ahead bound) cog over t
+      by-answer Over over t = took-all after new count Over cog over t
 
-pub driven-first : (w : World) (n : ℕ) (r : Record) (ledger : Ledger) (riders : List (Option Rider)) (answer : Turned) → Rode w n r ledger riders answer → Driven w n r ledger riders answer
-driven-first w n r ledger riders answer rode = record {
-  before = rode.s;
-  answers = rode.answers;
-  on = rode.on r (on-none (λ m. m < 8) r);
-  stands = rode.stands;
-  carry = rode.carry;
-}
+-- all have seen the record then
+module _ (w : World) (n : ℕ) (before me : Hand) (riders : List (Option Rider)) (count : ℕ) (answer : Turned) (rode : HasRode w n before me riders count answer) where
+  pub seen-by-all : (m : ℕ) (q : Known) → known me.0.passes m ≡ Some q → q.seen ≡ seen_by answer rode.took.s
+  seen-by-all m q e =
+      let x = known-seen (seen_by answer rode.took.s) _ m q (ap (λ (a : Hand). known a.0.passes m) (sym rode.took.hand) ∙ e) in
+      ap (λ (p : Known). p.seen) (sym x.2)
 
-next-of : (w : World) (s : Record) (ledger : Ledger) (m n : ℕ) (answer : Turned) → m < 8 → Found w ledger (seen_by answer s) → Answers w s m answer → next_cog m answer ≡ Some n → n < 8
-next-of w s ledger m n (After other bound) near found a names = subst (λ (k : ℕ). k < 8) (some-same _ _ names) (named-by w m s ledger (After other bound) other bound refl a found)
-next-of w s ledger m n (Done turn) near found a names = subst (λ (k : ℕ). k < 8) (some-same _ _ names) near
-next-of w s ledger m n (Ahead bound) near found a names = subst (λ (k : ℕ). k < 8) (some-same _ _ names) near
-next-of w s ledger m n (Held by) near found a names = absurd a
-next-of w s ledger m n Over near found a names = absurd (none-some n names)
+  pub counted-by-all : (m : ℕ) (q : Known) → known me.0.passes m ≡ Some q → count ≡ length (turns q.seen)
+  counted-by-all m q e = rode.took.counted ∙ ap (λ (r : Record). length (turns r)) (sym (seen-by-all m q e))
 
--- what is left, by the ledger
-open-same : (limit k : ℕ) (sayings : List Next) (r : Record) → ((n : ℕ) → n < k → slice_get sayings n ≡ Some (said n r)) → open_among limit k sayings ≡ open_in limit k r
-open-same limit zero sayings r same = refl
-open-same limit (suc k) sayings r same =
-    let before = open-same limit k sayings r (λ n lt. same n (omega arith)) in
-    let own = ap (open_at limit) (same k (omega arith)) in
-    λ i. before i + own i
+  pub next-near : (next : ℕ) → n < 8 → next_cog n answer ≡ Some next → next < 8
+  next-near next near names = by-answer answer rode.took.answers names
+    where
+      by-answer : (a : Turned) → Answers w rode.took.s n a → next_cog n a ≡ Some next → next < 8
+      by-answer (After other bound) x e = subst (λ (k : ℕ). k < 8) (some-same _ _ e) (named-near w n rode.took.s other bound x (others-spoken w n rode.took.next rode.took.r rode.took.s rode.took.before rode.took.speaks rode.took.found))
+      by-answer (Done turn) x e = subst (λ (k : ℕ). k < 8) (some-same _ _ e) near
+      by-answer (Ahead bound) x e = subst (λ (k : ℕ). k < 8) (some-same _ _ e) near
+      by-answer (Held by) x e = absurd x
+      by-answer Over x e = absurd (none-some next e)
 
-rest-same : (w : World) (ledger : Ledger) (r : Record) → Found w ledger r → rest_in ledger ≡ rest_of w r
-rest-same w ledger r found =
-    let clocks : ledger.limits.clocks ≡ w.clocks = ap (λ (x : World). x.clocks) found.world in
-    let room : ledger.limits.turns ≡ w.turns = ap (λ (x : World). x.turns) found.world in
-    let made : length ledger.turns.list ≡ length (turns r) = sym (length-reverse ledger.turns.list) ∙ ap length found.log in
-    let unsaid : open_among ledger.limits.clocks 8 ledger.sayings ≡ open_in w.clocks 8 r =
-    ap (λ (limit : ℕ). open_among limit 8 ledger.sayings) clocks ∙ open-same w.clocks 8 ledger.sayings r found.sayings in
-    λ i. (room i - made i) * (clocks i + 2) + unsaid i
+  seen-there : (m : ℕ) → m < 8 → (pass_in me m).seen ≡ seen_by answer rode.took.s
+  seen-there m lt = (let one = rode.riding.each m lt in ap (λ (o : Option Known). (or_new m o).seen) one.has ∙ seen-by-all m one.p one.has)
 
--- the next try
-module _ (w : World) (m n : ℕ) (r : Record) (old : Ledger) (riders : List (Option Rider)) (last : Turned) (d : Driven w m r old riders last) (names : next_cog m last ≡ Some n) where
-  pub next-near : m < 8 → n < 8
-  next-near near = next-of w d.before old m n last near d.stands d.answers names
+  -- the next try finds that record
+  found-whole : (k : ℕ) (after : Hand) (later : List (Option Rider)) (c : ℕ) (a : Turned) (next : HasRode w k me after later c a) → next.took.r ≡ seen_by answer rode.took.s
+  found-whole k after later c a next = by-record next.took.r refl
+    where
+      by-record : (r : Record) → next.took.r ≡ r → next.took.r ≡ seen_by answer rode.took.s
+      by-record [] is =
+          let one = rode.riding.each 0 (omega arith) in
+          let began = (next.took.agrees 0 one.p one.has).seen in
+          is ∙ nothing-before began.0 one.p.seen (began.1 ∙ is) ∙ seen-by-all 0 one.p one.has
+        where
+          nothing-before : (more early : Record) → more ++ early ≡ [] → [] ≡ early
+          nothing-before [] early e = sym e
+          nothing-before (x ∷ more) early e = absurd (let long : suc (length (more ++ early)) ≡ 0 = ap length e in omega arith)
+      by-record (step ∷ r) is =
+          let near : cog_of step < 8 = subst Rattle.p8_desk.specs.Rules.IsOfCogs is next.took.newest in
+          let one = rode.riding.each (cog_of step) near in
+          sym ((next.took.agrees (cog_of step) one.p one.has).newest (subst (Rattle.p8_desk.specs.Rules.IsNewestOf (cog_of step)) (sym is) refl)) ∙ seen-by-all (cog_of step) one.p one.has
 
-  module _ (ledger : Ledger) (next_riders : List (Option Rider)) (answer : Turned) (near : n < 8) (rode : Rode w n (seen_by last d.before) ledger next_riders answer) where
-    pub driven-on : Driven w n r ledger next_riders answer
-    driven-on = record {
-      before = rode.s;
-      answers = rode.answers;
-      on = rode.on r d.on;
-      stands = rode.stands;
-      carry = rode.carry;
-    }
+  -- and leaves less to do
+  pub falls : (k : ℕ) (after : Hand) (later : List (Option Rider)) (c : ℕ) (a : Turned) → n < 8 → k < 8 → next_cog n answer ≡ Some k → (next : HasRode w k me after later c a) → ((pass_in after k).seen ≡ seen_by a next.took.s)
+      → left_to_do w (pass_in after k).seen a < left_to_do w (pass_in me n).seen answer
+  falls k after later c a near near_k names next now =
+      let t = next.took in
+      let whole = found-whole k after later c a next in
+      let less = tries-fall w n k answer rode.took.s t.next t.r t.s a near_k rode.took.answers names whole t.speaks t.answers in
+      subst (λ (y : Record × Record). left_to_do w y.0 a < left_to_do w y.1 answer) (λ i. (sym now i, (whole ∙ sym (seen-there n near)) i)) less
 
-    -- it leaves less to do
-    pub falls : left_in ledger answer < left_in old last
-    falls =
-        let less = tries-fall w m n last d.before rode.next (seen_by last d.before) rode.s answer near d.answers names refl rode.speaks rode.answers in
-        let now = rest-same w ledger (seen_by answer rode.s) rode.stands in
-        let was = rest-same w old (seen_by last d.before) d.stands in
-        subst (λ (y : ℕ × ℕ). 2 * y.0 + names_none answer < 2 * y.1 + names_none last) (λ i. (sym now i, sym was i)) less
+pub seen-here : (w : World) (n : ℕ) (before me : Hand) (riders : List (Option Rider)) (count : ℕ) (answer : Turned) (rode : HasRode w n before me riders count answer) → n < 8 → (pass_in me n).seen ≡ seen_by answer rode.took.s
+seen-here w n before me riders count answer rode near = seen-there w n before me riders count answer rode n near
 
 -- no cog is to try next where the history has ended
 pub ended-by : (n : ℕ) (answer : Turned) → ((next : ℕ) → next_cog n answer ≡ Some next → ⊥) → is_over answer ≡ true

@@ -1,5 +1,5 @@
 -- All passes in one seat, and the end.
-use Rattle.std.proofs.Common.{◌≡◌, ◌≢◌, ◌∙◌, ap, sym, subst, refl, ℕ, zero, suc, ◌+◌, ◌<◌, List, [], ◌∷◌, length, Option, Some, arith}
+use Rattle.std.proofs.Common.{◌≡◌, ◌≢◌, ◌∙◌, ap, sym, subst, refl, ℕ, zero, suc, ◌+◌, ◌<◌, List, [], ◌∷◌, length, Option, Some, None, arith}
 use Rattle.std.specs.Prelude.{slice_get, slice_set, slice_index_or}
 use mathlib.Core.Option.{none}
 use mathlib.Core.Logic.{dite}
@@ -17,11 +17,10 @@ use Rattle.p8_desk.specs.declared.rider.Rider.{Rider}
 use Rattle.p8_desk.specs.Gathering.{PartsOf, RidesIn, Gathered, Riding}
 use Rattle.p8_desk.specs.PassSets.{AllThere, HasOver}
 use Rattle.p8_desk.specs.Passes.{DeskValue, PassValue, PassSteps, Owns}
-use Rattle.p8_desk.specs.Rules.{Hand, known, joined, Seized}
+use Rattle.p8_desk.specs.Rules.{Slot, Hand, known, joined, Seized}
 use Rattle.p8_desk.specs.Seats.{Keeps, pass_in, steps_of}
 use Rattle.p8_desk.proofs.Lookups.{some-same, known-left, known-right}
 use Rattle.p8_desk.proofs.Carrying.{ended-same}
-use Rattle.p8_desk.proofs.Telling.{one_slot, first_slot}
 
 pub set-beside : {A : Type 0} (l : List A) (k n : ℕ) (x : A) → n ≢ k → slice_get (slice_set l k x) n ≡ slice_get l n
 set-beside [] k n x ne = refl
@@ -34,6 +33,10 @@ pub set-there : {A : Type 0} (l : List A) (k : ℕ) (x : A) → k < length l →
 set-there [] k x lt = absurd (omega arith)
 set-there (y ∷ l) zero x lt = refl
 set-there (y ∷ l) (suc k) x lt = set-there l k x (omega arith)
+
+abbrev pub first_slot : List (ℕ × Slot) → Slot
+first_slot [] = None
+first_slot (x ∷ xs) = x.1
 
 pub some-some : (a b : PassValue) → Some (Some a) ≡ Some (Some b) → a ≡ b
 some-some a b e = cc
@@ -67,9 +70,9 @@ module _ (desk : DeskValue) (places : List (Option PassValue)) (k : ℕ) (pass :
 
   pub gather-first : (riders : List (Option Rider)) → k < length riders → k ≡ 0 → Gathered desk.world places (slice_set riders k (Some rider)) 1 other
   gather-first riders room first = record {
-    idle = record { live = parts.seated.seat.live; free = parts.seated.seat.free; empty = parts.seated.seat.empty; world = own-world };
-    each = λ n one lt e. one-more riders other room (ap (known other.0.passes) (sym own-cog) ∙ parts.seated.seat.has) n one (omega arith) e;
-    none_from = λ n le. parts.seated.seat.alone n (λ e. (let here : n ≡ k = e ∙ own-cog in omega arith));
+    idle = record { live = parts.seated.idle.live; free = parts.seated.idle.free; empty = parts.seated.idle.empty; world = own-world };
+    each = λ n one lt e. one-more riders other room (ap (known other.0.passes) (sym own-cog) ∙ parts.seated.has) n one (omega arith) e;
+    none_from = λ n le. parts.seated.alone n (λ e. (let here : n ≡ k = e ∙ own-cog in omega arith));
   }
 
   pub gather-more : (riders : List (Option Rider)) (me : Hand) → k < length riders → Gathered desk.world places riders k me → Gathered desk.world places (slice_set riders k (Some rider)) (k + 1) (joined me.0 other.0, me.1)
@@ -77,7 +80,7 @@ module _ (desk : DeskValue) (places : List (Option PassValue)) (k : ℕ) (pass :
     idle = record { live = g.idle.live; free = refl; empty = g.idle.empty; world = g.idle.world };
     each = λ n one lt e. dite (ℕ_discrete n k)
         (λ (here : n ≡ k). one-more riders (joined me.0 other.0, me.1) room
-        (known-right me.0.passes other.0.passes k (g.none_from k (omega arith)) ∙ ap (known other.0.passes) (sym own-cog) ∙ parts.seated.seat.has) n one here e)
+        (known-right me.0.passes other.0.passes k (g.none_from k (omega arith)) ∙ ap (known other.0.passes) (sym own-cog) ∙ parts.seated.has) n one here e)
         (λ (apart : n ≢ k).
         let r = g.each n one (omega arith) e in
         let had = r.0 in (
@@ -92,7 +95,7 @@ module _ (desk : DeskValue) (places : List (Option PassValue)) (k : ℕ) (pass :
           r.1,
           r.2,
         ));
-    none_from = λ n le. known-right me.0.passes other.0.passes n (g.none_from n (omega arith)) ∙ parts.seated.seat.alone n (λ e. (let here : n ≡ k = e ∙ own-cog in omega arith));
+    none_from = λ n le. known-right me.0.passes other.0.passes n (g.none_from n (omega arith)) ∙ parts.seated.alone n (λ e. (let here : n ≡ k = e ∙ own-cog in omega arith));
   }
 
 -- a seat with all passes
@@ -119,7 +122,7 @@ at-below [] n x e = absurd (cc)
 at-below (y ∷ l) zero x e = omega arith
 at-below (y ∷ l) (suc n) x e = let lt = at-below l n x e in omega arith
 
-pub ending : (desk : DeskValue) (places : List (Option PassValue)) (riders : List (Option Rider)) (me after : Hand) (ledger : Ledger) → length places ≡ 8 → Gathered desk.world places riders 8 me → Seized (move 1 0 0 1 none) me 0 after → after.1 ≡ one_slot ledger → HasOver places → Ending desk.world places ledger
+pub ending : (desk : DeskValue) (places : List (Option PassValue)) (riders : List (Option Rider)) (me after : Hand) (ledger : Ledger) → length places ≡ 8 → Gathered desk.world places riders 8 me → Seized (move 1 0 0 1 none) me 0 after → after.1 ≡ (0, Some ledger) ∷ [] → HasOver places → Ending desk.world places ledger
 ending desk places riders me after ledger eight g h out over =
     let r = h.0 in
     let same : h.1 ≡ ledger = some-same _ _ (ap first_slot (ap (λ (a : Hand). a.1) (sym h.4) ∙ out)) in

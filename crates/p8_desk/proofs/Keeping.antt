@@ -14,7 +14,7 @@ use Rattle.p8_ledger.specs.Records.{Record, turns, mine, cog_of}
 use Rattle.p8_ledger.specs.Ledgers.{Found}
 use Rattle.p8_desk.specs.declared.rule.Known.{Known}
 use Rattle.p8_desk.specs.declared.rule.View.{View}
-use Rattle.p8_desk.specs.Rules.{Slot, Hand, world_in, known, change, HomeIs, HasPass, AreOf, On, seen_as, all_seen, IsNamed, catching, Caught, CanTell, CanFree, IsOfCogs, Agrees, PassFits, HoldFits, Fits, Kept, with_found, with_seen, seizing, losing, releasing, Seized, Released}
+use Rattle.p8_desk.specs.Rules.{Slot, Hand, world_in, known, change, HomeIs, AreOf, GoneOn, seen_as, all_seen, seeing, Seen, CanTell, CanFree, IsOfCogs, Agrees, PassFits, HoldFits, Fits, Kept, with_found, with_seen, seizing, losing, releasing, Seized, Released}
 use Rattle.p8_desk.proofs.Lookups.{some-same, none-some, known-after, known-changed, known-cog, known-all-seen, known-seen, test-apart}
 
 -- what a step owes, at the words, homes and views of a table
@@ -219,79 +219,69 @@ module _ (start : Start) (id : ℕ) (v : View) (n : ℕ) (live : v.live ≡ true
     hold = λ m e. absurd (no-other r owner lock by x apart locked here fits m e);
   }
 
-  -- its passes see a record that has gone on by steps of their cogs
-  module _ (named : Option Record) (r : Record) (on : On (HasPass v.passes) p.seen r) (is_named : IsNamed named r) where
-    owned : (old : Record) (owner : ℕ → ℕ) (lock : ℕ) → Fits start old owner lock id v → (more : Record) → AreOf (HasPass v.passes) more → AreOf (λ m. (owner m ≡ id) × (m < 8)) more
-    owned old owner lock fits [] has_all = tt
-    owned old owner lock fits (step ∷ more) has_all =
-        let one = has_all.0 in
-        let pass = fits.passes (cog_of step) one.0 one.1 in
-        ((pass.here, pass.cog), owned old owner lock fits more has_all.1)
+  -- its passes see a record that has gone on by steps of its cog
+  beside-all : (old : Record) (owner : ℕ → ℕ) (lock by : ℕ) (x : View) → by ≢ id → lock ≡ suc n → owner n ≡ id → (more : Record) → AreOf n more → Fits start old owner lock by x → Fits start (more ++ old) owner lock by x
+  beside-all old owner lock by x apart locked here [] own fits = fits
+  beside-all old owner lock by x apart locked here (step ∷ more) own fits =
+      beside step (more ++ old) owner lock by x (ap owner own.0 ∙ here) apart locked here (beside-all old owner lock by x apart locked here more own.1 fits)
 
-    beside-all : (old : Record) (owner : ℕ → ℕ) (lock by : ℕ) (x : View) → by ≢ id → lock ≡ suc n → owner n ≡ id → (more : Record) → AreOf (λ m. (owner m ≡ id) × (m < 8)) more → Fits start old owner lock by x → Fits start (more ++ old) owner lock by x
-    beside-all old owner lock by x apart locked here [] own fits = fits
-    beside-all old owner lock by x apart locked here (step ∷ more) own fits =
-        beside step (more ++ old) owner lock by x own.0.0 apart locked here (beside-all old owner lock by x apart locked here more own.1 fits)
+  newest-of : (old : Record) → IsOfCogs old → n < 8 → (more : Record) → AreOf n more → IsOfCogs (more ++ old)
+  newest-of old newest near [] own = newest
+  newest-of old newest near (step ∷ more) own = subst (λ (m : ℕ). m < 8) (sym own.0) near
 
-    newest-of : (old : Record) (owner : ℕ → ℕ) → IsOfCogs old → (more : Record) → AreOf (λ m. (owner m ≡ id) × (m < 8)) more → IsOfCogs (more ++ old)
-    newest-of old owner newest [] own = newest
-    newest-of old owner newest (step ∷ more) own = own.0.1
+  sees-own : (r old : Record) (owner : ℕ → ℕ) (lock : ℕ) → Fits start old owner lock id v → Fits start r owner lock id (seeing v r)
+  sees-own r old owner lock fits = record {
+    same_start = fits.same_start;
+    passes = λ m q e. (let x = known-seen r v.passes m q e in
+        let was = fits.passes m x.0 x.1 in
+        subst (λ (y : Known). PassFits r owner lock id v.holds m y) x.2
+        (record { here = was.here; cog = was.cog; agrees = record { own = ap (λ (k : ℕ). mine k r) (known-cog v.passes m x.0 x.1); seen = ([], refl); newest = λ _. refl }; locked = was.locked }));
+    hold = λ m e. (let same : n ≡ m = some-same _ _ (sym holds ∙ e) in
+        let k = knows old owner lock fits in
+        subst (λ (k : ℕ). HoldFits r owner lock id (all_seen r v.passes) k) same
+        (record { here = k.2; locked = k.1; pass = seen_as r p; known = known-all-seen r v.passes n p has; seen = refl }));
+  }
 
-    catches-own : (old : Record) (owner : ℕ → ℕ) (lock : ℕ) → Fits start old owner lock id v → Fits start r owner lock id (catching v r)
-    catches-own old owner lock fits = record {
-      same_start = fits.same_start;
-      passes = λ m q e. (let x = known-seen r v.passes m q e in
-          let was = fits.passes m x.0 x.1 in
-          subst (λ (y : Known). PassFits r owner lock id v.holds m y) x.2
-          (record { here = was.here; cog = was.cog; agrees = record { own = ap (λ (k : ℕ). mine k r) (known-cog v.passes m x.0 x.1); seen = ([], refl); newest = λ _. refl }; locked = was.locked }));
-      hold = λ m e. (let same : n ≡ m = some-same _ _ (sym holds ∙ e) in
-          let k = knows old owner lock fits in
-          subst (λ (k : ℕ). HoldFits r owner lock id (all_seen r v.passes) k) same
-          (record { here = k.2; locked = k.1; pass = seen_as r p; known = known-all-seen r v.passes n p has; seen = refl }));
-    }
+  sees-at : (r : Record) → GoneOn n p.seen r → (slot : List (ℕ × Slot)) (m : Move Slot) (count : ℕ) → count ≡ length (turns r) → (lock : ℕ) (old : Record) (owner : ℕ → ℕ) → lock ≤ 8 → IsOfCogs old → (hs : List (Home Slot)) (vs : List View) (bells : List ℕ)
+      → HomeIs start old lock hs → Each start old owner lock vs → get_elem? vs id ≡ some v
+      → Goes start id slot (λ _. count) (λ _. Seen r m (v, slot) 0) 1 (lock ∷ length (turns old) ∷ bells) hs vs
+  sees-at r on slot m count many lock old owner most newest hs vs bells home each at =
+      let own = each id v at live in
+      let k = knows old owner lock own in
+      let whole : on.0 ++ old ≡ r = ap (λ (l : Record). on.0 ++ l) (sym k.0) ∙ on.1 in
+      let out : hs ≡ none ∷ [] = subst (λ (l : ℕ). HomeIs start old l hs) k.1 home in (
+        seeing v r,
+        keeps,
+        tt,
+        record {
+          r = r;
+          owner = owner;
+          lock = lock;
+          most = most;
+          newest = subst IsOfCogs whole (newest-of old newest (own.passes n p has).cog on.0 on.2);
+          bells = bells;
+          words = ap (λ (l : ℕ). lock ∷ l ∷ bells) many;
+          home = subst (λ (l : ℕ). HomeIs start r l hs) (sym k.1) out;
+          each = each-set start r owner lock vs id (seeing v r)
+              (λ by x apart e l. subst (λ (s : Record). Fits start s owner lock by x) whole (beside-all old owner lock by x apart k.1 k.2 on.0 on.2 (each by x e l)))
+              (sees-own r old owner lock own);
+        },
+        refl,
+      )
 
-    catches-at : (ledger : Ledger) → Found (world_in v.start) ledger r → (m : Move Slot) (count : ℕ) → count ≡ length (turns r) → (lock : ℕ) (old : Record) (owner : ℕ → ℕ) → lock ≤ 8 → IsOfCogs old → (hs : List (Home Slot)) (vs : List View) (bells : List ℕ)
-        → HomeIs start old lock hs → Each start old owner lock vs → get_elem? vs id ≡ some v
-        → Goes start id ((0, Some ledger) ∷ []) (λ _. count) (λ _. Caught named m (v, (0, Some ledger) ∷ []) 0) 1 (lock ∷ length (turns old) ∷ bells) hs vs
-    catches-at ledger stands m count many lock old owner most newest hs vs bells home each at =
-        let mine_ = each id v at live in
-        let k = knows old owner lock mine_ in
-        let steps = owned old owner lock mine_ on.0 on.2 in
-        let whole : on.0 ++ old ≡ r = ap (λ (l : Record). on.0 ++ l) (sym k.0) ∙ on.1 in
-        let out : hs ≡ none ∷ [] = subst (λ (l : ℕ). HomeIs start old l hs) k.1 home in (
-          catching v r,
-          keeps,
-          tt,
-          record {
-            r = r;
-            owner = owner;
-            lock = lock;
-            most = most;
-            newest = subst IsOfCogs whole (newest-of old owner newest on.0 steps);
-            bells = bells;
-            words = ap (λ (l : ℕ). lock ∷ l ∷ bells) many;
-            home = subst (λ (l : ℕ). HomeIs start r l hs) (sym k.1) out;
-            each = each-set start r owner lock vs id (catching v r)
-                (λ by x apart e l. subst (λ (s : Record). Fits start s owner lock by x) whole (beside-all old owner lock by x apart k.1 k.2 on.0 steps (each by x e l)))
-                (catches-own old owner lock mine_);
-          },
-          (r, ledger, refl, stands, is_named, refl),
-        )
+  pub sees : (r : Record) → GoneOn n p.seen r → (slot : List (ℕ × Slot)) (m : Move Slot) (count : ℕ) → count ≡ length (turns r) → (slots : ℕ) → Allows (Kept start) slots id (v, slot) 1 (λ _. count) (λ _. Seen r m (v, slot) 0)
+  sees r on slot m count many slots s h long at below =
+      subst (λ (ws : List ℕ). Goes start id slot (λ _. count) (λ _. Seen r m (v, slot) 0) 1 ws s.homes s.views) (sym h.words)
+      (sees-at r on slot m count many h.lock h.r h.owner h.most h.newest s.homes s.views h.bells h.home h.each at)
 
-    pub catches : (ledger : Ledger) → Found (world_in v.start) ledger r → (m : Move Slot) (count : ℕ) → count ≡ length (turns r) → (slots : ℕ) → Allows (Kept start) slots id (v, (0, Some ledger) ∷ []) 1 (λ _. count) (λ _. Caught named m (v, (0, Some ledger) ∷ []) 0)
-    catches ledger stands m count many slots s h long at below =
-        subst (λ (ws : List ℕ). Goes start id ((0, Some ledger) ∷ []) (λ _. count) (λ _. Caught named m (v, (0, Some ledger) ∷ []) 0) 1 ws s.homes s.views) (sym h.words)
-        (catches-at ledger stands m count many h.lock h.r h.owner h.most h.newest s.homes s.views h.bells h.home h.each at)
-
-pub catches-as : (start : Start) (slots id count : ℕ) (named : Option Record) (me : Hand) (m : Move Slot) → CanTell named count me → Allows (Kept start) slots id me 1 (λ _. count) (λ _. Caught named m me 0)
-catches-as start slots id count named me m h =
-    subst (λ (c : List (ℕ × Slot)). Allows (Kept start) slots id (me.0, c) 1 (λ _. count) (λ _. Caught named m (me.0, c) 0)) (sym h.7)
-    (catches start id me.0 h.0 h.4 h.5 h.1 h.6 named h.2 h.9 h.11 h.3 h.8 m count h.10 slots)
+pub sees-as : (start : Start) (slots id n count : ℕ) (r : Record) (me : Hand) (m : Move Slot) → CanTell n r count me → Allows (Kept start) slots id me 1 (λ _. count) (λ _. Seen r m me 0)
+sees-as start slots id n count r me m h = sees start id me.0 n h.0.live h.0.holds h.0.pass h.0.has r h.1 me.1 m count h.2 slots
 
 pub frees-as : (start : Start) (slots id : ℕ) (me : Hand) → slots ≡ 1 → CanFree me → Allows (Kept start) slots id me 0 (λ _. 0) (λ _. Released (move slots 0 0 0 none) me 0)
 frees-as start slots id me one h =
-    subst (λ (y : ℕ × List (ℕ × Slot)). Allows (Kept start) y.0 id (me.0, y.1) 0 (λ _. 0) (λ _. Released (move y.0 0 0 0 none) (me.0, y.1) 0)) (λ i. (sym one i, sym h.6 i))
-    (frees start id me.0 h.0 h.3 h.4 h.1 h.5 h.2 h.7)
+    let held = h.2 in
+    subst (λ (y : ℕ × List (ℕ × Slot)). Allows (Kept start) y.0 id (me.0, y.1) 0 (λ _. 0) (λ _. Released (move y.0 0 0 0 none) (me.0, y.1) 0)) (λ i. (sym one i, sym held.slot i))
+    (frees start id me.0 h.0 held.live held.holds held.pass held.has held.ledger (subst (λ (r : Record). Found (world_in me.0.start) held.ledger r) (sym h.3) held.stands))
 
 -- a bell changes, and nothing else
 pub rings : (start : Start) (slots id word k : ℕ) (me : Hand) → word ≡ suc (suc k) → (f : ℕ → ℕ) → Allows (Kept start) slots id me word f (λ n after. after ≡ me)

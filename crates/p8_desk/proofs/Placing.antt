@@ -1,6 +1,6 @@
 -- Each pass stands at its cog's place.
-use Rattle.std.proofs.Common.{◌≡◌, ◌≢◌, ◌∙◌, ap, sym, refl, ℕ, zero, suc, ◌<◌, List, [], ◌∷◌, length, Option, Some, arith}
-use Rattle.std.specs.Prelude.{slice_get, slice_set}
+use Rattle.std.proofs.Common.{◌≡◌, ◌≢◌, ◌∙◌, ap, sym, refl, ℕ, zero, suc, ◌<◌, List, [], ◌∷◌, length, Option, Some, None, subst, arith}
+use Rattle.std.specs.Prelude.{slice_get, slice_set, slice_index_or, IfSome}
 use mathlib.Core.Logic.{dite}
 use native.Mathlib.Decide.{ℕ_discrete}
 use Rattle.atomic_table.specs.Seated.{TableId}
@@ -66,3 +66,13 @@ pub all-there-new : (desk : DeskValue) (places : List (Option PassValue)) → pl
 all-there-new desk places is = record {
   each = λ n lt. (fresh desk.world desk.table n, ap (λ (l : List (Option PassValue)). slice_get l n) is ∙ new-at desk.world desk.table n lt, record { world = refl; table = refl }, refl);
 }
+
+-- what is read at a place
+value-at : (l : List (Option PassValue)) (k : ℕ) (d : Option PassValue) → k < length l → slice_get l k ≡ Some (slice_index_or l k d)
+value-at [] k d lt = absurd (omega arith)
+value-at (x ∷ l) zero d lt = refl
+value-at (x ∷ l) (suc k) d lt = value-at l k d (omega arith)
+
+pub taken-cog : (places : List (Option PassValue)) (k : ℕ) (d o : Option PassValue) → InPlace places → k < 8 → o ≡ slice_index_or places k d → IfSome o (λ (pass : PassValue). pass.cog ≡ k)
+taken-cog places k d None in_place near is = tt
+taken-cog places k d (Some pass) in_place near is = in_place.each k pass (value-at places k d (subst (λ (n : ℕ). k < n) (sym in_place.eight) near) ∙ ap Some (sym is))

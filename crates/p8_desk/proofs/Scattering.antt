@@ -6,29 +6,28 @@ use native.Mathlib.Decide.{ℕ_discrete}
 use Rattle.p8_access.specs.Worlds.{World}
 use Rattle.p8_desk.specs.declared.rider.Rider.{Rider}
 use Rattle.p8_desk.specs.declared.rule.Known.{Known}
-use Rattle.p8_desk.specs.Gathering.{Idle, RidesIn}
+use Rattle.p8_desk.specs.Gathering.{RidesIn}
 use Rattle.p8_desk.specs.PassSets.{AllThere, HasOver}
 use Rattle.p8_desk.specs.Passes.{DeskValue, PassValue, Owns}
 use Rattle.p8_desk.specs.Rules.{Hand, known, pass_alone, without_pass}
-use Rattle.p8_desk.specs.Seats.{Keeps, Seated, or_new, pass_in}
+use Rattle.p8_desk.specs.Seats.{Idle, Keeps, Seated, or_new, pass_in}
 use Rattle.p8_desk.proofs.Gathering.{set-beside, set-there, rider-same}
 use Rattle.p8_desk.proofs.Lookups.{known-alone, none-beside}
 
 -- the pass of a cog, parted from a seat
-pub alone-seated : (w : World) (me : Hand) (riders : List (Option Rider)) (n : ℕ) → n < 8 → Idle w me → (one : RidesIn w me riders n) → Seated (pass_alone n me.0, []) one.rider
+pub alone-seated : (w : World) (me : Hand) (riders : List (Option Rider)) (n : ℕ) → n < 8 → Idle w me → (one : RidesIn w me riders n) → Seated (pass_alone n me.0, []) one.rider × (pass_in (pass_alone n me.0, []) one.rider.cog ≡ one.p)
 alone-seated w me riders n near idle one =
     let has : known (pass_alone n me.0).passes one.rider.cog ≡ Some one.p = ap (known (pass_alone n me.0).passes) one.cog ∙ known-alone me.0.passes n one.p one.has in
-    let here : pass_in (pass_alone n me.0, []) one.rider.cog ≡ one.p = ap (or_new one.rider.cog) has in record {
-      seat = record {
-        live = idle.live;
-        free = refl;
-        empty = refl;
+    let here : pass_in (pass_alone n me.0, []) one.rider.cog ≡ one.p = ap (or_new one.rider.cog) has in (
+      record {
+        idle = record { live = idle.live; free = refl; empty = refl; world = refl };
         near = subst (λ (m : ℕ). m < 8) (sym one.cog) near;
         has = has ∙ ap Some (sym here);
         alone = λ m ne. none-beside me.0.passes n one.p m one.has (λ e. ne (e ∙ sym one.cog));
-      };
-      keeps = subst (λ (y : World × Known). Keeps y.0 y.1 one.rider) (λ i. (sym idle.world i, sym here i)) one.keeps;
-    }
+        keeps = subst (λ (y : World × Known). Keeps y.0 y.1 one.rider) (λ i. (sym idle.world i, sym here i)) one.keeps;
+      },
+      here,
+    )
 
 pub idle-without : (w : World) (me : Hand) (n : ℕ) → Idle w me → Idle w (without_pass n me.0, me.1)
 idle-without w me n idle = record { live = idle.live; free = refl; empty = idle.empty; world = idle.world }

@@ -3,16 +3,15 @@ use Rattle.std.proofs.Common.{◌≡◌, ◌≢◌, ◌⊎◌, inl, inr, ⊎_eli
 use Rattle.std.specs.Prelude.{slice_set}
 use mathlib.Core.Option.{some, some-injective, some-ne-none}
 use lib.ListN.{get_elem?}
-use mathlib.Core.Option.{none}
-use Rattle.atomic_table.specs.Table.{step as move, Splits, Joins, Enters, opening}
-use Rattle.atomic_table.proofs.Lists.{at_set, at_snoc}
+use Rattle.atomic_table.specs.Table.{Splits, Joins, opening}
+use Rattle.atomic_table.proofs.Lists.{at_set}
 use Rattle.p8_ledger.specs.declared.start.Start.{Start}
 use Rattle.p8_ledger.specs.declared.ledger.Ledger.{Ledger}
 use Rattle.p8_ledger.specs.Records.{Record}
 use Rattle.p8_ledger.specs.Ledgers.{Found}
 use Rattle.p8_desk.specs.declared.rule.Known.{Known}
 use Rattle.p8_desk.specs.declared.rule.View.{View}
-use Rattle.p8_desk.specs.Rules.{world_in, known, PassFits, Fits, Kept, new_pass, new_passes, first_view, without, with_passes, list_of, without_pass, pass_alone, joined, spent_view, Visited}
+use Rattle.p8_desk.specs.Rules.{world_in, known, PassFits, Fits, Kept, new_pass, new_passes, first_view, without, with_passes, list_of, without_pass, pass_alone, joined, spent_view}
 use Rattle.p8_desk.proofs.Lookups.{some-same, none-some, same-by-test, test-same, test-apart, known-cog, known-without, known-of-two}
 
 -- the last entry or an earlier one
@@ -107,30 +106,6 @@ splits n start id v live free s h at = by-known (known v.passes n) refl
             let here : m ≡ n = sym (same-by-test _ _ c) ∙ known-cog v.passes n p is in
             (ap (known v.passes) here ∙ is ∙ rw c at e, moved-here h.owner n (length s.views) m here)
         one m q e false c = absurd (none-some q (rw c at e))
-
--- a seat that has no pass
-pub visits : (start : Start) (slots word : ℕ) → Enters (Kept start) slots word (λ n w. Visited (move slots word 0 0 none) (first_view start, []) n (w, []))
-visits start slots word s h long below = (
-  spent_view,
-  record {
-    r = h.r;
-    owner = h.owner;
-    lock = h.lock;
-    most = h.most;
-    newest = h.newest;
-    bells = h.bells;
-    words = h.words;
-    home = h.home;
-    each = λ by v e live. ⊎_elim
-        (λ (x : get_elem? s.views by ≡ some v). h.each by v x live)
-        (λ (x : spent_view ≡ v). absurd (dead (ap (λ (y : View). y.live) x ∙ live)))
-        (at_snoc s.views spent_view v by e);
-  },
-  tt,
-)
-  where
-    dead : false ≡ true → ⊥
-    dead e = cc
 
 pub joins : (start : Start) (id : ℕ) (v : View) (other : ℕ) (u : View) → v.live ≡ true → v.holds ≡ None → u.live ≡ true → u.holds ≡ None → Joins (Kept start) id v other u (joined v u) spent_view
 joins start id v other u live free alive idle s h at apart there = record {

@@ -1,10 +1,9 @@
 -- internal
 -- Who is to try next, and what is left to do.
-use Rattle.std.specs.Prelude.{ℕ, zero, suc, ◌+◌, ◌-◌, ◌*◌, List, Option, Some, None, length, slice_get}
+use Rattle.std.specs.Prelude.{ℕ, zero, suc, ◌+◌, ◌-◌, ◌*◌, Option, Some, None, length}
 use Rattle.p8_access.specs.declared.lives.Next.{Next}
 use Rattle.p8_access.specs.declared.lives.Next.TheVariants.{At, Quiet, More}
 use Rattle.p8_access.specs.Worlds.{World}
-use Rattle.p8_ledger.specs.declared.ledger.Ledger.{Ledger}
 use Rattle.p8_ledger.specs.Records.{Record, turns, said}
 use Rattle.p8_desk.specs.declared.turned.Turned.{Turned}
 use Rattle.p8_desk.specs.declared.turned.Turned.TheVariants.{Done, Held, After, Ahead, Over}
@@ -43,18 +42,3 @@ names_none Over = 0
 -- what is left once a cog has had an answer: a cog that is named either says something or makes a turn
 abbrev pub left_to_do : World → Record → Turned → ℕ
 left_to_do w r answer = 2 * rest_of w r + names_none answer
-
--- the same, as a ledger keeps it
-abbrev pub open_at : (limit : ℕ) → Option Next → ℕ
-open_at limit None = 0
-open_at limit (Some next) = open_by limit next
-
-abbrev pub open_among : (limit : ℕ) → ℕ → List Next → ℕ
-open_among limit zero sayings = 0
-open_among limit (suc k) sayings = open_among limit k sayings + open_at limit (slice_get sayings k)
-
-abbrev pub rest_in : Ledger → ℕ
-rest_in ledger = (ledger.limits.turns - length ledger.turns.list) * (ledger.limits.clocks + 2) + open_among ledger.limits.clocks 8 ledger.sayings
-
-abbrev pub left_in : Ledger → Turned → ℕ
-left_in ledger answer = 2 * rest_in ledger + names_none answer

@@ -2,8 +2,8 @@
 -- The rule of the table, and what each step tells the seat that takes it.
 --
 -- The table has the lock word (0 where it is free, n + 1 where the pass of cog n holds it), the count of turns, the bells
--- by which threads wake one another, of which the rule says nothing, and one slot with the desk's value. There is one record, which no word keeps: the rule says of every seat
--- how far its passes have seen it.
+-- by which threads wake one another, of which the rule says nothing, and one slot with the desk's value. There is one record,
+-- which no word keeps: the rule says of every seat how far its passes have seen it.
 use Rattle.std.specs.Prelude.{ℕ, zero, suc, ◌==◌, ◌≡◌, ◌<◌, ◌≤◌, if◌then◌else◌, true, false, List, [], ◌∷◌, ◌++◌, Option, Some, None, length}
 use mathlib.Core.Option.{some, none}
 use mathlib.Core.Option.{Option as Home}
@@ -144,20 +144,15 @@ releasing v = record { live = v.live; start = v.start; passes = v.passes; holds 
 abbrev pub Released : Move Slot → Hand → ℕ → Hand → Type 0
 Released s v found after = after ≡ (releasing v.0, [])
 
--- steps of cogs of which this is true
-abbrev pub AreOf : (ℕ → Type 0) → Record → Type 0
-AreOf owns [] = Unit {0}
-AreOf owns (step ∷ more) = owns (cog_of step) × AreOf owns more
+-- a record has gone on by steps of a cog
+abbrev pub AreOf : ℕ → Record → Type 0
+AreOf n [] = Unit {0}
+AreOf n (step ∷ more) = (cog_of step ≡ n) × AreOf n more
 
--- a record goes on with such steps
-abbrev pub On : (ℕ → Type 0) → Record → Record → Type 0
-On owns r s = (more : Record) × (more ++ r ≡ s) × AreOf owns more
+abbrev pub GoneOn : ℕ → Record → Record → Type 0
+GoneOn n r s = (more : Record) × (more ++ r ≡ s) × AreOf n more
 
--- a seat has the pass of a cog
-abbrev pub HasPass : List Known → ℕ → Type 0
-HasPass passes n = (p : Known) × (known passes n ≡ Some p)
-
--- a pass that has seen a record
+-- all passes of a seat have seen a record
 abbrev pub seen_as : Record → Known → Known
 seen_as r p = record p { own = mine p.cog r; seen = r }
 
@@ -165,38 +160,33 @@ abbrev pub all_seen : Record → List Known → List Known
 all_seen r [] = []
 all_seen r (p ∷ ps) = seen_as r p ∷ all_seen r ps
 
-abbrev pub catching : View → Record → View
-catching v r = record { live = v.live; start = v.start; passes = all_seen r v.passes; holds = v.holds }
+abbrev pub seeing : View → Record → View
+seeing v r = record { live = v.live; start = v.start; passes = all_seen r v.passes; holds = v.holds }
 
--- this is the record that is named, if one is
-abbrev pub IsNamed : Option Record → Record → Type 0
-IsNamed None r = Unit {0}
-IsNamed (Some s) r = r ≡ s
+abbrev pub Seen : Record → Move Slot → Hand → ℕ → Hand → Type 0
+Seen r s v found after = after ≡ (seeing v.0 r, v.1)
 
--- the holder's cogs have gone on with the record: each of its passes has seen the one for which its ledger stands now
-abbrev pub Caught : Option Record → Move Slot → Hand → ℕ → Hand → Type 0
-Caught named s v found after =
-    (r : Record) × (ledger : Ledger) × (v.1 ≡ (0, Some ledger) ∷ []) × Found (world_in v.0.start) ledger r × IsNamed named r × (after ≡ (catching v.0 r, v.1))
+-- a seat that holds for the cog of one of its passes, with a ledger that stands for this record
+pub record HoldsAt (n : ℕ) (r : Record) (me : Hand) : Type 0 where
+  pub live : me.0.live ≡ true
+  pub holds : me.0.holds ≡ Some n
+  pub pass : Known
+  pub has : known me.0.passes n ≡ Some pass
+  pub ledger : Ledger
+  pub slot : me.1 ≡ (0, Some ledger) ∷ []
+  pub stands : Found (world_in me.0.start) ledger r
 
--- a seat may do so that holds for the cog of one of its passes: the record has gone on by steps of their cogs, and has so many turns
-abbrev pub CanTell : Option Record → ℕ → Hand → Type 0
-CanTell named count me =
-    (n : ℕ) × (p : Known) × (r : Record) × (ledger : Ledger) × (me.0.live ≡ true) × (me.0.holds ≡ Some n) × (known me.0.passes n ≡ Some p)
-    × (me.1 ≡ (0, Some ledger) ∷ []) × Found (world_in me.0.start) ledger r × On (HasPass me.0.passes) p.seen r × (count ≡ length (turns r)) × IsNamed named r
+-- its passes may see that where it has gone on from what the cog's pass has seen by steps of the cog, and has so many turns; the lock
+-- word may be freed where the cog's pass has seen it
+abbrev pub CanTell : ℕ → Record → ℕ → Hand → Type 0
+CanTell n r count me = (held : HoldsAt n r me) × GoneOn n held.pass.seen r × (count ≡ length (turns r))
 
--- it may free the lock word where the pass of that cog has seen the record for which the ledger stands
 abbrev pub CanFree : Hand → Type 0
-CanFree me =
-    (n : ℕ) × (p : Known) × (ledger : Ledger) × (me.0.live ≡ true) × (me.0.holds ≡ Some n) × (known me.0.passes n ≡ Some p)
-    × (me.1 ≡ (0, Some ledger) ∷ []) × Found (world_in me.0.start) ledger p.seen
+CanFree me = (n : ℕ) × (r : Record) × (held : HoldsAt n r me) × (held.pass.seen ≡ r)
 
 -- a bell has changed: nothing that a seat knows does
 abbrev pub Rung : Move Slot → Hand → ℕ → Hand → Type 0
 Rung s v found after = after ≡ v
-
--- a seat without a pass is told nothing
-abbrev pub Visited : Move Slot → Hand → ℕ → Hand → Type 0
-Visited s v found after = Unit {0}
 
 -- a seat gives the pass of a cog to a new seat
 abbrev pub with_passes : View → List Known → View

@@ -85,10 +85,6 @@ IsAsking (More bound) = ⊥
 abbrev pub HasFound : Runner → Type 0
 HasFound runner = runner.said ≡ true → IsAsking runner.next
 
--- the life can run on: it has made a promise, and its cog has said that
-abbrev pub CanRunOn : Runner → Type 0
-CanRunOn runner = (runner.said ≡ true) × ((bound : ℕ) × (runner.next ≡ More bound))
-
 -- how many instructions or bytecodes a life has done
 abbrev pub place_in : CogLife → ℕ
 place_in life = number_of life.kind life.pasm.done life.spin.done

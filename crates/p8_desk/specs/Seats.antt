@@ -1,24 +1,21 @@
 -- internal
--- The seat of a pass, and what its parts have to do with what it knows.
-use Rattle.std.specs.Prelude.{ℕ, suc, ◌≡◌, ◌<◌, ◌≤◌, ◌^◌, Bool, true, false, [], ◌∷◌, Option, Some, None, length}
+-- The seat of a pass, what its parts have to do with what it knows, and what one try makes of that.
+use Rattle.std.specs.Prelude.{ℕ, ◌≡◌, ◌<◌, Bool, true, [], Option, Some, None, length}
 use Rattle.atomic_table.specs.Seated.{TableId}
+use Rattle.p8_access.specs.declared.lives.Next.{Next}
 use Rattle.p8_access.specs.Worlds.{World}
-use Rattle.p8_access.specs.Histories.{Ended}
-use Rattle.p8_cog.specs.Lives.{asks}
 use Rattle.p8_ledger.specs.declared.ledger.Ledger.{Ledger}
-use Rattle.p8_ledger.specs.Records.{Record, turns, mine, Begins}
+use Rattle.p8_ledger.specs.Records.{Record, turns, mine, IsTruthful}
 use Rattle.p8_ledger.specs.Ledgers.{Found}
 use Rattle.p8_desk.specs.declared.rule.Known.{Known}
 use Rattle.p8_desk.specs.declared.rider.Rider.{Rider}
 use Rattle.p8_desk.specs.declared.tries.Outcome.{Outcome}
 use Rattle.p8_desk.specs.declared.turned.Turned.{Turned}
-use Rattle.p8_desk.specs.declared.turned.Went.{Went}
-use Rattle.p8_desk.specs.declared.turned.Went.TheVariants.{Made, After as ComesAfter, Ahead as IsAhead, Over as IsOver}
 use Rattle.p8_desk.specs.declared.turned.Turned.TheVariants.{Done, Held, After, Ahead, Over}
 use Rattle.p8_desk.specs.Passes.{PassSteps, PassValue}
-use Rattle.p8_desk.specs.Rules.{Hand, known, new_pass, world_in}
-use Rattle.p8_desk.specs.Runners.{Rides}
-use Rattle.p8_desk.specs.Work.{worked_by}
+use Rattle.p8_desk.specs.Rules.{Hand, known, new_pass, world_in, Agrees, IsOfCogs, losing, releasing, seeing, seizing}
+use Rattle.p8_desk.specs.Tries.{Speaks, Answers, seen_by}
+use Rattle.p8_desk.specs.Work.{Carries, worked_by}
 
 -- what is told of a pass
 abbrev pub steps_of : Known → PassSteps
@@ -37,86 +34,59 @@ abbrev pub passed : TableId → Hand → ℕ → Bool → PassValue
 passed table me cog over =
     record { world = world_in me.0.start; table = table; cog = cog; steps = steps_of (pass_in me cog); over = over }
 
--- a seat with the pass of one cog, that holds nothing
-pub record SeatOf (me : Hand) (cog : ℕ) (p : Known) : Type 0 where
+-- a seat that holds nothing
+pub record Idle (w : World) (me : Hand) : Type 0 where
   pub live : me.0.live ≡ true
   pub free : me.0.holds ≡ None
   pub empty : me.1 ≡ []
-  pub near : cog < 8
-  pub has : known me.0.passes cog ≡ Some p
-  pub alone : (n : ℕ) → (n ≡ cog → ⊥) → known me.0.passes n ≡ None
-
--- what a pass keeps of its cog's life and turns, after a record
-pub record Carries (w : World) (r : Record) (rider : Rider) : Type 0 where
-  pub rides : Rides w rider.cog r rider.runner
-  pub made : rider.made ≡ length (turns (mine rider.cog r))
-  pub few : rider.made ≤ w.turns
-  pub ended : rider.over ≡ true → Ended asks w (turns r)
+  pub world : world_in me.0.start ≡ w
 
 -- what a pass keeps besides its seat, by what is known of it
 pub record Keeps (w : World) (p : Known) (rider : Rider) : Type 0 where
   pub own : p.own ≡ mine rider.cog p.seen
   pub carries : Carries w p.seen rider
-  pub seen : rider.known ≡ length (turns p.seen)
 
 -- a pass at a seat of its own
 pub record Seated (me : Hand) (rider : Rider) : Type 0 where
-  pub seat : SeatOf me rider.cog (pass_in me rider.cog)
+  pub idle : Idle (world_in me.0.start) me
+  pub near : rider.cog < 8
+  pub has : known me.0.passes rider.cog ≡ Some (pass_in me rider.cog)
+  pub alone : (n : ℕ) → (n ≡ rider.cog → ⊥) → known me.0.passes n ≡ None
   pub keeps : Keeps (world_in me.0.start) (pass_in me rider.cog) rider
 
--- a seat that holds the lock word for the cog of its one pass: that has seen the whole record, for which the ledger stands that the
--- seat has taken out
-pub record Holds (w : World) (me : Hand) (rider : Rider) : Type 0 where
-  pub live : me.0.live ≡ true
-  pub world : world_in me.0.start ≡ w
-  pub holds : me.0.holds ≡ Some rider.cog
-  pub near : rider.cog < 8
-  pub small : w.turns < 2 ^ 63
-  pub p : Known
-  pub has : known me.0.passes rider.cog ≡ Some p
-  pub alone : (n : ℕ) → (n ≡ rider.cog → ⊥) → known me.0.passes n ≡ None
-  pub own : p.own ≡ mine rider.cog p.seen
-  pub ledger : Ledger
-  pub slot : me.1 ≡ (0, Some ledger) ∷ []
-  pub stands : Found w ledger p.seen
-  pub carries : Carries w p.seen rider
-
--- the lock word was free: the pass has seen the rest of the record, in which no step of its own is new
-pub record Entered (w : World) (before : Known) (me : Hand) (rider : Rider) : Type 0 where
-  pub held : Holds w me rider
-  pub began : Begins before.seen held.p.seen
-  pub same : before.own ≡ held.p.own
-  pub won : held.p.won ≡ suc before.won
-  pub found : held.p.found ≡ before.found
-
--- the record that a cog's pass had seen, once it has gone on by what came of one try
+-- the record that a cog's pass has seen, once it has gone on by what came of one try
 abbrev pub worked_in : Hand → ℕ → Outcome → Record
 worked_in me cog outcome = worked_by cog outcome (pass_in me cog).seen
 
--- what an answer adds to a pass
-abbrev pub is_over : Turned → Bool
-is_over Over = true
-is_over (Done turn) = false
-is_over (Held by) = false
-is_over (After other bound) = false
-is_over (Ahead bound) = false
+-- a try that found the pass of another cog, which is at another seat
+pub record FoundHeld (n by : ℕ) (me after : Hand) : Type 0 where
+  pub apart : by ≡ n → ⊥
+  pub near : by < 8
+  pub elsewhere : (p : Known) → known me.0.passes by ≡ Some p → ⊥
+  pub hand : after ≡ (losing me.0 n by, me.1)
 
-abbrev pub made_by : Turned → ℕ → ℕ
-made_by (Done turn) made = suc made
-made_by Over made = made
-made_by (Held by) made = made
-made_by (After other bound) made = made
-made_by (Ahead bound) made = made
+-- a try that took the desk, by a seat that has the cog's pass among others: the record that it found, with which they all agree, what
+-- it made of that, and that they all have seen it
+pub record TookDesk (w : World) (n : ℕ) (me after : Hand) (rider : Rider) (count : ℕ) (answer : Turned) : Type 0 where
+  pub r : Record
+  pub before : Ledger
+  pub found : Found w before r
+  pub newest : IsOfCogs r
+  pub agrees : (m : ℕ) (p : Known) → known me.0.passes m ≡ Some p → Agrees r m p
+  pub next : Next
+  pub s : Record
+  pub speaks : Speaks w n next r s
+  pub truthful : IsTruthful w s
+  pub answers : Answers w s n answer
+  pub left : Ledger
+  pub stands : Found w left (seen_by answer s)
+  pub carries : Carries w (seen_by answer s) rider
+  pub counted : count ≡ length (turns (seen_by answer s))
+  pub hand : after ≡ (releasing (seeing (seizing me.0 n r) (seen_by answer s)), [])
 
--- the same of how a try went
-abbrev pub ends : Went → Bool
-ends IsOver = true
-ends Made = false
-ends (ComesAfter other bound) = false
-ends (IsAhead bound) = false
-
-abbrev pub made_of : Went → ℕ → ℕ
-made_of Made made = suc made
-made_of IsOver made = made
-made_of (ComesAfter other bound) made = made
-made_of (IsAhead bound) made = made
+abbrev pub Rode : World → ℕ → Known → (me after : Hand) → Rider → (known_before known_after : ℕ) → Turned → Type 0
+Rode w n p me after rider k count (Held by) = FoundHeld n by me after × Carries w p.seen rider × (count ≡ k)
+Rode w n p me after rider k count (Done turn) = TookDesk w n me after rider count (Done turn)
+Rode w n p me after rider k count (After other bound) = TookDesk w n me after rider count (After other bound)
+Rode w n p me after rider k count (Ahead bound) = TookDesk w n me after rider count (Ahead bound)
+Rode w n p me after rider k count Over = TookDesk w n me after rider count Over

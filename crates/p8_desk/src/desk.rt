@@ -2,13 +2,12 @@
 ghost use Rattle.std.specs.Prelude.{◌≡◌, ◌<◌, ◌||◌, ℕ, true, IfSome, IfNone};
 ghost use Rattle.p8_desk.specs.declared.turned.Turned.TheVariants.{Done, After, Over};
 ghost use Rattle.p8_desk.specs.Passes.{Owns, PassSteps};
-ghost use Rattle.p8_desk.specs.Seats.{is_over};
 ghost use Rattle.p8_desk.specs.Tries.{Tried, Waited};
+ghost use Rattle.p8_desk.specs.Work.{is_over};
 
-use crate::bells::{TURN_SLEEP, ring, ring_all, wait_at_bell, wait_for_lock};
+use crate::bells::{ring, ring_all, wait_after};
 use crate::pass::CogPass;
 use crate::rule::{Place, Tabletop};
-use crate::shelf::ShelfTable;
 use crate::turned::Turned;
 use p8_access::Turn;
 use p8_ledger::Start;
@@ -19,8 +18,6 @@ use std::sync::Wait;
 #[derive(Drop)]
 pub struct Desk {
     pub(crate) table: Tabletop,
-    /// Where the passes of threads lie that sleep.
-    pub(crate) shelf: ShelfTable,
     /// What the run begins from, which all seats at the table know.
     pub(crate) start: Start,
 }
@@ -29,13 +26,12 @@ impl Model for Desk {
     ghost use Rattle.std.specs.Prelude.{◌≡◌, ◌≤◌};
     ghost use Rattle.p8_desk.specs.Passes.{DeskValue};
     ghost use Rattle.p8_desk.specs.Rules.{world_in};
-    ghost use Rattle.p8_desk.specs.Shelves.{IsShelfOf};
 
     ghost Value = { DeskValue };
 
     ghost view = { λ d. record { world = world_in d.start; table = d.table.shared.table_id } };
 
-    ghost invariant = { λ d. (d.table.shared.key ≡ d.start) × (d.table.shared.table_id.words ≡ 72) × (d.table.shared.table_id.slots ≡ 1) × (d.start.limits.clocks ≤ 100000000) × (d.start.limits.turns ≤ 1000000) × IsShelfOf (record { world = world_in d.start; table = d.table.shared.table_id }) d.shelf.shared.table_id d.shelf.shared.key };
+    ghost invariant = { λ d. (d.table.shared.key ≡ d.start) × (d.table.shared.table_id.words ≡ 72) × (d.table.shared.table_id.slots ≡ 1) × (d.start.limits.clocks ≤ 100000000) × (d.start.limits.turns ≤ 1000000) };
 }
 
 impl Desk {
@@ -51,21 +47,9 @@ impl Desk {
         ensures over { pass.new.over ≡ (pass.old.over || is_over result) }
         ensures tried { Tried self.now.world pass.old.cog pass.old.steps pass.new.steps result }
     {
-        let answer = pass.rider.ride(self, &mut pass.seat);
+        let answer = pass.rider.ride(self, &mut pass.seat, &mut pass.count);
         self.tell(&mut pass.seat, answer);
         answer
-    }
-
-    /// Makes turns with a pass, one after another, while they are its cog's and come soon after one another, at most 65 in one hold of the lock
-    /// word; answers what came of the last try. Nobody is rung for: the caller sees to whoever comes next.
-    pub(crate) fn turn_on(&self, pass: &mut CogPass) -> Turned
-        requires { Owns self.now pass.old }
-        ensures owns { Owns self.now pass.new }
-        ensures cog { pass.new.cog ≡ pass.old.cog }
-        ensures over { pass.new.over ≡ (pass.old.over || is_over result) }
-        ensures near { (other : ℕ) (bound : ℕ) → result ≡ After other bound → other < 8 }
-    {
-        pass.rider.ride_on(self, &mut pass.seat)
     }
 
     /// Rings the bell of the cog that an answer names, or where no turn comes any more all bells.
@@ -79,40 +63,21 @@ impl Desk {
         match answer {
             Turned::After { cog, .. } => ring(board, seat, cog),
             Turned::Over => ring_all(board, seat),
-            Turned::Done(_) => {}
-            Turned::Held { .. } => {}
-            Turned::Ahead { .. } => {}
+            _ => {}
         }
     }
 
-    /// Waits for a while in which the pass of the cog `by` may give the desk up.
-    pub(crate) fn wait_for_desk<R: Wait>(&self, rt: &R, pass: &mut CogPass, by: u8)
+    /// Waits after a try with a pass that was answered so: while another cog's pass has the desk, or while another cog comes next and
+    /// the life of the pass's cog has nothing to do meanwhile.
+    fn wait<R: Wait>(&self, rt: &R, pass: &mut CogPass, answer: Turned)
         requires { Owns self.now pass.old }
         ensures { pass.new ≡ pass.old }
     {
-        wait_for_lock(rt, &self.table.shared, &mut pass.seat, pass.rider.cog, by);
+        let idle = !pass.rider.runner.can_run_on();
+        let cog = pass.rider.cog;
+        wait_after(rt, &self.table.shared, &mut pass.seat, cog, answer, idle);
     }
 
-    /// Waits while another cog comes next, where the life of the pass's cog has nothing to do meanwhile: until the cog's
-    /// bell is rung, or ten milliseconds are over.
-    fn wait_for_turn<R: Wait>(&self, rt: &R, pass: &mut CogPass)
-        requires { Owns self.now pass.old }
-        ensures { pass.new ≡ pass.old }
-    {
-        if pass.rider.runner.can_run_on() {
-            return;
-        }
-        wait_at_bell(
-            rt,
-            &self.table.shared,
-            &mut pass.seat,
-            pass.rider.cog,
-            TURN_SLEEP,
-        );
-    }
-}
-
-impl Desk {
     /// Tries until the cog has made a turn, or until no turn comes any more. It may wait for other passes: where another
     /// cog comes next and the cog's life has nothing to do meanwhile, the thread sleeps.
     pub fn turn<R: Wait>(&self, rt: &R, pass: &mut CogPass) -> Option<Turn>
@@ -124,12 +89,11 @@ impl Desk {
         ensures over { IfNone result (pass.new.over ≡ true) }
     {
         for _ in rt.forever() {
-            match self.try_turn(pass) {
+            let answer = self.try_turn(pass);
+            match answer {
                 Turned::Done(turn) => return Some(turn),
                 Turned::Over => return None,
-                Turned::Held { by } => self.wait_for_desk(rt, pass, by),
-                Turned::After { .. } => self.wait_for_turn(rt, pass),
-                Turned::Ahead { .. } => {}
+                _ => self.wait(rt, pass, answer),
             }
         }
         unreachable!()

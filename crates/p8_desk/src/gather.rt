@@ -1,10 +1,13 @@
 // The passes of all cogs in one seat, and in their own again.
 ghost use Rattle.std.specs.Prelude.{◌≡◌, ◌<◌, ℕ, true, Some, None, length, slice_get, slice_set};
+ghost use Rattle.p8_ledger.specs.Records.{turns};
 ghost use Rattle.p8_desk.specs.declared.rider.Rider.{Rider};
+ghost use Rattle.p8_desk.specs.declared.rule.Known.{Known};
 ghost use Rattle.p8_desk.specs.Gathering.{Gathered, PartsOf, Riding};
 ghost use Rattle.p8_desk.specs.PassSets.{AllThere, HasOver, IsOut};
 ghost use Rattle.p8_desk.specs.Passes.{PassValue};
-ghost use Rattle.p8_desk.specs.Seats.{passed, Seated};
+ghost use Rattle.p8_desk.specs.Rules.{known};
+ghost use Rattle.p8_desk.specs.Seats.{passed, pass_in, Seated};
 
 use crate::desk::Desk;
 use crate::pass::CogPass;
@@ -20,7 +23,7 @@ pub type Riders = [Option<Rider>; 8];
 fn take_apart(pass: CogPass) -> (Place, Rider)
     ensures { PartsOf pass result.0.table_id result.0.me result.1 }
 {
-    let CogPass { seat, rider } = pass;
+    let CogPass { seat, rider, .. } = pass;
     (seat, rider)
 }
 
@@ -60,33 +63,34 @@ pub fn gather(desk: &Desk, passes: &mut Passes, riders: &mut Riders) -> Place
 }
 
 /// Puts a pass together and back into its place, which is empty.
-fn put_back(passes: &mut Passes, seat: Place, rider: Rider)
-    requires seated { Seated seat.me rider }
+fn put_back(passes: &mut Passes, seat: Place, rider: Rider, count: u64)
+    requires seated { Seated seat.me rider × (count ≡ length (turns (pass_in seat.me rider.cog).seen)) }
     requires out { IsOut rider.cog passes.old }
     ensures { passes.new ≡ slice_set passes.old rider.cog (Some (passed seat.table_id seat.me rider.cog rider.over)) }
 {
-    match passes.put(CogPass { seat, rider }) {
+    match passes.put(CogPass { seat, rider, count }) {
         Ok(()) => {}
         Err(_) => unreachable!(),
     }
 }
 
 /// Puts a pass together whose seat is given and that lies at its place among the riders.
-fn put_next(passes: &mut Passes, seat: Place, riders: &mut Riders, cog: u8)
-    requires there { (cog < 8) × (rider : Rider) × (slice_get riders.old cog ≡ Some (Some rider)) × (rider.cog ≡ cog) × Seated seat.me rider × IsOut cog passes.old }
+fn put_next(passes: &mut Passes, seat: Place, riders: &mut Riders, cog: u8, count: u64)
+    requires there { (cog < 8) × (rider : Rider) × (slice_get riders.old cog ≡ Some (Some rider)) × (rider.cog ≡ cog) × Seated seat.me rider × (count ≡ length (turns (pass_in seat.me rider.cog).seen)) × IsOut cog passes.old }
     ensures put { (rider : Rider) → slice_get riders.old cog ≡ Some (Some rider) → passes.new ≡ slice_set passes.old cog (Some (passed seat.table_id seat.me cog rider.over)) }
     ensures left { riders.new ≡ slice_set riders.old cog None }
 {
     match riders[cog as usize].take() {
-        Some(rider) => put_back(passes, seat, rider),
+        Some(rider) => put_back(passes, seat, rider, count),
         None => unreachable!(),
     }
 }
 
-/// Gives each pass a seat of its own again, and puts it back into its place.
-pub fn scatter(desk: &Desk, seat: Place, riders: &mut Riders, passes: &mut Passes)
+/// Gives each pass a seat of its own again, and puts it back into its place. They all have seen so many turns.
+pub fn scatter(desk: &Desk, seat: Place, riders: &mut Riders, passes: &mut Passes, count: u64)
     requires own { seat.table_id ≡ desk.now.table }
     requires riding { Riding desk.now.world seat.me riders.old }
+    requires seen { (n : ℕ) (p : Known) → known seat.me.0.passes n ≡ Some p → count ≡ length (turns p.seen) }
     requires out { (n : ℕ) → n < 8 → IsOut n passes.old }
     ensures there { AllThere desk.now passes.new }
     ensures over { (n : ℕ) (rider : Rider) → n < 8 → slice_get riders.old n ≡ Some (Some rider) → rider.over ≡ true → HasOver passes.new }
@@ -94,6 +98,6 @@ pub fn scatter(desk: &Desk, seat: Place, riders: &mut Riders, passes: &mut Passe
     let mut seat = seat;
     for cog in 0..8u8 {
         let own = part(&desk.table.shared, &mut seat, cog);
-        put_next(passes, own, riders, cog);
+        put_next(passes, own, riders, cog, count);
     }
 }

@@ -1,11 +1,10 @@
 // A desk before its first turn.
-ghost use Rattle.std.specs.Prelude.{◌≡◌, ◌≤◌, ◌<◌, ◌*◌, [], ◌∷◌, Some, IfOk, slice_get};
+ghost use Rattle.std.specs.Prelude.{◌≡◌, ◌≤◌, ◌<◌, ◌*◌, [], ◌∷◌, Some, IfOk};
 ghost use Rattle.p8_access.specs.Proper.{IsProperOrigin};
 ghost use Rattle.p8_ledger.specs.Worlds.{world_of};
 ghost use Rattle.p8_ledger.specs.declared.start.Start.{Start};
 ghost use Rattle.p8_ledger.specs.Ledgers.{Found};
 ghost use Rattle.p8_desk.specs.Opening.{fresh, new_places};
-ghost use Rattle.p8_desk.specs.Passes.{PassValue};
 ghost use Rattle.p8_desk.specs.Rules.{first_view, world_in, with_passes, new_pass};
 ghost use Rattle.p8_desk.specs.Runners.{Rides};
 
@@ -16,7 +15,6 @@ use crate::passes::Passes;
 use crate::rider::Rider;
 use crate::rule::{Board, Place, Tabletop};
 use crate::runner::Runner;
-use crate::shelf::{ShelfTable, lay_shelf};
 use crate::steps::part;
 use atomic_table::Table;
 use p8_access::Ram;
@@ -53,11 +51,10 @@ fn new_place(seat: Place, runner: Runner, cog: u8) -> Option<CogPass>
         cog,
         runner,
         made: 0,
-        known: 0,
         over: false,
-        last: 0,
     };
-    Some(CogPass { seat, rider })
+    let count = 0;
+    Some(CogPass { seat, rider, count })
 }
 
 /// The passes of all cogs, each with a seat of its own. Their operand stacks are cut from the region.
@@ -88,18 +85,6 @@ fn new_passes(
     Ok(Passes { places })
 }
 
-/// An empty shelf for these passes, of which that of cog 0 is there.
-fn shelf_beside(alloc: Global, passes: &Passes) -> Result<ShelfTable, NoMemory>
-    requires { (pass : PassValue) × (slice_get passes.now 0 ≡ Some (Some pass)) }
-    ensures key { (pass : PassValue) → slice_get passes.now 0 ≡ Some (Some pass) → IfOk result (λ shelf. shelf.shared.key ≡ pass) }
-    ensures shape { IfOk result (λ shelf. (shelf.shared.table_id.words ≡ 1) × (shelf.shared.table_id.slots ≡ 1)) }
-{
-    match &passes.places[0] {
-        Some(pass) => lay_shelf(alloc, pass),
-        None => unreachable!(),
-    }
-}
-
 impl Desk {
     /// A desk and the passes of its eight cogs, before the first turn. All memory of the run is taken here, the log of
     /// `limits.turns` turns and the operand stacks of Spin in one region.
@@ -114,14 +99,6 @@ impl Desk {
         let ledger = Ledger::open(alloc, &start, room.log)?;
         let (table, seat) = lay(alloc, &start, ledger)?;
         let passes = new_passes(alloc, &table.shared, seat, &start.boot.ram, room.stacks)?;
-        let shelf = shelf_beside(alloc, &passes)?;
-        Ok((
-            Desk {
-                table,
-                shelf,
-                start,
-            },
-            passes,
-        ))
+        Ok((Desk { table, start }, passes))
     }
 }

@@ -1,5 +1,5 @@
 // The pass of one cog.
-ghost use Rattle.std.specs.Prelude.{◌≡◌, ◌<◌, length};
+ghost use Rattle.std.specs.Prelude.{◌≡◌, length};
 ghost use Rattle.p8_ledger.specs.Records.{turns};
 
 use crate::rider::Rider;
@@ -11,31 +11,27 @@ use std::marker::Model;
 pub struct CogPass {
     pub(crate) seat: Place,
     pub(crate) rider: Rider,
+    /// How many turns the longest history has that was seen.
+    pub(crate) count: u64,
 }
 
 impl Model for CogPass {
+    ghost use Rattle.std.specs.Prelude.{◌≡◌, length};
+    ghost use Rattle.p8_ledger.specs.Records.{turns};
     ghost use Rattle.p8_desk.specs.Passes.{PassValue};
-    ghost use Rattle.p8_desk.specs.Seats.{passed, Seated};
+    ghost use Rattle.p8_desk.specs.Seats.{passed, pass_in, Seated};
 
     ghost Value = { PassValue };
 
     ghost view = { λ p. passed p.seat.table_id p.seat.me p.rider.cog p.rider.over };
 
-    ghost invariant = { λ p. Seated p.seat.me p.rider };
+    ghost invariant = { λ p. Seated p.seat.me p.rider × (p.count ≡ length (turns (pass_in p.seat.me p.rider.cog).seen)) };
 }
 
 impl CogPass {
     /// Whose pass it is.
     pub fn cog(&self) -> u8
         ensures { result ≡ self.now.cog }
-    {
-        self.rider.cog
-    }
-
-    /// Its place among the passes of all cogs, which is its cog's number.
-    pub(crate) fn place(&self) -> u8
-        ensures cog { result ≡ self.now.cog }
-        ensures near { result < 8 }
     {
         self.rider.cog
     }
@@ -51,12 +47,7 @@ impl CogPass {
     pub fn seen(&self) -> u64
         ensures { result ≡ length (turns self.now.steps.seen) }
     {
-        self.rider.known
-    }
-
-    /// Whether the life of the cog has something to do while others make turns: it has found no access yet.
-    pub(crate) fn can_run_on(&self) -> bool {
-        self.rider.runner.can_run_on()
+        self.count
     }
 
     /// Whether a try with this pass has answered `Over`.

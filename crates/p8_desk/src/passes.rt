@@ -1,9 +1,7 @@
 // The passes of a desk.
-ghost use Rattle.std.specs.Prelude.{◌≡◌, ◌<◌, ◌↔◌, Some, None, slice_get, slice_set, IsTrue, IfErr, OnOk, IfOk, IfSome, IsOk, replicate};
+ghost use Rattle.std.specs.Prelude.{◌≡◌, ◌<◌, ◌↔◌, Some, None, slice_get, slice_set, IfErr, OnOk, IfSome, IsOk};
 
 use crate::pass::CogPass;
-use p8_words::NoMemory;
-use std::alloc::Global;
 use std::marker::Model;
 
 /// Eight places, each with the pass of its cog or none.
@@ -27,25 +25,6 @@ impl Model for Passes {
 impl Passes {
     ghost use Rattle.p8_desk.specs.PassSets.{IsOut};
 
-    /// Whether the pass of a cog is out.
-    fn is_out(&self, cog: u8) -> bool
-        requires { cog < 8 }
-        ensures { IsTrue result ↔ IsOut cog self.now }
-    {
-        self.places[cog as usize].is_none()
-    }
-
-    /// Eight empty places.
-    pub(crate) fn empty(alloc: Global) -> Result<Passes, NoMemory>
-        ensures { IfOk result (λ passes. passes ≡ replicate 8 None) }
-    {
-        let none = [None, None, None, None, None, None, None, None];
-        let Ok(places) = Vec::from_array(alloc, none) else {
-            return Err(NoMemory);
-        };
-        Ok(Passes { places })
-    }
-
     /// Takes the pass of a cog: None exactly where it is out.
     pub fn take(&mut self, cog: u8) -> Option<CogPass>
         requires { cog < 8 }
@@ -62,10 +41,10 @@ impl Passes {
         ensures back { IfErr result (λ same. (same ≡ pass) × (self.new ≡ self.old)) }
         ensures exactly { IsOk result ↔ IsOut pass.cog self.old }
     {
-        if !self.is_out(pass.cog()) {
+        let place = pass.cog() as usize;
+        if self.places[place].is_some() {
             return Err(pass);
         }
-        let place = pass.cog() as usize;
         self.places[place] = Some(pass);
         Ok(())
     }

@@ -44,21 +44,14 @@ pub type Place = Seat<Option<Ledger>, View>;
 /// The table with its memory.
 pub type Tabletop = Table<Option<Ledger>, View, Start, DeskRule, Global>;
 
-/// The record that the passes of a seat come to see, where a proof names it.
-pub trait Told {
-    ghost use Rattle.std.specs.Prelude.{Option};
+/// The cog and the record that a proof speaks of.
+pub trait Named {
+    ghost use Rattle.std.specs.Prelude.{ℕ};
     ghost use Rattle.p8_ledger.specs.Records.{Record};
 
-    ghost named: { Option Record };
-}
+    ghost cog: { ℕ };
 
-/// It isn't named: the ledger stands for it, and no more is told.
-pub struct Unnamed;
-
-impl Told for Unnamed {
-    ghost use Rattle.std.specs.Prelude.{None};
-
-    ghost named = { None };
+    ghost seen: { Record };
 }
 
 /// An exchange on the lock word.
@@ -79,15 +72,15 @@ impl Play<Option<Ledger>, View> for Releases {
     ghost then = { Released };
 }
 
-/// The holder's passes see the record for which the ledger in its slot stands, which has gone on by steps of their cogs.
-pub struct CatchesUp<B> {
-    told: PhantomData<B>,
+/// The passes of the holder see a record that has gone on by steps of its cog.
+pub struct Tells<B> {
+    named: PhantomData<B>,
 }
 
-impl<B: Told> Play<Option<Ledger>, View> for CatchesUp<B> {
-    ghost use Rattle.p8_desk.specs.Rules.{Caught};
+impl<B: Named> Play<Option<Ledger>, View> for Tells<B> {
+    ghost use Rattle.p8_desk.specs.Rules.{Seen};
 
-    ghost then = { Caught B.named };
+    ghost then = { Seen B.seen };
 }
 
 /// A bell has changed, which tells nothing.
@@ -97,22 +90,6 @@ impl Play<Option<Ledger>, View> for Rings {
     ghost use Rattle.p8_desk.specs.Rules.{Rung};
 
     ghost then = { Rung };
-}
-
-/// A seat without a pass, to which nothing is told.
-pub struct Visits;
-
-impl Play<Option<Ledger>, View> for Visits {
-    ghost use Rattle.p8_desk.specs.Rules.{Visited};
-
-    ghost then = { Visited };
-}
-
-/// The cog whose pass a proof speaks of.
-pub trait Named {
-    ghost use Rattle.std.specs.Prelude.{ℕ};
-
-    ghost cog: { ℕ };
 }
 
 /// The pass of one cog goes to a seat of its own.

@@ -3,25 +3,19 @@ ghost use Rattle.std.specs.Prelude.{◌≡◌, ◌+◌, ◌<◌, true, [], Some,
 ghost use Rattle.atomic_table.specs.Table.{step as move};
 ghost use mathlib.Core.Option.{none};
 ghost use Rattle.p8_desk.specs.declared.rule.Known.{Known};
-ghost use Rattle.p8_desk.specs.Rules.{known, Seized, Released, Caught, CanTell, CanFree, without_pass, pass_alone, joined};
+ghost use Rattle.p8_desk.specs.Rules.{known, Seized, Released, Seen, CanTell, CanFree, seeing, without_pass, pass_alone, joined};
 ghost use Rattle.p8_desk.specs.Seats.{worked_in};
 
-use crate::rule::{
-    Board, CatchesUp, Joins, Named, Parts, Place, Releases, Seizes, Told, Unnamed, Visits,
-};
+use crate::rule::{Board, Joins, Named, Parts, Place, Releases, Seizes, Tells};
 use crate::tries::Outcome;
 use std::marker::Brand;
 
-impl Told for Brand {
-    ghost use Rattle.std.specs.Prelude.{None};
-
-    ghost named = { None };
-}
-
 impl Named for Brand {
-    ghost use Rattle.std.specs.Prelude.{zero};
+    ghost use Rattle.std.specs.Prelude.{zero, []};
 
     ghost cog = { zero };
+
+    ghost seen = { [] };
 }
 
 /// Tries once to take the free lock word for a cog, and with it what lies in the slot. Answers what it found
@@ -41,45 +35,33 @@ pub fn seize(board: &Board, seat: &mut Place, cog: u8) -> u64
 pub fn release(board: &Board, seat: &mut Place)
     requires own { seat.old.table_id ≡ board.now.table_id }
     requires shape { (board.now.table_id.words ≡ 72) × (board.now.table_id.slots ≡ 1) }
-    requires holds { CanFree seat.old.me }
+    requires free { CanFree seat.old.me }
     ensures own { (seat.new.table_id ≡ seat.old.table_id) × (seat.new.id ≡ seat.old.id) }
     ensures released { Released (move 1 0 0 0 none) seat.old.me 0 seat.new.me }
 {
     board.store::<Releases>(seat, 0, 0);
 }
 
-/// The passes of the holder see the record for which its ledger stands: it has gone on by steps of their cogs, and has so many
-/// turns. What was added to it need not be told step by step.
-pub fn catch_up(board: &Board, seat: &mut Place, count: u64)
+fn tell_named<B: Named>(board: &Board, seat: &mut Place, cog: u8, outcome: Outcome)
     requires own { seat.old.table_id ≡ board.now.table_id }
     requires shape { (board.now.table_id.words ≡ 72) × (board.now.table_id.slots ≡ 1) }
-    requires holds { CanTell None count seat.old.me }
+    requires told { CanTell cog B.seen outcome.count seat.old.me }
     ensures own { (seat.new.table_id ≡ seat.old.table_id) × (seat.new.id ≡ seat.old.id) }
-    ensures caught { Caught None (move 1 1 count 0 none) seat.old.me 0 seat.new.me }
+    ensures told { Seen B.seen (move 1 1 outcome.count 0 none) seat.old.me 0 seat.new.me }
 {
-    board.store::<CatchesUp<Unnamed>>(seat, 1, count);
+    let _ = cog;
+    board.store::<Tells<B>>(seat, 1, outcome.count);
 }
 
-fn tell_as<B: Told>(board: &Board, seat: &mut Place, cog: u8, outcome: Outcome, count: u64)
+/// The passes of the holder see what came of a try of its cog, and the turns are counted.
+pub fn tell(board: &Board, seat: &mut Place, cog: u8, outcome: Outcome)
     requires own { seat.old.table_id ≡ board.now.table_id }
     requires shape { (board.now.table_id.words ≡ 72) × (board.now.table_id.slots ≡ 1) }
-    requires holds { CanTell B.named count seat.old.me }
+    requires told { CanTell cog (worked_in seat.old.me cog outcome) outcome.count seat.old.me }
     ensures own { (seat.new.table_id ≡ seat.old.table_id) × (seat.new.id ≡ seat.old.id) }
-    ensures caught { Caught B.named (move 1 1 count 0 none) seat.old.me 0 seat.new.me }
+    ensures told { seat.new.me ≡ (seeing seat.old.me.0 (worked_in seat.old.me cog outcome), seat.old.me.1) }
 {
-    let _ = (cog, outcome);
-    board.store::<CatchesUp<B>>(seat, 1, count);
-}
-
-/// The same after one try of a cog: it has gone on by what came of that, and by nothing else.
-pub fn tell(board: &Board, seat: &mut Place, cog: u8, outcome: Outcome, count: u64)
-    requires own { seat.old.table_id ≡ board.now.table_id }
-    requires shape { (board.now.table_id.words ≡ 72) × (board.now.table_id.slots ≡ 1) }
-    requires holds { CanTell (Some (worked_in seat.old.me cog outcome)) count seat.old.me }
-    ensures own { (seat.new.table_id ≡ seat.old.table_id) × (seat.new.id ≡ seat.old.id) }
-    ensures caught { Caught (Some (worked_in seat.old.me cog outcome)) (move 1 1 count 0 none) seat.old.me 0 seat.new.me }
-{
-    tell_as::<Brand>(board, seat, cog, outcome, count);
+    tell_named::<Brand>(board, seat, cog, outcome);
 }
 
 fn part_named<B: Named>(board: &Board, seat: &mut Place, cog: u8) -> Place
@@ -101,14 +83,6 @@ pub fn part(board: &Board, seat: &mut Place, cog: u8) -> Place
     ensures parted { (seat.new.me ≡ (without_pass cog seat.old.me.0, seat.old.me.1)) × (result.me ≡ (pass_alone cog seat.old.me.0, [])) }
 {
     part_named::<Brand>(board, seat, cog)
-}
-
-/// A seat that has no pass, and never gets one.
-pub fn visit(board: &Board) -> Place
-    requires { 0 < board.now.table_id.words }
-    ensures { result.table_id ≡ board.now.table_id }
-{
-    board.load_new_seat::<Visits>(0).1
 }
 
 /// Takes in the passes of another seat.

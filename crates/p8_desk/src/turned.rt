@@ -15,16 +15,3 @@ pub enum Turned {
     /// The history has ended.
     Over,
 }
-
-/// What comes of a try with the ledger in hand: as what a try answers, but for the turn, which is the log's newest.
-#[derive(Clone, Copy)]
-pub enum Went {
-    /// The cog's turn was made.
-    Made,
-    /// The turn of another cog may come first, at this clock.
-    After { cog: u8, bound: u64 },
-    /// No turn comes before the cog's own promise of this clock.
-    Ahead { bound: u64 },
-    /// The history has ended.
-    Over,
-}

@@ -1,21 +1,16 @@
-use Rattle.std.proofs.Common.{◌≡◌, ◌<◌, Some, true}
-use Rattle.std.specs.Prelude.{slice_get}
-use Rattle.p8_access.specs.Worlds.{World}
-use Rattle.p8_ledger.specs.Ledgers.{Found}
-use Rattle.p8_ledger.specs.Records.{Record}
-use Rattle.p8_desk.specs.declared.rider.Rider.{Rider}
-use Rattle.p8_desk.specs.Driving.{left_in}
-use Rattle.p8_desk.specs.Gathering.{AllCarry}
-use Rattle.p8_desk.specs.Seats.{is_over}
-use Rattle.p8_desk.proofs.Driving.{Driven}
+use Rattle.std.proofs.Common.{◌≡◌, ◌<◌}
+use Rattle.p8_desk.specs.Driving.{left_to_do}
+use Rattle.p8_desk.specs.Gathering.{HasRode}
+use Rattle.p8_desk.specs.Rules.{Hand}
+use Rattle.p8_desk.specs.Seats.{pass_in}
 use Rattle.p8_desk.proofs.drive.drive.Given as goal
 
 abbrev pub invariant-loop-next : goal.invariant-loop-next
 invariant-loop-next l = record {
+  table : l.seat.table_id ≡ l.fn.desk.table;
   near : l.cog < 8;
-  driven : (w : World) (r : Record) → l.fn.script ≡ w.script → l.fn.until ≡ w.clocks → Found w l.fn.ledger r → AllCarry w r l.fn.riders → Driven w l.cog r l.ledger l.riders l.answer;
-  over : is_over l.answer ≡ true → (rider : Rider) × (slice_get l.riders l.cog ≡ Some (Some rider)) × (rider.over ≡ true);
+  rode : (before : Hand) × HasRode l.fn.desk.world l.cog before l.seat.me l.riders l.count l.answer;
 }
 
 abbrev pub decreases-loop-next : goal.decreases-loop-next
-decreases-loop-next l = left_in l.ledger l.answer
+decreases-loop-next l = left_to_do l.fn.desk.world (pass_in l.seat.me l.cog).seen l.answer

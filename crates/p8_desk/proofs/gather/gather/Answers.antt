@@ -39,7 +39,7 @@ join-requires-clause-own c =
     let s = c.take_seat-other.ensures.own p.0 (c.loop-cog.invariant.rest c.loop-cog.cog (omega arith) ∙ p.1) in
     let desk : c.args.desk.now.table ≡ c.desk.inside.table.shared.table_id = sym (ap (λ (d : DeskValue). d.table) c.desk.view_is) in
     let words = c.desk.invariant.1 in
-    (c.loop-cog.invariant.table ∙ desk, ap (λ (q : PassValue). q.table) (s.2).whole ∙ p.2.table ∙ desk, omega arith, (s.2).seated.seat.empty)
+    (c.loop-cog.invariant.table ∙ desk, ap (λ (q : PassValue). q.table) (s.2).whole ∙ p.2.table ∙ desk, omega arith, (s.2).seated.idle.empty)
 
 pub join-requires-clause-free : goal.join-requires-clause-free
 join-requires-clause-free c =
@@ -47,7 +47,7 @@ join-requires-clause-free c =
     let p = c.requires.there.each c.loop-cog.cog (omega arith) in
     let s = c.take_seat-other.ensures.own p.0 (c.loop-cog.invariant.rest c.loop-cog.cog (omega arith) ∙ p.1) in
     let idle = c.loop-cog.invariant.gathered.idle in
-    (idle.live, idle.free, (s.2).seated.seat.live, (s.2).seated.seat.free)
+    (idle.live, idle.free, (s.2).seated.idle.live, (s.2).seated.idle.free)
 
 pub loop-cog-preserved : goal.loop-cog-preserved
 loop-cog-preserved c =

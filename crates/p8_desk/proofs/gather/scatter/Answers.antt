@@ -1,10 +1,11 @@
-use Rattle.std.proofs.Common.{◌≡◌, ◌∙◌, ap, sym, subst, refl, List, Option, None, arith}
+use Rattle.std.proofs.Common.{◌≡◌, ◌∙◌, ap, sym, subst, refl, length, List, Option, None, arith}
 use Rattle.std.specs.Prelude.{slice_get}
+use Rattle.p8_ledger.specs.Records.{turns}
 use Rattle.p8_desk.specs.declared.rider.Rider.{Rider}
-use Rattle.p8_desk.specs.Gathering.{Idle}
+use Rattle.p8_desk.specs.declared.rule.Known.{Known}
 use Rattle.p8_desk.specs.Passes.{PassValue}
 use Rattle.p8_desk.specs.Rules.{Hand, known, world_in}
-use Rattle.p8_desk.specs.Seats.{Seated, passed}
+use Rattle.p8_desk.specs.Seats.{Idle, Seated, pass_in, passed}
 use Rattle.p8_desk.proofs.Gathering.{set-beside, at-below}
 use Rattle.p8_desk.proofs.Lookups.{known-kept}
 use Rattle.p8_desk.proofs.Scattering.{alone-seated, idle-without, all-back, over-back, back-more}
@@ -14,14 +15,15 @@ pub put_next-requires : goal.put_next-requires
 put_next-requires c =
     let below = c.loop-cog-test.true in
     let one = c.requires.riding.each c.loop-cog.cog (omega arith) in
-    let inv = c.loop-cog.invariant in record {
+    let inv = c.loop-cog.invariant in
+    let alone = alone-seated c.args.desk.now.world c.loop-cog.seat.me c.args.riders.now c.loop-cog.cog (omega arith) inv.idle (record { p = one.p; rider = one.rider; has = inv.has c.loop-cog.cog (omega arith) ∙ one.has; there = one.there; cog = one.cog; keeps = one.keeps }) in record {
       there = (
         omega arith,
         one.rider,
         inv.rest c.loop-cog.cog (omega arith) ∙ one.there,
         one.cog,
-        subst (λ (m : Hand). Seated m one.rider) (sym c.part-own.ensures.parted.1)
-            (alone-seated c.args.desk.now.world c.loop-cog.seat.me c.args.riders.now c.loop-cog.cog (omega arith) inv.idle (record { p = one.p; rider = one.rider; has = inv.has c.loop-cog.cog (omega arith) ∙ one.has; there = one.there; cog = one.cog; keeps = one.keeps })),
+        (subst (λ (m : Hand). Seated m one.rider × (pass_in m one.rider.cog ≡ one.p)) (sym c.part-own.ensures.parted.1) alone).0,
+        c.requires.seen c.loop-cog.cog one.p one.has ∙ ap (λ (p : Known). length (turns p.seen)) (sym (subst (λ (m : Hand). Seated m one.rider × (pass_in m one.rider.cog ≡ one.p)) (sym c.part-own.ensures.parted.1) alone).1),
         inv.out c.loop-cog.cog (omega arith) (omega arith),
       );
     }

@@ -1,8 +1,8 @@
 use Rattle.std.proofs.Common.{◌≡◌, ◌≤◌, ◌<◌, ℕ}
 use Rattle.std.specs.Prelude.{slice_get}
-use Rattle.p8_desk.specs.Gathering.{Idle}
 use Rattle.p8_desk.specs.PassSets.{IsOut}
 use Rattle.p8_desk.specs.Rules.{known}
+use Rattle.p8_desk.specs.Seats.{Idle}
 use Rattle.p8_desk.proofs.Scattering.{IsBack}
 use Rattle.p8_desk.proofs.gather.scatter.Given as goal
 

@@ -1,75 +1,55 @@
-use Rattle.std.proofs.Common.{◌≡◌, ◌∙◌, [], ℕ, Option, Some, ap, sym, subst, refl}
-use Rattle.p8_ledger.specs.Records.{Record}
-use Rattle.p8_desk.specs.declared.rider.Rider.{Rider}
-use Rattle.p8_desk.specs.declared.rule.Known.{Known}
-use Rattle.p8_desk.specs.Rules.{Hand, known, releasing, seen_as}
-use Rattle.p8_desk.specs.Seats.{pass_in, or_new, steps_of, worked_in}
-use Rattle.p8_desk.specs.Tries.{Tried}
-use Rattle.p8_desk.specs.Work.{worked_by}
-use Rattle.p8_desk.proofs.Carrying.{on-worked, on-none}
-use Rattle.p8_desk.proofs.Telling.{can-tell, told-as, can-free}
-use Rattle.p8_desk.proofs.Trying.{holds-for, on-passes, seated-told, tried-as}
+use Rattle.std.proofs.Common.{sym, ap, refl}
+use Rattle.p8_access.specs.Worlds.{World}
+use Rattle.p8_desk.specs.Passes.{DeskValue}
+use Rattle.p8_desk.specs.Rules.{Hand}
+use Rattle.p8_desk.specs.Seats.{Keeps}
+use Rattle.p8_desk.proofs.Carrying.{carries-found, carries-ran}
+use Rattle.p8_desk.proofs.Trying.{lost, won, can-tell, can-free, rode}
 use Rattle.p8_desk.proofs.rider.Rider.ride.Goals as goal
 
-pub tell-requires-clause-holds : goal.tell-requires-clause-holds
-tell-requires-clause-holds c =
-    let e = c.in_default.ensures.entered in
-    let held = e.held in
-    let n = c.enter.new.self.cog in
-    let x = c.work_in_slot-outcome.ensures.worked held in
-    let s : Record = worked_by n c.work_in_slot-outcome.result held.p.seen in
-    let same : worked_in c.work_in_slot-outcome.new.seat.me n c.work_in_slot-outcome.result ≡ s = (λ i. worked_by n c.work_in_slot-outcome.result (or_new n (known (x.1 i).0.passes n)).seen) ∙ ap (λ (o : Option Known). worked_by n c.work_in_slot-outcome.result (or_new n o).seen) held.has in
-    let on = on-worked (λ (m : ℕ). m ≡ n) c.args.desk.now.world n refl _ held.p.seen held.p.seen c.work_in_slot-outcome.result x.0 _ x.2 (on-none (λ (m : ℕ). m ≡ n) held.p.seen) in
-    can-tell c.args.desk.now.world c.enter.new.seat.me.0 n held.p (holds-for _ _ _ held) x.0 (Some (worked_in c.work_in_slot-outcome.new.seat.me n c.work_in_slot-outcome.result)) s c.work_in_slot-outcome.new.self.known c.work_in_slot-outcome.new.seat.me x.1 (on-passes _ _ _ held s on) x.2.settled.stands x.4 (sym same)
+pub returns-then-found-ne0-clause-rode : goal.returns-then-found-ne0-clause-rode
+returns-then-found-ne0-clause-rode c = λ p has keeps.
+    let limit = ap (λ (d : DeskValue). d.world.clocks) (sym c.desk.view_is) in
+    (lost c.args.self.now.cog c.seize-found.result c.args.seat.now.me c.seize-found.new.seat.me c.if-found-ne0.true c.seize-found.ensures.seized, carries-ran c.args.desk.now.world p.seen c.args.self.now c.find.new.self keeps.carries (c.find.ensures.rides c.args.desk.now.world c.args.self.now.cog p.seen limit keeps.carries.rides), refl)
 
-pub release-requires-clause-holds : goal.release-requires-clause-holds
-release-requires-clause-holds c =
-    let e = c.in_default.ensures.entered in
-    let held = e.held in
-    let n = c.enter.new.self.cog in
-    let x = c.work_in_slot-outcome.ensures.worked held in
-    let s : Record = worked_by n c.work_in_slot-outcome.result held.p.seen in
-    let same : worked_in c.work_in_slot-outcome.new.seat.me n c.work_in_slot-outcome.result ≡ s = (λ i. worked_by n c.work_in_slot-outcome.result (or_new n (known (x.1 i).0.passes n)).seen) ∙ ap (λ (o : Option Known). worked_by n c.work_in_slot-outcome.result (or_new n o).seen) held.has in
-    let r = told-as c.args.desk.now.world c.enter.new.seat.me.0 n held.p (holds-for _ _ _ held) x.0 (Some (worked_in c.work_in_slot-outcome.new.seat.me n c.work_in_slot-outcome.result)) c.work_in_slot-outcome.new.seat.me c.tell.new.seat.me x.1 c.tell.ensures.caught in
-    can-free c.args.desk.now.world c.enter.new.seat.me.0 n held.p (holds-for _ _ _ held) x.0 r.0 c.tell.new.seat.me r.3 r.1
+pub work_in_slot-outcome-requires-clause-has : goal.work_in_slot-outcome-requires-clause-has
+work_in_slot-outcome-requires-clause-has c =
+    let h = c.requires.pass in
+    let n = c.args.self.now.cog in
+    let w : World = c.args.desk.now.world in
+    let limit = ap (λ (d : DeskValue). d.world.clocks) (sym c.desk.view_is) in
+    let k = won w n c.seize-found.result c.args.seat.now.me c.seize-found.new.seat.me c.requires.idle c.if-found-ne0.false c.seize-found.ensures.seized in
+    let keeps : Keeps w h.0 (record c.args.self.now { runner = c.find.new.self }) = record { own = h.2.own; carries = carries-ran w h.0.seen c.args.self.now c.find.new.self h.2.carries (c.find.ensures.rides w n h.0.seen limit h.2.carries.rides) } in
+    (k.ledger, k.r, ap (λ (a : Hand). a.1) k.hand, k.stands, carries-found w n k.r h.0 _ refl (k.agrees n h.0 h.1) k.stands.legal keeps)
 
-pub returns-clause-own : goal.returns-clause-own
-returns-clause-own c =
-    let e = c.in_default.ensures.entered in
-    let held = e.held in
-    let n = c.enter.new.self.cog in
-    let x = c.work_in_slot-outcome.ensures.worked held in
-    let s : Record = worked_by n c.work_in_slot-outcome.result held.p.seen in
-    let same : worked_in c.work_in_slot-outcome.new.seat.me n c.work_in_slot-outcome.result ≡ s = (λ i. worked_by n c.work_in_slot-outcome.result (or_new n (known (x.1 i).0.passes n)).seen) ∙ ap (λ (o : Option Known). worked_by n c.work_in_slot-outcome.result (or_new n o).seen) held.has in
-    let r = told-as c.args.desk.now.world c.enter.new.seat.me.0 n held.p (holds-for _ _ _ held) x.0 (Some (worked_in c.work_in_slot-outcome.new.seat.me n c.work_in_slot-outcome.result)) c.work_in_slot-outcome.new.seat.me c.tell.new.seat.me x.1 c.tell.ensures.caught in (
-      c.release.ensures.own.0 ∙ c.tell.ensures.own.0 ∙ c.work_in_slot-outcome.ensures.own.0 ∙ c.in_default.ensures.own.0,
-      ap (λ (m : Hand). m.0.start) c.release.ensures.released ∙ ap (λ (m : Hand). m.0.start) r.3 ∙ c.in_default.ensures.own.1,
-      c.work_in_slot-outcome.ensures.own.1 ∙ ap (λ (k : Rider). k.cog) c.in_default.ensures.same,
-    )
+pub tell-requires-clause-told : goal.tell-requires-clause-told
+tell-requires-clause-told c =
+    let h = c.requires.pass in
+    let n = c.args.self.now.cog in
+    let w : World = c.args.desk.now.world in
+    let limit = ap (λ (d : DeskValue). d.world.clocks) (sym c.desk.view_is) in
+    let k = won w n c.seize-found.result c.args.seat.now.me c.seize-found.new.seat.me c.requires.idle c.if-found-ne0.false c.seize-found.ensures.seized in
+    let keeps : Keeps w h.0 (record c.args.self.now { runner = c.find.new.self }) = record { own = h.2.own; carries = carries-ran w h.0.seen c.args.self.now c.find.new.self h.2.carries (c.find.ensures.rides w n h.0.seen limit h.2.carries.rides) } in
+    let x = c.work_in_slot-outcome.ensures.worked k.ledger k.r (ap (λ (a : Hand). a.1) k.hand) k.stands (carries-found w n k.r h.0 _ refl (k.agrees n h.0 h.1) k.stands.legal keeps) in
+    can-tell w n c.args.seat.now.me c.seize-found.new.seat.me h.0 c.requires.idle h.1 k _ c.work_in_slot-outcome.result x.0 _ x.2 c.work_in_slot-outcome.new.seat.me x.1
 
-pub returns-clause-seated : goal.returns-clause-seated
-returns-clause-seated c =
-    let e = c.in_default.ensures.entered in
-    let held = e.held in
-    let n = c.enter.new.self.cog in
-    let x = c.work_in_slot-outcome.ensures.worked held in
-    let s : Record = worked_by n c.work_in_slot-outcome.result held.p.seen in
-    let same : worked_in c.work_in_slot-outcome.new.seat.me n c.work_in_slot-outcome.result ≡ s = (λ i. worked_by n c.work_in_slot-outcome.result (or_new n (known (x.1 i).0.passes n)).seen) ∙ ap (λ (o : Option Known). worked_by n c.work_in_slot-outcome.result (or_new n o).seen) held.has in
-    let r = told-as c.args.desk.now.world c.enter.new.seat.me.0 n held.p (holds-for _ _ _ held) x.0 (Some (worked_in c.work_in_slot-outcome.new.seat.me n c.work_in_slot-outcome.result)) c.work_in_slot-outcome.new.seat.me c.tell.new.seat.me x.1 c.tell.ensures.caught in
-    (seated-told c.args.desk.now.world c.enter.new.seat.me c.enter.new.self held c.release.new.seat.me c.work_in_slot-outcome.new.self x.0 r.0 s x.2.settled.stands r.1 (c.release.ensures.released ∙ ap (λ (m : Hand). (releasing m.0, [])) r.3) c.work_in_slot-outcome.ensures.own.1 x.3 x.4).0
+pub release-requires-clause-free : goal.release-requires-clause-free
+release-requires-clause-free c =
+    let h = c.requires.pass in
+    let n = c.args.self.now.cog in
+    let w : World = c.args.desk.now.world in
+    let limit = ap (λ (d : DeskValue). d.world.clocks) (sym c.desk.view_is) in
+    let k = won w n c.seize-found.result c.args.seat.now.me c.seize-found.new.seat.me c.requires.idle c.if-found-ne0.false c.seize-found.ensures.seized in
+    let keeps : Keeps w h.0 (record c.args.self.now { runner = c.find.new.self }) = record { own = h.2.own; carries = carries-ran w h.0.seen c.args.self.now c.find.new.self h.2.carries (c.find.ensures.rides w n h.0.seen limit h.2.carries.rides) } in
+    let x = c.work_in_slot-outcome.ensures.worked k.ledger k.r (ap (λ (a : Hand). a.1) k.hand) k.stands (carries-found w n k.r h.0 _ refl (k.agrees n h.0 h.1) k.stands.legal keeps) in
+    can-free w n c.args.seat.now.me c.seize-found.new.seat.me h.0 c.requires.idle h.1 k _ c.work_in_slot-outcome.result x.0 _ x.2 c.work_in_slot-outcome.new.seat.me x.1 c.tell.new.seat.me c.tell.ensures.told
 
-pub returns-clause-tried : goal.returns-clause-tried
-returns-clause-tried c =
-    let e = c.in_default.ensures.entered in
-    let held = e.held in
-    let n = c.enter.new.self.cog in
-    let x = c.work_in_slot-outcome.ensures.worked held in
-    let s : Record = worked_by n c.work_in_slot-outcome.result held.p.seen in
-    let same : worked_in c.work_in_slot-outcome.new.seat.me n c.work_in_slot-outcome.result ≡ s = (λ i. worked_by n c.work_in_slot-outcome.result (or_new n (known (x.1 i).0.passes n)).seen) ∙ ap (λ (o : Option Known). worked_by n c.work_in_slot-outcome.result (or_new n o).seen) held.has in
-    let r = told-as c.args.desk.now.world c.enter.new.seat.me.0 n held.p (holds-for _ _ _ held) x.0 (Some (worked_in c.work_in_slot-outcome.new.seat.me n c.work_in_slot-outcome.result)) c.work_in_slot-outcome.new.seat.me c.tell.new.seat.me x.1 c.tell.ensures.caught in
-    let own : n ≡ c.args.self.now.cog = ap (λ (k : Rider). k.cog) c.in_default.ensures.same in
-    let here = (seated-told c.args.desk.now.world c.enter.new.seat.me c.enter.new.self held c.release.new.seat.me c.work_in_slot-outcome.new.self x.0 r.0 s x.2.settled.stands r.1 (c.release.ensures.released ∙ ap (λ (m : Hand). (releasing m.0, [])) r.3) c.work_in_slot-outcome.ensures.own.1 x.3 x.4).2 in
-    let seen : pass_in c.release.new.seat.me n ≡ seen_as s held.p = here ∙ ap (λ (t : Record). seen_as t held.p) (r.2 ∙ same) in
-    let done = tried-as c.args.desk.now.world c.enter.new.seat.me c.enter.new.self held _ c.work_in_slot-outcome.result x.0 _ (pass_in c.args.seat.now.me c.args.self.now.cog) x.2 e.began e.same e.won e.found in
-    subst (λ (k : ℕ). Tried c.args.desk.now.world k (steps_of (pass_in c.args.seat.now.me c.args.self.now.cog)) (steps_of (pass_in c.release.new.seat.me k)) c.work_in_slot-outcome.result.answer) own
-    (subst (λ (q : Known). Tried c.args.desk.now.world n (steps_of (pass_in c.args.seat.now.me c.args.self.now.cog)) (steps_of q) c.work_in_slot-outcome.result.answer) (sym seen) done)
+pub returns-clause-rode : goal.returns-clause-rode
+returns-clause-rode c = λ p has kept.
+    let n = c.args.self.now.cog in
+    let w : World = c.args.desk.now.world in
+    let limit = ap (λ (d : DeskValue). d.world.clocks) (sym c.desk.view_is) in
+    let k = won w n c.seize-found.result c.args.seat.now.me c.seize-found.new.seat.me c.requires.idle c.if-found-ne0.false c.seize-found.ensures.seized in
+    let keeps : Keeps w p (record c.args.self.now { runner = c.find.new.self }) = record { own = kept.own; carries = carries-ran w p.seen c.args.self.now c.find.new.self kept.carries (c.find.ensures.rides w n p.seen limit kept.carries.rides) } in
+    let x = c.work_in_slot-outcome.ensures.worked k.ledger k.r (ap (λ (a : Hand). a.1) k.hand) k.stands (carries-found w n k.r p _ refl (k.agrees n p has) k.stands.legal keeps) in
+    rode w n c.args.seat.now.me c.seize-found.new.seat.me p c.requires.idle has k _ c.work_in_slot-outcome.result x.0 _ x.2 c.work_in_slot-outcome.new.seat.me x.1 c.tell.new.seat.me c.tell.ensures.told c.release.new.seat.me c.args.count.now c.release.ensures.released
