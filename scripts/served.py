@@ -31,7 +31,7 @@ class Failing(NamedTuple):
 
 class Step(NamedTuple):
     """A run: the program's words, and the file of the folder into which its output goes; no other run of a request
-    writes that file."""
+    writes that file. Nothing is read back from a device, whose path is whole."""
 
     words: list
     out: str = "out"
@@ -110,7 +110,8 @@ class Served:
             told += more
         ended, microseconds, calls = ANSWER.unpack(told)
         status = -os.WTERMSIG(ended) if os.WIFSIGNALED(ended) else os.WEXITSTATUS(ended)
-        return Left(status, self.get(step.out), self.get(f"told{place}"), microseconds / 1e6, calls)
+        out = b"" if os.path.isabs(step.out) else self.get(step.out)
+        return Left(status, out, self.get(f"told{place}"), microseconds / 1e6, calls)
 
 
 def status_text(status):
