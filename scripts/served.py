@@ -55,6 +55,7 @@ class Served:
         room = "/dev/shm" if os.path.isdir("/dev/shm") else None
         self.kept = tempfile.TemporaryDirectory(prefix="prop-", dir=room)
         self.folder = self.kept.name
+        self.path_of_program = os.path.realpath(program)
         self.bounds = str(processor), str(passed)
         library = os.path.join(self.folder, "served.so")
         source = os.path.join(HERE, "served.c")
@@ -62,7 +63,7 @@ class Served:
         ours, theirs = socket.socketpair()
         self.socket = ours
         self.program = subprocess.Popen(
-            [os.path.realpath(program)],
+            [self.path_of_program],
             cwd=self.folder,
             env={"LD_PRELOAD": library, "SERVED": str(theirs.fileno())},
             pass_fds=[theirs.fileno()],
