@@ -2,6 +2,7 @@
 and command lines, well formed or damaged."""
 
 import re
+import struct
 
 import expected
 
@@ -496,3 +497,57 @@ def words(random):
     if random.random() < 0.1 and line:
         line.pop(random.randrange(len(line)))
     return [command, *line]
+
+
+def changed_history(random, history):
+    """A history file that is changed so that its cause is known: the file, the turn and the cause that a check tells."""
+    clocks, most, count = struct.unpack_from("<III", history, 4)
+    turns = [history[at : at + 24] for at in range(16, len(history), 24)]
+    place = random.randrange(count)
+    kind = random.choice(["form", "extra", "key", "access", "answer", "more"])
+    if kind == "form":
+        return form_changed(random, history, turns, place)
+    if kind == "extra":
+        # Within less the history has ended before.
+        if random.random() < 0.5:
+            most = place
+        else:
+            clocks = int.from_bytes(turns[place][:4], "little")
+            place = next(at for at, turn in enumerate(turns) if int.from_bytes(turn[:4], "little") >= clocks)
+    elif kind == "more":
+        turns = turns[:place]
+    else:
+        turns[place] = turn_changed(random, turns[place], kind)
+    head = history[:4] + struct.pack("<III", clocks, most, len(turns))
+    return head + b"".join(turns), place + 1, kind
+
+
+def form_changed(random, history, turns, place):
+    """A history without the form of one."""
+    way = random.randrange(6)
+    if way == 0:
+        return b"P8H2" + history[4:], 0, "form"
+    if way == 1:
+        at, most = random.choice([(4, 100_000_000), (8, 40_000), (12, 40_000)])
+        return history[:at] + struct.pack("<I", most + 1) + history[at + 4 :], 0, "form"
+    if way == 2:
+        return history + bytes(random.choice([1, 24])), len(turns) + 1, "form"
+    if way == 3:
+        return history[: 16 + 24 * place + random.randrange(24)], place + 1, "form"
+    # A cog, a kind of access, a kind of answer that there isn't, or a further byte that no access has.
+    at, value = random.choice([(4, 8), (5, 18), (6, 6), (7, 200)])
+    turn = turns[place][:at] + bytes([value]) + turns[place][at + 1 :]
+    return history[: 16 + 24 * place] + turn + history[16 + 24 * (place + 1) :], place + 1, "form"
+
+
+def turn_changed(random, turn, kind):
+    """A turn with another key, another access or another answer, of good form."""
+    clock, cog, access, answer, further, a, b, c, value = expected.TURN.unpack(turn)
+    if kind == "key":
+        clock, cog = random.choice([(clock + 1, cog), (clock ^ 16, cog), (clock, (cog + 1) % 8)])
+    elif kind == "access":
+        # A cog asks for its number where it asks something else, or takes a lock.
+        access, further, a, b, c = (7 if access == 4 else 4), 0, 0, 0, 0
+    else:
+        answer, value = (0, 0) if answer != 0 else (1, random.randrange(1 << 32))
+    return expected.TURN.pack(clock, cog, access, answer, further, a, b, c, value)

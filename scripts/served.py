@@ -31,7 +31,7 @@ class Failing(NamedTuple):
 
 class Step(NamedTuple):
     """A run: the program's words, and the file of the folder into which its output goes; no other run of a request
-    writes that file."""
+    writes that file. Nothing is read back from a device, whose path is whole."""
 
     words: list
     out: str = "out"
@@ -55,6 +55,7 @@ class Served:
         room = "/dev/shm" if os.path.isdir("/dev/shm") else None
         self.kept = tempfile.TemporaryDirectory(prefix="prop-", dir=room)
         self.folder = self.kept.name
+        self.path_of_program = os.path.realpath(program)
         self.bounds = str(processor), str(passed)
         library = os.path.join(self.folder, "served.so")
         source = os.path.join(HERE, "served.c")
@@ -62,7 +63,7 @@ class Served:
         ours, theirs = socket.socketpair()
         self.socket = ours
         self.program = subprocess.Popen(
-            [os.path.realpath(program)],
+            [self.path_of_program],
             cwd=self.folder,
             env={"LD_PRELOAD": library, "SERVED": str(theirs.fileno())},
             pass_fds=[theirs.fileno()],
@@ -110,7 +111,8 @@ class Served:
             told += more
         ended, microseconds, calls = ANSWER.unpack(told)
         status = -os.WTERMSIG(ended) if os.WIFSIGNALED(ended) else os.WEXITSTATUS(ended)
-        return Left(status, self.get(step.out), self.get(f"told{place}"), microseconds / 1e6, calls)
+        out = b"" if os.path.isabs(step.out) else self.get(step.out)
+        return Left(status, out, self.get(f"told{place}"), microseconds / 1e6, calls)
 
 
 def status_text(status):
