@@ -6,7 +6,7 @@ mod places;
 
 use crate::asked::AskedShelf;
 use crate::places::tell_places;
-use p8_desk::ThreadStarter;
+use p8_crew::ThreadStarter;
 use p8_inputs::Stop;
 use p8_io::{FileShelf, StdSink};
 use p8_prop::{Status, prop};

@@ -11,7 +11,8 @@ ghost use Rattle.p8_prop.specs.Works.{world_in, IsRunnable, IsViewable};
 
 use crate::view::Viewing;
 use crate::work::{Answer, Work};
-use p8_desk::{Desk, Starter, run_crew};
+use p8_crew::{Starter, run_crew};
+use p8_desk::Desk;
 use p8_finish::{Finish, told};
 use p8_ledger::{Ended, Start};
 use p8_machine::{run_alone, run_counted};

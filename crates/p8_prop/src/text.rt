@@ -9,7 +9,7 @@ ghost use Rattle.p8_prop.specs.Works.{IsAnswerTo};
 use crate::driver::{done_alone, done_by_crew};
 use crate::work::{Answer, work_of};
 use p8_commands::Command;
-use p8_desk::Starter;
+use p8_crew::Starter;
 use p8_inputs::Stop;
 use p8_io::Shelf;
 use std::alloc::Global;

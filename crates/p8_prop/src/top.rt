@@ -8,7 +8,7 @@ use crate::answer::{answered, stopped, unsaid};
 use crate::status::Status;
 use crate::text::{answer_alone, answer_by_crew};
 use p8_commands::{Command, command_in};
-use p8_desk::Starter;
+use p8_crew::Starter;
 use p8_inputs::{Stop, one_reading};
 use p8_io::{Shelf, Sink};
 use p8_verify::one_verdict;

@@ -1,6 +1,6 @@
 // Worked calls over a shelf and sinks in memory.
 use crate::calls::{Failing, File, Left, left_by, shelf_failing_at, sink_failing_at, words_in};
-use p8_desk::ThreadStarter;
+use p8_crew::ThreadStarter;
 use p8_prop::{Status, prop};
 use p8_words::NoMemory;
 use std::alloc::Global;
