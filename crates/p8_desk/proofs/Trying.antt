@@ -9,7 +9,7 @@ use Rattle.p8_ledger.specs.Records.{Record, turns, mine}
 use Rattle.p8_ledger.specs.Ledgers.{Found}
 use Rattle.p8_desk.specs.declared.rider.Rider.{Rider}
 use Rattle.p8_desk.specs.declared.rule.Known.{Known}
-use Rattle.p8_desk.specs.declared.tries.Outcome.{Outcome}
+use Rattle.p8_desk.specs.declared.rider.Outcome.{Outcome}
 use Rattle.p8_desk.specs.declared.turned.Turned.{Turned}
 use Rattle.p8_desk.specs.declared.turned.Turned.TheVariants.{Done, Held, After, Ahead, Over}
 use Rattle.p8_desk.specs.Rules.{Hand, world_in, known, Agrees, IsOfCogs, of_same_cog, with_seen, with_found, seizing, losing, releasing, seen_as, seeing, Seized, CanTell, CanFree}

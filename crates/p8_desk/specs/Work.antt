@@ -12,7 +12,7 @@ use Rattle.p8_ledger.specs.Records.{Record, turns, mine, IsTruthful}
 use Rattle.p8_ledger.specs.Ledgers.{Found, Decides, taken_by}
 use Rattle.p8_desk.specs.declared.rider.Rider.{Rider}
 use Rattle.p8_desk.specs.declared.runner.Runner.{Runner}
-use Rattle.p8_desk.specs.declared.tries.Outcome.{Outcome}
+use Rattle.p8_desk.specs.declared.rider.Outcome.{Outcome}
 use Rattle.p8_desk.specs.declared.turned.Turned.{Turned}
 use Rattle.p8_desk.specs.declared.turned.Turned.TheVariants.{Done, Held, After, Ahead, Over}
 use Rattle.p8_desk.specs.Runners.{Rides}

@@ -6,8 +6,8 @@ ghost use Rattle.p8_desk.specs.declared.rule.Known.{Known};
 ghost use Rattle.p8_desk.specs.Rules.{known, Seized, Released, Seen, CanTell, CanFree, seeing, without_pass, pass_alone, joined};
 ghost use Rattle.p8_desk.specs.Seats.{worked_in};
 
+use crate::rider::Outcome;
 use crate::rule::{Board, Joins, Named, Parts, Place, Releases, Seizes, Tells};
-use crate::tries::Outcome;
 use std::marker::Brand;
 
 impl Named for Brand {
