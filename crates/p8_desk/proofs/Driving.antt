@@ -9,12 +9,10 @@ use Rattle.p8_desk.specs.declared.rider.Rider.{Rider}
 use Rattle.p8_desk.specs.declared.rule.Known.{Known}
 use Rattle.p8_desk.specs.declared.turned.Turned.{Turned}
 use Rattle.p8_desk.specs.declared.turned.Turned.TheVariants.{Done, Held, After, Ahead, Over}
-use Rattle.p8_desk.specs.Driving.{left_to_do, next_cog}
-use Rattle.p8_desk.specs.Gathering.{RidesIn, Riding, HasRode}
+use Rattle.p8_desk.specs.Gathering.{left_to_do, next_cog, RidesIn, Riding, HasRode}
 use Rattle.p8_desk.specs.Rules.{Hand, known, of_same_cog, with_seen, seizing, releasing, seen_as, seeing}
-use Rattle.p8_desk.specs.Seats.{Keeps, Rode, TookDesk, pass_in, or_new}
+use Rattle.p8_desk.specs.Seats.{Keeps, Rode, TookDesk, pass_in, or_new, Carries, is_over}
 use Rattle.p8_desk.specs.Tries.{Answers, seen_by}
-use Rattle.p8_desk.specs.Work.{Carries, is_over}
 use Rattle.p8_desk.proofs.Carrying.{carries-found, carries-beside, gone-on, named-near, others-spoken}
 use Rattle.p8_desk.proofs.Gathering.{set-beside, set-there, at-below, index-of, rider-same}
 use Rattle.p8_desk.proofs.Lookups.{some-same, none-some, known-changed, known-beside, known-cog, known-all-seen, known-seen}

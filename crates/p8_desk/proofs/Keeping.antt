@@ -1,8 +1,7 @@
 -- Each step keeps the rule.
 use Rattle.std.proofs.Common.{◌≡◌, ◌≢◌, ⊎_elim, ◌∙◌, ap, sym, subst, refl, ℕ, zero, suc, ◌==◌, ◌<◌, ◌≤◌, List, [], ◌∷◌, ◌++◌, length, Bool, true, Option, Some, None, arith}
 use Rattle.std.specs.Prelude.{slice_set, slice_index}
-use mathlib.Core.Option.{some, none}
-use mathlib.Core.Option.{Option as Home}
+use mathlib.Core.Option.{some, none, Option as Home}
 use lib.ListN.{get_elem?}
 use prog.Atomic.{either}
 use Rattle.atomic_table.specs.Table.{Step as Move, step as move, Act, keeps, takes, gives, Allows, Valid, homes_after, carried_after}

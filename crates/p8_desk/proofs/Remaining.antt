@@ -18,7 +18,7 @@ use Rattle.p8_ledger.specs.declared.steps.Step.TheVariants.{Took, Said}
 use Rattle.p8_ledger.specs.Records.{Record, turns, said, says, cog_of, HasFront, HasFrontIn, IsLeastFront, NoFront}
 use Rattle.p8_desk.specs.declared.turned.Turned.{Turned}
 use Rattle.p8_desk.specs.declared.turned.Turned.TheVariants.{Done, Held, After, Ahead, Over}
-use Rattle.p8_desk.specs.Driving.{open_by, open_in, rest_of, names_none, left_to_do, next_cog}
+use Rattle.p8_desk.specs.Gathering.{open_by, open_in, rest_of, names_none, left_to_do, next_cog}
 use Rattle.p8_desk.specs.Tries.{pace_of, most_of, GoesOn, Says, Speaks, Answers, seen_by}
 use Rattle.p8_desk.proofs.Lookups.{test-same, test-apart, some-same, none-some}
 

@@ -13,9 +13,8 @@ use Rattle.p8_desk.specs.declared.rider.Outcome.{Outcome}
 use Rattle.p8_desk.specs.declared.turned.Turned.{Turned}
 use Rattle.p8_desk.specs.declared.turned.Turned.TheVariants.{Done, Held, After, Ahead, Over}
 use Rattle.p8_desk.specs.Rules.{Hand, world_in, known, Agrees, IsOfCogs, of_same_cog, with_seen, with_found, seizing, losing, releasing, seen_as, seeing, Seized, CanTell, CanFree}
-use Rattle.p8_desk.specs.Seats.{Idle, Keeps, Seated, FoundHeld, TookDesk, Rode, pass_in, or_new, steps_of, worked_in}
+use Rattle.p8_desk.specs.Seats.{Idle, Keeps, Seated, FoundHeld, TookDesk, Rode, pass_in, or_new, steps_of, worked_in, Carries, Worked, said_by, worked_by}
 use Rattle.p8_desk.specs.Tries.{Got, Tried, seen_by}
-use Rattle.p8_desk.specs.Work.{Carries, Worked, said_by, worked_by}
 use Rattle.p8_desk.proofs.Carrying.{gone-on}
 use Rattle.p8_desk.proofs.Lookups.{known-changed, known-beside, known-cog, known-all-seen, none-seen}
 
