@@ -1,6 +1,5 @@
 use Rattle.std.proofs.Common.{sym, ap, refl}
 use Rattle.p8_access.specs.Worlds.{World}
-use Rattle.p8_desk.specs.declared.rule.Known.{Known}
 use Rattle.p8_desk.specs.Passes.{DeskValue}
 use Rattle.p8_desk.specs.Rules.{Hand}
 use Rattle.p8_desk.proofs.Carrying.{carries-ran}
