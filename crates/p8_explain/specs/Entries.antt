@@ -36,7 +36,7 @@ says refusal.ImageTooLarge = codes "The program, its variables and the first met
 says refusal.BadClock = codes "_clkmode is no mode, or an outer clock has no frequency, or two that differ."
 says refusal.FileTooLong = codes "The file has more than 1,048,576 bytes."
 
--- a line that is refused so
+-- a line that is refused so; empty, where no single line is
 abbrev pub example : Refusal → List ℕ
 example refusal.BadByte = codes "a := 1 }"
 example refusal.BadNumber = codes "a := %12"
@@ -45,7 +45,7 @@ example refusal.OpenString = codes "a := string(\"x)"
 example refusal.NameTooLong = codes "abcdefghijklmnopqrstuvwxyzabcde := 1"
 example refusal.Unexpected = codes "a := m()"
 example refusal.BadIndent = codes "   else"
-example refusal.TooNested = codes "x = !!!1"
+example refusal.TooNested = codes "x = !!!!!!!!!!!!!!!!!!!!!!!!!!!!!!!!!!!!!!!!!!!!!!!!!!!!!!!!!!!!!!!!1"
 example refusal.Float = codes "x = 1.5"
 example refusal.Unsupported = codes "a := a?"
 example refusal.LoopWord = codes "quit"

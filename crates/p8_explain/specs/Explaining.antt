@@ -1,6 +1,6 @@
 -- What a refusal or a missing file says to a person: where it is, the line with a mark under the place, what stands there, by how much it is too large, what is wrong and what often mends it. Places are
 -- those of refusals: a line ends at LF, CR LF or CR, and a tab goes to the next column of the form 8k + 1.
-use Rattle.std.specs.Prelude.{ℕ, ◌-◌, ◌==◌, nat_le, List, [], ◌∷◌, ◌++◌, take, drop, replicate, codes, Option, Some, None, if◌then◌else◌}
+use Rattle.std.specs.Prelude.{ℕ, ◌-◌, ◌==◌, nat_le, List, [], ◌∷◌, ◌++◌, length, take, drop, replicate, codes, Option, Some, None, if◌then◌else◌}
 use Rattle.std.specs.Fmt.{decimal}
 use Rattle.p8_tree.specs.declared.places.Place.{Place}
 use Rattle.p8_tree.specs.declared.refusal.Refusal.{Refusal}
@@ -12,7 +12,8 @@ use Rattle.p8_tree.specs.declared.faults.Fault.{Fault}
 use Rattle.p8_tree.specs.Refusals.{numbered, name_numbered}
 use Rattle.p8_build.specs.declared.sizes.Size.{Size}
 use Rattle.p8_explain.specs.Entries.{says, example, mends}
-use Rattle.p8_explain.specs.Causes.{seen, token_at}
+use Rattle.p8_explain.specs.Causes.{seen, token_at, token_before, token_behind}
+use Rattle.p8_explain.specs.Slips.{is_word, mended}
 use Rattle.p8_explain.specs.Standing.{of_byte, of_name}
 use Rattle.p8_explain.specs.Sizes.{of_size}
 
@@ -22,9 +23,14 @@ abbrev pub advice : Option Refusal → List ℕ
 advice None = codes "No refusal has this number.\n"
 advice (Some r) = says r ++ codes "\n" ++ mends r ++ codes "\n"
 
+-- a line that is refused so, where one line can be
+abbrev pub line_or_none : List ℕ → List ℕ
+line_or_none [] = []
+line_or_none (c ∷ cs) = codes "Example: " ++ (c ∷ cs) ++ codes "\n"
+
 abbrev pub sample : Option Refusal → List ℕ
 sample None = []
-sample (Some r) = codes "Example: " ++ example r ++ codes "\n"
+sample (Some r) = line_or_none (example r)
 
 -- ---- a line
 
@@ -65,12 +71,19 @@ abbrev pub place_text : (file : List ℕ) → Place → List ℕ
 place_text file place = file ++ codes ":" ++ position place
 
 -- what stands at a place of a file that is refused so, where more can be said of it: of a character that begins no token, of a token that can't
--- stand there, and of a name that is defined again
-abbrev pub found : Option Refusal → (bytes line : List ℕ) → Place → List ℕ
-found (Some refusal.BadByte) bytes line place = of_byte bytes place
-found (Some refusal.Unexpected) bytes line place = seen line (place.column - 1)
-found (Some refusal.Duplicate) bytes line place = of_name bytes (token_at (drop (place.column - 1) line)) place
-found _ bytes line place = []
+-- stand there behind another one, and of a name that is defined again
+abbrev pub found : Option Refusal → (bytes before here : List ℕ) → Place → List ℕ
+found (Some refusal.BadByte) bytes before here place = of_byte bytes place
+found (Some refusal.Unexpected) bytes before here place = seen before here
+found (Some refusal.Duplicate) bytes before here place = of_name bytes here place
+found _ bytes before here place = []
+
+-- what is said of a place between two parts of its line: how the slip is mended, or else what stands there
+abbrev pub told : (number : ℕ) → (bytes front rest : List ℕ) → Place → List ℕ
+told number bytes front rest place = by_tokens (token_before front) (token_at rest)
+  where
+    by_tokens : (before here : List ℕ) → List ℕ
+    by_tokens before here = mended number before here (token_behind rest) (found (numbered number) bytes before here place)
 
 -- by how much what is refused is too large, what is wrong and what often mends it
 abbrev pub said : Option Refusal → Option Size → List ℕ
@@ -81,13 +94,17 @@ explanation_of file bytes f size =
     place_text file f.place ++ title f.number ++ shown_with (line_of bytes f.place.line) ++ said (numbered f.number) size
   where
     shown_with : (line : List ℕ) → List ℕ
-    shown_with line = marked line f.place.column ++ found (numbered f.number) bytes line f.place
+    shown_with line = marked line f.place.column ++ told f.number bytes (take (f.place.column - 1) line) (drop (f.place.column - 1) line) f.place
+
+-- a name that doesn't end in `.spin` had a dot, and stands as it was written
+abbrev pub of_dot : (missing : List ℕ) → List ℕ
+of_dot missing = if is_word (codes ".spin") (drop (length missing - 5) missing) then [] else codes "Its name has a dot, so no .spin was added to it.\n"
 
 -- what is told of a file that is missing, which a file with these bytes mentions at a place
 abbrev pub absence_of : (file bytes : List ℕ) → Place → (missing : List ℕ) → List ℕ
 absence_of file bytes place missing =
     place_text file place ++ missing ++ codes " is missing\n" ++ marked (line_of bytes place.line) place.column
-    ++ codes "There is no file of this name. Capitals and small letters differ, and a name without a dot gets .spin.\n"
+    ++ codes "There is no file of this name. Capitals and small letters differ, and a name without a dot gets .spin.\n" ++ of_dot missing
 
 abbrev pub entry_of : (number : ℕ) → List ℕ
 entry_of number = title number ++ advice (numbered number) ++ sample (numbered number)

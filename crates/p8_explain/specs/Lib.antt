@@ -3,4 +3,5 @@ pub mod Entries
 pub mod Explaining
 pub mod Causes
 pub mod Standing
+pub mod Slips
 pub mod Sizes

@@ -6,7 +6,7 @@ use Rattle.p8_tree.specs.Faults.{is_same_place}
 use Rattle.p8_lexer.specs.Places.{start, behind}
 use Rattle.p8_lexer.specs.Spelling.{text_in}
 use Rattle.p8_lexer.specs.Words.{capital}
-use Rattle.p8_explain.specs.Causes.{is_of_word, token_at, quoted}
+use Rattle.p8_explain.specs.Causes.{is_of_word, quoted}
 
 -- ---- a character
 

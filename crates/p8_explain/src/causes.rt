@@ -1,7 +1,7 @@
 // What stands at the place where a line is refused.
-ghost use Rattle.std.specs.Prelude.{◌≡◌, ◌++◌, ◌&&◌, ◌==◌, ◌≤◌, ◌<◌, take, drop, length, slice_index, OnOk};
-ghost use Rattle.p8_explain.specs.Causes.{is_of_word, word_length, is_spelled_so, symbol_at, token_at, last_solid, ends_value, begins_value};
-ghost use Rattle.p8_explain.specs.Causes.{is_equal_sign, is_reserved, is_empty_pair, are_beside, cause_of, cause_at, quoted, sentence, seen};
+ghost use Rattle.std.specs.Prelude.{◌≡◌, ◌++◌, ◌&&◌, ◌==◌, ◌≤◌, ◌<◌, take, length, slice_index, OnOk};
+ghost use Rattle.p8_explain.specs.Causes.{is_of_word, word_length, is_spelled_so, symbol_at, token_at, ends_value, begins_value};
+ghost use Rattle.p8_explain.specs.Causes.{begins_token, last_begin, token_before, spaces, token_behind, is_reserved, is_empty_pair, are_beside, cause_of, cause_at, quoted, sentence, seen};
 
 use crate::lines::{first_of, rest_of};
 use p8_instr::push_text;
@@ -13,8 +13,6 @@ use p8_words::NoMemory;
 pub(crate) enum Cause {
     /// the line's end stands there
     LineEnds,
-    /// `=` stands there
-    Equals,
     /// a reserved word stands there
     Reserved,
     /// `)` stands there after `(`
@@ -89,15 +87,55 @@ pub(crate) fn token_at(text: &[u8]) -> &[u8]
     }
 }
 
-// The last character that isn't a space; 0 is none.
-fn last_solid(front: &[u8]) -> u8
-    ensures { result ≡ last_solid 0 front.now }
+// Whether a token begins with a character that stands after another one; 0 is none.
+fn begins_token(before: u8, c: u8) -> bool
+    ensures { result ≡ begins_token before c }
 {
-    let mut last = 0;
-    for c in front {
-        last = if *c == b' ' { last } else { *c };
+    c != b' ' && !(is_of_word(before) && is_of_word(c))
+}
+
+// Where the last token of a text begins; its end, where it has none.
+fn last_begin(front: &[u8]) -> usize
+    ensures { result ≡ last_begin (length front.now) 0 0 front.now }
+{
+    let mut found = front.len();
+    let mut before = 0;
+    for (at, c) in front.iter().enumerate() {
+        if begins_token(before, *c) {
+            found = at;
+        }
+        before = *c;
     }
-    last
+    found
+}
+
+/// The name, the number or the character that a text ends with, but for spaces; empty where there is none.
+pub(crate) fn token_before(front: &[u8]) -> &[u8]
+    ensures { result.now ≡ token_before front.now }
+{
+    token_at(rest_of(front, last_begin(front)))
+}
+
+// How many spaces a text begins with.
+fn spaces(text: &[u8]) -> usize
+    ensures { result ≡ spaces text.now }
+{
+    let mut count = 0;
+    for c in text {
+        if *c != b' ' {
+            return count;
+        }
+        count += 1;
+    }
+    count
+}
+
+/// The token behind the one with which a text begins.
+pub(crate) fn token_behind(text: &[u8]) -> &[u8]
+    ensures { result.now ≡ token_behind text.now }
+{
+    let rest = rest_of(text, token_at(text).len());
+    token_at(rest_of(rest, spaces(rest)))
 }
 
 // Whether a word or a value can end with a character.
@@ -112,15 +150,6 @@ fn begins_value(c: u8) -> bool
     ensures { result ≡ begins_value c }
 {
     is_of_word(c) || c == b'"' || c == b'$' || c == b'%'
-}
-
-fn is_equal_sign(token: &[u8]) -> bool
-    ensures { result ≡ is_equal_sign token.now }
-{
-    match token {
-        [c] => *c == b'=',
-        _ => false,
-    }
 }
 
 fn is_reserved(token: &[u8], next: u8) -> bool
@@ -145,9 +174,7 @@ fn are_beside(last: u8, next: u8) -> bool
 fn cause_of(token: &[u8], last: u8, next: u8) -> Cause
     ensures { result ≡ cause_of token.now last next }
 {
-    if is_equal_sign(token) {
-        Cause::Equals
-    } else if is_reserved(token, next) {
+    if is_reserved(token, next) {
         Cause::Reserved
     } else if is_empty_pair(last, next) {
         Cause::EmptyPair
@@ -160,13 +187,13 @@ fn cause_of(token: &[u8], last: u8, next: u8) -> Cause
     }
 }
 
-// What stands in front of the rest of a line, and with what the rest begins.
-fn cause_at(front: &[u8], rest: &[u8]) -> Cause
-    ensures { result ≡ cause_at front.now rest.now }
+// What a token tells that stands after another one.
+fn cause_at(before: &[u8], token: &[u8]) -> Cause
+    ensures { result ≡ cause_at before.now token.now }
 {
-    match rest {
+    match token {
         [] => Cause::LineEnds,
-        [next, ..] => cause_of(token_at(rest), last_solid(front), *next),
+        [next, ..] => cause_of(token, first_character(before), *next),
     }
 }
 
@@ -198,7 +225,6 @@ fn push_sentence(out: &mut Vec<u8>, cause: Cause, token: &[u8]) -> Result<(), No
             out,
             b"The line ends here, where more must follow, as a name, a value, a closing bracket or the : of a CASE item.\n",
         ),
-        Cause::Equals => push_text(out, b"`:=` assigns; `=` alone defines constants in CON.\n"),
         Cause::Reserved => push_around(
             out,
             b"",
@@ -220,11 +246,9 @@ fn push_sentence(out: &mut Vec<u8>, cause: Cause, token: &[u8]) -> Result<(), No
     }
 }
 
-/// Appends what can be seen at a place of a line, counted from 0.
-pub(crate) fn push_seen(out: &mut Vec<u8>, line: &[u8], at: usize) -> Result<(), NoMemory>
-    ensures { OnOk result (out.new.items ≡ out.old.items ++ seen line.now at) }
+/// Appends what can be seen of a token that stands after another one.
+pub(crate) fn push_seen(out: &mut Vec<u8>, before: &[u8], token: &[u8]) -> Result<(), NoMemory>
+    ensures { OnOk result (out.new.items ≡ out.old.items ++ seen before.now token.now) }
 {
-    let front = first_of(line, at);
-    let rest = rest_of(line, at);
-    push_sentence(out, cause_at(front, rest), token_at(rest))
+    push_sentence(out, cause_at(before, token), token)
 }

@@ -54,7 +54,7 @@ pub(crate) fn says(refusal: Refusal) -> &'static str
     }
 }
 
-/// A line that is refused so.
+/// A line that is refused so; empty, where no single line is.
 pub(crate) fn example(refusal: Refusal) -> &'static str
     ensures { result.now ≡ example refusal }
 {
@@ -66,7 +66,8 @@ pub(crate) fn example(refusal: Refusal) -> &'static str
         Refusal::NameTooLong => "abcdefghijklmnopqrstuvwxyzabcde := 1",
         Refusal::Unexpected => "a := m()",
         Refusal::BadIndent => "   else",
-        Refusal::TooNested => "x = !!!1",
+        Refusal::TooNested =>
+            "x = !!!!!!!!!!!!!!!!!!!!!!!!!!!!!!!!!!!!!!!!!!!!!!!!!!!!!!!!!!!!!!!!1",
         Refusal::Float => "x = 1.5",
         Refusal::Unsupported => "a := a?",
         Refusal::LoopWord => "quit",

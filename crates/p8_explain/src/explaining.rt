@@ -1,11 +1,14 @@
 // What a refusal says to a person.
 ghost use Rattle.std.specs.Prelude.{◌≡◌, ◌++◌, OnOk, IfOk};
-ghost use Rattle.p8_explain.specs.Explaining.{advice, said, found, sample, title, position, place_text, explanation_of, absence_of, entry_of};
+ghost use Rattle.p8_tree.specs.Refusals.{numbered};
+ghost use Rattle.p8_explain.specs.Slips.{forms, first_form, by_form};
+ghost use Rattle.p8_explain.specs.Explaining.{advice, said, found, told, line_or_none, sample, of_dot, title, position, place_text, explanation_of, absence_of, entry_of};
 
-use crate::causes::{push_seen, token_at};
+use crate::causes::{push_seen, token_at, token_before, token_behind};
 use crate::entries::{example, mends, says};
-use crate::lines::{line_of, push_marked, rest_of};
+use crate::lines::{first_of, line_of, push_marked, rest_of};
 use crate::sizes::push_size;
+use crate::slips::{form_at, is_word, push_form, push_line, slip_at, word_asked};
 use crate::standing::{push_of_byte, push_of_name};
 use crate::texts::push_decimal;
 use p8_build::Size;
@@ -39,17 +42,62 @@ fn push_found(
     out: &mut Vec<u8>,
     refusal: Option<Refusal>,
     bytes: &[u8],
-    line: &[u8],
+    before: &[u8],
+    here: &[u8],
     place: Place,
 ) -> Result<(), NoMemory>
-    ensures { OnOk result (out.new.items ≡ out.old.items ++ found refusal bytes.now line.now place) }
+    ensures { OnOk result (out.new.items ≡ out.old.items ++ found refusal bytes.now before.now here.now place) }
 {
-    let at = (place.column as usize).saturating_sub(1);
     match refusal {
         Some(Refusal::BadByte) => push_of_byte(out, bytes, place),
-        Some(Refusal::Unexpected) => push_seen(out, line, at),
-        Some(Refusal::Duplicate) => push_of_name(out, bytes, token_at(rest_of(line, at)), place),
+        Some(Refusal::Unexpected) => push_seen(out, before, here),
+        Some(Refusal::Duplicate) => push_of_name(out, bytes, here, place),
         _ => Ok(()),
+    }
+}
+
+// Appends how a word is written, where that is known, and else what stands at a place.
+fn push_by_form(
+    out: &mut Vec<u8>,
+    fault: Fault,
+    bytes: &[u8],
+    word: &[u8],
+    before: &[u8],
+    here: &[u8],
+) -> Result<(), NoMemory>
+    ensures { OnOk result (out.new.items ≡ out.old.items ++ by_form (first_form forms word.now) word.now (found (numbered fault.number) bytes.now before.now here.now fault.place)) }
+{
+    match form_at(word) {
+        Some(arguments) => push_form(out, word, arguments),
+        None => push_found(
+            out,
+            Refusal::numbered(fault.number),
+            bytes,
+            before,
+            here,
+            fault.place,
+        ),
+    }
+}
+
+// Appends what is said of a place between two parts of its line.
+fn push_told(
+    out: &mut Vec<u8>,
+    fault: Fault,
+    bytes: &[u8],
+    front: &[u8],
+    rest: &[u8],
+) -> Result<(), NoMemory>
+    ensures { OnOk result (out.new.items ≡ out.old.items ++ told fault.number bytes.now front.now rest.now fault.place) }
+{
+    let before = token_before(front);
+    let here = token_at(rest);
+    match slip_at(fault.number, before, here, token_behind(rest)) {
+        Some(sentence) => push_line(out, sentence),
+        None => {
+            let word = word_asked(fault.number, before, here);
+            push_by_form(out, fault, bytes, word, before, here)
+        }
     }
 }
 
@@ -66,18 +114,28 @@ fn push_said(
     Ok(())
 }
 
-// Appends a line that is refused so.
+// Appends a line as an example, where there is one.
+fn push_line_or_none(out: &mut Vec<u8>, line: &[u8]) -> Result<(), NoMemory>
+    ensures { OnOk result (out.new.items ≡ out.old.items ++ line_or_none line.now) }
+{
+    match line {
+        [] => Ok(()),
+        _ => {
+            push_text(out, b"Example: ")?;
+            push_text(out, line)?;
+            push_text(out, b"\n")?;
+            Ok(())
+        }
+    }
+}
+
+// Appends a line that is refused so, where one line can be.
 fn push_sample(out: &mut Vec<u8>, refusal: Option<Refusal>) -> Result<(), NoMemory>
     ensures { OnOk result (out.new.items ≡ out.old.items ++ sample refusal) }
 {
     match refusal {
         None => Ok(()),
-        Some(refusal) => {
-            push_text(out, b"Example: ")?;
-            push_text(out, example(refusal).as_bytes())?;
-            push_text(out, b"\n")?;
-            Ok(())
-        }
+        Some(refusal) => push_line_or_none(out, example(refusal).as_bytes()),
     }
 }
 
@@ -127,13 +185,26 @@ pub fn explanation(
 {
     let mut out = Vec::new(alloc);
     let refusal = Refusal::numbered(fault.number);
+    let at = (fault.place.column as usize).saturating_sub(1);
     let line = line_of(alloc, bytes, fault.place.line)?;
     push_place(&mut out, name, fault.place)?;
     push_title(&mut out, fault.number)?;
     push_marked(&mut out, line.as_slice(), fault.place.column)?;
-    push_found(&mut out, refusal, bytes, line.as_slice(), fault.place)?;
+    let (front, rest) = (first_of(line.as_slice(), at), rest_of(line.as_slice(), at));
+    push_told(&mut out, fault, bytes, front, rest)?;
     push_said(&mut out, refusal, size)?;
     Ok(out)
+}
+
+// Appends that a missing file's name stands as it was written, where it had a dot.
+fn push_of_dot(out: &mut Vec<u8>, missing: &[u8]) -> Result<(), NoMemory>
+    ensures { OnOk result (out.new.items ≡ out.old.items ++ of_dot missing.now) }
+{
+    if is_word(".spin", rest_of(missing, missing.len().saturating_sub(5))) {
+        Ok(())
+    } else {
+        push_text(out, b"Its name has a dot, so no .spin was added to it.\n")
+    }
 }
 
 /// What a missing file says to a person, which a file of this name and these bytes mentions at a place: the name of that file, the place and
@@ -155,6 +226,7 @@ pub fn absence(
     push_text(&mut out, b" is missing\n")?;
     push_marked(&mut out, shown.as_slice(), place.column)?;
     push_text(&mut out, NO_SUCH_FILE)?;
+    push_of_dot(&mut out, missing.as_slice())?;
     Ok(out)
 }
 

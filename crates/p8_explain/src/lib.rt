@@ -7,6 +7,7 @@ mod entries;
 mod explaining;
 mod lines;
 mod sizes;
+mod slips;
 mod standing;
 mod texts;
 

@@ -111,8 +111,8 @@ fn capital(c: u8) -> u8
     if c >= b'a' && c <= b'z' { c - 32 } else { c }
 }
 
-// Whether a text begins with a name, in letters of any case, and with no more of a word.
-fn begins_with(name: &[u8], text: &Characters) -> bool
+/// Whether a text begins with a name, in letters of any case, and with no more of a word.
+pub(crate) fn begins_with(name: &[u8], text: &Characters) -> bool
     ensures { result ≡ begins_with name.now text.now }
 {
     for (i, c) in name.iter().enumerate() {
