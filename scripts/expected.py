@@ -381,6 +381,12 @@ def is_image(text):
     return text.endswith((".binary", ".eeprom"))
 
 
+def is_drawn(text):
+    """Whether a text names pins to draw."""
+    parts = [re.fullmatch(r"([0-9]{1,10})(?:-([0-9]{1,10}))?", part) for part in text.split(",")]
+    return all(part and int(part[1]) <= int(part[2] or part[1]) <= 31 for part in parts)
+
+
 CLOCKS, TURNS, KEPT = number(0, 100_000_000), number(0, 1_000_000), number(0, 40_000)
 PIN, BITS, START, SEED = number(0, 31), number(2, 10_000), number(1, 100_000_000), number(0, 0xFFFFFFFF)
 RUN = {"--pins": anything, "--turns": TURNS}
@@ -391,9 +397,33 @@ COMMANDS = {
     "check": ([anything, anything], {"--pins": anything, "--raw": None}),
     "serial": ([anything, CLOCKS, PIN, BITS], {**RUN, "--raw": None}),
     "type": ([anything, PIN, BITS, START], {}),
-    "wave": ([anything, CLOCKS], {**RUN, "--raw": None, "--all": None, "--alone": None}),
-    "convert": ([is_image], {}), "make": ([SEED], {"--alone": None}),
+    "wave": ([anything, CLOCKS], {**RUN, "--raw": None, "--all": None, "--pins-only": None, "--alone": None}),
+    "convert": ([is_image], {}), "make": ([SEED], {"--alone": None}), "map": ([anything], {}), "explain": ([anything], {}),
+    "plot": ([anything, CLOCKS, is_drawn], {**RUN, "--raw": None, "--ascii": None, "--alone": None}),
+    "view": ([anything, CLOCKS], {
+        **RUN, "--alone": None, "--raw": None, "--cog": number(0, 7), "--from": CLOCKS, "--to": CLOCKS, "--pins-only": None, "--quiet": None,
+        "--dump": anything,
+    }),
 }  # fmt: skip
+
+
+def are_clocks(first, last, clocks):
+    """Whether the clocks that a picture or a view shows are in order, and within those of the run."""
+    return int(first) <= int(last) <= int(clocks)
+
+
+def agree(command, found):
+    """Whether operands and options that are good by themselves go together."""
+    operands, given = found.operands, found.given
+    if command == "explain":
+        # A word of digits alone is the number of a refusal.
+        return not re.fullmatch("[0-9]+", operands[0]) or len(operands[0]) < 3 and 1 <= int(operands[0]) <= 30
+    if command == "view":
+        return len(given.get("--cog", "0")) == 1 and are_clocks(given.get("--from", "0"), given.get("--to", operands[1]), operands[1])
+    if command == "plot" and len(operands) == 4:
+        span = re.fullmatch(r"([0-9]{1,10}):([0-9]{1,10})", operands[3])
+        return bool(span) and are_clocks(span[1], span[2], operands[1])
+    return "--short" not in given or has_short(command, operands)
 
 
 def has_short(command, operands):
@@ -448,8 +478,8 @@ def is_command(words, knows_short):
         options = {**options, "--short": None}
     found = Words(options)
     found.take(rest)
-    if not found.is_good or len(found.operands) != len(operands):
+    # What is to be drawn may have its clocks behind it.
+    most = len(operands) + (command == "plot")
+    if not found.is_good or not len(operands) <= len(found.operands) <= most:
         return False
-    if "--short" in found.given and not has_short(command, found.operands):
-        return False
-    return all(fits(text) for fits, text in zip(operands, found.operands))
+    return all(fits(text) for fits, text in zip(operands, found.operands)) and agree(command, found)

@@ -462,7 +462,7 @@ def script(random):
     return damage_bytes(random, text.encode()) if random.random() < 0.3 else text.encode()
 
 
-COMMANDS = "build list raw run save check serial type wave convert make help".split()
+COMMANDS = "build list raw run save check serial type wave convert make help map explain plot view".split()
 ODD_WORDS = [
     # The last of these is a byte that isn't UTF-8.
     *("", " 1", "-1", "+1", "1e3", "0x10", "99999999999", "-", "--", "a\nb", "é", "\udcff"),
@@ -473,13 +473,15 @@ ODD_WORDS = [
 def words(random):
     """A command line over the files of a case, mostly with the operands that its command takes."""
     numbers = "0 1 7 17 0017 31 32 5000 20000 40000 40001 1000000 1000001 100000001".split()
+    pins = "0 31 32 0,4-7 4-7 7-4 0,, 1-".split()
+    spans = "0:0 0:17 17:0 5:20000 1:100000001 :5".split()
     files = "w.spin w.binary w.eeprom w.bin w.history w.pins w.txt none.spin none.binary .".split()
     command = random.choice(COMMANDS)
     operands = {
         "raw": "fn", "run": "fn", "save": "fn", "check": "ff", "serial": "fnnn", "type": "fnnn", "wave": "fn",
-        "make": "n", "help": "c",
+        "make": "n", "help": "c", "plot": random.choice(["fnp", "fnps"]), "view": "fn", "explain": random.choice("fffn"),
     }.get(command, "f")
-    line = [random.choice({"f": files, "n": numbers, "c": COMMANDS}[kind]) for kind in operands]
+    line = [random.choice({"f": files, "n": numbers, "c": COMMANDS, "p": pins, "s": spans}[kind]) for kind in operands]
     if command == "make" and random.random() < 0.9:
         # Its turns are dear by threads.
         line.append("--alone")
@@ -488,7 +490,8 @@ def words(random):
             [
                 ["--pins", "w.pins"], ["--pins=w.pins"], ["--turns", random.choice(numbers)],
                 [f"--turns={random.choice(numbers)}"], ["--alone"], ["--raw"],
-                ["--all"], ["--dump", "0010:4"], ["--dump=7fff:1"], ["--dump=7fff:2"], ["--short"],
+                ["--all"], ["--quiet"], ["--pins-only"], ["--ascii"], ["--cog", random.choice("07890")], ["--from", random.choice(numbers)],
+                [f"--to={random.choice(numbers)}"], ["--dump", "0010:4"], ["--dump=7fff:1"], ["--dump=7fff:2"], ["--short"],
                 [random.choice(ODD_WORDS)],
             ]
         )
