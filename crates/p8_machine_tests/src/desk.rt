@@ -10,13 +10,19 @@ use p8_pins::PinScript;
 use p8_words::NoMemory;
 use std::alloc::Global;
 
-/// A start from a hub memory of zeros, with no pin script.
-fn empty_start(alloc: Global) -> Result<Start, NoMemory>
+/// Cog 0 starts seven others, which go round for ever, and one more, for which there is no cog.
+static STARTS: [u8; 28] = [
+    0x02, 0x08, 0x7C, 0x0C, 0x00, 0x0A, 0xFC, 0xE4, 0x03, 0x0C, 0x7C, 0x0C, 0x00, 0x00, 0x7C, 0x5C,
+    0x38, 0x00, 0x00, 0x00, 0x08, 0x00, 0x00, 0x00, 0x00, 0x00, 0x00, 0x00,
+];
+
+/// A start from a hub memory with that program, with no pin script.
+fn eight_starts(alloc: Global) -> Result<Start, NoMemory>
     ensures first { IfOk result (λ start. start.boot.first ≡ Pasm 0 0) }
     ensures limits { IfOk result (λ start. (start.limits.clocks ≡ 20000) × (start.limits.turns ≡ 1000)) }
 {
     Ok(Start {
-        boot: Boot::raw(alloc, &[])?,
+        boot: Boot::raw(alloc, &STARTS)?,
         script: PinScript::empty(alloc),
         limits: Limits {
             clocks: 20000,
@@ -45,7 +51,7 @@ fn loads_first(desk: &Desk, zero: &mut CogPass, one: &mut CogPass) -> bool
 /// Cog 0 is starting: its load comes first, at clock 16, whoever asks.
 #[test]
 fn the_load_comes_first(rt: HostRuntime) -> Result<(), NoMemory> {
-    let (desk, mut passes) = Desk::open(rt.alloc(), empty_start(rt.alloc())?)?;
+    let (desk, mut passes) = Desk::open(rt.alloc(), eight_starts(rt.alloc())?)?;
     let Some(mut one) = passes.take(1) else {
         panic!(rt; "pass 1 is there")
     };
@@ -55,5 +61,20 @@ fn the_load_comes_first(rt: HostRuntime) -> Result<(), NoMemory> {
     assert!(rt; passes.take(0).is_none());
     assert!(rt; loads_first(&desk, &mut zero, &mut one));
     assert!(rt; passes.put(zero).is_ok());
+    Ok(())
+}
+
+/// A pass doesn't come into the set of another desk where its place is filled.
+#[test]
+fn a_filled_place_takes_no_pass(rt: HostRuntime) -> Result<(), NoMemory> {
+    let (_desk, mut passes) = Desk::open(rt.alloc(), eight_starts(rt.alloc())?)?;
+    let (_other, mut others) = Desk::open(rt.alloc(), eight_starts(rt.alloc())?)?;
+    let Some(zero) = passes.take(0) else {
+        panic!(rt; "pass 0 is there")
+    };
+    let Err(zero) = others.put(zero) else {
+        panic!(rt; "the place of pass 0 is filled")
+    };
+    assert!(rt; zero.cog() == 0 && passes.put(zero).is_ok());
     Ok(())
 }

@@ -8,7 +8,7 @@ use std::sync::Wait;
 use std::thread::Threads;
 
 /// The image of `PUB main`.
-const IMAGE: &[u8] =
+pub const IMAGE: &[u8] =
     b"\x00\x1B\xB7\0\0\x6A\x10\0\x1C\0\x24\0\x18\0\x28\0\x0C\0\x02\0\x08\0\0\0\x32\0\0\0";
 
 /// Its trace, with the first two bytes of the hub's memory.

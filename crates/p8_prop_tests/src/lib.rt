@@ -12,3 +12,5 @@ mod commands;
 mod cuts;
 #[cfg(test)]
 mod outside;
+#[cfg(test)]
+mod rows;
