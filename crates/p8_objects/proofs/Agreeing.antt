@@ -2,7 +2,7 @@
 use Rattle.std.proofs.Common.{◌≡◌, ℕ, ◌<◌, ◌≤◌, inl, inr, List, [], ◌∷◌, ◌++◌, length, Option, Some, None, refl, ap, sym, ◌∙◌, subst, arith}
 use Rattle.p8_tree.specs.declared.places.Place.{Place}
 use Rattle.p8_tree.specs.Sources.{Child, Source}
-use Rattle.p8_tree.specs.Projects.{NamedSource, most_files}
+use Rattle.p8_tree.specs.Projects.{NamedSource}
 use Rattle.p8_lexer.specs.declared.token.Token.{Token}
 use Rattle.p8_tree.specs.declared.faults.Fault.{Fault}
 use Rattle.p8_tree.specs.declared.refusal.Refusal.TheVariants.{TooManyObjects}
@@ -16,9 +16,10 @@ use Rattle.p8_io.specs.Shelves.{AreStartOf}
 use Rattle.p8_objects.specs.Lists.{IsAt, HasOne, IsFirst}
 use Rattle.p8_objects.specs.Sources.{mentions, most_objects, ReadsAs, IsSource, IsRefused, no_tokens, no_file, too_many}
 use Rattle.p8_objects.specs.declared.fault.Mention.{Mention}
-use Rattle.p8_objects.specs.Projects.{IsIn, Mentions, Leads, there, over, ClosesRing, IsOpen, HasOpen, IsNext, Call, Calls, read, refuse, nothing, mention_in, IsMentionedAt}
+use Rattle.p8_objects.specs.declared.fault.ReadFile.{ReadFile}
+use Rattle.p8_objects.specs.Projects.{IsIn, Mentions, Leads, there, over, ClosesRing, IsOpen, HasOpen, IsNext, Call, Calls, read, refuse, nothing}
 use Rattle.p8_objects.specs.Projects as projects
-use Rattle.p8_objects.specs.Outcomes.{Shelved, shelved, HasBytes, IsAbsent, Outcome, ComesTo, project, refused, missing, failed, named}
+use Rattle.p8_objects.specs.Outcomes.{Shelved, shelved, HasBytes, WasRead, read_as, IsAbsent, mention_in, IsMentionedAt, Outcome, ComesTo, project, refused, missing, failed, named}
 use Rattle.p8_objects.specs.Outcomes as outcomes
 use Rattle.p8_objects.specs.Whole.{IsOfFiles}
 use Rattle.p8_objects.proofs.Elements.{one_at, is_within, one_first, one_last, last_is_one}
@@ -82,15 +83,6 @@ one_call (projects.whole l none) (projects.file_too_many g y m new full) = absur
 one_call (projects.whole l none) (projects.ring g y m r) = absurd (none (next_has_open m))
 one_call (projects.whole l none) (projects.whole l' none') = refl
 
--- a file that is read next is mentioned at one place
-one_mention : (files : List NamedSource) (name : List ℕ) (a b : Option Mention) → IsMentionedAt files name a → IsMentionedAt files name b → a ≡ b
-one_mention files name None None p q = refl
-one_mention files name None (Some b) p q = absurd (next_not_empty q.2 p)
-one_mention files name (Some a) None p q = absurd (next_not_empty p.2 q)
-one_mention files name (Some a) (Some b) p q =
-    let same = same_next p.2 q.2 in
-    ap Some (p.4 ∙ (λ i. mention_in (same.0 i).name (same.1 i)) ∙ sym q.4)
-
 -- what bytes are by themselves
 
 same_source : {s t : Source} → reading.source s ≡ reading.source t → s ≡ t
@@ -150,17 +142,27 @@ there_or_absent : (files : List ℕ → Option (List ℕ)) (before now : ℕ) (n
 there_or_absent files before now name a h (inl n) = n h.0
 there_or_absent files before now name a h (inr e) = start_of_none (files name) a e h.1
 
+-- a file that is read next is mentioned at one place, in a file with one text
+one_mention : (shelf : List ℕ → Option (List ℕ)) (files : List NamedSource) (name : List ℕ) (a b : Option Mention) → IsMentionedAt (Some shelf) files name a → IsMentionedAt (Some shelf) files name b → a ≡ b
+one_mention shelf files name None None p q = refl
+one_mention shelf files name None (Some b) p q = absurd (next_not_empty q.3 p)
+one_mention shelf files name (Some a) None p q = absurd (next_not_empty p.3 q)
+one_mention shelf files name (Some a) (Some b) p q =
+    let same = same_next p.3 q.3 in
+    let bytes : p.2 ≡ q.2 = one_bytes shelf q.0.name (subst (λ (f : NamedSource). HasBytes (Some shelf) f.name p.2) same.0 p.5) q.5 in
+    ap Some (p.6 ∙ (λ i. mention_in (read_as (same.0 i).name (bytes i)) (same.1 i)) ∙ sym q.6)
+
 -- what the file that is read next comes to
 data Read (shelf : Shelved) (top : List ℕ) (files : List NamedSource) (name : List ℕ) : Outcome → Type 0 where
   went_on : {o : Outcome} (bytes : List ℕ) (s : Source) → HasBytes shelf.files name bytes → IsSource bytes s → ComesTo shelf top (files ++ named name s ∷ []) o → Read shelf top files name o
-  was_refused : (bytes : List ℕ) (f : Fault) → HasBytes shelf.files name bytes → IsRefused bytes f → Read shelf top files name (refused name f)
-  was_absent : (mention : Option Mention) → IsMentionedAt files name mention → IsAbsent shelf name → Read shelf top files name (missing name mention)
+  was_refused : (bytes : List ℕ) (f : Fault) → HasBytes shelf.files name bytes → IsRefused bytes f → Read shelf top files name (refused (read_as name bytes) f)
+  was_absent : (mention : Option Mention) → IsMentionedAt shelf.files files name mention → IsAbsent shelf name → Read shelf top files name (missing name mention)
 
 same_read : {m n : List ℕ} → read m ≡ read n → n ≡ m
 same_read e = cc
 
-same_refuse : {m n : List ℕ} {f g : Fault} → refuse m f ≡ refuse n g → refused m f ≡ refused n g
-same_refuse e = cc
+same_refuse : {m n : List ℕ} {f g : Fault} → refuse m f ≡ refuse n g → (m ≡ n) × (f ≡ g)
+same_refuse e = (cc, cc)
 
 read_refuse : {m n : List ℕ} {f : Fault} → read m ≡ refuse n f → ⊥
 read_refuse e = cc
@@ -173,37 +175,43 @@ refuse_nothing e = cc
 
 as_read : {shelf : Shelved} {top : List ℕ} {files : List NamedSource} {o : Outcome} (name : List ℕ) → Calls top files (read name) → IsOfFiles o → ComesTo shelf top files o → Read shelf top files name o
 as_read {shelf = shelf} {top = top} {files = files} {o = o} name c i (outcomes.one_more name' bytes s c' h src rest) = subst (λ n. Read shelf top files n o) (same_read (one_call c c')) (went_on bytes s h src rest)
-as_read {shelf = shelf} {top = top} {files = files} name c i (outcomes.file_refused name' bytes f c' h r) = subst (λ n. Read shelf top files n (refused name' f)) (same_read (one_call c c')) (was_refused bytes f h r)
+as_read {shelf = shelf} {top = top} {files = files} name c i (outcomes.file_refused file f c' h r) = subst (λ n. Read shelf top files n (refused file f)) (same_read (one_call c c')) (was_refused file.bytes f h r)
 as_read {shelf = shelf} {top = top} {files = files} name c i (outcomes.absent name' mention c' m a) = subst (λ n. Read shelf top files n (missing name' mention)) (same_read (one_call c c')) (was_absent mention m a)
 as_read name c i (outcomes.not_read name' c' r) = absurd i
-as_read name c i (outcomes.mention_refused name' f c') = absurd (read_refuse (one_call c c'))
+as_read name c i (outcomes.mention_refused file f c' h) = absurd (read_refuse (one_call c c'))
 as_read name c i (outcomes.whole c') = absurd (read_nothing (one_call c c'))
 
-as_refused : {shelf : Shelved} {top : List ℕ} {files : List NamedSource} {o : Outcome} (name : List ℕ) (f : Fault) → Calls top files (refuse name f) → ComesTo shelf top files o → refused name f ≡ o
-as_refused name f c (outcomes.one_more name' bytes s c' h src rest) = absurd (read_refuse (one_call c' c))
-as_refused name f c (outcomes.file_refused name' bytes g c' h r) = absurd (read_refuse (one_call c' c))
-as_refused name f c (outcomes.absent name' mention c' m a) = absurd (read_refuse (one_call c' c))
-as_refused name f c (outcomes.not_read name' c' r) = absurd (read_refuse (one_call c' c))
-as_refused name f c (outcomes.mention_refused name' g c') = same_refuse (one_call c c')
-as_refused name f c (outcomes.whole c') = absurd (refuse_nothing (one_call c c'))
+as_refused : (shelf : List ℕ → Option (List ℕ)) (before now : ℕ) {top : List ℕ} {files : List NamedSource} {o : Outcome} (file : ReadFile) (f : Fault) → Calls top files (refuse file.name f) → WasRead (Some shelf) file → ComesTo (shelved (Some shelf) before now) top files o → refused file f ≡ o
+as_refused shelf before now file f c w (outcomes.one_more name' bytes s c' h src rest) = absurd (read_refuse (one_call c' c))
+as_refused shelf before now file f c w (outcomes.file_refused other g c' h r) = absurd (read_refuse (one_call c' c))
+as_refused shelf before now file f c w (outcomes.absent name' mention c' m a) = absurd (read_refuse (one_call c' c))
+as_refused shelf before now file f c w (outcomes.not_read name' c' r) = absurd (read_refuse (one_call c' c))
+as_refused shelf before now file f c w (outcomes.mention_refused other g c' v) =
+    let same = same_refuse (one_call c c') in
+    let bytes : file.bytes ≡ other.bytes = one_bytes shelf other.name (subst (λ (n : List ℕ). HasBytes (Some shelf) n file.bytes) same.0 w) v in
+    λ i. refused (read_as (same.0 i) (bytes i)) (same.1 i)
+as_refused shelf before now file f c w (outcomes.whole c') = absurd (refuse_nothing (one_call c c'))
 
 as_whole : {shelf : Shelved} {top : List ℕ} {files : List NamedSource} {o : Outcome} → Calls top files nothing → ComesTo shelf top files o → project files ≡ o
 as_whole c (outcomes.one_more name' bytes s c' h src rest) = absurd (read_nothing (one_call c' c))
-as_whole c (outcomes.file_refused name' bytes g c' h r) = absurd (read_nothing (one_call c' c))
+as_whole c (outcomes.file_refused file g c' h r) = absurd (read_nothing (one_call c' c))
 as_whole c (outcomes.absent name' mention c' m a) = absurd (read_nothing (one_call c' c))
 as_whole c (outcomes.not_read name' c' r) = absurd (read_nothing (one_call c' c))
-as_whole c (outcomes.mention_refused name' g c') = absurd (refuse_nothing (one_call c' c))
+as_whole c (outcomes.mention_refused file g c' h) = absurd (refuse_nothing (one_call c' c))
 as_whole c (outcomes.whole c') = refl
 
-refusal_agrees : (A : OneAnswer) (files : List ℕ → Option (List ℕ)) (before now : ℕ) {top : List ℕ} {sources : List NamedSource} (name bytes : List ℕ) (f : Fault) {o : Outcome} → HasBytes (Some files) name bytes → IsRefused bytes f → Read (shelved (Some files) before now) top sources name o → refused name f ≡ o
+refusal_agrees : (A : OneAnswer) (files : List ℕ → Option (List ℕ)) (before now : ℕ) {top : List ℕ} {sources : List NamedSource} (name bytes : List ℕ) (f : Fault) {o : Outcome} → HasBytes (Some files) name bytes → IsRefused bytes f → Read (shelved (Some files) before now) top sources name o → refused (read_as name bytes) f ≡ o
 refusal_agrees A files before now name bytes f h r (went_on bytes' s h' src rest) = absurd (source_or_refused A src (subst (λ b. IsRefused b f) (one_bytes files name h h') r))
-refusal_agrees A files before now name bytes f h r (was_refused bytes' g h' r') = ap (refused name) (one_refusal A (subst (λ b. IsRefused b f) (one_bytes files name h h') r) r')
+refusal_agrees A files before now name bytes f h r (was_refused bytes' g h' r') =
+    let same : bytes ≡ bytes' = one_bytes files name h h' in
+    let fault : f ≡ g = one_refusal A (subst (λ (b : List ℕ). IsRefused b f) same r) r' in
+    λ i. refused (read_as name (same i)) (fault i)
 refusal_agrees A files before now name bytes f h r (was_absent mention m a) = absurd (there_or_absent files before now name bytes h a)
 
-absence_agrees : (files : List ℕ → Option (List ℕ)) (before now : ℕ) {top : List ℕ} {sources : List NamedSource} (name : List ℕ) (mention : Option Mention) {o : Outcome} → IsMentionedAt sources name mention → IsAbsent (shelved (Some files) before now) name → Read (shelved (Some files) before now) top sources name o → missing name mention ≡ o
+absence_agrees : (files : List ℕ → Option (List ℕ)) (before now : ℕ) {top : List ℕ} {sources : List NamedSource} (name : List ℕ) (mention : Option Mention) {o : Outcome} → IsMentionedAt (Some files) sources name mention → IsAbsent (shelved (Some files) before now) name → Read (shelved (Some files) before now) top sources name o → missing name mention ≡ o
 absence_agrees files before now name mention m a (went_on bytes s h src rest) = absurd (there_or_absent files before now name bytes h a)
 absence_agrees files before now name mention m a (was_refused bytes f h r) = absurd (there_or_absent files before now name bytes h a)
-absence_agrees files before now {sources = sources} name mention m a (was_absent other n b) = ap (missing name) (one_mention sources name mention other m n)
+absence_agrees files before now {sources = sources} name mention m a (was_absent other n b) = ap (missing name) (one_mention files sources name mention other m n)
 
 same_bytes_source : (A : OneAnswer) (files : List ℕ → Option (List ℕ)) (name bytes bytes' : List ℕ) (s s' : Source) → HasBytes (Some files) name bytes → HasBytes (Some files) name bytes' → IsSource bytes s → IsSource bytes' s' → s' ≡ s
 same_bytes_source A files name bytes bytes' s s' h h' i i' =
@@ -219,8 +227,8 @@ more_agrees A files before now name bytes s rest j h i (was_absent mention m b) 
 pub one_outcome : (A : OneAnswer) (files : List ℕ → Option (List ℕ)) (before now : ℕ) (top : List ℕ) {sources : List NamedSource} {a b : Outcome} → ComesTo (shelved (Some files) before now) top sources a → ComesTo (shelved (Some files) before now) top sources b → IsOfFiles a → IsOfFiles b → a ≡ b
 one_outcome A files before now top (outcomes.one_more name bytes s c h src rest) other i j =
     more_agrees A files before now name bytes s (λ o rest' k. one_outcome A files before now top rest rest' i k) j h src (as_read name c j other)
-one_outcome A files before now top (outcomes.file_refused name bytes f c h r) other i j = refusal_agrees A files before now name bytes f h r (as_read name c j other)
+one_outcome A files before now top (outcomes.file_refused file f c h r) other i j = refusal_agrees A files before now file.name file.bytes f h r (as_read file.name c j other)
 one_outcome A files before now top (outcomes.absent name mention c m a) other i j = absence_agrees files before now name mention m a (as_read name c j other)
 one_outcome A files before now top (outcomes.not_read name c r) other i j = absurd i
-one_outcome A files before now top (outcomes.mention_refused name f c) other i j = as_refused name f c other
+one_outcome A files before now top (outcomes.mention_refused file f c h) other i j = as_refused files before now file f c h other
 one_outcome A files before now top (outcomes.whole c) other i j = as_whole c other

@@ -10,14 +10,15 @@ use Rattle.p8_tree.specs.Views.{source_of, named_source_of}
 use Rattle.p8_io.specs.Counts.{Rose}
 use Rattle.p8_io.specs.Shelves.{Files, IsLacking}
 use Rattle.p8_objects.specs.declared.fault.Mention.{Mention}
+use Rattle.p8_objects.specs.declared.fault.ReadFile.{ReadFile}
 use Rattle.p8_objects.specs.declared.fault.GatherFault.{GatherFault}
 use Rattle.p8_objects.specs.declared.next.Wanted.{Wanted}
 use Rattle.p8_objects.specs.declared.fault.GatherFault.TheVariants as gather_case
 use Rattle.p8_objects.specs.Lists.{IsAt}
 use Rattle.p8_objects.specs.Sources.{mentions}
-use Rattle.p8_objects.specs.Projects.{IsIn, ClosesRing, Calls, refuse, nothing, first_file, new_file, file_too_many, ring, whole, mention_in, IsMentionedAt}
+use Rattle.p8_objects.specs.Projects.{IsIn, ClosesRing, Calls, read, refuse, nothing, first_file, new_file, file_too_many, ring, whole}
 use Rattle.p8_objects.specs.Outcomes as outcomes
-use Rattle.p8_objects.specs.Outcomes.{Shelved, shelved, HasBytes, IsAbsent, Outcome, ComesTo, Answers, named}
+use Rattle.p8_objects.specs.Outcomes.{Shelved, shelved, HasBytes, WasRead, read_as, IsAbsent, mention_in, IsMentionedAt, Outcome, ComesTo, Answers, named}
 use Rattle.p8_objects.specs.Standing.{is_done, IsFinished, IsFirstLeft, AreFinished, Stands, DoneFrom, AllLeadTo}
 use Rattle.p8_objects.specs.Standing as standing
 use Rattle.p8_objects.specs.Mentioned.{sources_of, IsMentionFault}
@@ -73,19 +74,20 @@ same_call : {top : List ℕ} {files : List NamedSource} {name name' : List ℕ} 
 same_call {top = top} {files = files} {name = name} {name' = name'} {f = f} {f' = f'} a b c =
     subst (λ (n : List ℕ). Calls top files (refuse n f)) (sym a) (subst (λ (x : Fault). Calls top files (refuse name' x)) (sym b) c)
 
-pub refused_call : {files : List NamedSource} {done : List ℕ} {i : ℕ} {f : NamedSource} (x : Child) → Reached files done i f → IsFirstLeft files done (mentions f.tree) x → (e : GatherFault) → IsMentionFault files f.name x e → (top : List ℕ) → IsRefusedCall top files e
-refused_call {f = f} x r l (gather_case.Source file g) (a, inl (b, h)) top =
+pub refused_call : {files : List NamedSource} {done : List ℕ} {i : ℕ} {f : NamedSource} (bytes : List ℕ) (x : Child) → Reached files done i f → IsFirstLeft files done (mentions f.tree) x → (e : GatherFault) → IsMentionFault files (read_as f.name bytes) x e
+    → (shelf : Files) (top : List ℕ) → HasBytes shelf f.name bytes → IsRefusedCall shelf top files e
+refused_call {f = f} bytes x r l (gather_case.Source file g) (a, inl (b, h)) shelf top has =
     let closing = closes r l h in
-    same_call a b (ring f x (next_is r.stands r.at r.left r.behind l (inr closing)) closing)
-refused_call {f = f} x r l (gather_case.Source file g) (a, inr (b, n, m)) top =
-    same_call a b (file_too_many f x (next_is r.stands r.at r.left r.behind l (inl n)) n m)
-refused_call x r l (gather_case.Missing file mention) h top = absurd h
-refused_call x r l (gather_case.ShelfFault file) h top = absurd h
-refused_call x r l gather_case.NoMemory h top = tt
+    (same_call (ap (λ (y : ReadFile). y.name) a) b (ring f x (next_is r.stands r.at r.left r.behind l (inr closing)) closing), subst (λ (y : ReadFile). WasRead shelf y) (sym a) has)
+refused_call {f = f} bytes x r l (gather_case.Source file g) (a, inr (b, n, m)) shelf top has =
+    (same_call (ap (λ (y : ReadFile). y.name) a) b (file_too_many f x (next_is r.stands r.at r.left r.behind l (inl n)) n m), subst (λ (y : ReadFile). WasRead shelf y) (sym a) has)
+refused_call bytes x r l (gather_case.Missing file mention) h shelf top has = absurd h
+refused_call bytes x r l (gather_case.ShelfFault file) h shelf top has = absurd h
+refused_call bytes x r l gather_case.NoMemory h shelf top has = tt
 
-pub asked_is : {files : List NamedSource} {done : List ℕ} {i : ℕ} {f : NamedSource} (x : Child) (asked : Wanted) → Reached files done i f → IsFirstLeft files done (mentions f.tree) x → asked.name ≡ x.file → asked.mention ≡ Some (mention_in f.name x) → ¬ IsIn files x.file → length files < most_files
-    → (top : List ℕ) → IsAsked top files done asked.name × IsMentionedAt files asked.name asked.mention
-asked_is {files = files} {done = done} {f = f} x asked r l e g n m top =
+pub asked_is : {files : List NamedSource} {done : List ℕ} {i : ℕ} {f : NamedSource} (bytes : List ℕ) (x : Child) (asked : Wanted) → Reached files done i f → IsFirstLeft files done (mentions f.tree) x → asked.name ≡ x.file → asked.mention ≡ Some (mention_in (read_as f.name bytes) x) → ¬ IsIn files x.file → length files < most_files
+    → (shelf : Files) (top : List ℕ) → HasBytes shelf f.name bytes → IsAsked top files done asked.name × IsMentionedAt shelf files asked.name asked.mention
+asked_is {files = files} {done = done} {f = f} bytes x asked r l e g n m shelf top has =
     let next = next_is r.stands r.at r.left r.behind l (inl n) in (
       subst (λ (y : List ℕ). IsAsked top files done y) (sym e) (record {
         calls = new_file f x next n m;
@@ -93,7 +95,7 @@ asked_is {files = files} {done = done} {f = f} x asked r l e g n m top =
         room = m;
         led = all_lead_to r.stands r.at r.left r.behind (first_left_at l).1;
       }),
-      subst (λ (o : Option Mention). IsMentionedAt files asked.name o) (sym g) (f, x, next, sym e, refl),
+      subst (λ (o : Option Mention). IsMentionedAt shelf files asked.name o) (sym g) (f, x, bytes, next, sym e, has, refl),
     )
 
 pub nothing_left : {files : List NamedSource} {done : List ℕ} (n : ℕ) → Stands files done → DoneFrom files done n → n ≡ 0 → 0 < length files → (top : List ℕ) → Calls top files nothing
@@ -106,11 +108,11 @@ finished_one {files = files} {done = done} {i = i} done' r a e =
 
 -- gathering begins
 
-pub begin : (files : Files) (before : ℕ) (top name : List ℕ) (fs : List ProjectFile) (done : List ℕ) → fs ≡ [] → done ≡ [] → name ≡ top → Stands (sources_of fs) done × IsAsked top (sources_of fs) done name × IsMentionedAt (sources_of fs) name None × GoesOn files before top (sources_of fs)
+pub begin : (files : Files) (before : ℕ) (top name : List ℕ) (fs : List ProjectFile) (done : List ℕ) → fs ≡ [] → done ≡ [] → name ≡ top → Stands (sources_of fs) done × IsAsked top (sources_of fs) done name × IsMentionedAt files (sources_of fs) name None × GoesOn files before top (sources_of fs)
 begin files before top name fs done a b e =
-    subst (λ (gs : List ProjectFile). Stands (sources_of gs) done × IsAsked top (sources_of gs) done name × IsMentionedAt (sources_of gs) name None × GoesOn files before top (sources_of gs)) (sym a)
-    (subst (λ (ds : List ℕ). Stands [] ds × IsAsked top [] ds name × IsMentionedAt [] name None × GoesOn files before top []) (sym b)
-    (subst (λ (n : List ℕ). Stands [] [] × IsAsked top [] [] n × IsMentionedAt [] n None × GoesOn files before top []) (sym e) (
+    subst (λ (gs : List ProjectFile). Stands (sources_of gs) done × IsAsked top (sources_of gs) done name × IsMentionedAt files (sources_of gs) name None × GoesOn files before top (sources_of gs)) (sym a)
+    (subst (λ (ds : List ℕ). Stands [] ds × IsAsked top [] ds name × IsMentionedAt files [] name None × GoesOn files before top []) (sym b)
+    (subst (λ (n : List ℕ). Stands [] [] × IsAsked top [] [] n × IsMentionedAt files [] n None × GoesOn files before top []) (sym e) (
       (nothing_stands top).0,
       record { calls = first_file refl; new = λ h. none_at h.stands; room = omega arith; led = (nothing_stands top).1 },
       refl,
@@ -131,15 +133,14 @@ absent_within files files' before before' now name e l (inl n) = inl n
 absent_within files files' before before' now name e l (inr h) = inr (lacking_within files before before' now name l (subst (λ (fs : Files). IsLacking before' now fs name) e h))
 
 -- a file that can't be read, or is refused by itself
-pub file_fault : (files files' : Files) (before before' now : ℕ) (top : List ℕ) (asked : Wanted) {sources : List NamedSource} {done : List ℕ} → GoesOn files before top sources → IsAsked top sources done asked.name × IsMentionedAt sources asked.name asked.mention → files' ≡ files → before ≤ before' → (e : GatherFault) → IsFileFault (shelved files' before' now) asked e → Answers (shelved files before now) top (Err e)
-file_fault files files' before before' now top asked {sources = sources} on a e l (gather_case.Source file f) (n, h) =
+pub file_fault : (files files' : Files) (before before' now : ℕ) (top : List ℕ) (asked : Wanted) {sources : List NamedSource} {done : List ℕ} → GoesOn files before top sources → IsAsked top sources done asked.name × IsMentionedAt files sources asked.name asked.mention → files' ≡ files → before ≤ before' → (e : GatherFault) → IsFileFault (shelved files' before' now) asked e → Answers (shelved files before now) top (Err e)
+file_fault files files' before before' now top asked {sources = sources} on a e l (gather_case.Source file f) (n, h, r) =
     on.on now (outcomes.refused file f)
-    (subst (λ (m : List ℕ). ComesTo (shelved files before now) top sources (outcomes.refused m f)) (sym n)
-    (outcomes.file_refused asked.name h.bytes f a.0.calls (subst (λ (fs : Files). HasBytes fs asked.name h.bytes) e h.has) h.refused))
+    (outcomes.file_refused file f (subst (λ (m : List ℕ). Calls top sources (read m)) (sym n) a.0.calls) (subst (λ (fs : Files). WasRead fs file) e h) r)
 file_fault files files' before before' now top asked {sources = sources} on a e l (gather_case.Missing file mention) (n, h, g) =
     on.on now (outcomes.missing file mention)
     (subst (λ (m : List ℕ). ComesTo (shelved files before now) top sources (outcomes.missing m mention)) (sym n)
-    (outcomes.absent asked.name mention a.0.calls (subst (λ (o : Option Mention). IsMentionedAt sources asked.name o) (sym g) a.1) (absent_within files files' before before' now asked.name e l h)))
+    (outcomes.absent asked.name mention a.0.calls (subst (λ (o : Option Mention). IsMentionedAt files sources asked.name o) (sym g) a.1) (absent_within files files' before before' now asked.name e l h)))
 file_fault files files' before before' now top asked {sources = sources} on a e l (gather_case.ShelfFault file) (n, h) =
     on.on now (outcomes.failed file)
     (subst (λ (m : List ℕ). ComesTo (shelved files before now) top sources (outcomes.failed m)) (sym n)
@@ -147,18 +148,18 @@ file_fault files files' before before' now top asked {sources = sources} on a e 
 file_fault files files' before before' now top asked on a e l gather_case.NoMemory h = tt
 
 -- a mention that is refused
-pub call_fault : (files : Files) (before now : ℕ) (top : List ℕ) {sources : List NamedSource} → GoesOn files before top sources → (e : GatherFault) → IsRefusedCall top sources e → Answers (shelved files before now) top (Err e)
-call_fault files before now top on (gather_case.Source file f) c = on.on now (outcomes.refused file f) (outcomes.mention_refused file f c)
+pub call_fault : (files : Files) (before now : ℕ) (top : List ℕ) {sources : List NamedSource} → GoesOn files before top sources → (e : GatherFault) → IsRefusedCall files top sources e → Answers (shelved files before now) top (Err e)
+call_fault files before now top on (gather_case.Source file f) (c, h) = on.on now (outcomes.refused file f) (outcomes.mention_refused file f c h)
 call_fault files before now top on (gather_case.Missing file mention) c = absurd c
 call_fault files before now top on (gather_case.ShelfFault file) c = absurd c
 call_fault files before now top on gather_case.NoMemory c = tt
 
 -- what is asked for
-pub asked_for : {top : List ℕ} {files : List NamedSource} {done : List ℕ} (o : Option Wanted) (asked : Wanted) → CallsFor top files done o → o ≡ Some asked → IsAsked top files done asked.name × IsMentionedAt files asked.name asked.mention
-asked_for {top = top} {files = files} {done = done} o asked c e = subst (λ (x : Option Wanted). CallsFor top files done x) e c
+pub asked_for : (shelf : Files) {top : List ℕ} {files : List NamedSource} {done : List ℕ} (o : Option Wanted) (asked : Wanted) → CallsFor shelf top files done o → o ≡ Some asked → IsAsked top files done asked.name × IsMentionedAt shelf files asked.name asked.mention
+asked_for shelf {top = top} {files = files} {done = done} o asked c e = subst (λ (x : Option Wanted). CallsFor shelf top files done x) e c
 
-pub asked_for_none : {top : List ℕ} {files : List NamedSource} (done : List ℕ) (o : Option Wanted) → CallsFor top files done o → o ≡ None → Calls top files nothing
-asked_for_none {top = top} {files = files} done o c e = subst (λ (x : Option Wanted). CallsFor top files done x) e c
+pub asked_for_none : (shelf : Files) {top : List ℕ} {files : List NamedSource} (done : List ℕ) (o : Option Wanted) → CallsFor shelf top files done o → o ≡ None → Calls top files nothing
+asked_for_none shelf {top = top} {files = files} done o c e = subst (λ (x : Option Wanted). CallsFor shelf top files done x) e c
 
 -- one more file
 

@@ -135,10 +135,10 @@ same_project e = cc
 
 wholes : {shelf : Shelved} {top : List ℕ} {files : List NamedSource} {o : Outcome} → ComesTo shelf top files o → (p : List NamedSource) → o ≡ project p → Grown shelf top files → IsWhole shelf top p
 wholes (outcomes.one_more name bytes s c has source rest) p e g = wholes rest p e (grow name bytes s g (reading c) has source)
-wholes (outcomes.file_refused name bytes f c has r) p e g = absurd (cc)
+wholes (outcomes.file_refused file f c has r) p e g = absurd (cc)
 wholes (outcomes.absent name mention c m a) p e g = absurd (cc)
 wholes (outcomes.not_read name c r) p e g = absurd (cc)
-wholes (outcomes.mention_refused name f c) p e g = absurd (cc)
+wholes (outcomes.mention_refused file f c has) p e g = absurd (cc)
 wholes {shelf = shelf} {top = top} (outcomes.whole c) p e g = subst (λ (fs : List NamedSource). IsWhole shelf top fs) (same_project e) (whole_one g c)
 
 -- a project that is gathered

@@ -9,6 +9,7 @@ use Rattle.p8_tree.specs.declared.refusal.Refusal.TheVariants.{Cycle, TooManyObj
 use Rattle.p8_tree.specs.declared.faults.Fault.{Fault}
 use Rattle.p8_tree.specs.Faults.{fault}
 use Rattle.p8_objects.specs.declared.fault.GatherFault.{GatherFault}
+use Rattle.p8_objects.specs.declared.fault.ReadFile.{ReadFile}
 use Rattle.p8_objects.specs.declared.fault.GatherFault.TheVariants as gather_case
 use Rattle.p8_objects.specs.Lists.{IsAt}
 use Rattle.p8_objects.specs.Sources.{mentions, most_objects}
@@ -30,15 +31,15 @@ pub record HasTooMany (s : Source) (place : Place) : Type 0 where
   pub stands : IsAt (mentions s) most_objects item
   pub there : item.place ≡ place
 
--- the file of this name is refused so
-abbrev pub IsSourceFault : List ℕ → Fault → GatherFault → Type 0
-IsSourceFault name f (gather_case.Source file g) = (file ≡ name) × (g ≡ f)
-IsSourceFault name f gather_case.NoMemory = Unit {0}
-IsSourceFault name f _ = ⊥
+-- the file is refused so
+abbrev pub IsSourceFault : ReadFile → Fault → GatherFault → Type 0
+IsSourceFault file f (gather_case.Source other g) = (other ≡ file) × (g ≡ f)
+IsSourceFault file f gather_case.NoMemory = Unit {0}
+IsSourceFault file f _ = ⊥
 
--- why a mention in the file of this name is refused: its file is among these, or there are too many of them
-abbrev pub IsMentionFault : List NamedSource → List ℕ → Child → GatherFault → Type 0
-IsMentionFault files name x (gather_case.Source file f) =
-    (file ≡ name) × (((f ≡ fault Cycle x.file_place) × IsIn files x.file) ⊎ ((f ≡ fault TooManyObjects x.place) × (¬ IsIn files x.file) × (most_files ≤ length files)))
-IsMentionFault files name x gather_case.NoMemory = Unit {0}
-IsMentionFault files name x _ = ⊥
+-- why a mention in the file is refused: its file is among these, or there are too many of them
+abbrev pub IsMentionFault : List NamedSource → ReadFile → Child → GatherFault → Type 0
+IsMentionFault files file x (gather_case.Source other f) =
+    (other ≡ file) × (((f ≡ fault Cycle x.file_place) × IsIn files x.file) ⊎ ((f ≡ fault TooManyObjects x.place) × (¬ IsIn files x.file) × (most_files ≤ length files)))
+IsMentionFault files file x gather_case.NoMemory = Unit {0}
+IsMentionFault files file x _ = ⊥

@@ -1,18 +1,19 @@
 -- What gathering a project from a shelf comes to (this project's profile).
-use Rattle.std.specs.Prelude.{ℕ, ◌⊎◌, List, [], ◌∷◌, ◌++◌, Option, Result, Ok, Err}
+use Rattle.std.specs.Prelude.{ℕ, ◌≡◌, ◌⊎◌, List, [], ◌∷◌, ◌++◌, Option, Some, None, Result, Ok, Err}
 use Rattle.std.specs.Str.{IsUtf8}
 use Rattle.p8_tree.specs.declared.faults.Fault.{Fault}
-use Rattle.p8_tree.specs.Sources.{Source}
+use Rattle.p8_tree.specs.Sources.{Child, Source}
 use Rattle.p8_tree.specs.Projects.{NamedSource}
 use Rattle.p8_tree.specs.Views.{named_sources_of}
 use Rattle.p8_io.specs.Counts.{Rose}
 use Rattle.p8_io.specs.Shelves.{Files, IsRead, IsLacking}
 use Rattle.p8_objects.specs.declared.fault.Mention.{Mention}
+use Rattle.p8_objects.specs.declared.fault.ReadFile.{ReadFile}
 use Rattle.p8_objects.specs.declared.gathered.Gathered.{Gathered}
 use Rattle.p8_objects.specs.declared.fault.GatherFault.{GatherFault}
 use Rattle.p8_objects.specs.declared.fault.GatherFault.TheVariants as gather_case
 use Rattle.p8_objects.specs.Sources.{IsSource, IsRefused}
-use Rattle.p8_objects.specs.Projects.{Calls, read, refuse, nothing, IsMentionedAt}
+use Rattle.p8_objects.specs.Projects.{IsNext, Calls, read, refuse, nothing}
 
 -- a shelf as a call sees it from outside: its files, and its count of faults before and now
 pub record Shelved : Type 0 where
@@ -27,13 +28,31 @@ shelved files before now = record { files = files; before = before; now = now }
 abbrev pub HasBytes : Files → List ℕ → List ℕ → Type 0
 HasBytes files name bytes = IsUtf8 name × IsRead files name bytes
 
+-- a file of this name with these bytes
+abbrev pub read_as : (name bytes : List ℕ) → ReadFile
+read_as name bytes = record { name = name; bytes = bytes }
+
+-- the file has these bytes, as far as they are read
+abbrev pub WasRead : Files → ReadFile → Type 0
+WasRead files file = HasBytes files file.name file.bytes
+
 -- no file of this name is there
 abbrev pub IsAbsent : Shelved → List ℕ → Type 0
 IsAbsent shelf name = (¬ IsUtf8 name) ⊎ IsLacking shelf.before shelf.now shelf.files name
 
+-- an item of OBJ in this file mentions its file here
+abbrev pub mention_in : ReadFile → Child → Mention
+mention_in file x = record { file = file; place = x.file_place }
+
+-- Where the file of this name is mentioned that is read next: what comes next mentions it, in a file with these bytes. The top file is mentioned nowhere.
+abbrev pub IsMentionedAt : Files → List NamedSource → (name : List ℕ) → Option Mention → Type 0
+IsMentionedAt shelf files name None = files ≡ []
+IsMentionedAt shelf files name (Some mention) =
+    (f : NamedSource) × (x : Child) × (bytes : List ℕ) × IsNext files f x × (x.file ≡ name) × HasBytes shelf f.name bytes × (mention ≡ mention_in (read_as f.name bytes) x)
+
 pub data Outcome : Type 0 where
   project : List NamedSource → Outcome
-  refused : List ℕ → Fault → Outcome
+  refused : ReadFile → Fault → Outcome
   missing : List ℕ → (mention : Option Mention) → Outcome
   failed : List ℕ → Outcome
 
@@ -45,11 +64,11 @@ pub data ComesTo (shelf : Shelved) (top : List ℕ) : List NamedSource → Outco
   -- the file that is read next is one more
   one_more : {files : List NamedSource} {o : Outcome} (name bytes : List ℕ) (s : Source) → Calls top files (read name) → HasBytes shelf.files name bytes → IsSource bytes s → ComesTo shelf top (files ++ named name s ∷ []) o → ComesTo shelf top files o
   -- or it is refused by itself, isn't there, which is told with its mention, or can't be read
-  file_refused : {files : List NamedSource} (name bytes : List ℕ) (f : Fault) → Calls top files (read name) → HasBytes shelf.files name bytes → IsRefused bytes f → ComesTo shelf top files (refused name f)
-  absent : {files : List NamedSource} (name : List ℕ) (mention : Option Mention) → Calls top files (read name) → IsMentionedAt files name mention → IsAbsent shelf name → ComesTo shelf top files (missing name mention)
+  file_refused : {files : List NamedSource} (file : ReadFile) (f : Fault) → Calls top files (read file.name) → WasRead shelf.files file → IsRefused file.bytes f → ComesTo shelf top files (refused file f)
+  absent : {files : List NamedSource} (name : List ℕ) (mention : Option Mention) → Calls top files (read name) → IsMentionedAt shelf.files files name mention → IsAbsent shelf name → ComesTo shelf top files (missing name mention)
   not_read : {files : List NamedSource} (name : List ℕ) → Calls top files (read name) → Rose shelf.before shelf.now → ComesTo shelf top files (failed name)
   -- a mention is refused, or there is nothing more to read
-  mention_refused : {files : List NamedSource} (name : List ℕ) (f : Fault) → Calls top files (refuse name f) → ComesTo shelf top files (refused name f)
+  mention_refused : {files : List NamedSource} (file : ReadFile) (f : Fault) → Calls top files (refuse file.name f) → WasRead shelf.files file → ComesTo shelf top files (refused file f)
   whole : {files : List NamedSource} → Calls top files nothing → ComesTo shelf top files (project files)
 
 -- what gathering the project of a top file comes to

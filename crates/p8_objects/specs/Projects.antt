@@ -4,13 +4,12 @@
 -- mention says what comes next: its first open mention. A mention is open where its file isn't among the files so far, or
 -- where it closes a ring of mentions. So a mentioned file, with all that it mentions, comes before the next mention is
 -- looked at, and no file comes twice.
-use Rattle.std.specs.Prelude.{◌≡◌, ℕ, ◌<◌, ◌≤◌, ◌⊎◌, List, [], length, Option, Some, None}
+use Rattle.std.specs.Prelude.{◌≡◌, ℕ, ◌<◌, ◌≤◌, ◌⊎◌, List, [], length}
 use Rattle.p8_tree.specs.Sources.{Child}
 use Rattle.p8_tree.specs.Projects.{NamedSource, most_files}
 use Rattle.p8_tree.specs.declared.refusal.Refusal.TheVariants.{Cycle, TooManyObjects}
 use Rattle.p8_tree.specs.declared.faults.Fault.{Fault}
 use Rattle.p8_tree.specs.Faults.{fault}
-use Rattle.p8_objects.specs.declared.fault.Mention.{Mention}
 use Rattle.p8_objects.specs.Lists.{HasOne, IsFirst, IsLast}
 use Rattle.p8_objects.specs.Sources.{mentions}
 
@@ -56,12 +55,3 @@ pub data Calls (top : List ℕ) (files : List NamedSource) : Call → Type 0 whe
   file_too_many : (f : NamedSource) (x : Child) → IsNext files f x → ¬ IsIn files x.file → most_files ≤ length files → Calls top files (refuse f.name (fault TooManyObjects x.place))
   ring : (f : NamedSource) (x : Child) → IsNext files f x → ClosesRing files f x → Calls top files (refuse f.name (fault Cycle x.file_place))
   whole : 0 < length files → ¬ HasOne (HasOpen files) files → Calls top files nothing
-
--- an item of OBJ in the file of this name mentions its file here
-abbrev pub mention_in : (name : List ℕ) → Child → Mention
-mention_in name x = record { file = name; place = x.file_place }
-
--- Where the file of this name is mentioned that is read next: what comes next mentions it. The top file is mentioned nowhere.
-abbrev pub IsMentionedAt : List NamedSource → (name : List ℕ) → Option Mention → Type 0
-IsMentionedAt files name None = files ≡ []
-IsMentionedAt files name (Some mention) = (f : NamedSource) × (x : Child) × IsNext files f x × (x.file ≡ name) × (mention ≡ mention_in f.name x)

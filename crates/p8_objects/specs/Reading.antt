@@ -3,7 +3,6 @@ use Rattle.std.specs.Prelude.{ℕ, ◌≡◌, ◌⊎◌, List, [], ◌∷◌, �
 use Rattle.std.specs.declared.vec.Vec.{Vec}
 use Rattle.std.specs.declared.alloc.Global.{Global}
 use Rattle.p8_tree.specs.declared.projects.ProjectFile.{ProjectFile}
-use Rattle.p8_tree.specs.declared.faults.Fault.{Fault}
 use Rattle.p8_tree.specs.Sources.{Source}
 use Rattle.p8_tree.specs.Views.{source_of}
 use Rattle.p8_tree.specs.Proper.{IsProperFile}
@@ -15,7 +14,7 @@ use Rattle.p8_objects.specs.declared.next.Wanted.{Wanted}
 use Rattle.p8_objects.specs.declared.fault.GatherFault.{GatherFault}
 use Rattle.p8_objects.specs.declared.fault.GatherFault.TheVariants as gather_case
 use Rattle.p8_objects.specs.Sources.{IsSource, IsRefused}
-use Rattle.p8_objects.specs.Outcomes.{Shelved, HasBytes, IsAbsent}
+use Rattle.p8_objects.specs.Outcomes.{Shelved, HasBytes, IsAbsent, WasRead}
 
 -- the file of this name was read once between two logs, or nothing was
 abbrev pub MayBeRead : List ℕ → (before now : Log) → Type 0
@@ -43,15 +42,9 @@ pub record AreKept (shelf : Files) (name : List ℕ) (tree : Source) (before now
   pub source : IsSource bytes tree
   pub behind : now ≡ before ++ bytes ∷ []
 
--- its bytes are refused by themselves
-pub record IsRefusedBy (shelf : Shelved) (name : List ℕ) (f : Fault) : Type 0 where
-  pub bytes : List ℕ
-  pub has : HasBytes shelf.files name bytes
-  pub refused : IsRefused bytes f
-
 -- why the file that is asked for has no tree
 abbrev pub IsFileFault : Shelved → Wanted → GatherFault → Type 0
-IsFileFault shelf asked (gather_case.Source file f) = (file ≡ asked.name) × IsRefusedBy shelf asked.name f
+IsFileFault shelf asked (gather_case.Source file f) = (file.name ≡ asked.name) × WasRead shelf.files file × IsRefused file.bytes f
 IsFileFault shelf asked (gather_case.Missing file mention) = (file ≡ asked.name) × IsAbsent shelf asked.name × (mention ≡ asked.mention)
 IsFileFault shelf asked (gather_case.ShelfFault file) = (file ≡ asked.name) × Rose shelf.before shelf.now
 IsFileFault shelf asked gather_case.NoMemory = Unit {0}

@@ -3,6 +3,7 @@ use Rattle.std.specs.Prelude.{◌≡◌, ℕ, List, [], ◌∷◌}
 use Rattle.p8_tree.specs.Sources.{Child, Source}
 use Rattle.p8_tree.specs.Projects.{NamedSource}
 use Rattle.p8_io.specs.Shelves.{Files}
+use Rattle.p8_objects.specs.declared.fault.ReadFile.{ReadFile}
 use Rattle.p8_objects.specs.Lists.{IsAt}
 use Rattle.p8_objects.specs.Sources.{mentions, IsSource}
 use Rattle.p8_objects.specs.Projects.{IsIn, ClosesRing}
@@ -40,6 +41,14 @@ abbrev pub AreSources : Files → List NamedSource → (sources : List (List ℕ
 AreSources shelf [] [] = Unit {0}
 AreSources shelf (f ∷ files) (bytes ∷ sources) = HasBytes shelf f.name bytes × IsSource bytes f.tree × AreSources shelf files sources
 AreSources shelf _ _ = ⊥
+
+-- one of these files has this name and these bytes, by the texts that stand beside them
+pub record HasText (files : List NamedSource) (sources : List (List ℕ)) (file : ReadFile) : Type 0 where
+  pub number : ℕ
+  pub source : NamedSource
+  pub stands : IsAt files number source
+  pub named : source.name ≡ file.name
+  pub text : IsAt sources number file.bytes
 
 -- each tree is so
 abbrev pub EachTree : (Source → Type 0) → List NamedSource → Type 0

@@ -33,6 +33,8 @@ use std::alloc::Global;
 /// - `Source`, in the file with the mention, with 20 at the item whose file would be the project's 256th, and with 19
 ///   at the string of a file that is being gathered, that is, of one whose mentions lead back to that item.
 ///
+/// The file that is refused, and the one that mentions a missing one, come with their bytes as they were read.
+///
 /// `NoMemory` may come at any point. A shelf that tells its files has one outcome, but for its faults
 /// ([`one_outcome`](crate::one_outcome)).
 pub fn gather<S: Shelf>(alloc: Global, shelf: &mut S, top: &str) -> Result<Gathered, GatherFault>
@@ -59,7 +61,7 @@ pub fn gather<S: Shelf>(alloc: Global, shelf: &mut S, top: &str) -> Result<Gathe
     });
     'files: while let Some(next) = asked {
         files.push(read_file(alloc, shelf, next, &mut sources)?)?;
-        asked = next_file(alloc, files.as_slice(), &mut done)?;
+        asked = next_file(alloc, files.as_slice(), sources.as_slice(), &mut done)?;
     }
     Ok(Gathered {
         project: Project { files },

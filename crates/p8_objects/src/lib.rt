@@ -9,7 +9,7 @@ mod mentions;
 mod next;
 mod source;
 
-pub use fault::{GatherFault, Mention};
+pub use fault::{GatherFault, Mention, ReadFile};
 pub use gathered::{Gathered, discard};
 pub use gathering::gather;
 pub use laws::one_outcome;

@@ -8,7 +8,7 @@ ghost use Rattle.p8_objects.specs.Sources.{IsSource, IsRefused};
 ghost use Rattle.p8_objects.specs.Outcomes.{shelved};
 ghost use Rattle.p8_objects.specs.Reading.{AreKept, IsRead, IsFileOf, IsFileFault, MayBeRead};
 
-use crate::fault::GatherFault;
+use crate::fault::{GatherFault, ReadFile};
 use crate::mentions::item_too_many;
 use crate::next::Wanted;
 use p8_blocks::{parse, tokens_are_proper};
@@ -82,7 +82,11 @@ pub(crate) fn read_file<S: Shelf>(
             sources.push(Text::from_vec(bytes))?;
             Ok(ProjectFile { name, tree })
         }
-        Err(Fail::Refused(fault)) => Err(GatherFault::Source { file: name, fault }),
+        Err(Fail::Refused(fault)) => {
+            let bytes = Text::from_vec(bytes);
+            let file = ReadFile { name, bytes };
+            Err(GatherFault::Source { file, fault })
+        }
         Err(Fail::NoMemory) => Err(GatherFault::NoMemory),
     }
 }

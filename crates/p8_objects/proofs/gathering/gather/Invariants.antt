@@ -11,7 +11,7 @@ use Rattle.p8_objects.proofs.gathering.gather.Given as goal
 abbrev pub invariant-files : goal.invariant-files
 invariant-files g l = record {
   stands : Stands (sources_of l.files) l.done;
-  asked : CallsFor l.top (sources_of l.files) l.done l.asked;
+  asked : CallsFor (g.S.Shelf.files l.fn.shelf) l.top (sources_of l.files) l.done l.asked;
   read : HaveBeenRead (g.S.Shelf.files l.fn.shelf) l.top (g.S.Shelf.log l.fn.shelf) (g.S.Shelf.log l.shelf) (sources_of l.files);
   on : GoesOn (g.S.Shelf.files l.fn.shelf) (g.S.Shelf.faults l.fn.shelf) l.top (sources_of l.files);
   sources : AreSources (g.S.Shelf.files l.fn.shelf) (sources_of l.files) l.sources;
