@@ -18,9 +18,6 @@ assoc (x ∷ xs) ys zs = ap (λ (l : Record). x ∷ l) (assoc xs ys zs)
 begins-on : (a b c : Record) → Begins a b → Begins b c → Begins a c
 begins-on a b c x y = (y.0 ++ x.0, assoc y.0 x.0 a ∙ ap (λ (l : Record). y.0 ++ l) x.1 ∙ y.1)
 
-pub waited-none : (a : PassSteps) → Waited a a
-waited-none a = record { own = ([], refl); seen = ([], refl); turns_kept = refl; won = omega arith }
-
 waited-both : (a b c : PassSteps) → Waited a b → Waited b c → Waited a c
 waited-both a b c x y = record {
   own = begins-on a.own b.own c.own x.own y.own;

@@ -1,6 +1,6 @@
 -- internal
 -- What a pass keeps of its cog's life, and of what that has found.
-use Rattle.std.specs.Prelude.{ℕ, ◌+◌, ◌*◌, ◌≡◌, ◌≤◌, true, false, Bool, List, ◌∷◌, Option}
+use Rattle.std.specs.Prelude.{ℕ, ◌+◌, ◌*◌, ◌≡◌, ◌≤◌, true, false, Bool, List, ◌∷◌, Option, None}
 use Rattle.p8_access.specs.declared.kinds.Access.{Access}
 use Rattle.p8_access.specs.declared.order.Turn.{Turn}
 use Rattle.p8_access.specs.declared.lives.Next.{Next}
@@ -98,3 +98,9 @@ pub record Comes (w : World) (r : Record) (runner : Runner) (boot_memory : List 
   pub origins : (n : ℕ) → IsProperOrigin (origin_of (cog_state w (turns r) n))
   pub announced : running ≡ true → IsAnnounced (announced_by (said turn.key.cog r)) turn
   pub rides : Rides w turn.key.cog r runner
+
+-- it has announced nothing yet, and has come to the turn's clock and not much further
+pub record HasTaken (announced : Option (ℕ × Access)) (reached lead : ℕ) (turn : Turn) : Type 0 where
+  pub none : announced ≡ None
+  pub low : turn.key.clock ≤ reached
+  pub high : reached ≤ turn.key.clock + lead

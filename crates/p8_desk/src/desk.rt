@@ -3,7 +3,7 @@ ghost use Rattle.std.specs.Prelude.{◌≡◌, ◌<◌, ◌||◌, ℕ, true, IfS
 ghost use Rattle.p8_desk.specs.declared.turned.Turned.TheVariants.{Done, After, Over};
 ghost use Rattle.p8_desk.specs.Passes.{Owns, PassSteps};
 ghost use Rattle.p8_desk.specs.Tries.{Tried, Waited};
-ghost use Rattle.p8_desk.specs.Work.{is_over};
+ghost use Rattle.p8_desk.specs.Seats.{is_over};
 
 use crate::bells::{ring, ring_all, wait_after};
 use crate::pass::CogPass;

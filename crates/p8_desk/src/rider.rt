@@ -7,8 +7,7 @@ ghost use Rattle.p8_ledger.specs.Records.{Record};
 ghost use Rattle.p8_desk.specs.declared.rule.Known.{Known};
 ghost use Rattle.p8_desk.specs.Rules.{known as known_in};
 ghost use Rattle.p8_desk.specs.Runners.{Rides, HasFound};
-ghost use Rattle.p8_desk.specs.Seats.{Idle, Keeps, Rode};
-ghost use Rattle.p8_desk.specs.Work.{Carries, Granted, Settled, Spoken, Worked, is_over, made_by};
+ghost use Rattle.p8_desk.specs.Seats.{Idle, Keeps, Rode, Carries, Granted, Settled, Spoken, Worked, is_over, made_by};
 
 use crate::desk::Desk;
 use crate::rule::Place;

@@ -10,8 +10,7 @@ ghost use Rattle.p8_access.specs.Worlds.{World};
 ghost use Rattle.p8_cog.specs.Lives.{begun_by, IsStartable};
 ghost use Rattle.p8_ledger.specs.declared.steps.Step.TheVariants.{Took, Said};
 ghost use Rattle.p8_ledger.specs.Records.{Record};
-ghost use Rattle.p8_desk.specs.Runners.{Rides, Comes, HasFound};
-ghost use Rattle.p8_desk.specs.Taking.{HasTaken};
+ghost use Rattle.p8_desk.specs.Runners.{Rides, Comes, HasFound, HasTaken};
 
 use p8_access::{CogState, Life, Next, Ram, Turn};
 use p8_cog::CogLife;

@@ -8,7 +8,7 @@ use Rattle.p8_wave.specs.Plot.{plot_of}
 use Rattle.p8_report.specs.Text.{text_of}
 use Rattle.p8_wave.specs.SerialLaws.{IsRate}
 use Rattle.p8_wave.specs.Serial.{serial_of}
-use Rattle.p8_verify.specs.Files.{file_of}
+use Rattle.p8_verify.specs.Files.{file_of, HasFile}
 use Rattle.p8_wave.specs.Wave.{wave_of}
 use Rattle.p8_finish.specs.declared.finish.Finish.{Finish}
 use Rattle.p8_finish.specs.declared.finish.Finish.TheVariants.{Trace, Summary, Saved, Serial, Wave, Plot}
@@ -22,6 +22,15 @@ told_by Saved w past = file_of w past
 told_by (Serial pin bits) w past = serial_of w past pin bits
 told_by (Wave selection) w past = wave_of w past selection
 told_by (Plot view) w past = plot_of w past view
+
+-- what is told of a past is whole: where it is saved, it has a file, with the record of each of its turns
+abbrev pub IsWhole : Finish → World → List Turn → Type 0
+IsWhole (Trace dump) w past = Unit {0}
+IsWhole (Summary seed) w past = Unit {0}
+IsWhole Saved w past = HasFile w past
+IsWhole (Serial pin bits) w past = Unit {0}
+IsWhole (Wave selection) w past = Unit {0}
+IsWhole (Plot view) w past = Unit {0}
 
 -- It can be told: the range of a dump is in hub RAM, and isn't empty; a history that is saved has at most 40,000 turns by its limit; there is such a
 -- pin, and such a bit.

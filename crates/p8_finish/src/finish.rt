@@ -5,7 +5,7 @@ ghost use Rattle.p8_hub.specs.Standing.{IsHub};
 ghost use Rattle.p8_ledger.specs.Worlds.{world_of};
 ghost use Rattle.p8_cog.specs.Lives.{asks};
 ghost use Rattle.p8_wave.specs.Plot.{plot_of};
-ghost use Rattle.p8_finish.specs.Finishes.{told_by, CanBeTold};
+ghost use Rattle.p8_finish.specs.Finishes.{told_by, CanBeTold, IsWhole};
 
 use crate::summary_text::summary;
 use p8_ledger::{Ended, History};
@@ -63,8 +63,9 @@ pub fn told(
     requires clocks { ended.now.history.limits.clocks ≤ 100000000 }
     requires ended { HasEnded asks (world_of ended.now.history.boot script.now ended.now.history.limits) (reverse ended.now.history.turns.list) }
     requires hub { IsHub (world_of ended.now.history.boot script.now ended.now.history.limits) (reverse ended.now.history.turns.list) ended.now.hub }
-    ensures { IfOk result (λ text. text.items
+    ensures text { IfOk result (λ text. text.items
         ≡ told_by finish (world_of ended.now.history.boot script.now ended.now.history.limits) (reverse ended.now.history.turns.list)) }
+    ensures whole { IfOk result (λ _. IsWhole finish (world_of ended.now.history.boot script.now ended.now.history.limits) (reverse ended.now.history.turns.list)) }
 {
     match finish {
         Finish::Trace { dump } => trace(alloc, ended, dump),

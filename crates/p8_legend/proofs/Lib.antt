@@ -15,3 +15,12 @@ mod Meaning
 mod LineRows
 mod Covered
 mod RowLines
+mod Telling
+mod RightNames
+mod MapLines
+mod Walks
+mod AllNames
+mod AllVariables
+mod WholeNames
+mod LabelsRise
+mod OfProject

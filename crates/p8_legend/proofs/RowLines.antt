@@ -12,7 +12,7 @@ use Rattle.p8_gen.specs.declared.writer.Line.{Line}
 use Rattle.p8_stmt.specs.declared.code.MethodCode.{MethodCode}
 use Rattle.p8_image.specs.declared.clocks.Clock.{Clock}
 use Rattle.p8_image.specs.declared.parts.ObjectPart.{ObjectPart}
-use Rattle.p8_image.specs.Layout.{total, code_size, codes_offset, size_of, header_by}
+use Rattle.p8_image.specs.Layout.{total, codes_offset, size_of, header_by}
 use Rattle.p8_image.specs.Projects.{FitsHub}
 use Rattle.p8_build.specs.Files.{CompiledFile}
 use Rattle.p8_build.specs.Builds.{AreCompiled, objects_of, IsBuilt}
@@ -22,10 +22,10 @@ use Rattle.p8_opt.specs.Lines.{line_at, lines_of_codes, lines_from, lines_of}
 use Rattle.p8_legend.specs.declared.table.Row.{Row}
 use Rattle.p8_legend.specs.declared.table.LineTable.{LineTable}
 use Rattle.p8_image.specs.Listing.{further}
-use Rattle.p8_legend.specs.Rows.{end_of, line_rows, code_rows, rows_from, codes_of, IsLineTable, AreApart}
+use Rattle.p8_legend.specs.Rows.{line_rows, code_rows, rows_from, codes_of, IsLineTable, AreApart}
 use Rattle.p8_legend.specs.Lines.{begins_from}
 use Rattle.p8_legend.specs.Naming.{NamesStatement}
-use Rattle.p8_legend.proofs.LinesApart.{no-lines, next-is, AreAllTiled, AreFilled, bytes_in, filled, objects-fit}
+use Rattle.p8_legend.proofs.LinesApart.{no-lines, AreAllTiled, AreFilled, bytes_in, filled, objects-fit}
 
 abbrev line_in : Row → ℕ × Place
 line_in row = (row.address, row.place)
@@ -118,6 +118,11 @@ one-codes files children xs ys beside a b =
     let q = b.each i f c y (record { stands = at_f; beside = at_c }) at_y in
     let same = alike f.tree c (i == 0) x.kinds y.kinds p.names q.names in
     same_codes f.tree c x y same (same_labels f.tree c x y same p.dat q.dat) p.code q.code)
+
+-- and so are its rows
+pub one-rows : (files : List NamedSource) (children : List Children) (xs ys : List CompiledFile) → length children ≡ length files → AreCompiled files children xs → AreCompiled files children ys
+    → rows_from 0 16 (objects_of files children xs) (codes_of xs) ≡ rows_from 0 16 (objects_of files children ys) (codes_of ys)
+one-rows files children xs ys beside a b = ap₂ (rows_from 0 16) (one_objects files children xs ys beside a b) (one-codes files children xs ys beside a b)
 
 -- ---- a project
 

@@ -19,3 +19,9 @@ pub mod Origins
 pub mod Covering
 -- Which statement a table names.
 pub mod Naming
+-- What a legend tells of an address.
+pub mod Telling
+-- What has a name in the hub, and where.
+pub mod Stands
+-- The lines of a map.
+pub mod MapLines

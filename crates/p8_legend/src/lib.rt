@@ -9,9 +9,11 @@ mod instances;
 mod laws;
 mod legend;
 mod life_laws;
+mod name_laws;
 mod objects;
 mod parts;
 mod paths;
+mod place_laws;
 mod places;
 mod project;
 mod project_names;
@@ -27,8 +29,10 @@ pub use code_laws::{lines_are_of_their_statements, lines_begin_where_bytecodes_d
 pub use laws::one_legend;
 pub use legend::Legend;
 pub use life_laws::{accesses_are_asked_by_their_lines, bytecodes_stand_at_their_lines};
+pub use name_laws::{maps_tell_where_the_image_has_it, names_stand_where_the_image_has_them};
 pub use parts::legend_of_parts;
-pub use project::{line_table, table_of_accepted};
+pub use place_laws::{places_are_those_of_rows, turns_have_the_places_of_their_statements};
+pub use project::table_of_accepted;
 pub use project_names::project_legend;
 pub use ranges::{Found, Range, Ranges};
 pub use row_laws::{

@@ -55,4 +55,5 @@ pub mod Kept
 pub mod OneByOne
 pub mod Once
 mod Keeping
+mod Shorter
 mod Mains

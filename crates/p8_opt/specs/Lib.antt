@@ -9,6 +9,8 @@ pub mod Agreements
 pub mod Asked
 -- What a project is built to with shorter code of the same meaning.
 pub mod Shorts
+-- What building with it promises of its image.
+pub mod Shorter
 -- What each step of that comes to: internal.
 pub mod Steps
 -- What public contracts cite.

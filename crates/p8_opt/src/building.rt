@@ -3,13 +3,15 @@ ghost use Rattle.std.specs.Prelude.{◌≡◌, ◌≤◌, ◌<◌, length, map, 
 ghost use Rattle.p8_tree.specs.Views.{named_sources_of, named_source_of};
 ghost use Rattle.p8_tree.specs.Projects.{most_files};
 ghost use Rattle.p8_names.specs.Children.{AreChildren};
-ghost use Rattle.p8_names.specs.Mentions.{HaveMentioned, HaveNoRing};
+ghost use Rattle.p8_names.specs.Mentions.{AreDistinct, HaveMentioned, HaveNoRing};
 ghost use Rattle.p8_build.specs.Parts.{AreProper};
 ghost use Rattle.p8_build.specs.Phases.{IfFirstRefused};
 ghost use Rattle.p8_build.specs.Told.{IsRefusal};
 ghost use Rattle.p8_opt.specs.Shorts.{IsShortBuiltTo, IsShortImageBuilt};
+ghost use Rattle.p8_opt.specs.Shorter.{HasNoLongerMethods, KeepsSource};
 ghost use Rattle.p8_opt.specs.Steps.{IsAcceptedProject};
 
+use crate::built_laws::built_short_images_keep_meaning;
 use crate::objects::short_objects;
 use p8_build::{Accepted, BuildFault, Built, FileFault, accept, finish, told};
 use p8_image::Image;
@@ -45,6 +47,9 @@ pub fn build_short_parts(alloc: Global, project: &Project) -> Result<Built, Buil
 
 /// Builds a project to its image with shorter code alone, under the same conditions and with the same errors as
 /// [`build_short_parts`].
+///
+/// No method of it is longer than in the image that [`build`](p8_build::build) makes. And the image keeps the meaning of the project's source as it
+/// stands, where the files have names of their own.
 pub fn build_short(alloc: Global, project: &Project) -> Result<Image, BuildFault>
     requires first { 0 < length (named_sources_of project.now) }
     requires few { length (named_sources_of project.now) ≤ most_files }
@@ -52,8 +57,11 @@ pub fn build_short(alloc: Global, project: &Project) -> Result<Image, BuildFault
     requires no_ring { HaveNoRing (named_sources_of project.now) }
     requires proper { AreProper (named_sources_of project.now) }
     ensures built { IfOk result (IsShortImageBuilt (named_sources_of project.now)) }
+    ensures no_longer { IfOk result (HasNoLongerMethods (named_sources_of project.now)) }
+    ensures keeps { AreDistinct (named_sources_of project.now) → IfOk result (KeepsSource (named_sources_of project.now)) }
     ensures refused { IfErr result (IsRefusal (named_sources_of project.now)) }
 {
+    built_short_images_keep_meaning();
     let Built { image, objects } = build_short_parts(alloc, project)?;
     drop(objects);
     Ok(image)

@@ -18,7 +18,7 @@ early w (turn ∷ past) legal =
     subst (All (Early w.clocks)) (sym (reverse-append (turn ∷ []) past))
     (All-append (Early w.clocks) (reverse past) (turn ∷ []) (early w past legal.0) (All-cons (Early w.clocks) turn [] legal.1.next.below (All-nil (Early w.clocks))))
 
-legal-length : (w : World) (past : List Turn) → Legal asks w past → length past ≤ w.turns
+pub legal-length : (w : World) (past : List Turn) → Legal asks w past → length past ≤ w.turns
 legal-length w [] legal = omega arith
 legal-length w (turn ∷ past) legal = let room : length past < w.turns = legal.1.room in omega arith
 

@@ -10,3 +10,12 @@ pub mod Walking
 pub mod Clocks
 pub mod Appending
 pub mod OneVerdict
+mod Words
+mod Operators
+mod Decoded
+mod Limits
+mod SpinStates
+mod SpinWithin
+mod PasmWithin
+mod TurnsWithin
+mod Filed

@@ -37,6 +37,10 @@ pub record IsFile (w : World) (past : List Turn) (bytes : List ℕ) : Type 0 whe
   pub turns : All IsWithin (reverse past)
   pub bytes_are : bytes ≡ file_of w past
 
+-- a history has a file: its head and each of its turns are within their limits
+abbrev pub HasFile : World → List Turn → Type 0
+HasFile w past = IsFile w past (file_of w past)
+
 -- The form of a file: what can be told of it without a world.
 
 -- these bytes begin with a head, and this comes after it

@@ -1,6 +1,7 @@
 -- What public contracts cite.
 pub mod Halts
 pub mod Table
+pub mod Bytes
 pub mod Files
 pub mod Verdicts
 pub mod Answers

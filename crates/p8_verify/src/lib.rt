@@ -19,5 +19,5 @@ mod verdicts;
 pub use checker::{VerifyFault, verify};
 pub use files::history_bytes;
 pub use halt_laws::halts_name_registers;
-pub use laws::{good_files, one_turn_of_a_record, one_verdict};
+pub use laws::{ended_histories_have_files, good_files, one_turn_of_a_record, one_verdict};
 pub use verdicts::{Cause, Verdict};

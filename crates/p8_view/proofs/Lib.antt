@@ -4,3 +4,4 @@ mod Showing
 mod Joined
 mod Missed
 mod Unchanged
+mod Counters

@@ -8,6 +8,7 @@ mod drives;
 mod ending;
 mod laws;
 mod nexts;
+mod place_laws;
 mod starts;
 mod times;
 mod turns;
@@ -15,5 +16,6 @@ mod views;
 mod words;
 
 pub use laws::missed_wait_ends;
+pub use place_laws::lines_show_the_places_of_their_statements;
 pub use turns::{ViewOptions, turn_lines};
 pub use views::view;

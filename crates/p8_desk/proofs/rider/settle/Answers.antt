@@ -1,7 +1,7 @@
 use Rattle.std.proofs.Common.{◌∷◌, subst}
 use Rattle.p8_ledger.specs.declared.ledger.Taken.{Taken}
 use Rattle.p8_ledger.specs.declared.steps.Step.TheVariants.{Took}
-use Rattle.p8_desk.specs.Work.{Granted}
+use Rattle.p8_desk.specs.Seats.{Granted}
 use Rattle.p8_desk.proofs.Working.{comes-as, turn-fits, settled-done, settled-over}
 use Rattle.p8_desk.proofs.rider.settle.Goals as goal
 

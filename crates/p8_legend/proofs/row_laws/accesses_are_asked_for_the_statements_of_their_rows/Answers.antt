@@ -1,4 +1,4 @@
-use Rattle.std.proofs.Common.{◌≡◌, refl, sym, ap, ◌∙◌, subst, arith, ℕ, suc, ◌+◌, ◌<◌, List, [], map, Some}
+use Rattle.std.proofs.Common.{◌≡◌, refl, sym, ap, ◌∙◌, subst, arith, ℕ, suc, ◌+◌, ◌<◌, List, [], map}
 use Rattle.std.specs.Prelude.{Contains}
 use Rattle.p8_tree.specs.declared.places.Place.{Place}
 use Rattle.p8_access.specs.Lives.{Entered}
