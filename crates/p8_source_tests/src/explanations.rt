@@ -22,7 +22,7 @@ fn is_explained(alloc: Global, case: &Case) -> Result<bool, NoMemory> {
     Ok(text.as_slice() == expected)
 }
 
-static EXPLAINED: [Case; 17] = [
+static EXPLAINED: [Case; 22] = [
     // A token that can't stand where it does, told apart by what its line shows: after a tab, in UTF-16, with CR LF, in a long line.
     (
         b"PUB main\n\ta := next\n",
@@ -46,7 +46,7 @@ static EXPLAINED: [Case; 17] = [
         b"m.spin:2:4: 6 Unexpected\n\
             \x20a = 1\n\
             \x20  ^\n\
-            `:=` assigns; `=` alone defines constants in CON.\n\
+            `==` compares and `:=` assigns; `=` alone defines constants in CON.\n\
             No line begins or goes on so, or the file ends here and more must follow.\n\
             Look at what stands before it: a missing operator, bracket, comma or colon is told at the token after it.\n",
     ),
@@ -129,6 +129,73 @@ static EXPLAINED: [Case; 17] = [
             The line can be read up to `*`.\n\
             No line begins or goes on so, or the file ends here and more must follow.\n\
             Look at what stands before it: a missing operator, bracket, comma or colon is told at the token after it.\n",
+    ),
+    // Slips, told by the token before the place, the one at it and the one behind that: letters in either case, and symbols of two tokens.
+    (
+        b"PUB main | x\n  if x\n    x := 1\n  Else  If x != 1\n",
+        6,
+        4,
+        9,
+        None,
+        b"m.spin:4:9: 6 Unexpected\n\
+            \x20 Else  If x != 1\n\
+            \x20       ^\n\
+            ELSEIF and ELSEIFNOT are one word each; an IF of its own stands on the next line, further to the right.\n\
+            No line begins or goes on so, or the file ends here and more must follow.\n\
+            Look at what stands before it: a missing operator, bracket, comma or colon is told at the token after it.\n",
+    ),
+    (
+        b"PUB main | x\n  if x != 1\n",
+        6,
+        2,
+        8,
+        None,
+        b"m.spin:2:8: 6 Unexpected\n\
+            \x20 if x != 1\n\
+            \x20      ^\n\
+            `<>` is not equal; `!` inverts the bits of a value.\n\
+            No line begins or goes on so, or the file ends here and more must follow.\n\
+            Look at what stands before it: a missing operator, bracket, comma or colon is told at the token after it.\n",
+    ),
+    (
+        b"CON\n  a = 1\n  b = a  <= 2\nPUB main\n",
+        12,
+        3,
+        7,
+        None,
+        b"m.spin:3:7: 12 NotConstant\n\
+            \x20 b = a  <= 2\n\
+            \x20     ^\n\
+            `=<` and `=>` compare; `<=` and `>=` assign to a variable.\n\
+            A constant is needed here, and this isn't one, or it is defined by itself.\n\
+            Use numbers, constants and operators alone.\n",
+    ),
+    // A built-in without parentheses, and one with two arguments in place of one.
+    (
+        b"PUB main\n  WaitCnt cnt + 80_000\n",
+        6,
+        2,
+        11,
+        None,
+        b"m.spin:2:11: 6 Unexpected\n\
+            \x20 WaitCnt cnt + 80_000\n\
+            \x20         ^\n\
+            In a method it is written `WaitCnt(clock)`.\n\
+            No line begins or goes on so, or the file ends here and more must follow.\n\
+            Look at what stands before it: a missing operator, bracket, comma or colon is told at the token after it.\n",
+    ),
+    (
+        b"PUB main\n  waitcnt(1, 2)\n",
+        17,
+        2,
+        3,
+        None,
+        b"m.spin:2:3: 17 WrongArity\n\
+            \x20 waitcnt(1, 2)\n\
+            \x20 ^\n\
+            In a method it is written `waitcnt(clock)`.\n\
+            The number of arguments isn't that of the method or built-in, or a method has more than 15 parameters.\n\
+            Compare the call with the method's first line.\n",
     ),
     // A mark of UTF-8, a last Ctrl-Z, half a unit, and a character above 127.
     (
@@ -273,13 +340,19 @@ fn refusals_are_explained(rt: HostRuntime) {
 }
 
 /// Refusals by their numbers, and what is told of them.
-static ENTRIES: [(u8, &[u8]); 2] = [
+static ENTRIES: [(u8, &[u8]); 3] = [
     (
         26,
         b"26 FrameTooLarge\n\
             The method's result, parameters and locals are more than 2,048 longs, or it holds more than 128 values at once.\n\
             Put large arrays into VAR.\n\
             Example: PUB main | a[2048]\n",
+    ),
+    (
+        30,
+        b"30 FileTooLong\n\
+            The file has more than 1,048,576 bytes.\n\
+            Split it into objects.\n",
     ),
     (31, b"31 \nNo refusal has this number.\n"),
 ];
@@ -299,27 +372,49 @@ fn entries_are_told(rt: HostRuntime) {
     assert!(rt; matches!(are_told(rt.alloc()), Ok(true)));
 }
 
-/// The explanation of a missing file, at the place that mentions it.
-const ABSENCE: &[u8] = b"m.spin:2:13: Ser.spin is missing\n\
-    \x20       t : \"Ser\"\n\
-    \x20           ^\n\
-    There is no file of this name. Capitals and small letters differ, and a name without a dot gets .spin.\n";
+/// A file that is missing, and its explanation at the place that mentions it.
+type Missing = (&'static [u8], &'static [u8], &'static [u8]);
 
-/// Whether it is explained so.
-fn is_absent(alloc: Global) -> Result<bool, NoMemory> {
-    let name = Text::copy_of(alloc, b"m.spin")?;
-    let missing = Text::copy_of(alloc, b"Ser.spin")?;
-    let place = Place {
-        line: 2,
-        column: 13,
-    };
-    let text = absence(alloc, &name, b"OBJ\n\tt : \"Ser\"\n", place, &missing)?;
-    Ok(text.as_slice() == ABSENCE)
+/// Sources with a file that is missing: a name without a dot, and one with a dot.
+static MISSING: [Missing; 2] = [
+    (
+        b"OBJ\n\tt : \"Ser\"\n",
+        b"Ser.spin",
+        b"m.spin:2:13: Ser.spin is missing\n\
+            \x20       t : \"Ser\"\n\
+            \x20           ^\n\
+            There is no file of this name. Capitals and small letters differ, and a name without a dot gets .spin.\n",
+    ),
+    (
+        b"OBJ\n\tt : \"v1.2\"\n",
+        b"v1.2",
+        b"m.spin:2:13: v1.2 is missing\n\
+            \x20       t : \"v1.2\"\n\
+            \x20           ^\n\
+            There is no file of this name. Capitals and small letters differ, and a name without a dot gets .spin.\n\
+            Its name has a dot, so no .spin was added to it.\n",
+    ),
+];
+
+/// Whether each is explained so.
+fn are_absent(alloc: Global) -> Result<bool, NoMemory> {
+    let mut all = true;
+    for (bytes, missing, expected) in &MISSING {
+        let name = Text::copy_of(alloc, b"m.spin")?;
+        let missing = Text::copy_of(alloc, missing)?;
+        let place = Place {
+            line: 2,
+            column: 13,
+        };
+        let text = absence(alloc, &name, bytes, place, &missing)?;
+        all = all && text.as_slice() == *expected;
+    }
+    Ok(all)
 }
 
 #[test]
-fn a_missing_file_is_explained(rt: HostRuntime) {
-    assert!(rt; matches!(is_absent(rt.alloc()), Ok(true)));
+fn missing_files_are_explained(rt: HostRuntime) {
+    assert!(rt; matches!(are_absent(rt.alloc()), Ok(true)));
 }
 
 /// Sources with a place, a name of a tree, and how the source spells it there: after CR LF and at a line's begin, after a tab, in UTF-16, and after more
