@@ -16,7 +16,8 @@ const HUB_BYTES: usize = 32_768;
 const FRAME: &[u8] = b"\xFF\xFF\xF9\xFF\xFF\xFF\xF9\xFF";
 
 /// The pin script that sends the byte $41 without its stop bit.
-const CUT: &[u8] = b"0 00000001\n1000 00000000\n1100 00000001\n1200 00000000\n1700 00000001\n1800 00000000\n";
+const CUT: &[u8] =
+    b"0 00000001\n1000 00000000\n1100 00000001\n1200 00000000\n1700 00000001\n1800 00000000\n";
 
 /// Files of the shelf beside those with whole memories: images, of which one has the name of the other kind, a file without bytes, a
 /// script, and sources with a constant tree, with a part that is never done, and with a string of it.
@@ -26,7 +27,10 @@ static FILES: [(&str, &[u8]); 6] = [
     ("empty.txt", b""),
     ("cut.pins", CUT),
     ("sum.spin", b"VAR\n  long a\nPUB main\n  a := 2 + 3 * 4\n"),
-    ("never.spin", b"VAR\n  long a\nPUB main\n  if 0\n    a := 1\n"),
+    (
+        "never.spin",
+        b"VAR\n  long a\nPUB main\n  if 0\n    a := 1\n",
+    ),
 ];
 
 /// The trace of the image, with the first two bytes of the hub's memory.
@@ -90,7 +94,10 @@ static ANSWERS: [(&str, &[u8]); 8] = [
         b"object never.spin 0010\nmethod 1 0018\n0018 32\n",
     ),
     ("build main.spin --short", IMAGE),
-    ("serial a.binary 3000 0 100 --raw --pins cut.pins", b"1000 framing\nbytes 0\n"),
+    (
+        "serial a.binary 3000 0 100 --raw --pins cut.pins",
+        b"1000 framing\nbytes 0\n",
+    ),
     ("type empty.txt 0 100 1000", b"0 00000001\n"),
     ("serial a.binary 1000 0 100 --raw", b"bytes 0\n"),
 ];

@@ -134,7 +134,11 @@ static FAULTY_EEPROMS: [FaultyEeprom; 4] = [
 ];
 
 /// Whether loading answers this fault.
-fn tells(alloc: Global, fault: Result<Image, Fail<LoadFault>>, told: &str) -> Result<bool, AllocError> {
+fn tells(
+    alloc: Global,
+    fault: Result<Image, Fail<LoadFault>>,
+    told: &str,
+) -> Result<bool, AllocError> {
     match fault {
         Err(Fail::Refused(fault)) => Ok(fault.to_string(alloc)?.as_str() == told),
         _ => Ok(false),
