@@ -1,26 +1,27 @@
 -- What building a gathered project comes to.
-use Rattle.std.proofs.Common.{◌≡◌, ℕ, Bool, true, false, List, Option, ap, refl, subst}
+use Rattle.std.proofs.Common.{◌≡◌, ℕ, Bool, true, false, List, Option, ap, sym, refl, subst}
 use Rattle.std.specs.Prelude.{[], ◌∷◌, map}
 use Rattle.p8_tree.specs.declared.projects.ProjectFile.{ProjectFile}
 use Rattle.p8_tree.specs.Views.{named_source_of}
 use Rattle.p8_tree.specs.Projects.{NamedSource}
 use Rattle.p8_io.specs.Shelves.{Files}
 use Rattle.p8_objects.specs.Outcomes.{project}
+use Rattle.p8_objects.specs.Projects.{IsIn}
 use Rattle.p8_inputs.specs.declared.program.Format.TheVariants.{Source}
 use Rattle.p8_inputs.specs.declared.stop.Stop.{Stop}
 use Rattle.p8_inputs.specs.declared.stop.Stop.TheVariants.{Unread, Missing, NoMemory, Refused, BadProgram, BadScript, Unnamed}
-use Rattle.p8_objects.specs.Whole.{AreSources, EachTree}
+use Rattle.p8_objects.specs.declared.fault.ReadFile.{ReadFile}
+use Rattle.p8_objects.specs.Whole.{AreSources, EachTree, HasText}
+use Rattle.p8_objects.proofs.Sourcing.{text-read}
 use Rattle.p8_tree.specs.Proper.{IsProperFile}
 use Rattle.p8_image.specs.declared.parts.ObjectPart.{ObjectPart}
 use Rattle.p8_image.specs.Loading.{ImageValue}
 use Rattle.p8_build.specs.declared.building.Built.{Built}
 use Rattle.p8_tree.specs.declared.faults.Fault.{Fault}
-use Rattle.p8_build.specs.declared.fault.BuildFault.{BuildFault}
-use Rattle.p8_build.specs.declared.fault.BuildFault.TheVariants as build_case
 use Rattle.p8_build.specs.declared.sizes.Size.{Size}
 use Rattle.p8_build.specs.Builds.{IsRefusedWith}
 use Rattle.p8_build.specs.Sizes.{IsMeasured}
-use Rattle.p8_build.specs.Told.{IsImageBuilt, IsBuiltTo, IsRefusal}
+use Rattle.p8_build.specs.Told.{IsImageBuilt, IsBuiltTo}
 use Rattle.p8_legend.specs.declared.legend.Legend.{Legend}
 use Rattle.p8_map.specs.Projects.{IsMapOf}
 use Rattle.p8_legend.specs.Projects.{IsLegendOf}
@@ -57,14 +58,14 @@ module _ (files : Files) (short : Bool) (top : List ℕ) (sources : List NamedSo
   pub legend-from : (texts : List (List ℕ)) → AreSources files sources texts → (legend : Legend) → IsLegendOf texts sources legend → IsProjectLegend files top legend
   legend-from texts are legend is = (sources, gathered, texts, are, is)
 
-  pub building-stops : (before now : ℕ) (stop : Stop) → StopsAtBuilding sources stop → StopsAtProgram files before now (Source short) top stop
-  building-stops before now (Refused name f size) stops = when_built sources gathered stops
-  building-stops before now NoMemory stops = tt
-  building-stops before now (Unread name) stops = absurd stops
-  building-stops before now (Missing name mention) stops = absurd stops
-  building-stops before now (BadProgram name fault) stops = absurd stops
-  building-stops before now (BadScript name line) stops = absurd stops
-  building-stops before now (Unnamed file name) stops = absurd stops
+  pub building-stops : (texts : List (List ℕ)) → AreSources files sources texts → (before now : ℕ) (stop : Stop) → StopsAtBuilding sources texts stop → StopsAtProgram files before now (Source short) top stop
+  building-stops texts are before now (Refused file f size) (measured, has) = when_built sources gathered measured (text-read files sources texts file are has)
+  building-stops texts are before now NoMemory stops = tt
+  building-stops texts are before now (Unread name) stops = absurd stops
+  building-stops texts are before now (Missing name mention) stops = absurd stops
+  building-stops texts are before now (BadProgram name fault) stops = absurd stops
+  building-stops texts are before now (BadScript name line) stops = absurd stops
+  building-stops texts are before now (Unnamed file name) stops = absurd stops
 
 -- the image of proper trees is an image of the project
 pub image-of-project : (files : Files) (short : Bool) (top bytes : List ℕ) → HasProperTrees files (Source short) top bytes → IsImageFrom files short top bytes
@@ -75,7 +76,11 @@ pub same-names : (files : List ProjectFile) → map (λ (source : NamedSource). 
 same-names [] = refl
 same-names (file ∷ files) = ap (λ names. file.name ∷ names) (same-names files)
 
+-- what is refused is a file of the project
+pub refused-file : (sources : List NamedSource) (name : List ℕ) (f : Fault) → IsRefusedWith sources name f → IsIn sources name
+refused-file sources name f refused = record { number = refused.refusal.file; element = refused.file; stands = record { is = refused.stands }; holds = sym refused.named }
+
 -- a refusal with its size
-pub measured-stop : (sources : List NamedSource) (given : BuildFault) (name : List ℕ) (f : Fault) → given ≡ build_case.Source name f → (size : Option Size) → IsRefusal sources given
-    → (IsRefusedWith sources name f → IsMeasured sources name f size) → StopsAtBuilding sources (Refused name f size)
-measured-stop sources given name f is size refusal measures = measures (subst (IsRefusal sources) is refusal)
+pub measured-stop : (sources : List NamedSource) (texts : List (List ℕ)) (file : ReadFile) (name : List ℕ) (f : Fault) (size : Option Size) → IsMeasured sources name f size → file.name ≡ name
+    → HasText sources texts file → StopsAtBuilding sources texts (Refused file f size)
+measured-stop sources texts file name f size measured named has = (subst (λ (n : List ℕ). IsMeasured sources n f size) (sym named) measured, has)

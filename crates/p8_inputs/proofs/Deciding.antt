@@ -11,6 +11,7 @@ use Rattle.p8_io.specs.Counts.{Rose}
 use Rattle.p8_io.specs.Shelves.{Files, IsRead, AreStartOf}
 use Rattle.p8_legend.specs.declared.legend.Legend.{Legend}
 use Rattle.p8_objects.specs.declared.fault.Mention.{Mention}
+use Rattle.p8_objects.specs.declared.fault.ReadFile.{ReadFile}
 use Rattle.p8_objects.specs.Outcomes.{Outcome, failed, shelved, ComesTo}
 use Rattle.p8_objects.specs.Outcomes as outcomes
 use Rattle.p8_pins.specs.Scripts.{IsReadAs, IsFault}
@@ -77,7 +78,7 @@ module _ (files : List ℕ → Option (List ℕ)) where
 
   -- ---- one reason to stop is another
 
-  refused-same : {a b : List ℕ} {f g : Fault} {s t : Option Size} → (a ≡ b) × (f ≡ g) × (s ≡ t) → Refused a f s ≡ Refused b g t
+  refused-same : {a b : ReadFile} {f g : Fault} {s t : Option Size} → (a ≡ b) × (f ≡ g) × (s ≡ t) → Refused a f s ≡ Refused b g t
   refused-same e = λ i. Refused (e.0 i) (e.1 i) (e.2 i)
 
   missing-same : {a b : List ℕ} {k l : Option Mention} → (a ≡ b) × (k ≡ l) → Missing a k ≡ Missing b l
@@ -396,10 +397,10 @@ module _ (files : List ℕ → Option (List ℕ)) where
 
 gather-rose : (files : Files) (before now : ℕ) (top name : List ℕ) {sources : List NamedSource} (o : Outcome) → o ≡ failed name → ComesTo (shelved files before now) top sources o → Rose before now
 gather-rose files before now top name o is (outcomes.one_more other xs s calls has source rest) = gather-rose files before now top name o is rest
-gather-rose files before now top name o is (outcomes.file_refused other xs f calls has refusal) = absurd cc
+gather-rose files before now top name o is (outcomes.file_refused other f calls has refusal) = absurd cc
 gather-rose files before now top name o is (outcomes.absent other mention calls m lacks) = absurd cc
 gather-rose files before now top name o is (outcomes.not_read other calls rose) = rose
-gather-rose files before now top name o is (outcomes.mention_refused other f calls) = absurd cc
+gather-rose files before now top name o is (outcomes.mention_refused other f calls has) = absurd cc
 gather-rose files before now top name o is (outcomes.whole calls) = absurd cc
 
 program-unread-rose : (files : Files) (before now : ℕ) (format : Format) (file name : List ℕ) → IsProgramUnread files before now format file name → Rose before now

@@ -10,6 +10,7 @@ use Rattle.p8_tree.specs.Projects.{NamedSource}
 use Rattle.p8_constants.specs.FileItems.{block_items, items, constant, variable, object, line}
 use Rattle.p8_names.specs.Kinds.{object_in, objects}
 use Rattle.p8_io.specs.Shelves.{Files}
+use Rattle.p8_objects.specs.declared.fault.ReadFile.{ReadFile}
 use Rattle.p8_objects.specs.Lists.{IsAt}
 use Rattle.p8_objects.specs.Sources.{mentions_in, mentions}
 use Rattle.p8_objects.specs.Projects.{IsIn}
@@ -23,23 +24,23 @@ use Rattle.p8_inputs.specs.Sources.{GathersTo}
 -- an outcome that doesn't depend on what the shelf counts
 abbrev pub IsOfContents : Outcome → Type 0
 IsOfContents (project files) = Unit {0}
-IsOfContents (refused name f) = Unit {0}
+IsOfContents (refused file f) = Unit {0}
 IsOfContents (missing name mention) = ⊥
 IsOfContents (failed name) = ⊥
 
 recounted : (files : Files) (before now b n : ℕ) (top : List ℕ) {sources : List NamedSource} (o : Outcome) → IsOfContents o → ComesTo (shelved files before now) top sources o → ComesTo (shelved files b n) top sources o
 recounted files before now b n top o of (outcomes.one_more name bytes s calls has source rest) = outcomes.one_more name bytes s calls has source (recounted files before now b n top o of rest)
-recounted files before now b n top o of (outcomes.file_refused name bytes f calls has is) = outcomes.file_refused name bytes f calls has is
+recounted files before now b n top o of (outcomes.file_refused file f calls has is) = outcomes.file_refused file f calls has is
 recounted files before now b n top o of (outcomes.absent name mention calls m is) = absurd of
 recounted files before now b n top o of (outcomes.not_read name calls rose) = absurd of
-recounted files before now b n top o of (outcomes.mention_refused name f calls) = outcomes.mention_refused name f calls
+recounted files before now b n top o of (outcomes.mention_refused file f calls has) = outcomes.mention_refused file f calls has
 recounted files before now b n top o of (outcomes.whole calls) = outcomes.whole calls
 
 pub project-gathered : (files : Files) (before now : ℕ) (top : List ℕ) (sources : List NamedSource) → Gathers (shelved files before now) top (project sources) → GathersTo files top (project sources)
 project-gathered files before now top sources comes b n = recounted files before now b n top (project sources) tt comes
 
-pub refusal-gathered : (files : Files) (before now : ℕ) (top name : List ℕ) (f : Fault) → Gathers (shelved files before now) top (refused name f) → GathersTo files top (refused name f)
-refusal-gathered files before now top name f comes b n = recounted files before now b n top (refused name f) tt comes
+pub refusal-gathered : (files : Files) (before now : ℕ) (top : List ℕ) (file : ReadFile) (f : Fault) → Gathers (shelved files before now) top (refused file f) → GathersTo files top (refused file f)
+refusal-gathered files before now top file f comes b n = recounted files before now b n top (refused file f) tt comes
 
 -- ---- the items of OBJ
 

@@ -8,7 +8,8 @@ use Rattle.p8_image.specs.declared.clocks.Clock.{Clock}
 use Rattle.p8_image.specs.declared.parts.ObjectPart.{ObjectPart}
 use Rattle.p8_legend.specs.declared.legend.Legend.{Legend}
 use Rattle.p8_objects.specs.declared.fault.Mention.{Mention}
-use Rattle.p8_objects.specs.Outcomes.{Outcome, project, refused, missing, shelved, Gathers}
+use Rattle.p8_objects.specs.declared.fault.ReadFile.{ReadFile}
+use Rattle.p8_objects.specs.Outcomes.{Outcome, project, refused, missing, shelved, Gathers, HasBytes, WasRead, read_as}
 use Rattle.p8_io.specs.Shelves.{AreStartOf}
 use Rattle.p8_objects.specs.Whole.{AreSources, IsOfFiles}
 use Rattle.p8_objects.proofs.Wholes.{whole_project}
@@ -30,19 +31,19 @@ same-project e = cc
 project-not_missing : {a : List NamedSource} {name : List ℕ} {mention : Option Mention} → project a ≡ missing name mention → ⊥
 project-not_missing e = cc
 
-project-not_refused : {a : List NamedSource} {name : List ℕ} {f : Fault} → project a ≡ refused name f → ⊥
+project-not_refused : {a : List NamedSource} {file : ReadFile} {f : Fault} → project a ≡ refused file f → ⊥
 project-not_refused e = cc
 
 same-missing : {a b : List ℕ} {m n : Option Mention} → missing a m ≡ missing b n → (a ≡ b) × (m ≡ n)
 same-missing e = (cc, cc)
 
-same-refused : {a b : List ℕ} {f g : Fault} → refused a f ≡ refused b g → (a ≡ b) × (f ≡ g)
+same-refused : {a b : ReadFile} {f g : Fault} → refused a f ≡ refused b g → (a ≡ b) × (f ≡ g)
 same-refused e = (cc, cc)
 
-with-none : {a b : List ℕ} {f g : Fault} {s t : Option Size} → (a ≡ b) × (f ≡ g) → s ≡ None → t ≡ None → (a ≡ b) × (f ≡ g) × (s ≡ t)
+with-none : {a b : ReadFile} {f g : Fault} {s t : Option Size} → (a ≡ b) × (f ≡ g) → s ≡ None → t ≡ None → (a ≡ b) × (f ≡ g) × (s ≡ t)
 with-none e none also = (e.0, e.1, none ∙ sym also)
 
-missing-not_refused : {a name : List ℕ} {mention : Option Mention} {f : Fault} → missing a mention ≡ refused name f → ⊥
+missing-not_refused : {a : List ℕ} {file : ReadFile} {mention : Option Mention} {f : Fault} → missing a mention ≡ refused file f → ⊥
 missing-not_refused e = cc
 
 -- a project with short code is accepted as it stands
@@ -62,6 +63,13 @@ one-sources files (f ∷ sources) [] b p q = absurd p
 one-sources files (f ∷ sources) (x ∷ a) [] p q = absurd q
 one-sources files (f ∷ sources) (x ∷ a) (y ∷ b) p q =
     ap (λ (z : List ℕ). z ∷ a) (start-same (files f.name) x y p.0.1 q.0.1) ∙ ap (λ (zs : List (List ℕ)). y ∷ zs) (one-sources files sources a b p.2 q.2)
+
+-- a file of one name is read with one text
+same-file : (files : List ℕ → Option (List ℕ)) (a b : ReadFile) → a.name ≡ b.name → WasRead (Some files) a → WasRead (Some files) b → a ≡ b
+same-file files a b named p q =
+    let moved : HasBytes (Some files) b.name a.bytes = subst (λ (name : List ℕ). HasBytes (Some files) name a.bytes) named p in
+    let bytes : a.bytes ≡ b.bytes = start-same (files b.name) a.bytes b.bytes moved.1 q.1 in
+    λ i. read_as (named i) (bytes i)
 
 -- what gathering comes to is one thing
 abbrev pub OneGathered : Type 0
@@ -126,31 +134,32 @@ module _ (one : OneGathered) (same : OneBuilt) (refusal : OneRefused) (either : 
       (legends q.2 q.0 (distinct q.0 whole.distinct) (no_ring q.0 whole.no_ring) a b
       (subst (λ (ts : List (List ℕ)). IsLegendOf ts q.0 a) texts (subst (λ (s : List NamedSource). IsLegendOf p.2 s a) e p.4)) q.4)
 
-  not-refused : (short : Bool) (top name : List ℕ) (f : Fault) (size : Option Size) (sources : List NamedSource) (clock : Clock) (objects : List ObjectPart) → IsBuiltFrom (Some files) short top sources clock objects → IsRefusedFrom (Some files) top name f size → ⊥
-  not-refused short top name f size sources clock objects g (while_gathered h none) =
-      project-not_refused (one files 0 0 top (project sources) (refused name f) (g.gathered 0 0) (h 0 0) tt tt)
-  not-refused short top name f size sources clock objects g (when_built others h told) =
+  not-refused : (short : Bool) (top : List ℕ) (file : ReadFile) (f : Fault) (size : Option Size) (sources : List NamedSource) (clock : Clock) (objects : List ObjectPart) → IsBuiltFrom (Some files) short top sources clock objects → IsRefusedFrom (Some files) top file f size → ⊥
+  not-refused short top file f size sources clock objects g (while_gathered h none) =
+      project-not_refused (one files 0 0 top (project sources) (refused file f) (g.gathered 0 0) (h 0 0) tt tt)
+  not-refused short top file f size sources clock objects g (when_built others h told has) =
       let e : others ≡ sources = one-project top others sources h g.gathered in
       let whole = whole_project (g.gathered 0 0) in
-      built-or_refused short sources (distinct sources whole.distinct) (no_ring sources whole.no_ring) clock objects name f g.built (subst (λ s. IsRefusedWith s name f) e told.refused)
+      built-or_refused short sources (distinct sources whole.distinct) (no_ring sources whole.no_ring) clock objects file.name f g.built (subst (λ s. IsRefusedWith s file.name f) e told.refused)
 
-  missing-or-refused : (before now : ℕ) (top name other : List ℕ) (mention : Option Mention) (f : Fault) (size : Option Size) → Gathers (shelved (Some files) before now) top (missing name mention) → IsRefusedFrom (Some files) top other f size → ⊥
-  missing-or-refused before now top name other mention f size g (while_gathered h none) =
-      missing-not_refused (one files before now top (missing name mention) (refused other f) g (h before now) tt tt)
-  missing-or-refused before now top name other mention f size g (when_built sources h refusal) =
+  missing-or-refused : (before now : ℕ) (top name : List ℕ) (file : ReadFile) (mention : Option Mention) (f : Fault) (size : Option Size) → Gathers (shelved (Some files) before now) top (missing name mention) → IsRefusedFrom (Some files) top file f size → ⊥
+  missing-or-refused before now top name file mention f size g (while_gathered h none) =
+      missing-not_refused (one files before now top (missing name mention) (refused file f) g (h before now) tt tt)
+  missing-or-refused before now top name file mention f size g (when_built sources h refusal has) =
       project-not_missing (one files before now top (project sources) (missing name mention) (h before now) g tt tt)
 
-  one-refusal : (top a b : List ℕ) (f g : Fault) (s t : Option Size) → IsRefusedFrom (Some files) top a f s → IsRefusedFrom (Some files) top b g t → (a ≡ b) × (f ≡ g) × (s ≡ t)
+  one-refusal : (top : List ℕ) (a b : ReadFile) (f g : Fault) (s t : Option Size) → IsRefusedFrom (Some files) top a f s → IsRefusedFrom (Some files) top b g t → (a ≡ b) × (f ≡ g) × (s ≡ t)
   one-refusal top a b f k s t (while_gathered g none) (while_gathered h also) =
       with-none (same-refused (one files 0 0 top (refused a f) (refused b k) (g 0 0) (h 0 0) tt tt)) none also
-  one-refusal top a b f k s t (while_gathered g none) (when_built sources h told) =
+  one-refusal top a b f k s t (while_gathered g none) (when_built sources h told has) =
       absurd (project-not_refused (one files 0 0 top (project sources) (refused a f) (h 0 0) (g 0 0) tt tt))
-  one-refusal top a b f k s t (when_built sources g told) (while_gathered h none) =
+  one-refusal top a b f k s t (when_built sources g told has) (while_gathered h none) =
       absurd (project-not_refused (one files 0 0 top (project sources) (refused b k) (g 0 0) (h 0 0) tt tt))
-  one-refusal top a b f k s t (when_built some g told) (when_built sources h other) =
+  one-refusal top a b f k s t (when_built some g told has) (when_built sources h other also) =
       let e : some ≡ sources = one-project top some sources g h in
       let whole = whole_project (h 0 0) in
-      refusal sources (distinct sources whole.distinct) (no_ring sources whole.no_ring) a b f k s t (subst (λ xs. IsMeasured xs a f s) e told) other
+      let same = refusal sources (distinct sources whole.distinct) (no_ring sources whole.no_ring) a.name b.name f k s t (subst (λ xs. IsMeasured xs a.name f s) e told) other in
+      (same-file files a b same.0 has also, same.1, same.2)
 
   pub one-outcome : HasOneOutcome files
   one-outcome = record {

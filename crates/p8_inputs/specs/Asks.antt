@@ -117,7 +117,7 @@ abbrev pub StopsAtFile : Files → (before now : ℕ) → (file : List ℕ) → 
 StopsAtFile files before now file (Unread name) = (name ≡ file) × Rose before now
 StopsAtFile files before now file (Missing name mention) = (name ≡ file) × IsLacking before now files name × (mention ≡ None)
 StopsAtFile files before now file NoMemory = Unit {0}
-StopsAtFile files before now file (Refused name f size) = ⊥
+StopsAtFile files before now file (Refused source f size) = ⊥
 StopsAtFile files before now file (BadProgram name fault) = ⊥
 StopsAtFile files before now file (BadScript name line) = ⊥
 StopsAtFile files before now file (Unnamed other name) = ⊥
@@ -128,7 +128,7 @@ abbrev pub StopsAtProgram : Files → (before now : ℕ) → Format → (file : 
 StopsAtProgram files before now format file (Unread name) = IsProgramUnread files before now format file name
 StopsAtProgram files before now format file (Missing name mention) = IsProgramMissing files before now format file name mention
 StopsAtProgram files before now format file NoMemory = Unit {0}
-StopsAtProgram files before now format file (Refused name f size) = HasRefusal files format file name f size
+StopsAtProgram files before now format file (Refused source f size) = HasRefusal files format file source f size
 StopsAtProgram files before now format file (BadProgram name fault) = HasFault files format file name fault
 StopsAtProgram files before now format file (BadScript name line) = ⊥
 StopsAtProgram files before now format file (Unnamed other name) = ⊥
@@ -144,7 +144,7 @@ abbrev pub StopsAtMessage : Files → (before now : ℕ) → (file : List ℕ) �
 StopsAtMessage files before now file (Unread name) = (name ≡ file) × Rose before now
 StopsAtMessage files before now file (Missing name mention) = (name ≡ file) × IsLacking before now files name × (mention ≡ None)
 StopsAtMessage files before now file NoMemory = Unit {0}
-StopsAtMessage files before now file (Refused name f size) = ⊥
+StopsAtMessage files before now file (Refused source f size) = ⊥
 StopsAtMessage files before now file (BadProgram name fault) =
     (name ≡ file) × ((bytes : List ℕ) × IsRead files name bytes × (most_sent < length bytes) × (fault ≡ BadLength (length bytes)))
 StopsAtMessage files before now file (BadScript name line) = ⊥
@@ -155,7 +155,7 @@ abbrev pub StopsAtScript : Files → (before now : ℕ) → (file : List ℕ) �
 StopsAtScript files before now file (Unread name) = (name ≡ file) × Rose before now
 StopsAtScript files before now file (Missing name mention) = (name ≡ file) × IsLacking before now files name × (mention ≡ None)
 StopsAtScript files before now file NoMemory = Unit {0}
-StopsAtScript files before now file (Refused name f size) = ⊥
+StopsAtScript files before now file (Refused source f size) = ⊥
 StopsAtScript files before now file (BadProgram name fault) = ⊥
 StopsAtScript files before now file (BadScript name line) =
     (name ≡ file) × ((bytes : List ℕ) × IsRead files name bytes × IsFault bytes line)
@@ -182,7 +182,7 @@ abbrev pub Stops : Files → (before now : ℕ) → List Ask → Stop → Type 0
 Stops files before now asks NoMemory = Unit {0}
 Stops files before now asks (Unread name) = StopsFirst files before now asks (Unread name)
 Stops files before now asks (Missing name mention) = StopsFirst files before now asks (Missing name mention)
-Stops files before now asks (Refused name f size) = StopsFirst files before now asks (Refused name f size)
+Stops files before now asks (Refused source f size) = StopsFirst files before now asks (Refused source f size)
 Stops files before now asks (BadProgram name fault) = StopsFirst files before now asks (BadProgram name fault)
 Stops files before now asks (BadScript name line) = StopsFirst files before now asks (BadScript name line)
 Stops files before now asks (Unnamed file name) = StopsFirst files before now asks (Unnamed file name)
@@ -194,7 +194,7 @@ abbrev pub IsOfFiles : Stop → Type 0
 IsOfFiles (Unread name) = ⊥
 IsOfFiles (Missing name mention) = Unit {0}
 IsOfFiles NoMemory = ⊥
-IsOfFiles (Refused name f size) = Unit {0}
+IsOfFiles (Refused source f size) = Unit {0}
 IsOfFiles (BadProgram name fault) = Unit {0}
 IsOfFiles (BadScript name line) = Unit {0}
 IsOfFiles (Unnamed file name) = Unit {0}

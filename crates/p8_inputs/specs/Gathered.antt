@@ -7,7 +7,7 @@ use Rattle.p8_image.specs.declared.clocks.Clock.{Clock}
 use Rattle.p8_image.specs.declared.parts.ObjectPart.{ObjectPart}
 use Rattle.p8_io.specs.Shelves.{Files}
 use Rattle.p8_objects.specs.Outcomes.{project}
-use Rattle.p8_objects.specs.Whole.{AreDistinct, HaveMentioned, HaveNoRing, EachTree}
+use Rattle.p8_objects.specs.Whole.{AreDistinct, HaveMentioned, HaveNoRing, EachTree, HasText}
 use Rattle.p8_image.specs.Layout.{image_of}
 use Rattle.p8_image.specs.Loading.{ImageValue, image_in}
 use Rattle.p8_build.specs.Sizes.{IsMeasured}
@@ -44,8 +44,8 @@ abbrev pub IsListingOf : (short : Bool) → List NamedSource → List ℕ → Ty
 IsListingOf short sources text =
     (clock : Clock) × (objects : List ObjectPart) × IsBuiltBy short sources clock objects × (text ≡ listing_of (map (λ source. source.name) sources) objects)
 
--- why a project isn't built
-abbrev pub StopsAtBuilding : List NamedSource → Stop → Type 0
-StopsAtBuilding sources (stop.Refused name f size) = IsMeasured sources name f size
-StopsAtBuilding sources stop.NoMemory = Unit {0}
-StopsAtBuilding sources _ = ⊥
+-- why a project isn't built whose files have these texts
+abbrev pub StopsAtBuilding : List NamedSource → (texts : List (List ℕ)) → Stop → Type 0
+StopsAtBuilding sources texts (stop.Refused file f size) = IsMeasured sources file.name f size × HasText sources texts file
+StopsAtBuilding sources texts stop.NoMemory = Unit {0}
+StopsAtBuilding sources texts _ = ⊥

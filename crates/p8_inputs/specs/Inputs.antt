@@ -7,6 +7,7 @@ use Rattle.p8_pins.specs.Scripts.{IsReadAs}
 use Rattle.p8_io.specs.Counts.{Rose}
 use Rattle.p8_io.specs.Shelves.{Files, IsLacking, IsRead}
 use Rattle.p8_objects.specs.declared.fault.Mention.{Mention}
+use Rattle.p8_objects.specs.declared.fault.ReadFile.{ReadFile}
 use Rattle.p8_objects.specs.Outcomes.{missing, failed, shelved, Gathers}
 use Rattle.p8_build.specs.declared.sizes.Size.{Size}
 use Rattle.p8_inputs.specs.declared.program.Format.{Format}
@@ -35,10 +36,10 @@ abbrev pub IsProgramUnread : Files → (before now : ℕ) → Format → (file n
 IsProgramUnread files before now (Source short) file name = Gathers (shelved files before now) file (failed name)
 IsProgramUnread files before now format file name = (name ≡ file) × Rose before now
 
--- the source to run is refused: a file of its project, for this, and what is too large has this size
-abbrev pub HasRefusal : Files → Format → (file name : List ℕ) → Fault → (size : Option Size) → Type 0
-HasRefusal files (Source short) file name f size = IsRefusedFrom files file name f size
-HasRefusal files format file name f size = ⊥
+-- the source to run is refused: this file of its project, for this, and what is too large has this size
+abbrev pub HasRefusal : Files → Format → (file : List ℕ) → ReadFile → Fault → (size : Option Size) → Type 0
+HasRefusal files (Source short) file source f size = IsRefusedFrom files file source f size
+HasRefusal files format file source f size = ⊥
 
 -- the file to run, which is no source, has this fault
 abbrev pub HasFault : Files → Format → (file name : List ℕ) → LoadFault → Type 0

@@ -8,7 +8,8 @@ use Rattle.p8_image.specs.Layout.{image_of}
 use Rattle.p8_io.specs.Shelves.{Files}
 use Rattle.p8_legend.specs.declared.legend.Legend.{Legend}
 use Rattle.p8_objects.specs.declared.fault.Mention.{Mention}
-use Rattle.p8_objects.specs.Outcomes.{Outcome, project, refused, missing, shelved, Gathers}
+use Rattle.p8_objects.specs.declared.fault.ReadFile.{ReadFile}
+use Rattle.p8_objects.specs.Outcomes.{Outcome, project, refused, missing, shelved, Gathers, WasRead}
 use Rattle.p8_objects.specs.Whole.{AreSources}
 use Rattle.p8_build.specs.Builds.{IsBuilt}
 use Rattle.p8_build.specs.Sizes.{IsMeasured}
@@ -54,11 +55,12 @@ abbrev pub IsProjectLegend : Files → (top : List ℕ) → Legend → Type 0
 IsProjectLegend files top legend =
     (sources : List NamedSource) × GathersTo files top (project sources) × (texts : List (List ℕ)) × AreSources files sources texts × IsLegendOf texts sources legend
 
--- the project of a top file is refused: this file of it, for this; while it is gathered, or else when it is built, and then what is too large has this size
-pub data IsRefusedFrom (files : Files) (top name : List ℕ) (f : Fault) (size : Option Size) : Type 0 where
-  while_gathered : GathersTo files top (refused name f) → size ≡ None → IsRefusedFrom files top name f size
+-- The project of a top file is refused: this file of it, with the bytes that it was read with, for this; while it is gathered, or else when it is
+-- built, and then what is too large has this size.
+pub data IsRefusedFrom (files : Files) (top : List ℕ) (file : ReadFile) (f : Fault) (size : Option Size) : Type 0 where
+  while_gathered : GathersTo files top (refused file f) → size ≡ None → IsRefusedFrom files top file f size
   when_built : (sources : List NamedSource) → GathersTo files top (project sources)
-      → IsMeasured sources name f size → IsRefusedFrom files top name f size
+      → IsMeasured sources file.name f size → WasRead files file → IsRefusedFrom files top file f size
 
 -- Where a shelf tells its files, a source has one outcome.
 pub record HasOneOutcome (files : List ℕ → Option (List ℕ)) : Type 0 where
@@ -69,11 +71,11 @@ pub record HasOneOutcome (files : List ℕ → Option (List ℕ)) : Type 0 where
   pub one_legend : (top : List ℕ) (a b : Legend) → IsProjectLegend (Some files) top a → IsProjectLegend (Some files) top b → a ≡ b
   pub not_missing : (before now : ℕ) (short : Bool) (top name : List ℕ) (mention : Option Mention) (sources : List NamedSource) (clock : Clock) (objects : List ObjectPart)
       → IsBuiltFrom (Some files) short top sources clock objects → ¬ Gathers (shelved (Some files) before now) top (missing name mention)
-  pub not_refused : (short : Bool) (top name : List ℕ) (f : Fault) (size : Option Size) (sources : List NamedSource) (clock : Clock) (objects : List ObjectPart)
-      → IsBuiltFrom (Some files) short top sources clock objects → ¬ IsRefusedFrom (Some files) top name f size
-  pub missing_or_refused : (before now : ℕ) (top name other : List ℕ) (mention : Option Mention) (f : Fault) (size : Option Size)
-      → Gathers (shelved (Some files) before now) top (missing name mention) → ¬ IsRefusedFrom (Some files) top other f size
+  pub not_refused : (short : Bool) (top : List ℕ) (file : ReadFile) (f : Fault) (size : Option Size) (sources : List NamedSource) (clock : Clock) (objects : List ObjectPart)
+      → IsBuiltFrom (Some files) short top sources clock objects → ¬ IsRefusedFrom (Some files) top file f size
+  pub missing_or_refused : (before now : ℕ) (top name : List ℕ) (file : ReadFile) (mention : Option Mention) (f : Fault) (size : Option Size)
+      → Gathers (shelved (Some files) before now) top (missing name mention) → ¬ IsRefusedFrom (Some files) top file f size
   pub one_missing : (before now : ℕ) (top a b : List ℕ) (m n : Option Mention)
       → Gathers (shelved (Some files) before now) top (missing a m) → Gathers (shelved (Some files) before now) top (missing b n) → (a ≡ b) × (m ≡ n)
-  pub one_refusal : (top a b : List ℕ) (f g : Fault) (s t : Option Size)
+  pub one_refusal : (top : List ℕ) (a b : ReadFile) (f g : Fault) (s t : Option Size)
       → IsRefusedFrom (Some files) top a f s → IsRefusedFrom (Some files) top b g t → (a ≡ b) × (f ≡ g) × (s ≡ t)

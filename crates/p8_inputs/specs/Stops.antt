@@ -18,7 +18,7 @@ abbrev pub line_of : Stop → List ℕ
 line_of (Unread name) = codes "prop: cannot read " ++ name ++ 10 ∷ []
 line_of (Missing name mention) = codes "prop: " ++ name ++ codes " is missing" ++ 10 ∷ []
 line_of NoMemory = codes "prop: out of memory" ++ 10 ∷ []
-line_of (Refused name f size) = refusal_line name f
+line_of (Refused file f size) = refusal_line file.name f
 line_of (BadProgram name fault) = codes "prop: " ++ name ++ codes ": " ++ fault_text fault ++ 10 ∷ []
 line_of (BadScript name line) = codes "prop: " ++ name ++ codes ": line " ++ decimal line ++ 10 ∷ []
 line_of (Unnamed file name) = codes "prop: " ++ file ++ codes ": nothing is named " ++ name ++ 10 ∷ []

@@ -5,6 +5,7 @@ ghost use Rattle.p8_io.specs.Shelves.{Files};
 ghost use Rattle.p8_objects.specs.Orders.{AreAllRead as FilesAreRead, ReadsInOrder};
 ghost use Rattle.p8_objects.specs.Outcomes.{shelved, Answers};
 ghost use Rattle.p8_objects.specs.Whole.{AreSources};
+ghost use Rattle.p8_build.specs.Builds.{IsRefusedWith};
 ghost use Rattle.p8_build.specs.Told.{IsRefusal};
 ghost use Rattle.p8_image.specs.Loading.{image_in as image_of_file};
 ghost use Rattle.p8_map.specs.Projects.{IsMapOf};
@@ -24,8 +25,7 @@ use p8_legend::{Legend, project_legend};
 use p8_map::project_map;
 use p8_objects::{GatherFault, Gathered, discard, gather};
 use p8_opt::{build_short, build_short_parts};
-use p8_tree::{List, Project, ProjectFile, Text};
-use p8_words::NoMemory;
+use p8_tree::{Fault, List, Project, ProjectFile, Text};
 use std::alloc::{AllocError, Global};
 
 /// An image with its legend.
@@ -68,16 +68,31 @@ fn stop_of_gathering(fault: GatherFault) -> Stop
     }
 }
 
-/// Why a project isn't built, with the size of what is too large.
-fn stop_of_building(alloc: Global, project: &Project, fault: BuildFault) -> Stop
-    requires { IsWhole (named_sources_of project.now) }
-    ensures { IsRefusal (named_sources_of project.now) fault → StopsAtBuilding (named_sources_of project.now) result }
+/// The refusal of a file of a project that isn't built, as the file was read, with the size of what is too large.
+fn refusal_in(alloc: Global, gathered: &Gathered, name: Text, fault: Fault) -> Stop
+    requires whole { IsWhole (named_sources_of gathered.now.project) }
+    requires beside { length gathered.now.sources ≡ length (named_sources_of gathered.now.project) }
+    requires refused { IsRefusedWith (named_sources_of gathered.now.project) name fault }
+    ensures { StopsAtBuilding (named_sources_of gathered.now.project) gathered.now.sources result }
+{
+    let Ok(size) = measure(alloc, &gathered.project, fault.number) else {
+        return Stop::NoMemory;
+    };
+    match gathered.file_named(alloc, name) {
+        Ok(file) => Stop::Refused { file, fault, size },
+        Err(_) => Stop::NoMemory,
+    }
+}
+
+/// Why a project isn't built.
+fn stop_of_building(alloc: Global, gathered: &Gathered, fault: BuildFault) -> Stop
+    requires whole { IsWhole (named_sources_of gathered.now.project) }
+    requires beside { length gathered.now.sources ≡ length (named_sources_of gathered.now.project) }
+    requires refused { IsRefusal (named_sources_of gathered.now.project) fault }
+    ensures { StopsAtBuilding (named_sources_of gathered.now.project) gathered.now.sources result }
 {
     match fault {
-        BuildFault::Source { file, fault } => match measure(alloc, project, fault.number) {
-            Ok(size) => Stop::Refused { file, fault, size },
-            Err(NoMemory) => Stop::NoMemory,
-        },
+        BuildFault::Source { file, fault } => refusal_in(alloc, gathered, file, fault),
         BuildFault::NoMemory => Stop::NoMemory,
     }
 }
@@ -109,14 +124,15 @@ fn built_parts(alloc: Global, short: bool, project: &Project) -> Result<Built, B
 }
 
 /// The image of a project.
-fn image_of_project(alloc: Global, short: bool, project: &Project) -> Result<Image, Stop>
-    requires { IsWhole (named_sources_of project.now) }
-    ensures image { IfOk result (IsImageBuiltBy short (named_sources_of project.now)) }
-    ensures stopped { IfErr result (StopsAtBuilding (named_sources_of project.now)) }
+fn image_of_project(alloc: Global, short: bool, gathered: &Gathered) -> Result<Image, Stop>
+    requires whole { IsWhole (named_sources_of gathered.now.project) }
+    requires beside { length gathered.now.sources ≡ length (named_sources_of gathered.now.project) }
+    ensures image { IfOk result (IsImageBuiltBy short (named_sources_of gathered.now.project)) }
+    ensures stopped { IfErr result (StopsAtBuilding (named_sources_of gathered.now.project) gathered.now.sources) }
 {
-    match built_image(alloc, short, project) {
+    match built_image(alloc, short, &gathered.project) {
         Ok(image) => Ok(image),
-        Err(fault) => Err(stop_of_building(alloc, project, fault)),
+        Err(fault) => Err(stop_of_building(alloc, gathered, fault)),
     }
 }
 
@@ -132,56 +148,57 @@ fn names_of(alloc: Global, files: &[ProjectFile]) -> Result<List<Text>, AllocErr
 }
 
 /// The listing of a project.
-fn listing_of_project(alloc: Global, short: bool, project: &Project) -> Result<Vec<u8>, Stop>
-    requires { IsWhole (named_sources_of project.now) }
-    ensures text { IfOk result (λ text. IsListingOf short (named_sources_of project.now) text.items) }
-    ensures stopped { IfErr result (StopsAtBuilding (named_sources_of project.now)) }
+fn listing_of_project(alloc: Global, short: bool, gathered: &Gathered) -> Result<Vec<u8>, Stop>
+    requires whole { IsWhole (named_sources_of gathered.now.project) }
+    requires beside { length gathered.now.sources ≡ length (named_sources_of gathered.now.project) }
+    ensures text { IfOk result (λ text. IsListingOf short (named_sources_of gathered.now.project) text.items) }
+    ensures stopped { IfErr result (StopsAtBuilding (named_sources_of gathered.now.project) gathered.now.sources) }
 {
-    let built = match built_parts(alloc, short, project) {
+    let built = match built_parts(alloc, short, &gathered.project) {
         Ok(built) => built,
-        Err(fault) => return Err(stop_of_building(alloc, project, fault)),
+        Err(fault) => return Err(stop_of_building(alloc, gathered, fault)),
     };
-    let names = names_of(alloc, project.files.as_slice())?;
+    let names = names_of(alloc, gathered.project.files.as_slice())?;
     let text = listing(alloc, names.as_slice(), built.objects.as_slice())?;
     Ok(text)
 }
 
 /// The map of a project.
-fn map_of_project(alloc: Global, project: &Project, sources: &[Text]) -> Result<Vec<u8>, Stop>
-    requires whole { IsWhole (named_sources_of project.now) }
-    requires beside { length sources.now ≡ length (named_sources_of project.now) }
-    ensures text { IfOk result (λ text. IsMapOf sources.now (named_sources_of project.now) text.items) }
-    ensures stopped { IfErr result (StopsAtBuilding (named_sources_of project.now)) }
+fn map_of_project(alloc: Global, gathered: &Gathered) -> Result<Vec<u8>, Stop>
+    requires whole { IsWhole (named_sources_of gathered.now.project) }
+    requires beside { length gathered.now.sources ≡ length (named_sources_of gathered.now.project) }
+    ensures text { IfOk result (λ text. IsMapOf gathered.now.sources (named_sources_of gathered.now.project) text.items) }
+    ensures stopped { IfErr result (StopsAtBuilding (named_sources_of gathered.now.project) gathered.now.sources) }
 {
-    match project_map(alloc, project, sources) {
+    match project_map(alloc, &gathered.project, gathered.sources.as_slice()) {
         Ok(text) => Ok(text),
-        Err(fault) => Err(stop_of_building(alloc, project, fault)),
+        Err(fault) => Err(stop_of_building(alloc, gathered, fault)),
     }
 }
 
 /// The legend of a project.
-fn legend_of_project(alloc: Global, project: &Project, sources: &[Text]) -> Result<Legend, Stop>
-    requires whole { IsWhole (named_sources_of project.now) }
-    requires beside { length sources.now ≡ length (named_sources_of project.now) }
-    ensures legend { IfOk result (IsLegendOf sources.now (named_sources_of project.now)) }
-    ensures stopped { IfErr result (StopsAtBuilding (named_sources_of project.now)) }
+fn legend_of_project(alloc: Global, gathered: &Gathered) -> Result<Legend, Stop>
+    requires whole { IsWhole (named_sources_of gathered.now.project) }
+    requires beside { length gathered.now.sources ≡ length (named_sources_of gathered.now.project) }
+    ensures legend { IfOk result (IsLegendOf gathered.now.sources (named_sources_of gathered.now.project)) }
+    ensures stopped { IfErr result (StopsAtBuilding (named_sources_of gathered.now.project) gathered.now.sources) }
 {
-    match project_legend(alloc, project, sources) {
+    match project_legend(alloc, &gathered.project, gathered.sources.as_slice()) {
         Ok(legend) => Ok(legend),
-        Err(fault) => Err(stop_of_building(alloc, project, fault)),
+        Err(fault) => Err(stop_of_building(alloc, gathered, fault)),
     }
 }
 
 /// The image of a project with its legend.
-fn explained_project(alloc: Global, project: &Project, sources: &[Text]) -> Result<Explained, Stop>
-    requires whole { IsWhole (named_sources_of project.now) }
-    requires beside { length sources.now ≡ length (named_sources_of project.now) }
-    ensures image { IfOk result (λ read. IsImageBuiltBy false (named_sources_of project.now) read.image) }
-    ensures legend { IfOk result (λ read. IsLegendOf sources.now (named_sources_of project.now) read.legend) }
-    ensures stopped { IfErr result (StopsAtBuilding (named_sources_of project.now)) }
+fn explained_project(alloc: Global, gathered: &Gathered) -> Result<Explained, Stop>
+    requires whole { IsWhole (named_sources_of gathered.now.project) }
+    requires beside { length gathered.now.sources ≡ length (named_sources_of gathered.now.project) }
+    ensures image { IfOk result (λ read. IsImageBuiltBy false (named_sources_of gathered.now.project) read.image) }
+    ensures legend { IfOk result (λ read. IsLegendOf gathered.now.sources (named_sources_of gathered.now.project) read.legend) }
+    ensures stopped { IfErr result (StopsAtBuilding (named_sources_of gathered.now.project) gathered.now.sources) }
 {
-    let image = image_of_project(alloc, false, project)?;
-    let legend = legend_of_project(alloc, project, sources)?;
+    let image = image_of_project(alloc, false, gathered)?;
+    let legend = legend_of_project(alloc, gathered)?;
     Ok(Explained { image, legend })
 }
 
@@ -201,7 +218,7 @@ pub(crate) fn image_in<S: Shelf>(
     ensures kept { S.files shelf.new ≡ S.files shelf.old }
 {
     let gathered = project_in(alloc, file, shelf)?;
-    let image = image_of_project(alloc, short, &gathered.project);
+    let image = image_of_project(alloc, short, &gathered);
     discard(gathered);
     image
 }
@@ -222,7 +239,7 @@ pub(crate) fn explained_in<S: Shelf>(
     ensures kept { S.files shelf.new ≡ S.files shelf.old }
 {
     let gathered = project_in(alloc, file, shelf)?;
-    let read = explained_project(alloc, &gathered.project, gathered.sources.as_slice());
+    let read = explained_project(alloc, &gathered);
     discard(gathered);
     read
 }
@@ -242,7 +259,7 @@ fn listing_in<S: Shelf>(
     ensures kept { S.files shelf.new ≡ S.files shelf.old }
 {
     let gathered = project_in(alloc, file, shelf)?;
-    let text = listing_of_project(alloc, short, &gathered.project);
+    let text = listing_of_project(alloc, short, &gathered);
     discard(gathered);
     text
 }
@@ -257,7 +274,7 @@ fn map_in<S: Shelf>(alloc: Global, file: &str, shelf: &mut S) -> Result<Vec<u8>,
     ensures kept { S.files shelf.new ≡ S.files shelf.old }
 {
     let gathered = project_in(alloc, file, shelf)?;
-    let text = map_of_project(alloc, &gathered.project, gathered.sources.as_slice());
+    let text = map_of_project(alloc, &gathered);
     discard(gathered);
     text
 }

@@ -11,12 +11,12 @@ use crate::telling::{
 use p8_build::Size;
 use p8_image::LoadFault;
 use p8_io::Sink;
-use p8_objects::Mention;
+use p8_objects::{Mention, ReadFile};
 use p8_tree::{Fault, Text};
 use p8_words::NoMemory;
 use std::alloc::AllocError;
 
-/// Why there is nothing to run. `file` is the name of a file as the words have it, or as a source mentions it.
+/// Why there is nothing to run. `file` is a file by its name, as the words have it, or as a source mentions it.
 #[derive(Drop)]
 pub enum Stop {
     /// This file could not be read.
@@ -33,7 +33,8 @@ pub enum Stop {
     NoMemory,
     /// A source of the project is refused.
     Refused {
-        file: Text,
+        /// The source as it was read.
+        file: ReadFile,
         /// Why, and where in the file.
         fault: Fault,
         /// The size of what is too large, at a 26 and a 28.
@@ -82,7 +83,7 @@ impl Stop {
             Stop::Unread { file } => tell_unread(file.as_slice(), faults),
             Stop::Missing { file, .. } => tell_missing(file.as_slice(), faults),
             Stop::NoMemory => tell_no_memory(faults),
-            Stop::Refused { file, fault, .. } => tell_refused(file.as_slice(), *fault, faults),
+            Stop::Refused { file, fault, .. } => tell_refused(file.name.as_slice(), *fault, faults),
             Stop::BadProgram { file, fault } => tell_bad_program(file.as_slice(), *fault, faults),
             Stop::BadScript { file, line } => tell_bad_script(file.as_slice(), *line, faults),
             Stop::Unnamed { file, name } => tell_unnamed(file.as_slice(), name.as_slice(), faults),

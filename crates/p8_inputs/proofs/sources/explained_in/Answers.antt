@@ -24,8 +24,7 @@ returns-clause-legend g c =
     let top = c.args.file.now in
     let sources = named_sources_of c.in_ok-gathered.gathered.project in
     let gathered = c.in_ok-gathered.ensures.project.gathered in
-    let are = subst (λ (texts : List (List ℕ)). AreSources files sources texts) (sym c.as_slice.ensures) c.in_ok-gathered.ensures.sources in
-    IfOk-weaker c.explained_project-read.result _ _ (λ read is. legend-from files false top sources gathered c.as_slice.result.now are read.legend is) c.explained_project-read.ensures.legend
+    IfOk-weaker c.explained_project-read.result _ _ (λ read is. legend-from files false top sources gathered c.in_ok-gathered.gathered.sources c.in_ok-gathered.ensures.sources read.legend is) c.explained_project-read.ensures.legend
 
 pub returns-clause-stopped : goal.returns-clause-stopped
 returns-clause-stopped g c =
@@ -33,7 +32,7 @@ returns-clause-stopped g c =
     let top = c.args.file.now in
     let sources = named_sources_of c.in_ok-gathered.gathered.project in
     let gathered = c.in_ok-gathered.ensures.project.gathered in
-    IfErr-weaker c.explained_project-read.result _ _ (λ stop stops. building-stops files false top sources gathered _ _ stop stops) c.explained_project-read.ensures.stopped
+    IfErr-weaker c.explained_project-read.result _ _ (λ stop stops. building-stops files false top sources gathered c.in_ok-gathered.gathered.sources c.in_ok-gathered.ensures.sources _ _ stop stops) c.explained_project-read.ensures.stopped
 
 pub returns-clause-all_read : goal.returns-clause-all_read
 returns-clause-all_read g c =
@@ -45,7 +44,7 @@ returns-in_err-gathered-clause-stopped g c =
 
 pub explained_project-read-requires-clause-beside : goal.explained_project-read-requires-clause-beside
 explained_project-read-requires-clause-beside g c =
-    ap length c.as_slice.ensures ∙ count-of (g.S.Shelf.files c.args.shelf.now) (named_sources_of c.in_ok-gathered.gathered.project) c.in_ok-gathered.gathered.sources c.in_ok-gathered.ensures.sources
+    count-of (g.S.Shelf.files c.args.shelf.now) (named_sources_of c.in_ok-gathered.gathered.project) c.in_ok-gathered.gathered.sources c.in_ok-gathered.ensures.sources
 
 pub explained_project-read-requires-clause-whole : goal.explained_project-read-requires-clause-whole
 explained_project-read-requires-clause-whole g c = c.in_ok-gathered.ensures.project.whole

@@ -1,5 +1,6 @@
 use Rattle.std.proofs.lemmas.Result.{IfOk-weaker, IfErr-weaker}
 use Rattle.p8_tree.specs.Views.{named_sources_of}
+use Rattle.p8_objects.proofs.Sourcing.{count-of}
 use Rattle.p8_inputs.proofs.Stopping.{handed-on}
 use Rattle.p8_inputs.proofs.Building.{listing-from, building-stops}
 use Rattle.p8_inputs.proofs.sources.listing_in.Goals as goal
@@ -18,7 +19,7 @@ returns-clause-stopped g c =
     let top = c.args.file.now in
     let sources = named_sources_of c.in_ok-gathered.gathered.project in
     let gathered = c.in_ok-gathered.ensures.project.gathered in
-    IfErr-weaker c.listing_of_project-text.result _ _ (λ stop stops. building-stops files c.args.short top sources gathered _ _ stop stops) c.listing_of_project-text.ensures.stopped
+    IfErr-weaker c.listing_of_project-text.result _ _ (λ stop stops. building-stops files c.args.short top sources gathered c.in_ok-gathered.gathered.sources c.in_ok-gathered.ensures.sources _ _ stop stops) c.listing_of_project-text.ensures.stopped
 
 pub returns-clause-all_read : goal.returns-clause-all_read
 returns-clause-all_read g c =
@@ -27,3 +28,10 @@ returns-clause-all_read g c =
 pub returns-in_err-gathered-clause-stopped : goal.returns-in_err-gathered-clause-stopped
 returns-in_err-gathered-clause-stopped g c =
     handed-on c.from_residual.result _ _ c.from_residual.ensures.1 (c.in_err-gathered.ensures.stopped c.args.short)
+
+pub listing_of_project-text-requires-clause-beside : goal.listing_of_project-text-requires-clause-beside
+listing_of_project-text-requires-clause-beside g c =
+    count-of (g.S.Shelf.files c.args.shelf.now) (named_sources_of c.in_ok-gathered.gathered.project) c.in_ok-gathered.gathered.sources c.in_ok-gathered.ensures.sources
+
+pub listing_of_project-text-requires-clause-whole : goal.listing_of_project-text-requires-clause-whole
+listing_of_project-text-requires-clause-whole g c = c.in_ok-gathered.ensures.project.whole

@@ -8,8 +8,5 @@ use Rattle.p8_inputs.proofs.sources.listing_of_project.Goals as goal
 pub returns-clause-text : goal.returns-clause-text
 returns-clause-text c =
     let built = c.in-Ok.ensures.built in
-    let names = c.as_slice-2.ensures ∙ c.in_ok-names.ensures ∙ ap (map (λ (file : ProjectFile). file.name)) c.as_slice.ensures ∙ sym (same-names c.args.project.now.files) in
+    let names = c.as_slice-2.ensures ∙ c.in_ok-names.ensures ∙ ap (map (λ (file : ProjectFile). file.name)) c.as_slice.ensures ∙ sym (same-names c.args.gathered.now.project.files) in
     (built.0, c.in-Ok.built.objects, built.1, c.in_ok-text.ensures ∙ ap₂ listing_of names c.as_slice-3.ensures)
-
-pub returns-in-Err-clause-stopped : goal.returns-in-Err-clause-stopped
-returns-in-Err-clause-stopped c = c.stop_of_building.ensures c.in-Err.ensures.refused

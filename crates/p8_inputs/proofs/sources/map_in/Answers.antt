@@ -13,8 +13,7 @@ returns-clause-text g c =
     let top = c.args.file.now in
     let sources = named_sources_of c.in_ok-gathered.gathered.project in
     let gathered = c.in_ok-gathered.ensures.project.gathered in
-    let are = subst (λ (texts : List (List ℕ)). AreSources files sources texts) (sym c.as_slice.ensures) c.in_ok-gathered.ensures.sources in
-    IfOk-weaker c.map_of_project-text.result _ _ (λ text is. map-from files false top sources gathered c.as_slice.result.now are text.items is) c.map_of_project-text.ensures.text
+    IfOk-weaker c.map_of_project-text.result _ _ (λ text is. map-from files false top sources gathered c.in_ok-gathered.gathered.sources c.in_ok-gathered.ensures.sources text.items is) c.map_of_project-text.ensures.text
 
 pub returns-clause-stopped : goal.returns-clause-stopped
 returns-clause-stopped g c =
@@ -22,7 +21,7 @@ returns-clause-stopped g c =
     let top = c.args.file.now in
     let sources = named_sources_of c.in_ok-gathered.gathered.project in
     let gathered = c.in_ok-gathered.ensures.project.gathered in
-    IfErr-weaker c.map_of_project-text.result _ _ (λ stop stops. building-stops files false top sources gathered _ _ stop stops) c.map_of_project-text.ensures.stopped
+    IfErr-weaker c.map_of_project-text.result _ _ (λ stop stops. building-stops files false top sources gathered c.in_ok-gathered.gathered.sources c.in_ok-gathered.ensures.sources _ _ stop stops) c.map_of_project-text.ensures.stopped
 
 pub returns-clause-all_read : goal.returns-clause-all_read
 returns-clause-all_read g c =
@@ -34,7 +33,7 @@ returns-in_err-gathered-clause-stopped g c =
 
 pub map_of_project-text-requires-clause-beside : goal.map_of_project-text-requires-clause-beside
 map_of_project-text-requires-clause-beside g c =
-    ap length c.as_slice.ensures ∙ count-of (g.S.Shelf.files c.args.shelf.now) (named_sources_of c.in_ok-gathered.gathered.project) c.in_ok-gathered.gathered.sources c.in_ok-gathered.ensures.sources
+    count-of (g.S.Shelf.files c.args.shelf.now) (named_sources_of c.in_ok-gathered.gathered.project) c.in_ok-gathered.gathered.sources c.in_ok-gathered.ensures.sources
 
 pub map_of_project-text-requires-clause-whole : goal.map_of_project-text-requires-clause-whole
 map_of_project-text-requires-clause-whole g c = c.in_ok-gathered.ensures.project.whole

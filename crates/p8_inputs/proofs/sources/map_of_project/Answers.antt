@@ -3,13 +3,10 @@ use Rattle.p8_inputs.proofs.Gathering.{mentioned, no_ring}
 use Rattle.p8_inputs.proofs.sources.map_of_project.Goals as goal
 
 pub project_map-requires-clause-mentioned : goal.project_map-requires-clause-mentioned
-project_map-requires-clause-mentioned c = mentioned (named_sources_of c.args.project.now) c.requires.whole.mentioned
+project_map-requires-clause-mentioned c = mentioned (named_sources_of c.args.gathered.now.project) c.requires.whole.mentioned
 
 pub project_map-requires-clause-no_ring : goal.project_map-requires-clause-no_ring
-project_map-requires-clause-no_ring c = no_ring (named_sources_of c.args.project.now) c.requires.whole.no_ring
+project_map-requires-clause-no_ring c = no_ring (named_sources_of c.args.gathered.now.project) c.requires.whole.no_ring
 
 pub project_map-requires-clause-proper : goal.project_map-requires-clause-proper
 project_map-requires-clause-proper c i file stands = c.requires.whole.proper i file (record { is = stands })
-
-pub returns-in-Err-clause-stopped : goal.returns-in-Err-clause-stopped
-returns-in-Err-clause-stopped c = c.stop_of_building.ensures c.in-Err.ensures.refused
