@@ -19,10 +19,9 @@ use Rattle.p8_desk.specs.declared.turned.Turned.{Turned}
 use Rattle.p8_desk.specs.declared.turned.Turned.TheVariants.{Done, Held, After, Ahead, Over}
 use Rattle.p8_desk.specs.Rules.{Agrees, AreOf, GoneOn}
 use Rattle.p8_desk.specs.Runners.{Rides}
-use Rattle.p8_desk.specs.Seats.{Keeps}
+use Rattle.p8_desk.specs.Seats.{Keeps, Carries, is_over, made_by}
 use Rattle.p8_desk.specs.Passes.{PassSteps}
 use Rattle.p8_desk.specs.Tries.{Speaks, Answers, Got, Tried, seen_by}
-use Rattle.p8_desk.specs.Work.{Carries, is_over, made_by}
 use Rattle.p8_desk.proofs.Lookups.{test-same, test-apart}
 use Rattle.p8_desk.proofs.Riding.{rides-on}
 

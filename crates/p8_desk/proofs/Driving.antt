@@ -9,12 +9,10 @@ use Rattle.p8_desk.specs.declared.rider.Rider.{Rider}
 use Rattle.p8_desk.specs.declared.rule.Known.{Known}
 use Rattle.p8_desk.specs.declared.turned.Turned.{Turned}
 use Rattle.p8_desk.specs.declared.turned.Turned.TheVariants.{Done, Held, After, Ahead, Over}
-use Rattle.p8_desk.specs.Driving.{left_to_do, next_cog}
-use Rattle.p8_desk.specs.Gathering.{RidesIn, Riding, HasRode}
+use Rattle.p8_desk.specs.Gathering.{left_to_do, next_cog, RidesIn, Riding, HasRode}
 use Rattle.p8_desk.specs.Rules.{Hand, known, of_same_cog, with_seen, seizing, releasing, seen_as, seeing}
-use Rattle.p8_desk.specs.Seats.{Keeps, Rode, TookDesk, pass_in, or_new}
+use Rattle.p8_desk.specs.Seats.{Keeps, Rode, TookDesk, pass_in, or_new, Carries, is_over}
 use Rattle.p8_desk.specs.Tries.{Answers, seen_by}
-use Rattle.p8_desk.specs.Work.{Carries, is_over}
 use Rattle.p8_desk.proofs.Carrying.{carries-found, carries-beside, gone-on, named-near, others-spoken}
 use Rattle.p8_desk.proofs.Gathering.{set-beside, set-there, at-below, index-of, rider-same}
 use Rattle.p8_desk.proofs.Lookups.{some-same, none-some, known-changed, known-beside, known-cog, known-all-seen, known-seen}
@@ -114,7 +112,7 @@ module _ (w : World) (n : ℕ) (before me : Hand) (riders : List (Option Rider))
       by-answer (Held by) x e = absurd x
       by-answer Over x e = absurd (none-some next e)
 
-  seen-there : (m : ℕ) → m < 8 → (pass_in me m).seen ≡ seen_by answer rode.took.s
+  pub seen-there : (m : ℕ) → m < 8 → (pass_in me m).seen ≡ seen_by answer rode.took.s
   seen-there m lt = (let one = rode.riding.each m lt in ap (λ (o : Option Known). (or_new m o).seen) one.has ∙ seen-by-all m one.p one.has)
 
   -- the next try finds that record
@@ -143,9 +141,6 @@ module _ (w : World) (n : ℕ) (before me : Hand) (riders : List (Option Rider))
       let whole = found-whole k after later c a next in
       let less = tries-fall w n k answer rode.took.s t.next t.r t.s a near_k rode.took.answers names whole t.speaks t.answers in
       subst (λ (y : Record × Record). left_to_do w y.0 a < left_to_do w y.1 answer) (λ i. (sym now i, (whole ∙ sym (seen-there n near)) i)) less
-
-pub seen-here : (w : World) (n : ℕ) (before me : Hand) (riders : List (Option Rider)) (count : ℕ) (answer : Turned) (rode : HasRode w n before me riders count answer) → n < 8 → (pass_in me n).seen ≡ seen_by answer rode.took.s
-seen-here w n before me riders count answer rode near = seen-there w n before me riders count answer rode n near
 
 -- no cog is to try next where the history has ended
 pub ended-by : (n : ℕ) (answer : Turned) → ((next : ℕ) → next_cog n answer ≡ Some next → ⊥) → is_over answer ≡ true

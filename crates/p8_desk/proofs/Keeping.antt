@@ -1,8 +1,7 @@
 -- Each step keeps the rule.
-use Rattle.std.proofs.Common.{◌≡◌, ◌≢◌, ⊎_elim, ◌∙◌, ap, sym, subst, refl, ℕ, zero, suc, ◌==◌, ◌<◌, ◌≤◌, List, [], ◌∷◌, ◌++◌, length, Bool, true, Option, Some, None, arith}
+use Rattle.std.proofs.Common.{◌≡◌, ◌≢◌, ⊎_elim, ◌∙◌, ap, sym, subst, refl, ℕ, zero, suc, ◌-◌, ◌==◌, ◌<◌, ◌≤◌, List, [], ◌∷◌, ◌++◌, length, Bool, true, Option, Some, None, arith}
 use Rattle.std.specs.Prelude.{slice_set, slice_index}
-use mathlib.Core.Option.{some, none}
-use mathlib.Core.Option.{Option as Home}
+use mathlib.Core.Option.{some, none, Option as Home}
 use lib.ListN.{get_elem?}
 use prog.Atomic.{either}
 use Rattle.atomic_table.specs.Table.{Step as Move, step as move, Act, keeps, takes, gives, Allows, Valid, homes_after, carried_after}
@@ -284,8 +283,8 @@ frees-as start slots id me one h =
     (frees start id me.0 h.0 held.live held.holds held.pass held.has held.ledger (subst (λ (r : Record). Found (world_in me.0.start) held.ledger r) (sym h.3) held.stands))
 
 -- a bell changes, and nothing else
-pub rings : (start : Start) (slots id word k : ℕ) (me : Hand) → word ≡ suc (suc k) → (f : ℕ → ℕ) → Allows (Kept start) slots id me word f (λ n after. after ≡ me)
-rings start slots id word k me is f s h long at below = (
+rings-at : (start : Start) (slots id word k : ℕ) (me : Hand) → word ≡ suc (suc k) → (f : ℕ → ℕ) → Allows (Kept start) slots id me word f (λ n after. after ≡ me)
+rings-at start slots id word k me is f s h long at below = (
   me.0,
   keeps,
   tt,
@@ -305,3 +304,6 @@ rings start slots id word k me is f s h long at below = (
   },
   refl,
 )
+
+pub rings : (start : Start) (slots id word : ℕ) (me : Hand) → 1 < word → (f : ℕ → ℕ) → Allows (Kept start) slots id me word f (λ n after. after ≡ me)
+rings start slots id word me lt f = rings-at start slots id word (word - 2) me (omega arith) f

@@ -11,5 +11,4 @@ pub mod Remaining
 pub mod Scattering
 pub mod Trying
 pub mod Driving
-pub mod Ringing
 pub mod Waiting

@@ -5,8 +5,7 @@ use mathlib.Core.Logic.{dite}
 use native.Mathlib.Decide.{ℕ_discrete}
 use Rattle.atomic_table.specs.Seated.{TableId}
 use Rattle.p8_access.specs.Worlds.{World}
-use Rattle.p8_desk.specs.Opening.{fresh, new_places}
-use Rattle.p8_desk.specs.PassSets.{InPlace, AllThere}
+use Rattle.p8_desk.specs.PassSets.{fresh, new_places, InPlace, AllThere}
 use Rattle.p8_desk.specs.Passes.{DeskValue, PassValue}
 use Rattle.p8_desk.proofs.Gathering.{set-beside}
 

@@ -18,7 +18,7 @@ use Rattle.p8_ledger.specs.declared.steps.Step.TheVariants.{Took, Said}
 use Rattle.p8_ledger.specs.Records.{Record, turns, said, says, cog_of, HasFront, HasFrontIn, IsLeastFront, NoFront}
 use Rattle.p8_desk.specs.declared.turned.Turned.{Turned}
 use Rattle.p8_desk.specs.declared.turned.Turned.TheVariants.{Done, Held, After, Ahead, Over}
-use Rattle.p8_desk.specs.Driving.{open_by, open_in, rest_of, names_none, left_to_do, next_cog}
+use Rattle.p8_desk.specs.Gathering.{open_by, open_in, rest_of, names_none, left_to_do, next_cog}
 use Rattle.p8_desk.specs.Tries.{pace_of, most_of, GoesOn, Says, Speaks, Answers, seen_by}
 use Rattle.p8_desk.proofs.Lookups.{test-same, test-apart, some-same, none-some}
 
@@ -133,6 +133,13 @@ record IsNamed (w : World) (r : Record) (n : ℕ) : Type 0 where
   clock : ℕ
   least : IsLeastFront w r (record { clock = clock; cog = n })
 
+names-it : (w : World) (before r : Record) (m n bound : ℕ) → length (turns before) < w.turns → IsLeastFront w before (record { clock = bound; cog = m }) → m ≡ n → r ≡ before → IsNamed w r n
+names-it w before r m n bound room least same is = record {
+  room = subst (λ (t : Record). length (turns t) < w.turns) (sym is) room;
+  clock = bound;
+  least = subst (λ (y : Record × ℕ). IsLeastFront w y.0 (record { clock = bound; cog = y.1 })) (λ i. (sym is i, same i)) least;
+}
+
 -- it says something, or makes a turn
 named-falls : (w : World) (n : ℕ) (next : Next) (r s : Record) (answer : Turned) → n < 8 → IsNamed w r n → Speaks w n next r s → Answers w s n answer → rest_of w (seen_by answer s) < rest_of w r
 named-falls w n next r s answer near named (inl spoke) a =
@@ -179,22 +186,8 @@ pub tries-fall : (w : World) (m n : ℕ) (last : Turned) (before : Record) (next
     → left_to_do w (seen_by answer s) answer < left_to_do w r last
 tries-fall w m n (Held by) before next r s answer near told names is spoken a = absurd told
 tries-fall w m n Over before next r s answer near told names is spoken a = absurd (none-some n names)
-tries-fall w m n (Ahead bound) before next r s answer near told names is spoken a =
-    let same : m ≡ n = some-same _ _ names in
-    let named : IsNamed w r n = record {
-      room = subst (λ (t : Record). length (turns t) < w.turns) (sym is) told.0;
-      clock = bound;
-      least = subst (λ (y : Record × ℕ). IsLeastFront w y.0 (record { clock = bound; cog = y.1 })) (λ i. (sym is i, same i)) told.1;
-    } in
-    named-less w n next r s answer near named spoken a
-tries-fall w m n (After other bound) before next r s answer near told names is spoken a =
-    let same : other ≡ n = some-same _ _ names in
-    let named : IsNamed w r n = record {
-      room = subst (λ (t : Record). length (turns t) < w.turns) (sym is) told.0;
-      clock = bound;
-      least = subst (λ (y : Record × ℕ). IsLeastFront w y.0 (record { clock = bound; cog = y.1 })) (λ i. (sym is i, same i)) told.1;
-    } in
-    named-less w n next r s answer near named spoken a
+tries-fall w m n (Ahead bound) before next r s answer near told names is spoken a = named-less w n next r s answer near (names-it w before r m n bound told.0 told.1 (some-same _ _ names) is) spoken a
+tries-fall w m n (After other bound) before next r s answer near told names is spoken a = named-less w n next r s answer near (names-it w before r other n bound told.0 told.1 (some-same _ _ names) is) spoken a
 tries-fall w m n (Done turn) before next r s answer near told names is spoken a = by-answer answer a
   where
     le : rest_of w s ≤ rest_of w r

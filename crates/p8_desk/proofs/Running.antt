@@ -13,8 +13,7 @@ use Rattle.p8_access.specs.declared.kinds.Answer.{Answer}
 use Rattle.p8_access.specs.declared.order.Turn.{Turn}
 use Rattle.p8_access.specs.declared.lives.Next.{Next}
 use Rattle.p8_access.specs.declared.lives.Next.TheVariants.{At, Quiet, More}
-use Rattle.p8_access.specs.Lives.{Begun, Tells, IsMade, IsMadeNext, announced_by, IsAnnounced, Spends, has_ended, is_last}
-use Rattle.p8_access.specs.Lives.{IsWithin}
+use Rattle.p8_access.specs.Lives.{Begun, Tells, IsMade, IsMadeNext, announced_by, IsAnnounced, Spends, has_ended, is_last, IsWithin}
 use Rattle.p8_access.specs.declared.states.CogState.{CogState}
 use Rattle.p8_access.specs.declared.states.CogState.TheVariants.{Stopped, Starting, Running}
 use Rattle.p8_access.specs.Worlds.{World}
@@ -31,13 +30,11 @@ use Rattle.p8_cog.specs.WholeLives as Life
 use Rattle.p8_ledger.specs.Seats.{SitsIn}
 use Rattle.p8_ledger.specs.Standing.{FitsState}
 use Rattle.p8_ledger.proofs.Seating.{own-sits}
-use Rattle.p8_ledger.proofs.Settling.{start-sits}
-use Rattle.p8_ledger.proofs.Settling.{begun-same}
+use Rattle.p8_ledger.proofs.Settling.{start-sits, begun-same}
 use Rattle.p8_ledger.specs.declared.steps.Step.TheVariants.{Took, Said}
 use Rattle.p8_ledger.specs.Records.{Record, turns, said}
 use Rattle.p8_desk.specs.declared.runner.Runner.{Runner}
-use Rattle.p8_desk.specs.Runners.{reached_in, pace_in, stride_in, most_in, place_in, announced_in, Lives, Rides, Comes, GoesOnFrom, IsNear}
-use Rattle.p8_desk.specs.Taking.{HasTaken}
+use Rattle.p8_desk.specs.Runners.{reached_in, pace_in, stride_in, most_in, place_in, announced_in, Lives, Rides, Comes, GoesOnFrom, IsNear, HasTaken}
 use Rattle.p8_desk.specs.Tries.{GoesOn}
 use Rattle.p8_desk.proofs.Lookups.{test-same}
 use Rattle.p8_desk.proofs.Riding.{nothing-runs}

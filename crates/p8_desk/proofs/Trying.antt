@@ -9,14 +9,15 @@ use Rattle.p8_ledger.specs.Records.{Record, turns, mine}
 use Rattle.p8_ledger.specs.Ledgers.{Found}
 use Rattle.p8_desk.specs.declared.rider.Rider.{Rider}
 use Rattle.p8_desk.specs.declared.rule.Known.{Known}
-use Rattle.p8_desk.specs.declared.tries.Outcome.{Outcome}
+use Rattle.p8_desk.specs.declared.runner.Runner.{Runner}
+use Rattle.p8_desk.specs.declared.rider.Outcome.{Outcome}
 use Rattle.p8_desk.specs.declared.turned.Turned.{Turned}
 use Rattle.p8_desk.specs.declared.turned.Turned.TheVariants.{Done, Held, After, Ahead, Over}
 use Rattle.p8_desk.specs.Rules.{Hand, world_in, known, Agrees, IsOfCogs, of_same_cog, with_seen, with_found, seizing, losing, releasing, seen_as, seeing, Seized, CanTell, CanFree}
-use Rattle.p8_desk.specs.Seats.{Idle, Keeps, Seated, FoundHeld, TookDesk, Rode, pass_in, or_new, steps_of, worked_in}
+use Rattle.p8_desk.specs.Runners.{Rides}
+use Rattle.p8_desk.specs.Seats.{Idle, Keeps, Seated, FoundHeld, TookDesk, Rode, pass_in, or_new, steps_of, worked_in, Carries, Worked, said_by, worked_by}
 use Rattle.p8_desk.specs.Tries.{Got, Tried, seen_by}
-use Rattle.p8_desk.specs.Work.{Carries, Worked, said_by, worked_by}
-use Rattle.p8_desk.proofs.Carrying.{gone-on}
+use Rattle.p8_desk.proofs.Carrying.{carries-found, carries-ran, gone-on}
 use Rattle.p8_desk.proofs.Lookups.{known-changed, known-beside, known-cog, known-all-seen, none-seen}
 
 -- the lock word was another cog's
@@ -27,29 +28,33 @@ lost n (suc m) me after ne h =
     let less : m ≡ suc m - 1 = omega arith in
     subst (λ (k : ℕ). FoundHeld n k me after) less (record { apart = λ e. h.2 (e ∙ sym same); near = h.3; elsewhere = h.5; hand = h.4 ∙ ap (λ (k : ℕ). (losing me.0 k m, me.1)) same })
 
--- it was free
-pub record Won (w : World) (n : ℕ) (me after : Hand) : Type 0 where
+-- it was free: the pass whose life has run is right after the record that was found
+pub record Won (w : World) (n : ℕ) (me after : Hand) (rider : Rider) : Type 0 where
   pub r : Record
   pub ledger : Ledger
   pub hand : after ≡ (seizing me.0 n r, (0, Some ledger) ∷ [])
   pub stands : Found w ledger r
   pub newest : IsOfCogs r
   pub agrees : (m : ℕ) (q : Known) → known me.0.passes m ≡ Some q → Agrees r m q
+  pub carries : Carries w r rider
 
-pub won : (w : World) (n found : ℕ) (me after : Hand) → Idle w me → found ≡ 0 → Seized (move 1 0 0 (n + 1) none) me found after → Won w n me after
-won w n found me after idle free h =
+pub won : (w : World) (n found : ℕ) (me after : Hand) (p : Known) (rider : Rider) (runner : Runner) → Idle w me → known me.0.passes n ≡ Some p → rider.cog ≡ n → Keeps w p rider → Rides w rider.cog p.seen runner → found ≡ 0 → Seized (move 1 0 0 (n + 1) none) me found after
+    → Won w n me after (record rider { runner = runner })
+won w n found me after p rider runner idle has cog keeps rides free h =
     let z : Seized (move 1 0 0 (n + 1) none) me 0 after = subst (λ (k : ℕ). Seized (move 1 0 0 (n + 1) none) me k after) free h in
-    let same : z.2 ≡ n = (let e : n + 1 ≡ suc z.2 = z.3 in omega arith) in record {
+    let same : z.2 ≡ n = (let e : n + 1 ≡ suc z.2 = z.3 in omega arith) in
+    let stands : Found w z.1 z.0 = subst (λ (x : World). Found x z.1 z.0) idle.world z.5 in record {
       r = z.0;
       ledger = z.1;
       hand = z.4 ∙ (λ i. (seizing me.0 (same i) z.0, (0, Some z.1) ∷ idle.empty i));
-      stands = subst (λ (x : World). Found x z.1 z.0) idle.world z.5;
+      stands = stands;
       newest = z.6;
       agrees = z.7;
+      carries = carries-found w n z.0 p (record rider { runner = runner }) cog (z.7 n p has) stands.legal (record { own = keeps.own; carries = carries-ran w p.seen rider runner keeps.carries rides });
     }
 
 -- what was done with the ledger is told, and the lock word freed
-module _ (w : World) (n : ℕ) (me after : Hand) (p : Known) (idle : Idle w me) (has : known me.0.passes n ≡ Some p) (k : Won w n me after) (next : Next) (outcome : Outcome) (left : Ledger) (rider : Rider) (work : Worked w n next k.r outcome left rider) (worked : Hand) (at : worked ≡ (after.0, (0, Some left) ∷ [])) where
+module _ (w : World) (n : ℕ) (me after : Hand) (p : Known) (idle : Idle w me) (has : known me.0.passes n ≡ Some p) (ran : Rider) (k : Won w n me after ran) (next : Next) (outcome : Outcome) (left : Ledger) (rider : Rider) (work : Worked w n next k.r outcome left rider) (worked : Hand) (at : worked ≡ (after.0, (0, Some left) ∷ [])) where
   abbrev s : Record
   s = worked_by n outcome k.r
 
@@ -197,10 +202,17 @@ module _ (me after : Hand) (old new : Rider) (seated : Seated me old) (cog : new
         found = refl;
       })))
 
-  pub tried-on : (answer : Turned) (k count : ℕ) → k ≡ length (turns p.seen) → Rode w old.cog p me after new k count answer
+  tried-on : (answer : Turned) (k count : ℕ) → k ≡ length (turns p.seen) → Rode w old.cog p me after new k count answer
       → (after.0.start ≡ me.0.start) × Seated after new × (count ≡ length (turns (pass_in after new.cog).seen)) × Tried w old.cog (steps_of p) (steps_of (pass_in after old.cog)) answer
   tried-on (Held by) k count counted t = held by k count counted t
   tried-on (Done turn) k count counted t = took (Done turn) count t (λ q g. g)
   tried-on (After other bound) k count counted t = took (After other bound) count t (λ q g. g)
   tried-on (Ahead bound) k count counted t = took (Ahead bound) count t (λ q g. g)
   tried-on Over k count counted t = took Over count t (λ q g. g)
+
+  pub tried-at : (z : World) → world_in me.0.start ≡ z → (answer : Turned) (k count : ℕ) → k ≡ length (turns (pass_in me old.cog).seen) → ((q : Known) → known me.0.passes old.cog ≡ Some q → Keeps z q old → Rode z old.cog q me after new k count answer)
+      → (after.0.start ≡ me.0.start) × Seated after new × (count ≡ length (turns (pass_in after new.cog).seen)) × Tried z old.cog (steps_of (pass_in me old.cog)) (steps_of (pass_in after old.cog)) answer
+  tried-at z here answer k count counted rode =
+      let keeps : Keeps z p old = subst (λ (y : World). Keeps y p old) here seated.keeps in
+      let x = tried-on answer k count counted (subst (λ (y : World). Rode y old.cog p me after new k count answer) (sym here) (rode p seated.has keeps)) in
+      (x.0, x.1, x.2, subst (λ (y : World). Tried y old.cog (steps_of p) (steps_of (pass_in after old.cog)) answer) here x.3)

@@ -1,11 +1,12 @@
 -- A pass over tries that make no turn.
 use Rattle.std.proofs.Common.{◌≡◌, inl, inr, ◌∙◌, ap, sym, subst, refl, ℕ, [], ◌∷◌, ◌++◌, arith}
+use Rattle.p8_access.specs.declared.order.Turn.{Turn}
 use Rattle.p8_access.specs.declared.lives.Next.{Next}
 use Rattle.p8_access.specs.Worlds.{World}
 use Rattle.p8_ledger.specs.declared.steps.Step.TheVariants.{Said}
 use Rattle.p8_ledger.specs.Records.{Record, turns, mine, Begins}
 use Rattle.p8_desk.specs.declared.turned.Turned.{Turned}
-use Rattle.p8_desk.specs.declared.turned.Turned.TheVariants.{Held, After, Ahead}
+use Rattle.p8_desk.specs.declared.turned.Turned.TheVariants.{Done, Held, After, Ahead, Over}
 use Rattle.p8_desk.specs.Passes.{PassSteps}
 use Rattle.p8_desk.specs.Tries.{Speaks, Got, Tried, Waited, seen_by}
 use Rattle.p8_desk.proofs.Lookups.{test-same}
@@ -16,9 +17,6 @@ assoc (x ∷ xs) ys zs = ap (λ (l : Record). x ∷ l) (assoc xs ys zs)
 
 begins-on : (a b c : Record) → Begins a b → Begins b c → Begins a c
 begins-on a b c x y = (y.0 ++ x.0, assoc y.0 x.0 a ∙ ap (λ (l : Record). y.0 ++ l) x.1 ∙ y.1)
-
-pub waited-none : (a : PassSteps) → Waited a a
-waited-none a = record { own = ([], refl); seen = ([], refl); turns_kept = refl; won = omega arith }
 
 waited-both : (a b c : PassSteps) → Waited a b → Waited b c → Waited a c
 waited-both a b c x y = record {
@@ -58,12 +56,9 @@ waited-got w n b c answer g still =
     } in
     subst (λ (y : Record × Record). Waited b (record { own = y.0; seen = y.1; won = c.won; found = c.found })) (λ i. (sym own i, sym seen i)) on
 
-module _ (w : World) (n : ℕ) (a b c : PassSteps) (was : Waited a b) where
-  pub waited-held : (by : ℕ) → Tried w n b c (Held by) → Waited a c
-  waited-held by t = subst (Waited a) (sym t.0) (record { own = was.own; seen = was.seen; turns_kept = was.turns_kept; won = was.won })
-
-  pub waited-after : (other bound : ℕ) → Tried w n b c (After other bound) → Waited a c
-  waited-after other bound t = waited-both a b c was (waited-got w n b c (After other bound) t refl)
-
-  pub waited-ahead : (bound : ℕ) → Tried w n b c (Ahead bound) → Waited a c
-  waited-ahead bound t = waited-both a b c was (waited-got w n b c (Ahead bound) t refl)
+pub waited-on : (w : World) (n : ℕ) (a b c : PassSteps) (answer : Turned) → Waited a b → Tried w n b c answer → ((turn : Turn) → answer ≡ Done turn → ⊥) → (answer ≡ Over → ⊥) → Waited a c
+waited-on w n a b c (Held by) was t not_done not_over = subst (Waited a) (sym t.0) (record { own = was.own; seen = was.seen; turns_kept = was.turns_kept; won = was.won })
+waited-on w n a b c (After other bound) was t not_done not_over = waited-both a b c was (waited-got w n b c (After other bound) t refl)
+waited-on w n a b c (Ahead bound) was t not_done not_over = waited-both a b c was (waited-got w n b c (Ahead bound) t refl)
+waited-on w n a b c (Done turn) was t not_done not_over = absurd (not_done turn refl)
+waited-on w n a b c Over was t not_done not_over = absurd (not_over refl)

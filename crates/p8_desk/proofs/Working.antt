@@ -25,7 +25,7 @@ use Rattle.p8_desk.specs.declared.runner.Runner.{Runner}
 use Rattle.p8_desk.specs.declared.turned.Turned.TheVariants.{Done as Turns, Over as Ends}
 use Rattle.p8_desk.specs.Runners.{Lives, Rides, Comes, HasFound, GoesOnFrom, pace_in, most_in}
 use Rattle.p8_desk.specs.Tries.{pace_of, most_of, GoesOn, Says, IsSaid}
-use Rattle.p8_desk.specs.Work.{Spoken, Granted, Settled}
+use Rattle.p8_desk.specs.Seats.{Spoken, Granted, Settled}
 use Rattle.p8_desk.proofs.Riding.{saying-goes, owes-unsaid}
 
 -- a life of a kind began with something of that kind

@@ -2,13 +2,9 @@
 pub mod Passes
 pub mod PassSets
 pub mod Tries
-pub mod Opening
 pub mod Closing
 -- Machinery that only proofs need.
 pub mod Rules
 pub mod Runners
-pub mod Taking
-pub mod Work
 pub mod Seats
-pub mod Driving
 pub mod Gathering

@@ -5,8 +5,7 @@
 -- by which threads wake one another, of which the rule says nothing, and one slot with the desk's value. There is one record,
 -- which no word keeps: the rule says of every seat how far its passes have seen it.
 use Rattle.std.specs.Prelude.{ℕ, zero, suc, ◌==◌, ◌≡◌, ◌<◌, ◌≤◌, if◌then◌else◌, true, false, List, [], ◌∷◌, ◌++◌, Option, Some, None, length}
-use mathlib.Core.Option.{some, none}
-use mathlib.Core.Option.{Option as Home}
+use mathlib.Core.Option.{some, none, Option as Home}
 use lib.ListN.{get_elem?}
 use Rattle.atomic_table.specs.Table.{State, Me, Step as Move}
 use Rattle.p8_access.specs.declared.kinds.Origin.TheVariants.{Pasm}

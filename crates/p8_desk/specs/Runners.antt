@@ -1,6 +1,6 @@
 -- internal
 -- What a pass keeps of its cog's life, and of what that has found.
-use Rattle.std.specs.Prelude.{ℕ, ◌+◌, ◌*◌, ◌≡◌, ◌≤◌, true, false, Bool, List, ◌∷◌, Option}
+use Rattle.std.specs.Prelude.{ℕ, ◌+◌, ◌*◌, ◌≡◌, ◌≤◌, true, false, Bool, List, ◌∷◌, Option, None}
 use Rattle.p8_access.specs.declared.kinds.Access.{Access}
 use Rattle.p8_access.specs.declared.order.Turn.{Turn}
 use Rattle.p8_access.specs.declared.lives.Next.{Next}
@@ -85,10 +85,6 @@ IsAsking (More bound) = ⊥
 abbrev pub HasFound : Runner → Type 0
 HasFound runner = runner.said ≡ true → IsAsking runner.next
 
--- the life can run on: it has made a promise, and its cog has said that
-abbrev pub CanRunOn : Runner → Type 0
-CanRunOn runner = (runner.said ≡ true) × ((bound : ℕ) × (runner.next ≡ More bound))
-
 -- how many instructions or bytecodes a life has done
 abbrev pub place_in : CogLife → ℕ
 place_in life = number_of life.kind life.pasm.done life.spin.done
@@ -102,3 +98,9 @@ pub record Comes (w : World) (r : Record) (runner : Runner) (boot_memory : List 
   pub origins : (n : ℕ) → IsProperOrigin (origin_of (cog_state w (turns r) n))
   pub announced : running ≡ true → IsAnnounced (announced_by (said turn.key.cog r)) turn
   pub rides : Rides w turn.key.cog r runner
+
+-- it has announced nothing yet, and has come to the turn's clock and not much further
+pub record HasTaken (announced : Option (ℕ × Access)) (reached lead : ℕ) (turn : Turn) : Type 0 where
+  pub none : announced ≡ None
+  pub low : turn.key.clock ≤ reached
+  pub high : reached ≤ turn.key.clock + lead

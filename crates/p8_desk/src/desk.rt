@@ -3,9 +3,9 @@ ghost use Rattle.std.specs.Prelude.{◌≡◌, ◌<◌, ◌||◌, ℕ, true, IfS
 ghost use Rattle.p8_desk.specs.declared.turned.Turned.TheVariants.{Done, After, Over};
 ghost use Rattle.p8_desk.specs.Passes.{Owns, PassSteps};
 ghost use Rattle.p8_desk.specs.Tries.{Tried, Waited};
-ghost use Rattle.p8_desk.specs.Work.{is_over};
+ghost use Rattle.p8_desk.specs.Seats.{is_over};
 
-use crate::bells::{TURN_SLEEP, ring, ring_all, wait_at_bell, wait_for_lock};
+use crate::bells::{ring, ring_all, wait_after};
 use crate::pass::CogPass;
 use crate::rule::{Place, Tabletop};
 use crate::turned::Turned;
@@ -63,40 +63,21 @@ impl Desk {
         match answer {
             Turned::After { cog, .. } => ring(board, seat, cog),
             Turned::Over => ring_all(board, seat),
-            Turned::Done(_) => {}
-            Turned::Held { .. } => {}
-            Turned::Ahead { .. } => {}
+            _ => {}
         }
     }
 
-    /// Waits for a while in which the pass of the cog `by` may give the desk up.
-    fn wait_for_desk<R: Wait>(&self, rt: &R, pass: &mut CogPass, by: u8)
+    /// Waits after a try with a pass that was answered so: while another cog's pass has the desk, or while another cog comes next and
+    /// the life of the pass's cog has nothing to do meanwhile.
+    fn wait<R: Wait>(&self, rt: &R, pass: &mut CogPass, answer: Turned)
         requires { Owns self.now pass.old }
         ensures { pass.new ≡ pass.old }
     {
-        wait_for_lock(rt, &self.table.shared, &mut pass.seat, pass.rider.cog, by);
+        let idle = !pass.rider.runner.can_run_on();
+        let cog = pass.rider.cog;
+        wait_after(rt, &self.table.shared, &mut pass.seat, cog, answer, idle);
     }
 
-    /// Waits while another cog comes next, where the life of the pass's cog has nothing to do meanwhile: until the cog's
-    /// bell is rung, or ten milliseconds are over.
-    fn wait_for_turn<R: Wait>(&self, rt: &R, pass: &mut CogPass)
-        requires { Owns self.now pass.old }
-        ensures { pass.new ≡ pass.old }
-    {
-        if pass.rider.runner.can_run_on() {
-            return;
-        }
-        wait_at_bell(
-            rt,
-            &self.table.shared,
-            &mut pass.seat,
-            pass.rider.cog,
-            TURN_SLEEP,
-        );
-    }
-}
-
-impl Desk {
     /// Tries until the cog has made a turn, or until no turn comes any more. It may wait for other passes: where another
     /// cog comes next and the cog's life has nothing to do meanwhile, the thread sleeps.
     pub fn turn<R: Wait>(&self, rt: &R, pass: &mut CogPass) -> Option<Turn>
@@ -108,12 +89,11 @@ impl Desk {
         ensures over { IfNone result (pass.new.over ≡ true) }
     {
         for _ in rt.forever() {
-            match self.try_turn(pass) {
+            let answer = self.try_turn(pass);
+            match answer {
                 Turned::Done(turn) => return Some(turn),
                 Turned::Over => return None,
-                Turned::Held { by } => self.wait_for_desk(rt, pass, by),
-                Turned::After { .. } => self.wait_for_turn(rt, pass),
-                Turned::Ahead { .. } => {}
+                _ => self.wait(rt, pass, answer),
             }
         }
         unreachable!()

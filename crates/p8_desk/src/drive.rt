@@ -2,8 +2,7 @@
 ghost use Rattle.std.specs.Prelude.{◌≡◌, ◌<◌, ℕ, Some, length};
 ghost use Rattle.p8_ledger.specs.Records.{turns};
 ghost use Rattle.p8_desk.specs.declared.rule.Known.{Known};
-ghost use Rattle.p8_desk.specs.Driving.{next_cog};
-ghost use Rattle.p8_desk.specs.Gathering.{HasRode, OneOver, Riding};
+ghost use Rattle.p8_desk.specs.Gathering.{next_cog, HasRode, OneOver, Riding};
 ghost use Rattle.p8_desk.specs.PassSets.{AllThere, HasOver};
 ghost use Rattle.p8_desk.specs.Rules.{known};
 

@@ -1,8 +1,10 @@
-// The passes of all cogs in one seat, and in their own again.
-ghost use Rattle.std.specs.Prelude.{◌≡◌, ◌<◌, ℕ, true, Some, None, length, slice_get, slice_set};
+// The passes of all cogs in one seat, in their own again, and the end of a desk.
+ghost use Rattle.std.specs.Prelude.{◌≡◌, ◌<◌, ◌∷◌, ℕ, [], true, Some, None, length, slice_get, slice_set};
+ghost use Rattle.p8_ledger.specs.declared.ledger.Ledger.{Ledger};
 ghost use Rattle.p8_ledger.specs.Records.{turns};
 ghost use Rattle.p8_desk.specs.declared.rider.Rider.{Rider};
 ghost use Rattle.p8_desk.specs.declared.rule.Known.{Known};
+ghost use Rattle.p8_desk.specs.Closing.{Closed};
 ghost use Rattle.p8_desk.specs.Gathering.{Gathered, PartsOf, Riding};
 ghost use Rattle.p8_desk.specs.PassSets.{AllThere, HasOver, IsOut};
 ghost use Rattle.p8_desk.specs.Passes.{PassValue};
@@ -13,8 +15,9 @@ use crate::desk::Desk;
 use crate::pass::CogPass;
 use crate::passes::Passes;
 use crate::rider::Rider;
-use crate::rule::Place;
-use crate::steps::{join, part};
+use crate::rule::{Board, Place};
+use crate::steps::{join, part, seize};
+use p8_ledger::{Ended, Ledger};
 
 /// What the passes of eight cogs keep besides their seats, each at its cog's place while it is taken apart.
 pub type Riders = [Option<Rider>; 8];
@@ -99,5 +102,35 @@ pub fn scatter(desk: &Desk, seat: Place, riders: &mut Riders, passes: &mut Passe
     for cog in 0..8u8 {
         let own = part(&desk.table.shared, &mut seat, cog);
         put_next(passes, own, riders, cog, count);
+    }
+}
+
+/// Takes the ledger out of the slot that the seat holds.
+fn take_out(board: &Board, seat: &mut Place) -> Ledger
+    requires own { seat.old.table_id ≡ board.now.table_id }
+    requires has { (ledger : Ledger) × (seat.old.me.1 ≡ (0, Some ledger) ∷ []) }
+    ensures own { (seat.new.table_id ≡ seat.old.table_id) × (seat.new.id ≡ seat.old.id) }
+    ensures out { (seat.old.me.1 ≡ (0, Some result) ∷ []) × (seat.new.me ≡ (seat.old.me.0, (0, None) ∷ [])) }
+{
+    match board.exchange(seat, 0, None) {
+        Some(ledger) => ledger,
+        None => unreachable!(),
+    }
+}
+
+impl Desk {
+    /// The ended history and the hub that it left, taken out of the desk's slot. All passes are there, and one of them is
+    /// over; without passes nobody can use the desk any more.
+    pub fn close(&self, passes: Passes) -> Ended
+        requires there { AllThere self.now passes }
+        requires over { HasOver passes }
+        ensures closed { Closed self.now.world passes result }
+        ensures crew { result.crew ≡ 1 }
+    {
+        let mut passes = passes;
+        let mut riders = [None, None, None, None, None, None, None, None];
+        let mut seat = gather(self, &mut passes, &mut riders);
+        seize(&self.table.shared, &mut seat, 0);
+        take_out(&self.table.shared, &mut seat).end(1)
     }
 }

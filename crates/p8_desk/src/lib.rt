@@ -2,7 +2,6 @@
 #![tactic(auto)]
 
 mod bells;
-mod close;
 mod desk;
 mod drive;
 mod gather;
@@ -13,7 +12,6 @@ mod rider;
 mod rule;
 mod runner;
 mod steps;
-mod tries;
 mod turned;
 
 pub use desk::Desk;

@@ -4,7 +4,7 @@ ghost use Rattle.p8_access.specs.Proper.{IsProperOrigin};
 ghost use Rattle.p8_ledger.specs.Worlds.{world_of};
 ghost use Rattle.p8_ledger.specs.declared.start.Start.{Start};
 ghost use Rattle.p8_ledger.specs.Ledgers.{Found};
-ghost use Rattle.p8_desk.specs.Opening.{fresh, new_places};
+ghost use Rattle.p8_desk.specs.PassSets.{fresh, new_places};
 ghost use Rattle.p8_desk.specs.Rules.{first_view, world_in, with_passes, new_pass};
 ghost use Rattle.p8_desk.specs.Runners.{Rides};
 

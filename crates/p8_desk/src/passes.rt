@@ -1,5 +1,5 @@
 // The passes of a desk.
-ghost use Rattle.std.specs.Prelude.{◌≡◌, ◌<◌, ◌↔◌, Some, None, slice_get, slice_set, IsTrue, IfErr, OnOk, IfSome, IsOk};
+ghost use Rattle.std.specs.Prelude.{◌≡◌, ◌<◌, ◌↔◌, Some, None, slice_get, slice_set, IfErr, OnOk, IfSome, IsOk};
 
 use crate::pass::CogPass;
 use std::marker::Model;
@@ -25,14 +25,6 @@ impl Model for Passes {
 impl Passes {
     ghost use Rattle.p8_desk.specs.PassSets.{IsOut};
 
-    /// Whether the pass of a cog is out.
-    fn is_out(&self, cog: u8) -> bool
-        requires { cog < 8 }
-        ensures { IsTrue result ↔ IsOut cog self.now }
-    {
-        self.places[cog as usize].is_none()
-    }
-
     /// Takes the pass of a cog: None exactly where it is out.
     pub fn take(&mut self, cog: u8) -> Option<CogPass>
         requires { cog < 8 }
@@ -49,10 +41,10 @@ impl Passes {
         ensures back { IfErr result (λ same. (same ≡ pass) × (self.new ≡ self.old)) }
         ensures exactly { IsOk result ↔ IsOut pass.cog self.old }
     {
-        if !self.is_out(pass.cog()) {
+        let place = pass.cog() as usize;
+        if self.places[place].is_some() {
             return Err(pass);
         }
-        let place = pass.cog() as usize;
         self.places[place] = Some(pass);
         Ok(())
     }

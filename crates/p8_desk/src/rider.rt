@@ -2,21 +2,20 @@
 ghost use Rattle.std.specs.Prelude.{◌≡◌, ◌<◌, ◌^◌, ◌||◌, ◌∷◌, [], Some};
 ghost use Rattle.p8_access.specs.Worlds.{World};
 ghost use Rattle.p8_ledger.specs.declared.ledger.Ledger.{Ledger};
-ghost use Rattle.p8_ledger.specs.Ledgers.{Found};
+ghost use Rattle.p8_ledger.specs.Ledgers.{Found, CanBeTaken};
 ghost use Rattle.p8_ledger.specs.Records.{Record};
 ghost use Rattle.p8_desk.specs.declared.rule.Known.{Known};
 ghost use Rattle.p8_desk.specs.Rules.{known as known_in};
-ghost use Rattle.p8_desk.specs.Runners.{HasFound};
-ghost use Rattle.p8_desk.specs.Seats.{Idle, Keeps, Rode};
-ghost use Rattle.p8_desk.specs.Work.{Carries, Worked, is_over, made_by};
+ghost use Rattle.p8_desk.specs.Runners.{Rides, HasFound};
+ghost use Rattle.p8_desk.specs.Seats.{Idle, Keeps, Rode, Carries, Granted, Settled, Spoken, Worked, is_over, made_by};
 
 use crate::desk::Desk;
 use crate::rule::Place;
 use crate::runner::Runner;
 use crate::steps::{release, seize, tell};
-use crate::tries::{Outcome, settle, speak};
 use crate::turned::Turned;
-use p8_ledger::Ledger;
+use p8_access::Next;
+use p8_ledger::{Ledger, Taken};
 use p8_pins::PinScript;
 
 /// What a pass keeps besides its seat at the table: its cog with the life in it, and what it has counted.
@@ -28,6 +27,48 @@ pub struct Rider {
     pub made: u64,
     /// Whether a try has answered `Over`.
     pub over: bool,
+}
+
+/// What came of a try: what the cog has said, if it owed anything, what it gets, and how many turns there are then.
+#[derive(Clone, Copy)]
+pub struct Outcome {
+    pub said: Option<Next>,
+    pub answer: Turned,
+    pub count: u64,
+}
+
+/// Says what the cog owes, and answers what that was.
+fn speak(ledger: &mut Ledger, runner: &mut Runner, cog: u8) -> Option<Next>
+    requires near { cog < 8 }
+    requires found { HasFound runner.old }
+    requires stands { (w : World) × (r : Record) × Found w ledger.old r × Rides w cog r runner.old }
+    ensures { (w : World) (r : Record) → Found w ledger.old r → Rides w cog r runner.old → Spoken w cog runner.old.next r result ledger.new runner.new }
+{
+    if !ledger.owes(cog) {
+        return None;
+    }
+    let next = runner.say();
+    ledger.say(cog, next);
+    Some(next)
+}
+
+/// The cog's life takes the turn that it was granted, if it was. Answers what the cog gets.
+fn settle(ledger: &Ledger, runner: &mut Runner, cog: u8, taken: Taken) -> Turned
+    requires near { cog < 8 }
+    requires can { CanBeTaken taken }
+    requires granted { (w : World) × (r : Record) × Granted w cog r taken ledger.now × Rides w cog r runner.old }
+    ensures { (w : World) (r : Record) → Granted w cog r taken ledger.now → Rides w cog r runner.old → Settled w cog r ledger.now runner.new result }
+{
+    match taken {
+        Taken::Done { turn, running } => {
+            let state = ledger.state(cog);
+            runner.take(ledger.memory(), state, &turn, running);
+            Turned::Done(turn)
+        }
+        Taken::Ahead { bound } => Turned::Ahead { bound },
+        Taken::After { cog, bound } => Turned::After { cog, bound },
+        Taken::Over => Turned::Over,
+    }
 }
 
 /// What an answer changes besides the ledger and the life.

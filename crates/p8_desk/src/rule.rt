@@ -44,11 +44,14 @@ pub type Place = Seat<Option<Ledger>, View>;
 /// The table with its memory.
 pub type Tabletop = Table<Option<Ledger>, View, Start, DeskRule, Global>;
 
-/// The record that a proof speaks of.
-pub trait Told {
+/// The cog and the record that a proof speaks of.
+pub trait Named {
+    ghost use Rattle.std.specs.Prelude.{ℕ};
     ghost use Rattle.p8_ledger.specs.Records.{Record};
 
-    ghost record_told: { Record };
+    ghost cog: { ℕ };
+
+    ghost seen: { Record };
 }
 
 /// An exchange on the lock word.
@@ -71,13 +74,13 @@ impl Play<Option<Ledger>, View> for Releases {
 
 /// The passes of the holder see a record that has gone on by steps of its cog.
 pub struct Tells<B> {
-    told: PhantomData<B>,
+    named: PhantomData<B>,
 }
 
-impl<B: Told> Play<Option<Ledger>, View> for Tells<B> {
+impl<B: Named> Play<Option<Ledger>, View> for Tells<B> {
     ghost use Rattle.p8_desk.specs.Rules.{Seen};
 
-    ghost then = { Seen B.record_told };
+    ghost then = { Seen B.seen };
 }
 
 /// A bell has changed, which tells nothing.
@@ -87,13 +90,6 @@ impl Play<Option<Ledger>, View> for Rings {
     ghost use Rattle.p8_desk.specs.Rules.{Rung};
 
     ghost then = { Rung };
-}
-
-/// The cog whose pass a proof speaks of.
-pub trait Named {
-    ghost use Rattle.std.specs.Prelude.{ℕ};
-
-    ghost cog: { ℕ };
 }
 
 /// The pass of one cog goes to a seat of its own.

@@ -1,5 +1,5 @@
 // The life of a cog, with what it has found of its next access.
-ghost use Rattle.std.specs.Prelude.{◌≡◌, ◌<◌, ◌^◌, ◌∷◌, ◌++◌, [], ℕ, List, true, false, IfOk, IsTrue, ◌↔◌};
+ghost use Rattle.std.specs.Prelude.{◌≡◌, ◌<◌, ◌^◌, ◌∷◌, ◌++◌, [], ℕ, List, true, false, IfOk};
 ghost use Rattle.p8_access.specs.declared.kinds.Origin.{Origin};
 ghost use Rattle.p8_access.specs.declared.order.Turn.{Turn};
 ghost use Rattle.p8_access.specs.Lives.{Begun, IsAnnounced};
@@ -10,8 +10,7 @@ ghost use Rattle.p8_access.specs.Worlds.{World};
 ghost use Rattle.p8_cog.specs.Lives.{begun_by, IsStartable};
 ghost use Rattle.p8_ledger.specs.declared.steps.Step.TheVariants.{Took, Said};
 ghost use Rattle.p8_ledger.specs.Records.{Record};
-ghost use Rattle.p8_desk.specs.Runners.{Rides, Comes, HasFound, CanRunOn};
-ghost use Rattle.p8_desk.specs.Taking.{HasTaken};
+ghost use Rattle.p8_desk.specs.Runners.{Rides, Comes, HasFound, HasTaken};
 
 use p8_access::{CogState, Life, Next, Ram, Turn};
 use p8_cog::CogLife;
@@ -88,9 +87,7 @@ impl Runner {
     }
 
     /// Whether the life can run on: what it has found is a promise, which its cog has said.
-    pub fn can_run_on(&self) -> bool
-        ensures { IsTrue result ↔ CanRunOn self.now }
-    {
+    pub fn can_run_on(&self) -> bool {
         match self.next {
             Next::More { .. } => self.said,
             _ => false,

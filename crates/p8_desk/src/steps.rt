@@ -6,20 +6,16 @@ ghost use Rattle.p8_desk.specs.declared.rule.Known.{Known};
 ghost use Rattle.p8_desk.specs.Rules.{known, Seized, Released, Seen, CanTell, CanFree, seeing, without_pass, pass_alone, joined};
 ghost use Rattle.p8_desk.specs.Seats.{worked_in};
 
-use crate::rule::{Board, Joins, Named, Parts, Place, Releases, Seizes, Tells, Told};
-use crate::tries::Outcome;
+use crate::rider::Outcome;
+use crate::rule::{Board, Joins, Named, Parts, Place, Releases, Seizes, Tells};
 use std::marker::Brand;
 
-impl Told for Brand {
-    ghost use Rattle.std.specs.Prelude.{[]};
-
-    ghost record_told = { [] };
-}
-
 impl Named for Brand {
-    ghost use Rattle.std.specs.Prelude.{zero};
+    ghost use Rattle.std.specs.Prelude.{zero, []};
 
     ghost cog = { zero };
+
+    ghost seen = { [] };
 }
 
 /// Tries once to take the free lock word for a cog, and with it what lies in the slot. Answers what it found
@@ -46,12 +42,12 @@ pub fn release(board: &Board, seat: &mut Place)
     board.store::<Releases>(seat, 0, 0);
 }
 
-fn tell_named<B: Told>(board: &Board, seat: &mut Place, cog: u8, outcome: Outcome)
+fn tell_named<B: Named>(board: &Board, seat: &mut Place, cog: u8, outcome: Outcome)
     requires own { seat.old.table_id ≡ board.now.table_id }
     requires shape { (board.now.table_id.words ≡ 72) × (board.now.table_id.slots ≡ 1) }
-    requires told { CanTell cog B.record_told outcome.count seat.old.me }
+    requires told { CanTell cog B.seen outcome.count seat.old.me }
     ensures own { (seat.new.table_id ≡ seat.old.table_id) × (seat.new.id ≡ seat.old.id) }
-    ensures told { Seen B.record_told (move 1 1 outcome.count 0 none) seat.old.me 0 seat.new.me }
+    ensures told { Seen B.seen (move 1 1 outcome.count 0 none) seat.old.me 0 seat.new.me }
 {
     let _ = cog;
     board.store::<Tells<B>>(seat, 1, outcome.count);

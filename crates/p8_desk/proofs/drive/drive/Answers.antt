@@ -1,5 +1,5 @@
 use Rattle.std.proofs.Common.{◌∙◌, sym}
-use Rattle.p8_desk.proofs.Driving.{counted-by-all, next-near, falls, seen-here, ended-by}
+use Rattle.p8_desk.proofs.Driving.{counted-by-all, next-near, falls, seen-there, ended-by}
 use Rattle.p8_desk.proofs.drive.drive.Goals as goal
 
 pub ride-answer-requires-in-Some-clause-cog : goal.ride-answer-requires-in-Some-clause-cog
@@ -21,7 +21,7 @@ loop-next-smaller c =
     let names = sym c.next_after.ensures ∙ c.in-Some.is in
     let near = next-near c.args.desk.now.world c.loop-next.cog r.0 c.loop-next.seat.me c.loop-next.riders c.loop-next.count c.loop-next.answer r.1 c.in-Some.next c.loop-next.invariant.near names in
     let now = c.ride-answer-in-Some.ensures.rode in
-    falls c.args.desk.now.world c.loop-next.cog r.0 c.loop-next.seat.me c.loop-next.riders c.loop-next.count c.loop-next.answer r.1 c.in-Some.next _ _ _ _ c.loop-next.invariant.near near names now (seen-here _ _ _ _ _ _ _ now near)
+    falls c.args.desk.now.world c.loop-next.cog r.0 c.loop-next.seat.me c.loop-next.riders c.loop-next.count c.loop-next.answer r.1 c.in-Some.next _ _ _ _ c.loop-next.invariant.near near names now (seen-there _ _ _ _ _ _ _ now _ near)
 
 pub returns-clause-riding : goal.returns-clause-riding
 returns-clause-riding c = c.loop-next.invariant.rode.1.riding

@@ -1,6 +1,5 @@
 use Rattle.std.proofs.Common.{◌≡◌, ◌<◌}
-use Rattle.p8_desk.specs.Driving.{left_to_do}
-use Rattle.p8_desk.specs.Gathering.{HasRode}
+use Rattle.p8_desk.specs.Gathering.{left_to_do, HasRode}
 use Rattle.p8_desk.specs.Rules.{Hand}
 use Rattle.p8_desk.specs.Seats.{pass_in}
 use Rattle.p8_desk.proofs.drive.drive.Given as goal

@@ -1,8 +1,7 @@
 use Rattle.std.proofs.Common.{◌≡◌, ◌∙◌, ◌∷◌, ◌++◌, ◌+◌, ◌-◌, ℕ, [], ap, sym, subst, Some, arith, suc}
 use Rattle.atomic_table.specs.Seated.{TableId}
 use Rattle.p8_desk.specs.declared.rule.View.{View}
-use Rattle.p8_desk.specs.Opening.{fresh, new_places}
-use Rattle.p8_desk.specs.PassSets.{InPlace}
+use Rattle.p8_desk.specs.PassSets.{fresh, new_places, InPlace}
 use Rattle.p8_desk.specs.Rules.{Hand, first_view, with_passes, new_pass, new_passes, world_in}
 use Rattle.p8_desk.proofs.Placing.{in-place-new}
 use Rattle.p8_desk.proofs.Sharing.{first-of-new, rest-of-new}

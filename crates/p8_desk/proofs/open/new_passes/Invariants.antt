@@ -1,6 +1,6 @@
 use Rattle.std.proofs.Common.{◌≡◌, ◌+◌, ◌-◌, ◌*◌, []}
 use Rattle.p8_ledger.specs.declared.start.Start.{Start}
-use Rattle.p8_desk.specs.Opening.{new_places}
+use Rattle.p8_desk.specs.PassSets.{new_places}
 use Rattle.p8_desk.specs.Rules.{first_view, with_passes, new_passes, world_in}
 use Rattle.p8_desk.proofs.open.new_passes.Given as goal
 

@@ -2,4 +2,4 @@ use Rattle.p8_desk.specs.Seats.{worked_in}
 use Rattle.p8_desk.proofs.steps.tell.Given as goal
 
 abbrev pub ghosts-tell_named : goal.ghosts-tell_named
-ghosts-tell_named a = record { record_told = worked_in a.seat.now.me a.cog a.outcome }
+ghosts-tell_named a = record { cog = a.cog; seen = worked_in a.seat.now.me a.cog a.outcome }

@@ -1,5 +1,5 @@
 use Rattle.std.proofs.Common.{refl, arith}
-use Rattle.p8_desk.specs.Work.{Granted, said_by}
+use Rattle.p8_desk.specs.Seats.{Granted, said_by}
 use Rattle.p8_desk.proofs.Carrying.{carries-answered}
 use Rattle.p8_desk.proofs.rider.Rider.work.Goals as goal
 

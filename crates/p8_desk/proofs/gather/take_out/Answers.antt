@@ -1,7 +1,7 @@
 use Rattle.std.proofs.Common.{◌∷◌, ◌∙◌, ℕ, Some, List, ap, sym}
 use Rattle.atomic_table.specs.Table.{rest}
 use Rattle.p8_desk.specs.Rules.{Slot}
-use Rattle.p8_desk.proofs.close.take_out.Goals as goal
+use Rattle.p8_desk.proofs.gather.take_out.Goals as goal
 
 pub exchange-requires : goal.exchange-requires
 exchange-requires c =

@@ -1,9 +1,9 @@
 use Rattle.std.proofs.Common.{◌∷◌, subst}
 use Rattle.p8_ledger.specs.declared.ledger.Taken.{Taken}
 use Rattle.p8_ledger.specs.declared.steps.Step.TheVariants.{Took}
-use Rattle.p8_desk.specs.Work.{Granted}
+use Rattle.p8_desk.specs.Seats.{Granted}
 use Rattle.p8_desk.proofs.Working.{comes-as, turn-fits, settled-done, settled-over}
-use Rattle.p8_desk.proofs.tries.settle.Goals as goal
+use Rattle.p8_desk.proofs.rider.settle.Goals as goal
 
 pub take-requires-clause-comes : goal.take-requires-clause-comes
 take-requires-clause-comes c =

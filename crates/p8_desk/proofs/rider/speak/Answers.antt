@@ -3,10 +3,10 @@ use Rattle.p8_access.specs.declared.lives.Next.{Next}
 use Rattle.p8_ledger.specs.declared.steps.Step.TheVariants.{Said}
 use Rattle.p8_ledger.specs.Records.{turns, IsTrueOf}
 use Rattle.p8_ledger.specs.Ledgers.{Found}
-use Rattle.p8_desk.specs.Work.{Spoken}
+use Rattle.p8_desk.specs.Seats.{Spoken}
 use Rattle.p8_desk.proofs.Riding.{rides-true}
 use Rattle.p8_desk.proofs.Working.{spoken-says, spoken-none}
-use Rattle.p8_desk.proofs.tries.speak.Goals as goal
+use Rattle.p8_desk.proofs.rider.speak.Goals as goal
 
 differ : {b : Bool} → b ≡ false → b ≡ true → ⊥
 differ x y = cc
