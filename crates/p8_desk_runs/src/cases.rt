@@ -2,6 +2,7 @@
 ghost use Rattle.std.specs.Prelude.{◌≤◌, IfOk};
 ghost use Rattle.p8_access.specs.Proper.{IsProperOrigin};
 
+use crate::crews::{CALLS, crew_of, run_refused};
 use crate::ways::{Way, run};
 use anyhow::anyhow;
 use p8_access::Boot;
@@ -199,5 +200,30 @@ impl<'a> Case<'a> {
         let text = self.traced(rt, way)?;
         let expected = fs::read(rt, self.trace)?;
         Ok(text == expected)
+    }
+
+    /// Whether a crew whose start `call` is refused is of as many as it is to be, and the trace that it makes is the one of the file.
+    fn agrees_refused<
+        R: Files + Alloc<A = Global> + Threads + Wait + Clone + Send + Drop + 'static,
+    >(&self, rt: &R, call: u64) -> anyhow::Result<bool> {
+        let ended = run_refused(rt, rt.alloc(), self.start(rt)?, call)?;
+        let text = self.text(rt.alloc(), &ended)?;
+        let expected = fs::read(rt, self.trace)?;
+        Ok(ended.crew == crew_of(call) && text == expected)
+    }
+
+    /// The same with each start refused in turn, and with one that never comes.
+    ///
+    /// # Errors
+    ///
+    /// The same.
+    pub fn agrees_by_crews<
+        R: Files + Alloc<A = Global> + Threads + Wait + Clone + Send + Drop + 'static,
+    >(&self, rt: &R) -> anyhow::Result<bool> {
+        let mut all = true;
+        for call in 1..=CALLS {
+            all &= self.agrees_refused(rt, call)?;
+        }
+        Ok(all)
     }
 }

@@ -1,16 +1,18 @@
-//! Runs programs at the desk, by one caller in several orders of the cogs and by eight threads, and prints how many
+//! Runs programs at the desk, by one caller in several orders of the cogs, by eight threads and by crews, and prints how many
 //! traces agree with what is expected of them.
 //!
 //! The file `cases.txt` has a line for each program. One more program, in which cogs wait, are stopped and are started
-//! anew, is run in threads a thousand times: each run is to have the trace of the machine's. Where traces differ the
-//! program ends with status 1.
+//! anew, is run in threads a thousand times: each run is to have the trace of the machine's. The threads of the crews are the
+//! program's own; all others call `Desk::turn` themselves. Where traces differ the program ends with status 1.
 #![tactic(auto)]
 
 mod calls;
 mod cases;
+mod crews;
 mod threads;
 mod ways;
 
+use calls::Order;
 use cases::Case;
 use std::alloc::Global;
 use std::fs::{self, Files};
@@ -18,6 +20,22 @@ use std::process::ExitCode;
 use std::sync::Wait;
 use std::thread::Threads;
 use ways::Way;
+
+/// How the programs are run at the desk, and what is printed of it.
+const WAYS: [(Way, &str); 6] = [
+    (Way::Driven, "driven by one caller"),
+    (Way::Called(Order::Rising), "cogs 0 to 7, one call each"),
+    (Way::Called(Order::Falling), "cogs 7 to 0, one call each"),
+    (
+        Way::Called(Order::LastFirst),
+        "cog 7 ten times, then cogs 0 to 7",
+    ),
+    (
+        Way::Called(Order::Whole),
+        "each cog for as long as it makes turns",
+    ),
+    (Way::Threads, "eight threads"),
+];
 
 /// The program that is run many times: cog 1 is stopped and started anew, and three cogs wait, for clocks and for a pin.
 const OFTEN: &str = "spin restarts.bin - 60000 1000 - -";
@@ -69,51 +87,49 @@ fn run_often<R: Files + Alloc<A = Global> + Threads + Wait + Sync>(
     Ok(tally)
 }
 
-/// What came of all runs.
-#[derive(Clone, Copy)]
-struct Report {
-    driven: Tally,
-    rising: Tally,
-    falling: Tally,
-    last_first: Tally,
-    threads: Tally,
-    often: Tally,
-}
-
-fn run_ways<R: Files + Alloc<A = Global> + Threads + Wait + Sync>(
+/// Runs all cases by crews, with one start refused each time.
+fn run_crews<R: Files + Alloc<A = Global> + Threads + Wait + Clone + Send + Drop + 'static>(
     rt: &R,
-) -> anyhow::Result<Report> {
-    let cases = fs::read_to_string(rt, "cases.txt")?;
-    Ok(Report {
-        driven: run_all(rt, &cases, Way::Driven)?,
-        rising: run_all(rt, &cases, Way::Rising)?,
-        falling: run_all(rt, &cases, Way::Falling)?,
-        last_first: run_all(rt, &cases, Way::LastFirst)?,
-        threads: run_all(rt, &cases, Way::Threads)?,
-        often: run_often(rt)?,
-    })
+    cases: &str,
+) -> anyhow::Result<Tally> {
+    let mut tally = Tally { agreed: 0, all: 0 };
+    for line in cases.lines() {
+        let case = Case::of_line(line)?;
+        tally.count(case.agrees_by_crews(rt)?);
+    }
+    Ok(tally)
 }
 
 /// Prints a tally, and answers whether all agreed.
-fn tell(rt: &HostRuntime, name: &str, tally: Tally) -> anyhow::Result<bool> {
+fn tell<R: Print>(rt: &R, name: &str, tally: Tally) -> anyhow::Result<bool> {
     println!(rt; "{name}: {} of {} agree", tally.agreed, tally.all)?;
     Ok(tally.agreed == tally.all)
 }
 
-/// Prints what came of all runs, and answers whether all agreed.
-fn tell_all(rt: &HostRuntime, report: &Report) -> anyhow::Result<bool> {
-    let driven = tell(rt, "driven by one caller", report.driven)?;
-    let rising = tell(rt, "cogs 0 to 7", report.rising)?;
-    let falling = tell(rt, "cogs 7 to 0", report.falling)?;
-    let last_first = tell(rt, "cog 7 ten times first", report.last_first)?;
-    let threads = tell(rt, "eight threads", report.threads)?;
-    let often = tell(rt, "one program in threads, again and again", report.often)?;
-    Ok(driven && rising && falling && last_first && threads && often)
+/// Runs all programs, prints what came of them, and answers whether all agreed.
+fn tell_all<
+    R: Files + Print + Alloc<A = Global> + Threads + Wait + Sync + Clone + Send + Drop + 'static,
+>(rt: &R) -> anyhow::Result<bool> {
+    let cases = fs::read_to_string(rt, "cases.txt")?;
+    let mut all = true;
+    for (way, name) in WAYS {
+        all &= tell(rt, name, run_all(rt, &cases, way)?)?;
+    }
+    all &= tell(
+        rt,
+        "one program in threads, again and again",
+        run_often(rt)?,
+    )?;
+    all &= tell(
+        rt,
+        "a crew of one for each of eight starts refused, and of eight for a ninth",
+        run_crews(rt, &cases)?,
+    )?;
+    Ok(all)
 }
 
 fn main(rt: HostRuntime) -> anyhow::Result<ExitCode> {
-    let report = run_ways(&rt)?;
-    if tell_all(&rt, &report)? {
+    if tell_all(&rt)? {
         Ok(ExitCode::from(0))
     } else {
         Ok(ExitCode::from(1))

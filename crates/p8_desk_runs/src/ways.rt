@@ -3,7 +3,7 @@ ghost use Rattle.std.specs.Prelude.{◌≤◌};
 ghost use Rattle.p8_access.specs.Proper.{IsProperOrigin};
 ghost use Rattle.p8_desk.specs.PassSets.{AllThere};
 
-use crate::calls::{call, rounds};
+use crate::calls::{Order, rounds};
 use crate::threads::turn_in_threads;
 use p8_desk::{Desk, Passes, Start, drive_all};
 use p8_ledger::Ended;
@@ -17,27 +17,10 @@ use std::thread::Threads;
 pub enum Way {
     /// By `drive_all`.
     Driven,
-    /// Cogs 0 to 7 in turn, each for as long as it makes turns.
-    Rising,
-    /// Cogs 7 to 0 in turn.
-    Falling,
-    /// Cog 7 ten times, and then cogs 0 to 7 in turn.
-    LastFirst,
+    /// By one caller, in this order.
+    Called(Order),
     /// All cogs at once, each in a thread of its own.
     Threads,
-}
-
-/// How often cog 7 is called first.
-const TIMES: u32 = 10;
-
-/// Cog 7 ten times.
-fn call_last(desk: &Desk, passes: &mut Passes)
-    requires { AllThere desk.now passes.old }
-    ensures { AllThere desk.now passes.new }
-{
-    for _ in 0..TIMES {
-        call(desk, passes, 7);
-    }
 }
 
 /// All passes in threads.
@@ -56,12 +39,7 @@ fn drive<R: Threads + Wait + Sync>(rt: &R, way: Way, desk: &Desk, passes: &mut P
 {
     match way {
         Way::Driven => {}
-        Way::Rising => rounds(desk, passes, false),
-        Way::Falling => rounds(desk, passes, true),
-        Way::LastFirst => {
-            call_last(desk, passes);
-            rounds(desk, passes, false);
-        }
+        Way::Called(order) => rounds(order, desk, passes),
         Way::Threads => drive_threads(rt, desk, passes),
     }
 }

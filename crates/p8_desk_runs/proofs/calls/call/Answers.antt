@@ -6,15 +6,15 @@ use Rattle.p8_desk_runs.proofs.calls.call.Goals as goal
 pub take-pass-requires : goal.take-pass-requires
 take-pass-requires c = let p = c.requires.there.each c.args.cog c.requires.near in (c.requires.near, p.0, p.1)
 
-pub exhaust-over-requires : goal.exhaust-over-requires
-exhaust-over-requires c = owned-here c.args.desk.now c.args.passes.now c.args.cog c.take-pass.result c.requires.there c.requires.near c.take-pass.ensures.taken
+pub call_in-over-requires : goal.call_in-over-requires
+call_in-over-requires c = owned-here c.args.desk.now c.args.passes.now c.args.cog c.take-pass.result c.requires.there c.requires.near c.take-pass.ensures.taken
 
 pub put-requires : goal.put-requires
 put-requires c =
-    let cog = c.exhaust-over.ensures.cog ∙ cog-here c.args.desk.now c.args.passes.now c.args.cog c.take-pass.result c.requires.there c.requires.near c.take-pass.ensures.taken in
+    let cog = c.call_in-over.ensures.cog ∙ cog-here c.args.desk.now c.args.passes.now c.args.cog c.take-pass.result c.requires.there c.requires.near c.take-pass.ensures.taken in
     subst (λ (n : ℕ). IsOut n c.take-pass.new.passes) (sym cog) (is-out c.args.passes.now c.take-pass.new.passes c.args.cog c.take-pass.result c.take-pass.ensures.taken c.take-pass.ensures.left)
 
 pub returns : goal.returns
 returns c =
-    let cog = c.exhaust-over.ensures.cog ∙ cog-here c.args.desk.now c.args.passes.now c.args.cog c.take-pass.result c.requires.there c.requires.near c.take-pass.ensures.taken in
-    back-again c.args.desk.now c.args.passes.now c.take-pass.new.passes c.put.new.passes c.args.cog c.exhaust-over.new.pass c.requires.there c.requires.near c.take-pass.ensures.left c.exhaust-over.ensures.owns cog c.put.ensures
+    let cog = c.call_in-over.ensures.cog ∙ cog-here c.args.desk.now c.args.passes.now c.args.cog c.take-pass.result c.requires.there c.requires.near c.take-pass.ensures.taken in
+    back-again c.args.desk.now c.args.passes.now c.take-pass.new.passes c.put.new.passes c.args.cog c.call_in-over.new.pass c.requires.there c.requires.near c.take-pass.ensures.left c.call_in-over.ensures.owns cog c.put.ensures

@@ -3,6 +3,3 @@ use Rattle.p8_desk_runs.proofs.calls.rounds.Given as goal
 
 abbrev pub invariant-loop : goal.invariant-loop
 invariant-loop l = AllThere l.fn.desk l.passes
-
-abbrev pub invariant-loop-step : goal.invariant-loop-step
-invariant-loop-step l = AllThere l.fn.desk l.passes
