@@ -1,9 +1,10 @@
 // Calls of the top calls, by crews and on one thread.
-use crate::cases::{Case, shelf};
+use crate::cases::{Case, HeldCase, shelf};
+use crate::holding::{Held, HoldingStarter};
 use crate::meeting::{Flags, MeetingStarter};
 use crate::watching::{Seen, WatchingStarter};
 use anyhow::anyhow;
-use p8_desk::{FailStarter, Starter, ThreadStarter};
+use p8_crew::{FailStarter, Starter, ThreadStarter};
 use p8_io::{MemShelf, MemSink};
 use p8_prop::{Status, prop, prop_alone};
 use std::alloc::Global;
@@ -24,13 +25,13 @@ pub enum Way {
     Alone,
     /// By the crew of the program, twice.
     Threads,
-    /// By a crew that looks at its passes.
+    /// By workers that look at their passes before and after they do their jobs.
     Watched,
     /// By the caller, since one of the starts is refused: each of them in turn.
     Refused,
     /// By a crew, where a start that never comes would be refused.
     Unrefused,
-    /// By a crew two of which meet between two turns.
+    /// By workers that call `Desk::turn` themselves, two of which meet between two turns.
     Meeting,
     /// Not at all: the command is refused.
     Refusal,
@@ -137,7 +138,7 @@ impl<'a, R: Threads + Wait + Files + Alloc<A = Global> + Clone + Send + Drop + '
 
     /// Whether a case agrees by workers that look at their passes, and where the start `call` is refused they make no turn. Where
     /// there is none such, all eight begin with an untouched pass and end with one that is over.
-    fn agrees_watched(&mut self, case: &Case, call: u64) -> anyhow::Result<bool> {
+    fn workers_end(&mut self, case: &Case, call: u64) -> anyhow::Result<bool> {
         let Ok(seen) = Arc::new(self.rt.alloc(), Seen::new()) else {
             return Err(anyhow!("out of memory"));
         };
@@ -153,19 +154,33 @@ impl<'a, R: Threads + Wait + Files + Alloc<A = Global> + Clone + Send + Drop + '
     fn agrees_refused(&mut self, case: &Case) -> anyhow::Result<bool> {
         let mut all = true;
         for call in 1..=STARTS {
-            all &= self.agrees_watched(case, call)?;
+            all &= self.workers_end(case, call)?;
         }
         Ok(all)
     }
 
     /// Whether a case agrees, two of whose workers meet between two turns, each with a flag of its own: then neither waits for the
     /// other to end.
-    fn agrees_meeting(&mut self, case: &Case) -> anyhow::Result<bool> {
+    fn two_between_turns(&mut self, case: &Case) -> anyhow::Result<bool> {
         let Ok(flags) = Arc::new(self.rt.alloc(), Flags::new()) else {
             return Err(anyhow!("out of memory"));
         };
         let mut starter = MeetingStarter::new(Arc::try_clone(&flags)?);
         Ok(self.agrees_by(case, &mut starter)? && flags.have_met())
+    }
+
+    /// Whether a case agrees, one of whose workers is held back, and was seen to be: while it waits the others make all turns before its
+    /// cog's first one and no other, and they go on once it is let go.
+    ///
+    /// # Errors
+    ///
+    /// Want of memory outside the call.
+    pub fn one_held_back(&mut self, held: &HeldCase) -> anyhow::Result<bool> {
+        let Ok(shared) = Arc::new(self.rt.alloc(), Held::new(held.hold)) else {
+            return Err(anyhow!("out of memory"));
+        };
+        let mut starter = HoldingStarter::new(Arc::try_clone(&shared)?);
+        Ok(self.agrees_by(&held.case, &mut starter)? && shared.was_seen())
     }
 
     /// Whether a command that is carried out in this way has what is expected of it.
@@ -177,10 +192,10 @@ impl<'a, R: Threads + Wait + Files + Alloc<A = Global> + Clone + Send + Drop + '
         match way {
             Way::Alone => Ok(self.left_alone(&case.alone)?.is_text(&case.text)),
             Way::Threads => self.agrees_twice(case),
-            Way::Watched => self.agrees_watched(case, 0),
+            Way::Watched => self.workers_end(case, 0),
             Way::Refused => self.agrees_refused(case),
-            Way::Unrefused => self.agrees_watched(case, STARTS + 1),
-            Way::Meeting => self.agrees_meeting(case),
+            Way::Unrefused => self.workers_end(case, STARTS + 1),
+            Way::Meeting => self.two_between_turns(case),
             Way::Refusal => self.is_refused(case),
         }
     }

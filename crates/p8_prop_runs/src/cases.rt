@@ -1,4 +1,5 @@
 // Commands with what is expected of them, and the files that they read.
+use crate::holding::Hold;
 use anyhow::anyhow;
 use p8_io::MemShelf;
 use std::alloc::Global;
@@ -41,6 +42,42 @@ impl Case {
             text: fs::read(rt, file)?,
         })
     }
+}
+
+/// A command whose crew has one worker that is held back.
+#[derive(Drop)]
+pub struct HeldCase {
+    pub hold: Hold,
+    pub case: Case,
+}
+
+impl HeldCase {
+    /// The case of a line `COG CLOCK BEFORE: FILE WORD..`: the worker that is held back, and the command.
+    fn of_line<R: Files + Alloc<A = Global>>(rt: &R, line: &str) -> anyhow::Result<HeldCase> {
+        let (hold, case) = line
+            .split_once(": ")
+            .ok_or_else(|| anyhow!("a case without a hold"))?;
+        Ok(HeldCase {
+            hold: Hold::of_line(hold)?,
+            case: Case::of_line(rt, case)?,
+        })
+    }
+}
+
+/// The cases of a file, which has a line for each, with the workers that are held back.
+///
+/// # Errors
+///
+/// As for a line, and a file that can't be read.
+pub fn held_cases_in<R: Files + Alloc<A = Global>>(
+    rt: &R,
+    file: &str,
+) -> anyhow::Result<Vec<HeldCase>> {
+    let mut cases = Vec::new(rt.alloc());
+    for line in fs::read_to_string(rt, file)?.lines() {
+        cases.push(HeldCase::of_line(rt, line)?)?;
+    }
+    Ok(cases)
 }
 
 /// The cases of a file, which has a line for each.

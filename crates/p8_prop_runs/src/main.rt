@@ -1,17 +1,19 @@
 //! Carries out commands by crews of eight threads and on one thread, and prints how many have what is expected of them.
 //!
 //! The files `cases.txt`, `meeting.txt` and `refusals.txt` have a line for each command: the file with what it must write, and its
-//! words. What a refused command must write is its status, a blank, and the line for faults. Where a command differs the program ends
-//! with status 1.
+//! words. In `held.txt` the cog whose worker is held back stands before that, with the clock of its first turn and the number of
+//! turns before it. What a refused command must write is its status, a blank, and the line for faults. Where a command differs the
+//! program ends with status 1.
 #![tactic(auto)]
 
 mod calls;
 mod cases;
+mod holding;
 mod meeting;
 mod watching;
 
 use calls::{Calls, Way};
-use cases::{Case, cases_in};
+use cases::{Case, cases_in, held_cases_in};
 use std::alloc::Global;
 use std::fs::Files;
 use std::process::ExitCode;
@@ -22,7 +24,11 @@ use std::thread::Threads;
 const WAYS: [(Way, &str, &str); 7] = [
     (Way::Alone, "cases.txt", "by one thread alone"),
     (Way::Threads, "cases.txt", "by eight threads, twice"),
-    (Way::Watched, "cases.txt", "all eight made their turns"),
+    (
+        Way::Watched,
+        "cases.txt",
+        "all eight began with an untouched pass and ended with one that was over",
+    ),
     (
         Way::Refused,
         "cases.txt",
@@ -32,7 +38,7 @@ const WAYS: [(Way, &str, &str); 7] = [
     (
         Way::Meeting,
         "meeting.txt",
-        "two workers met between two turns",
+        "two callers of Desk::turn met between two turns",
     ),
     (Way::Refusal, "refusals.txt", "refused with status and line"),
 ];
@@ -66,6 +72,18 @@ fn run_all<R: Threads + Wait + Files + Alloc<A = Global> + Clone + Send + Drop +
     Ok(tally)
 }
 
+/// Has commands carried out by crews one of whose workers is held back.
+fn run_held<R: Threads + Wait + Files + Alloc<A = Global> + Clone + Send + Drop + 'static>(
+    rt: &R,
+    calls: &mut Calls<'_, R>,
+) -> anyhow::Result<Tally> {
+    let mut tally = Tally { agreed: 0, all: 0 };
+    for held in &held_cases_in(rt, "held.txt")? {
+        tally.count(calls.one_held_back(held)?);
+    }
+    Ok(tally)
+}
+
 /// Has all commands carried out, prints what came of them, and answers whether all agreed.
 fn tell_all<R: Threads + Wait + Files + Print + Alloc<A = Global> + Clone + Send + Drop + 'static>(
     rt: &R,
@@ -77,7 +95,12 @@ fn tell_all<R: Threads + Wait + Files + Print + Alloc<A = Global> + Clone + Send
         println!(rt; "{name}: {} of {} agree", tally.agreed, tally.all)?;
         all &= tally.agreed == tally.all;
     }
-    Ok(all)
+    let held = run_held(rt, &mut calls)?;
+    println!(rt;
+        "the others waited for one that was held back: {} of {} agree",
+        held.agreed, held.all
+    )?;
+    Ok(all && held.agreed == held.all)
 }
 
 fn main(rt: HostRuntime) -> anyhow::Result<ExitCode> {

@@ -3,7 +3,8 @@ ghost use Rattle.std.specs.Prelude.{◌≡◌, true};
 ghost use Rattle.p8_desk.specs.Passes.{Owns};
 
 use p8_access::{Key, Turn};
-use p8_desk::{CogJob, CogPass, Desk, Starter, Turned, Worker};
+use p8_crew::{CogJob, Starter, Worker};
+use p8_desk::{CogPass, Desk, Turned};
 use std::alloc::Global;
 use std::sync::atomic::{AtomicU64, Ordering};
 use std::sync::{Arc, Wait};
@@ -42,7 +43,7 @@ impl Flags {
         }
     }
 
-    /// Whether each of the two saw the other's flag.
+    /// Whether each of the two saw the other's flag, so that both are up.
     pub fn have_met(&self) -> bool {
         self.met.load(Ordering::SeqCst) == 2
     }
@@ -68,7 +69,7 @@ impl Flags {
     }
 }
 
-/// A worker that makes its cog's turns by itself, and meets another one between two of them.
+/// A worker that makes its cog's turns by calls of `Desk::turn` of its own, and meets another one between two of them.
 #[derive(Drop)]
 pub struct Meeter {
     flags: Arc<Flags, Global>,

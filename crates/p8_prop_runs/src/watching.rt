@@ -1,5 +1,6 @@
 // A starter whose workers tell what they saw.
-use p8_desk::{CogJob, CogPass, Starter, Worker};
+use p8_crew::{CogJob, Starter, Worker};
+use p8_desk::CogPass;
 use std::alloc::Global;
 use std::sync::atomic::{AtomicU64, Ordering};
 use std::sync::{Arc, Wait};
