@@ -1,7 +1,7 @@
 // Worked projects: their files in order, and why there is none.
 use crate::shelves::shelf_of;
 use p8_io::MemShelf;
-use p8_objects::{GatherFault, Mention, discard, gather};
+use p8_objects::{GatherFault, Mention, ReadFile, discard, gather};
 use p8_tree::{Project, Text};
 use p8_words::NoMemory;
 use std::alloc::{AllocError, Global};
@@ -38,7 +38,7 @@ fn write_mention(out: &mut String, mention: Option<&Mention>) -> Result<(), Allo
     match mention {
         Some(Mention { file, place }) => {
             out.push_str(", at ")?;
-            write_name(out, file)?;
+            write_name(out, &file.name)?;
             write!(out, ":{}:{}", place.line, place.column)
         }
         None => Ok(()),
@@ -49,7 +49,7 @@ fn write_fault(out: &mut String, fault: &GatherFault) -> Result<(), AllocError> 
     match fault {
         GatherFault::Source { file, fault } => {
             let place = fault.place;
-            write_name(out, file)?;
+            write_name(out, &file.name)?;
             write!(out, ":{}:{}: {}", place.line, place.column, fault.number)
         }
         GatherFault::Missing { file, mention } => {
@@ -65,8 +65,30 @@ fn write_fault(out: &mut String, fault: &GatherFault) -> Result<(), AllocError> 
     }
 }
 
+// Whether a file comes with the bytes that it has among these.
+fn is_as_read(files: &[(&str, &[u8])], file: &ReadFile) -> bool {
+    files.iter().any(|(name, bytes)| name.as_bytes() == file.name.as_slice()
+        && *bytes == file.bytes.as_slice())
+}
+
+// Whether the file in which a fault shows comes with its bytes.
+fn shows_bytes(files: &[(&str, &[u8])], fault: &GatherFault) -> bool {
+    match fault {
+        GatherFault::Source { file, .. } => is_as_read(files, file),
+        GatherFault::Missing { mention, .. } => match mention {
+            Some(mention) => is_as_read(files, &mention.file),
+            None => true,
+        },
+        GatherFault::ShelfFault { .. } | GatherFault::NoMemory => true,
+    }
+}
+
 // What gathering answers: the names of the files, each with a blank after it, or the fault.
-fn answer(alloc: Global, shelf: &mut MemShelf) -> Result<String, AllocError> {
+fn answer(
+    alloc: Global,
+    files: &[(&str, &[u8])],
+    shelf: &mut MemShelf,
+) -> Result<String, AllocError> {
     let mut out = String::new(alloc);
     match gather(alloc, shelf, "a.spin") {
         Ok(gathered) => {
@@ -74,7 +96,8 @@ fn answer(alloc: Global, shelf: &mut MemShelf) -> Result<String, AllocError> {
             discard(gathered);
             written?;
         }
-        Err(fault) => write_fault(&mut out, &fault)?,
+        Err(fault) if shows_bytes(files, &fault) => write_fault(&mut out, &fault)?,
+        Err(_) => out.push_str("other bytes")?,
     }
     Ok(out)
 }
@@ -87,7 +110,7 @@ fn answers(
     wanted: &str,
 ) -> Result<bool, NoMemory> {
     let mut shelf = shelf_of(alloc, files, call)?;
-    let found = answer(alloc, &mut shelf);
+    let found = answer(alloc, files, &mut shelf);
     drop(shelf);
     Ok(found?.as_str() == wanted)
 }
