@@ -142,7 +142,7 @@ impl<'a> Case<'a> {
     /// # Errors
     ///
     /// A file that can't be read, that the hub can't hold or that is no image or script, and limits that no run may have.
-    fn start<R: Files + Alloc<A = Global>>(&self, rt: &R) -> anyhow::Result<Start>
+    pub fn start<R: Files + Alloc<A = Global>>(&self, rt: &R) -> anyhow::Result<Start>
         ensures clocks { IfOk result (λ start. start.limits.clocks ≤ 100000000) }
         ensures turns { IfOk result (λ start. start.limits.turns ≤ 1000000) }
         ensures first { IfOk result (λ start. IsProperOrigin start.boot.first) }

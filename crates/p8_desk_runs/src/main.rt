@@ -9,6 +9,7 @@
 mod calls;
 mod cases;
 mod crews;
+mod rows;
 mod threads;
 mod ways;
 
@@ -19,7 +20,7 @@ use std::fs::{self, Files};
 use std::process::ExitCode;
 use std::sync::Wait;
 use std::thread::Threads;
-use ways::Way;
+use ways::{Row, Way, holds};
 
 /// How the programs are run at the desk, and what is printed of it.
 const WAYS: [(Way, &str); 6] = [
@@ -39,6 +40,12 @@ const WAYS: [(Way, &str); 6] = [
 
 /// The program that is run many times: cog 1 is stopped and started anew, and three cogs wait, for clocks and for a pin.
 const OFTEN: &str = "spin restarts.bin - 60000 1000 - -";
+
+/// The worked rows of one caller, each with what its run begins from.
+const ROWS: [(Row, &str); 2] = [
+    (Row::Turns, "run row-01.bin - 10000 100000 - -"),
+    (Row::Promises, "run row-07.bin - 100000 100000 - -"),
+];
 
 /// How often it is run.
 const TIMES: u32 = 1000;
@@ -100,6 +107,16 @@ fn run_crews<R: Files + Alloc<A = Global> + Threads + Wait + Clone + Send + Drop
     Ok(tally)
 }
 
+/// Tries the worked rows.
+fn try_rows<R: Files + Alloc<A = Global>>(rt: &R) -> anyhow::Result<Tally> {
+    let mut tally = Tally { agreed: 0, all: 0 };
+    for (row, line) in ROWS {
+        let start = Case::of_line(line)?.start(rt)?;
+        tally.count(holds(rt.alloc(), start, row)?);
+    }
+    Ok(tally)
+}
+
 /// Prints a tally, and answers whether all agreed.
 fn tell<R: Print>(rt: &R, name: &str, tally: Tally) -> anyhow::Result<bool> {
     println!(rt; "{name}: {} of {} agree", tally.agreed, tally.all)?;
@@ -125,6 +142,7 @@ fn tell_all<
         "a crew of one for each of eight starts refused, and of eight for a ninth",
         run_crews(rt, &cases)?,
     )?;
+    all &= tell(rt, "worked rows of one caller", try_rows(rt)?)?;
     Ok(all)
 }
 

@@ -4,6 +4,7 @@ ghost use Rattle.p8_access.specs.Proper.{IsProperOrigin};
 ghost use Rattle.p8_desk.specs.PassSets.{AllThere};
 
 use crate::calls::{Order, rounds};
+use crate::rows::{makes_each_turn, promises_in_turn};
 use crate::threads::turn_in_threads;
 use p8_desk::{Desk, Passes, Start, drive_all};
 use p8_ledger::Ended;
@@ -41,6 +42,28 @@ fn drive<R: Threads + Wait + Sync>(rt: &R, way: Way, desk: &Desk, passes: &mut P
         Way::Driven => {}
         Way::Called(order) => rounds(order, desk, passes),
         Way::Threads => drive_threads(rt, desk, passes),
+    }
+}
+
+/// A worked row of one caller: what is asked of a desk before its first turn.
+#[derive(Clone, Copy)]
+pub enum Row {
+    /// Each call makes a turn.
+    Turns,
+    /// Cogs promise in turn.
+    Promises,
+}
+
+/// Whether a worked row holds at the desk of a start.
+pub fn holds(alloc: Global, start: Start, row: Row) -> Result<bool, NoMemory>
+    requires clocks { start.limits.clocks ≤ 100000000 }
+    requires turns { start.limits.turns ≤ 1000000 }
+    requires first { IsProperOrigin start.boot.first }
+{
+    let (desk, mut passes) = Desk::open(alloc, start)?;
+    match row {
+        Row::Turns => Ok(makes_each_turn(&desk, &mut passes)),
+        Row::Promises => Ok(promises_in_turn(&desk, &mut passes)),
     }
 }
 
