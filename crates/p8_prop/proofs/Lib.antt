@@ -2,6 +2,6 @@ mod Asking
 mod Coming
 mod OneCount
 mod Completing
-mod Later
 mod Doing
 mod Answering
+mod Explaining

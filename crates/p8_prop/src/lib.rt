@@ -12,6 +12,7 @@ mod top;
 mod view;
 mod work;
 
+pub use laws::each_refusal_is_explained;
 pub use status::Status;
 pub use top::{prop, prop_alone};
 pub use view::Viewing;
