@@ -3,5 +3,6 @@ mod Coming
 mod OneCount
 mod Completing
 mod Doing
+mod Saving
 mod Answering
 mod Explaining

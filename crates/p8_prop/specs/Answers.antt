@@ -12,8 +12,8 @@ use Rattle.p8_prop.specs.declared.work.Answer.{Answer}
 use Rattle.p8_prop.specs.declared.work.Answer.TheVariants.{Text, Bad}
 use Rattle.p8_prop.specs.declared.work.Work.{Work}
 use Rattle.p8_prop.specs.declared.work.Work.TheVariants.{Done, Run, View}
-use Rattle.p8_prop.specs.Texts.{IsToldOf, IsViewed}
-use Rattle.p8_prop.specs.Works.{IsRunnable, IsViewable, world_in}
+use Rattle.p8_prop.specs.Texts.{IsViewed}
+use Rattle.p8_prop.specs.Works.{IsRunnable, IsViewable, IsMadeOf, world_in}
 use Rattle.p8_prop.specs.declared.status.Status.{Status}
 use Rattle.p8_prop.specs.Verdicts.{SinkSeen, Verdict, stopped, bad, written, unwritten, stop_status, status_of, IsOut, IsTold}
 
@@ -26,7 +26,7 @@ CanBeDone (View start view) = IsViewable start view
 -- this comes of the work
 abbrev pub IsDone : Work → Answer → Type 0
 IsDone (Done answer) other = other ≡ answer
-IsDone (Run start finish) (Text text) = IsToldOf (world_in start) finish text.items
+IsDone (Run start finish) (Text text) = IsMadeOf start finish text.items
 IsDone (Run start finish) (Bad history turn cause) = ⊥
 IsDone (View start view) (Text text) = IsViewed (world_in start) view.options view.legend view.dump text.items
 IsDone (View start view) (Bad history turn cause) = ⊥
