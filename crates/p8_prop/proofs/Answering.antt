@@ -1,5 +1,5 @@
 -- What is answered keeps the promise of a call.
-use Rattle.std.proofs.Common.{◌≡◌, ◌≤◌, ap, sym, subst, refl, true, false, ℕ, inl, List, [], Option, Some, None}
+use Rattle.std.proofs.Common.{◌≡◌, ◌≤◌, ap, sym, subst, refl, Bool, true, false, ℕ, inl, inr, List, [], ◌∷◌, ◌++◌, codes, if◌then◌else◌, Option, Some, None}
 use Rattle.std.proofs.lemmas.List.{append-nil}
 use Rattle.std.specs.Prelude.{Result, Ok, Err, IfOk, IfErr}
 use Rattle.p8_verify.specs.declared.verdicts.Cause.{Cause}
@@ -12,6 +12,8 @@ use Rattle.p8_inputs.specs.declared.stop.Stop.{Stop}
 use Rattle.p8_inputs.specs.declared.stop.Stop.TheVariants as stop
 use Rattle.p8_inputs.specs.Asks.{Stops, HasOneReading}
 use Rattle.p8_inputs.specs.Orders.{AreAllRead, AreReadSoFar}
+use Rattle.p8_inputs.specs.Stops.{line_of as stop_line}
+use Rattle.p8_finish.specs.Checks.{bad_line}
 use Rattle.p8_inputs.proofs.Logging.{none-read}
 use Rattle.p8_commands.specs.Commands.{Command, explains}
 use Rattle.p8_prop.specs.declared.status.Status.{Status}
@@ -19,11 +21,10 @@ use Rattle.p8_prop.specs.declared.work.Answer.{Answer}
 use Rattle.p8_prop.specs.declared.work.Answer.TheVariants.{Text, Bad}
 use Rattle.p8_prop.specs.Texts.{asks_of}
 use Rattle.p8_prop.specs.Works.{IsText, IsAnswerTo}
-use Rattle.p8_prop.specs.Verdicts.{Outside, ShelfSeen, SinkSeen, Verdict, unsaid, stopped, explained, bad, written, unwritten, shown_file, Explains, StopsCommand, IsReadAgain, IsOnceMore, HasExplanation, IsVerdict, IsOut, IsRead, IsTold, stop_status, status_of}
+use Rattle.p8_prop.specs.Verdicts.{Outside, SinkSeen, Verdict, unsaid, stopped, bad, written, unwritten, StopsCommand, IsVerdict, IsOut, IsRead, IsTold, explanation, stop_status, status_of}
 use Rattle.p8_prop.specs.Promises.{HasHeadline, Keeps}
-use Rattle.p8_prop.specs.Answers.{told_with, IsExplanation, IsFrom, IsFor, IsGiven, IsEnded, IsAnswer}
-use Rattle.p8_prop.proofs.Completing.{HasOneCheck, shown, one-verdict, complete}
-use Rattle.p8_prop.proofs.Later.{reason-later}
+use Rattle.p8_prop.specs.Answers.{IsFrom, IsGiven, IsEnded, IsAnswer}
+use Rattle.p8_prop.proofs.Completing.{HasOneCheck, one-verdict, complete}
 
 -- the shelf kept its files, and no count fell
 abbrev pub IsKept : Outside → Type 0
@@ -32,7 +33,17 @@ IsKept o = (o.shelf.files_now ≡ o.shelf.files) × (o.shelf.before ≤ o.shelf.
 -- want of memory stops any command
 pub without-memory : (o : Outside) (command : Option Command) → StopsCommand o command stop.NoMemory
 without-memory o None = tt
-without-memory o (Some command) = (tt, λ is. is.1 refl)
+without-memory o (Some command) = tt
+
+-- that there is no memory is told by its line
+either-line : (b : Bool) → stop_line stop.NoMemory ≡ (if b then explanation stop.NoMemory else stop_line stop.NoMemory)
+unfolding explanation
+either-line true = refl
+either-line false = refl
+
+no-memory-told : (faults : SinkSeen) (command : Option Command) → Wrote faults.before faults.now faults.taken faults.taken_now (stop_line stop.NoMemory) → IsTold faults command (stopped stop.NoMemory)
+no-memory-told faults None told = told
+no-memory-told faults (Some command) told = subst (λ (xs : List ℕ). Wrote faults.before faults.now faults.taken faults.taken_now xs) (either-line (explains command)) told
 
 no-headline : (o : Outside) (command : Option Command) (reason : Stop) → HasHeadline o.shelf.files command (stopped reason)
 no-headline o None reason = tt
@@ -49,7 +60,6 @@ all-read o command (Text text) (written other) from all = all
 all-read o command (Text text) (unwritten other) from all = all
 all-read o command (Text text) unsaid from all = absurd from
 all-read o command (Text text) (stopped reason) from all = absurd from
-all-read o command (Text text) (explained reason bytes) from all = absurd from
 all-read o command (Text text) (bad history turn cause) from all = absurd from
 all-read o command (Bad history turn cause) verdict from all = subst (λ (v : Verdict). IsRead o (Some command) v) (sym from) all
 
@@ -64,7 +74,6 @@ from-verdict o command (Text text) (unwritten other) from is =
     ((moved.0, from.1), tt)
 from-verdict o command (Text text) unsaid from is = absurd from
 from-verdict o command (Text text) (stopped reason) from is = absurd from
-from-verdict o command (Text text) (explained reason bytes) from is = absurd from
 from-verdict o command (Text text) (bad history turn cause) from is = absurd from
 from-verdict o command (Bad history turn cause) verdict from is =
     subst (λ (v : Verdict). IsVerdict o (Some command) v × HasHeadline o.shelf.files (Some command) v) (sym from) (is, tt)
@@ -79,7 +88,7 @@ same-taken sink same = subst (λ (now : Option (List ℕ)). Appended sink.taken 
 
 module _ (one_check : HasOneCheck) (one : (files : List ℕ → Option (List ℕ)) → HasOneReading files) where
   keeps : (o : Outside) (command : Option Command) (status : Status) (verdict : Verdict) → IsVerdict o command verdict → HasHeadline o.shelf.files command verdict
-      → status ≡ status_of verdict → IsTold o.faults verdict → IsOut o.out verdict → IsRead o command verdict → IsKept o → Keeps o command status
+      → status ≡ status_of verdict → IsTold o.faults command verdict → IsOut o.out verdict → IsRead o command verdict → IsKept o → Keeps o command status
   keeps o command status verdict is headline answered told out read kept = record {
     verdict = verdict;
     is_verdict = is;
@@ -96,45 +105,34 @@ module _ (one_check : HasOneCheck) (one : (files : List ℕ → Option (List ℕ
     faults_later = kept.3;
   }
 
-  -- why nothing came of a command: by what was read and counted before the answer, and in it
-  ended-keeps : (o : Outside) (between : Log) (middle : ℕ) (command : Command) (reason : Stop) (status : Status) (verdict : Verdict) → IsFor (record o.shelf { log = between; before = middle }) command reason verdict
-      → status ≡ status_of verdict → IsTold o.faults verdict → o.out.taken_now ≡ o.out.taken → Stops o.shelf.files o.shelf.before middle (asks_of command) reason
-      → AreReadSoFar o.shelf.files (asks_of command) o.shelf.log between → o.shelf.before ≤ middle → IsKept o → Keeps o (Some command) status
-  ended-keeps o between middle command reason status (stopped other) from answered told same stops some earlier kept =
-      let now : Stops o.shelf.files o.shelf.before o.shelf.now (asks_of command) reason = subst (λ (n : ℕ). Stops o.shelf.files o.shelf.before n (asks_of command) reason) (sym from.3) stops in
-      let is : StopsCommand o (Some command) other = subst (λ (x : Stop). StopsCommand o (Some command) x) (sym from.0) (now, from.1) in
-      keeps o (Some command) status (stopped other) is tt answered told (same-taken o.out same) (subst (λ (log : Log). AreReadSoFar o.shelf.files (asks_of command) o.shelf.log log) (sym from.2) some) kept
-  ended-keeps o between middle command reason status (explained other bytes) from answered told same stops some earlier kept =
-      let now = reason-later o.shelf.before middle o.shelf.now earlier from.4 o.shelf.files (asks_of command) reason (shown o.shelf.files (shown_file reason) bytes from.2) stops in
-      let is : HasExplanation o (Some command) other bytes = subst (λ (x : Stop). HasExplanation o (Some command) x bytes) (sym from.1) (from.0, now, from.2) in
-      let read : IsRead o (Some command) (explained other bytes) = subst (λ (x : Stop). IsRead o (Some command) (explained x bytes)) (sym from.1) (between, some, from.3) in
-      keeps o (Some command) status (explained other bytes) is tt answered told (same-taken o.out same) read kept
-  ended-keeps o between middle command reason status unsaid from answered told same stops some earlier kept = absurd from
-  ended-keeps o between middle command reason status (bad history turn cause) from answered told same stops some earlier kept = absurd from
-  ended-keeps o between middle command reason status (written text) from answered told same stops some earlier kept = absurd from
-  ended-keeps o between middle command reason status (unwritten text) from answered told same stops some earlier kept = absurd from
+  -- why nothing came of a command
+  ended-keeps : (o : Outside) (command : Command) (reason : Stop) (status : Status) → IsEnded command reason o.faults status → o.out.taken_now ≡ o.out.taken → Stops o.shelf.files o.shelf.before o.shelf.now (asks_of command) reason
+      → AreReadSoFar o.shelf.files (asks_of command) o.shelf.log o.shelf.log_now → IsKept o → Keeps o (Some command) status
+  ended-keeps o command reason status ended same stops some kept =
+      let is : StopsCommand o (Some command) ended.stop = elim ended.is [
+        | inl one ↦ subst (λ (x : Stop). StopsCommand o (Some command) x) (sym one) stops
+        | inr none ↦ subst (λ (x : Stop). StopsCommand o (Some command) x) (sym none) tt
+      ] in
+      keeps o (Some command) status (stopped ended.stop) is tt ended.answered ended.told (same-taken o.out same) some kept
 
   -- a command, by what is answered of what came of it
-  pub command-keeps : (o : Outside) (between : Log) (middle : ℕ) (command : Command) (came : Result Answer Stop) (status : Status) → IsAnswer (record o.shelf { log = between; before = middle }) command came o.out o.faults status
-      → IfOk came (IsAnswerTo o.shelf.files command) → IfErr came (Stops o.shelf.files o.shelf.before middle (asks_of command))
-      → IfOk came (λ _. AreAllRead o.shelf.files (asks_of command) o.shelf.log between) → AreReadSoFar o.shelf.files (asks_of command) o.shelf.log between → o.shelf.before ≤ middle → IsKept o → Keeps o (Some command) status
-  command-keeps o between middle command (Ok came) status answer is stops all some earlier kept =
-      let given = answer.0 in
+  pub command-keeps : (o : Outside) (command : Command) (came : Result Answer Stop) (status : Status) → IsAnswer command came o.out o.faults status
+      → IfOk came (IsAnswerTo o.shelf.files command) → IfErr came (Stops o.shelf.files o.shelf.before o.shelf.now (asks_of command))
+      → IfOk came (λ _. AreAllRead o.shelf.files (asks_of command) o.shelf.log o.shelf.log_now) → AreReadSoFar o.shelf.files (asks_of command) o.shelf.log o.shelf.log_now → IsKept o → Keeps o (Some command) status
+  command-keeps o command (Ok came) status given is stops all some kept =
       let from = from-verdict o command came given.verdict given.from is in
-      let read = subst (λ (log : Log). AreAllRead o.shelf.files (asks_of command) o.shelf.log log) (sym answer.1) all in
-      keeps o (Some command) status given.verdict from.0 from.1 given.answered given.told given.written_out (all-read o command came given.verdict given.from read) kept
-  command-keeps o between middle command (Err reason) status answer is stops all some earlier kept =
-      ended-keeps o between middle command reason status answer.0.verdict answer.0.from answer.0.answered answer.0.told answer.1 stops some earlier kept
+      keeps o (Some command) status given.verdict from.0 from.1 given.answered (given.told (Some command)) given.written_out (all-read o command came given.verdict given.from all) kept
+  command-keeps o command (Err reason) status (ended, same) is stops all some kept = ended-keeps o command reason status ended same stops some kept
 
   -- words that are no command
-  pub unsaid-keeps : (o : Outside) (command : Option Command) (status : Status) → command ≡ None → status ≡ status_of unsaid → IsTold o.faults unsaid → IsOut o.out unsaid → o.shelf.log_now ≡ o.shelf.log → IsKept o → Keeps o command status
+  pub unsaid-keeps : (o : Outside) (command : Option Command) (status : Status) → command ≡ None → status ≡ status_of unsaid → IsTold o.faults command unsaid → IsOut o.out unsaid → o.shelf.log_now ≡ o.shelf.log → IsKept o → Keeps o command status
   unsaid-keeps o command status none answered told out same kept =
       keeps o command status unsaid none (subst (λ (c : Option Command). HasHeadline o.shelf.files c unsaid) (sym none) tt) answered told out (subst (λ (c : Option Command). IsRead o c unsaid) (sym none) same) kept
 
   -- words for which there was no memory
-  pub memory-keeps : (o : Outside) (command : Option Command) (status : Status) → status ≡ status_of (stopped stop.NoMemory) → IsTold o.faults (stopped stop.NoMemory) → IsOut o.out (stopped stop.NoMemory) → o.shelf.log_now ≡ o.shelf.log → IsKept o → Keeps o command status
+  pub memory-keeps : (o : Outside) (command : Option Command) (status : Status) → status ≡ status_of (stopped stop.NoMemory) → Wrote o.faults.before o.faults.now o.faults.taken o.faults.taken_now (stop_line stop.NoMemory) → IsOut o.out (stopped stop.NoMemory) → o.shelf.log_now ≡ o.shelf.log → IsKept o → Keeps o command status
   memory-keeps o command status answered told out same kept =
-      keeps o command status (stopped stop.NoMemory) (without-memory o command) (no-headline o command stop.NoMemory) answered told out (unread o command same) kept
+      keeps o command status (stopped stop.NoMemory) (without-memory o command) (no-headline o command stop.NoMemory) answered (no-memory-told o.faults command told) out (unread o command same) kept
 
 -- ---- what is answered of a text, or of why there is none
 
@@ -144,53 +142,48 @@ module _ (text : Vec ℕ Global) (out faults : SinkSeen) (status : Status) where
     verdict = written text.items;
     from = refl;
     answered = answered;
-    told = inl (same-taken faults same);
+    told = λ command. inl (same-taken faults same);
     written_out = appended;
   }
 
-  pub not-wrote : status ≡ status_of (unwritten text.items) → Rose out.before out.now → AppendedPrefix out.taken out.taken_now text.items → IsTold faults (unwritten text.items) → IsGiven (Text text) out faults status
+  pub not-wrote : status ≡ status_of (unwritten text.items) → Rose out.before out.now → AppendedPrefix out.taken out.taken_now text.items → Wrote faults.before faults.now faults.taken faults.taken_now (codes "prop: cannot write" ++ 10 ∷ []) → IsGiven (Text text) out faults status
   not-wrote answered rose prefix told = record {
     verdict = unwritten text.items;
     from = (refl, rose);
     answered = answered;
-    told = told;
+    told = λ command. told;
     written_out = prefix;
   }
 
 pub not-good : (history : List ℕ) (turn : ℕ) (cause : Cause) (out faults : SinkSeen) (status : Status) → status ≡ status_of (bad history turn cause)
-    → out.taken_now ≡ out.taken → IsTold faults (bad history turn cause) → IsGiven (Bad history turn cause) out faults status
+    → out.taken_now ≡ out.taken → Wrote faults.before faults.now faults.taken faults.taken_now (bad_line history turn cause) → IsGiven (Bad history turn cause) out faults status
 not-good history turn cause out faults status answered same told = record {
   verdict = bad history turn cause;
   from = refl;
   answered = answered;
-  told = told;
+  told = λ command. told;
   written_out = same-taken out same;
 }
 
--- what is answered of a reason that stops a command
-pub not-there : (shelf : ShelfSeen) (command : Command) (reason : Stop) (faults : SinkSeen) (status : Status) → ¬ Explains command reason → status ≡ stop_status reason → shelf.log_now ≡ shelf.log → shelf.now ≡ shelf.before
-    → IsTold faults (stopped reason) → IsEnded shelf command reason faults status
-not-there shelf command reason faults status none answered same quiet told = record { verdict = stopped reason; from = (refl, none, same, quiet); answered = answered; told = told }
+-- what is answered of a reason that stops a command, by its line or with its explanation
+module _ (command : Command) (reason : Stop) (faults : SinkSeen) (status : Status) where
+  pub by-line : explains command ≡ false → status ≡ stop_status reason → Wrote faults.before faults.now faults.taken faults.taken_now (stop_line reason) → IsEnded command reason faults status
+  by-line none answered told = record {
+    stop = reason;
+    is = inl refl;
+    answered = answered;
+    told = subst (λ (b : Bool). Wrote faults.before faults.now faults.taken faults.taken_now (if b then explanation reason else stop_line reason)) (sym none) told;
+  }
 
--- what is answered of a reason that is explained
-pub with-reason : (shelf : ShelfSeen) (command : Command) (reason : Stop) (file : List ℕ) (text : Option (Vec ℕ Global)) (faults : SinkSeen) (status : Status) → explains command ≡ true → shown_file reason ≡ Some file
-    → status ≡ stop_status reason → shelf.before ≤ shelf.now → IsExplanation shelf reason file text → Wrote faults.before faults.now faults.taken faults.taken_now (told_with reason text) → IsEnded shelf command reason faults status
-with-reason shelf command reason file None faults status explains shows answered later read told = record {
-  verdict = explained reason None;
-  from = (explains, refl, subst (λ (f : Option (List ℕ)). IsReadAgain shelf.files f None) (sym shows) tt, subst (λ (f : Option (List ℕ)). IsOnceMore f None shelf.log shelf.log_now) (sym shows) read, later);
-  answered = answered;
-  told = told;
-}
-with-reason shelf command reason file (Some text) faults status explains shows answered later is told = record {
-  verdict = explained reason (Some is.0);
-  from = (explains, refl, subst (λ (f : Option (List ℕ)). IsReadAgain shelf.files f (Some is.0)) (sym shows) is.1, subst (λ (f : Option (List ℕ)). IsOnceMore f (Some is.0) shelf.log shelf.log_now) (sym shows) is.3, later);
-  answered = answered;
-  told = subst (λ (xs : List ℕ). Wrote faults.before faults.now faults.taken faults.taken_now xs) is.2 told;
-}
+  pub with-explanation : explains command ≡ true → status ≡ stop_status reason → (line : List ℕ) → line ≡ explanation reason → Wrote faults.before faults.now faults.taken faults.taken_now line → IsEnded command reason faults status
+  with-explanation asked answered line is told = record {
+    stop = reason;
+    is = inl refl;
+    answered = answered;
+    told = subst (λ (b : Bool). Wrote faults.before faults.now faults.taken faults.taken_now (if b then explanation reason else stop_line reason)) (sym asked)
+        (subst (λ (xs : List ℕ). Wrote faults.before faults.now faults.taken faults.taken_now xs) is told);
+  }
 
--- a command that explains nothing is stopped by any reason, and any command by one that shows in no file
-pub no-explaining : (command : Command) (reason : Stop) → explains command ≡ false → ¬ Explains command reason
-no-explaining command reason none = λ (is : Explains command reason). (let yes : explains command ≡ true = is.0 in cc)
-
-pub not-shown : (command : Command) (reason : Stop) → shown_file reason ≡ None → ¬ Explains command reason
-not-shown command reason none = λ (is : Explains command reason). is.1 none
+  -- or that there was no memory for its explanation
+  pub without-explanation : status ≡ stop_status stop.NoMemory → Wrote faults.before faults.now faults.taken faults.taken_now (stop_line stop.NoMemory) → IsEnded command reason faults status
+  without-explanation answered told = record { stop = stop.NoMemory; is = inr refl; answered = answered; told = no-memory-told faults (Some command) told }

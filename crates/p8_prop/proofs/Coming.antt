@@ -18,7 +18,7 @@ use Rattle.p8_verify.specs.declared.verdicts.Verdict.TheVariants.{Good}
 use Rattle.p8_verify.specs.Verdicts.{IsVerdict}
 use Rattle.p8_finish.specs.declared.finish.Finish.{Finish}
 use Rattle.p8_finish.specs.declared.finish.Finish.TheVariants.{Summary}
-use Rattle.p8_finish.specs.Finishes.{told_by}
+use Rattle.p8_finish.specs.Finishes.{told_by, IsWhole}
 use Rattle.p8_view.specs.declared.turns.ViewOptions.{ViewOptions}
 use Rattle.p8_wave.specs.Typed.{typed_text}
 use Rattle.p8_inputs.specs.declared.inputs.Inputs.{Inputs}
@@ -67,7 +67,7 @@ typed-told files file xs text pin bits start read few is = ((bytes xs ∷ [], ((
 -- ---- a run
 
 -- what is given for the pin script
-given-for : (files : Files) (named : Option (List ℕ)) (script : List Line) → IsScriptFor files named script → (given : List Given) × Give files (script_ask named) given × (lines_in given ≡ script)
+pub given-for : (files : Files) (named : Option (List ℕ)) (script : List Line) → IsScriptFor files named script → (given : List Given) × Give files (script_ask named) given × (lines_in given ≡ script)
 given-for files None script is = ([], tt, sym is)
 given-for files (Some file) script is = (lines script ∷ [], (is, tt), refl)
 
@@ -103,10 +103,10 @@ module _ (told : RunsAreTold) (files : Files) (format : Format) (run : Running) 
     source = told files format run.file begins.0 begins.2 begun begins.3 begins.4 past ended;
   }
 
-  pub run-told : (finish : Finish) (past : List Turn) → Ended asks begun past → IsTextOfRun files format run finish (told_by finish begun past)
-  run-told finish past ended = (
+  pub run-told : (finish : Finish) (past : List Turn) → Ended asks begun past → IsWhole finish begun past → IsTextOfRun files format run finish (told_by finish begun past)
+  run-told finish past ended whole = (
     (bytes begins.0 ∷ scripted.0, (begins.1, scripted.1), (past, subst (λ (w : World). Ended asks w past) given-world ended, ap (λ (w : World). told_by finish w past) given-world)),
-    (begun, past, history-of past ended, refl),
+    (begun, past, history-of past ended, whole, refl),
   )
 
   pub view-told : (options : ViewOptions) (dump : Option Dump) (legend : Legend) → IsLegendFrom files format run.file legend → HasName legend (name_in dump)
@@ -118,8 +118,9 @@ module _ (told : RunsAreTold) (files : Files) (format : Format) (run : Running) 
 
 -- ---- a made program
 
-pub made-told : (files : Files) (alone : Bool) (seed : ℕ) (w : World) → w ≡ made_world seed → (past : List Turn) → Ended asks w past → IsText files (Make alone seed) (told_by (Summary seed) w past)
-made-told files alone seed w same = subst (λ (v : World). (past : List Turn) → Ended asks v past → IsText files (Make alone seed) (told_by (Summary seed) v past)) (sym same) (λ past ended. (([], tt, (past, ended, refl)), tt))
+pub made-told : (files : Files) (alone : Bool) (seed : ℕ) (w : World) → w ≡ made_world seed → (past : List Turn) → Ended asks w past → IsWhole (Summary seed) w past → IsText files (Make alone seed) (told_by (Summary seed) w past)
+made-told files alone seed w same =
+    subst (λ (v : World). (past : List Turn) → Ended asks v past → IsWhole (Summary seed) v past → IsText files (Make alone seed) (told_by (Summary seed) v past)) (sym same) (λ past ended whole. (([], tt, (past, ended, refl)), tt))
 
 -- ---- a history that is checked
 
@@ -162,7 +163,7 @@ module _ (files : Files) (raw : Bool) (file recorded : List ℕ) (named : Option
 pub run-work : (files : Files) (command : Command) (format : Format) (run : Running) (finish : Finish) → ((text : List ℕ) → IsTextOfRun files format run finish text → IsText files command text)
     → (work : Work) → IsRunWork files format run finish work → IsWork files command work
 run-work files command format run finish is (Done answer) work = absurd work
-run-work files command format run finish is (Run start other) work = (work.0, λ past ended. is _ (work.1 past ended))
+run-work files command format run finish is (Run start other) work = (work.0, λ past ended whole. is _ (work.1 past ended whole))
 run-work files command format run finish is (View start view) work = absurd work
 
 -- and so is a view

@@ -18,17 +18,17 @@ use Rattle.p8_finish.specs.declared.finish.Finish.TheVariants.{Trace, Summary, S
 use Rattle.p8_finish.specs.Finishes.{told_by}
 use Rattle.p8_finish.specs.Checks.{good_line}
 use Rattle.p8_io.specs.Counts.{Rose}
-use Rattle.p8_io.specs.Shelves.{Files, AreStartOf}
+use Rattle.p8_io.specs.Shelves.{Files}
 use Rattle.p8_inputs.specs.declared.stop.Stop.{Stop}
 use Rattle.p8_inputs.specs.declared.stop.Stop.TheVariants as stop
-use Rattle.p8_inputs.specs.Asks.{Given, bytes, viewed, lines, HasOneReading, IsLegendIn, IsOfFiles}
+use Rattle.p8_inputs.specs.Asks.{Given, bytes, viewed, lines, HasOneReading, IsLegendIn}
 use Rattle.p8_inputs.proofs.Deciding.{unread-rose}
 use Rattle.p8_commands.specs.Commands.{Command, BuildSource, ListSource, MapSource, ExplainFile, ExplainNumber, RunMemory, RunProgram, Save, Check, Serial as ReadPin, TypeFile, Wave as ShowWave, Plot as DrawPins, ViewRun, Convert, Make, Help}
 use Rattle.p8_view.specs.declared.turns.ViewOptions.{ViewOptions}
 use Rattle.p8_view.specs.Ending.{view_of}
 use Rattle.p8_prop.specs.Texts.{selection_of, picture_of, options_of, dumped_range, asks_of, IsToldOf, IsViewOf, IsViewed, IsTextOf, IsAskedFor, IsBadBy, IsBadHistory}
 use Rattle.p8_prop.proofs.OneCount.{asked-one, counters-one}
-use Rattle.p8_prop.specs.Verdicts.{Outside, Verdict, unsaid, stopped, explained, bad, written, unwritten, shown_file, Explains, StopsCommand, IsReadAgain, HasExplanation, IsVerdict, IsCertain, IsUnexplained, status_of, HasOneVerdict, IsComplete}
+use Rattle.p8_prop.specs.Verdicts.{Outside, Verdict, unsaid, stopped, bad, written, unwritten, StopsCommand, IsVerdict, IsCertain, status_of, HasOneVerdict, IsComplete}
 
 some-not_none : {A : Type 0} {a : A} → Some a ≡ None → ⊥
 some-not_none e = cc
@@ -116,27 +116,6 @@ module _ (one_check : HasOneCheck) where
       good-not_bad (one_check _ _ _ (Good p.0) (Bad turn cause) p.1 q.1)
   bad-or_text _ given text name turn cause p q = q
 
--- ---- one explanation
-
-start-one : (file : Option (List ℕ)) (a b : List ℕ) → AreStartOf file a → AreStartOf file b → a ≡ b
-start-one None a b p q = absurd p
-start-one (Some file) a b p q = p ∙ sym q
-
--- what is read once more is there, and so is its name
-pub shown : (files : Files) (file : Option (List ℕ)) (text : Option (List ℕ)) → IsReadAgain files file text → ¬ (file ≡ None)
-shown files None text p = λ none. p
-shown files (Some file) text p = λ (none : Some file ≡ None). some-not_none none
-
--- a reason that shows in a file lies in the files
-shown-certain : (reason : Stop) → ¬ (shown_file reason ≡ None) → IsOfFiles reason
-shown-certain (stop.Refused name f size) shows = tt
-shown-certain (stop.Missing name mention) shows = tt
-shown-certain (stop.Unread name) shows = absurd (shows refl)
-shown-certain stop.NoMemory shows = absurd (shows refl)
-shown-certain (stop.BadProgram name fault) shows = tt
-shown-certain (stop.BadScript name line) shows = tt
-shown-certain (stop.Unnamed file name) shows = tt
-
 -- ---- one verdict
 
 -- the call, where its shelf has these files
@@ -159,48 +138,20 @@ module _ (one_check : HasOneCheck) (files : List ℕ → Option (List ℕ)) (one
       let same : p.0 ≡ q.0 = one.one_given (asks_of command) p.0 q.0 p.1 q.1 in
       bad-or_text one_check command q.0 text name turn cause (subst (λ (given : List Given). IsTextOf command given text) same p.2) q.2
 
-  -- one reason is explained by one file
-  again-one : (file : Option (List ℕ)) (xs ys : List ℕ) → IsReadAgain (Some files) file (Some xs) → IsReadAgain (Some files) file (Some ys) → xs ≡ ys
-  again-one None xs ys p q = absurd p
-  again-one (Some file) xs ys p q = start-one (files file) xs ys p q
-
-  explanation-one : (a b : Stop) (xs ys : List ℕ) → a ≡ b → IsReadAgain (Some files) (shown_file a) (Some xs) → IsReadAgain (Some files) (shown_file b) (Some ys) → explained a (Some xs) ≡ explained b (Some ys)
-  explanation-one a b xs ys same p q =
-      let text : xs ≡ ys = again-one (shown_file b) xs ys (subst (λ (reason : Stop). IsReadAgain (Some files) (shown_file reason) (Some xs)) same p) q in
-      λ i. explained (same i) (Some (text i))
-
-  -- what stops a command isn't what it explains
-  explained-or_stopped : (o : Outside) (command : Command) (reason other : Stop) (text : Option (List ℕ)) → IsOfFiles reason
-      → StopsCommand (with_files o (Some files)) (Some command) reason → HasExplanation (with_files o (Some files)) (Some command) other text → ⊥
-  explained-or_stopped o command reason other text certain p q =
-      let shows = shown (Some files) (shown_file other) text q.2 in
-      let same : reason ≡ other = one.one_stop o.shelf.before o.shelf.now (asks_of command) reason other certain (shown-certain other shows) p.0 q.1 in
-      subst (λ (x : Stop). ¬ Explains command x) same p.1 (q.0, shows)
-
   verdict-one : (o : Outside) (command : Command) (a b : Verdict) → IsCertain a → IsCertain b → IsVerdict (with_files o (Some files)) (Some command) a → IsVerdict (with_files o (Some files)) (Some command) b → a ≡ b
-  verdict-one o command (stopped x) (stopped y) s t p q = ap stopped (one.one_stop o.shelf.before o.shelf.now (asks_of command) x y s t p.0 q.0)
-  verdict-one o command (stopped x) (explained y (Some ys)) s t p q = absurd (explained-or_stopped o command x y (Some ys) s p q)
-  verdict-one o command (explained x (Some xs)) (stopped y) s t p q = absurd (explained-or_stopped o command y x (Some xs) t q p)
-  verdict-one o command (explained x (Some xs)) (explained y (Some ys)) s t p q =
-      explanation-one x y xs ys (one.one_stop o.shelf.before o.shelf.now (asks_of command) x y s t p.1 q.1) p.2 q.2
-  verdict-one o command (explained x (Some xs)) (bad b n y) s t p q = absurd (one.never_both o.shelf.before o.shelf.now (asks_of command) q.0 x s q.1 p.1)
-  verdict-one o command (explained x (Some xs)) (written y) s t p q = absurd (one.never_both o.shelf.before o.shelf.now (asks_of command) q.0 x s q.1 p.1)
-  verdict-one o command (bad a m x) (explained y (Some ys)) s t p q = absurd (one.never_both o.shelf.before o.shelf.now (asks_of command) p.0 y t p.1 q.1)
-  verdict-one o command (written x) (explained y (Some ys)) s t p q = absurd (one.never_both o.shelf.before o.shelf.now (asks_of command) p.0 y t p.1 q.1)
-  verdict-one o command (stopped x) (bad b n y) s t p q = absurd (one.never_both o.shelf.before o.shelf.now (asks_of command) q.0 x s q.1 p.0)
-  verdict-one o command (stopped x) (written y) s t p q = absurd (one.never_both o.shelf.before o.shelf.now (asks_of command) q.0 x s q.1 p.0)
-  verdict-one o command (bad a m x) (stopped y) s t p q = absurd (one.never_both o.shelf.before o.shelf.now (asks_of command) p.0 y t p.1 q.0)
+  verdict-one o command (stopped x) (stopped y) s t p q = ap stopped (one.one_stop o.shelf.before o.shelf.now (asks_of command) x y s t p q)
+  verdict-one o command (stopped x) (bad b n y) s t p q = absurd (one.never_both o.shelf.before o.shelf.now (asks_of command) q.0 x s q.1 p)
+  verdict-one o command (stopped x) (written y) s t p q = absurd (one.never_both o.shelf.before o.shelf.now (asks_of command) q.0 x s q.1 p)
+  verdict-one o command (bad a m x) (stopped y) s t p q = absurd (one.never_both o.shelf.before o.shelf.now (asks_of command) p.0 y t p.1 q)
   verdict-one o command (bad a m x) (bad b n y) s t p q = history-one command a b m n x y p q
   verdict-one o command (bad a m x) (written y) s t p q = absurd (history-or_text command y a m x q p)
-  verdict-one o command (written x) (stopped y) s t p q = absurd (one.never_both o.shelf.before o.shelf.now (asks_of command) p.0 y t p.1 q.0)
+  verdict-one o command (written x) (stopped y) s t p q = absurd (one.never_both o.shelf.before o.shelf.now (asks_of command) p.0 y t p.1 q)
   verdict-one o command (written x) (bad b n y) s t p q = absurd (history-or_text command x b n y p q)
   verdict-one o command (written x) (written y) s t p q = ap written (text-asked command x y p q)
   verdict-one o command unsaid b s t p q = absurd (some-not_none p)
   verdict-one o command (unwritten x) b s t p q = absurd s
-  verdict-one o command (explained x None) b s t p q = absurd s
   verdict-one o command a unsaid s t p q = absurd (some-not_none q)
   verdict-one o command a (unwritten y) s t p q = absurd t
-  verdict-one o command a (explained y None) s t p q = absurd t
 
 -- no words but those of a command are stopped by what lies in files
 none-stopped : (o : Outside) (reason : Stop) → IsCertain (stopped reason) → StopsCommand o None reason → ⊥
@@ -215,7 +166,6 @@ none-stopped o (stop.Unnamed file name) s p = p
 none-one : (o : Outside) (a : Verdict) → IsCertain a → IsVerdict o None a → a ≡ unsaid
 none-one o unsaid s p = refl
 none-one o (stopped reason) s p = absurd (none-stopped o reason s p)
-none-one o (explained reason text) s p = absurd p
 none-one o (bad history turn cause) s p = absurd p
 none-one o (written text) s p = absurd p
 none-one o (unwritten text) s p = absurd s
@@ -230,34 +180,7 @@ module _ (one_check : HasOneCheck) (one : (files : List ℕ → Option (List ℕ
   -- a file that could not be read is one that the shelf has counted
   unread-risen : (o : Outside) (command : Option Command) (name : List ℕ) → IsVerdict o command (stopped (stop.Unread name)) → Rose o.shelf.before o.shelf.now
   unread-risen o None name p = absurd p
-  unread-risen o (Some command) name p = unread-rose o.shelf.files o.shelf.before o.shelf.now (asks_of command) name p.0
-
-  -- where a reason is told without its explanation, that is due
-  with-explanation : (files : List ℕ → Option (List ℕ)) (o : Outside) (command : Command) (reason : Stop) (due : Verdict) → IsCertain due
-      → HasExplanation (with_files o (Some files)) (Some command) reason None → IsVerdict (with_files o (Some files)) (Some command) due → IsUnexplained due (explained reason None)
-  with-explanation files o command reason (explained other (Some ys)) certain p is =
-      let of = shown-certain reason (shown (Some files) (shown_file reason) None p.2) in
-      let same : reason ≡ other = (one files).one_stop o.shelf.before o.shelf.now (asks_of command) reason other of certain p.1 is.1 in
-      ap (λ (x : Stop). explained x None) same
-  with-explanation files o command reason (stopped other) certain p is = absurd (explained-or_stopped one_check files (one files) o command other reason None certain is p)
-  with-explanation files o command reason (bad b n y) certain p is =
-      absurd ((one files).never_both o.shelf.before o.shelf.now (asks_of command) is.0 reason (shown-certain reason (shown (Some files) (shown_file reason) None p.2)) is.1 p.1)
-  with-explanation files o command reason (written y) certain p is =
-      absurd ((one files).never_both o.shelf.before o.shelf.now (asks_of command) is.0 reason (shown-certain reason (shown (Some files) (shown_file reason) None p.2)) is.1 p.1)
-  with-explanation files o command reason unsaid certain p is = absurd (some-not_none is)
-  with-explanation files o command reason (explained other None) certain p is = absurd certain
-  with-explanation files o command reason (unwritten y) certain p is = absurd certain
-
-  unexplained : (o : Outside) (command : Option Command) (files : List ℕ → Option (List ℕ)) (reason : Stop) (due : Verdict) → o.shelf.files ≡ Some files → IsCertain due
-      → HasExplanation o command reason None → IsVerdict o command due → IsUnexplained due (explained reason None)
-  unexplained o None files reason due told certain p is = absurd p
-  unexplained o (Some command) files reason due told certain p is =
-      subst (λ (f : Files). HasExplanation (with_files o f) (Some command) reason None → IsVerdict (with_files o f) (Some command) due → IsUnexplained due (explained reason None)) (sym told)
-      (with-explanation files o command reason due certain) p is
-
-  explained-certain : (o : Outside) (command : Option Command) (reason : Stop) (text : Option (List ℕ)) → HasExplanation o command reason text → IsOfFiles reason
-  explained-certain o None reason text p = absurd p
-  explained-certain o (Some command) reason text p = shown-certain reason (shown o.shelf.files (shown_file reason) text p.2)
+  unread-risen o (Some command) name p = unread-rose o.shelf.files o.shelf.before o.shelf.now (asks_of command) name p
 
   -- what comes is due, or a count rose, or there was no memory
   pub complete : (o : Outside) (command : Option Command) (verdict : Verdict) → IsVerdict o command verdict → IsComplete o command verdict
@@ -267,12 +190,9 @@ module _ (one_check : HasOneCheck) (one : (files : List ℕ → Option (List ℕ
   complete o command (unwritten text) p files due told certain is quiet out_quiet =
       let same : written text ≡ due = one-verdict o command files (written text) due told tt certain p.0 is in
       absurd (out_quiet (ap status_of (sym same)) p.1)
-  complete o command (explained reason (Some text)) p files due told certain is quiet out_quiet =
-      inl (one-verdict o command files (explained reason (Some text)) due told (explained-certain o command reason (Some text) p) certain p is)
-  complete o command (explained reason None) p files due told certain is quiet out_quiet = inr (inr (unexplained o command files reason due told certain p is))
   complete o command (stopped (stop.Unread name)) p files due told certain is quiet out_quiet = absurd (quiet (unread-risen o command name p))
   complete o command (stopped (stop.Missing name mention)) p files due told certain is quiet out_quiet = inl (one-verdict o command files (stopped (stop.Missing name mention)) due told tt certain p is)
-  complete o command (stopped stop.NoMemory) p files due told certain is quiet out_quiet = inr (inl refl)
+  complete o command (stopped stop.NoMemory) p files due told certain is quiet out_quiet = inr refl
   complete o command (stopped (stop.Refused name f size)) p files due told certain is quiet out_quiet = inl (one-verdict o command files (stopped (stop.Refused name f size)) due told tt certain p is)
   complete o command (stopped (stop.BadProgram name fault)) p files due told certain is quiet out_quiet = inl (one-verdict o command files (stopped (stop.BadProgram name fault)) due told tt certain p is)
   complete o command (stopped (stop.BadScript name line)) p files due told certain is quiet out_quiet = inl (one-verdict o command files (stopped (stop.BadScript name line)) due told tt certain p is)

@@ -16,7 +16,7 @@ can-be-done files command (View start view) work = work.0
 
 pub answer-comes : (files : Files) (command : Command) (work : Work) (answer : Answer) → IsWork files command work → IsDone work answer → IsAnswerTo files command answer
 answer-comes files command (Done answer) other work is = subst (IsAnswerTo files command) (sym is) work
-answer-comes files command (Run start finish) (Text text) work is = subst (IsText files command) (sym is.2) (work.1 is.0 is.1)
+answer-comes files command (Run start finish) (Text text) work is = subst (IsText files command) (sym is.3) (work.1 is.0 is.1 is.2)
 answer-comes files command (Run start finish) (Bad history turn cause) work is = absurd is
 answer-comes files command (View start view) (Text text) work is = work.1 text.items is
 answer-comes files command (View start view) (Bad history turn cause) work is = absurd is

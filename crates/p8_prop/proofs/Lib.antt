@@ -2,6 +2,7 @@ mod Asking
 mod Coming
 mod OneCount
 mod Completing
-mod Later
 mod Doing
+mod Saving
 mod Answering
+mod Explaining

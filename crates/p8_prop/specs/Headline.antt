@@ -26,7 +26,7 @@ use Rattle.p8_inputs.specs.Sources.{IsBuiltBy, IsBuiltFrom}
 use Rattle.p8_commands.specs.Commands.{Command, Dump, Running, BuildSource, ListSource, MapSource, ExplainFile, ExplainNumber, RunMemory, RunProgram, Save, Check, Serial as ReadPin, TypeFile, Wave as ShowWave, Plot as DrawPins, ViewRun, Convert, Make, Help}
 use Rattle.p8_finish.specs.declared.finish.Finish.{Finish}
 use Rattle.p8_finish.specs.declared.finish.Finish.TheVariants.{Trace, Saved, Serial, Wave, Plot}
-use Rattle.p8_finish.specs.Finishes.{told_by}
+use Rattle.p8_finish.specs.Finishes.{told_by, IsWhole}
 use Rattle.p8_prop.specs.Texts.{selection_of, picture_of, options_of, dumped_range, IsViewOf}
 
 -- the one history of a world: it has ended, its keys rise, and no other one has ended
@@ -64,10 +64,10 @@ pub record IsHistoryOf (files : Files) (format : Format) (run : Running) (w : Wo
   pub history : IsOneHistory w past
   pub source : IsToldBySource files format run.file bytes w past
 
--- this text is what is told of the history of a run
+-- this text is what is told of the history of a run, whole: what is saved is a history file, with the record of each turn
 abbrev pub IsRun : Files → Format → Running → Finish → (text : List ℕ) → Type 0
 IsRun files format run finish text =
-    (w : World) × (past : List Turn) × IsHistoryOf files format run w past × (text ≡ told_by finish w past)
+    (w : World) × (past : List Turn) × IsHistoryOf files format run w past × IsWhole finish w past × (text ≡ told_by finish w past)
 
 -- this text is the view of it, by the legend of what is run
 abbrev pub IsView : Files → Format → Running → ViewOptions → Option Dump → (text : List ℕ) → Type 0

@@ -4,6 +4,7 @@ pub mod Headline
 pub mod Codes
 pub mod Verdicts
 pub mod Promises
+pub mod Saved
 -- Machinery that only proofs need.
 pub mod Works
 pub mod Answers

@@ -1,7 +1,7 @@
 -- What the program answers and writes: its verdict, and what follows from that (this project's profile).
-use Rattle.std.specs.Prelude.{ℕ, ◌≡◌, ◌⊎◌, true, List, [], ◌∷◌, ◌++◌, Option, Some, None, codes}
+use Rattle.std.specs.Prelude.{ℕ, ◌≡◌, ◌⊎◌, List, [], ◌∷◌, ◌++◌, Option, Some, None, codes, if◌then◌else◌}
 use Rattle.p8_io.specs.Counts.{Rose}
-use Rattle.p8_io.specs.Shelves.{Files, Log, WereRead, IsRead as IsFileRead}
+use Rattle.p8_io.specs.Shelves.{Files, Log}
 use Rattle.p8_io.specs.Sinks.{Appended, AppendedPrefix, Wrote}
 use Rattle.p8_verify.specs.declared.verdicts.Cause.{Cause}
 use Rattle.p8_explain.specs.Explaining.{absence_of, explanation_of}
@@ -9,7 +9,7 @@ use Rattle.p8_finish.specs.Checks.{bad_line}
 use Rattle.p8_inputs.specs.declared.stop.Stop.{Stop}
 use Rattle.p8_inputs.specs.declared.stop.Stop.TheVariants as stop
 use Rattle.p8_inputs.specs.Asks.{Stops, IsOfFiles}
-use Rattle.p8_inputs.specs.Orders.{MayBeRead, AreAllRead, AreReadSoFar}
+use Rattle.p8_inputs.specs.Orders.{AreAllRead, AreReadSoFar}
 use Rattle.p8_inputs.specs.Stops as stops
 use Rattle.p8_commands.specs.Commands.{Command, explains}
 use Rattle.p8_commands.specs.Pages.{usage_line}
@@ -39,55 +39,27 @@ pub record Outside : Type 0 where
   pub out : SinkSeen
   pub faults : SinkSeen
 
--- How a call ends. The words are no command; or what the command reads stops it, for a reason; or it explains that reason, by the bytes of the file in
--- which it shows, where they could be read once more; or the history file that it checks isn't that of the run, which shows at a turn; or its text was
--- written; or that could not be written, or only a part of it.
+-- How a call ends. The words are no command; or what the command reads stops it, for a reason; or the history file that it checks isn't that of the
+-- run, which shows at a turn; or its text was written; or that could not be written, or only a part of it.
 pub data Verdict : Type 0 where
   unsaid : Verdict
   stopped : Stop → Verdict
-  explained : Stop → (bytes : Option (List ℕ)) → Verdict
   bad : (history : List ℕ) (turn : ℕ) → Cause → Verdict
   written : (text : List ℕ) → Verdict
   unwritten : (text : List ℕ) → Verdict
 
 -- ---- when each verdict comes
 
--- the file in which a reason shows: a refused source, or the source that mentions a missing file
-abbrev pub shown_file : Stop → Option (List ℕ)
-shown_file (stop.Refused name f size) = Some name
-shown_file (stop.Missing name (Some mention)) = Some mention.file
-shown_file (stop.Missing name None) = None
-shown_file (stop.Unread name) = None
-shown_file stop.NoMemory = None
-shown_file (stop.BadProgram name fault) = None
-shown_file (stop.BadScript name line) = None
-shown_file (stop.Unnamed file name) = None
-
--- a command explains this reason, and isn't stopped by it: it shows in a file
-abbrev pub Explains : Command → Stop → Type 0
-Explains command reason = (explains command ≡ true) × (¬ (shown_file reason ≡ None))
-
 -- Words that are no command want no more than memory for them.
 abbrev pub StopsCommand : Outside → Option Command → Stop → Type 0
-StopsCommand o (Some command) reason = Stops o.shelf.files o.shelf.before o.shelf.now (asks_of command) reason × ¬ Explains command reason
+StopsCommand o (Some command) reason = Stops o.shelf.files o.shelf.before o.shelf.now (asks_of command) reason
 StopsCommand o None stop.NoMemory = Unit {0}
 StopsCommand o None (stop.Unread name) = ⊥
 StopsCommand o None (stop.Missing name mention) = ⊥
-StopsCommand o None (stop.Refused name f size) = ⊥
+StopsCommand o None (stop.Refused source f size) = ⊥
 StopsCommand o None (stop.BadProgram name fault) = ⊥
 StopsCommand o None (stop.BadScript name line) = ⊥
 StopsCommand o None (stop.Unnamed file name) = ⊥
-
--- there is a file that is read once more, and these are its bytes, where it could be
-abbrev pub IsReadAgain : Files → (file : Option (List ℕ)) → Option (List ℕ) → Type 0
-IsReadAgain files None bytes = ⊥
-IsReadAgain files (Some file) None = Unit {0}
-IsReadAgain files (Some file) (Some bytes) = IsFileRead files file bytes
-
-abbrev pub HasExplanation : Outside → Option Command → Stop → Option (List ℕ) → Type 0
-HasExplanation o None reason bytes = ⊥
-HasExplanation o (Some command) reason bytes =
-    (explains command ≡ true) × Stops o.shelf.files o.shelf.before o.shelf.now (asks_of command) reason × IsReadAgain o.shelf.files (shown_file reason) bytes
 
 abbrev pub HasText : Outside → Option Command → List ℕ → Type 0
 HasText o None text = ⊥
@@ -101,7 +73,6 @@ HasBadHistory o (Some command) history turn cause = IsBadHistory o.shelf.files c
 abbrev pub IsVerdict : Outside → Option Command → Verdict → Type 0
 IsVerdict o command unsaid = command ≡ None
 IsVerdict o command (stopped reason) = StopsCommand o command reason
-IsVerdict o command (explained reason bytes) = HasExplanation o command reason bytes
 IsVerdict o command (bad history turn cause) = HasBadHistory o command history turn cause
 IsVerdict o command (written text) = HasText o command text
 IsVerdict o command (unwritten text) = HasText o command text × Rose o.out.before o.out.now
@@ -113,7 +84,7 @@ abbrev pub stop_status : Stop → Status
 stop_status (stop.Unread file) = status.ShelfFault
 stop_status (stop.Missing file mention) = status.Missing
 stop_status stop.NoMemory = status.NoMemory
-stop_status (stop.Refused file f size) = status.Refused
+stop_status (stop.Refused source f size) = status.Refused
 stop_status (stop.BadProgram file fault) = status.BadImage
 stop_status (stop.BadScript file line) = status.BadScript
 stop_status (stop.Unnamed file name) = status.Missing
@@ -121,61 +92,51 @@ stop_status (stop.Unnamed file name) = status.Missing
 abbrev pub status_of : Verdict → Status
 status_of unsaid = status.Usage
 status_of (stopped reason) = stop_status reason
-status_of (explained reason bytes) = stop_status reason
 status_of (bad history turn cause) = status.BadHistory
 status_of (written text) = status.Ok
 status_of (unwritten text) = status.SinkFault
 
--- the explanation of a reason that shows in a file with these bytes
-unfoldable pub explanation : Stop → (bytes : List ℕ) → List ℕ
-explanation (stop.Refused file f size) bytes = explanation_of file bytes f size
-explanation (stop.Missing file (Some mention)) bytes = absence_of mention.file bytes mention.place file
-explanation _ bytes = []
+-- the explanation of a reason that shows in a file, by the bytes with which that was read: of a refused source, and of a missing file that a source
+-- mentions; any other reason is told by its line
+unfoldable pub explanation : Stop → List ℕ
+explanation (stop.Refused source f size) = explanation_of source.name source.bytes f size
+explanation (stop.Missing name (Some mention)) = absence_of mention.file.name mention.file.bytes mention.place name
+explanation reason = stops.line_of reason
 
--- what is told of a reason that is explained: the explanation, or the reason's line where the file could not be read once more
-abbrev pub explained_by : Stop → Option (List ℕ) → List ℕ
-explained_by reason (Some bytes) = explanation reason bytes
-explained_by reason None = stops.line_of reason
+-- what a command tells of the reason that stops it: its explanation, where the command explains, and else its line
+abbrev pub told_by : Option Command → Stop → List ℕ
+told_by None reason = stops.line_of reason
+told_by (Some command) reason = if explains command then explanation reason else stops.line_of reason
 
--- its line on the output for faults, or its explanation
-abbrev pub line_of : Verdict → List ℕ
-line_of unsaid = usage_line
-line_of (stopped reason) = stops.line_of reason
-line_of (explained reason bytes) = explained_by reason bytes
-line_of (bad history turn cause) = bad_line history turn cause
-line_of (written text) = []
-line_of (unwritten text) = codes "prop: cannot write" ++ 10 ∷ []
+-- what is told on the output for faults
+abbrev pub line_of : Option Command → Verdict → List ℕ
+line_of command unsaid = usage_line
+line_of command (stopped reason) = told_by command reason
+line_of command (bad history turn cause) = bad_line history turn cause
+line_of command (written text) = []
+line_of command (unwritten text) = codes "prop: cannot write" ++ 10 ∷ []
 
 -- what is written to the output: the text, or a part of it, or nothing
 abbrev pub IsOut : SinkSeen → Verdict → Type 0
 IsOut out unsaid = Appended out.taken out.taken_now []
 IsOut out (stopped reason) = Appended out.taken out.taken_now []
-IsOut out (explained reason bytes) = Appended out.taken out.taken_now []
 IsOut out (bad history turn cause) = Appended out.taken out.taken_now []
 IsOut out (written text) = Appended out.taken out.taken_now text
 IsOut out (unwritten text) = AppendedPrefix out.taken out.taken_now text
 
--- a file is read once more, or where that didn't give its bytes it may be
-abbrev pub IsOnceMore : (file : Option (List ℕ)) → Option (List ℕ) → (before now : Log) → Type 0
-IsOnceMore None bytes before now = ⊥
-IsOnceMore (Some file) None before now = MayBeRead file before now
-IsOnceMore (Some file) (Some bytes) before now = WereRead before now (file ∷ [])
-
 -- What is read of the shelf, where it tells that: all that the command asks for, each file once and in the order of the asks; where one of them stops
--- it a beginning of that, which ends there, and where the reason is explained the file in which it shows once more; and nothing for words that are no command.
+-- it a beginning of that, which ends there; and nothing for words that are no command.
 abbrev pub IsRead : Outside → Option Command → Verdict → Type 0
 IsRead o None verdict = o.shelf.log_now ≡ o.shelf.log
 IsRead o (Some command) unsaid = o.shelf.log_now ≡ o.shelf.log
 IsRead o (Some command) (stopped reason) = AreReadSoFar o.shelf.files (asks_of command) o.shelf.log o.shelf.log_now
-IsRead o (Some command) (explained reason bytes) =
-    (between : Log) × AreReadSoFar o.shelf.files (asks_of command) o.shelf.log between × IsOnceMore (shown_file reason) bytes between o.shelf.log_now
 IsRead o (Some command) (bad history turn cause) = AreAllRead o.shelf.files (asks_of command) o.shelf.log o.shelf.log_now
 IsRead o (Some command) (written text) = AreAllRead o.shelf.files (asks_of command) o.shelf.log o.shelf.log_now
 IsRead o (Some command) (unwritten text) = AreAllRead o.shelf.files (asks_of command) o.shelf.log o.shelf.log_now
 
--- its line is written to the output for faults, or a part of it where that output's count rose
-abbrev pub IsTold : SinkSeen → Verdict → Type 0
-IsTold faults verdict = Wrote faults.before faults.now faults.taken faults.taken_now (line_of verdict)
+-- it is written to the output for faults, or a part of it where that output's count rose
+abbrev pub IsTold : SinkSeen → Option Command → Verdict → Type 0
+IsTold faults command verdict = Wrote faults.before faults.now faults.taken faults.taken_now (line_of command verdict)
 
 -- ---- there is one
 
@@ -183,8 +144,6 @@ IsTold faults verdict = Wrote faults.before faults.now faults.taken faults.taken
 abbrev pub IsCertain : Verdict → Type 0
 IsCertain unsaid = Unit {0}
 IsCertain (stopped reason) = IsOfFiles reason
-IsCertain (explained reason None) = ⊥
-IsCertain (explained reason (Some bytes)) = IsOfFiles reason
 IsCertain (bad history turn cause) = Unit {0}
 IsCertain (written text) = Unit {0}
 IsCertain (unwritten text) = ⊥
@@ -195,13 +154,8 @@ HasOneVerdict o command =
     (files : List ℕ → Option (List ℕ)) (a b : Verdict) → o.shelf.files ≡ Some files → IsCertain a → IsCertain b
     → IsVerdict o command a → IsVerdict o command b → a ≡ b
 
--- a reason is told without the explanation that is due
-abbrev pub IsUnexplained : (due verdict : Verdict) → Type 0
-IsUnexplained (explained reason (Some bytes)) verdict = verdict ≡ explained reason None
-IsUnexplained _ verdict = ⊥
-
 -- it is the one that is answered, where the shelf's count didn't rise, nor that of the output where a text is due, but for want of memory
 abbrev pub IsComplete : Outside → Option Command → Verdict → Type 0
 IsComplete o command verdict =
     (files : List ℕ → Option (List ℕ)) (due : Verdict) → o.shelf.files ≡ Some files → IsCertain due → IsVerdict o command due
-    → ¬ Rose o.shelf.before o.shelf.now → (status_of due ≡ status.Ok → ¬ Rose o.out.before o.out.now) → (verdict ≡ due) ⊎ ((verdict ≡ stopped stop.NoMemory) ⊎ IsUnexplained due verdict)
+    → ¬ Rose o.shelf.before o.shelf.now → (status_of due ≡ status.Ok → ¬ Rose o.out.before o.out.now) → (verdict ≡ due) ⊎ (verdict ≡ stopped stop.NoMemory)

@@ -14,7 +14,7 @@ use Rattle.p8_io.specs.Shelves.{Files}
 use Rattle.p8_verify.specs.declared.verdicts.Verdict.TheVariants as verdict
 use Rattle.p8_verify.specs.Verdicts.{IsVerdict}
 use Rattle.p8_finish.specs.declared.finish.Finish.{Finish}
-use Rattle.p8_finish.specs.Finishes.{told_by, CanBeTold}
+use Rattle.p8_finish.specs.Finishes.{told_by, CanBeTold, IsWhole}
 use Rattle.p8_finish.specs.Checks.{good_line}
 use Rattle.p8_view.specs.declared.turns.ViewOptions.{ViewOptions}
 use Rattle.p8_inputs.specs.declared.program.Format.{Format}
@@ -38,6 +38,11 @@ pub record IsRunnable (start : Start) (finish : Finish) : Type 0 where
   pub first : IsProperOrigin start.boot.first
   pub can_be_told : CanBeTold finish start.limits.turns
 
+-- what is made of a run: what is told of its ended history, whole
+abbrev pub IsMadeOf : Start → Finish → List ℕ → Type 0
+IsMadeOf start finish text =
+    (past : List Turn) × Ended asks (world_in start) past × IsWhole finish (world_in start) past × (text ≡ told_by finish (world_in start) past)
+
 -- a run can be made, and its view told
 pub record IsViewable (start : Start) (view : Viewing) : Type 0 where
   pub clocks : start.limits.clocks ≤ 100000000
@@ -58,7 +63,7 @@ IsAnswerTo files command (Bad history turn cause) = IsBadHistory files command h
 abbrev pub IsWork : Files → Command → Work → Type 0
 IsWork files command (Done answer) = IsAnswerTo files command answer
 IsWork files command (Run start finish) =
-    IsRunnable start finish × ((past : List Turn) → Ended asks (world_in start) past → IsText files command (told_by finish (world_in start) past))
+    IsRunnable start finish × ((past : List Turn) → Ended asks (world_in start) past → IsWhole finish (world_in start) past → IsText files command (told_by finish (world_in start) past))
 IsWork files command (View start view) =
     IsViewable start view × ((text : List ℕ) → IsViewed (world_in start) view.options view.legend view.dump text → IsText files command text)
 
@@ -72,7 +77,8 @@ IsTextOfRun files format run finish text =
 abbrev pub IsRunWork : Files → Format → Running → Finish → Work → Type 0
 IsRunWork files format run finish (Done answer) = ⊥
 IsRunWork files format run finish (Run start other) =
-    IsRunnable start other × ((past : List Turn) → Ended asks (world_in start) past → IsTextOfRun files format run finish (told_by other (world_in start) past))
+    IsRunnable start other
+    × ((past : List Turn) → Ended asks (world_in start) past → IsWhole other (world_in start) past → IsTextOfRun files format run finish (told_by other (world_in start) past))
 IsRunWork files format run finish (View start view) = ⊥
 
 -- this is the view of a run of a file

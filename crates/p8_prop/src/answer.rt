@@ -1,13 +1,13 @@
 // Writes what came of a command, and tells how it ended.
-ghost use Rattle.std.specs.Prelude.{◌≡◌, ◌≤◌, ◌++◌, ◌∷◌, [], codes, true, Some, IfOk};
+ghost use Rattle.std.specs.Prelude.{◌≡◌, ◌≤◌, ◌++◌, ◌∷◌, [], codes, true, IfOk};
 ghost use Rattle.p8_commands.specs.Commands.{Command as CommandSaid, explains};
 ghost use Rattle.p8_commands.specs.Pages.{usage_line};
 ghost use Rattle.p8_commands.specs.Seen.{command_read};
 ghost use Rattle.p8_finish.specs.Checks.{bad_line};
 ghost use Rattle.p8_inputs.specs.Stops.{line_of as stop_line};
 ghost use Rattle.p8_io.specs.Sinks.{Wrote};
-ghost use Rattle.p8_prop.specs.Verdicts.{explanation, shown_file, stop_status};
-ghost use Rattle.p8_prop.specs.Answers.{seen_name, told_with, IsAnswer, IsEnded, IsExplanation, IsGiven};
+ghost use Rattle.p8_prop.specs.Verdicts.{explanation, stop_status};
+ghost use Rattle.p8_prop.specs.Answers.{told_with, IsAnswer, IsEnded, IsGiven};
 ghost use Rattle.p8_prop.specs.declared.status.Status.TheVariants.{Usage, SinkFault, BadHistory};
 
 use crate::status::Status;
@@ -16,12 +16,10 @@ use p8_commands::Command;
 use p8_explain::{absence, explanation};
 use p8_finish::tell_bad_history;
 use p8_inputs::Stop;
-use p8_io::{Shelf, Sink, write_pieces};
-use p8_tree::Text;
+use p8_io::{Sink, write_pieces};
 use p8_verify::Cause;
 use p8_words::NoMemory;
 use std::alloc::Global;
-use std::str;
 
 /// The line of words that are no command.
 const USAGE: &[u8] =
@@ -114,68 +112,25 @@ fn given<K: Sink, E: Sink>(answer: &Answer, out: &mut K, faults: &mut E) -> Stat
     }
 }
 
-/// The file in which a reason shows: a refused source, or the source that mentions a missing file.
-fn shown_file(stop: &Stop) -> Option<&Text>
-    ensures { seen_name result ≡ shown_file stop.now }
-{
-    match stop {
-        Stop::Refused { file, .. } => Some(file),
-        Stop::Missing { mention, .. } => match mention {
-            Some(mention) => Some(&mention.file),
-            None => None,
-        },
-        Stop::Unread { .. } | Stop::NoMemory => None,
-        Stop::BadProgram { .. } | Stop::BadScript { .. } | Stop::Unnamed { .. } => None,
-    }
-}
-
-/// The explanation of a reason that shows in a file with these bytes.
+/// The explanation of a reason that shows in a file, or None where it shows in none.
 #[tactic(auto, unfolding(crate::specs::Verdicts::explanation))]
-fn explanation_of(alloc: Global, stop: &Stop, bytes: &[u8]) -> Result<Vec<u8>, NoMemory>
-    ensures { IfOk result (λ text. text.items ≡ explanation stop.now bytes.now) }
+fn explanation_of(alloc: Global, stop: &Stop) -> Result<Option<Vec<u8>>, NoMemory>
+    ensures { IfOk result (λ text. told_with stop.now text ≡ explanation stop.now) }
 {
     match stop {
-        Stop::Refused { file, fault, size } => explanation(alloc, file, bytes, *fault, *size),
+        Stop::Refused { file, fault, size } => {
+            let bytes = file.bytes.as_slice();
+            Ok(Some(explanation(alloc, &file.name, bytes, *fault, *size)?))
+        }
         Stop::Missing { file, mention } => match mention {
-            Some(mention) => absence(alloc, &mention.file, bytes, mention.place, file),
-            None => Ok(Vec::new(alloc)),
+            Some(mention) => {
+                let bytes = mention.file.bytes.as_slice();
+                Ok(Some(absence(alloc, &mention.file.name, bytes, mention.place, file)?))
+            }
+            None => Ok(None),
         },
-        Stop::Unread { .. } | Stop::NoMemory => Ok(Vec::new(alloc)),
-        Stop::BadProgram { .. } | Stop::BadScript { .. } | Stop::Unnamed { .. } => Ok(Vec::new(
-            alloc,
-        )),
-    }
-}
-
-/// The explanation of a reason that shows in a file, which is read once more, or None where it can't be read or there is no memory.
-fn explanation_in<S: Shelf>(
-    alloc: Global,
-    stop: &Stop,
-    file: &Text,
-    shelf: &mut S,
-) -> Option<Vec<u8>>
-    ensures explanation { IsExplanation
-        (record {
-          files = S.files shelf.old;
-          files_now = S.files shelf.new;
-          log = S.log shelf.old;
-          log_now = S.log shelf.new;
-          before = S.faults shelf.old;
-          now = S.faults shelf.new;
-        })
-        stop.now file.now result }
-    ensures later { S.faults shelf.old ≤ S.faults shelf.new }
-    ensures kept { S.files shelf.new ≡ S.files shelf.old }
-{
-    let Ok(name) = str::from_utf8(file.as_slice()) else {
-        return None;
-    };
-    let Ok(bytes) = shelf.read(alloc, name) else {
-        return None;
-    };
-    match explanation_of(alloc, stop, &bytes) {
-        Ok(text) => Some(text),
-        Err(_) => None,
+        Stop::Unread { .. } | Stop::NoMemory => Ok(None),
+        Stop::BadProgram { .. } | Stop::BadScript { .. } | Stop::Unnamed { .. } => Ok(None),
     }
 }
 
@@ -192,25 +147,9 @@ fn tell_with<E: Sink>(stop: &Stop, text: &Option<Vec<u8>>, faults: &mut E)
     }
 }
 
-/// Explains a reason by the file in which it shows, which is read once more for that.
-fn explained<S: Shelf, E: Sink>(
-    alloc: Global,
-    stop: &Stop,
-    file: &Text,
-    shelf: &mut S,
-    faults: &mut E,
-) -> Status
-    requires { shown_file stop.now ≡ Some file.now }
-    ensures ended { (command : CommandSaid) → explains command ≡ true → IsEnded
-        (record {
-          files = S.files shelf.old;
-          files_now = S.files shelf.new;
-          log = S.log shelf.old;
-          log_now = S.log shelf.new;
-          before = S.faults shelf.old;
-          now = S.faults shelf.new;
-        })
-        command stop.now
+/// Tells a reason with its explanation, or that there was no memory for that.
+fn explained<E: Sink>(alloc: Global, stop: &Stop, faults: &mut E) -> Status
+    ensures ended { (command : CommandSaid) → explains command ≡ true → IsEnded command stop.now
         (record {
           before = E.faults faults.old;
           now = E.faults faults.new;
@@ -218,32 +157,20 @@ fn explained<S: Shelf, E: Sink>(
           taken_now = E.taken faults.new;
         })
         result }
-    ensures later { S.faults shelf.old ≤ S.faults shelf.new }
-    ensures kept { S.files shelf.new ≡ S.files shelf.old }
     ensures faults_later { E.faults faults.old ≤ E.faults faults.new }
 {
-    let text = explanation_in(alloc, stop, file, shelf);
-    tell_with(stop, &text, faults);
-    status_of_stop(stop)
+    match explanation_of(alloc, stop) {
+        Ok(text) => {
+            tell_with(stop, &text, faults);
+            status_of_stop(stop)
+        }
+        Err(NoMemory) => stopped(&Stop::NoMemory, faults),
+    }
 }
 
-/// Tells why there is no text of a command; what shows in a file is explained where the command asks for that.
-fn ended<S: Shelf, E: Sink>(
-    alloc: Global,
-    command: Command<'_>,
-    stop: &Stop,
-    shelf: &mut S,
-    faults: &mut E,
-) -> Status
+/// Tells why there is no text of a command, with the explanation where the command asks for that.
+fn ended<E: Sink>(alloc: Global, command: Command<'_>, stop: &Stop, faults: &mut E) -> Status
     ensures ended { IsEnded
-        (record {
-          files = S.files shelf.old;
-          files_now = S.files shelf.new;
-          log = S.log shelf.old;
-          log_now = S.log shelf.new;
-          before = S.faults shelf.old;
-          now = S.faults shelf.new;
-        })
         (command_read command.entry) stop.now
         (record {
           before = E.faults faults.old;
@@ -252,38 +179,24 @@ fn ended<S: Shelf, E: Sink>(
           taken_now = E.taken faults.new;
         })
         result }
-    ensures later { S.faults shelf.old ≤ S.faults shelf.new }
-    ensures kept { S.files shelf.new ≡ S.files shelf.old }
     ensures faults_later { E.faults faults.old ≤ E.faults faults.new }
 {
-    if !command.explains() {
-        return stopped(stop, faults);
-    }
-    match shown_file(stop) {
-        Some(file) => explained(alloc, stop, file, shelf, faults),
-        None => stopped(stop, faults),
+    if command.explains() {
+        explained(alloc, stop, faults)
+    } else {
+        stopped(stop, faults)
     }
 }
 
-/// Writes what came of a command, where anything did, and tells how that ended. Where the command explains why there is no text, the
-/// file in which that shows is read once more.
-pub fn answered<S: Shelf, K: Sink, E: Sink>(
+/// Writes what came of a command, where anything did, and tells how that ended.
+pub fn answered<K: Sink, E: Sink>(
     alloc: Global,
     command: Command<'_>,
     answer: Result<Answer, Stop>,
-    shelf: &mut S,
     out: &mut K,
     faults: &mut E,
 ) -> Status
     ensures answer { IsAnswer
-        (record {
-          files = S.files shelf.old;
-          files_now = S.files shelf.new;
-          log = S.log shelf.old;
-          log_now = S.log shelf.new;
-          before = S.faults shelf.old;
-          now = S.faults shelf.new;
-        })
         (command_read command.entry) answer
         (record {
           before = K.faults out.old;
@@ -298,13 +211,11 @@ pub fn answered<S: Shelf, K: Sink, E: Sink>(
           taken_now = E.taken faults.new;
         })
         result }
-    ensures later { S.faults shelf.old ≤ S.faults shelf.new }
-    ensures kept { S.files shelf.new ≡ S.files shelf.old }
     ensures out_later { K.faults out.old ≤ K.faults out.new }
     ensures faults_later { E.faults faults.old ≤ E.faults faults.new }
 {
     match answer {
         Ok(answer) => given(&answer, out, faults),
-        Err(stop) => ended(alloc, command, &stop, shelf, faults),
+        Err(stop) => ended(alloc, command, &stop, faults),
     }
 }

@@ -5,9 +5,9 @@ ghost use Rattle.p8_access.specs.Histories.{Ended as HasEnded};
 ghost use Rattle.p8_hub.specs.Standing.{IsHub};
 ghost use Rattle.p8_cog.specs.Lives.{asks};
 ghost use Rattle.p8_ledger.specs.Worlds.{world_of};
-ghost use Rattle.p8_prop.specs.Texts.{IsToldOf, IsViewed};
+ghost use Rattle.p8_prop.specs.Texts.{IsViewed};
 ghost use Rattle.p8_prop.specs.Answers.{CanBeDone, IsDone};
-ghost use Rattle.p8_prop.specs.Works.{world_in, IsRunnable, IsViewable};
+ghost use Rattle.p8_prop.specs.Works.{world_in, IsMadeOf, IsRunnable, IsViewable};
 
 use crate::view::Viewing;
 use crate::work::{Answer, Work};
@@ -25,7 +25,7 @@ use std::thread::Threads;
 /// What is told of a run that one thread makes.
 fn told_alone(alloc: Global, start: Start, finish: Finish) -> Result<Vec<u8>, NoMemory>
     requires { IsRunnable start finish }
-    ensures { IfOk result (λ text. IsToldOf (world_in start) finish text.items) }
+    ensures { IfOk result (λ text. IsMadeOf start finish text.items) }
 {
     let script = start.script.copy(alloc)?;
     let ended = run_alone(alloc, start.boot, start.script, start.limits)?;
@@ -89,7 +89,7 @@ fn told_by_crew<R: Threads + Wait + Clone + Send + Drop + 'static, F: Starter>(
     finish: Finish,
 ) -> Result<Vec<u8>, NoMemory>
     requires { IsRunnable start finish }
-    ensures { IfOk result (λ text. IsToldOf (world_in start) finish text.items) }
+    ensures { IfOk result (λ text. IsMadeOf start finish text.items) }
 {
     let script = start.script.copy(alloc)?;
     let ended = run_by_crew(rt, alloc, starter, start)?;

@@ -1,7 +1,12 @@
 // Laws of what is run. The functions hold no code of their own: their contracts are the laws.
-ghost use Rattle.std.specs.Prelude.{◌≡◌, ℕ, Bool, List};
+ghost use Rattle.std.specs.Prelude.{◌≡◌, ◌++◌, ℕ, Bool, List, Some, codes, length};
+ghost use Rattle.std.specs.Fmt.{decimal};
 ghost use Rattle.p8_access.specs.declared.order.Turn.{Turn};
 ghost use Rattle.p8_access.specs.Worlds.{World};
+ghost use Rattle.p8_tree.specs.declared.refusal.Refusal.{Refusal};
+ghost use Rattle.p8_tree.specs.Refusals.{numbered, refusal_number, refusals};
+ghost use Rattle.p8_commands.specs.Commands.{explain_of, ExplainNumber};
+ghost use Rattle.p8_commands.specs.Table.{explained};
 ghost use Rattle.p8_access.specs.Histories.{Ended};
 ghost use Rattle.p8_cog.specs.Lives.{asks};
 ghost use Rattle.p8_io.specs.Shelves.{Files};
@@ -34,3 +39,11 @@ pub fn builds_keep_meaning()
     images_keep_meaning();
     short_images_keep_meaning();
 }
+
+/// Law: `explain` knows each refusal. The digits of its number are the word for it, of which its own sentences are told, and the page of `explain`
+/// tells how many there are.
+pub fn each_refusal_is_explained()
+    ensures known { (r : Refusal) → explain_of (decimal (refusal_number r)) ≡ Some (ExplainNumber (refusal_number r)) }
+    ensures told { (r : Refusal) → numbered (refusal_number r) ≡ Some r }
+    ensures page { explained.about ≡ codes "the top file of a project, a source in Spin; or the number of a refusal, 1 or 2 digits, from 1 to " ++ decimal (length refusals) }
+{}

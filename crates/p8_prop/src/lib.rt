@@ -6,12 +6,15 @@
 mod answer;
 mod driver;
 mod laws;
+mod saved_laws;
 mod status;
 mod text;
 mod top;
 mod view;
 mod work;
 
+pub use laws::each_refusal_is_explained;
+pub use saved_laws::saved_histories_are_good;
 pub use status::Status;
 pub use top::{prop, prop_alone};
 pub use view::Viewing;

@@ -39,17 +39,17 @@ use std::thread::Threads;
 /// case. With a crew this call may wait for its threads, and what it promises it promises where it returns.
 ///
 /// The words are looked at first, then the file with its project, then the pin script, then the history file; then the run is made, and then its
-/// text is written. Each of these files is read once, in this order, and none after one that stops the command, but that `explain` in the end reads
-/// the file once more in which the reason shows. The shelf's files stay as they were, and no count of faults falls. Every status but `Ok` is told by
-/// one line on `faults`, or by the explanation of a refusal or of a missing file, and before the text is written nothing goes to `out`:
+/// text is written. Each of these files is read once, in this order, and none after one that stops the command. The shelf's files stay as they were,
+/// and no count of faults falls. Every status but `Ok` is told by one line on `faults`, or by the explanation of a refusal or of a missing file, with
+/// the line of the file as it was read, and before the text is written nothing goes to `out`:
 ///
 /// - `Usage` exactly where the words are no command;
 /// - `Refused` exactly where the project of a source is refused, with the first refusal: of a file while the project is gathered
 ///   ([`gather`](p8_objects::gather)), or else when it is built ([`build`](p8_build::build)); `explain` tells it by its explanation
-///   ([`explanation`](p8_explain::explanation)), or by the line where the refused file can't be read once more or there is no memory for that;
+///   ([`explanation`](p8_explain::explanation));
 /// - `ShelfFault` only where the shelf has counted a fault;
 /// - `Missing` where the shelf has no file of that name, which the words or the project ask for, and exactly where nothing of the program has the
-///   name that a view is to dump; a file that a source mentions is told by `explain` at that place ([`absence`](p8_explain::absence)), in the same way;
+///   name that a view is to dump; a file that a source mentions is told by `explain` at that place ([`absence`](p8_explain::absence));
 /// - `BadImage` exactly where the file is no image, with its first fault: of its length, of the sum of its bytes, of the places in its header; for
 ///   hub memory exactly where it has more than 32,768 bytes, and for `type` exactly where it has more than 5,000;
 /// - `BadScript` exactly where the pin script has a bad line, or more than 1,048,576 bytes;
@@ -100,7 +100,7 @@ pub fn prop<
     match command_in(alloc, words) {
         Ok(Some(command)) => {
             let answer = answer_by_crew(rt, alloc, starter, command, shelf);
-            answered(alloc, command, answer, shelf, out, faults)
+            answered(alloc, command, answer, out, faults)
         }
         Ok(None) => unsaid(faults),
         Err(NoMemory) => stopped(&Stop::NoMemory, faults),
@@ -144,7 +144,7 @@ pub fn prop_alone<S: Shelf, K: Sink, E: Sink>(
     match command_alone_in(alloc, words) {
         Ok(Some(command)) => {
             let answer = answer_alone(alloc, command, shelf);
-            answered(alloc, command, answer, shelf, out, faults)
+            answered(alloc, command, answer, out, faults)
         }
         Ok(None) => unsaid(faults),
         Err(NoMemory) => stopped(&Stop::NoMemory, faults),

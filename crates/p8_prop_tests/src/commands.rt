@@ -52,6 +52,20 @@ const ABSENCE: &str = "lost.spin:2:7: kid.spin is missing\n\
     \x20     ^\n\
     There is no file of this name. Capitals and small letters differ, and a name without a dot gets .spin.\n";
 
+/// The explanation of a name without a definition, in a file below the top file.
+const UNKNOWN: &str = "near.spin:2:3: 15 Unknown\n\
+    \x20 nosuch := 1\n\
+    \x20 ^\n\
+    This name has no definition that is seen here.\n\
+    Check its spelling. Of another file PUBs and constants are seen, after the object's name, as object.method or object#CONSTANT.\n";
+
+/// The explanation of a file that leads back to the one that mentions it.
+const RING: &str = "back.spin:2:7: 19 Cycle\n\
+    \x20 r : \"ring\"\n\
+    \x20     ^\n\
+    This object leads back to a file that uses it.\n\
+    Take the object out of one of the files.\n";
+
 /// The explanation of a method whose frame has its result and 2,048 longs of locals.
 const LARGE_FRAME: &str = "large.spin:1:5: 26 FrameTooLarge\n\
     PUB main | a[2048]\n\
@@ -110,9 +124,9 @@ const USAGE: &str =
 const MAIN: &[u8] = b"PUB main\n";
 
 /// Other files of the shelf: an image, an empty file, a bad pin script, two good sources, two bad ones, one that mentions a bad
-/// one and one that mentions none, one whose method is too large, one that mentions it and one whose image is too large, a message
-/// and the script that sends it, and two history files.
-static FILES: [File; 16] = [
+/// one and one that mentions none, one with a name that has no definition and one that mentions it, two that mention each other, one whose method
+/// is too large, one that mentions it and one whose image is too large, a message and the script that sends it, and two history files.
+static FILES: [File; 20] = [
     ("a.binary", IMAGE),
     ("empty.binary", b""),
     ("a.pins", b"9000 1"),
@@ -122,6 +136,10 @@ static FILES: [File; 16] = [
     ("next.spin", b"PUB main\n\ta := next\n"),
     ("outer.spin", b"OBJ\n  n : \"next\"\nPUB main\n"),
     ("lost.spin", b"OBJ\n  k : \"kid\"\nPUB main\n"),
+    ("near.spin", b"PUB f\n  nosuch := 1\n"),
+    ("far.spin", b"OBJ\n  n : \"near\"\nPUB main\n"),
+    ("back.spin", b"OBJ\n  r : \"ring\"\nPUB f\n"),
+    ("ring.spin", b"OBJ\n  b : \"back\"\nPUB main\n"),
     ("large.spin", b"PUB main | a[2048]\n"),
     ("deep.spin", b"OBJ\n  d : \"large\"\nPUB main\n"),
     ("wide.spin", b"VAR\n  long a[8183]\nPUB main\n"),
@@ -196,9 +214,9 @@ fn carries_commands_out(rt: HostRuntime) {
     }
 }
 
-/// Calls whose files or whose text are at fault. The refused file that is explained stands below the top file, and is the one
-/// that is read once more: where that read fails the refusal's line is told.
-static FAULTS: [Refusal; 18] = [
+/// Calls whose files or whose text are at fault. What is explained shows in the top file or in one below it, which is read once: a third read
+/// would fail.
+static FAULTS: [Refusal; 20] = [
     (
         "build bad.spin",
         0,
@@ -255,14 +273,16 @@ static FAULTS: [Refusal; 18] = [
         Status::BadScript,
         "prop: a.pins: line 1\n",
     ),
-    ("explain outer.spin", 0, 0, Status::Refused, EXPLANATION),
+    ("explain outer.spin", 3, 0, Status::Refused, EXPLANATION),
     (
-        "explain outer.spin",
+        "build outer.spin",
         3,
         0,
         Status::Refused,
         "prop: next.spin:2:14: 6 Unexpected\n",
     ),
+    ("explain far.spin", 3, 0, Status::Refused, UNKNOWN),
+    ("explain ring.spin", 3, 0, Status::Refused, RING),
     (
         "explain none.spin",
         0,
@@ -277,11 +297,11 @@ static FAULTS: [Refusal; 18] = [
         Status::Missing,
         "prop: kid.spin is missing\n",
     ),
-    ("explain lost.spin", 0, 0, Status::Missing, ABSENCE),
+    ("explain lost.spin", 3, 0, Status::Missing, ABSENCE),
     ("explain deep.spin", 0, 0, Status::Refused, LARGE_FRAME),
     ("explain wide.spin", 0, 0, Status::Refused, LARGE_IMAGE),
     (
-        "explain lost.spin",
+        "list lost.spin",
         3,
         0,
         Status::Missing,
