@@ -41,7 +41,7 @@ const WAYS: [(Way, &str); 6] = [
 /// The program that is run many times: cog 1 is stopped and started anew, and three cogs wait, for clocks and for a pin.
 const OFTEN: &str = "spin restarts.bin - 60000 1000 - -";
 
-/// The worked rows of one caller, each with what its run begins from.
+/// The rows of one caller that were worked by hand, each with what its run begins from.
 const ROWS: [(Row, &str); 2] = [
     (Row::Turns, "run row-01.bin - 10000 100000 - -"),
     (Row::Promises, "run row-07.bin - 100000 100000 - -"),
@@ -107,7 +107,7 @@ fn run_crews<R: Files + Alloc<A = Global> + Threads + Wait + Clone + Send + Drop
     Ok(tally)
 }
 
-/// Tries the worked rows.
+/// Tries those rows.
 fn try_rows<R: Files + Alloc<A = Global>>(rt: &R) -> anyhow::Result<Tally> {
     let mut tally = Tally { agreed: 0, all: 0 };
     for (row, line) in ROWS {
@@ -142,7 +142,7 @@ fn tell_all<
         "a crew of one for each of eight starts refused, and of eight for a ninth",
         run_crews(rt, &cases)?,
     )?;
-    all &= tell(rt, "worked rows of one caller", try_rows(rt)?)?;
+    all &= tell(rt, "rows of one caller, worked by hand", try_rows(rt)?)?;
     Ok(all)
 }
 

@@ -45,7 +45,7 @@ fn drive<R: Threads + Wait + Sync>(rt: &R, way: Way, desk: &Desk, passes: &mut P
     }
 }
 
-/// A worked row of one caller: what is asked of a desk before its first turn.
+/// A row of one caller, worked by hand: what is asked of a desk before its first turn.
 #[derive(Clone, Copy)]
 pub enum Row {
     /// Each call makes a turn.
@@ -54,7 +54,7 @@ pub enum Row {
     Promises,
 }
 
-/// Whether a worked row holds at the desk of a start.
+/// Whether a row holds at the desk of a start.
 pub fn holds(alloc: Global, start: Start, row: Row) -> Result<bool, NoMemory>
     requires clocks { start.limits.clocks ≤ 100000000 }
     requires turns { start.limits.turns ≤ 1000000 }
