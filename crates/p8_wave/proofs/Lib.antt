@@ -16,12 +16,3 @@ mod Marking
 mod Plotting
 mod PlotRanges
 mod Staying
-mod Edges
-mod Receiving
-mod Counting
-mod Rows
-mod Heard
-mod Inputs
-mod Sent
-mod Decoded
-mod Scripting

@@ -1,4 +1,4 @@
--- What a picture shows.
+-- What a snapshot shows.
 use Rattle.std.proofs.Common.{◌≡◌, ◌∙◌, refl, sym, ap, subst, ℕ, zero, suc, ◌-◌, ◌%◌, ◌<◌, ◌≤◌, min, List, [], ◌++◌, map, get_or, Bool, true, false, reverse, Option, Some, None, IfSome, arith}
 use Rattle.std.proofs.lemmas.List.{append-nil}
 use Rattle.p8_access.specs.declared.order.Turn.{Turn}
@@ -14,12 +14,12 @@ use Rattle.p8_wave.specs.declared.courses.Course.{Course}
 use Rattle.p8_pins.specs.declared.spans.Span.{Span}
 use Rattle.p8_wave.specs.declared.signals.Signals.{Signals}
 use Rattle.p8_wave.specs.declared.signals.Phase.TheVariants as phase
-use Rattle.p8_wave.specs.declared.pictures.Picture.{Picture}
+use Rattle.p8_wave.specs.declared.snapshot.Snapshot.{Snapshot}
 use Rattle.p8_wave.specs.declared.variables.Variable.{Variable}
 use Rattle.p8_wave.specs.declared.variables.Variable.TheVariants.{Pin, Outa, Dira, State, Lock, Taken}
 use Rattle.p8_wave.specs.Variables.{IsVariable}
 use Rattle.p8_wave.specs.Values.{value_of, value_at, state_number, is_halted, bit_of}
-use Rattle.p8_wave.specs.Following.{AreSignals, pictured, phase_number, phase_of}
+use Rattle.p8_wave.specs.Following.{AreSignals, snapshot_value, phase_number, phase_of}
 use Rattle.p8_wave.specs.Walks.{IsAt, IsLater, Shows, left_by, taken_by}
 use Rattle.p8_wave.proofs.Taking.{same_on, split_on, taken_on, taken, split_taken, left_later}
 
@@ -46,9 +46,9 @@ number_of state.Stopped false = refl
 number_of (state.Starting since origin) halted = refl
 number_of (state.Running origin) halted = refl
 
--- a picture of the signals and the pins after some turns
-pub shows_values : (w : World) (past : List Turn) (clock : ℕ) (p : Picture) → AreSignals w past p.signals → p.pins ≡ pins_at w past clock
-    → (v : Variable) → IsVariable v → pictured p v ≡ value_of w past clock v
+-- a snapshot of the signals and the pins after some turns
+pub shows_values : (w : World) (past : List Turn) (clock : ℕ) (p : Snapshot) → AreSignals w past p.signals → p.pins ≡ pins_at w past clock
+    → (v : Variable) → IsVariable v → snapshot_value p v ≡ value_of w past clock v
 shows_values w past clock p s pins (Pin n) below =
     let small : n % 32 ≡ n = omega arith in
     rw (small, pins) refl
@@ -59,8 +59,8 @@ shows_values w past clock p s pins (State n) below =
 shows_values w past clock p s pins (Lock n) below = ap bit_of (of_eight p.signals.set (λ (n : ℕ). is_set past n) false n s.set below)
 shows_values w past clock p s pins (Taken n) below = ap bit_of (of_eight p.signals.taken (λ (n : ℕ). is_taken past n) false n s.taken below)
 
-module _ (w : World) (past : List Turn) (clock : ℕ) (p : Picture) (levels : ℕ) where
-  -- a picture of the signals after the turns up to a clock, with the levels that are seen at it
+module _ (w : World) (past : List Turn) (clock : ℕ) (p : Snapshot) (levels : ℕ) where
+  -- a snapshot of the signals after the turns up to a clock, with the levels that are seen at it
   pub shows : AreSignals w (by past clock) p.signals
       → p.pins ≡ pins_with (dira (by past clock)) (outputs (by past clock)) levels
       → level_at w.script (min clock (end_of w past - 1)) ≡ levels
@@ -82,8 +82,8 @@ at_later w past clock later left course rises order first line at =
       levels = λ u low before. at.levels u (omega arith) before;
     }
 
--- the picture of a walk at a clock before the end
-pub shows_at : (w : World) (past : List Turn) (clock : ℕ) (left : List Turn) (course : Course) (p : Picture) → IsAt w past clock left course → clock ≤ end_of w past - 1 → p.signals ≡ course.signals
+-- the snapshot of a walk at a clock before the end
+pub shows_at : (w : World) (past : List Turn) (clock : ℕ) (left : List Turn) (course : Course) (p : Snapshot) → IsAt w past clock left course → clock ≤ end_of w past - 1 → p.signals ≡ course.signals
     → p.pins ≡ pins_with (dira (by past clock)) (outputs (by past clock)) course.span.levels → Shows w past clock p
 shows_at w past clock left course p at within signals pins =
     let seen : min clock (end_of w past - 1) ≡ clock = omega arith in
@@ -122,8 +122,8 @@ pub before_end : (c : ℕ) (end : Option ℕ) → IfSome end (λ e. c < e) → I
 before_end c None h = tt
 before_end c (Some e) h = h
 
--- the picture of a walk at the end, where the turns up to it have been taken
-pub shows_end : (w : World) (past : List Turn) (end : ℕ) (left : List Turn) (course : Course) (signals : Signals) (p : Picture) → Rises past → end ≡ end_of w past → IsAt w past (end - 1) left course
+-- the snapshot of a walk at the end, where the turns up to it have been taken
+pub shows_end : (w : World) (past : List Turn) (end : ℕ) (left : List Turn) (course : Course) (signals : Signals) (p : Snapshot) → Rises past → end ≡ end_of w past → IsAt w past (end - 1) left course
     → ((done : List Turn) → AreSignals w done course.signals → AreSignals w (taken_by end left done) signals) → p.signals ≡ signals
     → ((turns : List Turn) → AreSignals w turns signals → p.pins ≡ pins_with (dira turns) (outputs turns) course.span.levels)
     → Shows w past end p

@@ -1,4 +1,4 @@
--- Between equal pictures nothing changes.
+-- Between equal snapshots nothing changes.
 use Rattle.std.proofs.Common.{◌≡◌, ◌∙◌, refl, sym, ap, List, [], ◌∷◌, map, Bool, true, false, ◌&&◌, arith, rules}
 use Rattle.std.proofs.lemmas.Bool.{eqb-true}
 use Rattle.std.proofs.lemmas.Bool.Decides.{nat_tests}
@@ -9,29 +9,29 @@ use denote.Enum.Bare.{same_true, true_same}
 use Rattle.p8_wave.specs.contracts.signals.Phase.{the_type}
 use Rattle.p8_wave.specs.contracts.signals.PhasePartialEq.TheImpl.{eq-value}
 use Rattle.p8_wave.specs.declared.entries.Entry.{Entry}
-use Rattle.p8_wave.specs.declared.pictures.Picture.{Picture}
+use Rattle.p8_wave.specs.declared.snapshot.Snapshot.{Snapshot}
 use Rattle.p8_wave.specs.declared.signals.Phase.{Phase}
 use Rattle.p8_wave.specs.declared.variables.Variable.{Variable}
 use Rattle.p8_wave.specs.Following.{differs}
 use Rattle.p8_wave.specs.Sections.{marked, some_differ}
 
-no_difference : (p : Picture) (v : Variable) → differs p p v ≡ false
+no_difference : (p : Snapshot) (v : Variable) → differs p p v ≡ false
 no_difference p v = grind (arith, nat_tests)
 
-kept : (p : Picture) (entries : List Entry) → map (marked p p) entries ≡ entries
+kept : (p : Snapshot) (entries : List Entry) → map (marked p p) entries ≡ entries
 kept p [] = refl
 kept p (e ∷ entries) = rw (no_difference p e.variable, kept p entries) refl
 
-none : (p : Picture) (entries : List Entry) → some_differ p p entries ≡ false
+none : (p : Snapshot) (entries : List Entry) → some_differ p p entries ≡ false
 none p [] = refl
 none p (e ∷ entries) = rw (no_difference p e.variable, none p entries) refl
 
-module _ (old new : Picture) (same : old ≡ new) (entries : List Entry) where
+module _ (old new : Snapshot) (same : old ≡ new) (entries : List Entry) where
   pub all_kept : map (marked old new) entries ≡ entries
-  all_kept = ap (λ (p : Picture). map (marked old p) entries) (sym same) ∙ kept old entries
+  all_kept = ap (λ (p : Snapshot). map (marked old p) entries) (sym same) ∙ kept old entries
 
   pub none_differ : some_differ old new entries ≡ false
-  none_differ = ap (λ (p : Picture). some_differ old p entries) (sym same) ∙ none old entries
+  none_differ = ap (λ (p : Snapshot). some_differ old p entries) (sym same) ∙ none old entries
 
 bits_decide : (a b : Bool) → (beq a b ≡ true → a ≡ b) × (a ≡ b → beq a b ≡ true)
 bits_decide true true = (λ _. refl, λ _. refl)
@@ -47,8 +47,8 @@ both true true e = (refl, refl)
 both true false e = search rules
 both false b e = search rules
 
--- what the comparison of two pictures has told
-pub same_pictures : (old new : Picture)
+-- what the comparison of two snapshots has told
+pub same_pictures : (old new : Snapshot)
     → true ≡ ((pointwise eq-value.it old.signals.phases new.signals.phases && (pointwise eqb old.signals.outa new.signals.outa && (pointwise eqb old.signals.dira new.signals.dira && (pointwise beq old.signals.set new.signals.set && pointwise beq old.signals.taken new.signals.taken)))) && eqb old.pins new.pins)
     → old ≡ new
 same_pictures old new told =

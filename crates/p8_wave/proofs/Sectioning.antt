@@ -1,18 +1,18 @@
--- The text of a section, by pictures and by values.
+-- The text of a section, by snapshots and by values.
 use Rattle.std.proofs.Common.{◌≡◌, ◌∙◌, refl, ap, ℕ, ◌-◌, List, [], ◌∷◌, ◌++◌, map, Bool, true, false, not, nat_eq, ◌||◌, if◌then◌else◌, filter, codes, rules}
 use Rattle.std.specs.Fmt.{decimal}
 use Rattle.std.specs.List.{list_any, flat_map}
 use Rattle.p8_access.specs.declared.order.Turn.{Turn}
 use Rattle.p8_access.specs.Worlds.{World}
 use Rattle.p8_wave.specs.declared.entries.Entry.{Entry}
-use Rattle.p8_wave.specs.declared.pictures.Picture.{Picture}
+use Rattle.p8_wave.specs.declared.snapshot.Snapshot.{Snapshot}
 use Rattle.p8_wave.specs.declared.variables.Scope.{Scope}
 use Rattle.p8_wave.specs.declared.variables.Variable.{Variable}
 use Rattle.p8_wave.specs.Variables.{variables, IsVariable, width_of, mark_of, is_in}
 use Rattle.p8_wave.specs.Values.{value_at, changes_at}
 use Rattle.p8_wave.specs.Scale.{time_of}
 use Rattle.p8_wave.specs.Wave.{value_text, variable_text, values_text, section_text, scope_text, scope_with}
-use Rattle.p8_wave.specs.Following.{pictured, differs}
+use Rattle.p8_wave.specs.Following.{snapshot_value, differs}
 use Rattle.p8_wave.specs.Walks.{Shows}
 use Rattle.p8_wave.specs.Sections.{AreVariables, entry_of, marked, some_differ, entry_text, change_text, section_of, declared_in, scope_of}
 
@@ -21,10 +21,10 @@ unfolding variables
 all_variables true = search rules
 all_variables false = search rules
 
-module _ (w : World) (past : List Turn) (clock before : ℕ) (old new : Picture) (prior : before ≡ clock - 1) (shown_old : Shows w past before old) (shown_new : Shows w past clock new) where
+module _ (w : World) (past : List Turn) (clock before : ℕ) (old new : Snapshot) (prior : before ≡ clock - 1) (shown_old : Shows w past before old) (shown_new : Shows w past clock new) where
   same_change : (v : Variable) → IsVariable v → differs old new v ≡ changes_at w past clock v
   same_change v is =
-      ap (λ n. not (nat_eq n (pictured new v))) (shown_old.values v is ∙ ap (λ c. value_at w past c v) prior)
+      ap (λ n. not (nat_eq n (snapshot_value new v))) (shown_old.values v is ∙ ap (λ c. value_at w past c v) prior)
       ∙ ap (λ n. not (nat_eq (value_at w past (clock - 1) v) n)) (shown_new.values v is)
 
   module _ (p : Variable → Bool) where
@@ -78,12 +78,12 @@ module _ (p : Variable → Bool) where
       shown_step true v es vs e = ap (λ xs. entry_of p v ∷ xs) e
       shown_step false v es vs e = e
 
--- the values of those that are shown, in a picture
-module _ (w : World) (past : List Turn) (clock : ℕ) (picture : Picture) (shows : Shows w past clock picture) (p : Variable → Bool) where
-  pub values_shown : (q : Variable → Bool) (vs : List Variable) → AreVariables vs → flat_map (entry_text picture) (map (entry_of p) (filter q vs)) ≡ values_text w past clock (filter q vs)
+-- the values of those that are shown, in a snapshot
+module _ (w : World) (past : List Turn) (clock : ℕ) (snapshot : Snapshot) (shows : Shows w past clock snapshot) (p : Variable → Bool) where
+  pub values_shown : (q : Variable → Bool) (vs : List Variable) → AreVariables vs → flat_map (entry_text snapshot) (map (entry_of p) (filter q vs)) ≡ values_text w past clock (filter q vs)
   values_shown q [] all = refl
   values_shown q (v ∷ vs) (is, all) = shown_step (q v) v (filter q vs) is (values_shown q vs all)
     where
-      shown_step : (b : Bool) (v : Variable) (vs : List Variable) → IsVariable v → flat_map (entry_text picture) (map (entry_of p) vs) ≡ values_text w past clock vs → flat_map (entry_text picture) (map (entry_of p) (if b then v ∷ vs else vs)) ≡ values_text w past clock (if b then v ∷ vs else vs)
+      shown_step : (b : Bool) (v : Variable) (vs : List Variable) → IsVariable v → flat_map (entry_text snapshot) (map (entry_of p) vs) ≡ values_text w past clock vs → flat_map (entry_text snapshot) (map (entry_of p) (if b then v ∷ vs else vs)) ≡ values_text w past clock (if b then v ∷ vs else vs)
       shown_step true v vs is e = rw (shows.values v is) (ap (λ xs. value_text (width_of v) (mark_of v) (value_at w past clock v) ++ xs) e)
       shown_step false v vs is e = e

@@ -13,7 +13,7 @@ use Rattle.p8_pins.specs.Matches.{IsBefore}
 use Rattle.p8_pins.specs.Levels.{by, end_of}
 use Rattle.p8_wave.specs.declared.courses.Course.{Course}
 use Rattle.p8_wave.specs.declared.entries.Entry.{Entry}
-use Rattle.p8_wave.specs.declared.pictures.Picture.{Picture}
+use Rattle.p8_wave.specs.declared.snapshot.Snapshot.{Snapshot}
 use Rattle.p8_wave.specs.declared.variables.Variable.{Variable}
 use Rattle.p8_wave.specs.Variables.{IsVariable}
 use Rattle.p8_wave.specs.Values.{value_at, changes_at, changes}
@@ -40,12 +40,12 @@ module _ (w : World) (past : List Turn) (vs : List Variable) (are : AreVariables
   abbrev changes_some : ℕ → Bool
   changes_some c = list_any (changes_at w past c) vs
 
-  -- nothing changes at a clock where one picture shows the values at it and at the clock before
-  quiet_at : (u : ℕ) (p : Picture) → Shows w past (u - 1) p → Shows w past u p → (v : Variable) → IsVariable v → changes_at w past u v ≡ false
+  -- nothing changes at a clock where one snapshot shows the values at it and at the clock before
+  quiet_at : (u : ℕ) (p : Snapshot) → Shows w past (u - 1) p → Shows w past u p → (v : Variable) → IsVariable v → changes_at w past u v ≡ false
   quiet_at u p old new v is = let e : value_at w past (u - 1) v ≡ value_at w past u v = sym (old.values v is) ∙ new.values v is in grind (arith, nat_tests)
 
   -- a walk has come to a clock, and no turn and no line of the script comes before the next
-  module _ (clock next : ℕ) (left : List Turn) (course : Course) (p : Picture) (rises : Rises past) (at : IsAt w past clock left course) (within : next ≤ end_of w past)
+  module _ (clock next : ℕ) (left : List Turn) (course : Course) (p : Snapshot) (rises : Rises past) (at : IsAt w past clock left course) (within : next ≤ end_of w past)
       (quiet : (u : ℕ) → u < next → IsLater u left × IsBefore u course.span.end) (low : clock ≤ next - 1) (signals : p.signals ≡ course.signals)
       (pins : (turns : List Turn) → AreSignals w turns course.signals → p.pins ≡ pins_with (dira turns) (outputs turns) course.span.levels) where
     at_one : (u : ℕ) → clock ≤ u → u < next → IsAt w past u left course
@@ -86,7 +86,7 @@ module _ (w : World) (past : List Turn) (vs : List Variable) (are : AreVariables
         }
 
     -- one event more
-    module _ (left₀ : List Turn) (course₀ : Course) (old : Picture) (entries₀ entries : List Entry) (before text₀ text : List ℕ) (time : ℕ)
+    module _ (left₀ : List Turn) (course₀ : Course) (old : Snapshot) (entries₀ entries : List Entry) (before text₀ text : List ℕ) (time : ℕ)
         (done : IsDone w past vs clock left₀ course₀ old entries₀ before text₀) (inside : clock < end_of w past) (later : clock < next) (is_time : time ≡ time_of w clock)
         (new_entries : entries ≡ map (marked old p) entries₀)
         (new_text : text ≡ text₀ ++ (if some_differ old p entries₀ then section_of time old p entries else [])) where
@@ -137,7 +137,7 @@ module _ (w : World) (past : List Turn) (vs : List Variable) (are : AreVariables
       }
 
   -- the end
-  module _ (left : List Turn) (course : Course) (old new : Picture) (entries₀ entries : List Entry) (before text₀ text : List ℕ) (time : ℕ)
+  module _ (left : List Turn) (course : Course) (old new : Snapshot) (entries₀ entries : List Entry) (before text₀ text : List ℕ) (time : ℕ)
       (done : IsDone w past vs (end_of w past) left course old entries₀ before text₀) (is_time : time ≡ time_of w (end_of w past))
       (shows_new : Shows w past (end_of w past) new)
       (new_entries : entries ≡ map (marked old new) entries₀)

@@ -10,7 +10,7 @@ use Rattle.p8_access.specs.Pins.{outa_of, dira_of}
 use Rattle.p8_wave.specs.declared.signals.Phase.{Phase}
 use Rattle.p8_wave.specs.declared.signals.Phase.TheVariants as phase
 use Rattle.p8_wave.specs.declared.signals.Signals.{Signals}
-use Rattle.p8_wave.specs.declared.pictures.Picture.{Picture}
+use Rattle.p8_wave.specs.declared.snapshot.Snapshot.{Snapshot}
 use Rattle.p8_wave.specs.declared.variables.Variable.{Variable}
 use Rattle.p8_wave.specs.declared.variables.Variable.TheVariants.{Pin, Outa, Dira, State, Lock, Taken}
 use Rattle.p8_wave.specs.Values.{is_halted, bit_of}
@@ -35,15 +35,15 @@ pub record AreSignals (w : World) (past : List Turn) (s : Signals) : Type 0 wher
   pub set : s.set ≡ map (λ (n : ℕ). is_set past n) locks
   pub taken : s.taken ≡ map (λ (n : ℕ). is_taken past n) locks
 
--- the value of a variable in a picture
-abbrev pub pictured : Picture → Variable → ℕ
-pictured p (Pin n) = p.pins / 2 ^ (n % 32) % 2
-pictured p (Outa n) = slice_index p.signals.outa (n % 8)
-pictured p (Dira n) = slice_index p.signals.dira (n % 8)
-pictured p (State n) = phase_number (slice_index_or p.signals.phases (n % 8) phase.Stopped)
-pictured p (Lock n) = bit_of (slice_index_or p.signals.set (n % 8) false)
-pictured p (Taken n) = bit_of (slice_index_or p.signals.taken (n % 8) false)
+-- the value of a variable in a snapshot
+abbrev pub snapshot_value : Snapshot → Variable → ℕ
+snapshot_value p (Pin n) = p.pins / 2 ^ (n % 32) % 2
+snapshot_value p (Outa n) = slice_index p.signals.outa (n % 8)
+snapshot_value p (Dira n) = slice_index p.signals.dira (n % 8)
+snapshot_value p (State n) = phase_number (slice_index_or p.signals.phases (n % 8) phase.Stopped)
+snapshot_value p (Lock n) = bit_of (slice_index_or p.signals.set (n % 8) false)
+snapshot_value p (Taken n) = bit_of (slice_index_or p.signals.taken (n % 8) false)
 
--- a variable has another value in another picture
-abbrev pub differs : Picture → Picture → Variable → Bool
-differs p q v = not (nat_eq (pictured p v) (pictured q v))
+-- a variable has another value in another snapshot
+abbrev pub differs : Snapshot → Snapshot → Variable → Bool
+differs p q v = not (nat_eq (snapshot_value p v) (snapshot_value q v))

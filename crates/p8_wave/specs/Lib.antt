@@ -4,12 +4,8 @@ pub mod Values
 pub mod Scale
 pub mod Wave
 pub mod Plot
-pub mod Serial
-pub mod Typed
-pub mod SerialLaws
 -- Internal.
 pub mod Following
 pub mod Walks
 pub mod Sections
 pub mod Tracing
-pub mod Receiving

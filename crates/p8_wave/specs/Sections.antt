@@ -8,7 +8,7 @@ use Rattle.p8_access.specs.Worlds.{World}
 use Rattle.p8_pins.specs.Levels.{end_of}
 use Rattle.p8_wave.specs.declared.courses.Course.{Course}
 use Rattle.p8_wave.specs.declared.entries.Entry.{Entry}
-use Rattle.p8_wave.specs.declared.pictures.Picture.{Picture}
+use Rattle.p8_wave.specs.declared.snapshot.Snapshot.{Snapshot}
 use Rattle.p8_wave.specs.declared.walks.Walk.{Walk}
 use Rattle.p8_wave.specs.declared.variables.Scope.{Scope}
 use Rattle.p8_wave.specs.declared.variables.Variable.{Variable}
@@ -16,7 +16,7 @@ use Rattle.p8_wave.specs.Variables.{scopes, IsVariable, mark_of, width_of, is_in
 use Rattle.p8_wave.specs.Values.{changes_at, changes}
 use Rattle.p8_wave.specs.Scale.{scale_text}
 use Rattle.p8_wave.specs.Wave.{value_text, variable_text, scope_with, section_text, changes_text}
-use Rattle.p8_wave.specs.Following.{pictured, differs}
+use Rattle.p8_wave.specs.Following.{snapshot_value, differs}
 use Rattle.p8_wave.specs.Walks.{IsAt, Shows}
 
 -- each of these is one of the variables
@@ -36,24 +36,24 @@ entry_of p v = record { variable = v; mark = mark_of v; changes = p v }
 abbrev pub still : Variable → Entry
 still v = entry_of (λ _. false) v
 
--- an entry when two pictures have been compared
-abbrev pub marked : Picture → Picture → Entry → Entry
+-- an entry when two snapshots have been compared
+abbrev pub marked : Snapshot → Snapshot → Entry → Entry
 marked old new e = record { variable = e.variable; mark = e.mark; changes = differs old new e.variable || e.changes }
 
--- some entry differs in two pictures
-abbrev pub some_differ : Picture → Picture → List Entry → Bool
+-- some entry differs in two snapshots
+abbrev pub some_differ : Snapshot → Snapshot → List Entry → Bool
 some_differ old new entries = list_any (λ (e : Entry). differs old new e.variable) entries
 
--- the value of an entry in a picture
-abbrev pub entry_text : Picture → Entry → List ℕ
-entry_text p e = value_text (width_of e.variable) e.mark (pictured p e.variable)
+-- the value of an entry in a snapshot
+abbrev pub entry_text : Snapshot → Entry → List ℕ
+entry_text p e = value_text (width_of e.variable) e.mark (snapshot_value p e.variable)
 
 -- an entry where it differs
-abbrev pub change_text : Picture → Picture → Entry → List ℕ
+abbrev pub change_text : Snapshot → Snapshot → Entry → List ℕ
 change_text old new e = if differs old new e.variable then entry_text new e else []
 
 -- a time, and the entries that differ
-abbrev pub section_of : (time : ℕ) → Picture → Picture → List Entry → List ℕ
+abbrev pub section_of : (time : ℕ) → Snapshot → Snapshot → List Entry → List ℕ
 section_of time old new entries = codes "#" ++ decimal time ++ codes "\n" ++ flat_map (change_text old new) entries
 
 -- the declaration of an entry where it stands in a scope
@@ -69,8 +69,8 @@ head_of f period entries =
     codes "$version Propeller P8X32A $end\n" ++ scale_text f period ++ flat_map (scope_of entries) scopes ++ codes "$enddefinitions $end\n"
 
 -- the values of some entries at clock 0
-abbrev pub first_of : Picture → List Entry → List ℕ
-first_of picture entries = codes "#0\n$dumpvars\n" ++ flat_map (entry_text picture) entries ++ codes "$end\n"
+abbrev pub first_of : Snapshot → List Entry → List ℕ
+first_of snapshot entries = codes "#0\n$dumpvars\n" ++ flat_map (entry_text snapshot) entries ++ codes "$end\n"
 
 -- a variable has changed by a clock
 abbrev pub changed_by : World → List Turn → ℕ → Variable → Bool
@@ -80,9 +80,9 @@ changed_by w past clock v = list_any (λ (c : ℕ). changes_at w past c v) (rang
 abbrev pub sections_by : World → List Turn → List Variable → ℕ → List ℕ
 sections_by w past vs clock = flat_map (section_text w past vs) (filter (λ (c : ℕ). list_any (changes_at w past c) vs) (range_with_len 1 clock))
 
--- all that comes before a clock is written: a walk has come to the clock before, a picture shows the values at
+-- all that comes before a clock is written: a walk has come to the clock before, a snapshot shows the values at
 -- it, and each entry tells whether its variable has changed
-pub record IsDone (w : World) (past : List Turn) (vs : List Variable) (next : ℕ) (left : List Turn) (course : Course) (old : Picture) (entries : List Entry) (before text : List ℕ) : Type 0 where
+pub record IsDone (w : World) (past : List Turn) (vs : List Variable) (next : ℕ) (left : List Turn) (course : Course) (old : Snapshot) (entries : List Entry) (before text : List ℕ) : Type 0 where
   pub within : next ≤ end_of w past
   pub some : next < end_of w past → 0 < next
   pub at : IsAt w past (next - 1) left course

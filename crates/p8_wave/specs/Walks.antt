@@ -7,13 +7,13 @@ use Rattle.p8_access.specs.Histories.{Rises}
 use Rattle.p8_pins.specs.Matches.{IsBefore}
 use Rattle.p8_pins.specs.Levels.{by, end_of}
 use Rattle.p8_wave.specs.declared.courses.Course.{Course}
-use Rattle.p8_wave.specs.declared.pictures.Picture.{Picture}
+use Rattle.p8_wave.specs.declared.snapshot.Snapshot.{Snapshot}
 use Rattle.p8_wave.specs.declared.signals.Signals.{Signals}
 use Rattle.p8_wave.specs.declared.variables.Variable.{Variable}
 use Rattle.p8_wave.specs.Variables.{IsVariable}
 use Rattle.p8_wave.specs.Values.{value_at}
 use Rattle.p8_wave.specs.Scale.{frequency, period_of, ticks_in}
-use Rattle.p8_wave.specs.Following.{AreSignals, pictured}
+use Rattle.p8_wave.specs.Following.{AreSignals, snapshot_value}
 
 -- the past when the turns up to a clock have been taken, the oldest first
 abbrev pub taken_by : ℕ → List Turn → List Turn → List Turn
@@ -44,9 +44,9 @@ pub record IsAt (w : World) (past : List Turn) (clock : ℕ) (left : List Turn) 
   pub signals : AreSignals w (by past clock) course.signals
   pub levels : (u : ℕ) → clock ≤ u → IsBefore u course.span.end → level_at w.script u ≡ course.span.levels
 
--- a picture shows the values at a clock
-pub record Shows (w : World) (past : List Turn) (clock : ℕ) (p : Picture) : Type 0 where
-  pub values : (v : Variable) → IsVariable v → pictured p v ≡ value_at w past clock v
+-- a snapshot shows the values at a clock
+pub record Shows (w : World) (past : List Turn) (clock : ℕ) (p : Snapshot) : Type 0 where
+  pub values : (v : Variable) → IsVariable v → snapshot_value p v ≡ value_at w past clock v
 
 -- a walk is along this history with this script: the keys of its turns rise, it ends here, and a clock lasts
 -- so many units of time

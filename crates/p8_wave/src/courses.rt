@@ -8,8 +8,8 @@ ghost use Rattle.p8_pins.specs.Matches.{IsBefore};
 ghost use Rattle.p8_wave.specs.Following.{AreSignals};
 ghost use Rattle.p8_wave.specs.Walks.{IsAt, IsLater, taken_by, left_by};
 
-use crate::pictures::Picture;
 use crate::signals::Signals;
+use crate::snapshot::Snapshot;
 use p8_access::Turn;
 use p8_pins::{PinScript, Span};
 
@@ -92,11 +92,11 @@ impl Course {
     }
 
     /// The values of all variables.
-    pub fn picture(&self) -> Picture
+    pub fn snapshot(&self) -> Snapshot
         ensures signals { result.signals ≡ self.now.signals }
         ensures pins { (w : World) (past : List Turn) → AreSignals w past self.now.signals → result.pins ≡ pins_with (directions_after past) (outputs_after past) self.now.span.levels }
     {
-        Picture {
+        Snapshot {
             signals: self.signals,
             pins: self.signals.pins(self.span.levels),
         }

@@ -7,7 +7,7 @@ ghost use Rattle.p8_wave.specs.Variables.{variables, cog_variables, lock_variabl
 ghost use Rattle.p8_wave.specs.Following.{differs};
 ghost use Rattle.p8_wave.specs.Sections.{unmarked, still, marked as marked_by, some_differ};
 
-use crate::pictures::Picture;
+use crate::snapshot::Snapshot;
 use crate::variables::Variable;
 use p8_words::NoMemory;
 use std::alloc::Global;
@@ -93,8 +93,8 @@ pub fn shown(alloc: Global, entries: &[Entry], all: bool) -> Result<Vec<Entry>, 
     Ok(shown)
 }
 
-/// Marks an entry that differs in two pictures, and tells whether it does.
-fn mark_change(entry: &mut Entry, old: &Picture, new: &Picture) -> bool
+/// Marks an entry that differs in two snapshots, and tells whether it does.
+fn mark_change(entry: &mut Entry, old: &Snapshot, new: &Snapshot) -> bool
     ensures differs { result ≡ differs old.now new.now entry.old.variable }
     ensures marked { entry.new ≡ marked_by old.now new.now entry.old }
 {
@@ -103,8 +103,8 @@ fn mark_change(entry: &mut Entry, old: &Picture, new: &Picture) -> bool
     differs
 }
 
-/// Marks the entries that differ in two pictures, and tells whether there are any.
-pub fn mark_changes(entries: &mut [Entry], old: &Picture, new: &Picture) -> bool
+/// Marks the entries that differ in two snapshots, and tells whether there are any.
+pub fn mark_changes(entries: &mut [Entry], old: &Snapshot, new: &Snapshot) -> bool
     ensures any { result ≡ some_differ old.now new.now entries.old }
     ensures marked { entries.new ≡ map (marked_by old.now new.now) entries.old }
 {

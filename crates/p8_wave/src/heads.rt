@@ -5,8 +5,8 @@ ghost use Rattle.p8_wave.specs.Wave.{scope_with};
 ghost use Rattle.p8_wave.specs.Sections.{scope_of, head_of, first_of};
 
 use crate::entries::Entry;
-use crate::pictures::Picture;
 use crate::scale::Scale;
+use crate::snapshot::Snapshot;
 use crate::texts::{push_declarations, push_scope_head, push_values};
 use crate::variables::Scope;
 use p8_instr::push_text;
@@ -91,7 +91,7 @@ pub fn push_head(
 }
 
 /// The values at clock 0 of the entries that are shown.
-pub fn push_first(out: &mut Vec<u8>, entries: &[Entry], first: &Picture) -> Result<(), NoMemory>
+pub fn push_first(out: &mut Vec<u8>, entries: &[Entry], first: &Snapshot) -> Result<(), NoMemory>
     ensures { OnOk result (out.new.items ≡ out.old.items ++ first_of first.now entries.now) }
 {
     push_text(out, b"#0\n$dumpvars\n")?;

@@ -9,10 +9,11 @@ ghost use Rattle.p8_wave.specs.Tracing.{Follow, line_of_pin};
 
 use crate::grid::{Column, columns};
 use crate::plot_scale::push_scale;
-use crate::text::{push_decimal, push_text};
+use crate::texts::push_decimal;
 use crate::trace::{Trace, is_set};
 use crate::view::View;
 use p8_access::Turn;
+use p8_instr::push_text;
 use p8_pins::{Change, PinScript, pin_changes, run_end};
 use p8_words::NoMemory;
 use std::alloc::Global;

@@ -4,8 +4,9 @@ ghost use Rattle.std.specs.Fmt.{decimal};
 ghost use Rattle.p8_wave.specs.Plot.{tick_line, clock_line, scale_of};
 
 use crate::grid::Column;
-use crate::text::{push_spaces, push_text};
+use crate::texts::push_spaces;
 use itoa::Buffer;
+use p8_instr::push_text;
 use p8_words::NoMemory;
 
 /// How many columns a terminal has before the first column of a picture.

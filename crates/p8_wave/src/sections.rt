@@ -5,7 +5,7 @@ ghost use Rattle.p8_wave.specs.Variables.{variables};
 ghost use Rattle.p8_wave.specs.Sections.{still, marked, some_differ, section_of};
 
 use crate::entries::{Entry, entries, mark_changes};
-use crate::pictures::Picture;
+use crate::snapshot::Snapshot;
 use crate::texts::push_changes;
 use itoa::Buffer;
 use p8_instr::push_text;
@@ -48,8 +48,8 @@ impl Sections {
         })
     }
 
-    /// Marks what differs in two pictures, and tells whether anything does.
-    fn mark(&mut self, old: &Picture, new: &Picture) -> bool
+    /// Marks what differs in two snapshots, and tells whether anything does.
+    fn mark(&mut self, old: &Snapshot, new: &Snapshot) -> bool
         ensures any { result ≡ some_differ old.now new.now self.old.entries.items }
         ensures entries { self.new.entries.items ≡ map (marked old.now new.now) self.old.entries.items }
         ensures text { self.new.text.items ≡ self.old.text.items }
@@ -61,8 +61,8 @@ impl Sections {
         mark_changes(&mut self.entries, old, new)
     }
 
-    /// A clock, and what differs in two pictures.
-    fn push(&mut self, clock: u64, old: &Picture, new: &Picture) -> Result<(), NoMemory>
+    /// A clock, and what differs in two snapshots.
+    fn push(&mut self, clock: u64, old: &Snapshot, new: &Snapshot) -> Result<(), NoMemory>
         ensures text { OnOk result (self.new.text.items ≡ self.old.text.items ++ section_of (clock * self.old.ticks) old.now new.now self.old.entries.items) }
         ensures entries { self.new.entries.items ≡ self.old.entries.items }
         ensures ticks { self.new.ticks ≡ self.old.ticks }
@@ -72,7 +72,7 @@ impl Sections {
     }
 
     /// What changes at a clock, where anything does.
-    pub fn change(&mut self, clock: u64, old: &Picture, new: &Picture) -> Result<(), NoMemory>
+    pub fn change(&mut self, clock: u64, old: &Snapshot, new: &Snapshot) -> Result<(), NoMemory>
         ensures text { OnOk result (self.new.text.items ≡ self.old.text.items ++ (if some_differ old.now new.now self.old.entries.items then section_of (clock * self.old.ticks) old.now new.now self.new.entries.items else [])) }
         ensures entries { self.new.entries.items ≡ map (marked old.now new.now) self.old.entries.items }
         ensures ticks { self.new.ticks ≡ self.old.ticks }
@@ -85,7 +85,7 @@ impl Sections {
     }
 
     /// The end, with what changes at it.
-    pub fn end(&mut self, clock: u64, old: &Picture, new: &Picture) -> Result<(), NoMemory>
+    pub fn end(&mut self, clock: u64, old: &Snapshot, new: &Snapshot) -> Result<(), NoMemory>
         ensures text { OnOk result (self.new.text.items ≡ self.old.text.items ++ section_of (clock * self.old.ticks) old.now new.now self.new.entries.items) }
         ensures entries { self.new.entries.items ≡ map (marked old.now new.now) self.old.entries.items }
         ensures ticks { self.new.ticks ≡ self.old.ticks }

@@ -1,16 +1,33 @@
 // Texts that are appended.
-ghost use Rattle.std.specs.Prelude.{◌≡◌, ◌++◌, ◌≤◌, codes, flat_map, OnOk};
+ghost use Rattle.std.specs.Prelude.{◌≡◌, ◌++◌, ◌≤◌, codes, flat_map, replicate, OnOk};
 ghost use Rattle.std.specs.Fmt.{decimal};
 ghost use Rattle.p8_wave.specs.Variables.{width_of, name_of, scope_name, is_in as stands_in, is_of_cog, is_of_locks, is_of_pins};
 ghost use Rattle.p8_wave.specs.Wave.{binary, value_text, variable_text};
 ghost use Rattle.p8_wave.specs.Sections.{change_text, entry_text, declared_in};
 
 use crate::entries::Entry;
-use crate::pictures::Picture;
+use crate::snapshot::Snapshot;
 use crate::variables::{Scope, Variable};
 use itoa::Buffer;
 use p8_instr::push_text;
 use p8_words::NoMemory;
+
+/// Appends a number in decimal digits.
+pub fn push_decimal(out: &mut Vec<u8>, number: u64) -> Result<(), NoMemory>
+    ensures { OnOk result (out.new.items ≡ out.old.items ++ decimal number) }
+{
+    push_text(out, Buffer::new().format(number).as_bytes())
+}
+
+/// Appends so many spaces.
+pub fn push_spaces(out: &mut Vec<u8>, count: usize) -> Result<(), NoMemory>
+    ensures { OnOk result (out.new.items ≡ out.old.items ++ replicate count 32) }
+{
+    for _ in 0..count {
+        push_text(out, b" ")?;
+    }
+    Ok(())
+}
 
 /// A text and a number in decimal digits.
 pub fn push_numbered(out: &mut Vec<u8>, text: &[u8], number: u32) -> Result<(), NoMemory>
@@ -171,24 +188,24 @@ fn push_value(out: &mut Vec<u8>, width: u8, mark: u8, value: u32) -> Result<(), 
     }
 }
 
-/// The value of an entry in a picture.
-fn push_entry(out: &mut Vec<u8>, entry: &Entry, picture: &Picture) -> Result<(), NoMemory>
-    ensures { OnOk result (out.new.items ≡ out.old.items ++ entry_text picture.now entry.now) }
+/// The value of an entry in a snapshot.
+fn push_entry(out: &mut Vec<u8>, entry: &Entry, snapshot: &Snapshot) -> Result<(), NoMemory>
+    ensures { OnOk result (out.new.items ≡ out.old.items ++ entry_text snapshot.now entry.now) }
 {
     push_value(
         out,
         entry.variable.width(),
         entry.mark,
-        picture.value(entry.variable),
+        snapshot.value(entry.variable),
     )
 }
 
-/// The value of an entry in the second picture, where it differs from that in the first.
+/// The value of an entry in the second snapshot, where it differs from that in the first.
 fn push_change(
     out: &mut Vec<u8>,
     entry: &Entry,
-    old: &Picture,
-    new: &Picture,
+    old: &Snapshot,
+    new: &Snapshot,
 ) -> Result<(), NoMemory>
     ensures { OnOk result (out.new.items ≡ out.old.items ++ change_text old.now new.now entry.now) }
 {
@@ -199,22 +216,26 @@ fn push_change(
     }
 }
 
-/// The values of all entries in a picture.
-pub fn push_values(out: &mut Vec<u8>, entries: &[Entry], picture: &Picture) -> Result<(), NoMemory>
-    ensures { OnOk result (out.new.items ≡ out.old.items ++ flat_map (entry_text picture.now) entries.now) }
+/// The values of all entries in a snapshot.
+pub fn push_values(
+    out: &mut Vec<u8>,
+    entries: &[Entry],
+    snapshot: &Snapshot,
+) -> Result<(), NoMemory>
+    ensures { OnOk result (out.new.items ≡ out.old.items ++ flat_map (entry_text snapshot.now) entries.now) }
 {
     for entry in entries {
-        push_entry(out, entry, picture)?;
+        push_entry(out, entry, snapshot)?;
     }
     Ok(())
 }
 
-/// The values of the entries that differ in two pictures.
+/// The values of the entries that differ in two snapshots.
 pub fn push_changes(
     out: &mut Vec<u8>,
     entries: &[Entry],
-    old: &Picture,
-    new: &Picture,
+    old: &Snapshot,
+    new: &Snapshot,
 ) -> Result<(), NoMemory>
     ensures { OnOk result (out.new.items ≡ out.old.items ++ flat_map (change_text old.now new.now) entries.now) }
 {

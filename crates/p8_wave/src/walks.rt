@@ -11,8 +11,8 @@ ghost use Rattle.p8_wave.specs.Sections.{AreVariables, still, entry_of, IsWalked
 
 use crate::courses::{Course, next_clock, take_turns};
 use crate::entries::entries;
-use crate::pictures::Picture;
 use crate::sections::Sections;
+use crate::snapshot::Snapshot;
 use p8_access::Turn;
 use p8_pins::PinScript;
 use p8_words::NoMemory;
@@ -22,7 +22,7 @@ use std::alloc::Global;
 #[derive(Drop)]
 pub struct Walk {
     pub sections: Sections,
-    pub first: Picture,
+    pub first: Snapshot,
 }
 
 /// Goes from one turn or line of the script to the next, up to the end, and writes what changes at each.
@@ -47,17 +47,17 @@ fn write_sections(
         → OnOk result (sections.new.entries.items ≡ map (entry_of (changes w past)) vs) }
 {
     let mut left = turns;
-    let mut old = course.picture();
+    let mut old = course.snapshot();
     let mut next = next_clock(left, course.span.end, end);
     while next < end {
         left = course.go(left, script, next);
-        let new = course.picture();
+        let new = course.snapshot();
         sections.change(next, &old, &new)?;
         old = new;
         next = next_clock(left, course.span.end, end);
     }
     take_turns(&mut course.signals, left, end);
-    sections.end(end, &old, &course.picture())
+    sections.end(end, &old, &course.snapshot())
 }
 
 /// Walks along a history, the oldest turn first, and writes all variables or those of the pins and the locks alone.
@@ -76,7 +76,7 @@ pub fn walk_along(
 {
     let mut course = Course::open(script);
     let left = take_turns(&mut course.signals, turns, 0);
-    let first = course.picture();
+    let first = course.snapshot();
     let mut sections = Sections::open(alloc, ticks, pins_only)?;
     write_sections(&mut sections, &mut course, left, script, end)?;
     Ok(Walk { sections, first })

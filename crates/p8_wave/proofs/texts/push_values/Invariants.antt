@@ -5,4 +5,4 @@ use Rattle.p8_wave.proofs.texts.push_values.Given as goal
 
 abbrev pub invariant-loop-entry : goal.invariant-loop-entry
 invariant-loop-entry l =
-    l.out.items ++ flat_map (entry_text l.picture) (drop l.entry-index l.entries) ≡ l.initial.out.items ++ flat_map (entry_text l.picture) l.entries
+    l.out.items ++ flat_map (entry_text l.snapshot) (drop l.entry-index l.entries) ≡ l.initial.out.items ++ flat_map (entry_text l.snapshot) l.entries

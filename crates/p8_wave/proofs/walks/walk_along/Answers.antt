@@ -22,5 +22,5 @@ returns c = λ w past set is_past.
     record {
       text = c.in_ok-write_sections.ensures.text w past vs are set' at c.in_ok-sections.ensures.entries ∙ ap (λ (xs : List ℕ). xs ++ changes_text w past vs) c.in_ok-sections.ensures.text;
       entries = c.in_ok-write_sections.ensures.entries w past vs are set' at c.in_ok-sections.ensures.entries;
-      first = shows_at w past 0 c.take_turns-left.result.now course c.picture-first.result at (omega arith) c.picture-first.ensures.signals (c.picture-first.ensures.pins w (by past 0) at.signals);
+      first = shows_at w past 0 c.take_turns-left.result.now course c.snapshot-first.result at (omega arith) c.snapshot-first.ensures.signals (c.snapshot-first.ensures.pins w (by past 0) at.signals);
     }

@@ -1,0 +1,9 @@
+mod Edges
+mod Receiving
+mod Counting
+mod Rows
+mod Heard
+mod Inputs
+mod Sent
+mod Decoded
+mod Scripting

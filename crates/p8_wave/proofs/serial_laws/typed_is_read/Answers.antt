@@ -1,9 +1,0 @@
-use Rattle.p8_wave.proofs.Sent.{sent-is-heard}
-use Rattle.p8_wave.proofs.Scripting.{sent-is-read}
-use Rattle.p8_wave.proofs.serial_laws.typed_is_read.Goals as goal
-
-pub returns-clause-script : goal.returns-clause-script
-returns-clause-script c = sent-is-read
-
-pub returns-clause-read : goal.returns-clause-read
-returns-clause-read c = sent-is-heard
