@@ -1,5 +1,5 @@
 // The files and the streams of the system, as a shelf and as sinks. They tell no contents.
-ghost use Rattle.std.specs.Prelude.{◌≡◌, ◌≤◌, ◌∷◌, [], ℕ, None, IfOk, IfSome, OnOk, is_err, take, vec_len};
+ghost use Rattle.std.specs.Prelude.{◌≡◌, ◌≤◌, ◌∷◌, [], ℕ, List, None, Err, IfOk, IfSome, OnOk, is_err, take, vec_len};
 ghost use Rattle.std.specs.Bool.{OnTrue};
 ghost use Rattle.std.specs.Io.KnownBytes.{Appends};
 ghost use Rattle.p8_io.specs.Memory.{counted_if};
@@ -19,20 +19,23 @@ use std::rt::Files;
 
 /// The files of the system, by their paths.
 ///
-/// A name is looked for as it stands. Where nothing of that name is there, it is looked for beside the first file that
-/// was read, and then in the folders that the shelf was given, in their order; a path from the root has one place.
+/// The first file that is read by `read`, the top file of a project, and each file that is read by `read_named` is the one
+/// of just this name. Every further file, which a source mentions, is looked for as it stands; where nothing of that name is there,
+/// beside the first file; and then in the folders that the shelf was given, in their order. Where none of these has it, a name that doesn't
+/// end in `.spin` is looked for once more with `.spin` behind it. A path from the root has one place.
 ///
 /// A read is `Missing` where the system has nothing of that name in any of these, and `Failed` at every other fault,
-/// as at a folder. Either raises the count of faults by one. Want of memory, the system's too, is `NoMemory` and
+/// as at a folder; but one of the shelf's folders that is none, that can't be read, or in which a folder has the name, is passed over. Either raises
+/// the count of faults by one. Want of memory, the system's too, is `NoMemory` and
 /// no fault. A contract sees the count alone, and nothing of what the files hold.
 #[derive(Drop)]
 pub struct FileShelf<'a, R> {
     rt: &'a R,
     faults: u64,
-    // Where a name is looked for that isn't there as it stands.
+    // Where a file is looked for last that a source mentions.
     folders: Vec<PathBuf>,
-    // Whether the folder of the first file that was read is among them.
-    has_read: bool,
+    // The folder of the first file that was read by `read`.
+    beside: Option<PathBuf>,
 }
 
 impl<'a, R> Model for FileShelf<'a, R> {
@@ -44,7 +47,7 @@ impl<'a, R> Model for FileShelf<'a, R> {
 }
 
 impl<'a, R: Files> FileShelf<'a, R> {
-    /// A shelf without faults so far, which also looks for files in these folders.
+    /// A shelf without faults so far, which also looks in these folders for what a source mentions.
     pub fn new(rt: &'a R, folders: Vec<PathBuf>) -> FileShelf<'a, R>
         ensures { result ≡ 0 }
     {
@@ -52,46 +55,85 @@ impl<'a, R: Files> FileShelf<'a, R> {
             rt,
             faults: 0,
             folders,
-            has_read: false,
+            beside: None,
         }
     }
 
-    // Reads a file. The folder of the first one becomes the first of those in which others are looked for.
+    // Reads the top file of a project. Its folder is the one in which others are looked for first.
+    fn read_top(&mut self, alloc: Global, name: &str) -> Result<Vec<u8>, ShelfError>
+        ensures limited { IfOk result (λ bytes. vec_len bytes ≤ READ_LIMIT) }
+        ensures quiet { self.new ≡ self.old }
+    {
+        let path = Path::new(name);
+        let bytes = read_file(self.rt, alloc, path, false)?;
+        self.beside = match path.parent() {
+            Some(folder) => Some(folder.to_path_buf(alloc)?),
+            None => None,
+        };
+        Ok(bytes)
+    }
+
+    // Reads the top file of a project, or a file that a source of it mentions.
     fn read_found(&mut self, alloc: Global, name: &str) -> Result<Vec<u8>, ShelfError>
         ensures limited { IfOk result (λ bytes. vec_len bytes ≤ READ_LIMIT) }
         ensures quiet { self.new ≡ self.old }
     {
-        let name = Path::new(name);
-        let (path, bytes) = read_first(self.rt, alloc, &self.folders, name, READ_LIMIT)?;
-        if let (false, Some(folder)) = (self.has_read, path.as_path().parent()) {
-            match self.folders.insert(0, folder.to_path_buf(alloc)?) {
-                Ok(()) => self.has_read = true,
-                Err(_) => return Err(ShelfError::NoMemory),
+        match &self.beside {
+            None => self.read_top(alloc, name),
+            Some(folder) => read_mentioned(self.rt, alloc, folder.as_path(), &self.folders, name),
+        }
+    }
+
+    // Counts why a read gave no bytes, where that is a fault, and hands it on.
+    fn counted(&mut self, error: ShelfError) -> ShelfError
+        ensures reads { (name : List ℕ) → Reads self.old self.new None name (Err result) }
+        ensures later { self.old ≤ self.new }
+    {
+        match error {
+            ShelfError::NoMemory => ShelfError::NoMemory,
+            fault => {
+                raise(&mut self.faults);
+                fault
             }
         }
-        Ok(bytes)
     }
 }
 
-// Why a call on a file that is there gave no bytes.
-fn cause(error: &Error) -> ShelfError {
+// Whether one of the shelf's folders is passed over at such a failure.
+fn is_passed_over(kind: ErrorKind) -> bool {
+    matches!(
+        kind,
+        ErrorKind::NotADirectory
+            | ErrorKind::IsADirectory
+            | ErrorKind::PermissionDenied
+            | ErrorKind::InvalidFilename
+            | ErrorKind::FilesystemLoop
+    )
+}
+
+// Why a call on a file gave no bytes; `passes` says whether this place may be passed over.
+fn cause(error: &Error, passes: bool) -> ShelfError {
     match error.kind() {
         ErrorKind::OutOfMemory => ShelfError::NoMemory,
-        _ => ShelfError::Failed,
-    }
-}
-
-// Why a file could not be opened.
-fn cause_at_open(error: &Error) -> ShelfError {
-    match error.kind() {
         ErrorKind::NotFound => ShelfError::Missing,
-        _ => cause(error),
+        kind => {
+            if passes && is_passed_over(kind) {
+                ShelfError::Missing
+            } else {
+                ShelfError::Failed
+            }
+        }
     }
 }
 
 // The first bytes of a reader, at most so many. Each turn takes at least one byte, or is the last: no call
 // is tried again, so one that a signal interrupts has failed.
-fn first_bytes<F: Read>(alloc: Global, file: &mut F, limit: usize) -> Result<Vec<u8>, ShelfError>
+fn first_bytes<F: Read>(
+    alloc: Global,
+    file: &mut F,
+    limit: usize,
+    passes: bool,
+) -> Result<Vec<u8>, ShelfError>
     ensures limited { IfOk result (λ bytes. vec_len bytes ≤ limit) }
 
     // Where the reader tells its bytes.
@@ -104,48 +146,83 @@ fn first_bytes<F: Read>(alloc: Global, file: &mut F, limit: usize) -> Result<Vec
         match file.read(&mut chunk[..wanted]) {
             Ok(0) => return Ok(bytes),
             Ok(taken) => bytes.extend_from_slice(&chunk[..taken])?,
-            Err(error) => return Err(cause(&error)),
+            Err(error) => return Err(cause(&error, passes)),
         }
     }
     Ok(bytes)
 }
 
-// Opens a file and reads its first bytes, at most so many.
+// Opens a file and reads its first bytes, as many as a read gives at most.
 fn read_file<R: Files>(
     rt: &R,
     alloc: Global,
     path: Path<'_>,
-    limit: usize,
+    passes: bool,
 ) -> Result<Vec<u8>, ShelfError>
-    ensures { IfOk result (λ bytes. vec_len bytes ≤ limit) }
+    ensures { IfOk result (λ bytes. vec_len bytes ≤ READ_LIMIT) }
 {
     match File::open(rt, path) {
-        Ok(mut file) => first_bytes(alloc, &mut file, limit),
-        Err(error) => Err(cause_at_open(&error)),
+        Ok(mut file) => first_bytes(alloc, &mut file, READ_LIMIT, passes),
+        Err(error) => Err(cause(&error, passes)),
     }
 }
 
-// Reads the first bytes of the file of this name, as it stands or else in the first of the folders that has it, and
-// tells its path.
-fn read_first<R: Files>(
+// Reads the file of a name in the first of the folders that has it.
+fn read_in_folders<R: Files>(
     rt: &R,
     alloc: Global,
     folders: &[PathBuf],
     name: Path<'_>,
-    limit: usize,
-) -> Result<(PathBuf, Vec<u8>), ShelfError>
-    ensures { IfOk result (λ found. vec_len found.1 ≤ limit) }
+) -> Result<Vec<u8>, ShelfError>
+    ensures { IfOk result (λ bytes. vec_len bytes ≤ READ_LIMIT) }
 {
-    let mut path = name.to_path_buf(alloc)?;
     for folder in folders {
-        match read_file(rt, alloc, path.as_path(), limit) {
-            Ok(bytes) => return Ok((path, bytes)),
-            Err(ShelfError::Missing) => path = folder.as_path().join(alloc, name)?,
-            Err(error) => return Err(error),
+        let path = folder.as_path().join(alloc, name)?;
+        match read_file(rt, alloc, path.as_path(), true) {
+            Err(ShelfError::Missing) => {}
+            read => return read,
         }
     }
-    let bytes = read_file(rt, alloc, path.as_path(), limit)?;
-    Ok((path, bytes))
+    Err(ShelfError::Missing)
+}
+
+// Reads a file that a source mentions, as it stands, beside the top file, or in the first of the folders that has it.
+fn read_placed<R: Files>(
+    rt: &R,
+    alloc: Global,
+    beside: Path<'_>,
+    folders: &[PathBuf],
+    name: Path<'_>,
+) -> Result<Vec<u8>, ShelfError>
+    ensures { IfOk result (λ bytes. vec_len bytes ≤ READ_LIMIT) }
+{
+    match read_file(rt, alloc, name, false) {
+        Err(ShelfError::Missing) => {}
+        read => return read,
+    }
+    let path = beside.join(alloc, name)?;
+    match read_file(rt, alloc, path.as_path(), false) {
+        Err(ShelfError::Missing) => read_in_folders(rt, alloc, folders, name),
+        read => read,
+    }
+}
+
+// Reads a file that a source mentions, by its name, or else by that with `.spin` behind it.
+fn read_mentioned<R: Files>(
+    rt: &R,
+    alloc: Global,
+    beside: Path<'_>,
+    folders: &[PathBuf],
+    name: &str,
+) -> Result<Vec<u8>, ShelfError>
+    ensures { IfOk result (λ bytes. vec_len bytes ≤ READ_LIMIT) }
+{
+    let read = read_placed(rt, alloc, beside, folders, Path::new(name));
+    if read != Err(ShelfError::Missing) || name.ends_with(".spin") {
+        return read;
+    }
+    let name = format!(in alloc; "{name}.spin")?;
+    read_placed(rt, alloc, beside, folders, Path::new(&name))
 }
 
 impl<'a, R: Files> Shelf for FileShelf<'a, R> {
@@ -168,11 +245,24 @@ impl<'a, R: Files> Shelf for FileShelf<'a, R> {
     {
         match self.read_found(alloc, name) {
             Ok(bytes) => Ok(bytes),
-            Err(ShelfError::NoMemory) => Err(ShelfError::NoMemory),
-            Err(error) => {
-                raise(&mut self.faults);
-                Err(error)
-            }
+            Err(error) => Err(self.counted(error)),
+        }
+    }
+
+    #[tactic(auto, unfolding(crate::specs::Shelves::read_limit))]
+    fn read_named(&mut self, alloc: Global, name: &str) -> Result<Vec<u8>, ShelfError>
+        // What every shelf promises.
+        ensures reads { Reads self.old self.new None name.now result }
+        ensures limited { IfOk result (λ bytes. vec_len bytes ≤ read_limit) }
+        ensures later { self.old ≤ self.new }
+        ensures logged { WereRead None None (name.now ∷ []) }
+
+        // A read that gives bytes is no fault.
+        ensures quiet { OnOk result (self.new ≡ self.old) }
+    {
+        match read_file(self.rt, alloc, Path::new(name), false) {
+            Ok(bytes) => Ok(bytes),
+            Err(error) => Err(self.counted(error)),
         }
     }
 }

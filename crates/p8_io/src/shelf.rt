@@ -68,4 +68,17 @@ pub trait Shelf {
         ensures later { faults self.old ≤ faults self.new }
         ensures kept { files self.new ≡ files self.old }
         ensures logged { WereRead (log self.old) (log self.new) (name.now ∷ []) };
+
+    /// Does what `read` does, for a file that the words of a command name: that is the file of just this name. A shelf
+    /// may look in other places too for what a source mentions, which is read by `read`; one that never does leaves this
+    /// method as it is.
+    fn read_named(&mut self, alloc: Global, name: &str) -> Result<Vec<u8>, ShelfError>
+        ensures reads { Reads (faults self.old) (faults self.new) (files self.old) name.now result }
+        ensures limited { IfOk result (λ bytes. vec_len bytes ≤ read_limit) }
+        ensures later { faults self.old ≤ faults self.new }
+        ensures kept { files self.new ≡ files self.old }
+        ensures logged { WereRead (log self.old) (log self.new) (name.now ∷ []) }
+    {
+        self.read(alloc, name)
+    }
 }
