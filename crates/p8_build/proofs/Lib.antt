@@ -4,7 +4,9 @@ mod Firsts
 pub mod Methods
 pub mod Ready
 pub mod One
+mod Sized
 mod Refusals
+mod Earliest
 mod Numbering
 mod OneByOne
 mod Making

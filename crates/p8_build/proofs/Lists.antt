@@ -1,7 +1,8 @@
 -- Lists by the numbers of their elements.
-use Rattle.std.proofs.Common.{◌≡◌, ◌⊎◌, inl, inr, ℕ, zero, suc, ◌+◌, ◌<◌, List, [], ◌∷◌, ◌++◌, length, slice_get, map, get_or, Some, None, refl, ap, sym, ◌∙◌, subst, arith, length-append}
+use Rattle.std.proofs.Common.{◌≡◌, ◌⊎◌, inl, inr, ℕ, zero, suc, ◌+◌, ◌<◌, List, [], ◌∷◌, ◌++◌, length, slice_get, map, take, get_or, Some, refl, ap, sym, ◌∙◌, subst, arith, length-append}
 use Rattle.std.specs.Prelude.{Result, Ok, Err, IfErr, IsErrAnd, option_map}
-use Rattle.std.proofs.lemmas.Option.{slice_get_within, same_Some, none-some, slice_get-map, slice_get_read}
+use Rattle.std.proofs.lemmas.List.{take_more}
+use Rattle.std.proofs.lemmas.Option.{same_Some, none-some, slice_get-map, slice_get_read}
 
 -- an element of a list that is long enough
 pub element : {X : Type 0} (xs : List X) (i : ℕ) → i < length xs → (x : X) × (slice_get xs i ≡ Some x)
@@ -54,9 +55,24 @@ choose {X = X} {Y = Y} P (x ∷ xs) some =
     at y p ys more zero a b g h = subst (P 0 a) (same_Some y b h) (subst (λ z. P 0 z y) (same_Some x a g) p)
     at y p ys more (suc i) a b g h = more i a b g h
 
+-- an element of what a list is turned into
+pub of_map : {X Y : Type 0} (v : X → Y) (xs : List X) (i : ℕ) (y : Y) → slice_get (map v xs) i ≡ Some y → (x : X) × (slice_get xs i ≡ Some x) × (y ≡ v x)
+of_map v [] i y a = absurd (none-some y a)
+of_map v (x ∷ xs) zero y a = (x, refl, sym (same_Some (v x) y a))
+of_map v (x ∷ xs) (suc i) y a = of_map v xs i y a
+
 -- an element of a slice, as something else
 pub mapped : {X Y : Type 0} (v : X → Y) (xs : List X) (i : ℕ) (x : X) → i < length xs → x ≡ get_or xs i x → slice_get (map v xs) i ≡ Some (v x)
 mapped v xs i x l e = slice_get-map v xs i ∙ ap (option_map v) (slice_get_read xs (length xs) i x refl l e)
+
+map_push : {X Y : Type 0} (v : X → Y) (xs : List X) (x : X) → map v (xs ++ x ∷ []) ≡ map v xs ++ v x ∷ []
+map_push v [] x = refl
+map_push v (y ∷ xs) x = ap (λ ys. v y ∷ ys) (map_push v xs x)
+
+-- one element more of a slice is turned into something else
+pub map_more : {X Y : Type 0} (v : X → Y) (xs : List X) (i : ℕ) (x : X) (ys zs : List Y) (y : Y) → i < length xs → x ≡ get_or xs i x → ys ≡ map v (take i xs) → y ≡ v x → zs ≡ ys ++ y ∷ [] → zs ≡ map v (take (i + 1) xs)
+map_more v xs i x ys zs y l at before here is =
+    is ∙ ap (λ us. us ++ y ∷ []) before ∙ ap (λ u. map v (take i xs) ++ u ∷ []) (here ∙ ap v at) ∙ sym (map_push v (take i xs) (get_or xs i x)) ∙ ap (map v) (sym (take_more xs i x l))
 
 -- what the exit of a `?` returns
 pub told : {T E : Type 0} (r : Result T E) (e : E) (P : E → Type 0) → IsErrAnd r (λ y. y ≡ e) → P e → IfErr r P

@@ -1,5 +1,5 @@
 -- What a file is compiled to is one thing, whatever tables its names stand in.
-use Rattle.std.proofs.Common.{◌≡◌, ℕ, ◌+◌, ◌*◌, ◌<◌, ◌≤◌, zero, suc, Bool, true, false, if◌then◌else◌, List, [], ◌∷◌, length, map, slice_get, Option, Some, None, refl, ap, sym, ◌∙◌, subst, arith}
+use Rattle.std.proofs.Common.{◌≡◌, ℕ, ◌+◌, ◌≤◌, Bool, true, false, if◌then◌else◌, List, [], ◌∷◌, length, map, slice_get, Option, Some, None, refl, ap, sym, ◌∙◌, subst, arith}
 use Rattle.std.specs.Prelude.{option_map}
 use Rattle.std.specs.Str.{bytes_eq}
 use Rattle.std.proofs.lemmas.Option.{slice_get_within}
@@ -17,7 +17,7 @@ use Rattle.p8_kinds.specs.declared.name_kinds.Label.{Label}
 use Rattle.p8_kinds.specs.declared.name_kinds.NameKind.{NameKind}
 use Rattle.p8_kinds.specs.declared.name_kinds.NameKind.TheVariants as kind
 use Rattle.p8_kinds.specs.FileSettings.{meaning_of_kind, constant_behind, file_setting}
-use Rattle.p8_kinds.specs.Kinds.{own, or_else, kind_of}
+use Rattle.p8_kinds.specs.Kinds.{own, or_else}
 use Rattle.p8_kinds.specs.Publics.{public_of}
 use Rattle.p8_names.specs.Kinds.{kinds, methods, numbered, objects, instances}
 use Rattle.p8_names.specs.Resolution.{IsNamed}

@@ -1,5 +1,5 @@
 -- The methods of a file whose names are resolved can be coded.
-use Rattle.std.proofs.Common.{◌≡◌, ◌⊎◌, inl, inr, ℕ, suc, min, ◌+◌, ◌<◌, ◌≤◌, ◌^◌, Bool, true, false, if◌then◌else◌, List, [], ◌∷◌, ◌++◌, length, slice_get, Option, Some, None, refl, ap, sym, ◌∙◌, subst, arith, lit<}
+use Rattle.std.proofs.Common.{◌≡◌, inr, ℕ, suc, min, ◌+◌, ◌<◌, ◌^◌, Bool, true, false, if◌then◌else◌, List, [], ◌∷◌, ◌++◌, length, slice_get, Option, Some, None, ap, sym, ◌∙◌, subst, arith, lit<}
 use Rattle.std.specs.Prelude.{IfSome}
 use Rattle.std.specs.Map.{lookup}
 use Rattle.std.specs.Str.{bytes_eq}
@@ -17,18 +17,18 @@ use Rattle.p8_kinds.specs.declared.kinds.Kinds.{Kinds}
 use Rattle.p8_kinds.specs.declared.name_kinds.Label.{Label}
 use Rattle.p8_kinds.specs.declared.name_kinds.NameKind.{NameKind}
 use Rattle.p8_kinds.specs.declared.name_kinds.NameKind.TheVariants as kind
-use Rattle.p8_kinds.specs.Environments.{Environment, kind_in}
+use Rattle.p8_kinds.specs.Environments.{kind_in}
 use Rattle.p8_kinds.specs.Kinds.{own, or_else}
 use Rattle.p8_kinds.specs.Misuses.{MisuseInStatements}
-use Rattle.p8_kinds.specs.Publics.{named_method, method_among, method_in, public_of}
+use Rattle.p8_kinds.specs.Publics.{named_method, method_among, method_in}
 use Rattle.p8_names.specs.Settings.{has_name, predefined_value}
-use Rattle.p8_names.specs.Kinds.{numbered, own_kind, own_kinds, method_setting, file_kind, kind_among, kind_or, item_kind, param_kinds, result_kind, local_kinds, kind_in_method}
-use Rattle.p8_names.specs.Faults.{in_method, IsMethodFault, IsNameFault, of_name, of_method}
+use Rattle.p8_names.specs.Kinds.{numbered, own_kind, method_setting, file_kind, kind_among, kind_or, item_kind, param_kinds, result_kind, local_kinds, kind_in_method}
+use Rattle.p8_names.specs.Faults.{in_method, IsMethodFault, of_name, of_method}
 use Rattle.p8_names.specs.Resolution.{IsNamed}
 use Rattle.p8_constants.specs.Rules.{count_in}
 use Rattle.p8_gen.specs.Expressions.{method_number}
 use Rattle.p8_gen.specs.Files.{kind_here, names_in}
-use Rattle.p8_gen.specs.Operations.{HasBytes, HaveBytes}
+use Rattle.p8_gen.specs.Operations.{HasBytes}
 use Rattle.p8_stmt.specs.Methods.{AreResolved}
 use Rattle.p8_build.proofs.Methods.{count_of_numbered, proper_method, in_methods}
 

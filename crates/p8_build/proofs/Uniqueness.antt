@@ -1,25 +1,20 @@
 -- A project is built to one thing, or refused for one reason.
-use Rattle.std.proofs.Common.{◌≡◌, ◌⊎◌, inl, inr, ℕ, ◌<◌, ◌≤◌, ◌==◌, List, length, slice_get, Option, Some, None, refl, ap, sym, ◌∙◌, subst, arith}
-use Rattle.std.proofs.lemmas.Option.{slice_get_within, same_Some}
+use Rattle.std.proofs.Common.{◌≡◌, ◌⊎◌, inl, inr, ℕ, ◌<◌, ◌≤◌, List, length, slice_get, Option, Some, ap, sym, ◌∙◌, subst, arith}
+use Rattle.std.proofs.lemmas.Option.{same_Some}
 use Rattle.p8_tree.specs.Projects.{NamedSource}
 use Rattle.p8_tree.specs.declared.faults.Fault.{Fault}
 use Rattle.p8_tree.specs.Faults.{PhaseFault, IsFirstRefusal}
 use Rattle.p8_kinds.specs.declared.children.Children.{Children}
-use Rattle.p8_names.specs.Resolution.{IsNamed}
-use Rattle.p8_dat.specs.Blocks.{IsDatFault}
 use Rattle.p8_image.specs.declared.clocks.Clock.{Clock}
 use Rattle.p8_image.specs.declared.parts.ObjectPart.{ObjectPart}
 use Rattle.p8_image.specs.Layout.{header_by}
 use Rattle.p8_image.specs.Projects.{FitsHub}
-use Rattle.p8_names.specs.Mentions.{AreDistinct, HaveNoRing}
 use Rattle.p8_names.specs.Children.{AreChildren}
-use Rattle.p8_build.specs.Parts.{data_start}
 use Rattle.p8_build.specs.Files.{CompiledFile}
-use Rattle.p8_build.specs.Builds.{IsFile, AreCompiled, objects_of, clock_by, IsRefusal, IsImageFault, too_large, no_clock, IsBuilt, IsRefusedWith}
-use Rattle.p8_build.proofs.Lists.{element, one_element}
+use Rattle.p8_build.specs.Builds.{AreCompiled, objects_of, clock_by, IsRefusal, IsImageFault, too_large, no_clock, IsBuilt, IsRefusedWith}
+use Rattle.p8_build.proofs.Lists.{one_element}
 use Rattle.p8_build.proofs.Firsts.{one_first}
-use Rattle.p8_build.proofs.One.{alike, same_setting, same_labels, code_fault_along}
-use Rattle.p8_build.proofs.Refusals.{NameFaulty, DataFaulty, CodeFaulty, ImageFaulty, shown, in_names, in_data, in_code, in_image}
+use Rattle.p8_build.proofs.Refusals.{ImageFaulty, shown, in_names, in_data, in_code, in_image, none_compiled}
 use Rattle.p8_build.proofs.Wholes.{one_objects, one_clock}
 
 -- what the files of a project see is one thing
@@ -49,45 +44,29 @@ one_refused files view n m f g x y =
 
 -- ---- never both
 
-module _ (files : List NamedSource) (children : List Children) (xs : List CompiledFile) (beside : length children ≡ length files) (each : AreCompiled files children xs) where
-  pub no_name : (i : ℕ) (f : Fault) → ¬ NameFaulty files children i f
-  no_name i f b =
-      let within = slice_get_within files i b.file b.is.stands in
-      let x = element xs i (omega (arith, each.count)) in
-      (each.each i b.file b.seen x.0 b.is x.1).names.clean f b.fault
-
-  pub no_data : (i : ℕ) (f : Fault) → ¬ DataFaulty files children i f
-  no_data i f b =
-      let within = slice_get_within files i b.file b.is.stands in
-      let x = element xs i (omega (arith, each.count)) in
-      let made = each.each i b.file b.seen x.0 b.is x.1 in
-      made.dat.clean f (subst (λ s. IsDatFault s (data_start s b.file.tree) b.file.tree f) (same_setting b.file.tree b.seen b.x.kinds x.0.kinds (alike b.file.tree b.seen (i == 0) b.x.kinds x.0.kinds b.names made.names)) b.fault)
-
-  pub no_code : (i : ℕ) (f : Fault) → ¬ CodeFaulty files children i f
-  no_code i f b =
-      let within = slice_get_within files i b.file b.is.stands in
-      let x = element xs i (omega (arith, each.count)) in
-      let made = each.each i b.file b.seen x.0 b.is x.1 in
-      let both = alike b.file.tree b.seen (i == 0) b.x.kinds x.0.kinds b.names made.names in
-      made.code.clean f (code_fault_along b.file.tree b.seen b.x x.0 f both (same_labels b.file.tree b.seen b.x x.0 both b.dat made.dat) b.fault)
-
-  no_image : (c : Clock) (objects : List ObjectPart) (f : Fault) → objects ≡ objects_of files children xs → clock_by xs ≡ Some c → FitsHub (header_by objects) → ¬ ImageFaulty files children f
-  no_image c objects f are clock fits b =
-      by (subst (λ (o : Option Clock). IsImageFault objects o f) (one_clock files children b.xs xs beside b.each each ∙ clock)
-      (subst (λ (os : List ObjectPart). IsImageFault os (clock_by b.xs) f) (one_objects files children b.xs xs beside b.each each ∙ sym are) b.fault))
-    where
-      by : IsImageFault objects (Some c) f → ⊥
-      by (too_large l e) = omega (arith, l, fits)
-      by (no_clock e is) = absurd cc
+no_image : (files : List NamedSource) (children : List Children) (xs : List CompiledFile) → length children ≡ length files → AreCompiled files children xs → (c : Clock) (objects : List ObjectPart) (f : Fault) → objects ≡ objects_of files children xs → clock_by xs ≡ Some c → FitsHub (header_by objects) → ¬ ImageFaulty files children f
+no_image files children xs beside each c objects f are clock fits b =
+    by (subst (λ (o : Option Clock). IsImageFault objects o f) (one_clock files children b.xs xs beside b.each each ∙ clock)
+    (subst (λ (os : List ObjectPart). IsImageFault os (clock_by b.xs) f) (one_objects files children b.xs xs beside b.each each ∙ sym are) b.fault))
+  where
+    by : IsImageFault objects (Some c) f → ⊥
+    by (too_large l e) = omega (arith, l, fits)
+    by (no_clock e is) = absurd cc
 
 pub never_both : (files : List NamedSource) → HaveOneView files → (c : Clock) (a : List ObjectPart) (n : List ℕ) (f : Fault) → IsBuilt files c a → ¬ IsRefusedWith files n f
 never_both files view c a n f x y =
     let same : x.children ≡ y.children = view x.children y.children x.seen y.seen in
     let each : AreCompiled files y.children x.compiled = subst (λ (cs : List Children). AreCompiled files cs x.compiled) same x.each in
     let are : a ≡ objects_of files y.children x.compiled = x.objects_are ∙ ap (λ (cs : List Children). objects_of files cs x.compiled) same in
-    elim (shown y.first.holds) [
-      | in_names e b ↦ no_name files y.children x.compiled y.seen.one_each each y.refusal.file y.refusal.fault b
-      | in_data e b ↦ no_data files y.children x.compiled y.seen.one_each each y.refusal.file y.refusal.fault b
-      | in_code e b ↦ no_code files y.children x.compiled y.seen.one_each each y.refusal.file y.refusal.fault b
-      | in_image e z b ↦ no_image files y.children x.compiled y.seen.one_each each c a y.refusal.fault are x.clock_is x.fits b
+    elim (low_or_image y.refusal.phase) [
+      | inl l ↦ none_compiled files y.children x.compiled each y.refusal l y.first.holds
+      | inr l ↦ elim (shown y.first.holds) [
+        | in_names e b ↦ absurd (omega (arith, l, e))
+        | in_data e b ↦ absurd (omega (arith, l, e))
+        | in_code e b ↦ absurd (omega (arith, l, e))
+        | in_image e z b ↦ no_image files y.children x.compiled y.seen.one_each each c a y.refusal.fault are x.clock_is x.fits b
+      ]
     ]
+  where
+    low_or_image : (p : ℕ) → (p < 3) ⊎ (3 ≤ p)
+    low_or_image p = grind arith

@@ -1,91 +1,72 @@
 -- The code of a file by its tables.
-use Rattle.std.proofs.Common.{◌≡◌, ◌⊎◌, ℕ, ◌+◌, Bool, List, [], ◌∷◌, length, map, Option, Some, None, refl, ap, sym, ◌∙◌, subst}
-use Rattle.p8_tree.specs.declared.places.Place.{Place}
+use Rattle.std.proofs.Common.{◌≡◌, inl, inr, ℕ, ◌+◌, Bool, true, false, List, Option, ap, sym, ◌∙◌, subst}
 use Rattle.p8_tree.specs.Proper.{IsProperFile}
 use Rattle.p8_tree.specs.Sources.{MethodTree, Source}
-use Rattle.p8_tree.specs.Projects.{NamedSource}
 use Rattle.p8_tree.specs.declared.faults.Fault.{Fault}
-use Rattle.p8_tree.specs.Faults.{IsFirstFault, first_of_two}
+use Rattle.p8_tree.specs.Faults.{IsFirstFault}
 use Rattle.p8_kinds.specs.ConstantEntries.{setting_of as setting_in}
-use Rattle.p8_constants.specs.FileItems.{Item, items}
-use Rattle.p8_constants.specs.Standing.{IsFirstOf}
+use Rattle.p8_kinds.specs.Meanings.{Setting}
+use Rattle.p8_constants.specs.FileItems.{items}
 use Rattle.p8_kinds.specs.declared.children.Children.{Children}
-use Rattle.p8_kinds.specs.declared.kinds.Kinds.{Kinds}
 use Rattle.p8_kinds.specs.Kinds.{own}
 use Rattle.p8_kinds.specs.Publics.{public_of}
-use Rattle.p8_kinds.specs.FileSettings.{file_setting}
 use Rattle.p8_names.specs.Kinds.{numbered, objects, instances}
 use Rattle.p8_names.specs.Resolution.{IsNamed}
-use Rattle.p8_names.proofs.TwoFaults.{two_first}
-use Rattle.p8_dat.specs.declared.assembling.Dat.{Dat}
 use Rattle.p8_gen.specs.declared.coder.Tables.{Tables}
-use Rattle.p8_gen.specs.Files.{first_offset, names_in}
+use Rattle.p8_gen.specs.Files.{first_offset}
 use Rattle.p8_gen.specs.Labels.{offset_in}
 use Rattle.p8_gen.specs.Names.{Names}
 use Rattle.p8_gen.proofs.Tabled.{names_same}
-use Rattle.p8_image.specs.declared.parts.MethodPart.{MethodPart}
-use Rattle.p8_image.specs.declared.parts.ObjectPart.{ObjectPart}
-use Rattle.p8_build.specs.declared.string_texts.StringText.{StringText}
-use Rattle.p8_stmt.specs.Methods.{AreResolved}
-use Rattle.p8_build.specs.Parts.{text_number, strings_of}
-use Rattle.p8_build.specs.Numbers.{text_of, number_by, AreNumbers}
-use Rattle.p8_build.specs.Measuring.{names_with}
-use Rattle.p8_build.specs.Coding.{AreReady, IsFaultOfOne, ArePartsOf, IsCoded, IsOneTooMany}
-use Rattle.p8_build.specs.Phases.{IsObjectOf, IsCodeFaultOf, object_by}
-use Rattle.p8_build.specs.declared.coding.Coded.{Coded}
-use Rattle.p8_build.specs.declared.texts.TextNumbers.{TextNumbers}
-use Rattle.p8_build.proofs.Making.{numbers_are, code_refusal, object_is}
+use Rattle.p8_stmt.specs.Methods.{AreResolved, IsCodeOf, IsMethodFault}
+use Rattle.p8_build.specs.declared.sizes.Size.{Size}
+use Rattle.p8_build.specs.Files.{CompiledFile, setting_of, method_names, are_too_many, IsCodeFault, of_method, too_many, IsCode, names_with}
+use Rattle.p8_build.specs.Measuring.{IfSizeAt}
+use Rattle.p8_build.specs.Coding as coding
+use Rattle.p8_build.specs.Coding.{AreReady, of_one, IsFaultOfCode, AreAllCodes}
 use Rattle.p8_build.proofs.Ready.{resolved}
+use Rattle.p8_build.proofs.Sized.{size_along}
 
--- the words of texts
-pub words_are : (ss : List StringText) → map (λ (s : StringText). (text_of s).1) ss ≡ map (λ (x : Place × List ℕ). x.1) (map text_of ss)
-words_are [] = refl
-words_are (s ∷ ss) = ap (λ ws. (text_of s).1 ∷ ws) (words_are ss)
-
-none_first : (a b : Option Fault) → first_of_two a b ≡ None → a ≡ None
-none_first None b e = refl
-none_first (Some f) b e = absurd cc
-
-module _ (source : Source) (children : Children) (kinds : Kinds) (tables : Tables) (dat : Dat)
+module _ (source : Source) (children : Children) (x : CompiledFile) (tables : Tables)
     (publics : (item : ℕ) (name : List ℕ) → own tables.publics item name ≡ public_of children item name)
-    (consts : setting_in tables.consts ≡ file_setting kinds children)
-    (offsets : (name : List ℕ) → offset_in tables.labels name ≡ first_offset dat.labels name) where
-  pub same_names : (k : ℕ) (m : MethodTree) → names_with kinds tables k m ≡ names_in kinds children dat.labels (k + 1) m.place
-  same_names k m = names_same kinds (k + 1) tables m.place children dat.labels publics consts offsets
+    (consts : setting_in tables.consts ≡ setting_of children x)
+    (offsets : (name : List ℕ) → offset_in tables.labels name ≡ first_offset x.labels name) where
+  pub same_names : (k : ℕ) (m : MethodTree) → names_with x.kinds tables k m ≡ method_names children x k m
+  same_names k m = names_same x.kinds (k + 1) tables m.place children x.labels publics consts offsets
 
-  pub ready_by : (top : Bool) (ms : List MethodTree) → IsNamed source children top kinds → IsProperFile source → ms ≡ numbered (items source) → AreReady (names_with kinds tables) ms
-  ready_by top ms named proper is = subst (AreReady (names_with kinds tables)) (sym is) (record {
-    each = λ k m at. subst (λ (names : Names). AreResolved names m.body) (sym (same_names k m)) (resolved source children top kinds named k m at dat.labels proper);
+  -- its methods can be coded
+  pub ready_by : (top : Bool) (ms : List MethodTree) → IsNamed source children top x.kinds → IsProperFile source → ms ≡ numbered (items source) → AreReady (names_with x.kinds tables) ms
+  ready_by top ms named proper is = subst (AreReady (names_with x.kinds tables)) (sym is) (record {
+    each = λ k m at. subst (λ (names : Names). AreResolved names m.body) (sym (same_names k m)) (resolved source children top x.kinds named k m at x.labels proper);
   })
 
-  -- the first of the faults of the methods and of 27
-  first_in_file : (ms ns : List MethodTree) (n : ℕ) (a b r : Option Fault) → ms ≡ numbered (items source) → ns ≡ numbered (items source) → n ≡ instances (setting_in tables.consts) (objects (items source))
-      → IsFirstOf a (IsFaultOfOne (names_with kinds tables) ms) → IsFirstOf b (IsOneTooMany n ns) → r ≡ first_of_two a b
-      → IsFirstOf r (λ f. IsFaultOfOne (names_with kinds tables) (numbered (items source)) f ⊎ IsOneTooMany (instances (setting_in tables.consts) (objects (items source))) (numbered (items source)) f)
-  first_in_file ms ns n a b r methods others count s t is =
-      two_first (IsFaultOfOne (names_with kinds tables) (numbered (items source))) (IsOneTooMany (instances (setting_in tables.consts) (objects (items source))) (numbered (items source))) a b is
-      (subst (λ (xs : List MethodTree). IsFirstOf a (IsFaultOfOne (names_with kinds tables) xs)) methods s)
-      (subst (λ (xs : List MethodTree). IsFirstOf b (IsOneTooMany (instances (setting_in tables.consts) (objects (items source))) xs)) others (subst (λ (k : ℕ). IsFirstOf b (IsOneTooMany k ns)) count t))
+  count_is : (n : ℕ) → n ≡ instances (setting_in tables.consts) (objects (items source)) → n ≡ instances (setting_of children x) (objects (items source))
+  count_is n is = is ∙ ap (λ (s : Setting). instances s (objects (items source))) consts
 
-  pub refused_by : (ms ns : List MethodTree) (n : ℕ) (a b r : Option Fault) (f : Fault) → ms ≡ numbered (items source) → ns ≡ numbered (items source) → n ≡ instances (setting_in tables.consts) (objects (items source))
-      → IsFirstOf a (IsFaultOfOne (names_with kinds tables) ms) → IsFirstOf b (IsOneTooMany n ns) → r ≡ first_of_two a b → r ≡ Some f → IsFirstFault (IsCodeFaultOf source children kinds dat) f
-  refused_by ms ns n a b r f methods others count s t is told =
-      code_refusal source children kinds dat (names_with kinds tables) same_names (setting_in tables.consts) f consts
-      (subst (λ (o : Option Fault). IsFirstOf o (λ g. IsFaultOfOne (names_with kinds tables) (numbered (items source)) g ⊎ IsOneTooMany (instances (setting_in tables.consts) (objects (items source))) (numbered (items source)) g)) told
-      (first_in_file ms ns n a b r methods others count s t is))
+  to_code_fault : (n : ℕ) (f : Fault) → n ≡ instances (setting_in tables.consts) (objects (items source)) → IsFaultOfCode (names_with x.kinds tables) n (numbered (items source)) f → IsCodeFault source children x f
+  to_code_fault n f is (inl (of_one k m at b)) = of_method k m at (subst (λ names. IsMethodFault names m f) (same_names k m) b)
+  to_code_fault n f is (inr (coding.too_many k m at a b e)) =
+      too_many k m at (record { too_many = subst (λ (t : ℕ). are_too_many t (k + 1) ≡ true) (count_is n is) a; first = subst (λ (t : ℕ). are_too_many t k ≡ false) (count_is n is) b }) e
 
-  pub object_with : (files : List NamedSource) (ms ns : List MethodTree) (n : ℕ) (b r : Option Fault) (numbers : TextNumbers) (strings others : List StringText) (xs : List Item) (coded : Coded) (object : ObjectPart)
-      → ms ≡ numbered (items source) → ns ≡ numbered (items source) → n ≡ instances (setting_in tables.consts) (objects (items source))
-      → IsCoded (names_with kinds tables) (number_by numbers) ms coded → IsFirstOf b (IsOneTooMany n ns) → r ≡ first_of_two coded.fault b → r ≡ None
-      → AreNumbers numbers (map text_of strings) → map text_of strings ≡ strings_of source → others ≡ strings → xs ≡ items source
-      → object ≡ object_by files (setting_in tables.consts) xs dat.bytes coded.parts (map (λ (x : StringText). (text_of x).1) others) → IsObjectOf files source children kinds dat object
-  object_with files ms ns n b r numbers strings others xs coded object methods beside count h t is none right texts same whole made =
-      let clean : coded.fault ≡ None = none_first coded.fault b (sym is ∙ none) in
-      object_is source children kinds dat (names_with kinds tables) same_names files (setting_in tables.consts) (number_by numbers) (map text_of strings) coded.parts object consts
-      (numbers_are numbers (map text_of strings) right) texts
-      (subst (λ (o : Option Fault). IsFirstOf o (λ g. IsFaultOfOne (names_with kinds tables) (numbered (items source)) g ⊎ IsOneTooMany (instances (setting_in tables.consts) (objects (items source))) (numbered (items source)) g)) none
-      (first_in_file ms ns n coded.fault b r methods beside count h.fault t is))
-      (h.count clean ∙ ap length methods)
-      (subst (λ (ys : List MethodTree). ArePartsOf (names_with kinds tables) (number_by numbers) ys coded.parts) methods (h.parts clean))
-      (made ∙ ap (λ (ys : List Item). object_by files (setting_in tables.consts) ys dat.bytes coded.parts (map (λ (x : StringText). (text_of x).1) others)) whole
-      ∙ ap (λ (ws : List (List ℕ)). object_by files (setting_in tables.consts) (items source) dat.bytes coded.parts ws) (ap (map (λ (x : StringText). (text_of x).1)) same ∙ words_are strings))
+  from_code_fault : (n : ℕ) (f : Fault) → n ≡ instances (setting_in tables.consts) (objects (items source)) → IsCodeFault source children x f → IsFaultOfCode (names_with x.kinds tables) n (numbered (items source)) f
+  from_code_fault n f is (of_method k m at b) = inl (of_one k m at (subst (λ names. IsMethodFault names m f) (sym (same_names k m)) b))
+  from_code_fault n f is (too_many k m at b e) =
+      inr (coding.too_many k m at (subst (λ (t : ℕ). are_too_many t (k + 1) ≡ true) (sym (count_is n is)) b.too_many) (subst (λ (t : ℕ). are_too_many t k ≡ false) (sym (count_is n is)) b.first) e)
+
+  -- its first fault
+  pub code_refused : (n : ℕ) (ms : List MethodTree) (f : Fault) → n ≡ instances (setting_in tables.consts) (objects (items source)) → ms ≡ numbered (items source) → IsFirstFault (IsFaultOfCode (names_with x.kinds tables) n ms) f → IsFirstFault (IsCodeFault source children x) f
+  code_refused n ms f is whole h =
+      let here : IsFirstFault (IsFaultOfCode (names_with x.kinds tables) n (numbered (items source))) f = subst (λ (xs : List MethodTree). IsFirstFault (IsFaultOfCode (names_with x.kinds tables) n xs) f) whole h in
+      record { holds = to_code_fault n f is here.holds; first = λ g b. here.first g (from_code_fault n g is b) }
+
+  pub code_size_told : (ms : List MethodTree) (f : Fault) (size : Option Size) → ms ≡ numbered (items source) → IfSizeAt (names_with x.kinds tables) ms f size → IfSizeAt (method_names children x) (numbered (items source)) f size
+  code_size_told ms f size whole told = size_along (names_with x.kinds tables) (method_names children x) ms (numbered (items source)) f size (λ k m at. same_names k m) whole told
+
+  -- its codes
+  pub code_is : (n : ℕ) (ms : List MethodTree) → n ≡ instances (setting_in tables.consts) (objects (items source)) → ms ≡ numbered (items source) → AreAllCodes (names_with x.kinds tables) n ms x.codes → IsCode source children x
+  code_is n ms is whole h =
+      let here : AreAllCodes (names_with x.kinds tables) n (numbered (items source)) x.codes = subst (λ (xs : List MethodTree). AreAllCodes (names_with x.kinds tables) n xs x.codes) whole h in
+      record {
+        clean = λ f b. here.clean f (from_code_fault n f is b);
+        count = here.count;
+        each = λ k m code at there. subst (λ names. IsCodeOf names m code) (same_names k m) (here.are.each k m code at there);
+      }

@@ -1,50 +1,48 @@
 -- Whole projects: their objects, their clock and their image.
-use Rattle.std.proofs.Common.{◌≡◌, ◌⊎◌, inl, inr, ℕ, zero, suc, ◌+◌, ◌*◌, ◌%◌, ◌<◌, ◌==◌, Bool, true, false, not, ◌&&◌, List, [], ◌∷◌, ◌++◌, length, map, slice_get, Option, Some, None, codes, refl, ap, sym, ◌∙◌, subst, arith, length-append}
+use Rattle.std.proofs.Common.{◌≡◌, ℕ, suc, ◌*◌, ◌%◌, ◌<◌, ◌==◌, Bool, true, false, not, ◌&&◌, List, [], ◌∷◌, ◌++◌, length, map, slice_get, Option, Some, codes, refl, ap, sym, ◌∙◌, subst, arith, length-append}
 use Rattle.std.specs.Prelude.{IsTrue}
 use Rattle.std.specs.List.{flat_map}
-use Rattle.std.proofs.lemmas.Bool.{cases_Bool}
 use Rattle.std.proofs.lemmas.List.{length-map}
-use Rattle.std.proofs.lemmas.Option.{slice_get_within}
+use Rattle.std.proofs.lemmas.Option.{same_Some, none-some}
 use Rattle.p8_tree.specs.declared.places.Place.{Place}
 use Rattle.p8_tree.specs.Sources.{MethodTree, Source}
 use Rattle.p8_tree.specs.Projects.{NamedSource}
 use Rattle.p8_instr.specs.declared.op.Op.{Op}
 use Rattle.p8_instr.specs.Spelling.{spelled}
 use Rattle.p8_tree.specs.declared.faults.Fault.{Fault}
-use Rattle.p8_tree.specs.Faults.{fault, IsFirstFault, IsFirstRefusal}
+use Rattle.p8_tree.specs.Faults.{fault, IsFirstFault, PhaseFault, IsFirstRefusal}
 use Rattle.p8_tree.specs.declared.refusal.Refusal.TheVariants.{NoPub}
 use Rattle.p8_constants.specs.FileItems.{items}
 use Rattle.p8_constants.specs.Rules.{has_public}
 use Rattle.p8_kinds.specs.declared.children.Children.{Children}
 use Rattle.p8_kinds.specs.declared.kinds.Kinds.{Kinds}
-use Rattle.p8_kinds.specs.declared.named.Named.{Named}
-use Rattle.p8_kinds.specs.declared.name_kinds.NameKind.{NameKind}
 use Rattle.p8_kinds.specs.Kinds.{own}
+use Rattle.p8_names.specs.Children.{AreChildren}
 use Rattle.p8_names.specs.Faults.{of_name, no_pub}
 use Rattle.p8_names.specs.Kinds.{publics, privates, numbered}
-use Rattle.p8_names.specs.Resolution.{IsNamed}
-use Rattle.p8_dat.specs.declared.assembling.Dat.{Dat}
-use Rattle.p8_gen.specs.Pieces.{empty}
-use Rattle.p8_gen.specs.Methods.{bytes_of, method_code}
 use Rattle.p8_gen.specs.Names.{Names}
 use Rattle.p8_image.specs.declared.clocks.Clock.{Clock}
-use Rattle.p8_image.specs.declared.parts.MethodPart.{MethodPart}
 use Rattle.p8_image.specs.declared.parts.ObjectPart.{ObjectPart}
 use Rattle.p8_image.specs.Clocks.{clock_of}
 use Rattle.p8_image.specs.Projects.{IsMain, HasMain, BeginsWithMain}
 use Rattle.p8_stmt.specs.declared.code.MethodCode.{MethodCode}
 use Rattle.p8_stmt.specs.Methods.{IsCodeOf}
+use Rattle.p8_build.specs.declared.accepting.AcceptedFile.{AcceptedFile}
 use Rattle.p8_build.specs.declared.building.Accepted.{Accepted}
-use Rattle.p8_build.specs.declared.building.Built.{Built}
+use Rattle.p8_build.specs.declared.fault.PhaseRefusal.{PhaseRefusal}
 use Rattle.p8_build.specs.Parts.{strings_of, method_part, method_parts}
 use Rattle.p8_build.specs.Files.{CompiledFile, method_names, IsCompiled, object_of}
 use Rattle.p8_build.specs.Builds.{IsFile, IsRefusal, of_image, IsImageFault, AreCompiled, objects_from, objects_of, constant_named, constant_value, clock_by}
-use Rattle.p8_build.specs.Phases.{AreNamed, compiled, AreAssembled, AreObjects, IsObjectOf, clock_in, IsFinished, IsFirstAt, IsAccepted, IsBuiltBy}
-use Rattle.p8_build.proofs.Lists.{element, one_element, Each, choose}
+use Rattle.p8_build.specs.Sizes.{IsSizeOf}
+use Rattle.p8_build.specs.Accepted.{compiled_file, compiled_files, IsFinished, IsAccepted}
+use Rattle.p8_build.specs.Phases.{AreAccepted, refusal_of, IsFirstAt, object_in, clock_in, IsImageRefusal}
+use Rattle.p8_build.proofs.Lists.{element, one_element, of_map}
 use Rattle.p8_build.proofs.Firsts.{refusal, first_of}
 use Rattle.p8_build.proofs.Methods.{first_public}
-use Rattle.p8_build.proofs.One.{AreAlike, alike, of_file, one_object}
-use Rattle.p8_build.proofs.Refusals.{ImageFaulty, image_faulty, one_file, IsObjectAt, none_before_code}
+use Rattle.p8_build.proofs.One.{alike, of_file, one_object}
+use Rattle.p8_build.proofs.Making.{object_is}
+use Rattle.p8_build.proofs.Sized.{image_sized}
+use Rattle.p8_build.proofs.Refusals.{shown, in_names, in_data, in_code, in_image, none_compiled}
 
 -- ---- the objects
 
@@ -67,47 +65,26 @@ objects_same all (f ∷ fs) (c ∷ cs) (x ∷ xs) [] a b d each = absurd (omega 
 objects_same all (f ∷ fs) (c ∷ cs) (x ∷ xs) (y ∷ ys) a b d each =
     ap (λ o. o ∷ objects_from all fs cs xs) (each 0 f c x y refl refl refl refl) ∙ ap (λ os. object_of all f.tree c y ∷ os) (objects_same all fs cs xs ys (omega arith) (omega arith) (omega arith) (λ i. each (suc i)))
 
-pub are_objects : (files : List NamedSource) (children : List Children) (named : List Named) (dats : List Dat) (objects : List ObjectPart) → length children ≡ length files → AreNamed files children named → AreAssembled files children named dats → length objects ≡ length files → Each (IsObjectAt files children named dats) objects → AreObjects files children named objects
-are_objects files children named dats objects beside h k count each =
-    let all = choose (λ i o x. (file : NamedSource) (seen : Children) (n : Named) → IsFile files children i file seen → slice_get named i ≡ Some n → (x.kinds ≡ n.kinds) × IsCompiled file.tree seen (i == 0) x × (o ≡ object_of files file.tree seen x)) objects (λ i o at.
-    let within = slice_get_within objects i o at in
-    let f = element files i (omega arith) in
-    let c = element children i (omega arith) in
-    let n = element named i (omega (arith, h.count)) in
-    let d = element dats i (omega (arith, k.count)) in
-    let is : IsFile files children i f.0 c.0 = record { stands = f.1; beside = c.1 } in
-    let made = each.at i o at f.0 c.0 n.0 d.0 is n.1 d.1 in (
-      compiled n.0.kinds d.0 made.codes,
-      λ file seen m here there.
-          let same = one_file is here in
-          let names = one_element named i n.1 there in (
-            ap (λ (y : Named). y.kinds) names,
-            subst (λ (s : Children). IsCompiled file.tree s (i == 0) (compiled n.0.kinds d.0 made.codes)) same.1 (subst (λ (y : NamedSource). IsCompiled y.tree c.0 (i == 0) (compiled n.0.kinds d.0 made.codes)) same.0
-                (record { names = (h.each i n.0 n.1 f.0 c.0 is).names; dat = (let a = k.each i d.0 d.1 f.0 c.0 n.0 is n.1 in record { clean = a.clean; bytes = a.bytes; labels = a.labels }); code = made.code })),
-            subst (λ (s : Children). o ≡ object_of files file.tree s (compiled n.0.kinds d.0 made.codes)) same.1 (subst (λ (y : NamedSource). o ≡ object_of files y.tree c.0 (compiled n.0.kinds d.0 made.codes)) same.0 made.is),
-          ),
-    )) in
-    record {
-      xs = all.0;
-      compiled = record {
-        count = all.1 ∙ count;
-        each = λ i file seen x is at.
-            let within = slice_get_within all.0 i x at in
-            let o = element objects i (omega (arith, all.1)) in
-            let n = element named i (omega (arith, all.1, h.count)) in
-            (all.2 i o.0 x o.1 at file seen n.0 is n.1).1;
-      };
-      kinds = λ i n x at there.
-          let within = slice_get_within named i n at in
-          let o = element objects i (omega (arith, h.count)) in
-          let f = element files i (omega (arith, h.count)) in
-          let c = element children i (omega (arith, h.count)) in
-          (all.2 i o.0 x o.1 there f.0 c.0 n (record { stands = f.1; beside = c.1 }) at).0;
-      are = objects_are files files children all.0 objects beside (all.1 ∙ count) count (λ i f c x o at_f at_c at_x at_o.
-          let within = slice_get_within files i f at_f in
-          let n = element named i (omega (arith, h.count)) in
-          (all.2 i o x at_o at_x f c n.0 (record { stands = at_f; beside = at_c }) n.1).2);
-    }
+-- what accepted files are compiled to
+pub compiled_all : (files : List NamedSource) (children : List Children) (fs : List AcceptedFile) → AreAccepted files children fs → AreCompiled files children (map compiled_file fs)
+compiled_all files children fs h = record {
+  count = length-map fs compiled_file ∙ h.count;
+  each = λ i file seen x is at.
+      let f = of_map compiled_file fs i x at in
+      subst (IsCompiled file.tree seen (i == 0)) (sym f.2) (h.each i f.0 f.1 file seen is).compiled;
+}
+
+-- their objects
+abbrev pub object_made : List NamedSource → AcceptedFile → ObjectPart
+object_made files f = object_in files f f.codes
+
+pub objects_all : (files : List NamedSource) (children : List Children) (fs : List AcceptedFile) → length children ≡ length files → AreAccepted files children fs → map (object_made files) fs ≡ objects_of files children (map compiled_file fs)
+objects_all files children fs beside h =
+    objects_are files files children (map compiled_file fs) (map (object_made files) fs) beside (length-map fs compiled_file ∙ h.count) (length-map fs (object_made files) ∙ h.count) (λ i file seen x o at_f at_c at_x at_o.
+    let f = of_map compiled_file fs i x at_x in
+    let g = of_map (object_made files) fs i o at_o in
+    let tables = (h.each i f.0 f.1 file seen (record { stands = at_f; beside = at_c })).tables in
+    g.2 ∙ ap (object_made files) (one_element fs i g.1 f.1) ∙ object_is files file.tree seen f.0 f.0.codes tables ∙ ap (object_of files file.tree seen) (sym f.2))
 
 -- ---- one outcome
 
@@ -177,53 +154,54 @@ begins (f ∷ fs) all [] xs l a b each = absurd (omega arith)
 begins (f ∷ fs) all (c ∷ cs) [] l a b each = absurd (omega arith)
 begins (f ∷ fs) all (c ∷ cs) (x ∷ xs) l a b each = top_begins all f.tree c x (each f c x refl refl refl)
 
-pub begins_with_main : (files : List NamedSource) (children : List Children) (named : List Named) (objects : List ObjectPart) → 0 < length files → length children ≡ length files → AreObjects files children named objects → BeginsWithMain objects
-begins_with_main files children named objects l beside h =
-    subst BeginsWithMain (sym h.are) (begins files files children h.xs l beside h.compiled.count (λ f c x at_f at_c at_x. h.compiled.each 0 f c x (record { stands = at_f; beside = at_c }) at_x))
+pub begins_with_main : (files : List NamedSource) (children : List Children) (xs : List CompiledFile) → 0 < length files → length children ≡ length files → AreCompiled files children xs → BeginsWithMain (objects_of files children xs)
+begins_with_main files children xs l beside h =
+    begins files files children xs l beside h.count (λ f c x at_f at_c at_x. h.each 0 f c x (record { stands = at_f; beside = at_c }) at_x)
 
 -- ---- the image
 
 -- the clock by the names in hand
-pub clock_is : (xs : List CompiledFile) (named : List Named) (n : Named) → 0 < length xs → slice_get named 0 ≡ Some n → ((x : CompiledFile) → slice_get xs 0 ≡ Some x → x.kinds ≡ n.kinds) → clock_in n.kinds ≡ clock_by xs
-clock_is [] named n l at same = absurd (omega arith)
-clock_is (x ∷ xs) named n l at same = ap clock_in (sym (same x refl))
+pub clock_is : (fs : List AcceptedFile) (f : AcceptedFile) → slice_get fs 0 ≡ Some f → clock_in f.kinds ≡ clock_by (map compiled_file fs)
+clock_is [] f at = absurd (none-some f at)
+clock_is (g ∷ fs) f at = ap (λ (x : AcceptedFile). clock_in x.kinds) (sym (same_Some g f at))
 
--- the image that the names of the top file give
-pub finished_by : (files : List NamedSource) (children : List Children) (named : List Named) (n : Named) (objects : List ObjectPart) (b : Built) → 0 < length files → (h : AreObjects files children named objects) → slice_get named 0 ≡ Some n → IsFinished (clock_in n.kinds) objects b → IsFinished (clock_by h.xs) objects b
-finished_by files children named n objects b l h at done =
-    subst (λ (o : Option Clock). IsFinished o objects b) (clock_is h.xs named n (omega (arith, h.compiled.count)) at (λ x there. h.kinds 0 n x at there)) done
-
-pub accepted_by : (files : List NamedSource) (children : List Children) (a : Accepted) (objects : List ObjectPart) → AreNamed files children a.named → AreAssembled files children a.named a.assembled → (h : AreObjects files children a.named objects) → IsFinished (clock_by h.xs) objects a.built → IsAccepted files children a
-accepted_by files children a objects names dats h done = record {
-  named = names;
-  assembled = dats;
-  objects = record { xs = h.xs; compiled = h.compiled; kinds = h.kinds; are = done.objects_are ∙ h.are };
-  finished = subst (λ (os : List ObjectPart). IsFinished (clock_by h.xs) os a.built) (sym done.objects_are) done;
+pub accepted_by : (files : List NamedSource) (a : Accepted) (f : AcceptedFile) (objects : List ObjectPart) → AreChildren files a.children → AreAccepted files a.children a.files → slice_get a.files 0 ≡ Some f → objects ≡ map (object_made files) a.files → IsFinished (clock_in f.kinds) objects a.built → IsAccepted files a
+accepted_by files a f objects seen h at are done = record {
+  seen = seen;
+  each = compiled_all files a.children a.files h;
+  tables = λ i file c g is there. (h.each i g there file c is).tables;
+  finished = subst (λ (o : Option Clock). IsFinished o (objects_of files a.children (compiled_files a)) a.built) (clock_is a.files f at)
+      (subst (λ (os : List ObjectPart). IsFinished (clock_in f.kinds) os a.built) (are ∙ objects_all files a.children a.files seen.one_each h) done);
 }
 
-pub built_by : (files : List NamedSource) (children : List Children) (a : Accepted) → IsAccepted files children a → IsBuiltBy files children a.built
-built_by files children a is = record {
-  compiled = is.objects.xs;
-  each = is.objects.compiled;
-  finished = subst (λ (os : List ObjectPart). IsFinished (clock_by is.objects.xs) os a.built) is.objects.are is.finished;
-}
+pub image_refused : (files : List NamedSource) (children : List Children) (xs : List CompiledFile) (objects : List ObjectPart) (clock : Option Clock) (r : PhaseRefusal) → 0 < length files → length children ≡ length files → AreCompiled files children xs
+    → objects ≡ objects_of files children xs → clock ≡ clock_by xs → IsImageRefusal objects clock r → IsFirstAt files children r
+image_refused files children xs objects clock r l beside each are clock_are h =
+    let top = element files 0 l in
+    record {
+      file = top.0;
+      stands = subst (λ (j : ℕ). slice_get files j ≡ Some top.0) (sym h.file) top.1;
+      first = subst (IsFirstRefusal (IsRefusal files children)) standing first;
+      size = subst (λ (q : PhaseFault). IsSizeOf files children q r.size) standing (image_sized files children xs objects r.fault r.size each are h.size);
+    }
+  where
+    standing : refusal 3 0 r.fault ≡ refusal_of r
+    standing = λ k. record { phase = sym h.phase k; file = sym h.file k; fault = r.fault }
 
-below_three : (p : ℕ) → p < 3 → (p < 2) ⊎ (p ≡ 2)
-below_three p l = grind arith
+    here : IsFirstFault (IsImageFault (objects_of files children xs) (clock_by xs)) r.fault
+    here = subst (λ (o : Option Clock). IsFirstFault (IsImageFault (objects_of files children xs) o) r.fault) clock_are (subst (λ (os : List ObjectPart). IsFirstFault (IsImageFault os clock) r.fault) are h.first)
 
-pub image_refused : (files : List NamedSource) (children : List Children) (named : List Named) (dats : List Dat) (n : Named) (objects : List ObjectPart) (f : Fault) → 0 < length files → length children ≡ length files → AreNamed files children named → AreAssembled files children named dats → AreObjects files children named objects
-    → ((j : ℕ) (g : Fault) → ¬ IsRefusal files children (refusal 2 j g)) → slice_get named 0 ≡ Some n → IsFirstFault (IsImageFault objects (clock_in n.kinds)) f → IsFirstRefusal (IsRefusal files children) (refusal 3 0 f)
-image_refused files children named dats n objects f l beside a d h none_coded at first =
-    let clock = clock_is h.xs named n (omega (arith, h.compiled.count)) at (λ x there. h.kinds 0 n x at there) in
-    let here : IsFirstFault (IsImageFault (objects_of files children h.xs) (clock_by h.xs)) f =
-    subst (λ (o : Option Clock). IsFirstFault (IsImageFault (objects_of files children h.xs) o) f) clock (subst (λ (os : List ObjectPart). IsFirstFault (IsImageFault os (clock_in n.kinds)) f) h.are first) in
-    first_of (IsRefusal files children) 3 0 f (of_image h.xs f h.compiled here.holds)
-    (λ g r before.
-    let b = (image_faulty 0 g r).1 in
-    here.first g (subst (λ (o : Option Clock). IsImageFault (objects_of files children h.xs) o g) (one_clock files children b.xs h.xs beside b.each h.compiled)
-    (subst (λ (os : List ObjectPart). IsImageFault os (clock_by b.xs) g) (one_objects files children b.xs h.xs beside b.each h.compiled) b.fault)) before)
-    (λ p j g q r. elim (below_three p q) [
-      | inl lower ↦ none_before_code files children named dats a d p j g lower r
-      | inr is ↦ none_coded j g (subst (λ k. IsRefusal files children (refusal k j g)) is r)
-    ])
-    (λ j g q. absurd (omega arith))
+    image_fault : (g : Fault) → IsRefusal files children (refusal 3 0 g) → IsImageFault (objects_of files children xs) (clock_by xs) g
+    image_fault g refused = elim (shown refused) [
+      | in_names e b ↦ absurd (omega (arith, e))
+      | in_data e b ↦ absurd (omega (arith, e))
+      | in_code e b ↦ absurd (omega (arith, e))
+      | in_image e z b ↦
+          subst (λ (o : Option Clock). IsImageFault (objects_of files children xs) o g) (one_clock files children b.xs xs beside b.each each)
+          (subst (λ (os : List ObjectPart). IsImageFault os (clock_by b.xs) g) (one_objects files children b.xs xs beside b.each each) b.fault)
+    ]
+
+    first : IsFirstRefusal (IsRefusal files children) (refusal 3 0 r.fault)
+    first =
+        first_of (IsRefusal files children) 3 0 r.fault (of_image xs r.fault each here.holds) (λ g refused before. here.first g (image_fault g refused) before)
+        (λ p j g q. none_compiled files children xs each (refusal p j g) q) (λ j g q. absurd (omega arith))

@@ -1,5 +1,5 @@
 -- What the files of a project are compiled to, and what of a file can't be (this project's profile).
-use Rattle.std.specs.Prelude.{◌≡◌, ◌⊎◌, ℕ, ◌+◌, ◌<◌, ◌==◌, Bool, true, false, nat_lt, ◌||◌, List, length, slice_get, Some}
+use Rattle.std.specs.Prelude.{◌≡◌, ℕ, ◌+◌, Bool, true, false, nat_lt, ◌||◌, List, length, slice_get, Some}
 use Rattle.p8_tree.specs.Sources.{MethodTree, Source}
 use Rattle.p8_tree.specs.Projects.{NamedSource}
 use Rattle.p8_tree.specs.declared.faults.Fault.{Fault}
@@ -17,6 +17,8 @@ use Rattle.p8_dat.specs.Blocks.{placed_lines, dat_bytes, IsDatFault}
 use Rattle.p8_dat.specs.Labels.{labels_of}
 use Rattle.p8_gen.specs.Names.{Names}
 use Rattle.p8_gen.specs.Files.{names_in}
+use Rattle.p8_gen.specs.Scopes.{names_from}
+use Rattle.p8_gen.specs.declared.coder.Tables.{Tables}
 use Rattle.p8_stmt.specs.declared.code.MethodCode.{MethodCode}
 use Rattle.p8_stmt.specs.Methods.{IsCodeOf, IsMethodFault}
 use Rattle.p8_image.specs.declared.parts.ObjectPart.{ObjectPart}
@@ -44,6 +46,10 @@ pub record IsData (source : Source) (children : Children) (x : CompiledFile) : T
 -- the names of a method, which is counted from 0
 abbrev pub method_names : Children → CompiledFile → ℕ → MethodTree → Names
 method_names children x k m = names_in x.kinds children x.labels (k + 1) m.place
+
+-- the same by the tables of the file
+abbrev pub names_with : Kinds → Tables → ℕ → MethodTree → Names
+names_with kinds tables k m = names_from kinds (k + 1) tables m.place
 
 -- how many methods a file may have, and how many together with its instances of objects
 abbrev pub most_methods : ℕ

@@ -8,6 +8,7 @@ pub mod Files
 pub mod Builds
 pub mod Told
 pub mod Sizes
+pub mod Accepted
 -- internal: what the code's steps come to.
 pub mod Faults
 pub mod Numbers

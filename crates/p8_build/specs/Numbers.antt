@@ -5,11 +5,8 @@ use Rattle.std.specs.BTreeMap.{BTreeMap, get}
 use Rattle.std.specs.Ordering.{nat_cmp, ordering_then}
 use Rattle.p8_tree.specs.declared.places.Place.{Place}
 use Rattle.p8_tree.specs.Faults.{is_same_place}
-use Rattle.p8_tree.specs.Sources.{MethodTree}
 use Rattle.p8_image.specs.declared.parts.TextUse.{TextUse}
-use Rattle.p8_image.specs.declared.parts.MethodPart.{MethodPart}
 use Rattle.p8_gen.specs.declared.code.StringUse.{StringUse}
-use Rattle.p8_stmt.specs.declared.code.MethodCode.{MethodCode}
 use Rattle.p8_build.specs.declared.string_texts.StringText.{StringText}
 use Rattle.p8_build.specs.declared.texts.TextNumbers.{TextNumbers}
 

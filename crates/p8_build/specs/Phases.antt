@@ -1,125 +1,117 @@
--- internal: what each phase of building comes to.
-use Rattle.std.specs.Prelude.{◌≡◌, ℕ, ◌==◌, Bool, codes, List, [], length, slice_get, map, Option, Some, None}
+-- internal: what is known of the files of a project while they are looked at, one by one, and their first refusal.
+use Rattle.std.specs.Prelude.{◌≡◌, ℕ, ◌<◌, ◌==◌, ◌^◌, min, if◌then◌else◌, Bool, codes, List, length, slice_get, Option, Some, None, map}
 use Rattle.std.specs.List.{flat_map}
-use Rattle.p8_tree.specs.Sources.{Source}
+use Rattle.p8_tree.specs.Sources.{MethodTree, Source}
 use Rattle.p8_tree.specs.Projects.{NamedSource}
-use Rattle.p8_tree.specs.Views.{source_of}
 use Rattle.p8_words.specs.declared.failure.Fail.{Fail}
 use Rattle.p8_words.specs.declared.failure.Fail.TheVariants as fail_case
 use Rattle.p8_tree.specs.declared.faults.Fault.{Fault}
-use Rattle.p8_tree.specs.Faults.{IsFirstFault, IsFirstRefusal, IfRefused}
+use Rattle.p8_tree.specs.Faults.{IsFirstFault, IfRefused, PhaseFault, RefusalBefore, IsFirstRefusal}
+use Rattle.p8_tree.specs.declared.refusal.Refusal.TheVariants.{ImageTooLarge}
+use Rattle.p8_tree.specs.Refusals.{refusal_number}
 use Rattle.p8_kinds.specs.declared.children.Children.{Children}
 use Rattle.p8_kinds.specs.declared.kinds.Kinds.{Kinds}
-use Rattle.p8_kinds.specs.declared.named.Named.{Named}
+use Rattle.p8_kinds.specs.ConstantEntries.{setting_of as setting_in}
+use Rattle.p8_kinds.specs.FileSettings.{file_setting}
 use Rattle.p8_kinds.specs.Meanings.{Setting}
-use Rattle.p8_constants.specs.FileItems.{Item}
-use Rattle.p8_names.specs.Kinds.{objects}
+use Rattle.p8_constants.specs.FileItems.{Item, items}
+use Rattle.p8_constants.specs.Standing.{items_of}
+use Rattle.p8_names.specs.Kinds.{numbered, objects}
+use Rattle.p8_names.specs.Faults.{IsNameFault}
 use Rattle.p8_names.specs.Resolution.{IsNamed}
-use Rattle.p8_dat.specs.declared.assembling.Dat.{Dat}
+use Rattle.p8_dat.specs.Blocks.{IsDatFault}
 use Rattle.p8_image.specs.declared.clocks.Clock.{Clock}
-use Rattle.p8_image.specs.declared.parts.MethodPart.{MethodPart}
 use Rattle.p8_image.specs.declared.parts.ObjectPart.{ObjectPart}
 use Rattle.p8_image.specs.Clocks.{clock_of}
 use Rattle.p8_image.specs.Layout.{header_by, image_of}
-use Rattle.p8_image.specs.Loading.{image_in}
+use Rattle.p8_image.specs.Loading.{ImageValue, image_in}
 use Rattle.p8_image.specs.Projects.{FitsHub}
 use Rattle.p8_stmt.specs.declared.code.MethodCode.{MethodCode}
-use Rattle.p8_build.specs.declared.building.Accepted.{Accepted}
-use Rattle.p8_build.specs.declared.building.Built.{Built}
-use Rattle.p8_build.specs.declared.fault.FileFault.{FileFault}
-use Rattle.p8_build.specs.Parts.{variable_in, instances_of}
-use Rattle.p8_build.specs.Files.{CompiledFile, IsData, IsCode, IsCodeFault, object_of}
-use Rattle.p8_build.specs.Builds.{IsFile, IsRefusal, IsImageFault, AreCompiled, objects_of, constant_named, clock_by}
+use Rattle.p8_build.specs.declared.accepting.AcceptedFile.{AcceptedFile}
+use Rattle.p8_build.specs.declared.fault.PhaseRefusal.{PhaseRefusal}
+use Rattle.p8_build.specs.declared.sizes.Size.{Size}
+use Rattle.p8_build.specs.declared.sizes.Size.TheVariants as size_case
+use Rattle.p8_build.specs.Parts.{data_start, strings_in_method, method_parts, variable_in, instances_of}
+use Rattle.p8_build.specs.Files.{CompiledFile, IsData, IsCodeFault, IsCompiled, method_names}
+use Rattle.p8_build.specs.Builds.{IsFile, IsRefusal, IsImageFault, constant_named}
+use Rattle.p8_build.specs.Sizes.{IsSizeOf}
+use Rattle.p8_build.specs.Accepted.{compiled_file, methods_of, HasTables}
+use Rattle.p8_build.specs.Measuring.{IfSizeAt}
 
--- ---- faults
+-- ---- a file
 
--- a failure of the file of this number with a fault of which this holds; where there was no memory nothing is said
-abbrev pub IfFaultAt : ℕ → (Fault → Type 0) → Fail FileFault → Type 0
-IfFaultAt i P (fail_case.Refused x) = (x.file ≡ i) × P x.fault
-IfFaultAt i P fail_case.NoMemory = Unit {0}
+-- what the file of this number comes to
+pub record IsAcceptedFile (source : Source) (children : Children) (top : Bool) (f : AcceptedFile) : Type 0 where
+  pub compiled : IsCompiled source children top (compiled_file f)
+  pub tables : HasTables source children f
 
--- the first refusal, which comes in this phase
-abbrev pub IfFirst : List NamedSource → List Children → ℕ → Fail FileFault → Type 0
-IfFirst files children phase (fail_case.Refused x) = IsFirstRefusal (IsRefusal files children) (record { phase = phase; file = x.file; fault = x.fault })
-IfFirst files children phase fail_case.NoMemory = Unit {0}
+abbrev pub IsAcceptedAt : List NamedSource → List Children → ℕ → AcceptedFile → Type 0
+IsAcceptedAt files children i f = (file : NamedSource) (seen : Children) → IsFile files children i file seen → IsAcceptedFile file.tree seen (i == 0) f
 
--- the first refusal, in whatever phase
-pub record IsFirstAt (files : List NamedSource) (children : List Children) (x : FileFault) : Type 0 where
-  pub phase : ℕ
+-- what all files come to
+pub record AreAccepted (files : List NamedSource) (children : List Children) (fs : List AcceptedFile) : Type 0 where
+  pub count : length fs ≡ length files
+  pub each : (i : ℕ) (f : AcceptedFile) → slice_get fs i ≡ Some f → IsAcceptedAt files children i f
+
+-- the first refusal of a file, phase by phase, and its size
+pub data IsFirstByPhase (source : Source) (children : Children) (top : Bool) (r : PhaseRefusal) : Type 0 where
+  by_names : r.phase ≡ 0 → IsFirstFault (IsNameFault source children top) r.fault → r.size ≡ None → IsFirstByPhase source children top r
+  by_data : (kinds : Kinds) → IsNamed source children top kinds → r.phase ≡ 1
+      → IsFirstFault (IsDatFault (file_setting kinds children) (data_start (file_setting kinds children) source) source) r.fault → r.size ≡ None → IsFirstByPhase source children top r
+  by_code : (x : CompiledFile) → IsNamed source children top x.kinds → IsData source children x → r.phase ≡ 2 → IsFirstFault (IsCodeFault source children x) r.fault
+      → IfSizeAt (method_names children x) (numbered (items source)) r.fault r.size → IsFirstByPhase source children top r
+
+-- of the file of this number
+pub record IsFirstOfFile (source : Source) (children : Children) (i : ℕ) (r : PhaseRefusal) : Type 0 where
+  pub file : r.file ≡ i
+  pub first : IsFirstByPhase source children (i == 0) r
+
+-- ---- the refusals of a project
+
+-- a fact of a refusal, which says nothing of want of memory
+abbrev pub IfPhaseRefused : (PhaseRefusal → Type 0) → Fail PhaseRefusal → Type 0
+IfPhaseRefused P (fail_case.Refused r) = P r
+IfPhaseRefused P fail_case.NoMemory = Unit {0}
+
+abbrev pub refusal_of : PhaseRefusal → PhaseFault
+refusal_of r = record { phase = r.phase; file = r.file; fault = r.fault }
+
+-- the first refusal of some files, before the phase of the image, and its size
+pub record IsFirstAmong (files : List NamedSource) (children : List Children) (Among : ℕ → Type 0) (r : PhaseRefusal) : Type 0 where
+  pub phase : r.phase < 3
+  pub file : Among r.file
+  pub holds : IsRefusal files children (refusal_of r)
+  pub first : (b : PhaseFault) → b.phase < 3 → Among b.file → IsRefusal files children b → ¬ RefusalBefore b (refusal_of r)
+  pub size : IsSizeOf files children (refusal_of r) r.size
+
+-- of the file of this number, and of those below it
+abbrev pub IsFirstIn : List NamedSource → List Children → ℕ → PhaseRefusal → Type 0
+IsFirstIn files children i r = IsFirstAmong files children (λ j. j ≡ i) r
+
+abbrev pub IsFirstBelow : List NamedSource → List Children → ℕ → PhaseRefusal → Type 0
+IsFirstBelow files children n r = IsFirstAmong files children (λ j. j < n) r
+
+-- the first refusal of all, and its size
+pub record IsFirstAt (files : List NamedSource) (children : List Children) (r : PhaseRefusal) : Type 0 where
   pub file : NamedSource
-  pub stands : slice_get files x.file ≡ Some file
-  pub first : IsFirstRefusal (IsRefusal files children) (record { phase = phase; file = x.file; fault = x.fault })
+  pub stands : slice_get files r.file ≡ Some file
+  pub first : IsFirstRefusal (IsRefusal files children) (refusal_of r)
+  pub size : IsSizeOf files children (refusal_of r) r.size
 
-abbrev pub IfFirstRefused : List NamedSource → List Children → Fail FileFault → Type 0
-IfFirstRefused files children (fail_case.Refused x) = IsFirstAt files children x
-IfFirstRefused files children fail_case.NoMemory = Unit {0}
+-- ---- objects
 
--- ---- names
-
--- the names of a file
-pub record IsNamedFile (source : Source) (children : Children) (top : Bool) (n : Named) : Type 0 where
-  pub source_is : source_of n.file.now ≡ source
-  pub children_are : n.children.now ≡ children
-  pub names : IsNamed source children top n.kinds
-
--- what each file sees, in the order of the files
-abbrev pub seen_by : List Named → List Children
-seen_by named = map (λ (n : Named). n.children.now) named
-
-abbrev pub IsNamedAt : List NamedSource → List Children → ℕ → Named → Type 0
-IsNamedAt files children i n = (file : NamedSource) (seen : Children) → IsFile files children i file seen → IsNamedFile file.tree seen (i == 0) n
-
-pub record AreNamed (files : List NamedSource) (children : List Children) (named : List Named) : Type 0 where
-  pub count : length named ≡ length files
-  pub each : (i : ℕ) (n : Named) → slice_get named i ≡ Some n → IsNamedAt files children i n
-
--- ---- data
-
-abbrev pub compiled : Kinds → Dat → List MethodCode → CompiledFile
-compiled kinds d codes = record { kinds = kinds; dat = d.bytes; labels = d.labels; codes = codes }
-
-abbrev pub IsDataOf : Source → Children → Kinds → Dat → Type 0
-IsDataOf source children kinds dat = IsData source children (compiled kinds dat [])
-
-abbrev pub IsDataAt : List NamedSource → List Children → List Named → ℕ → Dat → Type 0
-IsDataAt files children named i dat = (file : NamedSource) (seen : Children) (n : Named) → IsFile files children i file seen → slice_get named i ≡ Some n → IsDataOf file.tree seen n.kinds dat
-
-pub record AreAssembled (files : List NamedSource) (children : List Children) (named : List Named) (dats : List Dat) : Type 0 where
-  pub count : length dats ≡ length files
-  pub each : (i : ℕ) (dat : Dat) → slice_get dats i ≡ Some dat → IsDataAt files children named i dat
-
--- ---- code
-
--- an object of these items, with the bytes of its DAT, its methods and its texts
-abbrev pub object_by : List NamedSource → Setting → List Item → (dat : List ℕ) → List MethodPart → (texts : List (List ℕ)) → ObjectPart
-object_by files s xs dat methods texts = record {
+-- an object of these items and methods, with the bytes of its DAT and the codes of its methods
+abbrev pub object_by : List NamedSource → Setting → List Item → List MethodTree → (dat : List ℕ) → List MethodCode → ObjectPart
+object_by files s xs ms dat codes = record {
   variables = flat_map (variable_in s) xs;
   dat = dat;
-  methods = methods;
-  texts = texts;
+  methods = method_parts (flat_map strings_in_method ms) ms codes;
+  texts = map (λ x. x.1) (flat_map strings_in_method ms);
   instances = flat_map (instances_of files s) (objects xs);
 }
 
--- names of a file that are right
-pub record IsNamedSo (n : Named) : Type 0 where
-  pub top : Bool
-  pub names : IsNamed (source_of n.file.now) n.children.now top n.kinds
-
--- the object of a file, which has the codes of its methods
-pub record IsObjectOf (files : List NamedSource) (source : Source) (children : Children) (kinds : Kinds) (dat : Dat) (object : ObjectPart) : Type 0 where
-  pub codes : List MethodCode
-  pub code : IsCode source children (compiled kinds dat codes)
-  pub is : object ≡ object_of files source children (compiled kinds dat codes)
-
-abbrev pub IsCodeFaultOf : Source → Children → Kinds → Dat → Fault → Type 0
-IsCodeFaultOf source children kinds dat f = IsCodeFault source children (compiled kinds dat []) f
-
--- the objects of all files
-pub record AreObjects (files : List NamedSource) (children : List Children) (named : List Named) (objects : List ObjectPart) : Type 0 where
-  pub xs : List CompiledFile
-  pub compiled : AreCompiled files children xs
-  pub kinds : (i : ℕ) (n : Named) (x : CompiledFile) → slice_get named i ≡ Some n → slice_get xs i ≡ Some x → x.kinds ≡ n.kinds
-  pub are : objects ≡ objects_of files children xs
+abbrev pub object_in : List NamedSource → AcceptedFile → List MethodCode → ObjectPart
+object_in files f codes = object_by files (setting_in f.tables.consts) (items_of f.items) (methods_of f) f.dat.bytes codes
 
 -- ---- the image
 
@@ -127,27 +119,23 @@ pub record AreObjects (files : List NamedSource) (children : List Children) (nam
 abbrev pub clock_in : Kinds → Option Clock
 clock_in kinds = clock_of (constant_named kinds (codes "_CLKMODE")) (constant_named kinds (codes "_CLKFREQ")) (constant_named kinds (codes "_XINFREQ"))
 
--- what objects with such a clock are built to
-pub record IsFinished (told : Option Clock) (objects : List ObjectPart) (b : Built) : Type 0 where
-  pub objects_are : b.objects ≡ objects
+-- the image of objects with such a clock
+pub record IsImageWith (told : Option Clock) (objects : List ObjectPart) (image : ImageValue) : Type 0 where
   pub clock : Clock
   pub is : told ≡ Some clock
   pub fits : FitsHub (header_by objects)
-  pub image : b.image ≡ image_in (image_of clock objects)
+  pub image_is : image ≡ image_in (image_of clock objects)
 
 abbrev pub IfFirstImageFault : List ObjectPart → Option Clock → Fail Fault → Type 0
 IfFirstImageFault objects clock fail = IfRefused (IsFirstFault (IsImageFault objects clock)) fail
 
--- ---- all phases
+-- the size that a fault of the image tells
+abbrev pub image_size : List ObjectPart → Fault → Option Size
+image_size objects f = if f.number == refusal_number ImageTooLarge then Some (size_case.Image (min (header_by objects).dcurr (2 ^ 31))) else None
 
-pub record IsBuiltBy (files : List NamedSource) (children : List Children) (b : Built) : Type 0 where
-  pub compiled : List CompiledFile
-  pub each : AreCompiled files children compiled
-  pub finished : IsFinished (clock_by compiled) (objects_of files children compiled) b
-
--- what the files of an accepted project come to
-pub record IsAccepted (files : List NamedSource) (children : List Children) (a : Accepted) : Type 0 where
-  pub named : AreNamed files children a.named
-  pub assembled : AreAssembled files children a.named a.assembled
-  pub objects : AreObjects files children a.named a.built.objects
-  pub finished : IsFinished (clock_by objects.xs) a.built.objects a.built
+-- the image is refused
+pub record IsImageRefusal (objects : List ObjectPart) (clock : Option Clock) (r : PhaseRefusal) : Type 0 where
+  pub phase : r.phase ≡ 3
+  pub file : r.file ≡ 0
+  pub first : IsFirstFault (IsImageFault objects clock) r.fault
+  pub size : r.size ≡ image_size objects r.fault

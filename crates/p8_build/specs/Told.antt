@@ -8,7 +8,8 @@ use Rattle.p8_image.specs.Loading.{ImageValue, image_in}
 use Rattle.p8_build.specs.declared.building.Built.{Built}
 use Rattle.p8_build.specs.declared.fault.BuildFault.{BuildFault}
 use Rattle.p8_build.specs.declared.fault.BuildFault.TheVariants as build_case
-use Rattle.p8_build.specs.Builds.{IsBuilt, IsRefusedWith}
+use Rattle.p8_build.specs.Builds.{IsBuilt}
+use Rattle.p8_build.specs.Sizes.{IsMeasured}
 
 -- the project is built to these objects, and the image is theirs
 pub record IsBuiltTo (files : List NamedSource) (b : Built) : Type 0 where
@@ -27,7 +28,7 @@ pub record IsImageOf (files : List NamedSource) (image : List ℕ) : Type 0 wher
 abbrev pub IsImageBuilt : List NamedSource → ImageValue → Type 0
 IsImageBuilt files image = IsImageOf files image.file × (image ≡ image_in image.file)
 
--- the project's first refusal; want of memory tells nothing
+-- the project's first refusal, and how large what it tells is; want of memory tells nothing
 abbrev pub IsRefusal : List NamedSource → BuildFault → Type 0
-IsRefusal files (build_case.Source file fault) = IsRefusedWith files file fault
+IsRefusal files (build_case.Source file fault size) = IsMeasured files file fault size
 IsRefusal files build_case.NoMemory = Unit {0}

@@ -1,20 +1,20 @@
 // Building a project.
-ghost use Rattle.std.specs.Prelude.{◌≡◌, ◌≤◌, ◌<◌, length, map, IfOk, IfErr};
+ghost use Rattle.std.specs.Prelude.{◌≡◌, ◌≤◌, ◌<◌, length, map, List as list, IfOk, IfErr};
 ghost use Rattle.p8_tree.specs.Views.{named_sources_of, named_source_of};
-ghost use Rattle.p8_tree.specs.Projects.{most_files};
+ghost use Rattle.p8_tree.specs.Projects.{NamedSource, most_files};
+ghost use Rattle.p8_names.specs.Children.{AreChildren};
 ghost use Rattle.p8_names.specs.Mentions.{HaveMentioned, HaveNoRing};
 ghost use Rattle.p8_build.specs.Parts.{AreProper};
+ghost use Rattle.p8_build.specs.Accepted.{IsAccepted};
 ghost use Rattle.p8_build.specs.Told.{IsBuiltTo, IsImageBuilt, IsRefusal};
-ghost use Rattle.p8_build.specs.Phases.{IsAccepted, IsBuiltBy, IfFirstRefused};
+ghost use Rattle.p8_build.specs.Phases.{IfPhaseRefused, IsFirstAt};
 
-use crate::assembling::assemble_all;
-use crate::fault::{BuildFault, FileFault, in_file, told};
-use crate::finishing::finish;
-use crate::naming::resolve_all;
+use crate::accepting::{AcceptedFile, accept_files};
+use crate::fault::{BuildFault, PhaseRefusal, told};
+use crate::finishing::finish_measured;
 use crate::objects::objects_of_all;
-use p8_dat::Dat;
 use p8_image::{Image, ObjectPart};
-use p8_kinds::{Children, Named};
+use p8_kinds::Children;
 use p8_names::children_of;
 use p8_tree::{List, Project, ProjectFile};
 use p8_words::Fail;
@@ -51,13 +51,8 @@ pub fn build_parts(alloc: Global, project: &Project) -> Result<Built, BuildFault
     ensures built { IfOk result (IsBuiltTo (named_sources_of project.now)) }
     ensures refused { IfErr result (IsRefusal (named_sources_of project.now)) }
 {
-    let files = project.files.as_slice();
-    let children = children_of(alloc, project)?;
-    match build_files(alloc, files, &children) {
-        Ok(built) => Ok(built),
-        Err(Fail::Refused(refusal)) => Err(told(alloc, &files[refusal.file], refusal.fault)),
-        Err(Fail::NoMemory) => Err(BuildFault::NoMemory),
-    }
+    let accepted = accept(alloc, project)?;
+    Ok(accepted.into_built())
 }
 
 /// Builds a project to its image alone, under the same conditions and with the same errors as [`build_parts`].
@@ -70,18 +65,17 @@ pub fn build(alloc: Global, project: &Project) -> Result<Image, BuildFault>
     ensures built { IfOk result (IsImageBuilt (named_sources_of project.now)) }
     ensures refused { IfErr result (IsRefusal (named_sources_of project.now)) }
 {
-    let Built { image, objects } = build_parts(alloc, project)?;
-    drop(objects);
-    Ok(image)
+    let accepted = accept(alloc, project)?;
+    Ok(accepted.into_image())
 }
 
-/// What the files of a project that is accepted come to, in their order.
+/// An accepted project: what is worked out of it, once for its image, its listing, its map and its legend.
 #[derive(Drop)]
 pub struct Accepted<'a> {
-    /// Their names.
-    pub named: List<Named<'a>>,
-    /// Their data.
-    pub assembled: List<Dat>,
+    /// What each file sees of its objects, in the order of the files.
+    pub children: List<Children>,
+    /// What each file comes to, in their order.
+    pub files: List<AcceptedFile<'a>>,
     /// What the project is built to.
     pub built: Built,
 }
@@ -89,65 +83,70 @@ pub struct Accepted<'a> {
 impl Accepted<'_> {
     /// What the project is built to.
     pub fn into_built(self) -> Built
-        ensures { result ≡ self.entry.built }
+        ensures is { result ≡ self.entry.built }
+        ensures built { (sources : list NamedSource) → IsAccepted sources self.entry → IsBuiltTo sources result }
     {
         let Accepted {
-            named,
-            assembled,
+            children,
+            files,
             built,
         } = self;
-        drop(named);
-        drop(assembled);
+        drop(children);
+        drop(files);
         built
     }
+
+    /// The project's image.
+    pub fn into_image(self) -> Image
+        ensures is { result ≡ self.entry.built.image }
+        ensures built { (sources : list NamedSource) → IsAccepted sources self.entry → IsImageBuilt sources result }
+    {
+        let Built { image, objects } = self.into_built();
+        drop(objects);
+        image
+    }
 }
 
-/// Builds files by what they see of their objects.
-fn build_files(
-    alloc: Global,
-    files: &[ProjectFile],
-    children: &[Children],
-) -> Result<Built, Fail<FileFault>>
-    requires first { 0 < length files.now }
-    requires few { length files.now ≤ most_files }
-    requires proper { AreProper (map named_source_of files.now) }
-    requires children { length children.now ≡ length files.now }
-    ensures built { IfOk result (IsBuiltBy (map named_source_of files.now) children.now) }
-    ensures refused { IfErr result (IfFirstRefused (map named_source_of files.now) children.now) }
+/// Works out what a project comes to: of each file its names, its data and the codes of its methods, its objects and its image.
+///
+/// The conditions, the errors and when each comes are those of [`build_parts`], which is made of this.
+pub fn accept<'a>(alloc: Global, project: &'a Project) -> Result<Accepted<'a>, BuildFault>
+    requires first { 0 < length (named_sources_of project.now) }
+    requires few { length (named_sources_of project.now) ≤ most_files }
+    requires mentioned { HaveMentioned (named_sources_of project.now) }
+    requires no_ring { HaveNoRing (named_sources_of project.now) }
+    requires proper { AreProper (named_sources_of project.now) }
+    ensures accepted { IfOk result (IsAccepted (named_sources_of project.now)) }
+    ensures refused { IfErr result (IsRefusal (named_sources_of project.now)) }
 {
-    let accepted = accept(alloc, files, children)?;
-    Ok(accepted.into_built())
+    let files = project.files.as_slice();
+    let children = List::from_vec(children_of(alloc, project)?);
+    match accept_by(alloc, files, children) {
+        Ok(accepted) => Ok(accepted),
+        Err(Fail::Refused(refusal)) => Err(told(alloc, &files[refusal.file], refusal)),
+        Err(Fail::NoMemory) => Err(BuildFault::NoMemory),
+    }
 }
 
-/// What files come to, by what they see of their objects, or their first refusal.
-///
-/// The files are those of a project with the top file first, and what each sees is that of [`children_of`].
-///
-/// # Errors
-///
-/// `Refused` with the first refusal: by phase, then by file in their order, then by place, then by number, as
-/// [`build_parts`] tells it. `NoMemory` may come at any point.
-pub fn accept<'a>(
+/// What files come to by what they see of their objects, or their first refusal.
+fn accept_by<'a>(
     alloc: Global,
     files: &'a [ProjectFile],
-    children: &'a [Children],
-) -> Result<Accepted<'a>, Fail<FileFault>>
+    children: List<Children>,
+) -> Result<Accepted<'a>, Fail<PhaseRefusal>>
     requires first { 0 < length files.now }
     requires few { length files.now ≤ most_files }
     requires proper { AreProper (map named_source_of files.now) }
-    requires children { length children.now ≡ length files.now }
-    ensures accepted { IfOk result (IsAccepted (map named_source_of files.now) children.now) }
-    ensures refused { IfErr result (IfFirstRefused (map named_source_of files.now) children.now) }
+    requires children { AreChildren (map named_source_of files.now) children }
+    ensures accepted { IfOk result (IsAccepted (map named_source_of files.now)) }
+    ensures refused { IfErr result (IfPhaseRefused (IsFirstAt (map named_source_of files.now) children)) }
 {
-    let named = resolve_all(alloc, files, children)?;
-    let assembled = assemble_all(alloc, named.as_slice())?;
-    let objects = objects_of_all(alloc, files, named.as_slice(), assembled.as_slice())?;
-    match finish(alloc, &named.as_slice()[0].kinds, objects) {
-        Ok(built) => Ok(Accepted {
-            named,
-            assembled,
-            built,
-        }),
-        Err(fail) => Err(in_file(0, fail)),
-    }
+    let accepted = accept_files(alloc, files, children.as_slice())?;
+    let objects = objects_of_all(alloc, files, accepted.as_slice())?;
+    let built = finish_measured(alloc, &accepted.as_slice()[0].kinds, objects)?;
+    Ok(Accepted {
+        children,
+        files: accepted,
+        built,
+    })
 }

@@ -1,12 +1,15 @@
 // The code of the methods of a file.
-ghost use Rattle.std.specs.Prelude.{◌≡◌, ◌+◌, ◌*◌, ◌^◌, ◌<◌, length, map, IfOk, OnOk};
+ghost use Rattle.std.specs.Prelude.{◌≡◌, ◌+◌, ◌*◌, length, map, IfOk, IfErr, OnOk};
 ghost use Rattle.p8_tree.specs.Views.{method_of};
-ghost use Rattle.p8_kinds.specs.ConstantEntries.{setting_of};
-ghost use Rattle.p8_stmt.specs.Methods.{AreResolved};
 ghost use Rattle.p8_constants.specs.Standing.{IsFirstOf};
+ghost use Rattle.p8_stmt.specs.Methods.{AreResolved};
 ghost use Rattle.p8_build.specs.Numbers.{number_by};
-ghost use Rattle.p8_build.specs.Coding.{part_by, parts_by, names_by, AreReady, IsOneTooMany, IsCoded, IsOneMore};
+ghost use Rattle.p8_build.specs.Files.{names_with};
+ghost use Rattle.p8_build.specs.Coding.{part_by, parts_by, AreReady, IsOneTooMany, IsCoded, IsOneMore, AreAllCodes, IsCodeRefusal};
+ghost use Rattle.p8_build.specs.Phases.{IfPhaseRefused};
 
+use crate::fault::PhaseRefusal;
+use crate::sizes::code_size;
 use crate::texts::TextNumbers;
 use p8_gen::Tables;
 use p8_image::MethodPart;
@@ -14,7 +17,7 @@ use p8_kinds::Kinds;
 use p8_stmt::{MethodCode, method_code};
 use p8_tree::{Fault, List, Method, Refusal, Text, first_of_two};
 use p8_words::{Fail, NoMemory};
-use std::alloc::{AllocError, Global};
+use std::alloc::Global;
 
 /// How many methods a file may have.
 const MOST_METHODS: usize = 254;
@@ -25,35 +28,54 @@ const MOST_ENTRIES: usize = 255;
 /// What the methods of a file come to, as far as they have been looked at.
 #[derive(Drop)]
 pub(crate) struct Coded {
-    /// Their parts, where there is no fault.
-    pub(crate) parts: List<MethodPart>,
+    /// Their codes, where there is no fault.
+    pub(crate) codes: List<MethodCode>,
     /// The first fault of their code.
     pub(crate) fault: Option<Fault>,
 }
 
-/// What names and texts are in a file, for the code of its methods.
-#[derive(Clone, Copy)]
-pub(crate) struct FileTables<'a> {
-    pub(crate) kinds: &'a Kinds,
-    pub(crate) tables: &'a Tables,
-    pub(crate) texts: &'a TextNumbers,
+/// The codes of all methods of the file of this number, which stand in the order of their numbers, beside so many instances of
+/// objects; or the first refusal of them, with the size of a method that is too large.
+pub(crate) fn codes_of(
+    alloc: Global,
+    file: usize,
+    kinds: &Kinds,
+    tables: &Tables,
+    instances: u32,
+    methods: &[&Method],
+) -> Result<List<MethodCode>, Fail<PhaseRefusal>>
+    requires { AreReady (names_with kinds.now tables.now) (map (λ m. method_of m.now) methods.now) }
+    ensures codes { IfOk result (AreAllCodes (names_with kinds.now tables.now) instances (map (λ m. method_of m.now) methods.now)) }
+    ensures refused { IfErr result (IfPhaseRefused (IsCodeRefusal file (names_with kinds.now tables.now) instances (map (λ m. method_of m.now) methods.now))) }
+{
+    let Coded { codes, fault } = code_of_all(alloc, kinds, tables, methods)?;
+    match first_of_two(fault, first_too_many(instances, methods)) {
+        None => Ok(codes),
+        Some(fault) => Err(Fail::Refused(PhaseRefusal {
+            phase: 2,
+            file,
+            fault,
+            size: code_size(kinds, tables, methods, fault)?,
+        })),
+    }
 }
 
 /// The code of all methods of a file, which stand in the order of their numbers.
-pub(crate) fn code_of_all(
+fn code_of_all(
     alloc: Global,
-    file: &FileTables<'_>,
+    kinds: &Kinds,
+    tables: &Tables,
     methods: &[&Method],
 ) -> Result<Coded, NoMemory>
-    requires { AreReady (names_by file.now) (map (λ m. method_of m.now) methods.now) }
-    ensures { IfOk result (IsCoded (names_by file.now) (number_by file.now.texts.now) (map (λ m. method_of m.now) methods.now)) }
+    requires { AreReady (names_with kinds.now tables.now) (map (λ m. method_of m.now) methods.now) }
+    ensures { IfOk result (IsCoded (names_with kinds.now tables.now) (map (λ m. method_of m.now) methods.now)) }
 {
     let mut coded = Coded {
-        parts: List::new(alloc),
+        codes: List::new(alloc),
         fault: None,
     };
     for (index, method) in methods.iter().enumerate() {
-        add_code(alloc, file, index, method, &mut coded)?;
+        add_code(alloc, kinds, tables, index, method, &mut coded)?;
     }
     Ok(coded)
 }
@@ -61,19 +83,19 @@ pub(crate) fn code_of_all(
 /// Adds the code of the next method, or its first fault.
 fn add_code(
     alloc: Global,
-    file: &FileTables<'_>,
+    kinds: &Kinds,
+    tables: &Tables,
     index: usize,
     method: &Method,
     coded: &mut Coded,
 ) -> Result<(), NoMemory>
-    requires { AreResolved (names_by file.now index (method_of method.now)) (method_of method.now).body }
-    ensures { OnOk result (IsOneMore (names_by file.now index (method_of method.now)) (number_by file.now.texts.now) (method_of method.now) coded.old coded.new) }
+    requires { AreResolved (names_with kinds.now tables.now index (method_of method.now)) (method_of method.now).body }
+    ensures { OnOk result (IsOneMore (names_with kinds.now tables.now index (method_of method.now)) (method_of method.now) coded.old coded.new) }
 {
     let number = number_behind(index)?;
-    match method_code(alloc, file.kinds, file.tables, method, number) {
+    match method_code(alloc, kinds, tables, method, number) {
         Ok(code) => {
-            let part = part_of(alloc, method, code, file.texts)?;
-            coded.parts.push(part)?;
+            coded.codes.push(code)?;
             Ok(())
         }
         Err(Fail::Refused(fault)) => {
@@ -94,19 +116,32 @@ pub(crate) fn number_behind(index: usize) -> Result<u32, NoMemory>
     }
 }
 
+/// 27 at the first method too many, in a file with so many instances of objects.
+fn first_too_many(instances: u32, methods: &[&Method]) -> Option<Fault>
+    ensures { IsFirstOf result (IsOneTooMany instances (map (λ m. method_of m.now) methods.now)) }
+{
+    let left = MOST_ENTRIES.checked_sub(instances as usize)?;
+    let method = methods.get(left.min(MOST_METHODS))?;
+    Some(Refusal::TooManyMethods.at(method.place))
+}
+
 /// The parts of methods with these codes, one for each.
 pub(crate) fn parts_of(
     alloc: Global,
-    methods: &[&Method],
-    codes: &[MethodCode],
+    mut methods: &[&Method],
+    mut codes: &[MethodCode],
     texts: &TextNumbers,
 ) -> Result<List<MethodPart>, NoMemory>
-    requires { length codes.now ≡ length methods.now }
     ensures { IfOk result (λ parts. parts ≡ parts_by (number_by texts.now) (map (λ m. method_of m.now) methods.now) codes.now) }
 {
     let mut parts = List::new(alloc);
-    for (index, method) in methods.iter().enumerate() {
-        parts.push(part_with(alloc, method, &codes[index], texts)?)?;
+    while let [method, others @ ..] = methods {
+        let [code, rest @ ..] = codes else {
+            return Ok(parts);
+        };
+        parts.push(part_with(alloc, method, code, texts)?)?;
+        methods = others;
+        codes = rest;
     }
     Ok(parts)
 }
@@ -136,32 +171,4 @@ fn parameters_size(method: &Method) -> Result<u16, NoMemory>
         Ok(count) => count.checked_mul(4).ok_or(NoMemory),
         Err(_) => Err(NoMemory),
     }
-}
-
-/// The part of a method with its code.
-fn part_of(
-    alloc: Global,
-    method: &Method,
-    code: MethodCode,
-    texts: &TextNumbers,
-) -> Result<MethodPart, AllocError>
-    requires { 4 * length method.now.params < 2 ^ 16 }
-    ensures { IfOk result (λ part. part ≡ part_by (number_by texts.now) (method_of method.now) code) }
-{
-    let uses = texts.uses(alloc, code.strings.as_slice())?;
-    Ok(MethodPart {
-        parameters: 4 * method.params.len() as u16,
-        locals: code.locals,
-        code: code.bytes,
-        uses,
-    })
-}
-
-/// 27 at the first method too many, in a file with so many instances of objects.
-pub(crate) fn first_too_many(instances: u32, methods: &[&Method]) -> Option<Fault>
-    ensures { IsFirstOf result (IsOneTooMany instances (map (λ m. method_of m.now) methods.now)) }
-{
-    let left = MOST_ENTRIES.checked_sub(instances as usize)?;
-    let method = methods.get(left.min(MOST_METHODS))?;
-    Some(Refusal::TooManyMethods.at(method.place))
 }

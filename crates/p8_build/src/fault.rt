@@ -1,11 +1,12 @@
 // Why there is no image.
 ghost use Rattle.std.specs.Prelude.{◌≡◌};
 ghost use Rattle.p8_tree.specs.Views.{named_source_of};
-ghost use Rattle.p8_build.specs.Faults.{in_file, IsToldOf};
+ghost use Rattle.p8_build.specs.Faults.{IsToldOf};
 ghost use Rattle.p8_build.specs.declared.fault.BuildFault.TheVariants.{NoMemory as OutOfMemory};
 
+use crate::sizes::Size;
 use p8_tree::{Fault, ProjectFile, Text};
-use p8_words::{Fail, NoMemory};
+use p8_words::NoMemory;
 use std::alloc::Global;
 
 /// Why a project can't be built.
@@ -17,6 +18,8 @@ pub enum BuildFault {
         file: Text,
         /// Why, by a refusal of the numbers 12 to 18 or 20 to 29, and where in the file.
         fault: Fault,
+        /// How large what is too large is: the method of a 26, the image of a 28, and nothing of any other refusal.
+        size: Option<Size>,
     },
     /// There was no memory.
     NoMemory,
@@ -30,32 +33,29 @@ impl From<NoMemory> for BuildFault {
     }
 }
 
-/// A fault of a file, by the file's number among those of a project.
+/// A refusal of one of a project's files.
 #[derive(Clone, Copy)]
-pub struct FileFault {
+pub(crate) struct PhaseRefusal {
+    /// The phase in which it comes: 0 for names and constants, 1 for data, 2 for code and 3 for the image.
+    pub(crate) phase: u8,
     /// The number of the file, counted from 0.
-    pub file: usize,
-    /// What is wrong with it.
-    pub fault: Fault,
+    pub(crate) file: usize,
+    /// What is wrong with the file.
+    pub(crate) fault: Fault,
+    /// How large what is too large is, as [`BuildFault`] tells it.
+    pub(crate) size: Option<Size>,
 }
 
-/// The failure of the file of this number.
-pub(crate) fn in_file(file: usize, fail: Fail<Fault>) -> Fail<FileFault>
-    ensures { result ≡ in_file file fail }
-{
-    match fail {
-        Fail::Refused(fault) => Fail::Refused(FileFault { file, fault }),
-        Fail::NoMemory => Fail::NoMemory,
-    }
-}
-
-/// What is told of a fault of a file: the file's name and the fault; or `NoMemory` where there is none
-/// for the name.
-pub fn told(alloc: Global, file: &ProjectFile, fault: Fault) -> BuildFault
-    ensures { IsToldOf (named_source_of file.now) fault result }
+/// What is told of a refusal of a file, or `NoMemory` where there is none for the file's name.
+pub(crate) fn told(alloc: Global, file: &ProjectFile, refusal: PhaseRefusal) -> BuildFault
+    ensures { IsToldOf (named_source_of file.now) refusal result }
 {
     match Text::copy_of(alloc, file.name.as_slice()) {
-        Ok(file) => BuildFault::Source { file, fault },
+        Ok(file) => BuildFault::Source {
+            file,
+            fault: refusal.fault,
+            size: refusal.size,
+        },
         Err(_) => BuildFault::NoMemory,
     }
 }

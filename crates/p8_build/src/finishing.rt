@@ -4,10 +4,13 @@ ghost use Rattle.p8_words.specs.declared.failure.Fail.TheVariants as fail_case;
 ghost use Rattle.p8_tree.specs.Faults.{fault};
 ghost use Rattle.p8_image.specs.Projects.{BeginsWithMain};
 ghost use Rattle.p8_build.specs.Builds.{constant_named, start};
-ghost use Rattle.p8_build.specs.Phases.{clock_in, IsFinished, IfFirstImageFault};
+ghost use Rattle.p8_build.specs.Accepted.{IsFinished};
+ghost use Rattle.p8_build.specs.Phases.{clock_in, IsImageWith, IfFirstImageFault, IsImageRefusal, IfPhaseRefused};
 
 use crate::building::Built;
-use p8_image::{Clock, ObjectPart, layout};
+use crate::fault::PhaseRefusal;
+use crate::sizes::image_size;
+use p8_image::{Clock, Image, ObjectPart, layout};
 use p8_kinds::{Kinds, NameKind};
 use p8_tree::{Fault, List, Place, Refusal, Text};
 use p8_words::{Fail, NoMemory};
@@ -29,16 +32,47 @@ pub fn finish(alloc: Global, kinds: &Kinds, objects: List<ObjectPart>) -> Result
     ensures built { IfOk result (IsFinished (clock_in kinds.now) objects) }
     ensures refused { IfErr result (IfFirstImageFault objects (clock_in kinds.now)) }
 {
-    let Some(clock) = clock_of(alloc, kinds)? else {
-        return Err(without_clock(alloc, objects.as_slice()));
-    };
-    match layout(alloc, clock, objects.as_slice()) {
+    let image = image_with(alloc, kinds, objects.as_slice())?;
+    Ok(Built { image, objects })
+}
+
+/// The same as [`finish`], with the size of an image that is too large beside its refusal.
+pub(crate) fn finish_measured(
+    alloc: Global,
+    kinds: &Kinds,
+    objects: List<ObjectPart>,
+) -> Result<Built, Fail<PhaseRefusal>>
+    requires { BeginsWithMain objects }
+    ensures built { IfOk result (IsFinished (clock_in kinds.now) objects) }
+    ensures refused { IfErr result (IfPhaseRefused (IsImageRefusal objects (clock_in kinds.now))) }
+{
+    match image_with(alloc, kinds, objects.as_slice()) {
         Ok(image) => Ok(Built { image, objects }),
-        Err(Fail::Refused(_)) => Err(refused(Refusal::ImageTooLarge)),
+        Err(Fail::Refused(fault)) => Err(Fail::Refused(PhaseRefusal {
+            phase: 3,
+            file: 0,
+            fault,
+            size: image_size(alloc, objects.as_slice(), fault)?,
+        })),
         Err(Fail::NoMemory) => Err(Fail::NoMemory),
     }
 }
 
+/// The image of these objects, the first of which is that of the top file.
+fn image_with(alloc: Global, kinds: &Kinds, objects: &[ObjectPart]) -> Result<Image, Fail<Fault>>
+    requires { BeginsWithMain objects.now }
+    ensures image { IfOk result (IsImageWith (clock_in kinds.now) objects.now) }
+    ensures refused { IfErr result (IfFirstImageFault objects.now (clock_in kinds.now)) }
+{
+    let Some(clock) = clock_of(alloc, kinds)? else {
+        return Err(without_clock(alloc, objects));
+    };
+    match layout(alloc, clock, objects) {
+        Ok(image) => Ok(image),
+        Err(Fail::Refused(_)) => Err(refused(Refusal::ImageTooLarge)),
+        Err(Fail::NoMemory) => Err(Fail::NoMemory),
+    }
+}
 /// Why a project without a clock has no image: it is too large, whatever the clock, or else just that.
 fn without_clock(alloc: Global, objects: &[ObjectPart]) -> Fail<Fault>
     requires { BeginsWithMain objects.now }

@@ -3,6 +3,7 @@
 //! The texts of a method's `STRING`s are listed on the way.
 #![tactic(auto)]
 
+mod accepting;
 mod assembling;
 mod building;
 mod coding;
@@ -10,18 +11,18 @@ mod expressions;
 mod fault;
 mod finishing;
 mod laws;
-mod naming;
 mod objects;
 mod sizes;
 mod statements;
 mod string_texts;
 mod texts;
 
+pub use accepting::AcceptedFile;
 pub use building::{Accepted, Built, accept, build, build_parts};
-pub use fault::{BuildFault, FileFault, told};
+pub use fault::BuildFault;
 pub use finishing::finish;
 pub use laws::one_build;
 pub use objects::object_of_codes;
-pub use sizes::{Size, measure};
+pub use sizes::Size;
 pub use statements::strings_of;
 pub use string_texts::StringText;

@@ -1,147 +1,68 @@
 // The objects of a project, as its files make them.
-ghost use Rattle.std.specs.Prelude.{◌≡◌, ◌≤◌, ◌++◌, length, map, replicate, IfOk, IfErr, OnOk};
+ghost use Rattle.std.specs.Prelude.{◌≡◌, ◌≤◌, ◌++◌, length, map, replicate, List as list, IfOk, OnOk};
 ghost use Rattle.std.specs.List.{flat_map};
-ghost use Rattle.p8_tree.specs.Proper.{IsProperFile};
-ghost use Rattle.p8_tree.specs.Views.{source_of, child_of, declared_of, named_source_of};
-ghost use Rattle.p8_tree.specs.Faults.{IsFirstFault, IfRefused};
+ghost use Rattle.p8_tree.specs.Sources.{Source};
+ghost use Rattle.p8_tree.specs.Views.{named_source_of};
 ghost use Rattle.p8_tree.specs.Projects.{most_files};
 ghost use Rattle.p8_kinds.specs.ConstantEntries.{setting_of};
+ghost use Rattle.p8_kinds.specs.declared.children.Children.{Children};
 ghost use Rattle.p8_constants.specs.Standing.{item_of as item_tree, items_of as item_trees};
-ghost use Rattle.p8_constants.specs.FileItems.{items};
-ghost use Rattle.p8_names.specs.Kinds.{numbered as numbered_methods, object_in, objects};
-ghost use Rattle.p8_build.specs.Parts.{number_of, variable_in, instances_of, AreProper};
+ghost use Rattle.p8_names.specs.Kinds.{object_in as objects_in, objects};
+ghost use Rattle.p8_build.specs.Parts.{number_of, variable_in, instances_of};
 ghost use Rattle.p8_build.specs.Files.{object_of};
-ghost use Rattle.p8_build.specs.Numbers.{text_of};
-ghost use Rattle.p8_build.specs.Phases.{AreNamed, seen_by, AreAssembled, AreObjects, IfFirst, IsNamedSo, IsObjectOf, IsCodeFaultOf, object_by, compiled};
+ghost use Rattle.p8_build.specs.Accepted.{HasTables, recoded_file};
+ghost use Rattle.p8_build.specs.Phases.{object_in};
 
-use crate::assembling::instances;
-use crate::coding::{Coded, FileTables, code_of_all, first_too_many, parts_of};
-use crate::fault::{FileFault, in_file};
-use crate::string_texts::StringText;
+use crate::accepting::AcceptedFile;
+use crate::coding::parts_of;
 use crate::texts::{TextNumbers, copies_of, strings_of_all};
-use p8_constants::{Item, count_value, items_of};
-use p8_dat::Dat;
-use p8_gen::Tables;
-use p8_image::{MethodPart, ObjectPart, Variable};
-use p8_kinds::{Consts, Named, consts_of};
-use p8_names::numbered;
+use p8_constants::{Item, count_value};
+use p8_image::{ObjectPart, Variable};
+use p8_kinds::Consts;
 use p8_stmt::MethodCode;
-use p8_tree::{Fault, List, ProjectFile, Text, first_of_two};
-use p8_words::{Fail, NoMemory};
+use p8_tree::{List, ProjectFile, Text};
+use p8_words::NoMemory;
 use std::alloc::{AllocError, Global};
 
-/// The objects of all files, or the first fault of their code.
+/// The objects of all files, in their order.
 pub(crate) fn objects_of_all(
     alloc: Global,
     files: &[ProjectFile],
-    named: &[Named<'_>],
-    assembled: &[Dat],
-) -> Result<List<ObjectPart>, Fail<FileFault>>
-    requires few { length files.now ≤ most_files }
-    requires proper { AreProper (map named_source_of files.now) }
-    requires named { AreNamed (map named_source_of files.now) (seen_by named.now) named.now }
-    requires assembled { AreAssembled (map named_source_of files.now) (seen_by named.now) named.now assembled.now }
-    ensures objects { IfOk result (AreObjects (map named_source_of files.now) (seen_by named.now) named.now) }
-    ensures refused { IfErr result (IfFirst (map named_source_of files.now) (seen_by named.now) 2) }
+    accepted: &[AcceptedFile<'_>],
+) -> Result<List<ObjectPart>, NoMemory>
+    requires { length files.now ≤ most_files }
+    ensures { IfOk result (λ objects. objects ≡ map (λ f. object_in (map named_source_of files.now) f f.codes) accepted.now) }
 {
-    let mut all = List::new(alloc);
-    for (index, file) in named.iter().enumerate() {
-        match object_of(alloc, files, file, &assembled[index]) {
-            Ok(object) => all.push(object)?,
-            Err(fail) => return Err(in_file(index, fail)),
-        }
+    let mut objects = List::new(alloc);
+    for file in accepted {
+        objects.push(object_of_codes(alloc, files, file, file.codes.as_slice())?)?;
     }
-    Ok(all)
+    Ok(objects)
 }
 
-/// The object of a file, or the first fault of its code.
-fn object_of(
-    alloc: Global,
-    files: &[ProjectFile],
-    named: &Named<'_>,
-    dat: &Dat,
-) -> Result<ObjectPart, Fail<Fault>>
-    requires few { length files.now ≤ most_files }
-    requires proper { IsProperFile (source_of named.now.file.now) }
-    requires named { IsNamedSo named.now }
-    ensures object { IfOk result (IsObjectOf (map named_source_of files.now) (source_of named.now.file.now) named.now.children.now named.now.kinds dat.now) }
-    ensures refused { IfErr result (IfRefused (IsFirstFault (IsCodeFaultOf (source_of named.now.file.now) named.now.children.now named.now.kinds dat.now))) }
-{
-    let items = items_of(alloc, named.file)?;
-    let methods = numbered(alloc, &items)?;
-    let strings = strings_of_all(alloc, &methods)?;
-    let tables = Tables::of(alloc, named, dat.labels.as_slice())?;
-    let texts = TextNumbers::of(alloc, strings.as_slice())?;
-    let file = FileTables {
-        kinds: &named.kinds,
-        tables: &tables,
-        texts: &texts,
-    };
-    let Coded { parts, fault } = code_of_all(alloc, &file, &methods)?;
-    let instances = instances(&tables.consts, &items)?;
-    match first_of_two(fault, first_too_many(instances, &methods)) {
-        Some(fault) => Err(Fail::Refused(fault)),
-        None => Ok(object_with(
-            alloc,
-            files,
-            &tables.consts,
-            &items,
-            dat,
-            parts,
-            strings.as_slice(),
-        )?),
-    }
-}
-
-/// The object of a file with these names and data, and with these codes for its methods, in the order of their numbers.
+/// The object of a file of an accepted project with these codes for its methods, in the order of their numbers.
 ///
 /// The files are those of the project, among which those of the objects are told by their numbers.
 pub fn object_of_codes(
     alloc: Global,
     files: &[ProjectFile],
-    named: &Named<'_>,
-    dat: &Dat,
+    file: &AcceptedFile<'_>,
     codes: &[MethodCode],
 ) -> Result<ObjectPart, NoMemory>
-    requires few { length files.now ≤ most_files }
-    requires codes { length codes.now ≡ length (numbered_methods (items (source_of named.now.file.now))) }
-    ensures { IfOk result (λ object. object ≡ object_of (map named_source_of files.now) (source_of named.now.file.now) named.now.children.now (compiled named.now.kinds dat.now codes.now)) }
-{
-    let items = items_of(alloc, named.file)?;
-    let methods = numbered(alloc, &items)?;
-    let consts = consts_of(alloc, &named.kinds, named.children)?;
-    let strings = strings_of_all(alloc, &methods)?;
-    let texts = TextNumbers::of(alloc, strings.as_slice())?;
-    let parts = parts_of(alloc, &methods, codes, &texts)?;
-    Ok(object_with(
-        alloc,
-        files,
-        &consts,
-        &items,
-        dat,
-        parts,
-        strings.as_slice(),
-    )?)
-}
-
-/// The object of a file with these items, data, methods and texts.
-fn object_with(
-    alloc: Global,
-    files: &[ProjectFile],
-    consts: &Consts,
-    items: &[Item<'_>],
-    dat: &Dat,
-    methods: List<MethodPart>,
-    strings: &[StringText<'_>],
-) -> Result<ObjectPart, AllocError>
     requires { length files.now ≤ most_files }
-    ensures { IfOk result (λ object. object ≡ object_by (map named_source_of files.now) (setting_of consts.now) (item_trees items.now) dat.now.bytes methods (map (λ x. (text_of x).1) strings.now)) }
+    ensures made { IfOk result (λ object. object ≡ object_in (map named_source_of files.now) file.now codes.now) }
+    ensures object { IfOk result (λ object. (source : Source) → (children : Children) → HasTables source children file.now → object ≡ object_of (map named_source_of files.now) source children (recoded_file file.now codes.now)) }
 {
+    let items = file.items.as_slice();
+    let methods = file.methods.as_slice();
+    let consts = &file.tables.consts;
+    let strings = strings_of_all(alloc, methods)?;
+    let texts = TextNumbers::of(alloc, strings.as_slice())?;
     Ok(ObjectPart {
         variables: variables_of(alloc, consts, items)?,
-        dat: Text::copy_of(alloc, dat.bytes.as_slice())?,
-        methods,
-        texts: copies_of(alloc, strings)?,
+        dat: Text::copy_of(alloc, file.dat.bytes.as_slice())?,
+        methods: parts_of(alloc, methods, codes, &texts)?,
+        texts: copies_of(alloc, strings.as_slice())?,
         instances: instances_of(alloc, files, consts, items)?,
     })
 }
@@ -201,7 +122,7 @@ fn put_instances(
     item: Item<'_>,
 ) -> Result<(), AllocError>
     requires { length files.now ≤ most_files }
-    ensures { OnOk result (instances.new ≡ instances.old ++ flat_map (instances_of (map named_source_of files.now) (setting_of consts.now)) (object_in (item_tree item.entry))) }
+    ensures { OnOk result (instances.new ≡ instances.old ++ flat_map (instances_of (map named_source_of files.now) (setting_of consts.now)) (objects_in (item_tree item.entry))) }
 {
     match item {
         Item::Object(object) => {

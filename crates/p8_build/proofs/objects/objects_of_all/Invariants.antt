@@ -1,12 +1,7 @@
-use Rattle.std.proofs.Common.{◌≡◌, length, map}
+use Rattle.std.proofs.Common.{◌≡◌, map, take}
 use Rattle.p8_tree.specs.Views.{named_source_of}
-use Rattle.p8_build.specs.Phases.{seen_by}
-use Rattle.p8_build.proofs.Lists.{Each}
-use Rattle.p8_build.proofs.Refusals.{IsObjectAt}
+use Rattle.p8_build.specs.Phases.{object_in}
 use Rattle.p8_build.proofs.objects.objects_of_all.Given as goal
 
-abbrev pub invariant-loop-index : goal.invariant-loop-index
-invariant-loop-index l = record {
-  count : length l.all ≡ l.index;
-  each : Each (IsObjectAt (map named_source_of l.files) (seen_by l.named) l.named l.assembled) l.all;
-}
+abbrev pub invariant-loop-file : goal.invariant-loop-file
+invariant-loop-file l = l.objects ≡ map (λ f. object_in (map named_source_of l.files) f f.codes) (take l.file-index l.accepted)

@@ -5,9 +5,9 @@ use Rattle.p8_tree.specs.Sources.{MethodTree}
 use Rattle.p8_tree.specs.Views.{method_of}
 use Rattle.p8_gen.specs.Scopes.{names_from}
 use Rattle.p8_stmt.specs.Methods.{size_of}
-use Rattle.p8_build.specs.Measuring.{names_with}
+use Rattle.p8_build.specs.Files.{names_with}
 use Rattle.p8_build.proofs.Lists.{mapped}
-use Rattle.p8_build.proofs.Measured.{none_yet, size_found, size_later, size_nowhere}
+use Rattle.p8_build.proofs.Sized.{none_yet, size_found, size_later, size_nowhere}
 use Rattle.p8_build.proofs.sizes.first_size.Goals as goal
 
 abbrev tree : Bor Method → MethodTree
