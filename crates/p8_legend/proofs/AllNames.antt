@@ -1,5 +1,5 @@
--- Whatever stands in the hub with a name and a byte has its range among the names of a legend.
-use Rattle.std.proofs.Common.{◌≡◌, refl, sym, ap, ap₂, ◌∙◌, subst, ℕ, zero, suc, ◌+◌, ◌<◌, ◌≤◌, ◌||◌, nat_le, nat_lt, true, false, if◌then◌else◌, Bool, List, [], ◌∷◌, ◌++◌, length, length-append, slice_get, Some, arith}
+-- Whatever stands in the hub with a name has its range among the names of a legend.
+use Rattle.std.proofs.Common.{◌≡◌, refl, sym, ap, ap₂, ◌∙◌, subst, ℕ, zero, suc, ◌+◌, ◌<◌, ◌≤◌, ◌||◌, nat_lt, true, false, if◌then◌else◌, Bool, List, [], ◌∷◌, ◌++◌, length, length-append, slice_get, Some, arith}
 use Rattle.std.specs.Prelude.{take, drop}
 use Rattle.std.proofs.lemmas.Bool.Decides.{nat_tests}
 use Rattle.std.proofs.lemmas.Option.{none-some, same_Some}
@@ -55,7 +55,7 @@ module _ (t : List ℕ) (r : Range) where
   keeps-by false n q text h = record { number = h.number; range_is = front n.0 (q ∷ []) h.number r h.range_is; text_is = front n.1 (text ∷ []) h.number t h.text_is }
 
   pub one-keeps : (n : Named) (address end : ℕ) (text : List ℕ) → Has n → Has (and_one n address end text)
-  one-keeps n address end text h = keeps-by (nat_lt address (last_end 0 n.0) || nat_le end address) n (record { address = address; end = end }) text h
+  one-keeps n address end text h = keeps-by (nat_lt address (last_end 0 n.0) || nat_lt end address) n (record { address = address; end = end }) text h
 
   adds-by : (b : Bool) (n : Named) (q : Range) (text : List ℕ) → b ≡ false → length n.0 ≡ length n.1 → t ≡ text → r ≡ q → Has (if b then n else (n.0 ++ q ∷ [], n.1 ++ text ∷ []))
   adds-by true n q text never beside text_is range_is = absurd (cc)
@@ -65,15 +65,13 @@ module _ (t : List ℕ) (r : Range) where
     text_is = ap (slice_get (n.1 ++ text ∷ [])) (let e : length n.0 + 0 ≡ length n.1 + 0 = omega (arith, beside) in e) ∙ back n.1 (text ∷ []) 0 t (ap Some (sym text_is));
   }
 
-  taken : (a b c : ℕ) → c ≤ a → a < b → (nat_lt a c || nat_le b a) ≡ false
-  taken a b c from some = grind (arith, nat_tests)
+  taken : (a b c : ℕ) → c ≤ a → a ≤ b → (nat_lt a c || nat_lt b a) ≡ false
+  taken a b c from to = grind (arith, nat_tests)
 
-  pub one-adds : (n : Named) (address end low : ℕ) (text : List ℕ) → IsUpTo n low → low ≤ address → t ≡ text → r ≡ record { address = address; end = end } → r.address < r.end → Has (and_one n address end text)
-  one-adds n address end low text up from text_is range_is some =
+  pub one-adds : (n : Named) (address end low : ℕ) (text : List ℕ) → IsUpTo n low → low ≤ address → t ≡ text → r ≡ record { address = address; end = end } → address ≤ end → Has (and_one n address end text)
+  one-adds n address end low text up from text_is range_is to =
       let reach = up.reach in
-      let a = ap (λ (q : Range). q.address) range_is in
-      let e = ap (λ (q : Range). q.end) range_is in
-      adds-by (nat_lt address (last_end 0 n.0) || nat_le end address) n (record { address = address; end = end }) text (taken address end (last_end 0 n.0) (omega (arith, reach, from)) (omega (arith, a, e, some))) up.beside text_is range_is
+      adds-by (nat_lt address (last_end 0 n.0) || nat_lt end address) n (record { address = address; end = end }) text (taken address end (last_end 0 n.0) (omega (arith, reach, from)) to) up.beside text_is range_is
 
 up-by : (b : Bool) (n : Named) (q : Range) (text : List ℕ) (low : ℕ) → IsUpTo n low → low ≤ q.end → IsUpTo (if b then n else (n.0 ++ q ∷ [], n.1 ++ text ∷ [])) q.end
 up-by true n q text low up from = later n low q.end from up
@@ -85,7 +83,7 @@ up-by false n q text low up from =
     record { beside = omega (arith, beside, one, two); reach = omega (arith, end) }
 
 pub one-up : (n : Named) (address end low : ℕ) (text : List ℕ) → IsUpTo n low → low ≤ address → address ≤ end → IsUpTo (and_one n address end text) end
-one-up n address end low text up from to = up-by (nat_lt address (last_end 0 n.0) || nat_le end address) n (record { address = address; end = end }) text low up (omega (arith, from, to))
+one-up n address end low text up from to = up-by (nat_lt address (last_end 0 n.0) || nat_lt end address) n (record { address = address; end = end }) text low up (omega (arith, from, to))
 
 -- ---- labels, which rise
 
@@ -133,17 +131,20 @@ module _ (base high : ℕ) (room : base + high < 65536) where
 
   module _ (t : List ℕ) (r : Range) where
     labels-has : (n : Named) (prefix : List ℕ) (low : ℕ) (labels : List Label) → IsUpTo n (base + low) → Rise low high labels → (k : ℕ) (label : Label) → slice_get labels k ≡ Some label
-        → t ≡ prefix ++ label.name → r ≡ record { address = further base label.offset; end = label_end base (base + high) (drop (suc k) labels) } → r.address < r.end → HasEntry (with_labels n prefix base (base + high) labels) t r
-    labels-has n prefix low [] up is k label at text_is range_is some = absurd (none-some label at)
-    labels-has n prefix low (x ∷ labels) up is zero label at text_is range_is some =
+        → t ≡ prefix ++ label.name → r ≡ record { address = further base label.offset; end = label_end base (base + high) (drop (suc k) labels) } → HasEntry (with_labels n prefix base (base + high) labels) t r
+    labels-has n prefix low [] up is k label at text_is range_is = absurd (none-some label at)
+    labels-has n prefix low (x ∷ labels) up is zero label at text_is range_is =
         let same = same_Some x label at in
         let from = is.0 in
+        let end = next-end x.offset labels is.1 in
+        let rise = next-rise x.offset labels is.1 in
+        let to = rise.0 in
         let last = rise-end x.offset high labels is.1 in
         let begin : further base x.offset ≡ base + x.offset = omega (arith, room, last) in
         labels-keep t r (and_one n (further base x.offset) (label_end base (base + high) labels) (prefix ++ x.name)) prefix base (base + high) labels
         (one-adds t r n (further base x.offset) (label_end base (base + high) labels) (base + low) (prefix ++ x.name) up (omega (arith, begin, from)) (text_is ∙ ap (λ (l : Label). prefix ++ l.name) (sym same))
-        (range_is ∙ ap (λ (l : Label). record { address = further base l.offset; end = label_end base (base + high) labels }) (sym same)) some)
-    labels-has n prefix low (x ∷ labels) up is (suc k) label at text_is range_is some =
+        (range_is ∙ ap (λ (l : Label). record { address = further base l.offset; end = label_end base (base + high) labels }) (sym same)) (omega (arith, begin, end, to)))
+    labels-has n prefix low (x ∷ labels) up is (suc k) label at text_is range_is =
         let end = next-end x.offset labels is.1 in
         let rise = next-rise x.offset labels is.1 in
         let from = is.0 in
@@ -153,7 +154,7 @@ module _ (base high : ℕ) (room : base + high < 65536) where
         labels-has (and_one n (further base x.offset) (label_end base (base + high) labels) (prefix ++ x.name)) prefix (next-offset labels) labels
         (subst (IsUpTo (and_one n (further base x.offset) (label_end base (base + high) labels) (prefix ++ x.name))) end
         (one-up n (further base x.offset) (label_end base (base + high) labels) (base + low) (prefix ++ x.name) up (omega (arith, begin, from)) (omega (arith, begin, end, to))))
-        rise.1 k label at text_is range_is some
+        rise.1 k label at text_is range_is
 
 module _ (t : List ℕ) (r : Range) where
   -- ---- methods
@@ -180,23 +181,23 @@ methods-up n prefix place (m ∷ names) (method ∷ methods) up room =
 module _ (t : List ℕ) (r : Range) where
   methods-has : (n : Named) (prefix : List ℕ) (place : ℕ) (names : List MethodNames) (methods : List MethodPart) → IsUpTo n place → place + total code_size methods < 65536
       → (k : ℕ) (m : MethodNames) (method : MethodPart) → slice_get names k ≡ Some m → slice_get methods k ≡ Some method → t ≡ prefix ++ m.name
-      → r.address ≡ place + total code_size (take k methods) → r.end ≡ place + total code_size (take k methods) + length method.code → r.address < r.end → HasEntry (with_methods n prefix place names methods) t r
-  methods-has n prefix place [] methods up room k m method at there text_is begins ends some = absurd (none-some m at)
-  methods-has n prefix place (x ∷ names) [] up room k m method at there text_is begins ends some = absurd (none-some method there)
-  methods-has n prefix place (x ∷ names) (y ∷ methods) up room zero m method at there text_is begins ends some =
+      → r.address ≡ place + total code_size (take k methods) → r.end ≡ place + total code_size (take k methods) + length method.code → HasEntry (with_methods n prefix place names methods) t r
+  methods-has n prefix place [] methods up room k m method at there text_is begins ends = absurd (none-some m at)
+  methods-has n prefix place (x ∷ names) [] up room k m method at there text_is begins ends = absurd (none-some method there)
+  methods-has n prefix place (x ∷ names) (y ∷ methods) up room zero m method at there text_is begins ends =
       let one = same_Some x m at in
       let other = ap (λ (z : MethodPart). length z.code) (same_Some y method there) in
       let next : further place (length y.code) ≡ place + length y.code = omega (arith, room) in
       methods-keep t r (and_one n place (further place (length y.code)) (prefix ++ x.name)) prefix (further place (length y.code)) names methods
       (one-adds t r n place (further place (length y.code)) place (prefix ++ x.name) up (omega arith) (text_is ∙ ap (λ (z : MethodNames). prefix ++ z.name) (sym one))
-      (ap₂ (λ (a b : ℕ). record { address = a; end = b }) (omega (arith, begins)) (omega (arith, ends, other, next))) some)
-  methods-has n prefix place (x ∷ names) (y ∷ methods) up room (suc k) m method at there text_is begins ends some =
+      (ap₂ (λ (a b : ℕ). record { address = a; end = b }) (omega (arith, begins)) (omega (arith, ends, other, next))) (omega (arith, next)))
+  methods-has n prefix place (x ∷ names) (y ∷ methods) up room (suc k) m method at there text_is begins ends =
       let next : further place (length y.code) ≡ place + length y.code = omega (arith, room) in
       let more = and_one n place (further place (length y.code)) (prefix ++ x.name) in
       subst (λ p. HasEntry (with_methods more prefix p names methods) t r) (sym next)
       (methods-has more prefix (place + length y.code) names methods
       (subst (IsUpTo more) next (one-up n place (further place (length y.code)) place (prefix ++ x.name) up (omega arith) (omega (arith, next)))) (omega (arith, room))
-      k m method at there text_is (omega (arith, begins)) (omega (arith, ends)) some)
+      k m method at there text_is (omega (arith, begins)) (omega (arith, ends)))
 
 -- ---- objects
 
@@ -223,27 +224,27 @@ module _ (t : List ℕ) (r : Range) where
 
   pub object-label : (n : Named) (prefix : List ℕ) (base : ℕ) (names : FileNames) (object : ObjectPart) → IsUpTo n base → base + size_of object < 65536 → LabelsRise names object
       → (k : ℕ) (label : Label) → slice_get names.labels k ≡ Some label → t ≡ prefix ++ label.name
-      → r ≡ record { address = further base label.offset; end = label_end base (further base (codes_offset object)) (drop (suc k) names.labels) } → r.address < r.end → HasEntry (with_object n prefix base names object) t r
-  object-label n prefix base names object up room rise k label at text_is range_is some =
+      → r ≡ record { address = further base label.offset; end = label_end base (further base (codes_offset object)) (drop (suc k) names.labels) } → HasEntry (with_object n prefix base names object) t r
+  object-label n prefix base names object up room rise k label at text_is range_is =
       let high : ℕ = codes_offset object in
       let codes : further base high ≡ base + high = omega (arith, room) in
       let none : base ≡ base + 0 = omega arith in
       methods-keep t r (with_labels n prefix base (further base high) names.labels) prefix (further base high) names.methods object.methods
       (subst (λ p. HasEntry (with_labels n prefix base p names.labels) t r) (sym codes)
       (labels-has base high (omega (arith, room)) t r n prefix 0 names.labels (subst (IsUpTo n) none up) rise k label at text_is
-      (range_is ∙ ap (λ p. record { address = further base label.offset; end = label_end base p (drop (suc k) names.labels) }) codes) some))
+      (range_is ∙ ap (λ p. record { address = further base label.offset; end = label_end base p (drop (suc k) names.labels) }) codes)))
 
   pub object-method : (n : Named) (prefix : List ℕ) (base : ℕ) (names : FileNames) (object : ObjectPart) → IsUpTo n base → base + size_of object < 65536 → LabelsRise names object
       → (k : ℕ) (m : MethodNames) (method : MethodPart) → slice_get names.methods k ≡ Some m → slice_get object.methods k ≡ Some method → t ≡ prefix ++ m.name
-      → r.address ≡ base + code_offset object k → r.end ≡ base + code_offset object k + length method.code → r.address < r.end → HasEntry (with_object n prefix base names object) t r
-  object-method n prefix base names object up room rise k m method at there text_is begins ends some =
+      → r.address ≡ base + code_offset object k → r.end ≡ base + code_offset object k + length method.code → HasEntry (with_object n prefix base names object) t r
+  object-method n prefix base names object up room rise k m method at there text_is begins ends =
       let high : ℕ = codes_offset object in
       let codes : further base high ≡ base + high = omega (arith, room) in
       let none : base ≡ base + 0 = omega arith in
       subst (λ p. HasEntry (with_methods (with_labels n prefix base p names.labels) prefix p names.methods object.methods) t r) (sym codes)
       (methods-has t r (with_labels n prefix base (base + high) names.labels) prefix (base + high) names.methods object.methods
       (labels-up base high (omega (arith, room)) n prefix 0 names.labels (subst (IsUpTo n) none up) rise) (omega (arith, room))
-      k m method at there text_is (omega (arith, begins)) (omega (arith, ends)) some)
+      k m method at there text_is (omega (arith, begins)) (omega (arith, ends)))
 
 module _ (all_files : List FileNames) (parts : List ObjectPart) where
   abbrev prefix_of : ℕ → List ℕ

@@ -1,4 +1,4 @@
--- Each variable that has a byte, of each object instance, has its range among the names of a legend.
+-- Each variable of each object instance that is listed has its range among the names of a legend.
 use Rattle.std.proofs.Common.{◌≡◌, refl, sym, ap, ap₂, ◌∙◌, subst, inl, inr, ℕ, zero, suc, ◌+◌, ◌<◌, ◌≤◌, ◌==◌, true, false, if◌then◌else◌, Bool, List, [], ◌∷◌, ◌++◌, length, slice_get, slice_index, Option, Some, None, arith}
 use Rattle.std.specs.Prelude.{take, codes}
 use Rattle.std.proofs.lemmas.Bool.Decides.{nat_tests}
@@ -11,11 +11,18 @@ use Rattle.p8_map.specs.declared.instances.Instance.{Instance}
 use Rattle.p8_image.specs.Listing.{further}
 use Rattle.p8_image.specs.Layout.{total, variable_size, variable_offset, own_variables, variables_of}
 use Rattle.p8_map.specs.Map.{low, own_instance, one_inside, all_inside, with_inside, instances_within, sized_bytes, after_size}
-use Rattle.p8_legend.specs.ProjectLegends.{Named, and_one, with_sized, with_variables, with_instance, with_instances}
+use Rattle.p8_legend.specs.ProjectLegends.{Named, and_if, with_sized, with_variables, with_instance, with_instances}
 use Rattle.p8_legend.proofs.RightNames.{low-at, after-is, IsOfSize, AreOfSize, at-sizes, of-size, bytes-of-size, greater, none-greater, longs-greater, words-greater}
 use Rattle.p8_legend.proofs.AllNames.{IsUpTo, HasEntry, later, one-keeps, one-adds, one-up, front, back}
 
 -- ---- the variables of one size
+
+up-if : (b : Bool) (n : Named) (address end : ℕ) (text : List ℕ) → IsUpTo n address → address ≤ end → IsUpTo (and_if b n address end text) end
+up-if false n address end text up to = later n address end to up
+up-if true n address end text up to = one-up n address end address text up (omega arith) to
+
+same-size : (a b : ℕ) → a ≡ b → (a == b) ≡ true
+same-size a b is = grind (arith, nat_tests)
 
 sized-up : (n : Named) (size place : ℕ) (prefix : List ℕ) (names : List (List ℕ)) (vs : List Variable) → IsUpTo n place → place + total (sized_bytes size) vs < 65536
     → IsUpTo (with_sized n size place prefix names vs) (place + total (sized_bytes size) vs)
@@ -23,39 +30,47 @@ sized-up n size place prefix [] vs up room = later n place (place + total (sized
 sized-up n size place prefix (name ∷ names) [] up room = later n place (place + 0) (omega arith) up
 sized-up n size place prefix (name ∷ names) (v ∷ vs) up room =
     let next : further place (sized_bytes size v) ≡ place + sized_bytes size v = omega (arith, room) in
-    let more = and_one n place (further place (sized_bytes size v)) (prefix ++ name) in
+    let more = and_if (v.size == size) n place (further place (sized_bytes size v)) (prefix ++ name) in
     let whole : place + sized_bytes size v + total (sized_bytes size) vs ≡ place + (sized_bytes size v + total (sized_bytes size) vs) = omega arith in
     subst (IsUpTo (with_sized more size (further place (sized_bytes size v)) prefix names vs)) whole
     (subst (λ p. IsUpTo (with_sized more size p prefix names vs) (place + sized_bytes size v + total (sized_bytes size) vs)) (sym next)
     (sized-up more size (place + sized_bytes size v) prefix names vs
-    (subst (IsUpTo more) next (one-up n place (further place (sized_bytes size v)) place (prefix ++ name) up (omega arith) (omega (arith, next)))) (omega (arith, room))))
+    (subst (IsUpTo more) next (up-if (v.size == size) n place (further place (sized_bytes size v)) (prefix ++ name) up (omega (arith, next)))) (omega (arith, room))))
 
 module _ (t : List ℕ) (r : Range) where
+  keeps-if : (b : Bool) (n : Named) (address end : ℕ) (text : List ℕ) → HasEntry n t r → HasEntry (and_if b n address end text) t r
+  keeps-if false n address end text h = h
+  keeps-if true n address end text h = one-keeps t r n address end text h
+
+  adds-if : (b : Bool) (n : Named) (address end : ℕ) (text : List ℕ) → b ≡ true → IsUpTo n address → t ≡ text → r ≡ record { address = address; end = end } → address ≤ end → HasEntry (and_if b n address end text) t r
+  adds-if false n address end text asked up text_is range_is to = absurd (cc)
+  adds-if true n address end text asked up text_is range_is to = one-adds t r n address end address text up (omega arith) text_is range_is to
+
   sized-keep : (n : Named) (size place : ℕ) (prefix : List ℕ) (names : List (List ℕ)) (vs : List Variable) → HasEntry n t r → HasEntry (with_sized n size place prefix names vs) t r
   sized-keep n size place prefix [] vs h = h
   sized-keep n size place prefix (name ∷ names) [] h = h
   sized-keep n size place prefix (name ∷ names) (v ∷ vs) h =
-      sized-keep (and_one n place (further place (sized_bytes size v)) (prefix ++ name)) size (further place (sized_bytes size v)) prefix names vs (one-keeps t r n place (further place (sized_bytes size v)) (prefix ++ name) h)
+      sized-keep (and_if (v.size == size) n place (further place (sized_bytes size v)) (prefix ++ name)) size (further place (sized_bytes size v)) prefix names vs (keeps-if (v.size == size) n place (further place (sized_bytes size v)) (prefix ++ name) h)
 
   sized-has : (n : Named) (size place : ℕ) (prefix : List ℕ) (names : List (List ℕ)) (vs : List Variable) → IsUpTo n place → place + total (sized_bytes size) vs < 65536
-      → (k : ℕ) (name : List ℕ) (v : Variable) → slice_get names k ≡ Some name → slice_get vs k ≡ Some v → t ≡ prefix ++ name
-      → r.address ≡ place + total (sized_bytes size) (take k vs) → r.end ≡ place + total (sized_bytes size) (take k vs) + sized_bytes size v → r.address < r.end → HasEntry (with_sized n size place prefix names vs) t r
-  sized-has n size place prefix [] vs up room k name v at there text_is begins ends some = absurd (none-some name at)
-  sized-has n size place prefix (x ∷ names) [] up room k name v at there text_is begins ends some = absurd (none-some v there)
-  sized-has n size place prefix (x ∷ names) (y ∷ vs) up room zero name v at there text_is begins ends some =
+      → (k : ℕ) (name : List ℕ) (v : Variable) → slice_get names k ≡ Some name → slice_get vs k ≡ Some v → v.size ≡ size → t ≡ prefix ++ name
+      → r.address ≡ place + total (sized_bytes size) (take k vs) → r.end ≡ place + total (sized_bytes size) (take k vs) + sized_bytes size v → HasEntry (with_sized n size place prefix names vs) t r
+  sized-has n size place prefix [] vs up room k name v at there of text_is begins ends = absurd (none-some name at)
+  sized-has n size place prefix (x ∷ names) [] up room k name v at there of text_is begins ends = absurd (none-some v there)
+  sized-has n size place prefix (x ∷ names) (y ∷ vs) up room zero name v at there of text_is begins ends =
       let one = same_Some x name at in
       let other = ap (sized_bytes size) (same_Some y v there) in
       let next : further place (sized_bytes size y) ≡ place + sized_bytes size y = omega (arith, room) in
-      sized-keep (and_one n place (further place (sized_bytes size y)) (prefix ++ x)) size (further place (sized_bytes size y)) prefix names vs
-      (one-adds t r n place (further place (sized_bytes size y)) place (prefix ++ x) up (omega arith) (text_is ∙ ap (λ z. prefix ++ z) (sym one))
-      (ap₂ (λ (a b : ℕ). record { address = a; end = b }) (omega (arith, begins)) (omega (arith, ends, other, next))) some)
-  sized-has n size place prefix (x ∷ names) (y ∷ vs) up room (suc k) name v at there text_is begins ends some =
+      sized-keep (and_if (y.size == size) n place (further place (sized_bytes size y)) (prefix ++ x)) size (further place (sized_bytes size y)) prefix names vs
+      (adds-if (y.size == size) n place (further place (sized_bytes size y)) (prefix ++ x) (same-size y.size size (ap (λ (z : Variable). z.size) (same_Some y v there) ∙ of)) up (text_is ∙ ap (λ z. prefix ++ z) (sym one))
+      (ap₂ (λ (a b : ℕ). record { address = a; end = b }) (omega (arith, begins)) (omega (arith, ends, other, next))) (omega (arith, next)))
+  sized-has n size place prefix (x ∷ names) (y ∷ vs) up room (suc k) name v at there of text_is begins ends =
       let next : further place (sized_bytes size y) ≡ place + sized_bytes size y = omega (arith, room) in
-      let more = and_one n place (further place (sized_bytes size y)) (prefix ++ x) in
+      let more = and_if (y.size == size) n place (further place (sized_bytes size y)) (prefix ++ x) in
       subst (λ p. HasEntry (with_sized more size p prefix names vs) t r) (sym next)
       (sized-has more size (place + sized_bytes size y) prefix names vs
-      (subst (IsUpTo more) next (one-up n place (further place (sized_bytes size y)) place (prefix ++ x) up (omega arith) (omega (arith, next)))) (omega (arith, room))
-      k name v at there text_is (omega (arith, begins)) (omega (arith, ends)) some)
+      (subst (IsUpTo more) next (up-if (y.size == size) n place (further place (sized_bytes size y)) (prefix ++ x) up (omega (arith, next)))) (omega (arith, room))
+      k name v at there of text_is (omega (arith, begins)) (omega (arith, ends)))
 
 -- ---- all variables of an instance
 
@@ -111,8 +126,8 @@ module _ (object : ObjectPart) (sizes : AreOfSize object.variables) (place : ℕ
         (sized-keep t r (with_sized n 4 place prefix names vs) 2 (after_size 4 place vs) prefix names vs (sized-keep t r n 4 place prefix names vs h))
 
     pub variables-has : (n : Named) (prefix : List ℕ) (names : List (List ℕ)) → IsUpTo n place → (k : ℕ) (name : List ℕ) (v : Variable) → slice_get names k ≡ Some name → slice_get vs k ≡ Some v → t ≡ prefix ++ name
-        → r.address ≡ place + variable_offset object v.size k → r.end ≡ place + variable_offset object v.size k + variable_size v → r.address < r.end → HasEntry (with_variables n place prefix names vs) t r
-    variables-has n prefix names up k name v at there text_is begins ends some = by (sizes k v there)
+        → r.address ≡ place + variable_offset object v.size k → r.end ≡ place + variable_offset object v.size k + variable_size v → HasEntry (with_variables n place prefix names vs) t r
+    variables-has n prefix names up k name v at there text_is begins ends = by (sizes k v there)
       where
         offset-is : (size : ℕ) → v.size ≡ size → variable_offset object v.size k ≡ greater size vs + total (sized_bytes size) (take k vs)
         offset-is size is = let same = ap (λ z. variable_offset object z k) is in let earlier = of-size size (take k vs) in omega (arith, same, earlier)
@@ -125,7 +140,7 @@ module _ (object : ObjectPart) (sizes : AreOfSize object.variables) (place : ℕ
             let bytes = bytes-of-size 4 v is in
             sized-keep t r (with_sized (with_sized n 4 place prefix names vs) 2 (after_size 4 place vs) prefix names vs) 1 (after_size 2 (after_size 4 place vs) vs) prefix names vs
             (sized-keep t r (with_sized n 4 place prefix names vs) 2 (after_size 4 place vs) prefix names vs
-            (sized-has t r n 4 place prefix names vs up (omega (arith, last, room)) k name v at there text_is (omega (arith, begins, offset, none)) (omega (arith, ends, offset, none, bytes)) some))
+            (sized-has t r n 4 place prefix names vs up (omega (arith, last, room)) k name v at there is text_is (omega (arith, begins, offset, none)) (omega (arith, ends, offset, none, bytes))))
         by (inr (inl is)) =
             let last = places.last in
             let offset = offset-is 2 is in
@@ -134,7 +149,7 @@ module _ (object : ObjectPart) (sizes : AreOfSize object.variables) (place : ℕ
             let first = sized-up n 4 place prefix names vs up (omega (arith, last, room)) in
             sized-keep t r (with_sized (with_sized n 4 place prefix names vs) 2 (after_size 4 place vs) prefix names vs) 1 (after_size 2 (after_size 4 place vs) vs) prefix names vs
             (subst (λ q. HasEntry (with_sized (with_sized n 4 place prefix names vs) 2 q prefix names vs) t r) (sym places.second)
-            (sized-has t r (with_sized n 4 place prefix names vs) 2 a prefix names vs first (omega (arith, last, room)) k name v at there text_is (omega (arith, begins, offset, before)) (omega (arith, ends, offset, before, bytes)) some))
+            (sized-has t r (with_sized n 4 place prefix names vs) 2 a prefix names vs first (omega (arith, last, room)) k name v at there is text_is (omega (arith, begins, offset, before)) (omega (arith, ends, offset, before, bytes))))
         by (inl is) =
             let last = places.last in
             let offset = offset-is 1 is in
@@ -144,7 +159,7 @@ module _ (object : ObjectPart) (sizes : AreOfSize object.variables) (place : ℕ
             let second = sized-up (with_sized n 4 place prefix names vs) 2 a prefix names vs first (omega (arith, last, room)) in
             subst (λ q. HasEntry (one-size n prefix names (after_size 4 place vs) q) t r) (sym places.third)
             (subst (λ q. HasEntry (one-size n prefix names q b) t r) (sym places.second)
-            (sized-has t r (with_sized (with_sized n 4 place prefix names vs) 2 a prefix names vs) 1 b prefix names vs second (omega (arith, last, room)) k name v at there text_is (omega (arith, begins, offset, before)) (omega (arith, ends, offset, before, bytes)) some))
+            (sized-has t r (with_sized (with_sized n 4 place prefix names vs) 2 a prefix names vs) 1 b prefix names vs second (omega (arith, last, room)) k name v at there is text_is (omega (arith, begins, offset, before)) (omega (arith, ends, offset, before, bytes))))
 
 -- ---- instances, one after the other
 

@@ -12,11 +12,11 @@ use Rattle.p8_legend.specs.Finding.{Splits}
 
 -- ---- one more
 
-pub grown : (lowest : ℕ) (ranges : List Range) (r : Range) → AreApart lowest ranges → last_end lowest ranges ≤ r.address → r.address < r.end → AreApart lowest (ranges ++ r ∷ [])
+pub grown : (lowest : ℕ) (ranges : List Range) (r : Range) → AreApart lowest ranges → last_end lowest ranges ≤ r.address → r.address ≤ r.end → AreApart lowest (ranges ++ r ∷ [])
 grown lowest [] r apart after some = (after, some, tt)
 grown lowest (x ∷ ranges) r apart after some = (apart.0, apart.1, grown x.end ranges r apart.2 after some)
 
-pub after_push : {X E : Type 0} (o : Result X E) (ranges new : List Range) (r : Range) → AreApart 0 ranges → last_end 0 ranges ≤ r.address → r.address < r.end → OnOk o (new ≡ ranges ++ r ∷ []) → OnErr o (new ≡ ranges) → AreApart 0 new
+pub after_push : {X E : Type 0} (o : Result X E) (ranges new : List Range) (r : Range) → AreApart 0 ranges → last_end 0 ranges ≤ r.address → r.address ≤ r.end → OnOk o (new ≡ ranges ++ r ∷ []) → OnErr o (new ≡ ranges) → AreApart 0 new
 after_push (Ok x) ranges new r apart after some ok err = subst (AreApart 0) (sym ok) (grown 0 ranges r apart after some)
 after_push (Err e) ranges new r apart after some ok err = subst (AreApart 0) (sym err) apart
 

@@ -8,7 +8,7 @@ use Rattle.p8_image.specs.declared.parts.MethodPart.{MethodPart}
 use Rattle.p8_image.specs.declared.parts.ObjectPart.{ObjectPart}
 use Rattle.p8_image.specs.Layout.{variables_within}
 use Rattle.p8_legend.specs.declared.ranges.Range.{Range}
-use Rattle.p8_legend.specs.Ranges.{range_named}
+use Rattle.p8_legend.specs.Ranges.{found_at, range_named}
 use Rattle.p8_map.specs.declared.names.MethodNames.{MethodNames}
 use Rattle.p8_map.specs.declared.names.FileNames.{FileNames}
 use Rattle.p8_map.specs.Map.{instances_within}
@@ -93,3 +93,20 @@ deeper : names_in 0x28 (file (codes "top.spin") [] [] [] (codes "SER" ∷ []) �
     ≡ legend (entry (codes "SER.BUF.TABLE") 0x24 0x28 ∷ entry (codes "SER.COUNT") 0x28 0x2C ∷ entry (codes "SER.BUF.HEAD") 0x2C 0x2D ∷ [])
 unfolding digits instances_within path_of variables_within
 deeper = refl
+
+-- VAR byte q[0]; DAT t long 5, and behind it r res 1; PUB main, of a byte. The object begins at 0010, with 4 bytes and 4 for its method, its DAT at 0018 and its
+-- code at 001C; variables begin at 0020. A label and a variable without bytes have their ranges too.
+abbrev none-inside : Named
+none-inside = legend (entry (codes "T") 0x18 0x1C ∷ entry (codes "R") 0x1C 0x1C ∷ entry (codes "MAIN") 0x1C 0x1D ∷ entry (codes "Q") 0x20 0x20 ∷ [])
+
+without-bytes : names_in 0x20 (file (codes "top.spin") (codes "Q" ∷ []) (label (codes "T") 8 ∷ label (codes "R") 12 ∷ []) (method (codes "MAIN") ∷ []) [] ∷ [])
+    (object (variable 1 0 ∷ []) (5 ∷ 0 ∷ 0 ∷ 0 ∷ []) (part (1 ∷ []) ∷ []) [] ∷ []) ≡ none-inside
+unfolding digits instances_within path_of variables_within
+without-bytes = refl
+
+no-bytes : range_named none-inside.0 none-inside.1 (codes "r") ≡ Some (0x1C, 0)
+no-bytes = refl
+
+-- and an address is named by the range that has its byte
+code-there : found_at none-inside.0 0x1C ≡ Some (record { number = 2; offset = 0 })
+code-there = refl

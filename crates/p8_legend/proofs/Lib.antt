@@ -1,7 +1,5 @@
 mod Apart
 mod Further
-mod OneByOne
-mod Wholes
 mod Finding
 mod Examples
 mod Pathways
@@ -24,3 +22,5 @@ mod AllVariables
 mod WholeNames
 mod LabelsRise
 mod OfProject
+mod Kinded
+mod KindedProject

@@ -1,5 +1,5 @@
 -- Each range of a legend's names is that of something in the hub.
-use Rattle.std.proofs.Common.{◌≡◌, refl, sym, ap, ap₂, ◌∙◌, subst, inl, inr, ◌⊎◌, ℕ, zero, suc, ◌+◌, ◌%◌, ◌<◌, ◌==◌, ◌||◌, nat_le, nat_lt, true, false, if◌then◌else◌, Bool, List, [], ◌∷◌, ◌++◌, length, length-append, slice_get, slice_index, Option, Some, None, arith}
+use Rattle.std.proofs.Common.{◌≡◌, refl, sym, ap, ap₂, ◌∙◌, subst, inl, inr, ◌⊎◌, ℕ, zero, suc, ◌+◌, ◌%◌, ◌<◌, ◌≤◌, ◌==◌, ◌||◌, nat_lt, true, false, if◌then◌else◌, Bool, List, [], ◌∷◌, ◌++◌, length, length-append, slice_get, slice_index, Option, Some, None, arith}
 use Rattle.std.specs.Prelude.{take, drop, filter, codes, All}
 use Rattle.std.proofs.lemmas.Bool.Decides.{nat_tests}
 use Rattle.std.proofs.lemmas.List.Elements.{All-append, All-cons, All-head, All-nil, All-tail}
@@ -18,7 +18,7 @@ use Rattle.p8_image.specs.Layout.{total, code_size, codes_offset, code_offset, s
 use Rattle.p8_image.specs.Places.{base_of}
 use Rattle.p8_legend.specs.Ranges.{last_end}
 use Rattle.p8_map.specs.Map.{low, own_instance, one_inside, all_inside, with_inside, instances_within, instances_from, sized_bytes, after_size}
-use Rattle.p8_legend.specs.ProjectLegends.{Named, and_one, path_of, label_end, with_labels, with_methods, with_object, with_objects, with_sized, with_variables, with_instance, with_instances, names_in}
+use Rattle.p8_legend.specs.ProjectLegends.{Named, and_one, and_if, path_of, label_end, with_labels, with_methods, with_object, with_objects, with_sized, with_variables, with_instance, with_instances, names_in}
 use Rattle.p8_meaning.specs.Programs.{instance_at}
 use Rattle.p8_legend.specs.Stands.{HasPath, top_path, inner_path, IsFileAt, NamedVariable, variable_range, IsNameOf, of_label, of_method, of_variable}
 
@@ -66,13 +66,13 @@ module _ (P : List ℕ → Range → Type 0) where
   kept-by true n r text all here = all
   kept-by false n r text all here = put n r text all (here refl)
 
-  some-byte : (a b c : ℕ) → (nat_lt a c || nat_le b a) ≡ false → a < b
-  some-byte a b c h = grind (arith, nat_tests)
+  no-less : (a b c : ℕ) → (nat_lt a c || nat_lt b a) ≡ false → a ≤ b
+  no-less a b c h = grind (arith, nat_tests)
 
-  -- one more, of which it holds if it has a byte
-  pub one-name : (n : Named) (address end : ℕ) (text : List ℕ) → AreAll n → (address < end → P text (record { address = address; end = end })) → AreAll (and_one n address end text)
+  -- one more, of which it holds if it doesn't end before it begins
+  pub one-name : (n : Named) (address end : ℕ) (text : List ℕ) → AreAll n → (address ≤ end → P text (record { address = address; end = end })) → AreAll (and_one n address end text)
   one-name n address end text all here =
-      kept-by (nat_lt address (last_end 0 n.0) || nat_le end address) n (record { address = address; end = end }) text all (λ none. here (some-byte address end (last_end 0 n.0) none))
+      kept-by (nat_lt address (last_end 0 n.0) || nat_lt end address) n (record { address = address; end = end }) text all (λ none. here (no-less address end (last_end 0 n.0) none))
 
   -- ---- labels
 
@@ -120,16 +120,24 @@ module _ (P : List ℕ → Range → Type 0) where
 
   -- ---- variables
 
+  -- one more, if it is asked for
+  name-if : (b : Bool) (n : Named) (address end : ℕ) (text : List ℕ) → AreAll n → (b ≡ true → P text (record { address = address; end = end })) → AreAll (and_if b n address end text)
+  name-if false n address end text all here = all
+  name-if true n address end text all here = one-name n address end text all (λ some. here refl)
+
+  same-size : (a b : ℕ) → (a == b) ≡ true → a ≡ b
+  same-size a b is = grind (arith, nat_tests)
+
   pub sized-named : (n : Named) (size place : ℕ) (prefix : List ℕ) (names : List (List ℕ)) (variables : List Variable) → place < 65536 → AreAll n
       → ((v : ℕ) (name : List ℕ) (variable : Variable) (a : ℕ) → slice_get names v ≡ Some name → slice_get variables v ≡ Some variable → a ≡ (place + total (sized_bytes size) (take v variables)) % 65536
-      → a < further a (sized_bytes size variable) → P (prefix ++ name) (record { address = a; end = further a (sized_bytes size variable) }))
+      → variable.size ≡ size → P (prefix ++ name) (record { address = a; end = further a (sized_bytes size variable) }))
       → AreAll (with_sized n size place prefix names variables)
   sized-named n size place prefix [] variables low all each = all
   sized-named n size place prefix (name ∷ names) [] low all each = all
   sized-named n size place prefix (name ∷ names) (x ∷ variables) low all each =
       let next = further place (sized_bytes size x) in
-      sized-named (and_one n place next (prefix ++ name)) size next prefix names variables (omega arith)
-      (one-name n place next (prefix ++ name) all (λ some. each 0 name x place refl refl (omega (arith, low)) some))
+      sized-named (and_if (x.size == size) n place next (prefix ++ name)) size next prefix names variables (omega arith)
+      (name-if (x.size == size) n place next (prefix ++ name) all (λ is. each 0 name x place refl refl (omega (arith, low)) (same-size x.size size is)))
       (λ v y z a at there is. each (suc v) y z a at there (omega (arith, is)))
 
   -- ---- instances
@@ -300,14 +308,6 @@ words-greater (v ∷ vs) sizes =
     let rest = words-greater vs (λ k. sizes (suc k)) in
     omega (arith, one, same, rest)
 
--- one that has a byte among those of a size is of that size
-is-of-size : (size a : ℕ) (v : Variable) → a < further a (sized_bytes size v) → v.size ≡ size
-is-of-size size a v some = by (v.size == size) refl some
-  where
-    by : (b : Bool) → (v.size == size) ≡ b → a < further a (if b then variable_size v else 0) → v.size ≡ size
-    by true is some = grind (arith, nat_tests)
-    by false is some = absurd (omega (arith, some))
-
 pub bytes-of-size : (size : ℕ) (v : Variable) → v.size ≡ size → sized_bytes size v ≡ variable_size v
 bytes-of-size size v is = by (v.size == size) refl
   where
@@ -384,9 +384,9 @@ module _ (files : List FileNames) (objects : List ObjectPart) (addresses : Addre
   sized-name : (i : Instance) (h : IsAt i) (names : FileNames) (object : ObjectPart) → slice_get files i.file ≡ Some names → slice_get objects i.file ≡ Some object
       → (size before : ℕ) → before ≡ (i.place + greater size object.variables) % 65536
       → (v : ℕ) (name : List ℕ) (variable : Variable) (a : ℕ) → slice_get names.variables v ≡ Some name → slice_get object.variables v ≡ Some variable
-      → a ≡ (before + total (sized_bytes size) (take v object.variables)) % 65536 → a < further a (sized_bytes size variable) → P (i.prefix ++ name) (record { address = a; end = further a (sized_bytes size variable) })
-  sized-name i h names object at there size before before_is v name variable a at_name at_variable a_is some =
-      let x = one-of i h names object at there size before before_is v name variable a at_name at_variable a_is (is-of-size size a variable some) in
+      → a ≡ (before + total (sized_bytes size) (take v object.variables)) % 65536 → variable.size ≡ size → P (i.prefix ++ name) (record { address = a; end = further a (sized_bytes size variable) })
+  sized-name i h names object at there size before before_is v name variable a at_name at_variable a_is of =
+      let x = one-of i h names object at there size before before_is v name variable a at_name at_variable a_is of in
       of_variable x.0 (ap₂ (λ (p n : List ℕ). p ++ n) (sym x.1) (sym x.2)) x.4
 
   instance-named : (so_far : Named) (i : Instance) (names : FileNames) (object : ObjectPart) → IsAt i → slice_get files i.file ≡ Some names → slice_get objects i.file ≡ Some object

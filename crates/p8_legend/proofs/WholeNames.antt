@@ -1,5 +1,5 @@
 -- No name is left out of a legend whose image fits the hub.
-use Rattle.std.proofs.Common.{◌≡◌, sym, ap, ap₂, subst, inl, inr, ℕ, zero, suc, ◌+◌, ◌-◌, ◌%◌, ◌^◌, ◌<◌, ◌≤◌, List, [], ◌∷◌, ◌++◌, length, slice_get, slice_index, Some, arith}
+use Rattle.std.proofs.Common.{◌≡◌, ◌⊎◌, sym, ap, ap₂, subst, inl, inr, ℕ, zero, suc, ◌+◌, ◌-◌, ◌%◌, ◌^◌, ◌<◌, ◌≤◌, List, [], ◌∷◌, ◌++◌, length, slice_get, slice_index, Some, arith}
 use Rattle.std.specs.Prelude.{take, codes}
 use Rattle.std.proofs.lemmas.Option.{none-some, same_Some}
 use Rattle.p8_image.specs.declared.parts.Variable.{Variable}
@@ -12,10 +12,20 @@ use Rattle.p8_image.specs.Layout.{total, code_size, code_offset, size_of, variab
 use Rattle.p8_image.specs.Places.{base_of}
 use Rattle.p8_map.specs.Map.{low, sized_bytes, instances_within, instances_from}
 use Rattle.p8_legend.specs.ProjectLegends.{Named, path_of, with_object, with_objects, with_instance, names_in}
-use Rattle.p8_legend.specs.Stands.{HasPath, top_path, inner_path, IsFileAt, NamedLabel, NamedMethod, NamedVariable, label_range, method_range, variable_range, IsNameOf, of_label, of_method, of_variable}
+use Rattle.p8_legend.specs.Stands.{HasPath, top_path, inner_path, IsFileAt, NamedLabel, NamedMethod, NamedVariable, label_range, method_range, variable_range, IsNameOf, of_label, of_method, of_variable, IsListed, IsTold}
 use Rattle.p8_legend.proofs.RightNames.{bases-at, IsOfSize, AreOfSize, greater, none-greater, longs-greater, words-greater, of-size, bytes-of-size}
 use Rattle.p8_legend.proofs.AllNames.{IsUpTo, HasEntry, later, none-yet, LabelsRise, object-label, object-method, objects-up, objects-has}
 use Rattle.p8_legend.proofs.AllVariables.{all-sizes, In, variables-has, instances-keep, instances-has, Follow, within-follow, deeper-in, own-in}
+
+-- the path of an instance inside another has a name
+not-empty : (path name : List ℕ) → path ++ name ++ codes "." ≡ [] → ⊥
+not-empty [] [] never = let n : 1 ≡ 0 = ap length never in absurd (omega (arith, n))
+not-empty [] (c ∷ name) never = let n : suc (length (name ++ codes ".")) ≡ 0 = ap length never in absurd (omega (arith, n))
+not-empty (c ∷ path) name never = let n : suc (length (path ++ name ++ codes ".")) ≡ 0 = ap length never in absurd (omega (arith, n))
+
+positive : (path name : List ℕ) (n : ℕ) → (path ++ name ++ codes "." ≡ []) ⊎ (0 < n) → 0 < n
+positive path name n (inl never) = absurd (not-empty path name never)
+positive path name n (inr some) = some
 
 -- those before one, and it
 up-to-one : {A : Type 0} (f : A → ℕ) (xs : List A) (i : ℕ) (x : A) → slice_get xs i ≡ Some x → total f (take i xs) + f x ≤ total f xs
@@ -58,19 +68,20 @@ module _ (files : List FileNames) (objects : List ObjectPart) (addresses : Addre
   abbrev within : (depth : ℕ) → (prefix : List ℕ) → (f place : ℕ) → List Instance
   within depth prefix f place = instances_within files objects (low (variables_of objects)) depth prefix f place
 
-  -- an instance on a way of so many steps, whose variables are among those of the top file; where it has some, the instances inside it are among all
+  -- an instance on a way of so many steps, whose variables are among those of the top file; if it has some, or is that of the top file, the instances inside it are
+  -- among all
   record IsReached (path : List ℕ) (s : Standing) : Type 0 where
     steps : ℕ
     way : IsWay s.file steps
     fits : s.variables + W s.file ≤ variables_at + W 0
-    gives : (d : ℕ) → d + steps ≡ length objects → 0 < W s.file → (x : Instance) → In x (within d path s.file s.variables) → In x (instances_from variables_at files objects)
+    gives : (d : ℕ) → d + steps ≡ length objects → (path ≡ []) ⊎ (0 < W s.file) → (x : Instance) → In x (within d path s.file s.variables) → In x (instances_from variables_at files objects)
 
   reached : (path : List ℕ) (s : Standing) → HasPath files objects addresses path s → IsReached path s
   reached _ _ top_path = record {
     steps = 0;
     way = subst (λ f. IsWay f 0) (sym top_file) begin;
     fits = let same = ap W top_file in omega (arith, same, top_at);
-    gives = λ d count some x h.
+    gives = λ d count listed x h.
         let depth : d ≡ length objects = omega (arith, count) in
         subst (λ n. In x (within n [] 0 variables_at)) depth (subst (λ p. In x (within d [] 0 p)) top_at (subst (λ f. In x (within d [] f addresses.top.variables)) top_file h));
   }
@@ -86,8 +97,9 @@ module _ (files : List FileNames) (objects : List ObjectPart) (addresses : Addre
         steps = suc r.steps;
         way = step outer.file child i r.steps object r.way there.is_object at_child;
         fits = omega (arith, exact, all, one, fits);
-        gives = λ d count some x inside.
-            r.gives (suc d) (omega (arith, count)) (omega (arith, all, one, some)) x
+        gives = λ d count listed x inside.
+            let some = positive path name (W child) listed in
+            r.gives (suc d) (omega (arith, count)) (inr (omega (arith, all, one, some))) x
             (deeper-in files objects whole d path outer.file outer.variables names object there.is_file there.is_object (omega (arith, fits, room)) i name child at_name at_child some x
             (subst (λ p. In x (within d (path ++ name ++ codes ".") child p)) exact inside));
       }
@@ -123,23 +135,23 @@ module _ (files : List FileNames) (objects : List ObjectPart) (addresses : Addre
         (subst (λ b. HasEntry (with_object so_far (path_of files objects (length objects) f) b names object) t r) base
         (adds so_far (subst (IsUpTo so_far) (sym base) up) (omega (arith, base, less))))))
 
-    label-there : (x : NamedLabel files objects) → t ≡ path_of files objects (length objects) x.f ++ x.label.name → r ≡ label_range files objects addresses x → r.address < r.end → HasEntry (names_in variables_at files objects) t r
-    label-there x text_is range_is some =
+    label-there : (x : NamedLabel files objects) → t ≡ path_of files objects (length objects) x.f ++ x.label.name → r ≡ label_range files objects addresses x → HasEntry (names_in variables_at files objects) t r
+    label-there x text_is range_is =
         of-object x.f x.names x.object x.there (λ so_far up less.
-        object-label t r so_far (path_of files objects (length objects) x.f) (base_of objects x.f) x.names x.object up less (rise x.f x.names x.object x.there.is_file x.there.is_object) x.k x.label x.is_label text_is range_is some)
+        object-label t r so_far (path_of files objects (length objects) x.f) (base_of objects x.f) x.names x.object up less (rise x.f x.names x.object x.there.is_file x.there.is_object) x.k x.label x.is_label text_is range_is)
 
-    method-there : (x : NamedMethod files objects) → t ≡ path_of files objects (length objects) x.f ++ x.m.name → r ≡ method_range files objects addresses x → r.address < r.end → HasEntry (names_in variables_at files objects) t r
-    method-there x text_is range_is some =
+    method-there : (x : NamedMethod files objects) → t ≡ path_of files objects (length objects) x.f ++ x.m.name → r ≡ method_range files objects addresses x → HasEntry (names_in variables_at files objects) t r
+    method-there x text_is range_is =
         of-object x.f x.names x.object x.there (λ so_far up less.
         let a = ap (λ (q : Range). q.address) range_is in
         let e = ap (λ (q : Range). q.end) range_is in
         let offset = code x.f x.k x.object x.there.is_object in
         let one = up-to-one code_size x.object.methods x.k x.method x.is_method in
         object-method t r so_far (path_of files objects (length objects) x.f) (base_of objects x.f) x.names x.object up less (rise x.f x.names x.object x.there.is_file x.there.is_object)
-        x.k x.m x.method x.is_name x.is_method text_is (omega (arith, a, offset, one, less)) (omega (arith, e, offset, one, less)) some)
+        x.k x.m x.method x.is_name x.is_method text_is (omega (arith, a, offset, one, less)) (omega (arith, e, offset, one, less)))
 
-    variable-there : (x : NamedVariable files objects addresses) → t ≡ x.path ++ x.name → r ≡ variable_range files objects addresses x → r.address < r.end → HasEntry (names_in variables_at files objects) t r
-    variable-there x text_is range_is some =
+    variable-there : (x : NamedVariable files objects addresses) → t ≡ x.path ++ x.name → r ≡ variable_range files objects addresses x → IsListed files objects addresses x → HasEntry (names_in variables_at files objects) t r
+    variable-there x text_is range_is listed =
         let s = x.instance in
         let a = ap (λ (q : Range). q.address) range_is in
         let e = ap (λ (q : Range). q.end) range_is in
@@ -148,11 +160,10 @@ module _ (files : List FileNames) (objects : List ObjectPart) (addresses : Addre
         let all = whole s.file x.object x.there.is_object in
         let inside = variable-fits x.object (sized s.file x.object x.there.is_object) x.v x.variable x.is_variable in
         let fits = way.fits in
-        let byte : 0 < variable_size x.variable = omega (arith, a, e, some, all, inside, fits, room) in
         let i : Instance = record { prefix = x.path; file = s.file; place = s.variables } in
         let d : ℕ = length objects - (way.steps + 1) in
         let among : In i (instances_from variables_at files objects) =
-        way.gives (suc d) (omega (arith, steps)) (omega (arith, all, inside, byte)) i
+        way.gives (suc d) (omega (arith, steps)) listed i
         (own-in files objects whole d x.path s.file s.variables x.names x.object x.v x.variable x.there.is_file x.there.is_object x.is_variable) in
         instances-has files objects sized t r objects_named variables_at (variables_at + W 0) (instances_from variables_at files objects)
         (later objects_named (16 + total size_of objects) variables_at behind (objects-up files objects ([], []) 0 16 files objects first-up room-of-objects rise)) all-follow room i among
@@ -161,10 +172,10 @@ module _ (files : List FileNames) (objects : List ObjectPart) (addresses : Addre
         ap₂ (λ f o. with_instance so_far i f o) x.there.is_file x.there.is_object in
         subst (λ n. HasEntry n t r) (sym opened)
         (variables-has x.object (sized s.file x.object x.there.is_object) s.variables (omega (arith, all, fits, room)) t r so_far x.path x.names.variables up x.v x.name x.variable x.is_name x.is_variable text_is
-        (omega (arith, a, all, inside, fits, room)) (omega (arith, e, all, inside, fits, room)) some))
+        (omega (arith, a, all, inside, fits, room)) (omega (arith, e, all, inside, fits, room))))
 
-    -- whatever has this name and a byte
-    pub names-complete : IsNameOf files objects addresses t r → r.address < r.end → HasEntry (names_in variables_at files objects) t r
-    names-complete (of_label x text_is range_is) some = label-there x text_is range_is some
-    names-complete (of_method x text_is range_is) some = method-there x text_is range_is some
-    names-complete (of_variable x text_is range_is) some = variable-there x text_is range_is some
+    -- whatever has this name
+    pub names-complete : (named : IsNameOf files objects addresses t r) → IsTold files objects addresses t r named → HasEntry (names_in variables_at files objects) t r
+    names-complete (of_label x text_is range_is) told = label-there x text_is range_is
+    names-complete (of_method x text_is range_is) told = method-there x text_is range_is
+    names-complete (of_variable x text_is range_is) told = variable-there x text_is range_is told

@@ -25,3 +25,5 @@ pub mod Telling
 pub mod Stands
 -- The lines of a map.
 pub mod MapLines
+-- What names are by their kinds.
+pub mod Kinded

@@ -1,6 +1,6 @@
 -- The legend of a project's objects, by the names of its files and the rows of its line table (this project's profile). All addresses are
 -- told mod 65,536, which is exact in an image that fits the hub.
-use Rattle.std.specs.Prelude.{ℕ, zero, suc, ◌+◌, ◌-◌, ◌==◌, if◌then◌else◌, List, [], ◌∷◌, ◌++◌, length, Option, Some, None, slice_get, codes}
+use Rattle.std.specs.Prelude.{ℕ, zero, suc, ◌+◌, ◌-◌, ◌==◌, if◌then◌else◌, Bool, true, false, List, [], ◌∷◌, ◌++◌, length, Option, Some, None, slice_get, codes}
 use Rattle.std.specs.Fmt.{decimal}
 use Rattle.p8_kinds.specs.declared.name_kinds.Label.{Label}
 use Rattle.p8_image.specs.declared.parts.Variable.{Variable}
@@ -83,10 +83,15 @@ with_objects so_far all parts number base _ _ = so_far
 
 -- ---- the variables of an instance
 
--- those of one size, one after the other; one of another size has no bytes there, and so no name
+-- one more, if it is asked for
+abbrev pub and_if : Bool → Named → (address end : ℕ) → (text : List ℕ) → Named
+and_if false so_far address end text = so_far
+and_if true so_far address end text = and_one so_far address end text
+
+-- those of one size, one after the other
 abbrev pub with_sized : Named → (size place : ℕ) → (prefix : List ℕ) → (names : List (List ℕ)) → List Variable → Named
 with_sized so_far size place prefix (name ∷ names) (v ∷ variables) =
-    with_sized (and_one so_far place (further place (sized_bytes size v)) (prefix ++ name)) size (further place (sized_bytes size v)) prefix names variables
+    with_sized (and_if (v.size == size) so_far place (further place (sized_bytes size v)) (prefix ++ name)) size (further place (sized_bytes size v)) prefix names variables
 with_sized so_far size place prefix _ _ = so_far
 
 -- longs come first, then words, then bytes

@@ -1,14 +1,14 @@
 -- Ranges of the hub, each with a text.
-use Rattle.std.specs.Prelude.{ℕ, suc, ◌-◌, ◌<◌, ◌≤◌, ◌&&◌, ◌||◌, nat_le, nat_lt, if◌then◌else◌, Bool, List, [], ◌∷◌, ◌++◌, Option, Some, None, option_map, slice_get}
+use Rattle.std.specs.Prelude.{ℕ, suc, ◌-◌, ◌≤◌, ◌&&◌, ◌||◌, nat_le, nat_lt, if◌then◌else◌, Bool, List, [], ◌∷◌, ◌++◌, Option, Some, None, option_map, slice_get}
 use Rattle.std.specs.Str.{str_eq_ignore_ascii_case}
 use Rattle.std.proofs.Props.{props}
 use Rattle.p8_legend.specs.declared.ranges.Found.{Found}
 use Rattle.p8_legend.specs.declared.ranges.Range.{Range}
 
--- each has a byte, begins at or after this address, and at or after the end of the one before it
+-- each begins at or after this address, and at or after the end of the one before it; one may have no byte
 abbrev pub AreApart : (lowest : ℕ) → List Range → Type 0
 AreApart lowest [] = Unit {0}
-AreApart lowest (r ∷ ranges) = (lowest ≤ r.address) × (r.address < r.end) × AreApart r.end ranges
+AreApart lowest (r ∷ ranges) = (lowest ≤ r.address) × (r.address ≤ r.end) × AreApart r.end ranges
 
 pub is_prop-AreApart : (lowest : ℕ) (ranges : List Range) → IsProp (AreApart lowest ranges)
 is_prop-AreApart lowest [] = hlevel props
@@ -19,10 +19,10 @@ abbrev pub last_end : (lowest : ℕ) → List Range → ℕ
 last_end lowest [] = lowest
 last_end lowest (r ∷ ranges) = last_end r.end ranges
 
--- one more with its text behind the others, if it has a byte and doesn't begin before they end
+-- one more with its text behind the others, if it doesn't begin before they end, nor end before it begins
 abbrev pub with_range : List Range → List (List ℕ) → Range → (text : List ℕ) → List Range × List (List ℕ)
 with_range ranges texts r text =
-    if nat_lt r.address (last_end 0 ranges) || nat_le r.end r.address then (ranges, texts) else (ranges ++ r ∷ [], texts ++ text ∷ [])
+    if nat_lt r.address (last_end 0 ranges) || nat_lt r.end r.address then (ranges, texts) else (ranges ++ r ∷ [], texts ++ text ∷ [])
 
 -- an address lies in a range
 abbrev pub holds : (address : ℕ) → Range → Bool

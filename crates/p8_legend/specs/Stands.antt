@@ -1,6 +1,6 @@
 -- What has a name in the hub, and where it stands there by the layout of the image and the addresses of its program: a label of DAT, the code of
 -- a method, and a variable of an object instance. All addresses are told mod 65,536, which is exact in an image that fits the hub.
-use Rattle.std.specs.Prelude.{ℕ, suc, ◌+◌, ◌%◌, ◌^◌, ◌≡◌, List, [], ◌++◌, length, drop, slice_get, Some, codes}
+use Rattle.std.specs.Prelude.{ℕ, suc, ◌+◌, ◌%◌, ◌^◌, ◌<◌, ◌≡◌, ◌⊎◌, List, [], ◌++◌, length, drop, slice_get, slice_index, Some, codes}
 use Rattle.p8_image.specs.declared.parts.Variable.{Variable}
 use Rattle.p8_image.specs.declared.parts.MethodPart.{MethodPart}
 use Rattle.p8_image.specs.declared.parts.ObjectPart.{ObjectPart}
@@ -10,7 +10,7 @@ use Rattle.p8_map.specs.declared.names.FileNames.{FileNames}
 use Rattle.p8_legend.specs.declared.ranges.Range.{Range}
 use Rattle.p8_legend.specs.declared.ranges.Ranges.{Ranges}
 use Rattle.p8_meaning.specs.Programs.{Instance as Standing, Addresses}
-use Rattle.p8_image.specs.Layout.{codes_offset, variable_size}
+use Rattle.p8_image.specs.Layout.{codes_offset, variable_size, variables_of}
 use Rattle.p8_image.specs.Places.{IsObject, base_of, variable_place}
 use Rattle.p8_meaning.specs.Programs.{instance_at}
 use Rattle.p8_legend.specs.ProjectLegends.{label_end, path_of}
@@ -102,3 +102,13 @@ module _ (files : List FileNames) (objects : List ObjectPart) (addresses : Addre
     of_label : (x : NamedLabel files objects) → text ≡ path_of files objects (length objects) x.f ++ x.label.name → range ≡ label_range x → IsNameOf text range
     of_method : (x : NamedMethod files objects) → text ≡ path_of files objects (length objects) x.f ++ x.m.name → range ≡ method_range x → IsNameOf text range
     of_variable : (x : NamedVariable files objects addresses) → text ≡ x.path ++ x.name → range ≡ variable_range x → IsNameOf text range
+
+  -- A variable of the top file, or of an instance that has a byte of variables or has one inside that has. Of other instances there may be more than can be listed.
+  abbrev pub IsListed : NamedVariable files objects addresses → Type 0
+  IsListed x = (x.path ≡ []) ⊎ (0 < slice_index (variables_of objects) x.instance.file)
+
+  -- names that a legend tells: all but those of variables that aren't listed
+  abbrev pub IsTold : (text : List ℕ) → (range : Range) → IsNameOf text range → Type 0
+  IsTold text range (of_label x text_is range_is) = Unit {0}
+  IsTold text range (of_method x text_is range_is) = Unit {0}
+  IsTold text range (of_variable x text_is range_is) = IsListed x

@@ -25,6 +25,7 @@ impl Legend {
     pub fn empty(alloc: Global) -> Legend
         ensures names { result.names.ranges ≡ [] }
         ensures places { result.places.ranges ≡ [] }
+        ensures texts { (result.names.texts ≡ []) × (result.places.texts ≡ []) }
     {
         Legend {
             names: Ranges::new(alloc),

@@ -4,7 +4,6 @@
 #![tactic(auto)]
 
 mod code_laws;
-mod codes;
 mod instances;
 mod laws;
 mod legend;
@@ -29,11 +28,14 @@ pub use code_laws::{lines_are_of_their_statements, lines_begin_where_bytecodes_d
 pub use laws::one_legend;
 pub use legend::Legend;
 pub use life_laws::{accesses_are_asked_by_their_lines, bytecodes_stand_at_their_lines};
-pub use name_laws::{maps_tell_where_the_image_has_it, names_stand_where_the_image_has_them};
+pub use name_laws::{
+    maps_tell_where_the_image_has_it, names_stand_by_their_kinds,
+    names_stand_where_the_image_has_them,
+};
 pub use parts::legend_of_parts;
 pub use place_laws::{places_are_those_of_rows, turns_have_the_places_of_their_statements};
 pub use project::table_of_accepted;
-pub use project_names::project_legend;
+pub use project_names::{legend_of_accepted, project_legend};
 pub use ranges::{Found, Range, Ranges};
 pub use row_laws::{
     accesses_are_asked_for_the_statements_of_their_rows,

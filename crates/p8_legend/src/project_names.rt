@@ -2,23 +2,19 @@
 ghost use Rattle.std.specs.Prelude.{◌≡◌, ◌≤◌, ◌<◌, length, map, IfOk, IfErr};
 ghost use Rattle.p8_tree.specs.Views.{named_sources_of, named_source_of};
 ghost use Rattle.p8_tree.specs.Projects.{most_files};
-ghost use Rattle.p8_names.specs.Children.{AreChildren};
 ghost use Rattle.p8_names.specs.Mentions.{HaveMentioned, HaveNoRing};
+ghost use Rattle.p8_build.specs.Accepted.{IsAccepted};
 ghost use Rattle.p8_build.specs.Parts.{AreProper};
-ghost use Rattle.p8_build.specs.Phases.{IfFirstRefused};
 ghost use Rattle.p8_build.specs.Told.{IsRefusal};
-ghost use Rattle.p8_legend.specs.Steps.{IsAcceptedProject};
 ghost use Rattle.p8_legend.specs.Projects.{IsLegendOf};
 
 use crate::legend::Legend;
 use crate::parts::legend_of_parts;
 use crate::project::table_of_accepted;
-use p8_build::{Accepted, BuildFault, FileFault, accept, told};
-use p8_kinds::Children;
+use p8_build::{Accepted, BuildFault, accept};
 use p8_map::{names_of_accepted, variables_at};
-use p8_names::children_of;
 use p8_tree::{Project, ProjectFile, Text};
-use p8_words::{Fail, NoMemory};
+use p8_words::NoMemory;
 use std::alloc::Global;
 
 /// The legend of a project: the names of what stands in the image that [`build`](p8_build::build) makes of it, and the place of each
@@ -41,48 +37,23 @@ pub fn project_legend(
     ensures legend { IfOk result (IsLegendOf sources.now (named_sources_of project.now)) }
     ensures refused { IfErr result (IsRefusal (named_sources_of project.now)) }
 {
-    let files = project.files.as_slice();
-    let children = children_of(alloc, project)?;
-    match legend_of_files(alloc, files, sources, &children) {
-        Ok(legend) => Ok(legend),
-        Err(Fail::Refused(refusal)) => Err(told(alloc, &files[refusal.file], refusal.fault)),
-        Err(Fail::NoMemory) => Err(BuildFault::NoMemory),
-    }
+    let accepted = accept(alloc, project)?;
+    Ok(legend_of_accepted(alloc, project.files.as_slice(), sources, &accepted)?)
 }
 
-/// The legend of files by what they see of their objects, or their first refusal.
-fn legend_of_files(
-    alloc: Global,
-    files: &[ProjectFile],
-    sources: &[Text],
-    children: &[Children],
-) -> Result<Legend, Fail<FileFault>>
-    requires beside { length sources.now ≡ length files.now }
-    requires first { 0 < length files.now }
-    requires few { length files.now ≤ most_files }
-    requires proper { AreProper (map named_source_of files.now) }
-    requires children { AreChildren (map named_source_of files.now) children.now }
-    ensures legend { IfOk result (IsLegendOf sources.now (map named_source_of files.now)) }
-    ensures refused { IfErr result (IfFirstRefused (map named_source_of files.now) children.now) }
-{
-    let accepted = accept(alloc, files, children)?;
-    Ok(legend_of_accepted(alloc, files, sources, &accepted)?)
-}
-
-/// The legend of an accepted project.
-fn legend_of_accepted(
+/// The legend of an accepted project, whose files have these bytes. The only error is want of memory.
+pub fn legend_of_accepted(
     alloc: Global,
     files: &[ProjectFile],
     sources: &[Text],
     accepted: &Accepted<'_>,
 ) -> Result<Legend, NoMemory>
     requires beside { length sources.now ≡ length files.now }
-    requires few { length files.now ≤ most_files }
-    requires accepted { IsAcceptedProject (map named_source_of files.now) accepted.now }
+    requires accepted { IsAccepted (map named_source_of files.now) accepted.now }
     ensures { IfOk result (IsLegendOf sources.now (map named_source_of files.now)) }
 {
     let names = names_of_accepted(alloc, files, sources, accepted)?;
-    let table = table_of_accepted(alloc, files, accepted)?;
+    let table = table_of_accepted(alloc, accepted)?;
     let built = &accepted.built;
     legend_of_parts(
         alloc,

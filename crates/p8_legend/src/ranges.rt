@@ -8,7 +8,7 @@ use p8_tree::{List, Text};
 use p8_words::NoMemory;
 use std::alloc::Global;
 
-/// Some bytes of the hub.
+/// Some bytes of the hub, or none.
 #[derive(Clone, Copy, Debug, PartialEq, Eq)]
 pub struct Range {
     /// The address of the first one.
@@ -46,11 +46,12 @@ impl Ranges {
         }
     }
 
-    /// Puts a range with its text behind the others. One without a byte, and one that begins before the last one ends, is left out.
+    /// Puts a range with its text behind the others; it may have no byte. One that begins before the last one ends is left out, and one that ends before it
+    /// begins.
     pub fn push(&mut self, range: Range, text: Text) -> Result<(), NoMemory>
         ensures { OnOk result ((self.new.ranges, self.new.texts) ≡ with_range self.old.ranges self.old.texts range text) }
     {
-        if range.address < self.end() || range.end <= range.address {
+        if range.address < self.end() || range.end < range.address {
             return Ok(());
         }
         self.texts.push(text)?;

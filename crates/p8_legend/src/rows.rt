@@ -1,8 +1,9 @@
 // The rows of codes.
-ghost use Rattle.std.specs.Prelude.{◌≡◌, ◌++◌, OnOk, IfOk};
+ghost use Rattle.std.specs.Prelude.{◌≡◌, ◌++◌, map, OnOk, IfOk};
 ghost use Rattle.p8_legend.specs.Rows.{end_of, line_row, line_rows, code_rows, rows_from};
 
 use crate::table::{LineTable, Row};
+use p8_build::AcceptedFile;
 use p8_gen::Line;
 use p8_image::{ObjectPart, Offsets};
 use p8_map::further;
@@ -14,29 +15,29 @@ use std::alloc::{AllocError, Global};
 /// Where the first object of an image stands: after the image's header.
 const FIRST_BASE: u16 = 16;
 
-/// The rows of objects that stand one after the other, with the codes of their methods.
+/// The rows of objects that stand one after the other, with the codes of their files' methods.
 #[tactic(auto, using(crate::proofs::Further::further_low))]
 pub(crate) fn rows_of(
     alloc: Global,
     mut objects: &[ObjectPart],
-    mut codes: &[List<MethodCode>],
+    mut accepted: &[AcceptedFile<'_>],
 ) -> Result<LineTable, NoMemory>
-    ensures { IfOk result (λ table. table.rows ≡ rows_from 0 16 objects.now codes.now) }
+    ensures { IfOk result (λ table. table.rows ≡ rows_from 0 16 objects.now (map (λ f. f.codes) accepted.now)) }
 {
     let mut rows = List::new(alloc);
     let mut file: u8 = 0;
     let mut base = FIRST_BASE;
     while let [object, others @ ..] = objects {
-        let [methods, rest @ ..] = codes else {
+        let [found, rest @ ..] = accepted else {
             return Ok(LineTable { rows });
         };
         let offsets = Offsets::of(object);
         let at = further(base, u64::from(offsets.codes));
-        push_codes(&mut rows, file, at, methods.as_slice())?;
+        push_codes(&mut rows, file, at, found.codes.as_slice())?;
         base = further(base, u64::from(offsets.size));
         file = file.checked_add(1).ok_or(NoMemory)?;
         objects = others;
-        codes = rest;
+        accepted = rest;
     }
     Ok(LineTable { rows })
 }

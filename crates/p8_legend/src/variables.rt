@@ -1,6 +1,6 @@
 // The names of the variables of an instance.
-ghost use Rattle.std.specs.Prelude.{◌≡◌, OnOk};
-ghost use Rattle.p8_legend.specs.ProjectLegends.{and_one, with_sized, with_variables};
+ghost use Rattle.std.specs.Prelude.{◌≡◌, ◌++◌, OnOk};
+ghost use Rattle.p8_legend.specs.ProjectLegends.{and_if, with_sized, with_variables};
 
 use crate::objects::named;
 use crate::ranges::{Range, Ranges};
@@ -9,6 +9,24 @@ use p8_map::{after_size, further, sized_bytes};
 use p8_tree::Text;
 use p8_words::NoMemory;
 use std::alloc::Global;
+
+/// Puts a variable that stands in a range behind the names so far, if it is asked for.
+fn push_if(
+    alloc: Global,
+    names: &mut Ranges,
+    is_asked: bool,
+    range: Range,
+    prefix: &[u8],
+    text: &Text,
+) -> Result<(), NoMemory>
+    ensures { OnOk result ((names.new.ranges, names.new.texts) ≡ and_if is_asked (names.old.ranges, names.old.texts) range.address range.end (prefix.now ++ text.now)) }
+{
+    if is_asked {
+        let name = named(alloc, prefix, text.as_slice())?;
+        names.push(range, name)?;
+    }
+    Ok(())
+}
 
 /// Puts the variables of one size, which stand one after the other, behind the names so far.
 fn push_sized(
@@ -31,8 +49,7 @@ fn push_sized(
             address: place,
             end,
         };
-        let name = named(alloc, prefix, text.as_slice())?;
-        names.push(range, name)?;
+        push_if(alloc, names, variable.size == size, range, prefix, text)?;
         place = end;
         texts = others;
         variables = rest;

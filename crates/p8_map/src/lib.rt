@@ -21,6 +21,6 @@ pub use header::variables_at;
 pub use instances::{Instance, instances_of};
 pub use mapping::map_text;
 pub use names::{FileNames, LocalName, MethodNames};
-pub use project::project_map;
+pub use project::{map_of_accepted, project_map};
 pub use text::further;
 pub use variables::{after_size, sized_bytes};

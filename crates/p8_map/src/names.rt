@@ -2,22 +2,23 @@
 ghost use Rattle.std.specs.Prelude.{◌≡◌, ◌++◌, ◌+◌, ◌^◌, ◌<◌, codes, map, option_map, OnOk, IfOk};
 ghost use Rattle.std.specs.List.{flat_map};
 ghost use Rattle.std.specs.Fmt.{decimal};
-ghost use Rattle.p8_tree.specs.Views.{declared_of, method_of, named_source_of, tree_of};
+ghost use Rattle.p8_tree.specs.Views.{declared_of, method_of, tree_of};
 ghost use Rattle.p8_kinds.specs.ConstantEntries.{setting_of};
 ghost use Rattle.p8_constants.specs.Standing.{item_of, items_of as item_trees};
 ghost use Rattle.p8_names.specs.Kinds.{object_in, objects};
-ghost use Rattle.p8_map.specs.Names.{element_name, element_names, file_names, instance_names, local_name, method_names};
+ghost use Rattle.p8_map.specs.Accepting.{names_by};
+ghost use Rattle.p8_map.specs.Names.{element_name, element_names, instance_names, local_name, method_names};
 ghost use Rattle.p8_map.specs.Names.{names_by_count, spelled_all, spelled_by, variable_name};
 
 use crate::labels::{label_places, labels_of};
 use crate::spelled::{behind, first, spelled_by};
 use itoa::Buffer;
-use p8_constants::{Item, count_value, items_of};
+use p8_build::AcceptedFile;
+use p8_constants::{Item, count_value};
 use p8_instr::push_text;
 use p8_kinds::{Consts, Label};
 use p8_lexer::Spellings;
-use p8_names::numbered;
-use p8_tree::{Expr, List, Method, Place, ProjectFile, Text, VarItem};
+use p8_tree::{Expr, List, Method, Place, Text, VarItem};
 use p8_words::NoMemory;
 use std::alloc::Global;
 
@@ -55,26 +56,25 @@ pub struct FileNames {
 }
 
 impl FileNames {
-    /// The names of a file, each as its text spells it where it is defined. `source` is the file's text, `consts` are the constants that it
-    /// sees, `labels` those of its DAT with their places. The only error is want of memory.
-    pub fn of(
+    /// The names of a file of this name, each as its text spells it where it is defined. `source` is the file's text, and `found` what was worked out of the
+    /// file. The only error is want of memory.
+    pub(crate) fn of(
         alloc: Global,
-        file: &ProjectFile,
+        name: &[u8],
         source: &Spellings<'_>,
-        consts: &Consts,
-        labels: &[Label],
+        found: &AcceptedFile<'_>,
     ) -> Result<FileNames, NoMemory>
-        ensures { IfOk result (λ names. names ≡ file_names source.now (named_source_of file.now) (setting_of consts.now) labels.now) }
+        ensures { IfOk result (λ names. names ≡ names_by source.now name.now found.now) }
     {
-        let items = items_of(alloc, &file.tree)?;
-        let methods = numbered(alloc, &items)?;
-        let places = label_places(alloc, &items)?;
+        let items = found.items.as_slice();
+        let consts = &found.tables.consts;
+        let places = label_places(alloc, items)?;
         Ok(FileNames {
-            file: Text::copy_of(alloc, file.name.as_slice())?,
-            variables: variables_of(alloc, source, &items)?,
-            labels: labels_of(alloc, source, &places, labels)?,
-            methods: methods_of(alloc, source, consts, &methods)?,
-            instances: instances_of(alloc, source, consts, &items)?,
+            file: Text::copy_of(alloc, name)?,
+            variables: variables_of(alloc, source, items)?,
+            labels: labels_of(alloc, source, &places, found.dat.labels.as_slice())?,
+            methods: methods_of(alloc, source, consts, found.methods.as_slice())?,
+            instances: instances_of(alloc, source, consts, items)?,
         })
     }
 }

@@ -2,21 +2,17 @@
 ghost use Rattle.std.specs.Prelude.{◌≡◌, ◌≤◌, ◌<◌, length, map, IfOk, IfErr};
 ghost use Rattle.p8_tree.specs.Views.{named_sources_of, named_source_of};
 ghost use Rattle.p8_tree.specs.Projects.{most_files};
-ghost use Rattle.p8_names.specs.Children.{AreChildren};
 ghost use Rattle.p8_names.specs.Mentions.{HaveMentioned, HaveNoRing};
+ghost use Rattle.p8_build.specs.Accepted.{IsAccepted};
 ghost use Rattle.p8_build.specs.Parts.{AreProper};
-ghost use Rattle.p8_build.specs.Phases.{IfFirstRefused};
 ghost use Rattle.p8_build.specs.Told.{IsRefusal};
 ghost use Rattle.p8_map.specs.Projects.{IsMapOf};
-ghost use Rattle.p8_map.specs.Accepting.{IsAcceptedProject};
 
 use crate::accepted::names_of_accepted;
 use crate::mapping::map_text;
-use p8_build::{Accepted, BuildFault, FileFault, accept, told};
-use p8_kinds::Children;
-use p8_names::children_of;
+use p8_build::{Accepted, BuildFault, accept};
 use p8_tree::{Project, ProjectFile, Text};
-use p8_words::{Fail, NoMemory};
+use p8_words::NoMemory;
 use std::alloc::Global;
 
 /// The map of a project: where everything of it stands in the hub, line by line, as [`map_text`] tells it, with each name as its file spells it where
@@ -38,43 +34,19 @@ pub fn project_map(
     ensures mapped { IfOk result (λ text. IsMapOf sources.now (named_sources_of project.now) text.items) }
     ensures refused { IfErr result (IsRefusal (named_sources_of project.now)) }
 {
-    let files = project.files.as_slice();
-    let children = children_of(alloc, project)?;
-    match map_files(alloc, files, sources, &children) {
-        Ok(text) => Ok(text),
-        Err(Fail::Refused(refusal)) => Err(told(alloc, &files[refusal.file], refusal.fault)),
-        Err(Fail::NoMemory) => Err(BuildFault::NoMemory),
-    }
+    let accepted = accept(alloc, project)?;
+    Ok(map_of_accepted(alloc, project.files.as_slice(), sources, &accepted)?)
 }
 
-/// The map of files by what they see of their objects, or their first refusal.
-fn map_files(
-    alloc: Global,
-    files: &[ProjectFile],
-    sources: &[Text],
-    children: &[Children],
-) -> Result<Vec<u8>, Fail<FileFault>>
-    requires beside { length sources.now ≡ length files.now }
-    requires first { 0 < length files.now }
-    requires few { length files.now ≤ most_files }
-    requires proper { AreProper (map named_source_of files.now) }
-    requires children { AreChildren (map named_source_of files.now) children.now }
-    ensures mapped { IfOk result (λ text. IsMapOf sources.now (map named_source_of files.now) text.items) }
-    ensures refused { IfErr result (IfFirstRefused (map named_source_of files.now) children.now) }
-{
-    let accepted = accept(alloc, files, children)?;
-    Ok(map_accepted(alloc, files, sources, &accepted)?)
-}
-
-/// The map of an accepted project.
-fn map_accepted(
+/// The map of an accepted project, whose files have these bytes. The only error is want of memory.
+pub fn map_of_accepted(
     alloc: Global,
     files: &[ProjectFile],
     sources: &[Text],
     accepted: &Accepted<'_>,
 ) -> Result<Vec<u8>, NoMemory>
     requires beside { length sources.now ≡ length files.now }
-    requires accepted { IsAcceptedProject (map named_source_of files.now) accepted.now }
+    requires accepted { IsAccepted (map named_source_of files.now) accepted.now }
     ensures { IfOk result (λ text. IsMapOf sources.now (map named_source_of files.now) text.items) }
 {
     let names = names_of_accepted(alloc, files, sources, accepted)?;

@@ -72,7 +72,7 @@ pub hide-none : (files : List NamedSource) (children : List Children) (xs : List
 hide-none files children xs proper are =
     all-hide-none files files children xs (λ i f c x at_f at_c at_x. hides-none files f c (i == 0) x (are.each i f c x (record { stands = at_f; beside = at_c }) at_x) (proper i f at_f))
 
-same-program : (all fs : List NamedSource) (cs : List Children) (xs ys : List CompiledFile) → length ys ≡ length xs
+pub same-program : (all fs : List NamedSource) (cs : List Children) (xs ys : List CompiledFile) → length ys ≡ length xs
     → ((i : ℕ) (f : NamedSource) (c : Children) (x y : CompiledFile) → slice_get fs i ≡ Some f → slice_get cs i ≡ Some c → slice_get xs i ≡ Some x → slice_get ys i ≡ Some y → IsShort f.tree c x y) → program_from all fs cs ys ≡ program_from all fs cs xs
 same-program all [] cs xs ys long each = refl
 same-program all (f ∷ fs) [] xs ys long each = refl

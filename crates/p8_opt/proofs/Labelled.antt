@@ -113,22 +113,22 @@ zeros-length zero = refl
 zeros-length (suc n) = ap suc (zeros-length n)
 
 -- how far a line moves the offset
-abbrev line_size : Setting → Placed → ℕ
+abbrev pub line_size : Setting → Placed → ℕ
 line_size s x = (x.at.offset - x.from.offset) + ((ended s x.line.contents x.at).offset - x.at.offset)
 
-abbrev lines_size : Setting → List Placed → ℕ
+abbrev pub lines_size : Setting → List Placed → ℕ
 lines_size s [] = 0
 lines_size s (x ∷ xs) = line_size s x + lines_size s xs
 
-abbrev regions_size : Setting → List Region → ℕ
+abbrev pub regions_size : Setting → List Region → ℕ
 regions_size s [] = 0
 regions_size s (r ∷ rs) = lines_size s r + regions_size s rs
 
-abbrev AreProperLines : List Placed → Type 0
+abbrev pub AreProperLines : List Placed → Type 0
 AreProperLines [] = Unit {0}
 AreProperLines (x ∷ xs) = AreProperContents x.line.contents × AreProperLines xs
 
-abbrev AreProperRegions : List Region → Type 0
+abbrev pub AreProperRegions : List Region → Type 0
 AreProperRegions [] = Unit {0}
 AreProperRegions (r ∷ rs) = AreProperLines r × AreProperRegions rs
 
@@ -147,7 +147,7 @@ lines-fit s t (x ∷ xs) proper =
     let both = length-append (line_bytes s t x) (lines_bytes s t xs) in
     omega (arith, here, rest, both)
 
-regions-fit : (s t : Setting) (rs : List Region) → AreProperRegions rs → regions_size s rs ≤ length (regions_bytes s t rs)
+pub regions-fit : (s t : Setting) (rs : List Region) → AreProperRegions rs → regions_size s rs ≤ length (regions_bytes s t rs)
 regions-fit s t [] proper = omega arith
 regions-fit s t (r ∷ rs) proper =
     let here = lines-fit s (names_in t r) r proper.0 in
@@ -157,9 +157,9 @@ regions-fit s t (r ∷ rs) proper =
 
 -- ---- lines in regions
 
-record IsParted (s : Setting) (size : ℕ) (rs : List Region) : Type 0 where
-  size_is : regions_size s rs ≡ size
-  proper : AreProperRegions rs
+pub record IsParted (s : Setting) (size : ℕ) (rs : List Region) : Type 0 where
+  pub size_is : regions_size s rs ≡ size
+  pub proper : AreProperRegions rs
 
 front-by : (b : Bool) (s : Setting) (x y : Placed) (ys : List Placed) (rs : List Region) (n : ℕ) → AreProperContents x.line.contents → IsParted s n ((y ∷ ys) ∷ rs)
     → IsParted s (line_size s x + n) (if b then (x ∷ []) ∷ (y ∷ ys) ∷ rs else (x ∷ y ∷ ys) ∷ rs)
@@ -171,7 +171,7 @@ front s x [] n own h = record { size_is = omega (arith, h.size_is); proper = ((o
 front s x ([] ∷ rs) n own h = record { size_is = omega (arith, h.size_is); proper = ((own, tt), h.proper.1) }
 front s x ((y ∷ ys) ∷ rs) n own h = front-by (is_named y.line.label) s x y ys rs n own h
 
-parted : (s : Setting) (xs : List Placed) → AreProperLines xs → IsParted s (lines_size s xs) (regions xs)
+pub parted : (s : Setting) (xs : List Placed) → AreProperLines xs → IsParted s (lines_size s xs) (regions xs)
 parted s [] proper = record { size_is = refl; proper = tt }
 parted s (x ∷ xs) proper = front s x (regions xs) (lines_size s xs) proper.0 (parted s xs proper.1)
 
@@ -198,7 +198,7 @@ labels-within kinds s (x ∷ xs) p name =
 
 -- ---- a file
 
-placed-proper : (s : Setting) (xs : List Line) (p : Spot) → All IsProperLine xs → AreProperLines (placed s xs p)
+pub placed-proper : (s : Setting) (xs : List Line) (p : Spot) → All IsProperLine xs → AreProperLines (placed s xs p)
 placed-proper s [] p proper = tt
 placed-proper s (x ∷ xs) p proper = ((All-head IsProperLine x xs proper).contents, placed-proper s xs (behind s x p) (All-tail IsProperLine x xs proper))
 
@@ -209,7 +209,7 @@ block-proper (trees.Obj xs) proper = All-nil IsProperLine
 block-proper (trees.Method x) proper = All-nil IsProperLine
 block-proper (trees.Dat xs) proper = proper
 
-dat-proper : (file : Source) → IsProperFile file → All IsProperLine (dat_lines file)
+pub dat-proper : (file : Source) → IsProperFile file → All IsProperLine (dat_lines file)
 dat-proper [] proper = All-nil IsProperLine
 dat-proper (b ∷ bs) proper =
     All-append IsProperLine (block_lines b) (dat_lines bs) (block-proper b (All-head IsProperBlock b bs proper)) (dat-proper bs (All-tail IsProperBlock b bs proper))

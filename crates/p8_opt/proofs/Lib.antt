@@ -3,17 +3,17 @@ mod Holding
 mod Linking
 mod Linked
 mod Tables
-mod Alike
+pub mod Alike
 mod Definitions
-mod NamedSettings
+pub mod NamedSettings
 pub mod Files
 pub mod Counting
 mod PlacedObjects
-mod Images
+pub mod Images
 mod Codes
-mod OwnKinds
-mod Instances
-mod Placing
+pub mod OwnKinds
+pub mod Instances
+pub mod Placing
 pub mod Frames
 mod FirstMethods
 mod Texts
@@ -24,13 +24,13 @@ pub mod Environments
 mod Publics
 mod Rooms
 mod Sounds
-mod RoomsWays
+pub mod RoomsWays
 mod RoomsGlobals
 mod LinesThere
 mod Agreeing
-mod Whole
-mod Labelled
-mod Own
+pub mod Whole
+pub mod Labelled
+pub mod Own
 mod Words
 pub mod Proper
 pub mod Nesting

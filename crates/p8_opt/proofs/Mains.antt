@@ -1,34 +1,21 @@
 -- Images that were built load.
-use Rattle.std.proofs.Common.{◌≡◌, ◌∙◌, ◌<◌, ap, sym, subst, refl, arith, true, List, [], ◌∷◌, length, slice_get, Some}
+use Rattle.std.proofs.Common.{◌≡◌, ◌∙◌, ◌<◌, ap, sym, subst, arith, List, length, slice_get, Some}
 use Rattle.std.proofs.lemmas.Option.{slice_get_within}
 use Rattle.p8_tree.specs.Projects.{NamedSource}
-use Rattle.p8_tree.specs.Sources.{Source}
-use Rattle.p8_tree.specs.Faults.{fault}
-use Rattle.p8_tree.specs.declared.refusal.Refusal.TheVariants.{NoPub}
-use Rattle.p8_constants.specs.FileItems.{items}
-use Rattle.p8_constants.specs.Rules.{has_public}
-use Rattle.p8_kinds.specs.declared.children.Children.{Children}
-use Rattle.p8_names.specs.Faults.{of_name, no_pub}
-use Rattle.p8_names.specs.Kinds.{numbered}
-use Rattle.p8_gen.specs.Names.{widened, wide_in}
-use Rattle.p8_stmt.specs.Methods.{rebodied}
 use Rattle.p8_image.specs.declared.clocks.Clock.{Clock}
 use Rattle.p8_image.specs.declared.parts.ObjectPart.{ObjectPart}
 use Rattle.p8_image.specs.Headers.{header_of}
 use Rattle.p8_image.specs.Layout.{header_by, image_of}
 use Rattle.p8_image.specs.Loading.{ImageValue, IsImage}
-use Rattle.p8_image.specs.Projects.{HasMain, BeginsWithMain, FitsHub}
-use Rattle.p8_build.specs.Files.{CompiledFile, IsCompiled, setting_of, method_names, object_of}
-use Rattle.p8_build.specs.Parts.{AreProper, strings_of}
-use Rattle.p8_build.specs.Builds.{IsFile, objects_from, objects_of}
+use Rattle.p8_image.specs.Projects.{BeginsWithMain, FitsHub}
+use Rattle.p8_build.specs.Parts.{AreProper}
+use Rattle.p8_build.specs.Builds.{IsFile, objects_of}
 use Rattle.p8_build.specs.Told.{IsImageBuilt}
 use Rattle.p8_build.proofs.Lists.{element}
-use Rattle.p8_build.proofs.Wholes.{begins, is_main, main_first, has_methods, not_lacking}
-use Rattle.p8_meaning.specs.Constants.{constants_in}
-use Rattle.p8_meaning.specs.Folding.{folded_body}
-use Rattle.p8_opt.specs.Shorts.{IsShort, IsShortBuilt, IsShortImageBuilt}
-use Rattle.p8_opt.proofs.Wholes.{short-fits}
+use Rattle.p8_build.proofs.Wholes.{begins}
 use Rattle.p8_opt.specs.Loads.{LoadsAs}
+use Rattle.p8_opt.specs.Shorts.{IsShortBuilt, IsShortImageBuilt}
+use Rattle.p8_opt.proofs.Wholes.{short-fits, short-main, begins as short-begins}
 
 -- the laws of layouts
 abbrev pub AreImages : Type 0
@@ -36,22 +23,6 @@ AreImages = (clock : Clock) (objects : List ObjectPart) → BeginsWithMain objec
 
 abbrev pub HaveHeaders : Type 0
 HaveHeaders = (clock : Clock) (objects : List ObjectPart) → BeginsWithMain objects → FitsHub (header_by objects) → header_of (image_of clock objects) ≡ header_by objects
-
--- ---- the top file has a method that can be started, also with short code
-
-short-main : (files : List NamedSource) (source : Source) (seen : Children) (x y : CompiledFile) → IsCompiled source seen true x → IsShort source seen x y → HasMain (object_of files source seen y).methods
-short-main files source seen x y is s =
-    let public : has_public (items source) ≡ true = not_lacking (has_public (items source)) (λ lacks. is.names.clean (fault NoPub (record { line = 1; column = 1 })) (of_name is.names.setting is.names.right (no_pub (lacks, refl)))) in
-    main_first (strings_of source) (numbered (items source)) y.codes (has_methods source public) s.count (λ m c at there.
-    let short = s.each 0 m c at there in
-    is_main (strings_of source) (widened (method_names seen x 0 m) (wide_in short.widths)) (rebodied m (folded_body (constants_in (setting_of seen x)) m.body)) c short.code_is)
-
-short-begins : (files all : List NamedSource) (children : List Children) (ys : List CompiledFile) → 0 < length files → length children ≡ length files → length ys ≡ length files
-    → ((f : NamedSource) (c : Children) (y : CompiledFile) → slice_get files 0 ≡ Some f → slice_get children 0 ≡ Some c → slice_get ys 0 ≡ Some y → HasMain (object_of all f.tree c y).methods) → BeginsWithMain (objects_from all files children ys)
-short-begins [] all children ys some beside long each = absurd (omega (arith, some))
-short-begins (f ∷ fs) all [] ys some beside long each = absurd (omega (arith, beside))
-short-begins (f ∷ fs) all (c ∷ cs) [] some beside long each = absurd (omega (arith, long))
-short-begins (f ∷ fs) all (c ∷ cs) (y ∷ ys) some beside long each = each f c y refl refl refl
 
 module _ (files : List NamedSource) (some : 0 < length files) where
   short-mains : (clock : Clock) (objects : List ObjectPart) (b : IsShortBuilt files clock objects) → BeginsWithMain (objects_of files b.children b.short)

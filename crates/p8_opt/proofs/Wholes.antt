@@ -1,26 +1,22 @@
 -- A whole project with short code, from its files.
 use Rattle.std.proofs.Common.{◌≡◌, ℕ, suc, ◌<◌, ◌==◌, Bool, true, List, [], ◌∷◌, length, slice_get, Some, refl, ap, sym, ◌∙◌, subst, arith}
+use Rattle.std.specs.Prelude.{option_map}
 use Rattle.std.specs.List.{flat_map}
-use Rattle.std.proofs.lemmas.Option.{slice_get_within, none-some}
+use Rattle.std.proofs.lemmas.List.{length-map}
+use Rattle.std.proofs.lemmas.Option.{slice_get_within, slice_get-map, none-some}
 use Rattle.p8_tree.specs.declared.places.Place.{Place}
 use Rattle.p8_tree.specs.Projects.{NamedSource}
 use Rattle.p8_tree.specs.Proper.{IsProperFile}
 use Rattle.p8_tree.specs.Sources.{MethodTree, Source}
-use Rattle.p8_tree.specs.Views.{source_of}
 use Rattle.p8_tree.specs.declared.faults.Fault.{Fault}
 use Rattle.p8_tree.specs.Faults.{fault}
 use Rattle.p8_tree.specs.declared.refusal.Refusal.TheVariants.{NoPub}
 use Rattle.p8_constants.specs.FileItems.{items}
 use Rattle.p8_constants.specs.Rules.{has_public}
 use Rattle.p8_kinds.specs.declared.children.Children.{Children}
-use Rattle.p8_kinds.specs.declared.kinds.Kinds.{Kinds}
-use Rattle.p8_kinds.specs.declared.named.Named.{Named}
 use Rattle.p8_kinds.specs.FileSettings.{file_setting}
 use Rattle.p8_names.specs.Faults.{of_name, no_pub}
 use Rattle.p8_names.specs.Kinds.{numbered, objects}
-use Rattle.p8_dat.specs.declared.assembling.Dat.{Dat}
-use Rattle.p8_dat.specs.Blocks.{placed_lines, dat_bytes}
-use Rattle.p8_dat.specs.Labels.{labels_of}
 use Rattle.p8_gen.specs.Names.{widened, wide_in}
 use Rattle.p8_stmt.specs.declared.code.MethodCode.{MethodCode}
 use Rattle.p8_stmt.specs.Methods.{rebodied}
@@ -28,36 +24,24 @@ use Rattle.p8_image.specs.declared.parts.ObjectPart.{ObjectPart}
 use Rattle.p8_image.specs.Layout.{header_by, image_of}
 use Rattle.p8_image.specs.Loading.{image_in}
 use Rattle.p8_image.specs.Projects.{HasMain, BeginsWithMain, FitsHub}
+use Rattle.p8_build.specs.declared.accepting.AcceptedFile.{AcceptedFile}
 use Rattle.p8_build.specs.declared.building.Accepted.{Accepted}
 use Rattle.p8_build.specs.declared.building.Built.{Built}
-use Rattle.p8_build.specs.Parts.{AreProper, data_start, strings_of, method_part, method_parts, variable_in, instances_of}
+use Rattle.p8_build.specs.Accepted.{IsAccepted, IsFinished, compiled_file, compiled_files, recoded_file}
+use Rattle.p8_build.specs.Parts.{AreProper, strings_of, method_part, method_parts, variable_in, instances_of}
 use Rattle.p8_build.specs.Files.{CompiledFile, IsCompiled, setting_of, method_names, object_of}
 use Rattle.p8_build.specs.Builds.{IsFile, AreCompiled, objects_from, objects_of, clock_by, IsImageFault, too_large, no_clock}
-use Rattle.p8_build.specs.Phases.{compiled, IsFinished, clock_in}
+use Rattle.p8_build.specs.Phases.{clock_in}
 use Rattle.p8_build.proofs.Lists.{element, one_element, choose}
 use Rattle.p8_build.proofs.Wholes.{objects_are, is_main, main_first, has_methods, not_lacking, clock_is}
 use Rattle.p8_names.proofs.Seen.{has-words}
 use Rattle.p8_opt.proofs.Resolved.{are-words}
 use Rattle.p8_meaning.specs.Constants.{constants_in}
 use Rattle.p8_meaning.specs.Folding.{folded_body}
-use Rattle.p8_opt.specs.Asked.{AreWords}
 use Rattle.p8_opt.specs.Shorts.{IsShort, AreShort, IsShortBuiltTo}
-use Rattle.p8_opt.specs.Steps.{AreAcceptedFiles, AreShortObjects, IsAcceptedProject}
+use Rattle.p8_opt.specs.Steps.{IsAcceptedFile, AreAcceptedFiles, AreShortObjects}
 use Rattle.p8_opt.proofs.Ready.{no-longer}
 use Rattle.p8_opt.proofs.Sizes.{IsNoLonger, AreNoLonger, IsNoGreater, AreNoGreater, no-later}
-
--- ---- the files of an accepted project
-
--- a compiled file by the names and the data in hand
-whole-is : (source : Source) (seen : Children) (top : Bool) (x : CompiledFile) (kinds : Kinds) (d : Dat) → IsCompiled source seen top x → x.kinds ≡ kinds
-    → d.bytes ≡ dat_bytes (file_setting kinds seen) (data_start (file_setting kinds seen) source) source → d.labels ≡ labels_of kinds (placed_lines (file_setting kinds seen) (data_start (file_setting kinds seen) source) source)
-    → x ≡ compiled kinds d x.codes
-whole-is source seen top x kinds d is same bytes labels =
-    let dat : x.dat ≡ d.bytes = is.dat.bytes ∙ ap (λ k. dat_bytes (file_setting k seen) (data_start (file_setting k seen) source) source) same ∙ sym bytes in
-    let labelled : x.labels ≡ d.labels = is.dat.labels ∙ ap (λ k. labels_of k (placed_lines (file_setting k seen) (data_start (file_setting k seen) source) source)) same ∙ sym labels in
-    ap (λ k. record { kinds = k; dat = x.dat; labels = x.labels; codes = x.codes }) same
-    ∙ ap (λ b. record { kinds = kinds; dat = b; labels = x.labels; codes = x.codes }) dat
-    ∙ ap (λ ls. record { kinds = kinds; dat = d.bytes; labels = ls; codes = x.codes }) labelled
 
 -- ---- the methods of files with short code
 
@@ -103,159 +87,122 @@ short-fits files children xs ys proper beside are short fits =
     omega (arith, less, fits)
 
 -- the top file has a method that can be started
-short-main : (files : List NamedSource) (source : Source) (seen : Children) (x y : CompiledFile) → IsCompiled source seen true x → IsShort source seen x y → HasMain (object_of files source seen y).methods
+pub short-main : (files : List NamedSource) (source : Source) (seen : Children) (x y : CompiledFile) → IsCompiled source seen true x → IsShort source seen x y → HasMain (object_of files source seen y).methods
 short-main files source seen x y is s =
     let public : has_public (items source) ≡ true = not_lacking (has_public (items source)) (λ lacks. is.names.clean (fault NoPub (record { line = 1; column = 1 })) (of_name is.names.setting is.names.right (no_pub (lacks, refl)))) in
     main_first (strings_of source) (numbered (items source)) y.codes (has_methods source public) s.count (λ m c at there.
     let short = s.each 0 m c at there in
     is_main (strings_of source) (widened (method_names seen x 0 m) (wide_in short.widths)) (rebodied m (folded_body (constants_in (setting_of seen x)) m.body)) c short.code_is)
 
-begins : (files all : List NamedSource) (children : List Children) (ys : List CompiledFile) → 0 < length files → length children ≡ length files → length ys ≡ length files
+pub begins : (files all : List NamedSource) (children : List Children) (ys : List CompiledFile) → 0 < length files → length children ≡ length files → length ys ≡ length files
     → ((f : NamedSource) (c : Children) (y : CompiledFile) → slice_get files 0 ≡ Some f → slice_get children 0 ≡ Some c → slice_get ys 0 ≡ Some y → HasMain (object_of all f.tree c y).methods) → BeginsWithMain (objects_from all files children ys)
 begins [] all children ys l a b each = absurd (omega (arith, l))
 begins (f ∷ fs) all [] ys l a b each = absurd (omega (arith, a))
 begins (f ∷ fs) all (c ∷ cs) [] l a b each = absurd (omega (arith, b))
 begins (f ∷ fs) all (c ∷ cs) (y ∷ ys) l a b each = each f c y refl refl refl
 
-clock-of : (files : List NamedSource) (a : Accepted) (project : IsAcceptedProject files a) (n : Named) → slice_get a.named 0 ≡ Some n → clock_in n.kinds ≡ clock_by project.is.objects.xs
-clock-of files a project n at =
-    let counted = project.is.objects.compiled.count in
-    let some = project.some in
-    clock_is project.is.objects.xs a.named n (omega (arith, counted, some)) at (λ x there. project.is.objects.kinds 0 n x at there)
+-- ---- the files of an accepted project
 
-module _ (files : List NamedSource) (a : Accepted) (project : IsAcceptedProject files a) where
-  abbrev children : List Children
-  children = project.children
-
+module _ (files : List NamedSource) (a : Accepted) (some : 0 < length files) (proper : AreProper files) (is : IsAccepted files a) where
   abbrev xs : List CompiledFile
-  xs = project.is.objects.xs
+  xs = compiled_files a
 
-  -- file i, with what is known of it
-  record IsHere (i : ℕ) (n : Named) (d : Dat) : Type 0 where
-    file : NamedSource
-    seen : Children
-    x : CompiledFile
-    there : IsFile files project.children i file seen
-    is_x : slice_get project.is.objects.xs i ≡ Some x
-    source_is : source_of n.file.now ≡ file.tree
-    seen_is : n.children.now ≡ seen
-    compiled_is : IsCompiled file.tree seen (i == 0) x
-    whole : x ≡ compiled n.kinds d x.codes
+  pub accepted-many : length a.files ≡ length files
+  accepted-many = sym (length-map a.files compiled_file) ∙ is.each.count
 
-  here : (i : ℕ) (n : Named) (d : Dat) → slice_get a.named i ≡ Some n → slice_get a.assembled i ≡ Some d → IsHere i n d
-  here i n d at_n at_d =
-      let inside = slice_get_within a.named i n at_n in
-      let named = project.is.named.count in
-      let counted = project.is.objects.compiled.count in
-      let beside = project.seen.one_each in
-      let f = element files i (omega (arith, inside, named)) in
-      let c = element project.children i (omega (arith, inside, named, beside)) in
-      let x = element project.is.objects.xs i (omega (arith, inside, named, counted)) in
-      let there : IsFile files project.children i f.0 c.0 = record { stands = f.1; beside = c.1 } in
-      let name = project.is.named.each i n at_n f.0 c.0 there in
-      let data_ = project.is.assembled.each i d at_d f.0 c.0 n there at_n in
-      let comp = project.is.objects.compiled.each i f.0 c.0 x.0 there x.1 in
+  compiled-at : (i : ℕ) (f : AcceptedFile) → slice_get a.files i ≡ Some f → slice_get xs i ≡ Some (compiled_file f)
+  compiled-at i f at = slice_get-map compiled_file a.files i ∙ ap (option_map compiled_file) at
+
+  -- file i, by its tree and what it sees
+  abbrev accepted-at : (i : ℕ) (f : AcceptedFile) → slice_get a.files i ≡ Some f → (file : NamedSource) (seen : Children) → IsFile files a.children i file seen → IsAcceptedFile f
+  accepted-at i f at file seen there =
+      let comp = is.each.each i file seen (compiled_file f) there (compiled-at i f at) in
       record {
-        file = f.0;
-        seen = c.0;
-        x = x.0;
-        there = there;
-        is_x = x.1;
-        source_is = name.source_is;
-        seen_is = name.children_are;
-        compiled_is = comp;
-        whole = whole-is f.0.tree c.0 (i == 0) x.0 n.kinds d comp (project.is.objects.kinds i n x.0 at_n x.1) data_.bytes data_.labels;
+        source = file.tree;
+        children = seen;
+        top = i == 0;
+        proper = proper i file there.stands;
+        is = comp;
+        words = are-words (setting_of seen (compiled_file f)) (has-words files a.children is.seen i file seen (i == 0) f.kinds there.stands there.beside comp.names);
+        tables = is.tables i file seen f there at;
       }
 
-  pub accepted-files : AreAcceptedFiles a.named a.assembled
+  file-at : (i : ℕ) → i < length files → (file : NamedSource) × (seen : Children) × IsFile files a.children i file seen
+  file-at i inside =
+      let beside = is.seen.one_each in
+      let file = element files i inside in
+      let seen = element a.children i (omega (arith, inside, beside)) in
+      (file.0, seen.0, record { stands = file.1; beside = seen.1 })
+
+  pub accepted-files : AreAcceptedFiles a.files
   accepted-files = record {
-    count = project.is.assembled.count ∙ sym project.is.named.count;
-    each = λ i n d at_n at_d.
-        let h = here i n d at_n at_d in
-        let words : AreWords (constants_in (setting_of h.seen h.x)) =
-        are-words (setting_of h.seen h.x) (has-words files project.children project.seen i h.file h.seen (i == 0) h.x.kinds h.there.stands h.there.beside h.compiled_is.names) in
-        record {
-          top = i == 0;
-          codes = h.x.codes;
-          proper = subst IsProperFile (sym h.source_is) (project.proper i h.file h.there.stands);
-          is = subst (λ (s : Source). IsCompiled s n.children.now (i == 0) (compiled n.kinds d h.x.codes)) (sym h.source_is)
-              (subst (λ (s : Children). IsCompiled h.file.tree s (i == 0) (compiled n.kinds d h.x.codes)) (sym h.seen_is)
-              (subst (IsCompiled h.file.tree h.seen (i == 0)) h.whole h.compiled_is));
-          words = subst (λ (s : Children). AreWords (constants_in (setting_of s (compiled n.kinds d h.x.codes)))) (sym h.seen_is)
-              (subst (λ (y : CompiledFile). AreWords (constants_in (setting_of h.seen y))) h.whole words);
-        };
+    each = λ i f at.
+        let inside = slice_get_within a.files i f at in
+        let many = accepted-many in
+        let there = file-at i (omega (arith, inside, many)) in
+        accepted-at i f at there.0 there.1 there.2;
   }
+
+  clock-of : (f : AcceptedFile) → slice_get a.files 0 ≡ Some f → clock_in f.kinds ≡ clock_by xs
+  clock-of f at = clock_is a.files f at
 
   -- ---- their objects with short code
 
-  module _ (objects : List ObjectPart) (long : length objects ≡ length a.named) (short : AreShortObjects files a.named a.assembled objects) where
+  module _ (objects : List ObjectPart) (long : length objects ≡ length a.files) (short : AreShortObjects files a.files objects) where
     -- what file i is compiled to with short code, and its object
     pub record IsShortened (i : ℕ) (object : ObjectPart) (y : CompiledFile) : Type 0 where
-      pub each : (file : NamedSource) (seen : Children) (x : CompiledFile) → IsFile files project.children i file seen → slice_get project.is.objects.xs i ≡ Some x → IsShort file.tree seen x y × (object ≡ object_of files file.tree seen y)
+      pub each : (file : NamedSource) (seen : Children) (x : CompiledFile) → IsFile files a.children i file seen → slice_get xs i ≡ Some x → IsShort file.tree seen x y × (object ≡ object_of files file.tree seen y)
 
     shortened-at : (i : ℕ) (object : ObjectPart) → slice_get objects i ≡ Some object → (y : CompiledFile) × IsShortened i object y
     shortened-at i object at =
         let inside = slice_get_within objects i object at in
-        let named = project.is.named.count in
-        let assembled = project.is.assembled.count in
-        let n = element a.named i (omega (arith, inside, long)) in
-        let d = element a.assembled i (omega (arith, inside, long, named, assembled)) in
-        let s = short.each i n.0 d.0 object n.1 d.1 at in
-        let h = here i n.0 d.0 n.1 d.1 in
-        let y = compiled n.0.kinds d.0 s.codes in
-        let plain = compiled n.0.kinds d.0 [] in
-        let told : IsShort h.file.tree h.seen plain y = subst (λ (z : Source). IsShort z h.seen plain y) h.source_is (subst (λ (z : Children). IsShort (source_of n.0.file.now) z plain y) h.seen_is s.short) in
-        let code : IsShort h.file.tree h.seen (compiled n.0.kinds d.0 h.x.codes) y = record { kinds = told.kinds; dat = told.dat; labels = told.labels; count = told.count; each = told.each } in
-        let made : object ≡ object_of files h.file.tree h.seen y = s.is ∙ ap (λ z. object_of files z n.0.children.now y) h.source_is ∙ ap (λ z. object_of files h.file.tree z y) h.seen_is in (
+        let many = accepted-many in
+        let f = element a.files i (omega (arith, inside, long)) in
+        let h = file-at i (omega (arith, inside, long, many)) in
+        let s = short.each i f.0 object f.1 at (accepted-at i f.0 f.1 h.0 h.1 h.2) in
+        let y = recoded_file f.0 s.codes in (
           y,
           record {
             each = λ file seen x there at_x.
-                let f = one_element files i h.there.stands there.stands in
-                let c = one_element project.children i h.there.beside there.beside in
-                let e = one_element project.is.objects.xs i h.is_x at_x in
                 let P : NamedSource → Children → CompiledFile → Type 0 = λ file seen x. IsShort file.tree seen x y × (object ≡ object_of files file.tree seen y) in
-                subst (λ (z : NamedSource). P z seen x) f (subst (λ (z : Children). P h.file z x) c (subst (λ (z : CompiledFile). P h.file h.seen z) e
-                (subst (λ (z : CompiledFile). IsShort h.file.tree h.seen z y) (sym h.whole) code, made)));
+                subst (λ (z : NamedSource). P z seen x) (one_element files i h.2.stands there.stands) (subst (λ (z : Children). P h.0 z x) (one_element a.children i h.2.beside there.beside)
+                (subst (λ (z : CompiledFile). P h.0 h.1 z) (one_element xs i (compiled-at i f.0 f.1) at_x) (s.short, s.is)));
           },
         )
 
     pub chosen : (ys : List CompiledFile) × (length ys ≡ length objects) × ((i : ℕ) (object : ObjectPart) (y : CompiledFile) → slice_get objects i ≡ Some object → slice_get ys i ≡ Some y → IsShortened i object y)
     chosen = choose IsShortened objects shortened-at
 
-    pub are-short : AreShort files project.children project.is.objects.xs chosen.0
-    are-short =
-        let named = project.is.named.count in
-        let counted = project.is.objects.compiled.count in
-        record {
-          count = omega (arith, chosen.1, long, named, counted);
-          each = λ i file seen x y there at_x at_y.
-              let inside = slice_get_within chosen.0 i y at_y in
-              let o = element objects i (omega (arith, inside, chosen.1)) in
-              ((chosen.2 i o.0 y o.1 at_y).each file seen x there at_x).0;
-        }
+    pub are-short : AreShort files a.children xs chosen.0
+    are-short = record {
+      count = chosen.1 ∙ long ∙ accepted-many ∙ sym is.each.count;
+      each = λ i file seen x y there at_x at_y.
+          let inside = slice_get_within chosen.0 i y at_y in
+          let o = element objects i (omega (arith, inside, chosen.1)) in
+          ((chosen.2 i o.0 y o.1 at_y).each file seen x there at_x).0;
+    }
 
-    pub short-objects : objects ≡ objects_of files project.children chosen.0
+    pub short-objects : objects ≡ objects_of files a.children chosen.0
     short-objects =
-        let named = project.is.named.count in
-        let counted = project.is.objects.compiled.count in
-        let beside = project.seen.one_each in
-        objects_are files files project.children chosen.0 objects beside (omega (arith, chosen.1, long, named)) (omega (arith, long, named)) (λ i f c y o at_f at_c at_y at_o.
+        let counted = is.each.count in
+        let beside = is.seen.one_each in
+        objects_are files files a.children chosen.0 objects beside (chosen.1 ∙ long ∙ accepted-many) (long ∙ accepted-many) (λ i f c y o at_f at_c at_y at_o.
         let inside = slice_get_within files i f at_f in
-        let x = element project.is.objects.xs i (omega (arith, inside, counted)) in
+        let x = element xs i (omega (arith, inside, counted)) in
         ((chosen.2 i o y at_o at_y).each f c x.0 (record { stands = at_f; beside = at_c }) x.1).1)
 
     -- ---- the image
 
-    pub built-to : (n : Named) (b : Built) → slice_get a.named 0 ≡ Some n → IsFinished (clock_in n.kinds) objects b → IsShortBuiltTo files b
-    built-to n b at done = record {
+    pub built-to : (f : AcceptedFile) (b : Built) → slice_get a.files 0 ≡ Some f → IsFinished (clock_in f.kinds) objects b → IsShortBuiltTo files b
+    built-to f b at done = record {
       clock = done.clock;
       built = record {
-        children = project.children;
-        seen = project.seen;
-        compiled = project.is.objects.xs;
-        each = project.is.objects.compiled;
-        clock_is = sym (clock-of files a project n at) ∙ done.is;
-        fits = subst (λ (os : List ObjectPart). FitsHub (header_by os)) project.is.objects.are project.is.finished.fits;
+        children = a.children;
+        seen = is.seen;
+        compiled = xs;
+        each = is.each;
+        clock_is = sym (clock-of f at) ∙ done.is;
+        fits = is.finished.fits;
         short = chosen.0;
         shorter = are-short;
         objects_are = done.objects_are ∙ short-objects;
@@ -266,19 +213,18 @@ module _ (files : List NamedSource) (a : Accepted) (project : IsAcceptedProject 
     pub begins-with-main : BeginsWithMain objects
     begins-with-main =
         let shorter = are-short in
-        let beside = project.seen.one_each in
-        let counted = project.is.objects.compiled.count in
-        subst BeginsWithMain (sym short-objects) (begins files files project.children chosen.0 project.some beside (shorter.count ∙ counted) (λ f c y at_f at_c at_y.
-        let there : IsFile files project.children 0 f c = record { stands = at_f; beside = at_c } in
+        let beside = is.seen.one_each in
+        let counted = is.each.count in
+        subst BeginsWithMain (sym short-objects) (begins files files a.children chosen.0 some beside (shorter.count ∙ counted) (λ f c y at_f at_c at_y.
+        let there : IsFile files a.children 0 f c = record { stands = at_f; beside = at_c } in
         let inside = slice_get_within files 0 f at_f in
-        let x = element project.is.objects.xs 0 (omega (arith, inside, counted)) in
-        short-main files f.tree c x.0 y (project.is.objects.compiled.each 0 f c x.0 there x.1) (shorter.each 0 f c x.0 y there x.1 at_y)))
+        let x = element xs 0 (omega (arith, inside, counted)) in
+        short-main files f.tree c x.0 y (is.each.each 0 f c x.0 there x.1) (shorter.each 0 f c x.0 y there x.1 at_y)))
 
     -- the project isn't refused with short code
-    pub never-refused : (n : Named) → slice_get a.named 0 ≡ Some n → (f : Fault) → ¬ IsImageFault objects (clock_in n.kinds) f
-    never-refused n at f (too_large large is) =
-        let fits = short-fits files project.children project.is.objects.xs chosen.0 project.proper project.seen.one_each project.is.objects.compiled are-short
-        (subst (λ (os : List ObjectPart). FitsHub (header_by os)) project.is.objects.are project.is.finished.fits) in
-        let over : 32768 < (header_by (objects_of files project.children chosen.0)).dcurr = subst (λ (os : List ObjectPart). 32768 < (header_by os).dcurr) short-objects large in
+    pub never-refused : (f : AcceptedFile) → slice_get a.files 0 ≡ Some f → (fault : Fault) → ¬ IsImageFault objects (clock_in f.kinds) fault
+    never-refused f at fault (too_large large told) =
+        let fits = short-fits files a.children xs chosen.0 proper is.seen.one_each is.each are-short is.finished.fits in
+        let over : 32768 < (header_by (objects_of files a.children chosen.0)).dcurr = subst (λ (os : List ObjectPart). 32768 < (header_by os).dcurr) short-objects large in
         omega (arith, fits, over)
-    never-refused n at f (no_clock none is) = absurd (none-some project.is.finished.clock (sym none ∙ clock-of files a project n at ∙ project.is.finished.is))
+    never-refused f at fault (no_clock none told) = absurd (none-some is.finished.clock (sym none ∙ clock-of f at ∙ is.finished.is))

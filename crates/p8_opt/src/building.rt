@@ -1,22 +1,18 @@
 // Building a project with short code.
-ghost use Rattle.std.specs.Prelude.{◌≡◌, ◌≤◌, ◌<◌, length, map, IfOk, IfErr};
+ghost use Rattle.std.specs.Prelude.{◌≤◌, ◌<◌, length, map, IfOk, IfErr};
 ghost use Rattle.p8_tree.specs.Views.{named_sources_of, named_source_of};
 ghost use Rattle.p8_tree.specs.Projects.{most_files};
-ghost use Rattle.p8_names.specs.Children.{AreChildren};
 ghost use Rattle.p8_names.specs.Mentions.{AreDistinct, HaveMentioned, HaveNoRing};
+ghost use Rattle.p8_build.specs.Accepted.{IsAccepted};
 ghost use Rattle.p8_build.specs.Parts.{AreProper};
-ghost use Rattle.p8_build.specs.Phases.{IfFirstRefused};
 ghost use Rattle.p8_build.specs.Told.{IsRefusal};
 ghost use Rattle.p8_opt.specs.Shorts.{IsShortBuiltTo, IsShortImageBuilt};
 ghost use Rattle.p8_opt.specs.Shorter.{HasNoLongerMethods, KeepsSource};
-ghost use Rattle.p8_opt.specs.Steps.{IsAcceptedProject};
 
 use crate::built_laws::built_short_images_keep_meaning;
 use crate::objects::short_objects;
-use p8_build::{Accepted, BuildFault, Built, FileFault, accept, finish, told};
+use p8_build::{Accepted, BuildFault, Built, accept, finish};
 use p8_image::Image;
-use p8_kinds::Children;
-use p8_names::children_of;
 use p8_tree::{Project, ProjectFile};
 use p8_words::{Fail, NoMemory};
 use std::alloc::Global;
@@ -36,13 +32,8 @@ pub fn build_short_parts(alloc: Global, project: &Project) -> Result<Built, Buil
     ensures built { IfOk result (IsShortBuiltTo (named_sources_of project.now)) }
     ensures refused { IfErr result (IsRefusal (named_sources_of project.now)) }
 {
-    let files = project.files.as_slice();
-    let children = children_of(alloc, project)?;
-    match build_files(alloc, files, &children) {
-        Ok(built) => Ok(built),
-        Err(Fail::Refused(refusal)) => Err(told(alloc, &files[refusal.file], refusal.fault)),
-        Err(Fail::NoMemory) => Err(BuildFault::NoMemory),
-    }
+    let accepted = accept(alloc, project)?;
+    Ok(shortened(alloc, project.files.as_slice(), &accepted)?)
 }
 
 /// Builds a project to its image with shorter code alone, under the same conditions and with the same errors as
@@ -67,36 +58,21 @@ pub fn build_short(alloc: Global, project: &Project) -> Result<Image, BuildFault
     Ok(image)
 }
 
-/// Builds files with short code by what they see of their objects, or tells their first refusal.
-fn build_files(
-    alloc: Global,
-    files: &[ProjectFile],
-    children: &[Children],
-) -> Result<Built, Fail<FileFault>>
-    requires first { 0 < length files.now }
-    requires few { length files.now ≤ most_files }
-    requires proper { AreProper (map named_source_of files.now) }
-    requires children { AreChildren (map named_source_of files.now) children.now }
-    ensures built { IfOk result (IsShortBuiltTo (map named_source_of files.now)) }
-    ensures refused { IfErr result (IfFirstRefused (map named_source_of files.now) children.now) }
-{
-    let accepted = accept(alloc, files, children)?;
-    Ok(shortened(alloc, files, &accepted)?)
-}
-
 /// What an accepted project is built to with short code.
 fn shortened(
     alloc: Global,
     files: &[ProjectFile],
     accepted: &Accepted<'_>,
 ) -> Result<Built, NoMemory>
+    requires some { 0 < length files.now }
     requires few { length files.now ≤ most_files }
-    requires accepted { IsAcceptedProject (map named_source_of files.now) accepted.now }
+    requires proper { AreProper (map named_source_of files.now) }
+    requires accepted { IsAccepted (map named_source_of files.now) accepted.now }
     ensures { IfOk result (IsShortBuiltTo (map named_source_of files.now)) }
 {
-    let named = accepted.named.as_slice();
-    let objects = short_objects(alloc, files, named, accepted.assembled.as_slice())?;
-    match finish(alloc, &named[0].kinds, objects) {
+    let all = accepted.files.as_slice();
+    let objects = short_objects(alloc, files, all)?;
+    match finish(alloc, &all[0].kinds, objects) {
         Ok(built) => Ok(built),
         Err(Fail::NoMemory) => Err(NoMemory),
         Err(Fail::Refused(_)) => unreachable!(),

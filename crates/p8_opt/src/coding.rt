@@ -3,7 +3,8 @@ ghost use Rattle.std.specs.Prelude.{◌≡◌, ◌+◌, length, map, IfOk};
 ghost use Rattle.p8_tree.specs.Views.{method_of};
 ghost use Rattle.p8_stmt.specs.Jumps.{IsShortCode};
 ghost use Rattle.p8_meaning.specs.Folding.{folded_body};
-ghost use Rattle.p8_opt.specs.Steps.{names_by, constants_by, CanBeFolded, AreFoldable, AreShortCodes};
+ghost use Rattle.p8_build.specs.Files.{names_with};
+ghost use Rattle.p8_opt.specs.Steps.{constants_by, CanBeFolded, AreFoldable, AreShortCodes};
 
 use p8_gen::Tables;
 use p8_kinds::Kinds;
@@ -40,8 +41,8 @@ fn short_method(
     index: usize,
     method: &Method,
 ) -> Result<MethodCode, NoMemory>
-    requires { CanBeFolded (names_by kinds.now tables.now index (method_of method.now)) (constants_by tables.now) (method_of method.now) }
-    ensures { IfOk result (IsShortCode (names_by kinds.now tables.now index (method_of method.now)) (method_of method.now) (folded_body (constants_by tables.now) (method_of method.now).body)) }
+    requires { CanBeFolded (names_with kinds.now tables.now index (method_of method.now)) (constants_by tables.now) (method_of method.now) }
+    ensures { IfOk result (IsShortCode (names_with kinds.now tables.now index (method_of method.now)) (method_of method.now) (folded_body (constants_by tables.now) (method_of method.now).body)) }
 {
     let body = folded_body(alloc, &tables.consts, method.body.as_slice())?;
     let number = number_of(index)?;

@@ -2,16 +2,11 @@
 ghost use Rattle.std.specs.Prelude.{◌≡◌, ◌≤◌, length, map, IfOk};
 ghost use Rattle.p8_tree.specs.Views.{named_source_of};
 ghost use Rattle.p8_tree.specs.Projects.{most_files};
-ghost use Rattle.p8_opt.specs.Steps.{IsAcceptedFile, IsShortObject, AreAcceptedFiles, AreShortObjects};
+ghost use Rattle.p8_opt.specs.Steps.{IsAcceptedFile, IsItsShortObject, AreAcceptedFiles, AreShortObjects};
 
 use crate::coding::short_codes;
-use p8_build::object_of_codes;
-use p8_constants::items_of;
-use p8_dat::Dat;
-use p8_gen::Tables;
+use p8_build::{AcceptedFile, object_of_codes};
 use p8_image::ObjectPart;
-use p8_kinds::Named;
-use p8_names::numbered;
 use p8_tree::{List, ProjectFile};
 use p8_words::NoMemory;
 use std::alloc::Global;
@@ -20,17 +15,16 @@ use std::alloc::Global;
 pub(crate) fn short_objects(
     alloc: Global,
     files: &[ProjectFile],
-    named: &[Named<'_>],
-    assembled: &[Dat],
+    accepted: &[AcceptedFile<'_>],
 ) -> Result<List<ObjectPart>, NoMemory>
     requires few { length files.now ≤ most_files }
-    requires accepted { AreAcceptedFiles named.now assembled.now }
-    ensures count { IfOk result (λ objects. length objects ≡ length named.now) }
-    ensures objects { IfOk result (AreShortObjects (map named_source_of files.now) named.now assembled.now) }
+    requires accepted { AreAcceptedFiles accepted.now }
+    ensures count { IfOk result (λ objects. length objects ≡ length accepted.now) }
+    ensures objects { IfOk result (AreShortObjects (map named_source_of files.now) accepted.now) }
 {
     let mut objects = List::new(alloc);
-    for (index, file) in named.iter().enumerate() {
-        let object = short_object(alloc, files, file, &assembled[index])?;
+    for (index, file) in accepted.iter().enumerate() {
+        let object = short_object(alloc, files, file)?;
         objects.push(object)?;
     }
     Ok(objects)
@@ -40,16 +34,12 @@ pub(crate) fn short_objects(
 fn short_object(
     alloc: Global,
     files: &[ProjectFile],
-    named: &Named<'_>,
-    dat: &Dat,
+    file: &AcceptedFile<'_>,
 ) -> Result<ObjectPart, NoMemory>
     requires few { length files.now ≤ most_files }
-    requires accepted { IsAcceptedFile named.now dat.now }
-    ensures { IfOk result (IsShortObject (map named_source_of files.now) named.now dat.now) }
+    requires accepted { IsAcceptedFile file.now }
+    ensures { IfOk result (IsItsShortObject (map named_source_of files.now) file.now) }
 {
-    let items = items_of(alloc, named.file)?;
-    let methods = numbered(alloc, &items)?;
-    let tables = Tables::of(alloc, named, dat.labels.as_slice())?;
-    let codes = short_codes(alloc, &named.kinds, &tables, &methods)?;
-    object_of_codes(alloc, files, named, dat, codes.as_slice())
+    let codes = short_codes(alloc, &file.kinds, &file.tables, file.methods.as_slice())?;
+    object_of_codes(alloc, files, file, codes.as_slice())
 }

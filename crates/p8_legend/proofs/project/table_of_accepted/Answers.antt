@@ -1,40 +1,25 @@
-use Rattle.std.proofs.Common.{◌≡◌, List, length, map, sym, ◌∙◌, ap, subst}
+use Rattle.std.proofs.Common.{◌≡◌, ◌∙◌, ap, ap₂, List, map}
 use Rattle.std.proofs.lemmas.Result.{IfOk-weaker}
-use Rattle.p8_tree.specs.Views.{named_source_of}
-use Rattle.p8_kinds.specs.declared.named.Named.{Named}
-use Rattle.p8_legend.specs.Rows.{rows_from, IsLineTable}
-use Rattle.p8_legend.specs.Steps.{AreAcceptedFiles, AreCodesOfFiles}
-use Rattle.p8_dat.specs.declared.assembling.Dat.{Dat}
-use Rattle.p8_legend.proofs.OneByOne.{if-ok}
-use Rattle.p8_legend.proofs.Wholes.{accepted-files, is-table, rows-are}
+use Rattle.p8_image.specs.declared.parts.ObjectPart.{ObjectPart}
+use Rattle.p8_build.specs.declared.accepting.AcceptedFile.{AcceptedFile}
+use Rattle.p8_build.specs.Accepted.{compiled_file}
+use Rattle.p8_legend.specs.Rows.{rows_from, codes_of}
+use Rattle.p8_legend.proofs.OfAccepted.{codes-are, table-told}
 use Rattle.p8_legend.proofs.project.table_of_accepted.Goals as goal
 
-pub codes_of_files-requires : goal.codes_of_files-requires
-codes_of_files-requires c =
-    let a = c.args.accepted.now in
-    subst (λ (ns : List Named). AreAcceptedFiles ns c.as_slice.result.now) (sym c.as_slice-named.ensures)
-    (subst (AreAcceptedFiles a.named) (sym c.as_slice.ensures) (accepted-files (map named_source_of c.args.files.now) a c.requires.accepted))
-
-pub returns-clause-table : goal.returns-clause-table
-returns-clause-table c =
-    let files = map named_source_of c.args.files.now in
-    let a = c.args.accepted.now in
-    let project = c.requires.accepted in
-    let codes = c.in_ok-codes.codes in
-    let count : length codes ≡ length a.named = c.in_ok-codes.ensures.count ∙ ap length c.as_slice-named.ensures in
-    let are : AreCodesOfFiles a.named a.assembled codes =
-    subst (λ (ns : List Named). AreCodesOfFiles ns a.assembled codes) c.as_slice-named.ensures (subst (λ (ds : List Dat). AreCodesOfFiles c.as_slice-named.result.now ds codes) c.as_slice.ensures c.in_ok-codes.ensures.codes) in
-    if-ok c.rows_of.result (λ table. table.rows ≡ rows_from 0 16 c.as_slice-2.result.now c.as_slice-3.result.now) (λ table. table.rows ≡ rows_from 0 16 c.as_slice-2.result.now c.as_slice-3.result.now) (IsLineTable files) c.rows_of.ensures c.rows_of.ensures
-    (λ table rows others. is-table files a project codes count are c.as_slice-2.result.now c.as_slice-3.result.now table c.as_slice-2.ensures c.as_slice-3.ensures rows)
+-- the rows by what was read of the accepted project
+same : (objects own : List ObjectPart) (found files : List AcceptedFile) → objects ≡ own → found ≡ files
+    → rows_from 0 16 objects (map (λ (f : AcceptedFile). f.codes) found) ≡ rows_from 0 16 own (codes_of (map compiled_file files))
+same objects own found files one other = ap₂ (rows_from 0 16) one (ap (map (λ (f : AcceptedFile). f.codes)) other ∙ codes-are files)
 
 pub returns-clause-rows : goal.returns-clause-rows
-returns-clause-rows c project =
-    let files = map named_source_of c.args.files.now in
+returns-clause-rows c =
     let a = c.args.accepted.now in
-    let codes = c.in_ok-codes.codes in
-    let count : length codes ≡ length a.named = c.in_ok-codes.ensures.count ∙ ap length c.as_slice-named.ensures in
-    let are : AreCodesOfFiles a.named a.assembled codes =
-    subst (λ (ns : List Named). AreCodesOfFiles ns a.assembled codes) c.as_slice-named.ensures (subst (λ (ds : List Dat). AreCodesOfFiles c.as_slice-named.result.now ds codes) c.as_slice.ensures c.in_ok-codes.ensures.codes) in
+    IfOk-weaker c.rows_of.result _ _ (λ table rows. rows ∙ same c.as_slice-objects.result.now a.built.objects c.as_slice.result.now a.files c.as_slice-objects.ensures c.as_slice.ensures) c.rows_of.ensures
+
+pub returns-clause-table : goal.returns-clause-table
+returns-clause-table c = λ files is.
+    let a = c.args.accepted.now in
     IfOk-weaker c.rows_of.result _ _
-    (λ table rows. rows-are files a project codes count are c.as_slice-2.result.now c.as_slice-3.result.now table c.as_slice-2.ensures c.as_slice-3.ensures rows)
+    (λ table rows. table-told files a is table (rows ∙ same c.as_slice-objects.result.now a.built.objects c.as_slice.result.now a.files c.as_slice-objects.ensures c.as_slice.ensures))
     c.rows_of.ensures

@@ -7,5 +7,5 @@ use Rattle.p8_map.proofs.accepted.names_of_all.Given as goal
 abbrev pub invariant-loop-index : goal.invariant-loop-index
 invariant-loop-index l = record {
   count : length l.all ≡ l.index;
-  each : Each (AreNamesAt l.sources (map named_source_of l.files) l.named l.assembled) l.all;
+  each : Each (AreNamesAt l.sources (map named_source_of l.files) l.accepted) l.all;
 }

@@ -4,4 +4,4 @@ use Rattle.p8_opt.specs.Steps.{AreShortObjects}
 use Rattle.p8_opt.proofs.objects.short_objects.Given as goal
 
 abbrev pub invariant-loop-index : goal.invariant-loop-index
-invariant-loop-index l = (length l.objects ≡ l.index) × AreShortObjects (map named_source_of l.files) l.named l.assembled l.objects
+invariant-loop-index l = (length l.objects ≡ l.index) × AreShortObjects (map named_source_of l.files) l.accepted l.objects
