@@ -10,6 +10,7 @@ use Rattle.p8_access.specs.declared.lives.Next.{Next}
 use Rattle.p8_access.specs.declared.order.Turn.{Turn}
 use Rattle.p8_access.specs.Worlds.{World}
 use Rattle.p8_access.specs.Hub.{cogs, is_number, newest}
+use Rattle.p8_instr.specs.Numerals.{hex}
 use Rattle.p8_legend.specs.declared.legend.Legend.{Legend}
 use Rattle.p8_legend.specs.declared.ranges.Ranges.{Ranges}
 use Rattle.p8_report.specs.Text.{dump_text, reason_text}
@@ -73,7 +74,12 @@ abbrev pub end_text : Ranges → World → List Next → List Turn → List ℕ
 end_text names w asked past =
     flat_map (cog_line names w.clocks asked past) cogs ++ made_line (length past) (last_clock past) ++ why_line (length past) w.turns w.clocks
 
+-- the dump that is asked for; of what has no byte its address alone, on a line
+abbrev pub dumped_text : World → List Turn → (dump : Option (ℕ × ℕ)) → List ℕ
+dumped_text w past None = []
+dumped_text w past (Some range) = if range.1 == 0 then hex 4 range.0 ++ codes ":" ++ 10 ∷ [] else dump_text w past (Some range)
+
 -- the whole view: the turns that are shown, the end, and the dump where one is asked for
 abbrev pub view_of : ViewOptions → Legend → World → List (Option ℕ) → List Next → List Turn → (dump : Option (ℕ × ℕ)) → List ℕ
 view_of options legend w counters asked past dump =
-    lines_of options legend w counters past ++ end_text legend.names w asked past ++ dump_text w past dump
+    lines_of options legend w counters past ++ end_text legend.names w asked past ++ dumped_text w past dump
