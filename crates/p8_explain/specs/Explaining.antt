@@ -1,6 +1,6 @@
 -- What a refusal or a missing file says to a person: where it is, the line with a mark under the place, what stands there, by how much it is too large, what is wrong and what often mends it. Places are
 -- those of refusals: a line ends at LF, CR LF or CR, and a tab goes to the next column of the form 8k + 1.
-use Rattle.std.specs.Prelude.{ℕ, ◌-◌, ◌==◌, nat_le, List, [], ◌∷◌, ◌++◌, length, take, drop, replicate, codes, Option, Some, None, if◌then◌else◌}
+use Rattle.std.specs.Prelude.{ℕ, ◌-◌, ◌==◌, ◌&&◌, ◌||◌, not, nat_le, Bool, true, false, List, [], ◌∷◌, ◌++◌, length, take, drop, replicate, codes, Option, Some, None, if◌then◌else◌}
 use Rattle.std.specs.Fmt.{decimal}
 use Rattle.p8_tree.specs.declared.places.Place.{Place}
 use Rattle.p8_tree.specs.declared.refusal.Refusal.{Refusal}
@@ -89,16 +89,37 @@ told number bytes front rest place = by_tokens (token_before front) (token_at re
 abbrev pub said : Option Refusal → Option Size → List ℕ
 said refused size = of_size size ++ advice refused
 
+-- whether a text begins with a decimal digit, but for spaces (32), ends of lines (10, 13), and lines from a `#` (35) on, in one of which it may begin
+abbrev pub begins_with_clock : (in_comment : Bool) → (text : List ℕ) → Bool
+begins_with_clock in_comment [] = false
+begins_with_clock true (c ∷ cs) = begins_with_clock (not (c == 10)) cs
+begins_with_clock false (c ∷ cs) =
+    if (c == 32) || ((c == 10) || (c == 13)) then begins_with_clock false cs else
+    (if c == 35 then begins_with_clock true cs else is_between 48 57 c)
+
+-- whether a file of this name and these bytes is most likely a pin script
+abbrev pub is_script : (file bytes : List ℕ) → Bool
+is_script file bytes = not (is_word (codes ".spin") (drop (length file - 5) file)) && begins_with_clock false bytes
+
+-- what is said of a pin script, which is no source
+abbrev pub of_script : (is_one : Bool) → List ℕ
+of_script false = []
+of_script true = codes "A pin script is told by prop help run: it has a line for each change, as 9000 00000001, a clock and 8 hexadecimal digits for the pins.\n"
+
+-- what an explanation ends with
+unfoldable pub closing : (file bytes : List ℕ) → Option Refusal → Option Size → List ℕ
+closing file bytes refused size = said refused size ++ of_script (is_script file bytes)
+
 abbrev pub explanation_of : (file bytes : List ℕ) → Fault → Option Size → List ℕ
 explanation_of file bytes f size =
-    place_text file f.place ++ title f.number ++ shown_with (line_of bytes f.place.line) ++ said (numbered f.number) size
+    place_text file f.place ++ title f.number ++ shown_with (line_of bytes f.place.line) ++ closing file bytes (numbered f.number) size
   where
     shown_with : (line : List ℕ) → List ℕ
     shown_with line = marked line f.place.column ++ told f.number bytes (take (f.place.column - 1) line) (drop (f.place.column - 1) line) f.place
 
--- a name that doesn't end in `.spin` had a dot, and stands as it was written
+-- a name that doesn't end in `.spin` had a dot, and is taken as it was written first
 abbrev pub of_dot : (missing : List ℕ) → List ℕ
-of_dot missing = if is_word (codes ".spin") (drop (length missing - 5) missing) then [] else codes "Its name has a dot, so no .spin was added to it.\n"
+of_dot missing = if is_word (codes ".spin") (drop (length missing - 5) missing) then [] else codes "Its name has a dot, so .spin is added to it only where no file has the name itself.\n"
 
 -- what is told of a file that is missing, which a file with these bytes mentions at a place
 abbrev pub absence_of : (file bytes : List ℕ) → Place → (missing : List ℕ) → List ℕ

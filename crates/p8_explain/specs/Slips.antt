@@ -113,6 +113,7 @@ slips =
     ∷ slip 10 any (codes "SPR" ∷ []) any (codes "Write the register's name: dira for spr[6], outa for spr[4].")
     ∷ slip 10 any (codes "INB" ∷ codes "OUTB" ∷ codes "DIRB" ∷ []) any (codes "There is no port B here: the pins are 0 to 31, in INA, OUTA and DIRA.")
     ∷ slip 10 any (codes "VCFG" ∷ codes "VSCL" ∷ codes "WAITVID" ∷ []) any (codes "There is no video here.")
+    ∷ slip 10 any (codes "CHIPVER" ∷ []) any (codes "The chip is the P8X32A, of which CHIPVER is 1: write 1.")
     ∷ slip 10 any (codes "CLKSET" ∷ codes "REBOOT" ∷ []) any (codes "There is no reset here, and the clock is that of _clkmode in CON.")
     ∷ slip 10 any (codes "FILE" ∷ []) any (codes "Write the bytes of the file in lines of BYTE.")
     ∷ []

@@ -1,8 +1,8 @@
 // What a refusal says to a person.
-ghost use Rattle.std.specs.Prelude.{◌≡◌, ◌++◌, OnOk, IfOk};
+ghost use Rattle.std.specs.Prelude.{◌≡◌, ◌++◌, false, OnOk, IfOk};
 ghost use Rattle.p8_tree.specs.Refusals.{numbered};
 ghost use Rattle.p8_explain.specs.Slips.{forms, first_form, by_form};
-ghost use Rattle.p8_explain.specs.Explaining.{advice, said, found, told, line_or_none, sample, of_dot, title, position, place_text, explanation_of, absence_of, entry_of};
+ghost use Rattle.p8_explain.specs.Explaining.{advice, said, found, told, line_or_none, sample, of_dot, begins_with_clock, is_script, of_script, closing, title, position, place_text, explanation_of, absence_of, entry_of};
 
 use crate::causes::{push_seen, token_at, token_before, token_behind};
 use crate::entries::{example, mends, says};
@@ -161,8 +161,8 @@ fn push_position(out: &mut Vec<u8>, place: Place) -> Result<(), NoMemory>
     Ok(())
 }
 
-// Appends a file's name and a place.
-fn push_place(out: &mut Vec<u8>, name: &Text, place: Place) -> Result<(), NoMemory>
+/// Appends a file's name and a place. The only error is want of memory.
+pub fn push_place(out: &mut Vec<u8>, name: &Text, place: Place) -> Result<(), NoMemory>
     ensures { OnOk result (out.new.items ≡ out.old.items ++ place_text name.now place) }
 {
     push_text(out, name.as_slice())?;
@@ -171,9 +171,64 @@ fn push_place(out: &mut Vec<u8>, name: &Text, place: Place) -> Result<(), NoMemo
     Ok(())
 }
 
+// Whether a text begins with a decimal digit, but for spaces, ends of lines, and lines from a `#` on.
+fn begins_with_clock(text: &[u8]) -> bool
+    ensures { result ≡ begins_with_clock false text.now }
+{
+    let mut in_comment = false;
+    for c in text {
+        if in_comment {
+            in_comment = *c != b'\n';
+        } else if *c == b'#' {
+            in_comment = true;
+        } else if *c != b' ' && *c != b'\n' && *c != b'\r' {
+            return *c >= b'0' && *c <= b'9';
+        }
+    }
+    false
+}
+
+// Whether a file of this name and these bytes is most likely a pin script.
+fn is_script(name: &[u8], bytes: &[u8]) -> bool
+    ensures { result ≡ is_script name.now bytes.now }
+{
+    !is_word(".spin", rest_of(name, name.len().saturating_sub(5))) && begins_with_clock(bytes)
+}
+
+// Appends where a pin script is told, for one.
+fn push_of_script(out: &mut Vec<u8>, is_one: bool) -> Result<(), NoMemory>
+    ensures { OnOk result (out.new.items ≡ out.old.items ++ of_script is_one) }
+{
+    if is_one {
+        push_text(
+            out,
+            b"A pin script is told by prop help run: it has a line for each change, as 9000 00000001, a clock and 8 hexadecimal digits for the pins.\n",
+        )
+    } else {
+        Ok(())
+    }
+}
+
+// Appends what an explanation ends with.
+#[tactic(auto, unfolding(crate::specs::Explaining::closing))]
+fn push_end(
+    out: &mut Vec<u8>,
+    refusal: Option<Refusal>,
+    size: Option<Size>,
+    name: &Text,
+    bytes: &[u8],
+) -> Result<(), NoMemory>
+    ensures { OnOk result (out.new.items ≡ out.old.items ++ closing name.now bytes.now refusal size) }
+{
+    push_said(out, refusal, size)?;
+    push_of_script(out, is_script(name.as_slice(), bytes))?;
+    Ok(())
+}
+
 /// What a refusal says to a person, of a file of this name and these bytes, with its number, from 1 to 30, its place and the size of
 /// what is too large: the name of the file, the place and the refusal's name, the line with a mark under the place, by how much it
-/// is too large, what is wrong and what often mends it. Of a long line some 100 columns are shown. The only error is want of memory.
+/// is too large, what is wrong and what often mends it; and of what is most likely a pin script, where that is told. Of a long line some 100 columns
+/// are shown. The only error is want of memory.
 pub fn explanation(
     alloc: Global,
     name: &Text,
@@ -192,18 +247,21 @@ pub fn explanation(
     push_marked(&mut out, line.as_slice(), fault.place.column)?;
     let (front, rest) = (first_of(line.as_slice(), at), rest_of(line.as_slice(), at));
     push_told(&mut out, fault, bytes, front, rest)?;
-    push_said(&mut out, refusal, size)?;
+    push_end(&mut out, refusal, size, name, bytes)?;
     Ok(out)
 }
 
-// Appends that a missing file's name stands as it was written, where it had a dot.
+// Appends that a missing file's name is taken as it was written first, where it had a dot.
 fn push_of_dot(out: &mut Vec<u8>, missing: &[u8]) -> Result<(), NoMemory>
     ensures { OnOk result (out.new.items ≡ out.old.items ++ of_dot missing.now) }
 {
     if is_word(".spin", rest_of(missing, missing.len().saturating_sub(5))) {
         Ok(())
     } else {
-        push_text(out, b"Its name has a dot, so no .spin was added to it.\n")
+        push_text(
+            out,
+            b"Its name has a dot, so .spin is added to it only where no file has the name itself.\n",
+        )
     }
 }
 

@@ -11,4 +11,6 @@ mod slips;
 mod standing;
 mod texts;
 
-pub use explaining::{absence, entry, explanation};
+pub use explaining::{absence, entry, explanation, push_place};
+pub use lines::{push_cell, push_marked, rest_of};
+pub use texts::push_decimal;

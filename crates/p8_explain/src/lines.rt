@@ -17,8 +17,8 @@ fn shown(c: u8) -> u8
     if (32..=126).contains(&c) { c } else { b'?' }
 }
 
-// Appends what a character shows.
-fn push_cell(out: &mut Vec<u8>, place: Place, c: u8) -> Result<(), NoMemory>
+/// Appends what a character that stands at a place shows. The only error is want of memory.
+pub fn push_cell(out: &mut Vec<u8>, place: Place, c: u8) -> Result<(), NoMemory>
     requires { 1 ≤ place.column }
     ensures { OnOk result (out.new.items ≡ out.old.items ++ cell place c) }
 {
@@ -81,7 +81,7 @@ fn left_of(column: u32) -> usize
 }
 
 /// A line from a column on, counted from 0.
-pub(crate) fn rest_of(line: &[u8], left: usize) -> &[u8]
+pub fn rest_of(line: &[u8], left: usize) -> &[u8]
     ensures { result.now ≡ drop left line.now }
 {
     if left < line.len() {
@@ -102,8 +102,8 @@ pub(crate) fn first_of(line: &[u8], count: usize) -> &[u8]
     }
 }
 
-/// Appends a line, and a mark under one of its columns.
-pub(crate) fn push_marked(out: &mut Vec<u8>, line: &[u8], column: u32) -> Result<(), NoMemory>
+/// Appends a line, and a mark under one of its columns: of a long line some 100 columns. The only error is want of memory.
+pub fn push_marked(out: &mut Vec<u8>, line: &[u8], column: u32) -> Result<(), NoMemory>
     ensures { OnOk result (out.new.items ≡ out.old.items ++ marked line.now column) }
 {
     let left = left_of(column);

@@ -18,7 +18,7 @@ type Slip = (u8, Words, Words, Words, &'static str);
 type Form = (Words, &'static str);
 
 #[rattlefmt::skip]
-static SLIPS: [Slip; 29] = [
+static SLIPS: [Slip; 30] = [
     (2, &[], &["%"], &[], "`//` is the remainder of a division; `%` begins a number in base 2."),
     (6, &[], &["%"], &[], "`//` is the remainder of a division; `%` begins a number in base 2."),
     (6, &[], &["="], &[], "`==` compares and `:=` assigns; `=` alone defines constants in CON."),
@@ -51,6 +51,7 @@ static SLIPS: [Slip; 29] = [
     (10, &[], &["SPR"], &[], "Write the register's name: dira for spr[6], outa for spr[4]."),
     (10, &[], &["INB", "OUTB", "DIRB"], &[], "There is no port B here: the pins are 0 to 31, in INA, OUTA and DIRA."),
     (10, &[], &["VCFG", "VSCL", "WAITVID"], &[], "There is no video here."),
+    (10, &[], &["CHIPVER"], &[], "The chip is the P8X32A, of which CHIPVER is 1: write 1."),
     (10, &[], &["CLKSET", "REBOOT"], &[], "There is no reset here, and the clock is that of _clkmode in CON."),
     (10, &[], &["FILE"], &[], "Write the bytes of the file in lines of BYTE."),
 ];

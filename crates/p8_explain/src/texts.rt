@@ -6,8 +6,8 @@ use itoa::Buffer;
 use p8_instr::push_text;
 use p8_words::NoMemory;
 
-/// Appends a number in decimal digits.
-pub(crate) fn push_decimal(out: &mut Vec<u8>, number: u64) -> Result<(), NoMemory>
+/// Appends a number in decimal digits. The only error is want of memory.
+pub fn push_decimal(out: &mut Vec<u8>, number: u64) -> Result<(), NoMemory>
     ensures { OnOk result (out.new.items ≡ out.old.items ++ decimal number) }
 {
     push_text(out, Buffer::new().format(number).as_bytes())
