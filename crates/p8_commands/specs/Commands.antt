@@ -29,8 +29,8 @@ pub data Dump : Type 0 where
   RangeOf : ℕ × ℕ → Dump
   Named : (name : List ℕ) → Dump
 
--- A command: to write the image of a source, its listing or its map; to explain why a source is refused, or a refusal by its number; to run hub
--- memory, or an image or a source; to save the history of a run, or to check one; to read the bytes that stand on a pin of a run, with so many clocks a
+-- A command: to write the image of a source, its listing or its map; to explain why a source is refused, or a refusal by its number; to hint at what is
+-- most likely a slip in a source; to run hub memory, or an image or a source; to save the history of a run, or to check one; to read the bytes that stand on a pin of a run, with so many clocks a
 -- bit, or to write a pin script that sends the bytes of a file from a clock on; to write the wave of a run, of all that it has or of what changes, or of
 -- its pins and locks alone; to draw some pins of a run, by their mask, from one clock on and before another; to show a run for reading, all turns or
 -- those of one cog or those that change pins, from one clock on and before another, or none of them, and then what holds in the end, with a dump; to
@@ -43,6 +43,7 @@ pub data Command : Type 0 where
   MapSource : (file : List ℕ) → Command
   ExplainFile : (file : List ℕ) → Command
   ExplainNumber : (number : ℕ) → Command
+  HintSource : (file : List ℕ) → Command
   RunMemory : (run : Running) → Command
   RunProgram : (alone short : Bool) (run : Running) → Command
   Save : (raw : Bool) (run : Running) → Command
@@ -183,9 +184,10 @@ view_of value =
     view_by (has_flag (codes "raw") value) (has_flag (codes "pins-only") value) (has_flag (codes "quiet") value)
     (told_of value) (cog_by (value (codes "cog"))) (value (codes "from")) (value (codes "to")) (value (codes "dump"))
 
--- what is to be explained: a word of digits alone is the number of a refusal, and never a file
+-- what is to be explained: a word of digits alone is the number of a refusal, and never a file; a word without a byte is a file
 abbrev pub explain_of : Text → Option Command
-explain_of word = if list_all is_digit word then option_map ExplainNumber (refusal_of word) else Some (ExplainFile word)
+explain_of [] = Some (ExplainFile [])
+explain_of (code ∷ word) = if list_all is_digit (code ∷ word) then option_map ExplainNumber (refusal_of (code ∷ word)) else Some (ExplainFile (code ∷ word))
 
 abbrev pub seed_of : (Text → Option Text) → Option ℕ
 seed_of value = option_and_then (number_of most_seed) (value (codes "SEED"))
@@ -204,6 +206,7 @@ meaning_of named.Build value = option_map (BuildSource (has_flag (codes "short")
 meaning_of named.List value = option_map (ListSource (has_flag (codes "short") value)) (value (codes "FILE"))
 meaning_of named.Map value = option_map MapSource (value (codes "FILE"))
 meaning_of named.Explain value = option_and_then explain_of (value (codes "WORD"))
+meaning_of named.Hint value = option_map HintSource (value (codes "FILE"))
 meaning_of named.Raw value = option_map RunMemory (traced_of value)
 meaning_of named.Run value = option_and_then (program_of (has_flag (codes "alone") value) (has_flag (codes "short") value)) (traced_of value)
 meaning_of named.Save value = option_map (Save (has_flag (codes "raw") value)) (saved_of value)

@@ -26,16 +26,16 @@ words_line entry = codes "prop " ++ entry.word ++ flat_map spelled entry.argumen
 unfoldable pub argument_line : Argument → Text
 argument_line argument = codes " " ++ spelled argument ++ codes ": " ++ argument.about ++ 10 ∷ []
 
--- what a command does, and an example of its words
+-- what a command does, and a line for an example of its words
 unfoldable pub about_line : Entry → Text
 about_line entry = entry.about ++ 10 ∷ []
 
-unfoldable pub example_line : Entry → Text
-example_line entry = codes "e.g. " ++ entry.example ++ 10 ∷ []
+unfoldable pub example_line : Text → Text
+example_line example = codes "e.g. " ++ example ++ 10 ∷ []
 
--- the page of a command: its words, what it does, its arguments with their limits, and an example
+-- the page of a command: its words, what it does, its arguments with their limits, and examples
 abbrev pub page_of : Entry → Text
-page_of entry = words_line entry ++ about_line entry ++ flat_map argument_line entry.arguments ++ example_line entry
+page_of entry = words_line entry ++ about_line entry ++ flat_map argument_line entry.arguments ++ flat_map example_line entry.examples
 
 -- the words of a command and what it does
 abbrev pub summary_of : Subcommand → Text

@@ -1,6 +1,7 @@
 -- internal
 -- The table and the command of the words, as the code has them.
-use Rattle.std.specs.Prelude.{ℕ, ◌≤◌, Option, Some, None, map}
+use Rattle.std.specs.Prelude.{ℕ, ◌≤◌, List, Option, Some, None, map}
+use Rattle.std.specs.Borrow.{Bor}
 use Rattle.std.specs.Option.{ForSome}
 use Rattle.p8_commands.specs.declared.table.Argument.{Argument as ArgumentHeld}
 use Rattle.p8_commands.specs.declared.table.Row.{Row}
@@ -9,7 +10,7 @@ use Rattle.p8_commands.specs.declared.command.Command.TheVariants as read
 use Rattle.p8_commands.specs.declared.command.Run.{Run as RunRead}
 use Rattle.p8_commands.specs.declared.command.Dump.{Dump as DumpRead}
 use Rattle.p8_commands.specs.declared.command.Dump.TheVariants as dumped
-use Rattle.p8_commands.specs.Commands.{Command, Dump, RangeOf, Named, Running, BuildSource, ListSource, MapSource, ExplainFile, ExplainNumber, RunMemory, RunProgram, Save, Check, Serial, TypeFile, Wave, Plot, ViewRun, Convert, Make, Help}
+use Rattle.p8_commands.specs.Commands.{Command, Dump, RangeOf, Named, Running, BuildSource, ListSource, MapSource, ExplainFile, ExplainNumber, HintSource, RunMemory, RunProgram, Save, Check, Serial, TypeFile, Wave, Plot, ViewRun, Convert, Make, Help}
 use Rattle.p8_commands.specs.Table.{Argument, Entry}
 use Rattle.p8_commands.specs.Naming.{name_of}
 use Rattle.p8_commands.specs.Numbers.{most_clocks, most_turns, most_saved_turns, last_cog, last_pin, last_refusal, least_bits, most_bits}
@@ -18,8 +19,12 @@ use Rattle.p8_commands.specs.Ranges.{IsInRam}
 abbrev pub argument_of : ArgumentHeld → Argument
 argument_of a = record { kind = a.kind; name = a.name.now; value = a.value.now; about = a.about.now }
 
+abbrev pub text_of : Bor (List ℕ) → List ℕ
+text_of text = text.now
+
 abbrev pub entry_in : Row → Entry
-entry_in row = record { word = row.word.now; arguments = map argument_of row.arguments.now; about = row.about.now; example = row.example.now }
+entry_in row =
+    record { word = row.word.now; arguments = map argument_of row.arguments.now; about = row.about.now; examples = map text_of row.examples.now }
 
 abbrev pub running : RunRead → Running
 running run = record { file = run.file.now; clocks = run.clocks; script = name_of run.script; turns = run.turns; dump = run.dump }
@@ -38,6 +43,7 @@ command_read (read.List short file) = ListSource short file.now
 command_read (read.Map file) = MapSource file.now
 command_read (read.ExplainFile file) = ExplainFile file.now
 command_read (read.ExplainNumber number) = ExplainNumber number
+command_read (read.Hint file) = HintSource file.now
 command_read (read.Raw run) = RunMemory (running run)
 command_read (read.Run alone short run) = RunProgram alone short (running run)
 command_read (read.Save raw run) = Save raw (running run)

@@ -17,12 +17,12 @@ pub record Argument : Type 0 where
   pub value : Text
   pub about : Text
 
--- an entry of the table: the word that names the command, its arguments, what it does, and an example of its words
+-- an entry of the table: the word that names the command, its arguments, what it does, and examples of its words
 pub record Entry : Type 0 where
   pub word : Text
   pub arguments : List Argument
   pub about : Text
-  pub example : Text
+  pub examples : List Text
 
 -- ---- the arguments
 
@@ -42,13 +42,15 @@ abbrev pub clocks : Argument
 clocks = operand (codes "CLOCKS") (codes "no turn is made at this clock or later: 1 to 10 digits, at most 100000000")
 
 abbrev pub pins : Argument
-pins = valued (codes "pins") (codes "F") (codes "a pin script, which gives the levels of the input pins; else all are low")
+pins =
+    valued (codes "pins") (codes "F")
+    (codes "a pin script, with a line CLOCK LEVELS for each change of the input pins: 1 to 10 digits, one space and 8 hexadecimal digits, bit p for pin p, as 9000 00000001, with clocks that rise; else all are low")
 
 abbrev pub turns : Argument
-turns = valued (codes "turns") (codes "K") (codes "how many turns are made at most: 1 to 10 digits, at most 1000000; else 100000")
+turns = valued (codes "turns") (codes "K") (codes "the run ends after K turns too: 1 to 10 digits, at most 1000000; else 100000")
 
 abbrev pub saved_turns : Argument
-saved_turns = valued (codes "turns") (codes "K") (codes "how many turns are made at most: 1 to 10 digits, at most 40000; else 40000")
+saved_turns = valued (codes "turns") (codes "K") (codes "the run ends after K turns too: 1 to 10 digits, at most 40000; else 40000")
 
 abbrev pub dump : Argument
 dump =
@@ -111,60 +113,72 @@ run_options = clocks ∷ pins ∷ turns ∷ dump ∷ []
 
 -- ---- the table
 
+abbrev pub raw_entry : Entry
+raw_entry = record {
+  word = codes "raw";
+  arguments = operand (codes "FILE") (codes "the bytes of hub memory from address 0000 on, at most 32768; cog 0 starts on them as PASM") ∷ run_options;
+  about = codes "Runs hub memory up to a clock, and writes the trace.";
+  examples = codes "prop raw hub.bin 20000 --turns 100" ∷ codes "prop raw hub.bin 20000 --pins button.pins" ∷ [];
+}
+
+abbrev pub run_entry : Entry
+run_entry = record {
+  word = codes "run";
+  arguments = operand (codes "FILE") (codes "an image where the name ends in .binary or .eeprom, and else a source in Spin") ∷ run_options ++ alone ∷ short ∷ [];
+  about = codes "Runs an image or a source up to a clock, and writes the trace.";
+  examples = codes "prop run blink.spin 20000 --dump 0000:16" ∷ codes "prop run blink.binary 200000 --pins button.pins --alone" ∷ [];
+}
+
 abbrev pub entry_of : Subcommand → Entry
 entry_of named.Build = record {
   word = codes "build";
   arguments = source_file ∷ short ∷ [];
   about = codes "Writes the image of a source, as a .binary file holds it.";
-  example = codes "prop build blink.spin";
+  examples = codes "prop build blink.spin > blink.binary" ∷ codes "prop build blink.spin --short" ∷ [];
 }
 entry_of named.List = record {
   word = codes "list";
   arguments = source_file ∷ short ∷ [];
   about = codes "Writes the listing of a source: its objects, their methods, and the code of each.";
-  example = codes "prop list blink.spin";
+  examples = codes "prop list blink.spin" ∷ codes "prop list blink.spin --short" ∷ [];
 }
 entry_of named.Map = record {
   word = codes "map";
   arguments = source_file ∷ [];
   about = codes "Writes the map of a source: where in the hub each variable, label, method and text of its objects stands.";
-  example = codes "prop map blink.spin";
+  examples = codes "prop map blink.spin" ∷ codes "prop map blink.spin | less" ∷ [];
 }
 entry_of named.Explain = record {
   word = codes "explain";
   arguments = explained ∷ [];
   about = codes "Tells why a source is refused, with the line that is and what mends it; or tells a refusal by its number.";
-  example = codes "prop explain blink.spin";
+  examples = codes "prop explain blink.spin" ∷ codes "prop explain 12" ∷ [];
 }
-entry_of named.Raw = record {
-  word = codes "raw";
-  arguments = operand (codes "FILE") (codes "the bytes of hub memory from address 0000 on, at most 32768; cog 0 starts on them as PASM") ∷ run_options;
-  about = codes "Runs hub memory up to a clock, and writes the trace.";
-  example = codes "prop raw hub.bin 20000 --turns 100";
+entry_of named.Hint = record {
+  word = codes "hint";
+  arguments = source_file ∷ [];
+  about = codes "Tells what is accepted in a source and is most likely a slip, each with its line; or that there is nothing to hint at.";
+  examples = codes "prop hint blink.spin" ∷ codes "prop hint blink.spin | less" ∷ [];
 }
-entry_of named.Run = record {
-  word = codes "run";
-  arguments = operand (codes "FILE") (codes "an image where the name ends in .binary or .eeprom, and else a source in Spin") ∷ run_options ++ alone ∷ short ∷ [];
-  about = codes "Runs an image or a source up to a clock, and writes the trace.";
-  example = codes "prop run blink.spin 20000 --dump 0000:16";
-}
+entry_of named.Raw = raw_entry
+entry_of named.Run = run_entry
 entry_of named.Save = record {
   word = codes "save";
   arguments = any_file ∷ clocks ∷ pins ∷ saved_turns ∷ raw ∷ [];
   about = codes "Runs a file up to a clock, and writes the history, from which check tells whether a run has it.";
-  example = codes "prop save blink.spin 20000";
+  examples = codes "prop save blink.spin 20000 > blink.history" ∷ codes "prop save blink.spin 20000 --turns 500" ∷ [];
 }
 entry_of named.Check = record {
   word = codes "check";
   arguments = any_file ∷ operand (codes "HISTORY") (codes "the history of a run of FILE, as save writes it") ∷ pins ∷ raw ∷ [];
   about = codes "Checks that a history is that of a run of a file: writes its number of turns, or tells the first turn that isn't.";
-  example = codes "prop check blink.spin blink.history";
+  examples = codes "prop check blink.spin blink.history" ∷ codes "prop check blink.binary blink.history --pins button.pins" ∷ [];
 }
 entry_of named.Serial = record {
   word = codes "serial";
   arguments = any_file ∷ clocks ∷ pin ∷ bits ∷ pins ∷ turns ∷ raw ∷ [];
   about = codes "Runs a file up to a clock, and writes the bytes that stand on a pin as 8 data bits, no parity and one stop bit.";
-  example = codes "prop serial hello.spin 200000 30 694";
+  examples = codes "prop serial hello.spin 200000 30 694" ∷ codes "prop serial echo.spin 400000 30 694 --pins hello.pins" ∷ [];
 }
 entry_of named.TypeFile = record {
   word = codes "type";
@@ -172,19 +186,19 @@ entry_of named.TypeFile = record {
       operand (codes "FILE") (codes "the bytes to send, at most 5000") ∷ pin ∷ bits
       ∷ operand (codes "START") (codes "the clock at which the first byte begins: 1 to 10 digits, from 1 to 100000000") ∷ [];
   about = codes "Writes a pin script that sends the bytes of a file on a pin, as serial reads them.";
-  example = codes "prop type hello.txt 31 694 20000";
+  examples = codes "prop type hello.txt 31 694 20000 > hello.pins" ∷ codes "prop type hello.txt 0 100 1000" ∷ [];
 }
 entry_of named.Wave = record {
   word = codes "wave";
   arguments = any_file ∷ clocks ∷ pins ∷ turns ∷ raw ∷ flag (codes "all") (codes "shows what never changes too") ∷ pins_only ∷ alone ∷ [];
   about = codes "Runs a file up to a clock, and writes the wave of its pins, cogs and locks as a value change dump.";
-  example = codes "prop wave blink.spin 200000";
+  examples = codes "prop wave blink.spin 200000 > blink.vcd" ∷ codes "prop wave blink.spin 200000 --all --pins-only" ∷ [];
 }
 entry_of named.Plot = record {
   word = codes "plot";
   arguments = any_file ∷ clocks ∷ shown_pins ∷ shown_clocks ∷ pins ∷ turns ∷ raw ∷ flag (codes "ascii") (codes "draws with characters of ASCII alone") ∷ alone ∷ [];
   about = codes "Runs a file up to a clock, and draws the levels of some pins as text, a line for each pin.";
-  example = codes "prop plot blink.spin 200000 16";
+  examples = codes "prop plot blink.spin 200000 16" ∷ codes "prop plot blink.spin 200000 0,16-23 1000:9000 --ascii" ∷ [];
 }
 entry_of named.View = record {
   word = codes "view";
@@ -192,31 +206,31 @@ entry_of named.View = record {
       any_file ∷ clocks ∷ pins ∷ turns ∷ flag (codes "alone") (codes "changes nothing: one thread makes all turns in any case") ∷ raw ∷ cog ∷ from ∷ to
       ∷ flag (codes "pins-only") (codes "shows what changes pins alone") ∷ flag (codes "quiet") (codes "shows no turn, and tells the end alone") ∷ named_dump ∷ [];
   about = codes "Runs a file up to a clock, and writes its history for reading, with the names and the lines of a source, and what each cog does in the end.";
-  example = codes "prop view blink.spin 20000 --cog 1";
+  examples = codes "prop view blink.spin 20000 --cog 1" ∷ codes "prop view blink.spin 200000 --quiet --dump ser.rx_head" ∷ [];
 }
 entry_of named.Convert = record {
   word = codes "convert";
   arguments = operand (codes "FILE") (codes "an image, whose name ends in .binary or .eeprom") ∷ [];
   about = codes "Writes an image as the other kind of file: of a .binary the .eeprom, of an .eeprom the .binary.";
-  example = codes "prop convert blink.binary";
+  examples = codes "prop convert blink.binary > blink.eeprom" ∷ codes "prop convert blink.eeprom > blink.binary" ∷ [];
 }
 entry_of named.Make = record {
   word = codes "make";
   arguments = operand (codes "SEED") (codes "the number of a made program: 1 to 10 digits, at most 4294967295") ∷ alone ∷ [];
   about = codes "Runs a made program for eight cogs, and writes a summary.";
-  example = codes "prop make 1";
+  examples = codes "prop make 1" ∷ codes "prop make 4294967295 --alone" ∷ [];
 }
 entry_of named.Help = record {
   word = codes "help";
   arguments = optional (codes "COMMAND") (codes "the word of a command; else all commands are told") ∷ [];
-  about = codes "Writes what a command does, its arguments, their limits and an example.";
-  example = codes "prop help run";
+  about = codes "Writes what a command does, its arguments, their limits and two examples.";
+  examples = codes "prop help run" ∷ codes "prop help" ∷ [];
 }
 
 -- all commands, in the order in which they are told
 abbrev pub subcommands : List Subcommand
 subcommands =
-    named.Build ∷ named.List ∷ named.Map ∷ named.Explain ∷ named.Raw ∷ named.Run ∷ named.Save ∷ named.Check ∷ named.Serial ∷ named.TypeFile ∷ named.Wave
+    named.Build ∷ named.List ∷ named.Map ∷ named.Explain ∷ named.Hint ∷ named.Raw ∷ named.Run ∷ named.Save ∷ named.Check ∷ named.Serial ∷ named.TypeFile ∷ named.Wave
     ∷ named.Plot ∷ named.View ∷ named.Convert ∷ named.Make ∷ named.Help ∷ []
 
 -- the command that a word names

@@ -55,6 +55,10 @@ pub enum Command<'a> {
         /// Its number, 1 to 30.
         number: u8,
     },
+    /// Hints at what is accepted in a source and is most likely a slip.
+    Hint {
+        file: &'a str,
+    },
     /// Writes the trace of a run of hub memory, by one thread.
     Raw {
         run: Run<'a>,
@@ -166,6 +170,7 @@ impl Command<'_> {
             Command::ExplainFile { .. } => true,
             Command::Build { .. } | Command::List { .. } => false,
             Command::Map { .. } | Command::ExplainNumber { .. } => false,
+            Command::Hint { .. } => false,
             Command::Raw { .. } | Command::Run { .. } => false,
             Command::Save { .. } | Command::Check { .. } => false,
             Command::Serial { .. } | Command::TypeFile { .. } => false,
@@ -183,6 +188,7 @@ impl Command<'_> {
             Command::Build { .. } | Command::List { .. } => true,
             Command::Map { .. } => true,
             Command::ExplainFile { .. } | Command::ExplainNumber { .. } => true,
+            Command::Hint { .. } => true,
             Command::Raw { .. } | Command::Save { .. } => true,
             Command::Check { .. } | Command::Convert { .. } => true,
             Command::Serial { .. } | Command::TypeFile { .. } => true,

@@ -2,7 +2,7 @@
 ghost use Rattle.std.specs.Prelude.{◌≡◌, ◌++◌, None, map, IfOk, OnOk};
 ghost use Rattle.std.specs.List.{flat_map};
 ghost use Rattle.p8_commands.specs.Pages.{spelled, spelled_by, words_line, argument_line, about_line, example_line, page_of, summary_of, help_text};
-ghost use Rattle.p8_commands.specs.Seen.{argument_of, entry_in};
+ghost use Rattle.p8_commands.specs.Seen.{argument_of, entry_in, text_of};
 
 use crate::table::{Argument, ArgumentKind, Row, Subcommand};
 use p8_words::NoMemory;
@@ -96,12 +96,22 @@ fn push_about_line(out: &mut Vec<u8>, row: Row) -> Result<(), NoMemory>
 
 /// Appends the line of an example.
 #[tactic(auto, unfolding(crate::specs::Pages::example_line))]
-fn push_example_line(out: &mut Vec<u8>, row: Row) -> Result<(), NoMemory>
-    ensures { OnOk result (out.new.items ≡ out.old.items ++ example_line (entry_in row)) }
+fn push_example_line(out: &mut Vec<u8>, example: &[u8]) -> Result<(), NoMemory>
+    ensures { OnOk result (out.new.items ≡ out.old.items ++ example_line example.now) }
 {
     out.extend_from_slice(b"e.g. ")?;
-    out.extend_from_slice(row.example.as_bytes())?;
+    out.extend_from_slice(example)?;
     out.extend_from_slice(b"\n")?;
+    Ok(())
+}
+
+/// Appends the lines of some examples.
+fn push_example_lines(out: &mut Vec<u8>, examples: &[&str]) -> Result<(), NoMemory>
+    ensures { OnOk result (out.new.items ≡ out.old.items ++ flat_map example_line (map text_of examples.now)) }
+{
+    for example in examples {
+        push_example_line(out, example.as_bytes())?;
+    }
     Ok(())
 }
 
@@ -112,7 +122,7 @@ fn push_page(out: &mut Vec<u8>, row: Row) -> Result<(), NoMemory>
     push_words_line(out, row)?;
     push_about_line(out, row)?;
     push_argument_lines(out, row.arguments)?;
-    push_example_line(out, row)?;
+    push_example_lines(out, row.examples)?;
     Ok(())
 }
 
@@ -137,7 +147,7 @@ fn push_all(out: &mut Vec<u8>) -> Result<(), NoMemory>
     Ok(())
 }
 
-/// The page of a command, with its words, what it does, its arguments with their limits, and an example; or, where no command is named,
+/// The page of a command, with its words, what it does, its arguments with their limits, and examples; or, where no command is named,
 /// the words of each and what it does. The only error is want of memory.
 pub fn help_page(alloc: Global, topic: Option<Subcommand>) -> Result<Vec<u8>, NoMemory>
     ensures { IfOk result (λ text. text.items ≡ help_text topic) }

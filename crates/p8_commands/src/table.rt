@@ -35,8 +35,8 @@ pub struct Row {
     pub arguments: &'static [Argument],
     /// What the command does.
     pub about: &'static str,
-    /// An example of its words.
-    pub example: &'static str,
+    /// Examples of its words.
+    pub examples: &'static [&'static str],
 }
 
 /// A command, by the first of its words.
@@ -50,6 +50,8 @@ pub enum Subcommand {
     Map,
     /// Tells why a source is refused, or tells a refusal.
     Explain,
+    /// Tells what is most likely a slip in a source.
+    Hint,
     /// Runs hub memory.
     Raw,
     /// Runs an image or a source.
@@ -94,21 +96,21 @@ const PINS: Argument = Argument {
     kind: ArgumentKind::Valued,
     name: "pins",
     value: "F",
-    about: "a pin script, which gives the levels of the input pins; else all are low",
+    about: "a pin script, with a line CLOCK LEVELS for each change of the input pins: 1 to 10 digits, one space and 8 hexadecimal digits, bit p for pin p, as 9000 00000001, with clocks that rise; else all are low",
 };
 
 const TURNS: Argument = Argument {
     kind: ArgumentKind::Valued,
     name: "turns",
     value: "K",
-    about: "how many turns are made at most: 1 to 10 digits, at most 1000000; else 100000",
+    about: "the run ends after K turns too: 1 to 10 digits, at most 1000000; else 100000",
 };
 
 const SAVED_TURNS: Argument = Argument {
     kind: ArgumentKind::Valued,
     name: "turns",
     value: "K",
-    about: "how many turns are made at most: 1 to 10 digits, at most 40000; else 40000",
+    about: "the run ends after K turns too: 1 to 10 digits, at most 40000; else 40000",
 };
 
 const DUMP: Argument = Argument {
@@ -317,6 +319,7 @@ impl Subcommand {
             Subcommand::List,
             Subcommand::Map,
             Subcommand::Explain,
+            Subcommand::Hint,
             Subcommand::Raw,
             Subcommand::Run,
             Subcommand::Save,
@@ -341,67 +344,97 @@ impl Subcommand {
                 word: "build",
                 arguments: &[SOURCE_FILE, SHORT],
                 about: "Writes the image of a source, as a .binary file holds it.",
-                example: "prop build blink.spin",
+                examples: &[
+                    "prop build blink.spin > blink.binary",
+                    "prop build blink.spin --short",
+                ],
             },
             Subcommand::List => Row {
                 word: "list",
                 arguments: &[SOURCE_FILE, SHORT],
                 about: "Writes the listing of a source: its objects, their methods, and the code of each.",
-                example: "prop list blink.spin",
+                examples: &["prop list blink.spin", "prop list blink.spin --short"],
             },
             Subcommand::Map => Row {
                 word: "map",
                 arguments: &[SOURCE_FILE],
                 about: "Writes the map of a source: where in the hub each variable, label, method and text of its objects stands.",
-                example: "prop map blink.spin",
+                examples: &["prop map blink.spin", "prop map blink.spin | less"],
             },
             Subcommand::Explain => Row {
                 word: "explain",
                 arguments: &[EXPLAINED],
                 about: "Tells why a source is refused, with the line that is and what mends it; or tells a refusal by its number.",
-                example: "prop explain blink.spin",
+                examples: &["prop explain blink.spin", "prop explain 12"],
+            },
+            Subcommand::Hint => Row {
+                word: "hint",
+                arguments: &[SOURCE_FILE],
+                about: "Tells what is accepted in a source and is most likely a slip, each with its line; or that there is nothing to hint at.",
+                examples: &["prop hint blink.spin", "prop hint blink.spin | less"],
             },
             Subcommand::Raw => Row {
                 word: "raw",
                 arguments: &[MEMORY_FILE, CLOCKS, PINS, TURNS, DUMP],
                 about: "Runs hub memory up to a clock, and writes the trace.",
-                example: "prop raw hub.bin 20000 --turns 100",
+                examples: &[
+                    "prop raw hub.bin 20000 --turns 100",
+                    "prop raw hub.bin 20000 --pins button.pins",
+                ],
             },
             Subcommand::Run => Row {
                 word: "run",
                 arguments: &[PROGRAM_FILE, CLOCKS, PINS, TURNS, DUMP, ALONE, SHORT],
                 about: "Runs an image or a source up to a clock, and writes the trace.",
-                example: "prop run blink.spin 20000 --dump 0000:16",
+                examples: &[
+                    "prop run blink.spin 20000 --dump 0000:16",
+                    "prop run blink.binary 200000 --pins button.pins --alone",
+                ],
             },
             Subcommand::Save => Row {
                 word: "save",
                 arguments: &[ANY_FILE, CLOCKS, PINS, SAVED_TURNS, RAW],
                 about: "Runs a file up to a clock, and writes the history, from which check tells whether a run has it.",
-                example: "prop save blink.spin 20000",
+                examples: &[
+                    "prop save blink.spin 20000 > blink.history",
+                    "prop save blink.spin 20000 --turns 500",
+                ],
             },
             Subcommand::Check => Row {
                 word: "check",
                 arguments: &[ANY_FILE, HISTORY_FILE, PINS, RAW],
                 about: "Checks that a history is that of a run of a file: writes its number of turns, or tells the first turn that isn't.",
-                example: "prop check blink.spin blink.history",
+                examples: &[
+                    "prop check blink.spin blink.history",
+                    "prop check blink.binary blink.history --pins button.pins",
+                ],
             },
             Subcommand::Serial => Row {
                 word: "serial",
                 arguments: &[ANY_FILE, CLOCKS, PIN, BITS, PINS, TURNS, RAW],
                 about: "Runs a file up to a clock, and writes the bytes that stand on a pin as 8 data bits, no parity and one stop bit.",
-                example: "prop serial hello.spin 200000 30 694",
+                examples: &[
+                    "prop serial hello.spin 200000 30 694",
+                    "prop serial echo.spin 400000 30 694 --pins hello.pins",
+                ],
             },
             Subcommand::TypeFile => Row {
                 word: "type",
                 arguments: &[MESSAGE_FILE, PIN, BITS, START],
                 about: "Writes a pin script that sends the bytes of a file on a pin, as serial reads them.",
-                example: "prop type hello.txt 31 694 20000",
+                examples: &[
+                    "prop type hello.txt 31 694 20000 > hello.pins",
+                    "prop type hello.txt 0 100 1000",
+                ],
             },
             Subcommand::Wave => Row {
                 word: "wave",
                 arguments: &[ANY_FILE, CLOCKS, PINS, TURNS, RAW, ALL, PINS_ONLY, ALONE],
                 about: "Runs a file up to a clock, and writes the wave of its pins, cogs and locks as a value change dump.",
-                example: "prop wave blink.spin 200000",
+                examples: &[
+                    "prop wave blink.spin 200000 > blink.vcd",
+                    "prop wave blink.spin 200000 --all --pins-only",
+                ],
             },
             Subcommand::Plot => Row {
                 word: "plot",
@@ -417,7 +450,10 @@ impl Subcommand {
                     ALONE,
                 ],
                 about: "Runs a file up to a clock, and draws the levels of some pins as text, a line for each pin.",
-                example: "prop plot blink.spin 200000 16",
+                examples: &[
+                    "prop plot blink.spin 200000 16",
+                    "prop plot blink.spin 200000 0,16-23 1000:9000 --ascii",
+                ],
             },
             Subcommand::View => Row {
                 word: "view",
@@ -436,25 +472,31 @@ impl Subcommand {
                     NAMED_DUMP,
                 ],
                 about: "Runs a file up to a clock, and writes its history for reading, with the names and the lines of a source, and what each cog does in the end.",
-                example: "prop view blink.spin 20000 --cog 1",
+                examples: &[
+                    "prop view blink.spin 20000 --cog 1",
+                    "prop view blink.spin 200000 --quiet --dump ser.rx_head",
+                ],
             },
             Subcommand::Convert => Row {
                 word: "convert",
                 arguments: &[IMAGE_FILE],
                 about: "Writes an image as the other kind of file: of a .binary the .eeprom, of an .eeprom the .binary.",
-                example: "prop convert blink.binary",
+                examples: &[
+                    "prop convert blink.binary > blink.eeprom",
+                    "prop convert blink.eeprom > blink.binary",
+                ],
             },
             Subcommand::Make => Row {
                 word: "make",
                 arguments: &[SEED, ALONE],
                 about: "Runs a made program for eight cogs, and writes a summary.",
-                example: "prop make 1",
+                examples: &["prop make 1", "prop make 4294967295 --alone"],
             },
             Subcommand::Help => Row {
                 word: "help",
                 arguments: &[TOPIC],
-                about: "Writes what a command does, its arguments, their limits and an example.",
-                example: "prop help run",
+                about: "Writes what a command does, its arguments, their limits and two examples.",
+                examples: &["prop help run", "prop help"],
             },
         }
     }

@@ -277,7 +277,7 @@ fn explain_in(word: &str) -> Option<Command<'_>>
     ensures seen { command_if_any result ≡ explain_of word.now }
     ensures within { IfSome result HasLimits }
 {
-    if is_of_digits(word.as_bytes()) {
+    if !word.is_empty() && is_of_digits(word.as_bytes()) {
         return Some(Command::ExplainNumber {
             number: refusal_in(word.as_bytes())?,
         });
@@ -332,6 +332,9 @@ fn meaning_in<'a>(command: Subcommand, matches: &ArgMatches<'a>) -> Option<Comma
             file: matches.get_str("FILE")?,
         }),
         Subcommand::Explain => explain_in(matches.get_str("WORD")?),
+        Subcommand::Hint => Some(Command::Hint {
+            file: matches.get_str("FILE")?,
+        }),
         Subcommand::Raw => Some(Command::Raw {
             run: traced_in(matches)?,
         }),
