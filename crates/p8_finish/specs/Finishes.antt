@@ -6,8 +6,8 @@ use Rattle.p8_access.specs.Worlds.{World}
 use Rattle.p8_finish.specs.Summary.{summary_of}
 use Rattle.p8_wave.specs.Plot.{plot_of}
 use Rattle.p8_report.specs.Text.{text_of}
-use Rattle.p8_wave.specs.SerialLaws.{IsRate}
-use Rattle.p8_wave.specs.Serial.{serial_of}
+use Rattle.p8_serial.specs.Laws.{IsRate}
+use Rattle.p8_serial.specs.Serial.{serial_of}
 use Rattle.p8_verify.specs.Files.{file_of, HasFile}
 use Rattle.p8_wave.specs.Wave.{wave_of}
 use Rattle.p8_finish.specs.declared.finish.Finish.{Finish}

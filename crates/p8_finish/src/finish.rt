@@ -11,8 +11,9 @@ use crate::summary_text::summary;
 use p8_ledger::{Ended, History};
 use p8_pins::PinScript;
 use p8_report::trace;
+use p8_serial::serial_text;
 use p8_verify::history_bytes;
-use p8_wave::{Selection, View, plot, serial_text, wave};
+use p8_wave::{Selection, View, plot, wave};
 use p8_words::NoMemory;
 use std::alloc::Global;
 

@@ -24,11 +24,12 @@ use Rattle.p8_build.specs.Sizes.{IsMeasured}
 use Rattle.p8_build.specs.Told.{IsImageBuilt, IsBuiltTo}
 use Rattle.p8_legend.specs.declared.legend.Legend.{Legend}
 use Rattle.p8_map.specs.Projects.{IsMapOf}
+use Rattle.p8_hint.specs.Projects.{IsHintsOf}
 use Rattle.p8_legend.specs.Projects.{IsLegendOf}
 use Rattle.p8_opt.specs.Shorts.{IsShortImageBuilt, IsShortBuiltTo}
 use Rattle.p8_inputs.specs.Gathered.{StopsAtBuilding, IsImageBuiltBy, AreBuiltBy, IsListingOf}
 use Rattle.p8_inputs.specs.Runs.{HasProperTrees}
-use Rattle.p8_inputs.specs.Sources.{GathersTo, IsImageFrom, IsListingFrom, IsMapFrom, IsProjectLegend, when_built}
+use Rattle.p8_inputs.specs.Sources.{GathersTo, IsImageFrom, IsListingFrom, IsMapFrom, IsHintsFrom, IsProjectLegend, when_built}
 use Rattle.p8_inputs.specs.Asks.{StopsAtProgram}
 
 -- what is built is built by the choice
@@ -54,6 +55,9 @@ module _ (files : Files) (short : Bool) (top : List ℕ) (sources : List NamedSo
 
   pub map-from : (texts : List (List ℕ)) → AreSources files sources texts → (text : List ℕ) → IsMapOf texts sources text → IsMapFrom files top text
   map-from texts are text is = (sources, gathered, texts, are, is)
+
+  pub hints-from : (texts : List (List ℕ)) → AreSources files sources texts → (text : List ℕ) → IsHintsOf texts sources text → IsHintsFrom files top text
+  hints-from texts are text is = (sources, gathered, texts, are, is)
 
   pub legend-from : (texts : List (List ℕ)) → AreSources files sources texts → (legend : Legend) → IsLegendOf texts sources legend → IsProjectLegend files top legend
   legend-from texts are legend is = (sources, gathered, texts, are, is)

@@ -18,6 +18,7 @@ use Rattle.p8_pins.specs.Scripts.{IsReadAs, IsFault}
 use Rattle.p8_pins.proofs.Scripting.{read-same, read-not_bad, fault-one}
 use Rattle.p8_build.specs.Builds.{objects_of}
 use Rattle.p8_map.specs.Projects.{IsMapOf}
+use Rattle.p8_hint.specs.Projects.{IsHintsOf}
 use Rattle.p8_image.specs.Listing.{listing_of}
 use Rattle.std.specs.Prelude.{map}
 use Rattle.p8_build.specs.declared.sizes.Size.{Size}
@@ -26,11 +27,11 @@ use Rattle.p8_inputs.specs.declared.program.Format.TheVariants.{Memory, Image, E
 use Rattle.p8_inputs.specs.declared.stop.Stop.{Stop}
 use Rattle.p8_inputs.specs.declared.stop.Stop.TheVariants.{Unread, Missing, NoMemory, Refused, BadProgram, BadScript, Unnamed}
 use Rattle.p8_inputs.specs.Programs.{fault_of}
-use Rattle.p8_inputs.specs.Sources.{HasOneOutcome, IsBuiltFrom, IsListingFrom, IsMapFrom}
+use Rattle.p8_inputs.specs.Sources.{HasOneOutcome, IsBuiltFrom, IsListingFrom, IsMapFrom, IsHintsFrom}
 use Rattle.p8_inputs.specs.Inputs.{IsProgram, IsScriptFor, IsProgramUnread, HasFault}
-use Rattle.p8_inputs.specs.Asks.{most_sent, Ask, program, viewing, listing, mapping, script, history, message, Given, bytes, viewed, lines, Gives, Give, StopsAtFile, StopsAtMessage, StopsAtProgram, StopsAtScript, IsUnnamed, StopsAt, StopsFirst, Stops, IsOfFiles, HasOneReading}
+use Rattle.p8_inputs.specs.Asks.{most_sent, Ask, program, viewing, listing, mapping, hinting, script, history, message, Given, bytes, viewed, lines, Gives, Give, StopsAtFile, StopsAtMessage, StopsAtProgram, StopsAtScript, IsUnnamed, StopsAt, StopsFirst, Stops, IsOfFiles, HasOneReading}
 use Rattle.p8_inputs.specs.Legends.{IsLegendFrom, HasName, range_in}
-use Rattle.p8_inputs.proofs.Mapping.{map-built}
+use Rattle.p8_inputs.proofs.Mapping.{map-built, hints-built}
 use Rattle.p8_inputs.proofs.Naming.{same-nothing}
 use Rattle.p8_inputs.proofs.Stopping.{first-or_memory}
 
@@ -199,6 +200,13 @@ module _ (files : List ℕ → Option (List ℕ)) where
         let objects : List ObjectPart = objects_of is.0 map.children map.compiled in
         (image_of map.clock objects, (is.0, map.clock, objects, record { gathered = is.1; built = map-built is.2 is.0 text map }, refl))
 
+    -- what has hints has an image
+    image-of_hints : (file text : List ℕ) → IsHintsFrom (Some files) file text → (image : List ℕ) × IsProgram (Some files) (Source false) file image
+    image-of_hints file text is =
+        let hints : IsHintsOf is.2 is.0 text = is.4 in
+        let objects : List ObjectPart = objects_of is.0 hints.children hints.compiled in
+        (image_of hints.clock objects, (is.0, hints.clock, objects, record { gathered = is.1; built = hints-built is.2 is.0 text hints }, refl))
+
     program-stop-one : (before now : ℕ) (format : Format) (file : List ℕ) (a b : Stop) → IsOfFiles a → IsOfFiles b → StopsAtProgram (Some files) before now format file a → StopsAtProgram (Some files) before now format file b → a ≡ b
     program-stop-one before now (Source short) file (Missing a k) (Missing b l) s t p q = missing-same (one.one_missing before now file a b k l p q)
     program-stop-one before now (Source short) file (Missing a k) (Refused b n v) s t p q = absurd (one.missing_or_refused before now file a b k n v p q)
@@ -303,6 +311,7 @@ module _ (files : List ℕ → Option (List ℕ)) where
         λ i. viewed (text i) (legend i)
     gives-one (listing short file) (bytes xs) (bytes ys) p q = ap bytes (listing-one short file xs ys p q)
     gives-one (mapping file) (bytes xs) (bytes ys) p q = ap bytes (one.one_map file xs ys p q)
+    gives-one (hinting file) (bytes xs) (bytes ys) p q = ap bytes (one.one_hints file xs ys p q)
     gives-one (script file) (lines xs) (lines ys) p q = ap lines (script-one file xs ys p q)
     gives-one (history file) (bytes xs) (bytes ys) p q = ap bytes (read-one file xs ys p q)
     gives-one (message file) (bytes xs) (bytes ys) p q = ap bytes (read-one file xs ys p.0 q.0)
@@ -313,7 +322,9 @@ module _ (files : List ℕ → Option (List ℕ)) where
     gives-one (listing short file) (bytes xs) b p q = absurd q
     gives-one (listing short file) a b p q = absurd p
     gives-one (mapping file) (bytes xs) b p q = absurd q
+    gives-one (hinting file) (bytes xs) b p q = absurd q
     gives-one (mapping file) a b p q = absurd p
+    gives-one (hinting file) a b p q = absurd p
     gives-one (script file) (lines xs) b p q = absurd q
     gives-one (script file) a b p q = absurd p
     gives-one (history file) (bytes xs) b p q = absurd q
@@ -326,6 +337,7 @@ module _ (files : List ℕ → Option (List ℕ)) where
     stop-one before now (viewing format file name) a b s t p q = viewing-stop-one before now format file name a b s t p q
     stop-one before now (listing short file) a b s t p q = program-stop-one before now (Source short) file a b s t p q
     stop-one before now (mapping file) a b s t p q = program-stop-one before now (Source false) file a b s t p q
+    stop-one before now (hinting file) a b s t p q = program-stop-one before now (Source false) file a b s t p q
     stop-one before now (script file) a b s t p q = script-stop-one before now file a b s t p q
     stop-one before now (history file) a b s t p q = file-stop-one before now file a b s t p q
     stop-one before now (message file) a b s t p q = message-stop-one before now file a b s t p q
@@ -336,6 +348,9 @@ module _ (files : List ℕ → Option (List ℕ)) where
     never-both before now (mapping file) (bytes xs) stop s is stops =
         let built = image-of_map file xs is in
         program-never_both before now (Source false) file built.0 stop s built.1 stops
+    never-both before now (hinting file) (bytes xs) stop s is stops =
+        let built = image-of_hints file xs is in
+        program-never_both before now (Source false) file built.0 stop s built.1 stops
     never-both before now (viewing format file name) (viewed xs legend) stop s is stops = viewing-never_both before now format file xs legend name stop s is stops
     never-both before now (script file) (lines xs) stop s is stops = script-never_both before now file xs stop s is stops
     never-both before now (history file) (bytes xs) stop s is stops = file-never_both before now file xs stop s is stops
@@ -344,6 +359,7 @@ module _ (files : List ℕ → Option (List ℕ)) where
     never-both before now (viewing format file name) given stop s is stops = is
     never-both before now (listing short file) given stop s is stops = is
     never-both before now (mapping file) given stop s is stops = is
+    never-both before now (hinting file) given stop s is stops = is
     never-both before now (script file) given stop s is stops = is
     never-both before now (history file) given stop s is stops = is
     never-both before now (message file) given stop s is stops = is
@@ -415,6 +431,7 @@ ask-unread-rose files before now (viewing format file other) name (inl unread) =
 ask-unread-rose files before now (viewing format file other) name (inr none) = absurd none
 ask-unread-rose files before now (listing short file) name unread = program-unread-rose files before now (Source short) file name unread
 ask-unread-rose files before now (mapping file) name unread = program-unread-rose files before now (Source false) file name unread
+ask-unread-rose files before now (hinting file) name unread = program-unread-rose files before now (Source false) file name unread
 ask-unread-rose files before now (script file) name unread = unread.1
 ask-unread-rose files before now (history file) name unread = unread.1
 ask-unread-rose files before now (message file) name unread = unread.1

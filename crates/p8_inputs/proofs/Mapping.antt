@@ -1,4 +1,4 @@
--- A project has one map, and an image where it has a map.
+-- A project has one map, and an image where it has a map or hints.
 use Rattle.std.proofs.Common.{◌≡◌, ◌∙◌, ap, sym, subst, refl, arith, ℕ, suc, ◌==◌, Bool, List, [], ◌∷◌, length, slice_get, Option, Some}
 use Rattle.std.proofs.lemmas.Option.{same_Some}
 use Rattle.p8_tree.specs.Projects.{NamedSource}
@@ -14,6 +14,7 @@ use Rattle.p8_lexer.specs.Spelling.{text_in}
 use Rattle.p8_map.specs.Map.{map_of}
 use Rattle.p8_map.specs.Names.{file_names}
 use Rattle.p8_map.specs.Projects.{names_of, IsMapOf}
+use Rattle.p8_hint.specs.Projects.{IsHintsOf}
 use Rattle.p8_build.specs.Files.{CompiledFile, setting_of, IsCompiled}
 use Rattle.p8_build.specs.Builds.{AreCompiled, IsBuilt, IsFile, objects_of}
 use Rattle.p8_build.proofs.One.{alike, same_labels, same_setting}
@@ -71,3 +72,7 @@ map-one texts files view a b p q =
 -- a project with a map is built
 pub map-built : (texts : List (List ℕ)) (files : List NamedSource) (text : List ℕ) (is : IsMapOf texts files text) → IsBuilt files is.clock (objects_of files is.children is.compiled)
 map-built texts files text is = record { children = is.children; seen = is.seen; compiled = is.compiled; each = is.each; objects_are = refl; clock_is = is.clock_is; fits = is.fits }
+
+-- so is one with hints
+pub hints-built : (texts : List (List ℕ)) (files : List NamedSource) (text : List ℕ) (is : IsHintsOf texts files text) → IsBuilt files is.clock (objects_of files is.children is.compiled)
+hints-built texts files text is = record { children = is.children; seen = is.seen; compiled = is.compiled; each = is.each; objects_are = refl; clock_is = is.clock_is; fits = is.fits }

@@ -18,9 +18,10 @@ use Rattle.p8_build.specs.Builds.{IsBuilt, IsRefusedWith, objects_of}
 use Rattle.p8_build.specs.Sizes.{IsMeasured}
 use Rattle.p8_build.specs.declared.sizes.Size.{Size}
 use Rattle.p8_map.specs.Projects.{IsMapOf}
+use Rattle.p8_hint.specs.Projects.{IsHintsOf}
 use Rattle.p8_opt.specs.Shorts.{IsShortBuilt}
 use Rattle.p8_legend.specs.Projects.{AreSame, IsLegendOf}
-use Rattle.p8_inputs.specs.Sources.{GathersTo, IsBuiltBy, IsBuiltFrom, IsMapFrom, IsProjectLegend, IsRefusedFrom, while_gathered, when_built, HasOneOutcome}
+use Rattle.p8_inputs.specs.Sources.{GathersTo, IsBuiltBy, IsBuiltFrom, IsMapFrom, IsHintsFrom, IsProjectLegend, IsRefusedFrom, while_gathered, when_built, HasOneOutcome}
 use Rattle.p8_inputs.proofs.Gathering.{distinct, no_ring}
 use Rattle.p8_inputs.proofs.Mapping.{map-one}
 use Rattle.p8_inputs.proofs.Naming.{same-legend}
@@ -94,10 +95,13 @@ OneView = (files : List NamedSource) → seen.AreDistinct files → seen.HaveNoR
 abbrev pub OneLegend : Type 0
 OneLegend = (texts : List (List ℕ)) (files : List NamedSource) → seen.AreDistinct files → seen.HaveNoRing files → (a b : Legend) → IsLegendOf texts files a → IsLegendOf texts files b → AreSame a b
 
+abbrev pub OneHints : Type 0
+OneHints = (texts : List (List ℕ)) (files : List NamedSource) → seen.AreDistinct files → seen.HaveNoRing files → (a b : List ℕ) → IsHintsOf texts files a → IsHintsOf texts files b → a ≡ b
+
 abbrev pub OneRefused : Type 0
 OneRefused = (files : List NamedSource) → seen.AreDistinct files → seen.HaveNoRing files → (a b : List ℕ) (f g : Fault) (s t : Option Size) → IsMeasured files a f s → IsMeasured files b g t → (a ≡ b) × (f ≡ g) × (s ≡ t)
 
-module _ (one : OneGathered) (same : OneBuilt) (refusal : OneRefused) (either : BuiltOrRefused) (short_same : OneShortBuilt) (views : OneView) (legends : OneLegend) (files : List ℕ → Option (List ℕ)) where
+module _ (one : OneGathered) (same : OneBuilt) (refusal : OneRefused) (either : BuiltOrRefused) (short_same : OneShortBuilt) (views : OneView) (legends : OneLegend) (hints : OneHints) (files : List ℕ → Option (List ℕ)) where
   -- what building by a choice comes to is one thing
   built-one : (short : Bool) (sources : List NamedSource) → seen.AreDistinct sources → seen.HaveNoRing sources → (c d : Clock) (a b : List ObjectPart) → IsBuiltBy short sources c a → IsBuiltBy short sources d b → (c ≡ d) × (a ≡ b)
   built-one false sources different none c d a b p q = same sources different none c d a b p q
@@ -124,6 +128,14 @@ module _ (one : OneGathered) (same : OneBuilt) (refusal : OneRefused) (either : 
       let texts : p.2 ≡ q.2 = one-sources files q.0 p.2 q.2 (subst (λ (s : List NamedSource). AreSources (Some files) s p.2) e p.3) q.3 in
       map-one q.2 q.0 (views q.0 (distinct q.0 whole.distinct) (no_ring q.0 whole.no_ring)) a b
       (subst (λ (ts : List (List ℕ)). IsMapOf ts q.0 a) texts (subst (λ (s : List NamedSource). IsMapOf p.2 s a) e p.4)) q.4
+
+  one-hints : (top a b : List ℕ) → IsHintsFrom (Some files) top a → IsHintsFrom (Some files) top b → a ≡ b
+  one-hints top a b p q =
+      let e : p.0 ≡ q.0 = one-project top p.0 q.0 p.1 q.1 in
+      let whole = whole_project (q.1 0 0) in
+      let texts : p.2 ≡ q.2 = one-sources files q.0 p.2 q.2 (subst (λ (s : List NamedSource). AreSources (Some files) s p.2) e p.3) q.3 in
+      hints q.2 q.0 (distinct q.0 whole.distinct) (no_ring q.0 whole.no_ring) a b
+      (subst (λ (ts : List (List ℕ)). IsHintsOf ts q.0 a) texts (subst (λ (s : List NamedSource). IsHintsOf p.2 s a) e p.4)) q.4
 
   one-legend : (top : List ℕ) (a b : Legend) → IsProjectLegend (Some files) top a → IsProjectLegend (Some files) top b → a ≡ b
   one-legend top a b p q =
@@ -165,6 +177,7 @@ module _ (one : OneGathered) (same : OneBuilt) (refusal : OneRefused) (either : 
   one-outcome = record {
     one_image = one-image;
     one_map = one-map;
+    one_hints = one-hints;
     one_legend = one-legend;
     not_missing = λ before now short top name mention sources clock objects g h. project-not_missing (one files before now top (project sources) (missing name mention) (g.gathered before now) h tt tt);
     not_refused = not-refused;

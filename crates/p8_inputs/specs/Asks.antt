@@ -12,21 +12,22 @@ use Rattle.p8_inputs.specs.declared.stop.Stop.{Stop}
 use Rattle.p8_inputs.specs.declared.stop.Stop.TheVariants.{Unread, Missing, NoMemory, Refused, BadProgram, BadScript, Unnamed}
 use Rattle.p8_inputs.specs.Inputs.{IsProgram, IsScriptFor, IsProgramMissing, IsProgramUnread, HasRefusal, HasFault}
 use Rattle.p8_inputs.specs.Legends.{IsLegendFrom, HasName, range_in}
-use Rattle.p8_inputs.specs.Sources.{IsListingFrom, IsMapFrom}
+use Rattle.p8_inputs.specs.Sources.{IsListingFrom, IsMapFrom, IsHintsFrom}
 
 -- an ask: for the program of a file, by what the file is taken for; for that with its legend, in which this name stands, where one is asked for; for the listing of a source, with its short code where it is short; for the map of a
--- source; for the pin script of a file; for the bytes of a history file, whatever they are; or for the bytes of a message, which is to be sent and has at
+-- source; for the hints at what is most likely a slip in a source; for the pin script of a file; for the bytes of a history file, whatever they are; or for the bytes of a message, which is to be sent and has at
 -- most 5,000
 pub data Ask : Type 0 where
   program : Format → (file : List ℕ) → Ask
   viewing : Format → (file : List ℕ) → (name : Option (List ℕ)) → Ask
   listing : (short : Bool) (file : List ℕ) → Ask
   mapping : (file : List ℕ) → Ask
+  hinting : (file : List ℕ) → Ask
   script : (file : List ℕ) → Ask
   history : (file : List ℕ) → Ask
   message : (file : List ℕ) → Ask
 
--- what an ask is given: the bytes of a program, of a listing, of a map, of a history file or of a message, the bytes of a program with its legend, or the
+-- what an ask is given: the bytes of a program, of a listing, of a map, of hints, of a history file or of a message, the bytes of a program with its legend, or the
 -- lines of a pin script
 pub data Given : Type 0 where
   bytes : List ℕ → Given
@@ -62,6 +63,7 @@ Gives files (program format file) (bytes xs) = IsProgram files format file xs
 Gives files (viewing format file name) (viewed xs legend) = IsProgram files format file xs × IsLegendFrom files format file legend × HasName legend name
 Gives files (listing short file) (bytes xs) = IsListingFrom files short file xs
 Gives files (mapping file) (bytes xs) = IsMapFrom files file xs
+Gives files (hinting file) (bytes xs) = IsHintsFrom files file xs
 Gives files (script file) (lines xs) = IsScriptFor files (Some file) xs
 Gives files (history file) (bytes xs) = IsRead files file xs
 Gives files (message file) (bytes xs) = IsRead files file xs × (length xs ≤ most_sent)
@@ -72,7 +74,9 @@ Gives files (viewing format file name) (lines xs) = ⊥
 Gives files (listing short file) (viewed xs legend) = ⊥
 Gives files (listing short file) (lines xs) = ⊥
 Gives files (mapping file) (viewed xs legend) = ⊥
+Gives files (hinting file) (viewed xs legend) = ⊥
 Gives files (mapping file) (lines xs) = ⊥
+Gives files (hinting file) (lines xs) = ⊥
 Gives files (script file) (bytes xs) = ⊥
 Gives files (script file) (viewed xs legend) = ⊥
 Gives files (history file) (viewed xs legend) = ⊥
@@ -167,6 +171,7 @@ StopsAt files before now (program format file) stop = StopsAtProgram files befor
 StopsAt files before now (viewing format file name) stop = StopsAtProgram files before now format file stop ⊎ IsUnnamed files format file name stop
 StopsAt files before now (listing short file) stop = StopsAtProgram files before now (Source short) file stop
 StopsAt files before now (mapping file) stop = StopsAtProgram files before now (Source false) file stop
+StopsAt files before now (hinting file) stop = StopsAtProgram files before now (Source false) file stop
 StopsAt files before now (script file) stop = StopsAtScript files before now file stop
 StopsAt files before now (history file) stop = StopsAtFile files before now file stop
 StopsAt files before now (message file) stop = StopsAtMessage files before now file stop

@@ -15,6 +15,7 @@ use Rattle.p8_build.specs.Builds.{IsBuilt}
 use Rattle.p8_build.specs.Sizes.{IsMeasured}
 use Rattle.p8_build.specs.declared.sizes.Size.{Size}
 use Rattle.p8_map.specs.Projects.{IsMapOf}
+use Rattle.p8_hint.specs.Projects.{IsHintsOf}
 use Rattle.p8_legend.specs.Projects.{IsLegendOf}
 use Rattle.p8_opt.specs.Shorts.{IsShortBuilt}
 use Rattle.p8_image.specs.Listing.{listing_of}
@@ -50,6 +51,11 @@ abbrev pub IsMapFrom : Files → (top text : List ℕ) → Type 0
 IsMapFrom files top text =
     (sources : List NamedSource) × GathersTo files top (project sources) × (texts : List (List ℕ)) × AreSources files sources texts × IsMapOf texts sources text
 
+-- this text hints at what is most likely a slip in the project of a top file, by the bytes of its files
+abbrev pub IsHintsFrom : Files → (top text : List ℕ) → Type 0
+IsHintsFrom files top text =
+    (sources : List NamedSource) × GathersTo files top (project sources) × (texts : List (List ℕ)) × AreSources files sources texts × IsHintsOf texts sources text
+
 -- this legend is that of the project of a top file, by the bytes of its files
 abbrev pub IsProjectLegend : Files → (top : List ℕ) → Legend → Type 0
 IsProjectLegend files top legend =
@@ -68,6 +74,7 @@ pub record HasOneOutcome (files : List ℕ → Option (List ℕ)) : Type 0 where
       → IsBuiltFrom (Some files) short top some clock objects → IsBuiltFrom (Some files) short top others other parts
       → (some ≡ others) × (clock ≡ other) × (objects ≡ parts)
   pub one_map : (top a b : List ℕ) → IsMapFrom (Some files) top a → IsMapFrom (Some files) top b → a ≡ b
+  pub one_hints : (top a b : List ℕ) → IsHintsFrom (Some files) top a → IsHintsFrom (Some files) top b → a ≡ b
   pub one_legend : (top : List ℕ) (a b : Legend) → IsProjectLegend (Some files) top a → IsProjectLegend (Some files) top b → a ≡ b
   pub not_missing : (before now : ℕ) (short : Bool) (top name : List ℕ) (mention : Option Mention) (sources : List NamedSource) (clock : Clock) (objects : List ObjectPart)
       → IsBuiltFrom (Some files) short top sources clock objects → ¬ Gathers (shelved (Some files) before now) top (missing name mention)

@@ -42,7 +42,7 @@ pub struct Recorded {
     pub history: Vec<u8>,
 }
 
-/// The bytes of a file.
+/// The bytes of a file that the words name.
 pub(crate) fn bytes_in<S: Shelf>(alloc: Global, file: &str, shelf: &mut S) -> Result<Vec<u8>, Stop>
     ensures read { IfOk result (λ bytes. IsRead (S.files shelf.old) file.now bytes.items) }
     ensures stopped { IfErr result (StopsAtFile (S.files shelf.old) (S.faults shelf.old) (S.faults shelf.new) file.now) }
@@ -52,7 +52,7 @@ pub(crate) fn bytes_in<S: Shelf>(alloc: Global, file: &str, shelf: &mut S) -> Re
     ensures kept { S.files shelf.new ≡ S.files shelf.old }
 {
     let name = Text::copy_of(alloc, file.as_bytes())?;
-    match shelf.read(alloc, file) {
+    match shelf.read_named(alloc, file) {
         Ok(bytes) => Ok(bytes),
         Err(ShelfError::Missing) => Err(Stop::Missing {
             file: name,

@@ -16,7 +16,7 @@ pub use convert::other_image;
 pub use inputs::{Inputs, Recorded, read_inputs, read_message, read_recorded};
 pub use laws::{one_reading, one_source};
 pub use program::{Format, Program};
-pub use sources::{image_of_source, listing_of_source, map_of_source};
+pub use sources::{hints_of_source, image_of_source, listing_of_source, map_of_source};
 pub use stop::Stop;
 pub use telling::tell_refused;
 pub use view::{Viewed, read_viewed};

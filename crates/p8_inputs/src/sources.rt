@@ -5,23 +5,25 @@ ghost use Rattle.p8_io.specs.Shelves.{Files};
 ghost use Rattle.p8_objects.specs.Orders.{AreAllRead as FilesAreRead, ReadsInOrder};
 ghost use Rattle.p8_objects.specs.Outcomes.{shelved, Answers};
 ghost use Rattle.p8_objects.specs.Whole.{AreSources};
-ghost use Rattle.p8_build.specs.Builds.{IsRefusedWith};
+ghost use Rattle.p8_build.specs.Sizes.{IsMeasured};
 ghost use Rattle.p8_build.specs.Told.{IsRefusal};
 ghost use Rattle.p8_image.specs.Loading.{image_in as image_of_file};
 ghost use Rattle.p8_map.specs.Projects.{IsMapOf};
+ghost use Rattle.p8_hint.specs.Projects.{IsHintsOf};
 ghost use Rattle.p8_legend.specs.Projects.{IsLegendOf};
-ghost use Rattle.p8_inputs.specs.Asks.{StopsAtProgram, Stops, program as program_ask, listing as listing_ask, mapping as mapping_ask};
+ghost use Rattle.p8_inputs.specs.Asks.{StopsAtProgram, Stops, program as program_ask, listing as listing_ask, mapping as mapping_ask, hinting as hinting_ask};
 ghost use Rattle.p8_inputs.specs.Gathered.{IsProject, IsWhole, IsImageBuiltBy, AreBuiltBy, IsListingOf, StopsAtBuilding};
 ghost use Rattle.p8_inputs.specs.Orders.{IsProjectRead, AreAllRead, AreReadSoFar};
 ghost use Rattle.p8_inputs.specs.Runs.{HasProperTrees};
-ghost use Rattle.p8_inputs.specs.Sources.{IsImageFrom, IsListingFrom, IsMapFrom, IsProjectLegend};
+ghost use Rattle.p8_inputs.specs.Sources.{IsImageFrom, IsListingFrom, IsMapFrom, IsHintsFrom, IsProjectLegend};
 ghost use Rattle.p8_inputs.specs.declared.program.Format.TheVariants.{Source};
 
 use crate::stop::Stop;
-use p8_build::{BuildFault, Built, build, build_parts, measure};
+use p8_build::{BuildFault, Built, Size, accept, build, build_parts};
+use p8_hint::project_hints;
 use p8_image::{Image, listing};
 use p8_io::Shelf;
-use p8_legend::{Legend, project_legend};
+use p8_legend::{Legend, legend_of_accepted};
 use p8_map::project_map;
 use p8_objects::{GatherFault, Gathered, discard, gather};
 use p8_opt::{build_short, build_short_parts};
@@ -69,15 +71,18 @@ fn stop_of_gathering(fault: GatherFault) -> Stop
 }
 
 /// The refusal of a file of a project that isn't built, as the file was read, with the size of what is too large.
-fn refusal_in(alloc: Global, gathered: &Gathered, name: Text, fault: Fault) -> Stop
+fn refusal_in(
+    alloc: Global,
+    gathered: &Gathered,
+    name: Text,
+    fault: Fault,
+    size: Option<Size>,
+) -> Stop
     requires whole { IsWhole (named_sources_of gathered.now.project) }
     requires beside { length gathered.now.sources ≡ length (named_sources_of gathered.now.project) }
-    requires refused { IsRefusedWith (named_sources_of gathered.now.project) name fault }
+    requires refused { IsMeasured (named_sources_of gathered.now.project) name fault size }
     ensures { StopsAtBuilding (named_sources_of gathered.now.project) gathered.now.sources result }
 {
-    let Ok(size) = measure(alloc, &gathered.project, fault.number) else {
-        return Stop::NoMemory;
-    };
     match gathered.file_named(alloc, name) {
         Ok(file) => Stop::Refused { file, fault, size },
         Err(_) => Stop::NoMemory,
@@ -92,7 +97,7 @@ fn stop_of_building(alloc: Global, gathered: &Gathered, fault: BuildFault) -> St
     ensures { StopsAtBuilding (named_sources_of gathered.now.project) gathered.now.sources result }
 {
     match fault {
-        BuildFault::Source { file, fault } => refusal_in(alloc, gathered, file, fault),
+        BuildFault::Source { file, fault, size } => refusal_in(alloc, gathered, file, fault, size),
         BuildFault::NoMemory => Stop::NoMemory,
     }
 }
@@ -176,15 +181,15 @@ fn map_of_project(alloc: Global, gathered: &Gathered) -> Result<Vec<u8>, Stop>
     }
 }
 
-/// The legend of a project.
-fn legend_of_project(alloc: Global, gathered: &Gathered) -> Result<Legend, Stop>
+/// The hints at what is most likely a slip in a project.
+fn hints_of_project(alloc: Global, gathered: &Gathered) -> Result<Vec<u8>, Stop>
     requires whole { IsWhole (named_sources_of gathered.now.project) }
     requires beside { length gathered.now.sources ≡ length (named_sources_of gathered.now.project) }
-    ensures legend { IfOk result (IsLegendOf gathered.now.sources (named_sources_of gathered.now.project)) }
+    ensures text { IfOk result (λ text. IsHintsOf gathered.now.sources (named_sources_of gathered.now.project) text.items) }
     ensures stopped { IfErr result (StopsAtBuilding (named_sources_of gathered.now.project) gathered.now.sources) }
 {
-    match project_legend(alloc, &gathered.project, gathered.sources.as_slice()) {
-        Ok(legend) => Ok(legend),
+    match project_hints(alloc, &gathered.project, gathered.sources.as_slice()) {
+        Ok(text) => Ok(text),
         Err(fault) => Err(stop_of_building(alloc, gathered, fault)),
     }
 }
@@ -197,8 +202,13 @@ fn explained_project(alloc: Global, gathered: &Gathered) -> Result<Explained, St
     ensures legend { IfOk result (λ read. IsLegendOf gathered.now.sources (named_sources_of gathered.now.project) read.legend) }
     ensures stopped { IfErr result (StopsAtBuilding (named_sources_of gathered.now.project) gathered.now.sources) }
 {
-    let image = image_of_project(alloc, false, gathered)?;
-    let legend = legend_of_project(alloc, gathered)?;
+    let accepted = match accept(alloc, &gathered.project) {
+        Ok(accepted) => accepted,
+        Err(fault) => return Err(stop_of_building(alloc, gathered, fault)),
+    };
+    let files = gathered.project.files.as_slice();
+    let legend = legend_of_accepted(alloc, files, gathered.sources.as_slice(), &accepted)?;
+    let image = accepted.into_image();
     Ok(Explained { image, legend })
 }
 
@@ -279,6 +289,21 @@ fn map_in<S: Shelf>(alloc: Global, file: &str, shelf: &mut S) -> Result<Vec<u8>,
     text
 }
 
+/// The hints at what is most likely a slip in the project of a top file.
+fn hints_in<S: Shelf>(alloc: Global, file: &str, shelf: &mut S) -> Result<Vec<u8>, Stop>
+    ensures text { IfOk result (λ text. IsHintsFrom (S.files shelf.old) file.now text.items) }
+    ensures stopped { IfErr result (StopsAtProgram (S.files shelf.old) (S.faults shelf.old) (S.faults shelf.new) (Source false) file.now) }
+    ensures all_read { IfOk result (λ _. IsProjectRead (S.files shelf.old) file.now (S.log shelf.old) (S.log shelf.new)) }
+    ensures in_order { ReadsInOrder (S.files shelf.old) file.now (S.log shelf.old) (S.log shelf.new) }
+    ensures later { S.faults shelf.old ≤ S.faults shelf.new }
+    ensures kept { S.files shelf.new ≡ S.files shelf.old }
+{
+    let gathered = project_in(alloc, file, shelf)?;
+    let text = hints_of_project(alloc, &gathered);
+    discard(gathered);
+    text
+}
+
 /// The image of the project of sources whose top file has this name, with the short code of its methods where it is short. Of the shelf the files
 /// of the project are read, each once and in their order, and at an error no more than a beginning of them.
 ///
@@ -286,7 +311,7 @@ fn map_in<S: Shelf>(alloc: Global, file: &str, shelf: &mut S) -> Result<Vec<u8>,
 ///
 /// What comes first: `Missing` and `Unread` of a file of the project, `Refused` of one with its first refusal while the project is
 /// gathered ([`gather`](p8_objects::gather)) or else when it is built ([`build`](p8_build::build)), with short code or not, and then with the size of
-/// what is too large ([`measure`](p8_build::measure)). `NoMemory` may come at any point. The shelf's files stay as they were, and its count never falls.
+/// what is too large. `NoMemory` may come at any point. The shelf's files stay as they were, and its count never falls.
 pub fn image_of_source<S: Shelf>(
     alloc: Global,
     short: bool,
@@ -339,4 +364,20 @@ pub fn map_of_source<S: Shelf>(alloc: Global, file: &str, shelf: &mut S) -> Resu
     ensures kept { S.files shelf.new ≡ S.files shelf.old }
 {
     map_in(alloc, file, shelf)
+}
+
+/// The hints at what is accepted in the project of sources whose top file has this name, and is most likely a slip: see [`project_hints`](p8_hint::project_hints).
+///
+/// # Errors
+///
+/// Those of [`image_of_source`].
+pub fn hints_of_source<S: Shelf>(alloc: Global, file: &str, shelf: &mut S) -> Result<Vec<u8>, Stop>
+    ensures text { IfOk result (λ text. IsHintsFrom (S.files shelf.old) file.now text.items) }
+    ensures stopped { IfErr result (Stops (S.files shelf.old) (S.faults shelf.old) (S.faults shelf.new) (hinting_ask file.now ∷ [])) }
+    ensures all_read { IfOk result (λ _. AreAllRead (S.files shelf.old) (hinting_ask file.now ∷ []) (S.log shelf.old) (S.log shelf.new)) }
+    ensures so_far { AreReadSoFar (S.files shelf.old) (hinting_ask file.now ∷ []) (S.log shelf.old) (S.log shelf.new) }
+    ensures later { S.faults shelf.old ≤ S.faults shelf.new }
+    ensures kept { S.files shelf.new ≡ S.files shelf.old }
+{
+    hints_in(alloc, file, shelf)
 }
