@@ -20,7 +20,7 @@ use Rattle.p8_finish.specs.declared.finish.Finish.{Finish}
 use Rattle.p8_finish.specs.declared.finish.Finish.TheVariants.{Summary}
 use Rattle.p8_finish.specs.Finishes.{told_by, IsWhole}
 use Rattle.p8_view.specs.declared.turns.ViewOptions.{ViewOptions}
-use Rattle.p8_wave.specs.Typed.{typed_text}
+use Rattle.p8_serial.specs.Typed.{typed_text}
 use Rattle.p8_inputs.specs.declared.inputs.Inputs.{Inputs}
 use Rattle.p8_inputs.specs.declared.inputs.Recorded.{Recorded}
 use Rattle.p8_inputs.specs.declared.program.Format.{Format}
@@ -29,9 +29,9 @@ use Rattle.p8_inputs.specs.Inputs.{IsProgram, IsScriptFor}
 use Rattle.p8_inputs.specs.Legends.{HasName, IsLegendFrom}
 use Rattle.p8_inputs.specs.Programs.{format_for, world_of, memory_by, first_by, boot_by, format_of, other_file}
 use Rattle.p8_inputs.specs.Runs.{Begins, HasProperTrees}
-use Rattle.p8_inputs.specs.Sources.{IsImageFrom, IsListingFrom, IsMapFrom}
+use Rattle.p8_inputs.specs.Sources.{IsImageFrom, IsListingFrom, IsMapFrom, IsHintsFrom}
 use Rattle.p8_commands.specs.declared.kind.ImageKind.{ImageKind}
-use Rattle.p8_commands.specs.Commands.{Command, Dump, Running, BuildSource, ListSource, MapSource, ExplainFile, Check, TypeFile, Convert, Make}
+use Rattle.p8_commands.specs.Commands.{Command, Dump, Running, BuildSource, ListSource, MapSource, HintSource, ExplainFile, Check, TypeFile, Convert, Make}
 use Rattle.p8_prop.specs.declared.work.Answer.{Answer}
 use Rattle.p8_prop.specs.declared.work.Answer.TheVariants.{Text, Bad}
 use Rattle.p8_prop.specs.declared.work.Work.{Work}
@@ -51,6 +51,10 @@ listed files short file text is = ((bytes text ∷ [], (is, tt), refl), tt)
 -- so is a map
 pub mapped : (files : Files) (file text : List ℕ) → IsMapFrom files file text → IsText files (MapSource file) text
 mapped files file text is = ((bytes text ∷ [], (is, tt), refl), tt)
+
+-- so are hints
+pub hinted : (files : Files) (file text : List ℕ) → IsHintsFrom files file text → IsText files (HintSource file) text
+hinted files file text is = ((bytes text ∷ [], (is, tt), refl), tt)
 
 -- a source with an image is accepted
 pub accepted : (files : Files) (file image text : List ℕ) → IsImageFrom files false file image → text ≡ accepted_line file → IsText files (ExplainFile file) text

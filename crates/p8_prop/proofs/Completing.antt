@@ -1,5 +1,5 @@
 -- Where the shelf tells its files, there is one verdict.
-use Rattle.std.proofs.Common.{◌≡◌, ◌∙◌, ap, sym, subst, refl, ℕ, inl, inr, List, [], ◌∷◌, Option, Some, None, reverse}
+use Rattle.std.proofs.Common.{◌≡◌, ◌∙◌, ap, sym, subst, refl, Bool, true, false, if◌then◌else◌, ℕ, inl, inr, List, [], ◌∷◌, Option, Some, None, reverse}
 use Rattle.std.proofs.lemmas.List.{reverse-reverse}
 use Rattle.p8_access.specs.declared.memory.Boot.{Boot}
 use Rattle.p8_access.specs.declared.order.Turn.{Turn}
@@ -23,15 +23,23 @@ use Rattle.p8_inputs.specs.declared.stop.Stop.{Stop}
 use Rattle.p8_inputs.specs.declared.stop.Stop.TheVariants as stop
 use Rattle.p8_inputs.specs.Asks.{Given, bytes, viewed, lines, HasOneReading, IsLegendIn}
 use Rattle.p8_inputs.proofs.Deciding.{unread-rose}
-use Rattle.p8_commands.specs.Commands.{Command, BuildSource, ListSource, MapSource, ExplainFile, ExplainNumber, RunMemory, RunProgram, Save, Check, Serial as ReadPin, TypeFile, Wave as ShowWave, Plot as DrawPins, ViewRun, Convert, Make, Help}
+use Rattle.p8_commands.specs.Commands.{Command, explains, BuildSource, ListSource, MapSource, HintSource, ExplainFile, ExplainNumber, RunMemory, RunProgram, Save, Check, Serial as ReadPin, TypeFile, Wave as ShowWave, Plot as DrawPins, ViewRun, Convert, Make, Help}
 use Rattle.p8_view.specs.declared.turns.ViewOptions.{ViewOptions}
 use Rattle.p8_view.specs.Ending.{view_of}
 use Rattle.p8_prop.specs.Texts.{selection_of, picture_of, options_of, dumped_range, asks_of, IsToldOf, IsViewOf, IsViewed, IsTextOf, IsAskedFor, IsBadBy, IsBadHistory}
 use Rattle.p8_prop.proofs.OneCount.{asked-one, counters-one}
-use Rattle.p8_prop.specs.Verdicts.{Outside, Verdict, unsaid, stopped, bad, written, unwritten, StopsCommand, IsVerdict, IsCertain, status_of, HasOneVerdict, IsComplete}
+use Rattle.p8_prop.specs.Verdicts.{Outside, Verdict, unsaid, stopped, unexplained, bad, written, unwritten, explanation, explained_by, StopsCommand, IsVerdict, IsCertain, IsForOutput, HasOneVerdict, IsComplete}
 
 some-not_none : {A : Type 0} {a : A} → Some a ≡ None → ⊥
 some-not_none e = cc
+
+-- what is nowhere explained
+abbrev no-text : Option (List ℕ)
+no-text = None
+
+either-none : (b : Bool) → (if b then no-text else no-text) ≡ no-text
+either-none true = refl
+either-none false = refl
 
 -- ---- one verdict on a history file
 
@@ -83,6 +91,7 @@ module _ (one_check : HasOneCheck) where
   text-one (BuildSource short file) given a b p q = p ∙ sym q
   text-one (ListSource short file) given a b p q = p ∙ sym q
   text-one (MapSource file) given a b p q = p ∙ sym q
+  text-one (HintSource file) given a b p q = p ∙ sym q
   text-one (ExplainFile file) given a b p q = p ∙ sym q
   text-one (ExplainNumber number) given a b p q = p ∙ sym q
   text-one (RunMemory run) given a b p q = told-one _ (Trace run.dump) a b p q
@@ -150,8 +159,10 @@ module _ (one_check : HasOneCheck) (files : List ℕ → Option (List ℕ)) (one
   verdict-one o command (written x) (written y) s t p q = ap written (text-asked command x y p q)
   verdict-one o command unsaid b s t p q = absurd (some-not_none p)
   verdict-one o command (unwritten x) b s t p q = absurd s
+  verdict-one o command (unexplained x) b s t p q = absurd s
   verdict-one o command a unsaid s t p q = absurd (some-not_none q)
   verdict-one o command a (unwritten y) s t p q = absurd t
+  verdict-one o command a (unexplained y) s t p q = absurd t
 
 -- no words but those of a command are stopped by what lies in files
 none-stopped : (o : Outside) (reason : Stop) → IsCertain (stopped reason) → StopsCommand o None reason → ⊥
@@ -169,6 +180,7 @@ none-one o (stopped reason) s p = absurd (none-stopped o reason s p)
 none-one o (bad history turn cause) s p = absurd p
 none-one o (written text) s p = absurd p
 none-one o (unwritten text) s p = absurd s
+none-one o (unexplained reason) s p = absurd s
 
 module _ (one_check : HasOneCheck) (one : (files : List ℕ → Option (List ℕ)) → HasOneReading files) where
   pub one-verdict : (o : Outside) (command : Option Command) → HasOneVerdict o command
@@ -182,6 +194,18 @@ module _ (one_check : HasOneCheck) (one : (files : List ℕ → Option (List ℕ
   unread-risen o None name p = absurd p
   unread-risen o (Some command) name p = unread-rose o.shelf.files o.shelf.before o.shelf.now (asks_of command) name p
 
+  -- what is explained lies in the files
+  explained-certain : (command : Option Command) (reason : Stop) (text : List ℕ) → explained_by command reason ≡ Some text → IsCertain (stopped reason)
+  unfolding explanation
+  explained-certain None reason text is = absurd (some-not_none (sym is))
+  explained-certain (Some command) (stop.Unread name) text is = absurd (some-not_none (sym is ∙ either-none (explains command)))
+  explained-certain (Some command) stop.NoMemory text is = absurd (some-not_none (sym is ∙ either-none (explains command)))
+  explained-certain (Some command) (stop.Missing name mention) text is = tt
+  explained-certain (Some command) (stop.Refused source f size) text is = tt
+  explained-certain (Some command) (stop.BadProgram name fault) text is = tt
+  explained-certain (Some command) (stop.BadScript name line) text is = tt
+  explained-certain (Some command) (stop.Unnamed file name) text is = tt
+
   -- what comes is due, or a count rose, or there was no memory
   pub complete : (o : Outside) (command : Option Command) (verdict : Verdict) → IsVerdict o command verdict → IsComplete o command verdict
   complete o command unsaid p files due told certain is quiet out_quiet = inl (one-verdict o command files unsaid due told tt certain p is)
@@ -189,7 +213,10 @@ module _ (one_check : HasOneCheck) (one : (files : List ℕ → Option (List ℕ
   complete o command (written text) p files due told certain is quiet out_quiet = inl (one-verdict o command files (written text) due told tt certain p is)
   complete o command (unwritten text) p files due told certain is quiet out_quiet =
       let same : written text ≡ due = one-verdict o command files (written text) due told tt certain p.0 is in
-      absurd (out_quiet (ap status_of (sym same)) p.1)
+      absurd (out_quiet (subst (IsForOutput command) same tt) p.1)
+  complete o command (unexplained reason) p files due told certain is quiet out_quiet =
+      let same : stopped reason ≡ due = one-verdict o command files (stopped reason) due told (explained-certain command reason p.1.0 p.1.1) certain p.0 is in
+      absurd (out_quiet (subst (IsForOutput command) same p.1) p.2)
   complete o command (stopped (stop.Unread name)) p files due told certain is quiet out_quiet = absurd (quiet (unread-risen o command name p))
   complete o command (stopped (stop.Missing name mention)) p files due told certain is quiet out_quiet = inl (one-verdict o command files (stopped (stop.Missing name mention)) due told tt certain p is)
   complete o command (stopped stop.NoMemory) p files due told certain is quiet out_quiet = inr refl

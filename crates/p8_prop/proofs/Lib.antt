@@ -4,5 +4,8 @@ mod OneCount
 mod Completing
 mod Doing
 mod Saving
+mod SaidRuns
+mod Imaging
+mod Printing
 mod Answering
 mod Explaining

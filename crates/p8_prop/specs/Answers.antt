@@ -4,7 +4,6 @@ use Rattle.std.specs.Prelude.{ℕ, ◌≡◌, ◌⊎◌, List, Option, Some, Non
 use Rattle.p8_io.specs.Counts.{Rose}
 use Rattle.std.specs.declared.vec.Vec.{Vec}
 use Rattle.std.specs.declared.alloc.Global.{Global}
-use Rattle.p8_inputs.specs.Stops.{line_of as stop_line}
 use Rattle.p8_inputs.specs.declared.stop.Stop.{Stop}
 use Rattle.p8_inputs.specs.declared.stop.Stop.TheVariants.{NoMemory}
 use Rattle.p8_commands.specs.Commands.{Command}
@@ -15,7 +14,7 @@ use Rattle.p8_prop.specs.declared.work.Work.TheVariants.{Done, Run, View}
 use Rattle.p8_prop.specs.Texts.{IsViewed}
 use Rattle.p8_prop.specs.Works.{IsRunnable, IsViewable, IsMadeOf, world_in}
 use Rattle.p8_prop.specs.declared.status.Status.{Status}
-use Rattle.p8_prop.specs.Verdicts.{SinkSeen, Verdict, stopped, bad, written, unwritten, stop_status, status_of, IsOut, IsTold}
+use Rattle.p8_prop.specs.Verdicts.{SinkSeen, Verdict, stopped, unexplained, bad, written, unwritten, explained_by, status_of, IsOut, IsTold}
 
 -- the work can be done
 abbrev pub CanBeDone : Work → Type 0
@@ -44,21 +43,29 @@ pub record IsGiven (answer : Answer) (out faults : SinkSeen) (status : Status) :
   pub from : IsFrom answer out verdict
   pub answered : status ≡ status_of verdict
   pub told : (command : Option Command) → IsTold faults command verdict
-  pub written_out : IsOut out verdict
+  pub written_out : (command : Option Command) → IsOut out command verdict
 
--- what is told of a reason, with its explanation where there is one
-abbrev pub told_with : Stop → Option (Vec ℕ Global) → List ℕ
-told_with reason None = stop_line reason
-told_with reason (Some text) = text.items
+-- the bytes of a text, where there is one
+abbrev pub text_if_any : Option (Vec ℕ Global) → Option (List ℕ)
+text_if_any None = None
+text_if_any (Some text) = Some text.items
 
--- what is answered of why nothing came of a command, or of want of memory for that, and what was told
-pub record IsEnded (command : Command) (reason : Stop) (faults : SinkSeen) (status : Status) : Type 0 where
-  pub stop : Stop
-  pub is : (stop ≡ reason) ⊎ (stop ≡ NoMemory)
-  pub answered : status ≡ stop_status stop
-  pub told : IsTold faults (Some command) (stopped stop)
+-- the verdict on why nothing came of a command: it is told, or want of memory is, or its explanation may not be written
+abbrev pub IsEnding : Command → Stop → SinkSeen → Verdict → Type 0
+IsEnding command reason out (stopped stop) = (stop ≡ reason) ⊎ (stop ≡ NoMemory)
+IsEnding command reason out (unexplained stop) =
+    (stop ≡ reason) × ((text : List ℕ) × (explained_by (Some command) stop ≡ Some text)) × Rose out.before out.now
+IsEnding command reason out _ = ⊥
+
+-- what is answered of why nothing came of a command, and what was told and written
+pub record IsEnded (command : Command) (reason : Stop) (out faults : SinkSeen) (status : Status) : Type 0 where
+  pub verdict : Verdict
+  pub ending : IsEnding command reason out verdict
+  pub answered : status ≡ status_of verdict
+  pub told : IsTold faults (Some command) verdict
+  pub written_out : IsOut out (Some command) verdict
 
 -- what is answered, where anything came of a command, and else of why nothing did
 abbrev pub IsAnswer : Command → Result Answer Stop → (out faults : SinkSeen) → Status → Type 0
 IsAnswer command (Ok answer) out faults status = IsGiven answer out faults status
-IsAnswer command (Err reason) out faults status = IsEnded command reason faults status × (out.taken_now ≡ out.taken)
+IsAnswer command (Err reason) out faults status = IsEnded command reason out faults status

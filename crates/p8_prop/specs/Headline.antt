@@ -23,7 +23,7 @@ use Rattle.p8_inputs.specs.Inputs.{IsProgram, IsScriptFor}
 use Rattle.p8_inputs.specs.Legends.{IsLegendFrom}
 use Rattle.p8_inputs.specs.Programs.{format_for, format_named, world_of}
 use Rattle.p8_inputs.specs.Sources.{IsBuiltBy, IsBuiltFrom}
-use Rattle.p8_commands.specs.Commands.{Command, Dump, Running, BuildSource, ListSource, MapSource, ExplainFile, ExplainNumber, RunMemory, RunProgram, Save, Check, Serial as ReadPin, TypeFile, Wave as ShowWave, Plot as DrawPins, ViewRun, Convert, Make, Help}
+use Rattle.p8_commands.specs.Commands.{Command, Dump, Running, BuildSource, ListSource, MapSource, HintSource, ExplainFile, ExplainNumber, RunMemory, RunProgram, Save, Check, Serial as ReadPin, TypeFile, Wave as ShowWave, Plot as DrawPins, ViewRun, Convert, Make, Help}
 use Rattle.p8_finish.specs.declared.finish.Finish.{Finish}
 use Rattle.p8_finish.specs.declared.finish.Finish.TheVariants.{Trace, Saved, Serial, Wave, Plot}
 use Rattle.p8_finish.specs.Finishes.{told_by, IsWhole}
@@ -89,6 +89,7 @@ abbrev pub IsHeadline : Files → Command → (text : List ℕ) → Type 0
 IsHeadline files (BuildSource short file) text = IsBuild files short file text
 IsHeadline files (ListSource short file) text = Unit {0}
 IsHeadline files (MapSource file) text = Unit {0}
+IsHeadline files (HintSource file) text = Unit {0}
 IsHeadline files (ExplainFile file) text = Unit {0}
 IsHeadline files (ExplainNumber number) text = Unit {0}
 IsHeadline files (RunMemory run) text = IsRun files Memory run (Trace run.dump) text

@@ -4,6 +4,9 @@ pub mod Headline
 pub mod Codes
 pub mod Verdicts
 pub mod Promises
+pub mod Images
+pub mod Runs
+pub mod RunLaws
 pub mod Saved
 -- Machinery that only proofs need.
 pub mod Works

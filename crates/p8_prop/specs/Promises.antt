@@ -18,7 +18,7 @@ pub record Keeps (o : Outside) (command : Option Command) (status : Status) : Ty
   pub is_verdict : IsVerdict o command verdict
   pub answered : status ≡ status_of verdict
   pub told : IsTold o.faults command verdict
-  pub out : IsOut o.out verdict
+  pub out : IsOut o.out command verdict
   pub read : IsRead o command verdict
   -- where the shelf tells its files there is one verdict, and it is the one that comes
   pub one_verdict : HasOneVerdict o command

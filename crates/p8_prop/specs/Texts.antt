@@ -20,16 +20,16 @@ use Rattle.p8_finish.specs.Finishes.{told_by}
 use Rattle.p8_finish.specs.Checks.{good_line}
 use Rattle.p8_explain.specs.Explaining.{entry_of}
 use Rattle.p8_wave.specs.declared.view.View.{View}
-use Rattle.p8_wave.specs.Typed.{typed_text}
+use Rattle.p8_serial.specs.Typed.{typed_text}
 use Rattle.p8_view.specs.declared.turns.ViewOptions.{ViewOptions}
 use Rattle.p8_view.specs.Ending.{view_of}
 use Rattle.p8_wave.specs.declared.variables.Selection.{Selection}
 use Rattle.p8_inputs.specs.declared.program.Format.{Format}
 use Rattle.p8_inputs.specs.declared.program.Format.TheVariants.{Memory, Source}
 use Rattle.p8_inputs.specs.Programs.{format_for, format_named, format_of, other_file, boot_by, world_of}
-use Rattle.p8_inputs.specs.Asks.{Ask, program, listing, mapping, message, run_asks, view_asks, check_asks, Given, bytes_in, lines_in, later_bytes_in, IsLegendIn, Give}
+use Rattle.p8_inputs.specs.Asks.{Ask, program, listing, mapping, hinting, message, run_asks, view_asks, check_asks, Given, bytes_in, lines_in, later_bytes_in, IsLegendIn, Give}
 use Rattle.p8_inputs.specs.Legends.{range_in}
-use Rattle.p8_commands.specs.Commands.{Command, Dump, RangeOf, Named, Running, BuildSource, ListSource, MapSource, ExplainFile, ExplainNumber, RunMemory, RunProgram, Save, Check, Serial as ReadPin, TypeFile, Wave as ShowWave, Plot as DrawPins, ViewRun, Convert, Make, Help}
+use Rattle.p8_commands.specs.Commands.{Command, Dump, RangeOf, Named, Running, BuildSource, ListSource, MapSource, HintSource, ExplainFile, ExplainNumber, RunMemory, RunProgram, Save, Check, Serial as ReadPin, TypeFile, Wave as ShowWave, Plot as DrawPins, ViewRun, Convert, Make, Help}
 use Rattle.p8_commands.specs.Pages.{help_text}
 
 -- what a wave shows, and what a picture of pins
@@ -68,6 +68,7 @@ abbrev pub asks_of : Command → List Ask
 asks_of (BuildSource short file) = program (Source short) file ∷ []
 asks_of (ListSource short file) = listing short file ∷ []
 asks_of (MapSource file) = mapping file ∷ []
+asks_of (HintSource file) = hinting file ∷ []
 asks_of (ExplainFile file) = program (Source false) file ∷ []
 asks_of (ExplainNumber number) = []
 asks_of (RunMemory run) = run_asks Memory run.file run.script
@@ -116,6 +117,7 @@ abbrev pub IsTextOf : Command → List Given → List ℕ → Type 0
 IsTextOf (BuildSource short file) given text = text ≡ bytes_in given
 IsTextOf (ListSource short file) given text = text ≡ bytes_in given
 IsTextOf (MapSource file) given text = text ≡ bytes_in given
+IsTextOf (HintSource file) given text = text ≡ bytes_in given
 IsTextOf (ExplainFile file) given text = text ≡ accepted_line file
 IsTextOf (ExplainNumber number) given text = text ≡ entry_of number
 IsTextOf (RunMemory run) given text = IsToldOfRun Memory run (Trace run.dump) given text

@@ -39,14 +39,30 @@ pub record Outside : Type 0 where
   pub out : SinkSeen
   pub faults : SinkSeen
 
--- How a call ends. The words are no command; or what the command reads stops it, for a reason; or the history file that it checks isn't that of the
--- run, which shows at a turn; or its text was written; or that could not be written, or only a part of it.
+-- How a call ends. The words are no command; or what the command reads stops it, for a reason, which is told; or that reason was to be explained, and
+-- its explanation could not be written, or only a part of it; or the history file that it checks isn't that of the run, which shows at a turn; or its
+-- text was written; or that could not be written, or only a part of it.
 pub data Verdict : Type 0 where
   unsaid : Verdict
   stopped : Stop → Verdict
+  unexplained : Stop → Verdict
   bad : (history : List ℕ) (turn : ℕ) → Cause → Verdict
   written : (text : List ℕ) → Verdict
   unwritten : (text : List ℕ) → Verdict
+
+-- ---- what is explained
+
+-- the explanation of a reason that shows in a file, by the bytes with which that was read: of a refused source, and of a missing file that a source
+-- mentions; any other reason has none
+unfoldable pub explanation : Stop → Option (List ℕ)
+explanation (stop.Refused source f size) = Some (explanation_of source.name source.bytes f size)
+explanation (stop.Missing name (Some mention)) = Some (absence_of mention.file.name mention.file.bytes mention.place name)
+explanation reason = None
+
+-- the explanation that a command asks for, of the reason that stops it
+abbrev pub explained_by : Option Command → Stop → Option (List ℕ)
+explained_by None reason = None
+explained_by (Some command) reason = if explains command then explanation reason else None
 
 -- ---- when each verdict comes
 
@@ -73,6 +89,8 @@ HasBadHistory o (Some command) history turn cause = IsBadHistory o.shelf.files c
 abbrev pub IsVerdict : Outside → Option Command → Verdict → Type 0
 IsVerdict o command unsaid = command ≡ None
 IsVerdict o command (stopped reason) = StopsCommand o command reason
+IsVerdict o command (unexplained reason) =
+    StopsCommand o command reason × ((text : List ℕ) × (explained_by command reason ≡ Some text)) × Rose o.out.before o.out.now
 IsVerdict o command (bad history turn cause) = HasBadHistory o command history turn cause
 IsVerdict o command (written text) = HasText o command text
 IsVerdict o command (unwritten text) = HasText o command text × Rose o.out.before o.out.now
@@ -92,37 +110,37 @@ stop_status (stop.Unnamed file name) = status.Missing
 abbrev pub status_of : Verdict → Status
 status_of unsaid = status.Usage
 status_of (stopped reason) = stop_status reason
+status_of (unexplained reason) = status.SinkFault
 status_of (bad history turn cause) = status.BadHistory
 status_of (written text) = status.Ok
 status_of (unwritten text) = status.SinkFault
 
--- the explanation of a reason that shows in a file, by the bytes with which that was read: of a refused source, and of a missing file that a source
--- mentions; any other reason is told by its line
-unfoldable pub explanation : Stop → List ℕ
-explanation (stop.Refused source f size) = explanation_of source.name source.bytes f size
-explanation (stop.Missing name (Some mention)) = absence_of mention.file.name mention.file.bytes mention.place name
-explanation reason = stops.line_of reason
+-- what is told of a reason on the output, which is its explanation, and on the output for faults, which is its line; a reason is told by one of both
+abbrev pub written_of : Option (List ℕ) → List ℕ
+written_of (Some text) = text
+written_of None = []
 
--- what a command tells of the reason that stops it: its explanation, where the command explains, and else its line
-abbrev pub told_by : Option Command → Stop → List ℕ
-told_by None reason = stops.line_of reason
-told_by (Some command) reason = if explains command then explanation reason else stops.line_of reason
+abbrev pub told_of : Option (List ℕ) → Stop → List ℕ
+told_of (Some text) reason = []
+told_of None reason = stops.line_of reason
 
 -- what is told on the output for faults
 abbrev pub line_of : Option Command → Verdict → List ℕ
 line_of command unsaid = usage_line
-line_of command (stopped reason) = told_by command reason
+line_of command (stopped reason) = told_of (explained_by command reason) reason
+line_of command (unexplained reason) = codes "prop: cannot write" ++ 10 ∷ []
 line_of command (bad history turn cause) = bad_line history turn cause
 line_of command (written text) = []
 line_of command (unwritten text) = codes "prop: cannot write" ++ 10 ∷ []
 
--- what is written to the output: the text, or a part of it, or nothing
-abbrev pub IsOut : SinkSeen → Verdict → Type 0
-IsOut out unsaid = Appended out.taken out.taken_now []
-IsOut out (stopped reason) = Appended out.taken out.taken_now []
-IsOut out (bad history turn cause) = Appended out.taken out.taken_now []
-IsOut out (written text) = Appended out.taken out.taken_now text
-IsOut out (unwritten text) = AppendedPrefix out.taken out.taken_now text
+-- what is written to the output: the text or the explanation, or a part of it, or nothing
+abbrev pub IsOut : SinkSeen → Option Command → Verdict → Type 0
+IsOut out command unsaid = Appended out.taken out.taken_now []
+IsOut out command (stopped reason) = Appended out.taken out.taken_now (written_of (explained_by command reason))
+IsOut out command (unexplained reason) = AppendedPrefix out.taken out.taken_now (written_of (explained_by command reason))
+IsOut out command (bad history turn cause) = Appended out.taken out.taken_now []
+IsOut out command (written text) = Appended out.taken out.taken_now text
+IsOut out command (unwritten text) = AppendedPrefix out.taken out.taken_now text
 
 -- What is read of the shelf, where it tells that: all that the command asks for, each file once and in the order of the asks; where one of them stops
 -- it a beginning of that, which ends there; and nothing for words that are no command.
@@ -130,6 +148,7 @@ abbrev pub IsRead : Outside → Option Command → Verdict → Type 0
 IsRead o None verdict = o.shelf.log_now ≡ o.shelf.log
 IsRead o (Some command) unsaid = o.shelf.log_now ≡ o.shelf.log
 IsRead o (Some command) (stopped reason) = AreReadSoFar o.shelf.files (asks_of command) o.shelf.log o.shelf.log_now
+IsRead o (Some command) (unexplained reason) = AreReadSoFar o.shelf.files (asks_of command) o.shelf.log o.shelf.log_now
 IsRead o (Some command) (bad history turn cause) = AreAllRead o.shelf.files (asks_of command) o.shelf.log o.shelf.log_now
 IsRead o (Some command) (written text) = AreAllRead o.shelf.files (asks_of command) o.shelf.log o.shelf.log_now
 IsRead o (Some command) (unwritten text) = AreAllRead o.shelf.files (asks_of command) o.shelf.log o.shelf.log_now
@@ -144,6 +163,7 @@ IsTold faults command verdict = Wrote faults.before faults.now faults.taken faul
 abbrev pub IsCertain : Verdict → Type 0
 IsCertain unsaid = Unit {0}
 IsCertain (stopped reason) = IsOfFiles reason
+IsCertain (unexplained reason) = ⊥
 IsCertain (bad history turn cause) = Unit {0}
 IsCertain (written text) = Unit {0}
 IsCertain (unwritten text) = ⊥
@@ -154,8 +174,15 @@ HasOneVerdict o command =
     (files : List ℕ → Option (List ℕ)) (a b : Verdict) → o.shelf.files ≡ Some files → IsCertain a → IsCertain b
     → IsVerdict o command a → IsVerdict o command b → a ≡ b
 
--- it is the one that is answered, where the shelf's count didn't rise, nor that of the output where a text is due, but for want of memory
+-- something is to be written to the output: a text, or an explanation
+abbrev pub IsForOutput : Option Command → Verdict → Type 0
+IsForOutput command (written text) = Unit {0}
+IsForOutput command (stopped reason) = (text : List ℕ) × (explained_by command reason ≡ Some text)
+IsForOutput command _ = ⊥
+
+-- it is the one that is answered, where the shelf's count didn't rise, nor that of the output where something is to be written there, but for want of
+-- memory
 abbrev pub IsComplete : Outside → Option Command → Verdict → Type 0
 IsComplete o command verdict =
     (files : List ℕ → Option (List ℕ)) (due : Verdict) → o.shelf.files ≡ Some files → IsCertain due → IsVerdict o command due
-    → ¬ Rose o.shelf.before o.shelf.now → (status_of due ≡ status.Ok → ¬ Rose o.out.before o.out.now) → (verdict ≡ due) ⊎ (verdict ≡ stopped stop.NoMemory)
+    → ¬ Rose o.shelf.before o.shelf.now → (IsForOutput command due → ¬ Rose o.out.before o.out.now) → (verdict ≡ due) ⊎ (verdict ≡ stopped stop.NoMemory)

@@ -1,5 +1,5 @@
 // Writes what came of a command, and tells how it ended.
-ghost use Rattle.std.specs.Prelude.{◌≡◌, ◌≤◌, ◌++◌, ◌∷◌, [], codes, true, IfOk};
+ghost use Rattle.std.specs.Prelude.{◌≡◌, ◌≤◌, ◌++◌, ◌∷◌, [], codes, true, List, ℕ, Some, IfOk};
 ghost use Rattle.p8_commands.specs.Commands.{Command as CommandSaid, explains};
 ghost use Rattle.p8_commands.specs.Pages.{usage_line};
 ghost use Rattle.p8_commands.specs.Seen.{command_read};
@@ -7,7 +7,7 @@ ghost use Rattle.p8_finish.specs.Checks.{bad_line};
 ghost use Rattle.p8_inputs.specs.Stops.{line_of as stop_line};
 ghost use Rattle.p8_io.specs.Sinks.{Wrote};
 ghost use Rattle.p8_prop.specs.Verdicts.{explanation, stop_status};
-ghost use Rattle.p8_prop.specs.Answers.{told_with, IsAnswer, IsEnded, IsGiven};
+ghost use Rattle.p8_prop.specs.Answers.{text_if_any, IsAnswer, IsEnded, IsGiven};
 ghost use Rattle.p8_prop.specs.declared.status.Status.TheVariants.{Usage, SinkFault, BadHistory};
 
 use crate::status::Status;
@@ -115,7 +115,7 @@ fn given<K: Sink, E: Sink>(answer: &Answer, out: &mut K, faults: &mut E) -> Stat
 /// The explanation of a reason that shows in a file, or None where it shows in none.
 #[tactic(auto, unfolding(crate::specs::Verdicts::explanation))]
 fn explanation_of(alloc: Global, stop: &Stop) -> Result<Option<Vec<u8>>, NoMemory>
-    ensures { IfOk result (λ text. told_with stop.now text ≡ explanation stop.now) }
+    ensures { IfOk result (λ text. text_if_any text ≡ explanation stop.now) }
 {
     match stop {
         Stop::Refused { file, fault, size } => {
@@ -134,22 +134,15 @@ fn explanation_of(alloc: Global, stop: &Stop) -> Result<Option<Vec<u8>>, NoMemor
     }
 }
 
-/// Tells a reason by its explanation, or by its line where there is none.
-fn tell_with<E: Sink>(stop: &Stop, text: &Option<Vec<u8>>, faults: &mut E)
-    ensures wrote { Wrote (E.faults faults.old) (E.faults faults.new) (E.taken faults.old) (E.taken faults.new) (told_with stop.now text.now) }
-    ensures later { E.faults faults.old ≤ E.faults faults.new }
-{
-    match text {
-        Some(text) => {
-            let _ = write_pieces(faults, &[text.as_slice()]);
-        }
-        None => stop.tell(faults),
-    }
-}
-
-/// Tells a reason with its explanation, or that there was no memory for that.
-fn explained<E: Sink>(alloc: Global, stop: &Stop, faults: &mut E) -> Status
-    ensures ended { (command : CommandSaid) → explains command ≡ true → IsEnded command stop.now
+/// Writes the explanation of a reason, and how that ended.
+fn written<K: Sink, E: Sink>(stop: &Stop, text: &[u8], out: &mut K, faults: &mut E) -> Status
+    ensures ended { (command : CommandSaid) → explains command ≡ true → explanation stop.now ≡ Some text.now → IsEnded command stop.now
+        (record {
+          before = K.faults out.old;
+          now = K.faults out.new;
+          taken = K.taken out.old;
+          taken_now = K.taken out.new;
+        })
         (record {
           before = E.faults faults.old;
           now = E.faults faults.new;
@@ -157,21 +150,57 @@ fn explained<E: Sink>(alloc: Global, stop: &Stop, faults: &mut E) -> Status
           taken_now = E.taken faults.new;
         })
         result }
+    ensures out_later { K.faults out.old ≤ K.faults out.new }
+    ensures faults_later { E.faults faults.old ≤ E.faults faults.new }
+{
+    match out.write(text) {
+        Ok(()) => status_of_stop(stop),
+        Err(_) => unwritten(faults),
+    }
+}
+
+/// Writes the explanation of a reason, or tells the reason by its line where it has none, or that there was no memory for that.
+fn explained<K: Sink, E: Sink>(alloc: Global, stop: &Stop, out: &mut K, faults: &mut E) -> Status
+    ensures ended { (command : CommandSaid) → explains command ≡ true → IsEnded command stop.now
+        (record {
+          before = K.faults out.old;
+          now = K.faults out.new;
+          taken = K.taken out.old;
+          taken_now = K.taken out.new;
+        })
+        (record {
+          before = E.faults faults.old;
+          now = E.faults faults.new;
+          taken = E.taken faults.old;
+          taken_now = E.taken faults.new;
+        })
+        result }
+    ensures out_later { K.faults out.old ≤ K.faults out.new }
     ensures faults_later { E.faults faults.old ≤ E.faults faults.new }
 {
     match explanation_of(alloc, stop) {
-        Ok(text) => {
-            tell_with(stop, &text, faults);
-            status_of_stop(stop)
-        }
+        Ok(Some(text)) => written(stop, &text, out, faults),
+        Ok(None) => stopped(stop, faults),
         Err(NoMemory) => stopped(&Stop::NoMemory, faults),
     }
 }
 
-/// Tells why there is no text of a command, with the explanation where the command asks for that.
-fn ended<E: Sink>(alloc: Global, command: Command<'_>, stop: &Stop, faults: &mut E) -> Status
+/// Tells why there is no text of a command, by its explanation where the command asks for that.
+fn ended<K: Sink, E: Sink>(
+    alloc: Global,
+    command: Command<'_>,
+    stop: &Stop,
+    out: &mut K,
+    faults: &mut E,
+) -> Status
     ensures ended { IsEnded
         (command_read command.entry) stop.now
+        (record {
+          before = K.faults out.old;
+          now = K.faults out.new;
+          taken = K.taken out.old;
+          taken_now = K.taken out.new;
+        })
         (record {
           before = E.faults faults.old;
           now = E.faults faults.new;
@@ -179,16 +208,17 @@ fn ended<E: Sink>(alloc: Global, command: Command<'_>, stop: &Stop, faults: &mut
           taken_now = E.taken faults.new;
         })
         result }
+    ensures out_later { K.faults out.old ≤ K.faults out.new }
     ensures faults_later { E.faults faults.old ≤ E.faults faults.new }
 {
     if command.explains() {
-        explained(alloc, stop, faults)
+        explained(alloc, stop, out, faults)
     } else {
         stopped(stop, faults)
     }
 }
 
-/// Writes what came of a command, where anything did, and tells how that ended.
+/// Writes what came of a command, where anything did, or why nothing did, and tells how that ended.
 pub fn answered<K: Sink, E: Sink>(
     alloc: Global,
     command: Command<'_>,
@@ -216,6 +246,6 @@ pub fn answered<K: Sink, E: Sink>(
 {
     match answer {
         Ok(answer) => given(&answer, out, faults),
-        Err(stop) => ended(alloc, command, &stop, faults),
+        Err(stop) => ended(alloc, command, &stop, out, faults),
     }
 }

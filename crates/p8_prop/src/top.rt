@@ -22,7 +22,7 @@ use std::thread::Threads;
 ///
 /// - `build` and `list` write the image and the listing of a source, with `--short` with shorter code of the same meaning, and `map` writes where
 ///   everything of it stands in the hub;
-/// - `explain` tells why a source is refused, or a refusal by its number;
+/// - `explain` tells why a source is refused, or a refusal by its number, and `hint` what is accepted in a source and is most likely a slip;
 /// - `raw` and `run` write the trace of a run, `save` its history as a file, and `check` how many turns a history file has that is the one of
 ///   a run;
 /// - `serial` writes the bytes that stand on a pin of a run, and `type` a pin script that sends the bytes of a file;

@@ -2,7 +2,7 @@
 ghost use Rattle.std.specs.Prelude.{◌≡◌, ◌<◌, ◌≤◌, ◌∷◌, [], ℕ, List, Bool, Err, IfOk, IfErr};
 ghost use Rattle.p8_access.specs.declared.memory.Boot.{Boot};
 ghost use Rattle.p8_access.specs.Worlds.{Line};
-ghost use Rattle.p8_wave.specs.SerialLaws.{IsRate};
+ghost use Rattle.p8_serial.specs.Laws.{IsRate};
 ghost use Rattle.p8_verify.specs.Answers.{Tells};
 ghost use Rattle.p8_access.specs.Boots.{ram_of};
 ghost use Rattle.p8_access.specs.Proper.{IsProperOrigin};
@@ -16,7 +16,7 @@ ghost use Rattle.p8_inputs.specs.Orders.{AreAllRead, AreReadSoFar};
 ghost use Rattle.p8_inputs.specs.Programs.{format_for};
 ghost use Rattle.p8_inputs.specs.Sources.{IsImageFrom};
 ghost use Rattle.p8_inputs.specs.declared.program.Format.TheVariants.{Source};
-ghost use Rattle.p8_commands.specs.Commands.{BuildSource, ListSource, MapSource, ExplainFile, ExplainNumber, Check, TypeFile, Convert, Make, Help};
+ghost use Rattle.p8_commands.specs.Commands.{BuildSource, ListSource, MapSource, HintSource, ExplainFile, ExplainNumber, Check, TypeFile, Convert, Make, Help};
 ghost use Rattle.p8_commands.specs.Naming.{name_of};
 ghost use Rattle.p8_commands.specs.Seen.{command_read, running, HasLimits, IsWithin};
 ghost use Rattle.p8_prop.specs.Headline.{IsBuild};
@@ -30,16 +30,17 @@ use p8_commands::{Command, ImageKind, Run, Subcommand, help_page};
 use p8_explain::entry;
 use p8_finish::{Finish, good_line, made_image};
 use p8_inputs::{
-    Format, Program, Recorded, Stop, image_of_source, listing_of_source, map_of_source,
-    other_image, read_inputs, read_message, read_recorded,
+    Format, Program, Recorded, Stop, hints_of_source, image_of_source, listing_of_source,
+    map_of_source, other_image, read_inputs, read_message, read_recorded,
 };
 use p8_io::Shelf;
 use p8_ledger::{Limits, Start};
 use p8_pins::PinScript;
+use p8_serial::typed;
 use p8_tree::Text;
 use p8_verify::{Cause, VerifyFault, verify};
 use p8_view::ViewOptions;
-use p8_wave::{Selection, View as Picture, typed};
+use p8_wave::{Selection, View as Picture};
 use p8_words::NoMemory;
 use std::alloc::Global;
 
@@ -136,6 +137,19 @@ fn map_work<S: Shelf>(alloc: Global, file: &str, shelf: &mut S) -> Result<Work, 
     ensures kept { S.files shelf.new ≡ S.files shelf.old }
 {
     let text = map_of_source(alloc, file, shelf)?;
+    Ok(Work::Done(Answer::Text(text)))
+}
+
+/// The hints at what is most likely a slip in a source.
+fn hint_work<S: Shelf>(alloc: Global, file: &str, shelf: &mut S) -> Result<Work, Stop>
+    ensures work { IfOk result (IsWork (S.files shelf.old) (HintSource file.now)) }
+    ensures stopped { IfErr result (Stops (S.files shelf.old) (S.faults shelf.old) (S.faults shelf.new) (asks_of (HintSource file.now))) }
+    ensures all_read { IfOk result (λ _. AreAllRead (S.files shelf.old) (asks_of (HintSource file.now)) (S.log shelf.old) (S.log shelf.new)) }
+    ensures so_far { AreReadSoFar (S.files shelf.old) (asks_of (HintSource file.now)) (S.log shelf.old) (S.log shelf.new) }
+    ensures later { S.faults shelf.old ≤ S.faults shelf.new }
+    ensures kept { S.files shelf.new ≡ S.files shelf.old }
+{
+    let text = hints_of_source(alloc, file, shelf)?;
     Ok(Work::Done(Answer::Text(text)))
 }
 
@@ -386,6 +400,7 @@ pub fn work_of<S: Shelf>(alloc: Global, command: Command<'_>, shelf: &mut S) -> 
         Command::Build { short, file } => image_work(alloc, short, file, shelf),
         Command::List { short, file } => listing_work(alloc, short, file, shelf),
         Command::Map { file } => map_work(alloc, file, shelf),
+        Command::Hint { file } => hint_work(alloc, file, shelf),
         Command::ExplainFile { file } => accepted_work(alloc, file, shelf),
         Command::ExplainNumber { number } => {
             let work = entry_work(alloc, number)?;

@@ -3,7 +3,7 @@ use Rattle.p8_commands.specs.Commands.{Command}
 use Rattle.p8_commands.specs.Seen.{command_read, command_if_any}
 use Rattle.p8_prop.specs.Promises.{Keeps}
 use Rattle.p8_prop.specs.Verdicts.{Outside}
-use Rattle.p8_prop.proofs.Answering.{command-keeps, unsaid-keeps, memory-keeps, nothing-appended}
+use Rattle.p8_prop.proofs.Answering.{command-keeps, unsaid-keeps, memory-keeps, nothing-appended, no-memory-written}
 use Rattle.p8_prop.proofs.top.prop.Goals as goal
 
 pub returns-in-Ok-Some : goal.returns-in-Ok-Some
@@ -34,4 +34,4 @@ returns-in-Err g c =
       out = record { before = g.K.Sink.faults c.args.out.now; now = g.K.Sink.faults c.args.out.now; taken = g.K.Sink.taken c.args.out.now; taken_now = g.K.Sink.taken c.args.out.now };
       faults = record { before = g.E.Sink.faults c.args.faults.now; now = g.E.Sink.faults c.stopped.new.faults; taken = g.E.Sink.taken c.args.faults.now; taken_now = g.E.Sink.taken c.stopped.new.faults };
     } in
-    memory-keeps c.one_verdict.ensures c.one_reading.ensures o _ c.stopped.result c.stopped.ensures.status c.stopped.ensures.wrote (nothing-appended o.out.taken) refl (refl, omega arith, omega arith, c.stopped.ensures.later)
+    memory-keeps c.one_verdict.ensures c.one_reading.ensures o _ c.stopped.result c.stopped.ensures.status c.stopped.ensures.wrote (no-memory-written o.out _ refl) refl (refl, omega arith, omega arith, c.stopped.ensures.later)

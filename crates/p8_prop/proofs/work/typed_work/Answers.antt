@@ -1,5 +1,5 @@
 use Rattle.std.proofs.Common.{◌≡◌, subst, ℕ, List}
-use Rattle.p8_wave.specs.Typed.{typed_text}
+use Rattle.p8_serial.specs.Typed.{typed_text}
 use Rattle.p8_prop.proofs.Coming.{typed-told}
 use Rattle.p8_prop.proofs.work.typed_work.Goals as goal
 

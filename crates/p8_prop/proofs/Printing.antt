@@ -1,0 +1,153 @@
+-- What a call with the words of `raw` or `run` has written.
+use Rattle.std.proofs.Common.{◌≡◌, ◌∙◌, sym, ap, subst, refl, inl, inr, Bool, true, false, List, [], ◌∷◌, Option, Some, None, ℕ}
+use Rattle.std.specs.Prelude.{codes}
+use Rattle.clap.specs.Walk.{Text}
+use Rattle.std.proofs.lemmas.Option.{same_Some}
+use Rattle.p8_io.specs.Shelves.{Files}
+use Rattle.p8_io.specs.Sinks.{Appended}
+use Rattle.p8_access.specs.declared.order.Turn.{Turn}
+use Rattle.p8_access.specs.Worlds.{World}
+use Rattle.p8_finish.specs.declared.finish.Finish.TheVariants.{Trace}
+use Rattle.p8_inputs.specs.declared.program.Format.{Format}
+use Rattle.p8_inputs.specs.declared.program.Format.TheVariants.{Memory, Image, Eeprom, Source}
+use Rattle.p8_inputs.specs.Inputs.{IsProgram}
+use Rattle.p8_inputs.specs.declared.stop.Stop.{Stop}
+use Rattle.p8_inputs.specs.declared.stop.Stop.TheVariants as stop
+use Rattle.p8_commands.specs.declared.table.Subcommand.TheVariants as named
+use Rattle.p8_commands.specs.Commands.{Command, Running, BuildSource, ListSource, MapSource, HintSource, ExplainFile, ExplainNumber, RunMemory, RunProgram, Save, Check, Serial as ReadPin, TypeFile, Wave as ShowWave, Plot as DrawPins, ViewRun, Convert, Make, Help, has_flag, said_to, command_of, alone_of}
+use Rattle.p8_commands.specs.Table.{run_entry}
+use Rattle.p8_prop.specs.declared.status.Status.{Status}
+use Rattle.p8_prop.specs.declared.status.Status.TheVariants as status
+use Rattle.p8_prop.specs.Headline as whole
+use Rattle.p8_prop.specs.Headline.{IsRun, IsHeadline}
+use Rattle.p8_prop.specs.Verdicts.{Outside, Verdict, unsaid, stopped, unexplained, bad, written, unwritten, stop_status, status_of, IsVerdict, IsOut}
+use Rattle.p8_prop.specs.Promises.{HasHeadline, Keeps}
+use Rattle.p8_prop.specs.Runs.{value_in, format_said, IsRunOf, IsTraceOf, PrintsRaw, PrintsRun, PrintsHistory}
+use Rattle.p8_prop.specs.RunLaws.{AreOfRun, IsCommandOf, RunsPrintTheirHistory}
+use Rattle.p8_prop.proofs.Imaging.{told-by}
+use Rattle.p8_prop.proofs.SaidRuns.{said-raw, said-run, command-raw, command-run}
+
+-- ---- status 0 tells that a text was written
+
+abbrev is-ok : Status → Bool
+is-ok status.Ok = true
+is-ok _ = false
+
+stop-not_ok : (reason : Stop) → is-ok (stop_status reason) ≡ false
+stop-not_ok (stop.Unread file) = refl
+stop-not_ok (stop.Missing file mention) = refl
+stop-not_ok stop.NoMemory = refl
+stop-not_ok (stop.Refused source f size) = refl
+stop-not_ok (stop.BadProgram file fault) = refl
+stop-not_ok (stop.BadScript file line) = refl
+stop-not_ok (stop.Unnamed file name) = refl
+
+true-not_false : true ≡ false → ⊥
+true-not_false e = cc
+
+ok-written : (verdict : Verdict) → status.Ok ≡ status_of verdict → (text : List ℕ) × (verdict ≡ written text)
+ok-written unsaid e = absurd (true-not_false (ap is-ok e))
+ok-written (stopped reason) e = absurd (true-not_false (ap is-ok e ∙ stop-not_ok reason))
+ok-written (unexplained reason) e = absurd (true-not_false (ap is-ok e))
+ok-written (bad history turn cause) e = absurd (true-not_false (ap is-ok e))
+ok-written (written text) e = (text, refl)
+ok-written (unwritten text) e = absurd (true-not_false (ap is-ok e))
+
+done : (o : Outside) (command : Option Command) → Keeps o command status.Ok
+    → (is : Command) × (text : List ℕ) × (command ≡ Some is) × Appended o.out.taken o.out.taken_now text × IsHeadline o.shelf.files is text
+done o None keeps =
+    let wrote = ok-written keeps.verdict keeps.answered in
+    absurd (subst (IsVerdict o None) wrote.1 keeps.is_verdict)
+done o (Some is) keeps =
+    let wrote = ok-written keeps.verdict keeps.answered in
+    let out : Appended o.out.taken o.out.taken_now wrote.0 = subst (IsOut o.out (Some is)) wrote.1 keeps.out in
+    let headline : IsHeadline o.shelf.files is wrote.0 = subst (HasHeadline o.shelf.files (Some is)) wrote.1 keeps.headline in
+    (is, wrote.0, refl, out, headline)
+
+-- ---- a command of one thread alone is the command of the words
+
+alone-some : (said : Option Command) (is : Command) → alone_of said ≡ Some is → said ≡ Some is
+alone-some None is e = e
+alone-some (Some (BuildSource short file)) is e = e
+alone-some (Some (ListSource short file)) is e = e
+alone-some (Some (MapSource file)) is e = e
+alone-some (Some (HintSource file)) is e = e
+alone-some (Some (ExplainFile file)) is e = e
+alone-some (Some (ExplainNumber number)) is e = e
+alone-some (Some (RunMemory run)) is e = e
+alone-some (Some (RunProgram false short run)) is e = absurd cc
+alone-some (Some (RunProgram true short run)) is e = e
+alone-some (Some (Save raw run)) is e = e
+alone-some (Some (Check raw file history script)) is e = e
+alone-some (Some (ReadPin raw run pin bits)) is e = e
+alone-some (Some (TypeFile file pin bits start)) is e = e
+alone-some (Some (ShowWave false raw all pins_only run)) is e = absurd cc
+alone-some (Some (ShowWave true raw all pins_only run)) is e = e
+alone-some (Some (DrawPins false raw ascii run pins from to)) is e = absurd cc
+alone-some (Some (DrawPins true raw ascii run pins from to)) is e = e
+alone-some (Some (ViewRun raw pins_only quiet run cog from to dump)) is e = e
+alone-some (Some (Convert kind file)) is e = e
+alone-some (Some (Make false seed)) is e = absurd cc
+alone-some (Some (Make true seed)) is e = e
+alone-some (Some (Help topic)) is e = e
+
+said-some : (words : List Text) (command : Option Command) (is : Command) → IsCommandOf words command → command ≡ Some is → command_of words ≡ Some is
+said-some words command is (inl same) e = sym same ∙ e
+said-some words command is (inr same) e = alone-some (command_of words) is (sym same ∙ e)
+
+-- ---- and its text is the trace of its history
+
+run-of : (files : Files) (format : Format) (file bytes : List ℕ) (w : World) (past : List Turn) → IsProgram files format file bytes
+    → whole.IsToldBySource files format file bytes w past → IsRunOf files format file bytes w past
+run-of files Memory file bytes w past program told = program
+run-of files Image file bytes w past program told = program
+run-of files Eeprom file bytes w past program told = program
+run-of files (Source short) file bytes w past program told = told-by files short file bytes w past told
+
+traced : (files : Files) (format : Format) (run : Running) (text : List ℕ) → IsRun files format run (Trace run.dump) text → IsTraceOf files format run text
+traced files format run text (w, past, is, complete, told) = record {
+  world = w;
+  past = past;
+  bytes = is.bytes;
+  script = is.script;
+  program = run-of files format run.file is.bytes w past is.program is.source;
+  pins = is.pins;
+  begins = is.world;
+  history = is.history;
+  told = told;
+}
+
+prints-raw : (files : Files) (words : List Text) (is : Command) (text : List ℕ) → said_to named.Raw words ≡ Some is → IsHeadline files is text
+    → PrintsRaw files words text
+prints-raw files words is text said headline =
+    let it = said-raw words is said in
+    let run = it.0 in
+    let printed : IsHeadline files (RunMemory run) text = subst (λ (c : Command). IsHeadline files c text) (sym (same_Some _ _ it.2)) headline in
+    (run, it.1, traced files Memory run text printed)
+
+prints-run : (files : Files) (words : List Text) (is : Command) (text : List ℕ) → said_to named.Run words ≡ Some is → IsHeadline files is text
+    → PrintsRun files words text
+prints-run files words is text said headline =
+    let it = said-run words is said in
+    let run = it.0 in
+    let alone = has_flag (codes "alone") (value_in run_entry words) in
+    let short = has_flag (codes "short") (value_in run_entry words) in
+    let printed : IsHeadline files (RunProgram alone short run) text = subst (λ (c : Command). IsHeadline files c text) (sym (same_Some _ _ it.2)) headline in
+    (run, it.1, traced files (format_said words run) run text printed)
+
+prints : (files : Files) (words : List Text) (is : Command) (text : List ℕ) → AreOfRun words → command_of words ≡ Some is → IsHeadline files is text
+    → PrintsHistory files words text
+prints files [] is text run said headline = absurd run
+prints files (word ∷ words) is text (inl raw) said headline =
+    let same : command_of (codes "raw" ∷ words) ≡ Some is = ap (λ (w : Text). command_of (w ∷ words)) (sym raw) ∙ said in
+    let told = prints-raw files (codes "raw" ∷ words) is text (sym (command-raw words) ∙ same) headline in
+    inl (raw, subst (λ (w : Text). PrintsRaw files (w ∷ words) text) (sym raw) told)
+prints files (word ∷ words) is text (inr run) said headline =
+    let same : command_of (codes "run" ∷ words) ≡ Some is = ap (λ (w : Text). command_of (w ∷ words)) (sym run) ∙ said in
+    let told = prints-run files (codes "run" ∷ words) is text (sym (command-run words) ∙ same) headline in
+    inr (run, subst (λ (w : Text). PrintsRun files (w ∷ words) text) (sym run) told)
+
+pub runs-print : RunsPrintTheirHistory
+runs-print o words command run said keeps =
+    let it = done o command keeps in
+    (it.1, it.3, prints o.shelf.files words it.0 it.1 run (said-some words command it.0 said it.2) it.4)
