@@ -35,6 +35,25 @@ impl<S: Shelf> AskedShelf<S> {
     pub fn missing(&self) -> Option<&str> {
         self.missing.as_deref()
     }
+
+    // Keeps the name of a file that it is asked for, where it is the first.
+    fn keep_asked(&mut self, alloc: Global, name: &str)
+        ensures same { self.new.shelf ≡ self.old.shelf }
+    {
+        if !self.is_asked {
+            self.is_asked = true;
+            self.first = String::from_str(alloc, name).ok();
+        }
+    }
+
+    // Keeps the name of a file where it is the first that is missing.
+    fn keep_missing(&mut self, alloc: Global, name: &str, read: &Result<Vec<u8>, ShelfError>)
+        ensures same { self.new.shelf ≡ self.old.shelf }
+    {
+        if let (Err(ShelfError::Missing), None) = (read, &self.missing) {
+            self.missing = String::from_str(alloc, name).ok();
+        }
+    }
 }
 
 impl<S: Shelf> Shelf for AskedShelf<S> {
@@ -51,14 +70,22 @@ impl<S: Shelf> Shelf for AskedShelf<S> {
         ensures kept { S.files self.new.shelf ≡ S.files self.old.shelf }
         ensures logged { WereRead (S.log self.old.shelf) (S.log self.new.shelf) (name.now ∷ []) }
     {
-        if !self.is_asked {
-            self.is_asked = true;
-            self.first = String::from_str(alloc, name).ok();
-        }
+        self.keep_asked(alloc, name);
         let read = self.shelf.read(alloc, name);
-        if let (Err(ShelfError::Missing), None) = (&read, &self.missing) {
-            self.missing = String::from_str(alloc, name).ok();
-        }
+        self.keep_missing(alloc, name, &read);
+        read
+    }
+
+    fn read_named(&mut self, alloc: Global, name: &str) -> Result<Vec<u8>, ShelfError>
+        ensures reads { Reads (S.faults self.old.shelf) (S.faults self.new.shelf) (S.files self.old.shelf) name.now result }
+        ensures limited { IfOk result (λ bytes. vec_len bytes ≤ read_limit) }
+        ensures later { S.faults self.old.shelf ≤ S.faults self.new.shelf }
+        ensures kept { S.files self.new.shelf ≡ S.files self.old.shelf }
+        ensures logged { WereRead (S.log self.old.shelf) (S.log self.new.shelf) (name.now ∷ []) }
+    {
+        self.keep_asked(alloc, name);
+        let read = self.shelf.read_named(alloc, name);
+        self.keep_missing(alloc, name, &read);
         read
     }
 }

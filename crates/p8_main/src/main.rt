@@ -11,10 +11,11 @@ use p8_inputs::Stop;
 use p8_io::{FileShelf, StdSink};
 use p8_prop::{Status, prop};
 use p8_words::NoMemory;
-use std::env::{self, VarError};
+use std::env::{self, FillError};
 use std::io::ErrorKind;
-use std::path::PathBuf;
+use std::path::{Path, PathBuf};
 use std::process::ExitCode;
+use std::rt::Env;
 
 /// The words after the program's name. Where one of them isn't UTF-8 they are no command, as no words
 /// at all are none.
@@ -37,23 +38,41 @@ fn words_of(rt: &HostRuntime) -> Result<Vec<String>, NoMemory> {
     }
 }
 
-/// The folders of the environment's `PROP_PATH`, between which colons stand. Where it isn't UTF-8 there are none, as
-/// where it isn't set.
+/// The most bytes that a variable of the environment is looked at with: as many as Linux lets it have, and more.
+const MOST_BYTES: usize = 1 << 20;
+
+/// The bytes of the environment's `PROP_PATH`, or None where it isn't set or has more than a megabyte.
+fn path_bytes(rt: &HostRuntime) -> Result<Option<Vec<u8>>, NoMemory> {
+    let mut bytes = Vec::new(rt.alloc());
+    for size in [256, 65_536, MOST_BYTES] {
+        bytes.resize(size, 0)?;
+        match rt.var("PROP_PATH", bytes.as_mut_slice()) {
+            Ok(length) => {
+                bytes.truncate(length);
+                return Ok(Some(bytes));
+            }
+            Err(FillError::NotPresent) => return Ok(None),
+            Err(FillError::TooLong) => {}
+        }
+    }
+    Ok(None)
+}
+
+/// The folders of the environment's `PROP_PATH`, between which colons stand. What isn't UTF-8 of it is passed over.
 fn folders_of(rt: &HostRuntime) -> Result<Vec<PathBuf>, NoMemory> {
     let mut folders = Vec::new(rt.alloc());
-    match env::var(rt, "PROP_PATH") {
-        Ok(paths) => {
-            for folder in env::split_paths(&paths) {
-                match folders.push(folder.to_path_buf(rt.alloc())?) {
-                    Ok(()) => {}
-                    Err(_) => return Err(NoMemory),
-                }
+    let Some(bytes) = path_bytes(rt)? else {
+        return Ok(folders);
+    };
+    for part in bytes.split(|byte| *byte == b':') {
+        if let Ok(folder) = str::from_utf8(part) {
+            match folders.push(Path::new(folder).to_path_buf(rt.alloc())?) {
+                Ok(()) => {}
+                Err(_) => return Err(NoMemory),
             }
-            Ok(folders)
         }
-        Err(VarError::OutOfMemory) => Err(NoMemory),
-        Err(_) => Ok(folders),
     }
+    Ok(folders)
 }
 
 /// Whether the words ask for explanations.
@@ -80,7 +99,7 @@ fn main(rt: HostRuntime) -> ExitCode {
         &mut starter,
     );
     if let (Status::Missing, true, Ok(folders)) = (status, explains(&words), folders_of(&rt)) {
-        let _ = tell_places(&rt, &shelf, folders, &mut faults);
+        let _ = tell_places(&rt, &shelf, folders, &mut out, &mut faults);
     }
     ExitCode::from(status.code())
 }

@@ -8,35 +8,66 @@ use std::rt::Files;
 
 /// Tells where the first file that was missing was looked for, a line for each place, and behind it which files may be meant there: those whose
 /// names differ in the case of their letters alone, and the one of that name without its end `.spin`. `folders` are those in which the shelf looks
-/// besides.
+/// besides. Of a file that a source mentions it is told on `out`, behind the explanation, and of the top file on `faults`, behind its line.
 ///
 /// Where there was no memory for a name nothing is told, and where there is none for more no more is.
-pub fn tell_places<R: Files + AllocGlobal + Clone + Drop, S: Shelf, E: Sink>(
+pub fn tell_places<R: Files + AllocGlobal + Clone + Drop, S: Shelf, K: Sink, E: Sink>(
     rt: &R,
     asked: &AskedShelf<S>,
-    mut folders: Vec<PathBuf>,
+    folders: Vec<PathBuf>,
+    out: &mut K,
     faults: &mut E,
 ) -> Result<(), AllocError> {
     let (Some(first), Some(missing)) = (asked.first(), asked.missing()) else {
         return Ok(());
     };
-    if let Some(folder) = folder_of(rt, &folders, first)? {
-        folders.insert(0, folder)?;
+    if first == missing {
+        return tell_each(rt, &places_of(rt.alloc(), &[], missing)?, faults);
     }
-    let places = places_of(rt.alloc(), &folders, Path::new(missing))?;
-    let _ = write_pieces(faults, &[b"It was looked for as\n"]);
-    for place in &places {
-        tell_place(rt, place.as_path(), faults)?;
+    tell_each(
+        rt,
+        &mentioned_places(rt.alloc(), first, folders, missing)?,
+        out,
+    )
+}
+
+// Tells some places.
+fn tell_each<R: Files + AllocGlobal + Clone + Drop, E: Sink>(
+    rt: &R,
+    places: &[PathBuf],
+    told: &mut E,
+) -> Result<(), AllocError> {
+    let _ = write_pieces(told, &[b"It was looked for as\n"]);
+    for place in places {
+        tell_place(rt, place.as_path(), told)?;
     }
     Ok(())
 }
 
-// The places of a name: as it stands, and then in each of the folders. A path from the root has one.
-fn places_of(
+// The places of a file that a source mentions, by the name of the top file: those of its name, and then, where that doesn't end in `.spin`, those of its
+// name with `.spin` behind it.
+fn mentioned_places(
     alloc: Global,
-    folders: &[PathBuf],
-    name: Path<'_>,
+    first: &str,
+    mut folders: Vec<PathBuf>,
+    name: &str,
 ) -> Result<Vec<PathBuf>, AllocError> {
+    if let Some(folder) = Path::new(first).parent() {
+        folders.insert(0, folder.to_path_buf(alloc)?)?;
+    }
+    let mut places = places_of(alloc, &folders, name)?;
+    if !name.ends_with(".spin") {
+        let name = format!(in alloc; "{name}.spin")?;
+        for place in places_of(alloc, &folders, &name)? {
+            places.push(place)?;
+        }
+    }
+    Ok(places)
+}
+
+// The places of a name: as it stands, and then in each of the folders. A path from the root has one.
+fn places_of(alloc: Global, folders: &[PathBuf], name: &str) -> Result<Vec<PathBuf>, AllocError> {
+    let name = Path::new(name);
     let mut places = Vec::new(alloc);
     places.push(name.to_path_buf(alloc)?)?;
     for folder in folders {
@@ -46,20 +77,6 @@ fn places_of(
         }
     }
     Ok(places)
-}
-
-// The folder in which a file was found, or None where it was missing.
-fn folder_of<R: Files + AllocGlobal>(
-    rt: &R,
-    folders: &[PathBuf],
-    name: &str,
-) -> Result<Option<PathBuf>, AllocError> {
-    for place in &places_of(rt.alloc(), folders, Path::new(name))? {
-        if let (true, Some(folder)) = (place.exists(rt), place.as_path().parent()) {
-            return Ok(Some(folder.to_path_buf(rt.alloc())?));
-        }
-    }
-    Ok(None)
 }
 
 // Tells a place, and which files of its folder may be meant.
