@@ -1,7 +1,7 @@
 // Worked calls over a shelf and sinks in memory.
 use crate::calls::{Failing, File, Left, left_by, shelf_failing_at, sink_failing_at, words_in};
 use p8_crew::ThreadStarter;
-use p8_prop::{Status, prop};
+use p8_prop::{Status, prop, prop_alone};
 use p8_words::NoMemory;
 use std::alloc::Global;
 use std::sync::Wait;
@@ -45,6 +45,15 @@ const EXPLANATION: &str = "next.spin:2:14: 6 Unexpected\n\
     `next` is a reserved word, and can't be a name.\n\
     No line begins or goes on so, or the file ends here and more must follow.\n\
     Look at what stands before it: a missing operator, bracket, comma or colon is told at the token after it.\n";
+
+/// The explanation of a pin script, which is no source.
+const SCRIPT: &str = "a.pins:1:1: 6 Unexpected\n\
+    9000 1\n\
+    ^\n\
+    The line begins with `9000`.\n\
+    No line begins or goes on so, or the file ends here and more must follow.\n\
+    Look at what stands before it: a missing operator, bracket, comma or colon is told at the token after it.\n\
+    A pin script is told by prop help run: it has a line for each change, as 9000 00000001, a clock and 8 hexadecimal digits for the pins.\n";
 
 /// The explanation of a file that is missing.
 const ABSENCE: &str = "lost.spin:2:7: kid.spin is missing\n\
@@ -114,7 +123,7 @@ const WRITTEN: &[u8] =
 const PAGE: &[u8] =
     b"prop make SEED [--alone]\nRuns a made program for eight cogs, and writes a summary.\n\
     \x20 SEED: the number of a made program: 1 to 10 digits, at most 4294967295\n\
-    \x20 [--alone]: one thread makes all turns, in place of eight\ne.g. prop make 1\n";
+    \x20 [--alone]: one thread makes all turns, in place of eight\ne.g. prop make 1\ne.g. prop make 4294967295 --alone\n";
 
 /// The line of words that are no command.
 const USAGE: &str =
@@ -174,7 +183,7 @@ fn is_refused(alloc: Global, refusal: &Refusal) -> Result<bool, NoMemory> {
 }
 
 /// Calls and what they write. An option stands before FILE, and another one between FILE and CLOCKS.
-static ANSWERS: [(&str, &[u8]); 18] = [
+static ANSWERS: [(&str, &[u8]); 19] = [
     ("run --alone a.binary --dump=0000:2 20000", TEXT),
     ("build main.spin", IMAGE),
     ("list main.spin", LISTING),
@@ -199,6 +208,7 @@ static ANSWERS: [(&str, &[u8]); 18] = [
     ("help make", PAGE),
     ("explain main.spin", b"main.spin: nothing is refused\n"),
     ("explain 26", ENTRY),
+    ("hint main.spin", b"nothing to hint at\n"),
     ("map main.spin", MAP),
     ("view main.spin 20000 --alone", VIEW),
     ("view five.spin 20000 --quiet --dump x", WRITTEN),
@@ -214,9 +224,8 @@ fn carries_commands_out(rt: HostRuntime) {
     }
 }
 
-/// Calls whose files or whose text are at fault. What is explained shows in the top file or in one below it, which is read once: a third read
-/// would fail.
-static FAULTS: [Refusal; 20] = [
+/// Calls whose files or whose text are at fault.
+static FAULTS: [Refusal; 16] = [
     (
         "build bad.spin",
         0,
@@ -273,7 +282,6 @@ static FAULTS: [Refusal; 20] = [
         Status::BadScript,
         "prop: a.pins: line 1\n",
     ),
-    ("explain outer.spin", 3, 0, Status::Refused, EXPLANATION),
     (
         "build outer.spin",
         3,
@@ -281,8 +289,6 @@ static FAULTS: [Refusal; 20] = [
         Status::Refused,
         "prop: next.spin:2:14: 6 Unexpected\n",
     ),
-    ("explain far.spin", 3, 0, Status::Refused, UNKNOWN),
-    ("explain ring.spin", 3, 0, Status::Refused, RING),
     (
         "explain none.spin",
         0,
@@ -291,15 +297,19 @@ static FAULTS: [Refusal; 20] = [
         "prop: none.spin is missing\n",
     ),
     (
+        "explain next.spin",
+        0,
+        1,
+        Status::SinkFault,
+        "prop: cannot write\n",
+    ),
+    (
         "build lost.spin",
         0,
         0,
         Status::Missing,
         "prop: kid.spin is missing\n",
     ),
-    ("explain lost.spin", 3, 0, Status::Missing, ABSENCE),
-    ("explain deep.spin", 0, 0, Status::Refused, LARGE_FRAME),
-    ("explain wide.spin", 0, 0, Status::Refused, LARGE_IMAGE),
     (
         "list lost.spin",
         3,
@@ -313,6 +323,13 @@ static FAULTS: [Refusal; 20] = [
         0,
         Status::Missing,
         "prop: five.spin: nothing is named y\n",
+    ),
+    (
+        "hint next.spin",
+        0,
+        0,
+        Status::Refused,
+        "prop: next.spin:2:14: 6 Unexpected\n",
     ),
     (
         "map next.spin",
@@ -334,10 +351,69 @@ fn tells_faults(rt: HostRuntime) {
     }
 }
 
+/// Calls that explain, the number of the read that would fail, and their status with what they write. What is explained shows in the top file or in
+/// one below it, which is read once: a third read would fail.
+static EXPLAINED: [(&str, u64, Status, &str); 7] = [
+    ("explain outer.spin", 3, Status::Refused, EXPLANATION),
+    ("explain far.spin", 3, Status::Refused, UNKNOWN),
+    ("explain ring.spin", 3, Status::Refused, RING),
+    ("explain lost.spin", 3, Status::Missing, ABSENCE),
+    ("explain deep.spin", 0, Status::Refused, LARGE_FRAME),
+    ("explain wide.spin", 0, Status::Refused, LARGE_IMAGE),
+    ("explain a.pins", 0, Status::Refused, SCRIPT),
+];
+
+/// Whether a call writes an explanation, has its status, and tells no fault.
+fn is_explained(
+    alloc: Global,
+    line: &str,
+    read: u64,
+    status: Status,
+    text: &str,
+) -> Result<bool, NoMemory> {
+    let left = left(alloc, line, read, 0)?;
+    let is_written = left.out.bytes() == text.as_bytes() && left.faults.bytes().is_empty();
+    Ok(left.status == status && is_written)
+}
+
+#[test]
+fn explains_to_the_output(rt: HostRuntime) {
+    for (line, read, status, text) in &EXPLAINED {
+        assert!(rt;
+            matches!(
+                is_explained(rt.alloc(), line, *read, *status, text),
+                Ok(true)
+            ),
+            "{line}"
+        );
+    }
+}
+
+/// Whether a word without a byte is a file that is missing.
+fn is_empty_name_missing(alloc: Global) -> Result<bool, NoMemory> {
+    let mut words = words_in(alloc, "explain")?;
+    match words.push(String::new(alloc)) {
+        Ok(()) => {}
+        Err(_) => return Err(NoMemory),
+    }
+    let mut out = sink_failing_at(alloc, 0)?;
+    let mut faults = sink_failing_at(alloc, 0)?;
+    let mut shelf = shelf_failing_at(alloc, MAIN, &FILES, 0)?;
+    let status = prop_alone(alloc, &words, &mut shelf, &mut out, &mut faults);
+    drop(shelf);
+    let is_told = faults.bytes() == "prop:  is missing\n".as_bytes();
+    Ok(status == Status::Missing && out.bytes().is_empty() && is_told)
+}
+
+#[test]
+fn an_empty_word_is_a_file(rt: HostRuntime) {
+    assert!(rt; matches!(is_empty_name_missing(rt.alloc()), Ok(true)));
+}
+
 /// Too many turns, pin 32, an option given twice, a call for help as an option, help on another word, a run by a crew, which is no
 /// command for one thread, too great a seed and none, no words, too many clocks, short code of an image, pins and clocks that there
 /// aren't, numbers of digits alone that are none of a refusal, words that these commands don't have, and a cog and a clock that there aren't.
-static NO_COMMANDS: [&str; 25] = [
+static NO_COMMANDS: [&str; 26] = [
     "save a.binary 17 --turns 40001",
     "serial a.binary 1951 32 100",
     "raw a.binary 1 --turns 2 --turns=2",
@@ -360,6 +436,7 @@ static NO_COMMANDS: [&str; 25] = [
     "explain 026",
     "explain main.spin --short",
     "map main.spin 20000",
+    "hint main.spin 20000",
     "view main.spin 20000 --short",
     "view main.spin 20000 --cog 8",
     "view main.spin 20000 --to 20001",

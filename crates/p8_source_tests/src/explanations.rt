@@ -392,7 +392,7 @@ static MISSING: [Missing; 2] = [
             \x20       t : \"v1.2\"\n\
             \x20           ^\n\
             There is no file of this name. Capitals and small letters differ, and a name without a dot gets .spin.\n\
-            Its name has a dot, so no .spin was added to it.\n",
+            Its name has a dot, so .spin is added to it only where no file has the name itself.\n",
     ),
 ];
 

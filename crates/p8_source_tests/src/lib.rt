@@ -1,5 +1,5 @@
 //! Tests of sources and files: of tokens, expressions, trees, names, constants and `DAT`, of shelves and sinks, of what a run begins
-//! with, of images, listings, maps, legends and explanations. Whole files are read and printed by the suite of cases.
+//! with, of images, listings, maps, legends, explanations and hints. Whole files are read and printed by the suite of cases.
 //!
 //! They stand apart from the crates that they test, because a crate with tests is proved twice.
 #![tactic(auto)]
@@ -14,6 +14,8 @@ mod explanations;
 mod expr;
 #[cfg(test)]
 mod faults;
+#[cfg(test)]
+mod hints;
 #[cfg(test)]
 mod images;
 #[cfg(test)]

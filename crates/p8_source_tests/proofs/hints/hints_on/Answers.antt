@@ -1,0 +1,15 @@
+use Rattle.std.proofs.Common.{◌∙◌, length, ap}
+use Rattle.p8_io.specs.contracts.memory_shelf.MemShelfShelf.TheImpl.{ghosts}
+use Rattle.p8_tree.specs.Views.{named_sources_of}
+use Rattle.p8_objects.proofs.Sourcing.{count-of}
+use Rattle.p8_inputs.proofs.Gathering.{mentioned, no_ring}
+use Rattle.p8_source_tests.proofs.hints.hints_on.Goals as goal
+
+pub project_hints-hints-requires-clause-mentioned : goal.project_hints-hints-requires-clause-mentioned
+project_hints-hints-requires-clause-mentioned c = mentioned (named_sources_of c.in-Ok.gathered.project) c.in-Ok.ensures.mentioned
+
+pub project_hints-hints-requires-clause-no_ring : goal.project_hints-hints-requires-clause-no_ring
+project_hints-hints-requires-clause-no_ring c = no_ring (named_sources_of c.in-Ok.gathered.project) c.in-Ok.ensures.no_ring
+
+pub project_hints-hints-requires-clause-beside : goal.project_hints-hints-requires-clause-beside
+project_hints-hints-requires-clause-beside c = ap length c.as_slice.ensures ∙ count-of (ghosts.files c.args.shelf.now) (named_sources_of c.in-Ok.gathered.project) c.in-Ok.gathered.sources c.in-Ok.ensures.sources
