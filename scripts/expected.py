@@ -398,7 +398,7 @@ COMMANDS = {
     "serial": ([anything, CLOCKS, PIN, BITS], {**RUN, "--raw": None}),
     "type": ([anything, PIN, BITS, START], {}),
     "wave": ([anything, CLOCKS], {**RUN, "--raw": None, "--all": None, "--pins-only": None, "--alone": None}),
-    "convert": ([is_image], {}), "make": ([SEED], {"--alone": None}), "map": ([anything], {}), "explain": ([anything], {}),
+    "convert": ([is_image], {}), "make": ([SEED], {"--alone": None}), "map": ([anything], {}), "explain": ([anything], {}), "hint": ([anything], {}),
     "plot": ([anything, CLOCKS, is_drawn], {**RUN, "--raw": None, "--ascii": None, "--alone": None}),
     "view": ([anything, CLOCKS], {
         **RUN, "--alone": None, "--raw": None, "--cog": number(0, 7), "--from": CLOCKS, "--to": CLOCKS, "--pins-only": None, "--quiet": None,
