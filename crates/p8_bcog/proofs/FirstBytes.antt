@@ -3,11 +3,11 @@ use Rattle.std.proofs.Common.{◌≡◌, not, refl, sym, ap, ◌∙◌, arith, �
 use Rattle.std.proofs.lemmas.List.{drop_more}
 use Rattle.std.proofs.lemmas.Bool.Decides.{nat_tests}
 use Rattle.p8_access.specs.Courses.{Course, Finish}
-use Rattle.p8_instr.specs.declared.op.Op.{Op}
-use Rattle.p8_instr.specs.declared.operands.Operands.{Operands}
-use Rattle.p8_instr.specs.declared.operands.Operands.TheVariants.{Nothing, Offset, ShortVariable}
-use Rattle.p8_instr.specs.Table.{rows, in_rows, is_within, operands_of, is_effect, is_step}
-use Rattle.p8_instr.specs.Reading.{bare, sign_extended, jump_in, coded, changes_variable}
+use Rattle.p8_bytecode.specs.declared.op.Op.{Op}
+use Rattle.p8_bytecode.specs.declared.operands.Operands.{Operands}
+use Rattle.p8_bytecode.specs.declared.operands.Operands.TheVariants.{Nothing, Offset, ShortVariable}
+use Rattle.p8_bytecode.specs.Table.{rows, in_rows, is_within, operands_of, is_effect, is_step}
+use Rattle.p8_bytecode.specs.Reading.{bare, sign_extended, jump_in, coded, changes_variable}
 use Rattle.p8_bcog.specs.declared.state.State.{State}
 use Rattle.p8_bcog.specs.Operands.{tested, pushed}
 use Rattle.p8_access.specs.declared.kinds.Width.TheVariants.{Long}

@@ -1,12 +1,12 @@
 -- What a bytecode that is read has: bounds of its operands.
 use Rattle.std.proofs.Common.{◌≡◌, ℕ, ◌%◌, ◌<◌, Bool, true, false, Option, Some, None, refl, ap, subst, ◌∙◌, arith}
 use Rattle.std.proofs.lemmas.Bool.Decides.{nat_tests}
-use Rattle.p8_instr.specs.declared.op.Op.{Op}
-use Rattle.p8_instr.specs.declared.operands.Operands.{Operands}
-use Rattle.p8_instr.specs.declared.operands.Operands.TheVariants.{Nothing, Offset, OneByte, TwoBytes, ThreeBytes, SevenBits, Word, Triple, Long, Register, ShortVariable, Variable}
-use Rattle.p8_instr.specs.Table.{rows, operands_of, is_effect}
-use Rattle.p8_instr.specs.Reading.{changes_variable, changes_register}
-use Rattle.p8_instr.specs.Spelling.{IsOp, FitsOperands, IsChange}
+use Rattle.p8_bytecode.specs.declared.op.Op.{Op}
+use Rattle.p8_bytecode.specs.declared.operands.Operands.{Operands}
+use Rattle.p8_bytecode.specs.declared.operands.Operands.TheVariants.{Nothing, Offset, OneByte, TwoBytes, ThreeBytes, SevenBits, Word, Triple, Long, Register, ShortVariable, Variable}
+use Rattle.p8_bytecode.specs.Table.{rows, operands_of, is_effect}
+use Rattle.p8_bytecode.specs.Reading.{changes_variable, changes_register}
+use Rattle.p8_bytecode.specs.Spelling.{IsOp, FitsOperands, IsChange}
 
 -- an effect that there is
 effect-bound : (e : ℕ) → is_effect e ≡ true → e % 128 < 0x60

@@ -8,7 +8,7 @@ use Rattle.p8_access.specs.declared.kinds.Reason.TheVariants as Why
 use Rattle.p8_access.specs.declared.kinds.Access.TheVariants.{CogStop, LockNew, LockRet, LockSet, LockClr, Wait}
 use Rattle.p8_words.specs.Words.{rotated_left}
 use Rattle.p8_access.specs.Courses.{Course, Finish, Stop}
-use Rattle.p8_instr.specs.declared.op.Op.{Op}
+use Rattle.p8_bytecode.specs.declared.op.Op.{Op}
 use Rattle.p8_bcog.specs.declared.state.State.{State}
 use Rattle.p8_bcog.specs.Code.{fetched}
 use Rattle.p8_bcog.specs.Operands.{operand, pushed, replaced, tested, difference}

@@ -3,7 +3,7 @@
 -- operands; `named` says how many these are.
 use Rattle.std.specs.Prelude.{ℕ, ◌+◌, ◌-◌, ◌%◌, ◌^◌, ◌==◌, ◌&&◌, not, Bool, nat_le, None, if◌then◌else◌}
 use Rattle.p8_access.specs.Courses.{Course}
-use Rattle.p8_instr.specs.declared.op.Op.{Op}
+use Rattle.p8_bytecode.specs.declared.op.Op.{Op}
 use Rattle.p8_bcog.specs.declared.state.State.{State}
 use Rattle.p8_bcog.specs.declared.place.Place.{Place}
 use Rattle.p8_bcog.specs.declared.step.Wanted.TheVariants.{Pushed, Changed, Replaced, Stepped}

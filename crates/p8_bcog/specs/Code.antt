@@ -1,8 +1,8 @@
 -- The code and the tables of a program: they stand in the memory with which the machine began, whose bytes at
 -- $8000 and above count as 0 (this project's profile).
 use Rattle.std.specs.Prelude.{ℕ, ◌+◌, ◌*◌, ◌%◌, ◌^◌, min, Bool, ◌&&◌, nat_lt, nat_le, List, take, slice_index, if◌then◌else◌, Option, None}
-use Rattle.p8_instr.specs.declared.op.Op.{Op}
-use Rattle.p8_instr.specs.Reading.{op_at}
+use Rattle.p8_bytecode.specs.declared.op.Op.{Op}
+use Rattle.p8_bytecode.specs.Reading.{op_at}
 use Rattle.p8_bcog.specs.declared.step.Callee.{Callee}
 
 abbrev pub byte_at : (memory : List ℕ) (address : ℕ) → ℕ

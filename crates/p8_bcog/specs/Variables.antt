@@ -5,7 +5,7 @@ use Rattle.p8_access.specs.declared.kinds.Width.TheVariants.{Byte, Word, Long}
 use Rattle.p8_access.specs.declared.kinds.Access.TheVariants.{CogId}
 use Rattle.p8_access.specs.Proper.{bytes_in}
 use Rattle.p8_access.specs.Courses.{Course, Finish}
-use Rattle.p8_instr.specs.declared.op.Op.{Op}
+use Rattle.p8_bytecode.specs.declared.op.Op.{Op}
 use Rattle.p8_bcog.specs.declared.state.State.{State}
 use Rattle.p8_bcog.specs.declared.place.Place.{Place}
 use Rattle.p8_bcog.specs.declared.place.Place.TheVariants.{Memory, Pins}

@@ -7,8 +7,8 @@ ghost use Rattle.p8_bcog.specs.Cogs.{pasm_start};
 ghost use Rattle.p8_bcog.specs.Laters.{comes};
 ghost use Rattle.p8_bcog.specs.Ready.{IsGood};
 ghost use Rattle.p8_access.specs.Lives.{IsMade};
-ghost use Rattle.p8_instr.specs.Spelling.{IsOp};
-ghost use Rattle.p8_instr.specs.Reading.{bare};
+ghost use Rattle.p8_bytecode.specs.Spelling.{IsOp};
+ghost use Rattle.p8_bytecode.specs.Reading.{bare};
 ghost use Rattle.p8_access.specs.Courses.{Finish};
 ghost use Rattle.p8_bcog.specs.declared.stage.Stage.TheVariants.{Ready};
 ghost use Rattle.p8_bcog.specs.Operands.{tested, pushed};
@@ -24,7 +24,7 @@ use crate::stage::Stage;
 use crate::state::State;
 use crate::step::Step;
 use p8_access::{Access, Origin, Reason, Test, Width};
-use p8_instr::{Op, take_op};
+use p8_bytecode::{Op, take_op};
 use p8_words::{binary, is_unary, rotated_left, unary};
 
 /// A value less 1, where the flag is set.

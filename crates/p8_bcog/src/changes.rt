@@ -14,7 +14,7 @@ use crate::stage::Stage;
 use crate::state::State;
 use crate::step::{Step, Wanted};
 use p8_access::{Reason, Width};
-use p8_instr::Op;
+use p8_bytecode::Op;
 use p8_words::is_unary;
 
 /// How many longs an effect leaves.

@@ -1,6 +1,6 @@
 // The most frequent bytecodes, done straight on their bytes.
 ghost use Rattle.std.specs.Prelude.{ℕ, ◌≡◌, ◌<◌, ◌≤◌, ◌+◌, ◌*◌, ◌%◌, ◌^◌, ◌∷◌, true, List, length, slice_index, IfSome, MatchOption};
-ghost use Rattle.p8_instr.specs.Reading.{sign_extended};
+ghost use Rattle.p8_bytecode.specs.Reading.{sign_extended};
 ghost use Rattle.p8_bcog.specs.Code.{code_of};
 ghost use Rattle.p8_bcog.specs.Bytecodes.{bytecode, clocks};
 ghost use Rattle.p8_bcog.specs.Quick.{finishes, passed, offset_of, jump_size, IsQuick, is_fast_operator, names_long, counts};

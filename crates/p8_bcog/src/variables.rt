@@ -8,7 +8,7 @@ use crate::place::Place;
 use crate::state::State;
 use crate::step::Step;
 use p8_access::{Access, Reason, Width};
-use p8_instr::Op;
+use p8_bytecode::Op;
 
 /// The width of a variable by its bytecode.
 fn width_of(code: u8) -> Width

@@ -2,7 +2,7 @@
 use Rattle.std.proofs.Common.{◌≡◌, ℕ, ◌+◌, Bool, false, None, sym, ◌∙◌, ap, if◌then◌else◌}
 use Rattle.std.specs.Prelude.{slice_index, slice_set}
 use Rattle.p8_instr.specs.Instruction.{writes_result, writes_c, writes_z}
-use Rattle.p8_instr.specs.declared.effect.Effect.{Effect}
+use Rattle.p8_alu.specs.declared.effect.Effect.{Effect}
 use Rattle.p8_cog.specs.declared.state.State.{State}
 use Rattle.p8_cog.specs.Replay.{Course, at_hand, next_of, register_access, written_by, ends_after}
 

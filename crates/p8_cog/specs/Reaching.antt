@@ -7,7 +7,7 @@ use Rattle.p8_access.specs.Windows.{window_of}
 use Rattle.p8_access.specs.Proper.{value_of}
 use Rattle.p8_access.specs.Lives.{is_last, has_ended, IsOnTime}
 use Rattle.p8_instr.specs.declared.instruction.Instr.{Instr}
-use Rattle.p8_instr.specs.declared.effect.Effect.{Effect}
+use Rattle.p8_alu.specs.declared.effect.Effect.{Effect}
 use Rattle.p8_cog.specs.declared.kind.Kind.{Kind}
 use Rattle.p8_cog.specs.declared.kind.Kind.TheVariants.{Skipped, Halting, OfHub, Waiting, Computing}
 use Rattle.p8_cog.specs.declared.hub.Request.{Request}

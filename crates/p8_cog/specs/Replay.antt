@@ -19,8 +19,8 @@ use Rattle.p8_access.specs.Proper.{bytes_in, value_of}
 use Rattle.p8_access.specs.Lives.{Loaded, Begun, PasmBegun, SpinBegun, is_last}
 use Rattle.p8_instr.specs.declared.instruction.Instr.{Instr}
 use Rattle.p8_instr.specs.Instruction.{instr_of, bit_range, writes_z, writes_c, writes_result, is_immediate}
-use Rattle.p8_instr.specs.declared.effect.Effect.{Effect}
-use Rattle.p8_instr.specs.Effects.{effect_of, plain_effect, sum_effect, is_set}
+use Rattle.p8_alu.specs.declared.effect.Effect.{Effect}
+use Rattle.p8_alu.specs.Effects.{effect_of, plain_effect, sum_effect, is_set}
 use Rattle.p8_cog.specs.declared.kind.Kind.{Kind}
 use Rattle.p8_cog.specs.declared.kind.Kind.TheVariants.{Skipped, Halting, OfHub, Waiting, Computing}
 use Rattle.p8_cog.specs.declared.hub.Request.{Request}

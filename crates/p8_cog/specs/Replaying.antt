@@ -11,7 +11,7 @@ use Rattle.p8_access.specs.Proper.{value_of}
 use Rattle.p8_access.specs.Lives.{Loaded, Begun, PasmBegun, SpinBegun, first_turn_of, is_last, IsOnTime, IsTurnAt}
 use Rattle.p8_instr.specs.declared.instruction.Instr.{Instr}
 use Rattle.p8_instr.specs.Instruction.{writes_result, is_immediate}
-use Rattle.p8_instr.specs.declared.effect.Effect.{Effect}
+use Rattle.p8_alu.specs.declared.effect.Effect.{Effect}
 use Rattle.p8_cog.specs.declared.kind.Kind.{Kind}
 use Rattle.p8_cog.specs.declared.kind.Kind.TheVariants.{Skipped, Halting, OfHub, Waiting, Computing}
 use Rattle.p8_cog.specs.declared.hub.Request.{Request}

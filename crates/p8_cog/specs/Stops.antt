@@ -7,7 +7,7 @@ use Rattle.p8_access.specs.declared.lives.Next.TheVariants.{At, Quiet, More}
 use Rattle.p8_access.specs.Lives.{IsMade, IsOnTime}
 use Rattle.p8_instr.specs.declared.instruction.Instr.{Instr}
 use Rattle.p8_instr.specs.Instruction.{writes_z, writes_c}
-use Rattle.p8_instr.specs.declared.effect.Effect.{Effect}
+use Rattle.p8_alu.specs.declared.effect.Effect.{Effect}
 use Rattle.p8_cog.specs.declared.kind.Kind.{Kind}
 use Rattle.p8_cog.specs.declared.kind.Kind.TheVariants.{Skipped, Halting, OfHub, Waiting, Computing}
 use Rattle.p8_cog.specs.declared.state.State.{State}

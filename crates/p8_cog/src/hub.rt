@@ -1,13 +1,14 @@
 // The accesses of the hub, and what they leave.
 ghost use Rattle.std.specs.Prelude.{◌≡◌, ◌<◌, ◌*◌, ◌/◌, ◌%◌, ◌^◌};
-ghost use Rattle.p8_instr.specs.Effects.{plain_effect};
+ghost use Rattle.p8_alu.specs.Effects.{plain_effect};
 ghost use Rattle.p8_access.specs.Lives.{IsMade, is_last};
 ghost use Rattle.p8_access.specs.Proper.{IsAligned, IsReduced, bytes_in, value_of};
 ghost use Rattle.p8_cog.specs.Replay.{answered, hub_address, read_access, mode_access, start_access, move_request, operation_request, hub_request};
 
 use crate::kind::HUBOP;
 use p8_access::{Access, Answer, Origin, Reason, Width};
-use p8_instr::{Effect, Instr};
+use p8_alu::Effect;
+use p8_instr::Instr;
 
 /// An access of the hub, and the result that it has where its answer holds no number.
 #[derive(Clone, Copy)]

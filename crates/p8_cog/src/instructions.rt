@@ -16,7 +16,8 @@ use crate::kind::{
 };
 use crate::state::State;
 use p8_access::{Access, Answer, Reason, Test, Turn, window};
-use p8_instr::{Effect, Instr, decode};
+use p8_alu::Effect;
+use p8_instr::{Instr, decode};
 
 /// The address in a cog that a value is taken as.
 #[inline(always)]

@@ -8,7 +8,8 @@ use crate::hub::value_in;
 use crate::kind::{INB, PAR, source_access};
 use crate::registers::{LOADED_LONGS, Registers};
 use p8_access::{Access, Turn};
-use p8_instr::{Effect, decode, execute};
+use p8_alu::{Effect, execute};
+use p8_instr::decode;
 use p8_words::NoMemory;
 use std::alloc::Global;
 

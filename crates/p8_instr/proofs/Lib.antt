@@ -3,7 +3,3 @@ pub mod Naming
 pub mod Entries
 mod Digits
 mod Pairs
-pub mod ReadBack
-pub mod Standing
-pub mod Places
-pub mod WholeSums

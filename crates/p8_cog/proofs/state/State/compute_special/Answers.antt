@@ -1,6 +1,6 @@
 use Rattle.std.proofs.Common.{◌≡◌, None, sym, ap, ◌∙◌}
 use Rattle.p8_instr.specs.declared.instruction.Instr.{Instr}
-use Rattle.p8_instr.specs.declared.effect.Effect.{Effect}
+use Rattle.p8_alu.specs.declared.effect.Effect.{Effect}
 use Rattle.p8_cog.specs.Instructions.{source_access}
 use Rattle.p8_cog.specs.Replay.{at_hand, effect, result_access}
 use Rattle.p8_cog.proofs.Apart.{is-none, done-apart}

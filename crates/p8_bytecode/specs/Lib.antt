@@ -1,0 +1,4 @@
+-- What the public contracts cite.
+pub mod Table
+pub mod Reading
+pub mod Spelling

@@ -1,5 +1,0 @@
-use Rattle.p8_instr.proofs.Places.{destination_replaced}
-use Rattle.p8_instr.proofs.operations.with_destination.Goals as goal
-
-pub returns : goal.returns
-returns c = destination_replaced c.args.a c.args.b c.ranges.a.fits

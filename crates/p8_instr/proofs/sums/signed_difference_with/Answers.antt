@@ -1,9 +1,0 @@
-use Rattle.std.proofs.Common.{◌∙◌, ap}
-use Rattle.p8_instr.specs.Effects.{signed_effect}
-use Rattle.p8_instr.proofs.WholeSums.{signed_difference-exact}
-use Rattle.p8_instr.proofs.sums.signed_difference_with.Goals as goal
-
-pub returns : goal.returns
-returns c =
-    c.of_signed.ensures
-    ∙ ap signed_effect (signed_difference-exact c.args.a c.args.b c.args.c c.signed.result c.signed-2.result c.ranges.a.fits c.ranges.b.fits c.signed.ensures c.signed-2.ensures)
