@@ -1,6 +1,6 @@
 -- A file is cut in one way, and has one answer.
 use Rattle.std.proofs.Common.{◌≡◌, ℕ, ◌+◌, ◌-◌, ◌<◌, ◌≤◌, ◌⊎◌, inl, inr, List, [], ◌∷◌, ◌++◌, length, drop, get_or, Bool, true, false, refl, sym, ap, ◌∙◌, subst, arith}
-use Rattle.std.specs.Prelude.{if◌then◌else◌, IsTrue, filter_map}
+use Rattle.std.specs.Prelude.{IsTrue, filter_map}
 use Rattle.std.proofs.lemmas.Bool.Decides.{nat_tests}
 use Rattle.std.proofs.lemmas.Bool.{cases_lt}
 use Rattle.std.proofs.lemmas.List.{length-drop, length-take-le}
@@ -15,7 +15,7 @@ use Rattle.p8_lexer.specs.declared.token.TokenKind.TheVariants.{Name, Number, Fl
 use Rattle.p8_tree.specs.declared.refusal.Refusal.{Refusal}
 use Rattle.p8_tree.specs.declared.refusal.Refusal.TheVariants.{BadByte, BadNumber, OpenComment, OpenString, NameTooLong, FileTooLong}
 use Rattle.p8_tree.specs.declared.places.Place.{Place}
-use Rattle.p8_lexer.specs.Characters.{is_utf16, units, text_of, ends_in_half}
+use Rattle.p8_lexer.specs.Characters.{is_utf16, mark_length, decoded, text_of, ends_in_half}
 use Rattle.p8_lexer.specs.Places.{start, place_of}
 use Rattle.p8_tree.specs.Refusals.{refusal_number}
 use Rattle.p8_tree.specs.Faults.{fault}
@@ -36,11 +36,11 @@ one_more text at mid (q ∷ ps) p h begin le cut good = (h.0, h.1, h.2, h.3, one
 piece_at : ℕ → Cut → Piece
 piece_at at cut = record { kind = cut.kind; begin = at; end = at + cut.length }
 
-added : (bytes : List ℕ) (at : ℕ) (cut : Cut) → piece_tokens (is_utf16 bytes) at (place_of (text_of bytes) at) cut ≡ filter_map (token_of bytes) (piece_at at cut ∷ [])
+added : (bytes : List ℕ) (at : ℕ) (cut : Cut) → piece_tokens bytes at (place_of (text_of bytes) at) cut ≡ filter_map (token_of bytes) (piece_at at cut ∷ [])
 unfolding piece_at
 added bytes at cut = go cut.kind
   where
-    go : (k : PieceKind) → piece_tokens (is_utf16 bytes) at (place_of (text_of bytes) at) (record { kind = k; length = cut.length }) ≡ filter_map (token_of bytes) (record { kind = k; begin = at; end = at + cut.length } ∷ [])
+    go : (k : PieceKind) → piece_tokens bytes at (place_of (text_of bytes) at) (record { kind = k; length = cut.length }) ≡ filter_map (token_of bytes) (record { kind = k; begin = at; end = at + cut.length } ∷ [])
     go Blank = refl
     go LineComment = refl
     go Comment = refl
@@ -56,7 +56,7 @@ pub record SoFar (bytes : List ℕ) (at : ℕ) (tokens : List Token) : Type 0 wh
 pub nothing_yet : (bytes : List ℕ) → SoFar bytes 0 []
 nothing_yet bytes = record { pieces = []; cut = refl; are = refl }
 
-pub one_further : (bytes : List ℕ) (at : ℕ) (tokens more : List Token) (cut : Cut) (place : Place) → SoFar bytes at tokens → place ≡ place_of (text_of bytes) at → IsCut (drop at (text_of bytes)) cut → more ≡ tokens ++ piece_tokens (is_utf16 bytes) at place cut → SoFar bytes (at + cut.length) more
+pub one_further : (bytes : List ℕ) (at : ℕ) (tokens more : List Token) (cut : Cut) (place : Place) → SoFar bytes at tokens → place ≡ place_of (text_of bytes) at → IsCut (drop at (text_of bytes)) cut → more ≡ tokens ++ piece_tokens bytes at place cut → SoFar bytes (at + cut.length) more
 unfolding piece_at
 one_further bytes at tokens more cut place s p is e =
     let n : cut.length ≡ at + cut.length - at = omega arith in
@@ -64,15 +64,15 @@ one_further bytes at tokens more cut place s p is e =
     record {
       pieces = s.pieces ++ piece_at at cut ∷ [];
       cut = one_more text 0 at s.pieces (piece_at at cut) s.cut refl (omega arith) (subst (λ n. Cuts cut.kind (drop at text) n) n is.0) (subst (λ n. IsGood cut.kind (drop at text) n) n is.1);
-      are = e ∙ ap (λ p. tokens ++ piece_tokens (is_utf16 bytes) at p cut) p ∙ ap (λ ts. tokens ++ ts) (added bytes at cut) ∙ ap (λ ts. ts ++ filter_map (token_of bytes) (piece_at at cut ∷ [])) s.are ∙ sym (filter_map-append (token_of bytes) s.pieces (piece_at at cut ∷ []));
+      are = e ∙ ap (λ p. tokens ++ piece_tokens bytes at p cut) p ∙ ap (λ ts. tokens ++ ts) (added bytes at cut) ∙ ap (λ ts. ts ++ filter_map (token_of bytes) (piece_at at cut ∷ [])) s.are ∙ sym (filter_map-append (token_of bytes) s.pieces (piece_at at cut ∷ []));
     }
 
 pub text_short : (bytes : List ℕ) → length (text_of bytes) ≤ length bytes
-text_short bytes = go (is_utf16 bytes)
+text_short bytes = go (is_utf16 bytes) (mark_length bytes)
   where
-    go : (u : Bool) → length (if u then units (drop 2 bytes) else bytes) ≤ length bytes
-    go true = omega (arith, units-length (drop 2 bytes), length-drop 2 bytes)
-    go false = omega arith
+    go : (u : Bool) (n : ℕ) → length (decoded u (drop n bytes)) ≤ length bytes
+    go true n = omega (arith, units-length (drop n bytes), length-drop n bytes)
+    go false n = omega (arith, length-drop n bytes)
 
 -- there is one way
 

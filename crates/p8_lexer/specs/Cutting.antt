@@ -1,5 +1,5 @@
 -- internal: what the functions that cut a piece off a text say to each other.
-use Rattle.std.specs.Prelude.{ℕ, ◌+◌, ◌*◌, ◌<◌, ◌≤◌, Bool, false, if◌then◌else◌, List, [], ◌∷◌, length, Option, Some, None, MatchOption, Result, Ok, Err, MatchResult}
+use Rattle.std.specs.Prelude.{ℕ, ◌+◌, ◌<◌, ◌≤◌, false, List, [], ◌∷◌, length, Option, Some, None, MatchOption, Result, Ok, Err, MatchResult}
 use Rattle.p8_tree.specs.declared.places.Place.{Place}
 use Rattle.p8_lexer.specs.declared.token.Token.{Token}
 use Rattle.p8_lexer.specs.declared.piece.Cut.{Cut}
@@ -8,6 +8,7 @@ use Rattle.p8_lexer.specs.declared.piece.PieceKind.TheVariants.{Token as TokenOf
 use Rattle.p8_lexer.specs.declared.token.TokenKind.TheVariants.{Symbol}
 use Rattle.p8_tree.specs.declared.refusal.Refusal.{Refusal}
 use Rattle.p8_tree.specs.declared.refusal.Refusal.TheVariants.{OpenComment}
+use Rattle.p8_lexer.specs.Characters.{offset_of}
 use Rattle.p8_lexer.specs.Lexing.{Is, Cuts, IsGood, IsStuck}
 
 -- the greatest number at which a fact holds, among those up to a limit
@@ -40,12 +41,9 @@ abbrev pub OnlySymbols : List ℕ → Type 0
 OnlySymbols text = (k : PieceKind) (n : ℕ) → n ≤ length text → Is k text n → IsSymbol k
 
 -- the token that a piece at a place is, unless it's a blank or a comment
-abbrev pub piece_tokens : Bool → ℕ → Place → Cut → List Token
-piece_tokens utf16 at place cut = tokens_of_kind cut.kind
+abbrev pub piece_tokens : List ℕ → ℕ → Place → Cut → List Token
+piece_tokens bytes at place cut = tokens_of_kind cut.kind
   where
-    offset : ℕ → ℕ
-    offset n = if utf16 then 2 * n + 2 else n
-
     tokens_of_kind : PieceKind → List Token
-    tokens_of_kind (TokenOf k) = record { place = place; kind = k; begin = offset at; end = offset (at + cut.length) } ∷ []
+    tokens_of_kind (TokenOf k) = record { place = place; kind = k; begin = offset_of bytes at; end = offset_of bytes (at + cut.length) } ∷ []
     tokens_of_kind _ = []

@@ -12,6 +12,8 @@ pub data Piece : Type 0 where
   word : Word → Place → Piece
   -- a name that isn't reserved, in capitals
   name : List ℕ → Place → Piece
+  -- the word behind the colon of a local label, in capitals
+  label : List ℕ → Place → Piece
   -- a string's characters
   text : List ℕ → Place → Piece
   -- an expression, with the place of its first token
@@ -21,6 +23,7 @@ pub data Piece : Type 0 where
 abbrev pub piece_of : code.Piece → Piece
 piece_of (code_case.Word w p) = word w p
 piece_of (code_case.Name n p) = name n p
+piece_of (code_case.Label n p) = label n p
 piece_of (code_case.Text t p) = text t p
 piece_of (code_case.Tree e p) = tree (tree_of e) p
 

@@ -1,7 +1,7 @@
 // The characters of a source, in either encoding.
 
 ghost use Rattle.std.specs.Prelude.{◌≡◌, ◌+◌, ◌-◌, ◌*◌, ◌^◌, ◌<◌, ◌≤◌, ◌↔◌, [], IsTrue, length, drop, take, slice_get, slice_index};
-ghost use Rattle.p8_lexer.specs.Characters.{is_utf16, ends_in_half, text_of, characters};
+ghost use Rattle.p8_lexer.specs.Characters.{is_utf16, is_marked, mark_length, ends_in_half, text_of, characters};
 ghost use Rattle.p8_lexer.specs.Spelling.{text_in};
 
 use crate::token::Token;
@@ -16,7 +16,8 @@ const LONGEST: usize = 1_048_576;
 /// Characters of a file, each below 256: all of its text, or a part of it.
 ///
 /// They are read from the bytes of the file as they are asked for. A file that begins with FF FE is UTF-16 with the
-/// low byte first, and a unit above 255 counts as `?`; in every other file a character is a byte.
+/// low byte first, and a unit above 255 counts as `?`; in every other file a character is a byte, but for the mark
+/// EF BB BF of UTF-8 in front.
 #[derive(Debug, Drop)]
 pub struct Characters<'a> {
     bytes: &'a [u8],
@@ -46,6 +47,28 @@ pub fn ends_in_half(bytes: &[u8]) -> bool
     is_utf16(bytes) && bytes.len() % 2 == 1
 }
 
+// Whether a file begins with the mark of UTF-8.
+fn is_marked(bytes: &[u8]) -> bool
+    ensures { result ≡ is_marked bytes.now }
+{
+    bytes.len() >= 3 && bytes[0] == 0xef && bytes[1] == 0xbb && bytes[2] == 0xbf
+}
+
+/// How many bytes stand in front of the text of a file: the mark of its encoding.
+pub fn mark_length(bytes: &[u8]) -> usize
+    ensures is { result ≡ mark_length bytes.now }
+    ensures within { result ≤ length bytes.now }
+    ensures few { result ≤ 3 }
+{
+    if is_utf16(bytes) {
+        2
+    } else if is_marked(bytes) {
+        3
+    } else {
+        0
+    }
+}
+
 // The bytes after the first `n`.
 fn rest(bytes: &[u8], n: usize) -> &[u8]
     requires { n ≤ length bytes.now }
@@ -67,16 +90,9 @@ impl<'a> Characters<'a> {
     pub fn of_file(bytes: &'a [u8]) -> Characters<'a>
         ensures { result ≡ text_of bytes.now }
     {
-        if is_utf16(bytes) {
-            Characters {
-                bytes: &bytes[2..],
-                utf16: true,
-            }
-        } else {
-            Characters {
-                bytes,
-                utf16: false,
-            }
+        Characters {
+            bytes: rest(bytes, mark_length(bytes)),
+            utf16: is_utf16(bytes),
         }
     }
 

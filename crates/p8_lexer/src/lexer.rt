@@ -1,13 +1,14 @@
 // From a file to its tokens.
 
-ghost use Rattle.std.specs.Prelude.{◌≡◌, ◌+◌, ◌*◌, ◌<◌, ◌≤◌, ◌^◌, ◌++◌, ℕ, List, if◌then◌else◌, length, IfOk, IfErr, OnOk};
+ghost use Rattle.std.specs.Prelude.{◌≡◌, ◌+◌, ◌<◌, ◌≤◌, ◌^◌, ◌++◌, ℕ, List, length, IfOk, IfErr, OnOk};
 ghost use Rattle.p8_lexer.specs.declared.token.Token as token;
 ghost use Rattle.p8_tree.specs.declared.faults.Fault.{Fault};
 ghost use Rattle.p8_tree.specs.Faults.{IfRefused};
+ghost use Rattle.p8_lexer.specs.Characters.{offset_of};
 ghost use Rattle.p8_lexer.specs.Lexing.{longest_file, AreTokens, IsFault};
 ghost use Rattle.p8_lexer.specs.Cutting.{piece_tokens};
 
-use crate::characters::{Characters, ends_in_half, is_utf16};
+use crate::characters::{Characters, ends_in_half, is_utf16, mark_length};
 use crate::cut::first_cut;
 use crate::piece::{Cut, PieceKind};
 use crate::place::{START, place_at};
@@ -34,14 +35,13 @@ pub fn lex(alloc: Global, bytes: &[u8]) -> Result<Tokens, Fail<Fault>>
         return Err(Fail::Refused(Refusal::FileTooLong.at(START)));
     }
     let text = Characters::of_file(bytes);
-    let utf16 = is_utf16(bytes);
     let mut tokens = Vec::new(alloc);
     let mut at = 0;
     let mut place = START;
     'pieces: while at < text.len() {
         match first_cut(&text.skip(at)) {
             Ok(cut) => {
-                add(&mut tokens, utf16, at, place, cut)?;
+                add(&mut tokens, bytes, at, place, cut)?;
                 place = place_at(&text, at, at + cut.length, place);
                 at += cut.length;
             }
@@ -57,31 +57,32 @@ pub fn lex(alloc: Global, bytes: &[u8]) -> Result<Tokens, Fail<Fault>>
 // Adds the token that a piece is, unless it's a blank or a comment.
 fn add(
     tokens: &mut Vec<Token>,
-    utf16: bool,
+    bytes: &[u8],
     at: usize,
     place: Place,
     cut: Cut,
 ) -> Result<(), AllocError>
     requires { at + cut.length ≤ 2 ^ 20 }
-    ensures { OnOk result (tokens.new.items ≡ tokens.old.items ++ piece_tokens utf16 at place cut) }
+    ensures { OnOk result (tokens.new.items ≡ tokens.old.items ++ piece_tokens bytes.now at place cut) }
 {
     if let PieceKind::Token(kind) = cut.kind {
         tokens.push(Token {
             place,
             kind,
-            begin: offset(utf16, at),
-            end: offset(utf16, at + cut.length),
+            begin: offset(bytes, at),
+            end: offset(bytes, at + cut.length),
         })?;
     }
     Ok(())
 }
 
 // Where in a file a character begins.
-fn offset(utf16: bool, at: usize) -> usize
+fn offset(bytes: &[u8], at: usize) -> usize
     requires { at ≤ 2 ^ 20 }
-    ensures { result ≡ if utf16 then 2 * at + 2 else at }
+    ensures { result ≡ offset_of bytes.now at }
 {
-    if utf16 { 2 * at + 2 } else { at }
+    let behind = if is_utf16(bytes) { 2 * at } else { at };
+    mark_length(bytes) + behind
 }
 
 /// A file of at most 1,048,576 bytes never has both tokens and a refusal, and no file has two lists of tokens or two

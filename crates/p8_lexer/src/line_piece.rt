@@ -11,6 +11,8 @@ pub enum Piece {
     Word(Word, Place),
     /// A name that isn't reserved, in capitals, with its place.
     Name(Text, Place),
+    /// The word behind the colon of a local label, reserved or not, in capitals, with its place.
+    Label(Text, Place),
     /// A string's characters, with the place of its first quote.
     Text(Text, Place),
     /// An expression, with the place of its first token.

@@ -20,7 +20,7 @@ use Rattle.p8_tree.specs.declared.statements.Stmt.{roll-Stmt}
 use Rattle.p8_tree.specs.declared.statements.Arm as code_arm
 use Rattle.p8_tree.specs.declared.statements.Arm.{roll-Arm}
 use Rattle.p8_tree.specs.declared.statements.Loop as loop
-use Rattle.p8_tree.specs.Expressions.{node, Tree, Item, Trees, no_trees, ◌▷◌, Items, no_items, ◌▸◌, Index, no_index, index, Call, Built, Look}
+use Rattle.p8_tree.specs.Expressions.{node, Tree, Item, Trees, no_trees, ◌▷◌, Items, no_items, ◌▸◌, Index, no_index, index, Call, Strings, Built, Look}
 use Rattle.p8_tree.specs.Statements.{statement, Statement, Arm, Statements, no_statements, ◌▹◌, Arms, no_arms, ◌⊳◌, arm, Otherwise, nothing_else, otherwise, If, Case, Repeat}
 use Rattle.p8_tree.specs.Lists.{tree_list, fold_trees, item_list, fold_items, arm_list, fold_arms, statement_list, fold_statements}
 use Rattle.p8_tree.specs.Views.{form_of, call_of, index_of, tree_of, trees_from, trees_after, trees_of, items_from, items_after, items_of, item_of, action_of, arm_of, otherwise_of, statement_of, statements_from, statements_after, statements_of, arms_from, arms_after, arms_of, course_of}
@@ -74,6 +74,7 @@ arm_row_is before n (stmt_kind.more_of-Arm {n = m} x rest) = arm_row_is (before 
 -- the rows that a form holds
 abbrev exprs_in : kind.ExprKind → (n : Count) × kind.Row_of-Expr n
 exprs_in (kind.Built' code shape row) = (_, row)
+exprs_in (kind.Strings' shape row) = (_, row)
 exprs_in _ = (_, kind.end_of-Expr)
 
 abbrev items_in : kind.ExprKind → (n : Count) × kind.Row_of-Item n
@@ -112,6 +113,11 @@ pub built_is : (code : ℕ) (v : Vec expr.Expr Global) → form_of (kind_case.Bu
 built_is code v =
     let r = exprs_in (kind_case.Built code v) in
     ap (Built code) (expr_row_is no_trees r.0 r.1 ∙ ap trees_of (kind.items_hidden-the_row-Expr-0 v))
+
+pub strings_is : (v : Vec expr.Expr Global) → form_of (kind_case.Strings v) ≡ Strings (trees_of v.items)
+strings_is v =
+    let r = exprs_in (kind_case.Strings v) in
+    ap Strings (expr_row_is no_trees r.0 r.1 ∙ ap trees_of (kind.items_hidden-the_row-Expr-0 v))
 
 pub look_is : (code : ℕ) (b : Box expr.Expr Global) (v : Vec item.Item Global) → form_of (kind_case.Look code b v) ≡ Look code (tree_of b.value) (items_of v.items)
 look_is code b v =

@@ -14,6 +14,7 @@ mutual
   pub data Form : Type 0 where
     Number : ℕ → Form
     Str : List ℕ → Form
+    Strings : Trees → Form
     Here : Form
     Var : Variable → Form
     -- whether it stops an abort, the object with its index, the method's name and place, and the

@@ -1,7 +1,7 @@
 -- Equality but for places: two trees are the same once each place is forgotten.
 use Rattle.std.specs.Prelude.{◌≡◌, map, option_map}
 use Rattle.p8_tree.specs.declared.places.Place.{Place}
-use Rattle.p8_tree.specs.Expressions.{Tree, node, Form, Number, Str, Here, Var, Call, Unary, Binary, Assign, Change, Address, ObjectAddress, ObjConst, Built, Look, Variable, Named, Part, Memory, Register, Index, no_index, index, Bits, whole, bits, Item, single, range, Trees, no_trees, ◌▷◌, Items, no_items, ◌▸◌}
+use Rattle.p8_tree.specs.Expressions.{Tree, node, Form, Number, Str, Strings, Here, Var, Call, Unary, Binary, Assign, Change, Address, ObjectAddress, ObjConst, Built, Look, Variable, Named, Part, Memory, Register, Index, no_index, index, Bits, whole, bits, Item, single, range, Trees, no_trees, ◌▷◌, Items, no_items, ◌▸◌}
 use Rattle.p8_tree.specs.Statements.{Course, Forever, Count, Before, After, From, Statement, statement, Action, Do, If, Case, Repeat, Next, Quit, Return, Abort, Arm, arm, Otherwise, nothing_else, otherwise, Statements, no_statements, ◌▹◌, Arms, no_arms, ◌⊳◌}
 use Rattle.p8_tree.specs.Sources as sources
 use Rattle.p8_tree.specs.Sources.{Constant, Declared, Child, MethodTree, Datum, Instruction, Contents, Line, BlockTree, Source}
@@ -17,6 +17,7 @@ abbrev mutual
   pub form_anywhere : Form → Form
   form_anywhere (Number n) = Number n
   form_anywhere (Str text) = Str text
+  form_anywhere (Strings items) = Strings (trees_anywhere items)
   form_anywhere Here = Here
   form_anywhere (Var v) = Var (variable_anywhere v)
   form_anywhere (Call trap object i name place args) = Call trap object (index_anywhere i) name anywhere (trees_anywhere args)

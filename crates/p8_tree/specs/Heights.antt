@@ -1,7 +1,7 @@
 -- How high a tree is: an expression without another inside it has height 1. Parentheses leave no tree, so they add no
 -- height.
 use Rattle.std.specs.Prelude.{ℕ, suc, max}
-use Rattle.p8_tree.specs.Expressions.{Tree, node, Form, Number, Str, Here, Var, Call, Unary, Binary, Assign, Change, Address, ObjectAddress, ObjConst, Built, Look, Variable, Named, Part, Memory, Register, Index, no_index, index, Bits, whole, bits, Item, single, range, Trees, no_trees, ◌▷◌, Items, no_items, ◌▸◌}
+use Rattle.p8_tree.specs.Expressions.{Tree, node, Form, Number, Str, Strings, Here, Var, Call, Unary, Binary, Assign, Change, Address, ObjectAddress, ObjConst, Built, Look, Variable, Named, Part, Memory, Register, Index, no_index, index, Bits, whole, bits, Item, single, range, Trees, no_trees, ◌▷◌, Items, no_items, ◌▸◌}
 
 abbrev mutual
   pub height : Tree → ℕ
@@ -11,6 +11,7 @@ abbrev mutual
   pub height_in : Form → ℕ
   height_in (Number n) = 0
   height_in (Str t) = 0
+  height_in (Strings es) = height_of_trees es
   height_in Here = 0
   height_in (Var v) = height_in_variable v
   height_in (Call trap object i n p es) = max (height_in_index i) (height_of_trees es)

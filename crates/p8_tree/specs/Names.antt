@@ -93,10 +93,16 @@ pub record IsName (n : List ℕ) : Type 0 where
   pub short : length n ≤ 30
   pub free : is_reserved n ≡ false
 
--- the name of a label; that of a local one has its colon
+-- a word, reserved or not, in capitals
+pub record IsWord (n : List ℕ) : Type 0 where
+  pub begins : IsTrue (begins_name n)
+  pub characters : All (λ c. IsTrue (is_in_name c)) n
+  pub short : length n ≤ 30
+
+-- the name of a label; that of a local one is any word behind its colon
 pub data IsLabel : List ℕ → Type 0 where
   plain : {n : List ℕ} → IsName n → IsLabel n
-  behind_colon : {n : List ℕ} → IsName n → IsLabel (58 ∷ n)
+  behind_colon : {n : List ℕ} → IsWord n → IsLabel (58 ∷ n)
 
 -- whether a label is local: it begins with a colon
 abbrev pub is_local : List ℕ → Bool
@@ -107,7 +113,7 @@ is_local (c ∷ cs) = c == 58
 pub data IsVariableName (dat : Bool) : List ℕ → Type 0 where
   plain_name : {n : List ℕ} → IsName n → IsVariableName dat n
   result_name : IsVariableName dat result_word
-  local_label : {n : List ℕ} → IsTrue dat → IsName n → IsVariableName dat (58 ∷ n)
+  local_label : {n : List ℕ} → IsTrue dat → IsWord n → IsVariableName dat (58 ∷ n)
 
 -- a character that a string may have
 abbrev pub IsQuoted : ℕ → Type 0

@@ -4,7 +4,7 @@
 -- `dat` says whether an expression stands in DAT, where `$`, local labels and all registers may stand.
 use Rattle.std.specs.Prelude.{◌≡◌, ℕ, ◌^◌, ◌<◌, ◌≤◌, Bool, true, false, nat_le, ◌==◌, ◌&&◌, ◌||◌, not, IsTrue, List, [], ◌∷◌, length, Option, Some, None, codes, All}
 use Rattle.p8_tree.specs.declared.places.Place.{Place}
-use Rattle.p8_tree.specs.Expressions.{Tree, node, Form, Number, Str, Here, Var, Call, Unary, Binary, Assign, Change, Address, ObjectAddress, ObjConst, Built, Look, Variable, Named, Part, Memory, Register, Index, no_index, index, Bits, whole, bits, Item, single, range, Trees, no_trees, ◌▷◌, Items, no_items, ◌▸◌}
+use Rattle.p8_tree.specs.Expressions.{Tree, node, Form, Number, Str, Strings, Here, Var, Call, Unary, Binary, Assign, Change, Address, ObjectAddress, ObjConst, Built, Look, Variable, Named, Part, Memory, Register, Index, no_index, index, Bits, whole, bits, Item, single, range, Trees, no_trees, ◌▷◌, Items, no_items, ◌▸◌}
 use Rattle.p8_tree.specs.Statements.{Course, Forever, Count, Before, After, From, Statement, statement, Action, Do, If, Case, Repeat, Next, Quit, Return, Abort, Arm, arm, Otherwise, nothing_else, otherwise, Statements, no_statements, ◌▹◌, Arms, no_arms, ◌⊳◌}
 use Rattle.p8_tree.specs.Sources as sources
 use Rattle.p8_tree.specs.Sources.{Constant, Declared, Child, MethodTree, Datum, Instruction, Contents, Line, BlockTree, Source}
@@ -130,6 +130,7 @@ abbrev mutual
   pub IsProperForm : Bool → Form → Type 0
   IsProperForm dat (Number n) = n < 2 ^ 32
   IsProperForm dat (Str text) = IsString text
+  IsProperForm dat (Strings items) = IsTrue (not (is_no_tree items)) × AreProperTrees dat items
   IsProperForm dat Here = IsTrue dat
   IsProperForm dat (Var v) = IsProperVariable dat v
   IsProperForm dat (Call trap object i n place args) = IsName n × IsCalled trap object i args × IsProperIndex dat i × AreProperTrees dat args

@@ -35,6 +35,7 @@ refusal_number refusal.TooManyMethods = 27
 refusal_number refusal.ImageTooLarge = 28
 refusal_number refusal.BadClock = 29
 refusal_number refusal.FileTooLong = 30
+refusal_number refusal.NotCharacter = 31
 
 abbrev pub name_of : Refusal → List ℕ
 name_of refusal.BadByte = codes "BadByte"
@@ -67,6 +68,7 @@ name_of refusal.TooManyMethods = codes "TooManyMethods"
 name_of refusal.ImageTooLarge = codes "ImageTooLarge"
 name_of refusal.BadClock = codes "BadClock"
 name_of refusal.FileTooLong = codes "FileTooLong"
+name_of refusal.NotCharacter = codes "NotCharacter"
 
 -- all of them
 abbrev pub refusals : List Refusal
@@ -75,7 +77,8 @@ refusals =
     refusal.BadIndent ∷ refusal.TooNested ∷ refusal.Float ∷ refusal.Unsupported ∷ refusal.LoopWord ∷ refusal.NotConstant ∷
     refusal.ZeroDivisor ∷ refusal.Duplicate ∷ refusal.Unknown ∷ refusal.WrongKind ∷ refusal.WrongArity ∷ refusal.NoPub ∷
     refusal.Cycle ∷ refusal.TooManyObjects ∷ refusal.OperandRange ∷ refusal.FitExceeded ∷ refusal.OrgRange ∷ refusal.NoRetLabel ∷
-    refusal.JumpTooFar ∷ refusal.FrameTooLarge ∷ refusal.TooManyMethods ∷ refusal.ImageTooLarge ∷ refusal.BadClock ∷ refusal.FileTooLong ∷ []
+    refusal.JumpTooFar ∷ refusal.FrameTooLarge ∷ refusal.TooManyMethods ∷ refusal.ImageTooLarge ∷ refusal.BadClock ∷ refusal.FileTooLong ∷
+    refusal.NotCharacter ∷ []
 
 -- the refusal with a number, and its name; empty where there is none
 unfoldable pub numbered : ℕ → Option Refusal

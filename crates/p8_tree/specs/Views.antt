@@ -1,6 +1,6 @@
 -- What the code's trees stand for: the same trees, without where they lie in memory.
 use Rattle.std.specs.Prelude.{List, [], ◌∷◌, map, option_map}
-use Rattle.p8_tree.specs.Expressions.{Tree, node, Form, Number, Str, Here, Var, Call, Unary, Binary, Assign, Change, Address, ObjectAddress, ObjConst, Built, Look, Variable, Named, Part, Memory, Register, Index, no_index, index, Bits, whole, bits, Item, single, range, Trees, no_trees, ◌▷◌, Items, no_items, ◌▸◌}
+use Rattle.p8_tree.specs.Expressions.{Tree, node, Form, Number, Str, Strings, Here, Var, Call, Unary, Binary, Assign, Change, Address, ObjectAddress, ObjConst, Built, Look, Variable, Named, Part, Memory, Register, Index, no_index, index, Bits, whole, bits, Item, single, range, Trees, no_trees, ◌▷◌, Items, no_items, ◌▸◌}
 use Rattle.p8_tree.specs.Statements as statements
 use Rattle.p8_tree.specs.Statements.{Course, Statement, statement, Action, Arm, arm, Otherwise, nothing_else, otherwise, Statements, no_statements, ◌▹◌, Arms, no_arms, ◌⊳◌}
 use Rattle.p8_tree.specs.Sources as sources
@@ -35,6 +35,7 @@ abbrev mutual
   pub form_of : kind.ExprKind → Form
   form_of (kind.Number n) = Number n
   form_of (kind.Str text) = Str text
+  form_of (kind.Strings' shape row) = Strings (trees_from no_trees row)
   form_of kind.Here = Here
   form_of (kind.Var v) = Var (variable_of v)
   form_of (kind.Call c) = call_of c

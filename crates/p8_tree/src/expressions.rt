@@ -24,6 +24,9 @@ pub enum ExprKind {
     Number(u32),
     /// `STRING("..")`, or a string of several characters among the items of DAT.
     Str(Text),
+    /// `STRING(items)` with any other list of items than a string alone. A `Str` among them stands for its characters, any
+    /// other item for one.
+    Strings(Vec<Expr>),
     /// `$`, the address of the place itself, in DAT.
     Here,
     /// A variable that is read; a name alone is one, whatever it names.

@@ -72,10 +72,12 @@ pub enum Refusal {
     BadClock,
     /// A source has more than 1,048,576 bytes.
     FileTooLong,
+    /// An item of `STRING` has a value that isn't from 1 to 255.
+    NotCharacter,
 }
 
 impl Refusal {
-    /// The number of this refusal, from 1 to 30.
+    /// The number of this refusal, from 1 to 31.
     pub fn number(self) -> u8
         ensures { result ≡ refusal_number self }
     {
@@ -127,10 +129,11 @@ impl Refusal {
             Refusal::ImageTooLarge => "ImageTooLarge",
             Refusal::BadClock => "BadClock",
             Refusal::FileTooLong => "FileTooLong",
+            Refusal::NotCharacter => "NotCharacter",
         }
     }
 
-    /// The refusal of this number, where it's from 1 to 30.
+    /// The refusal of this number, where it's from 1 to 31.
     #[tactic(auto, unfolding(crate::specs::Refusals::numbered))]
     pub fn numbered(number: u8) -> Option<Refusal>
         ensures told { result ≡ numbered number }
@@ -167,6 +170,7 @@ impl Refusal {
             28 => Some(Refusal::ImageTooLarge),
             29 => Some(Refusal::BadClock),
             30 => Some(Refusal::FileTooLong),
+            31 => Some(Refusal::NotCharacter),
             _ => None,
         }
     }

@@ -1,10 +1,10 @@
-use Rattle.std.proofs.Common.{◌≡◌, ◌∙◌, ◌+◌, ◌++◌, length, drop, sym, ap, subst, false, arith}
+use Rattle.std.proofs.Common.{◌≡◌, ◌∙◌, ◌+◌, length, drop, sym, ap, subst, false, arith}
 use Rattle.std.proofs.lemmas.List.{length-drop}
 use Rattle.p8_tree.specs.declared.refusal.Refusal.TheVariants.{BadByte}
 use Rattle.p8_lexer.specs.Characters.{text_of}
 use Rattle.p8_lexer.specs.Places.{place_of}
 use Rattle.p8_lexer.specs.Lexing.{IsStuck}
-use Rattle.p8_lexer.specs.Cutting.{IsCut, piece_tokens}
+use Rattle.p8_lexer.specs.Cutting.{IsCut}
 use Rattle.p8_lexer.proofs.Files.{one_further, text_short, whole, stuck_refusal, half_refusal, never_both, length_fault, fault_is, positive}
 use Rattle.p8_lexer.proofs.lexer.lex.Goals as goal
 
@@ -39,8 +39,7 @@ pieces-preserved c =
     let cut = subst (λ t. IsCut t c.in-Ok.cut) rest c.in-Ok.ensures in
     record {
       within = omega (arith, cut.0.within, length-drop at (text_of bytes), c.pieces.invariant.within);
-      so_far = one_further bytes at c.pieces.tokens.items c.add.new.tokens.items c.in-Ok.cut c.pieces.place c.pieces.invariant.so_far c.pieces.invariant.here cut
-          (c.in_ok-add-in-Ok.ensures ∙ ap (λ u. c.pieces.tokens.items ++ piece_tokens u at c.pieces.place c.in-Ok.cut) c.is_utf16-utf16.ensures);
+      so_far = one_further bytes at c.pieces.tokens.items c.add.new.tokens.items c.in-Ok.cut c.pieces.place c.pieces.invariant.so_far c.pieces.invariant.here cut c.in_ok-add-in-Ok.ensures;
       here = c.place_at-place.ensures ∙ ap (λ t. place_of t (at + c.in-Ok.cut.length)) c.of_file-text.ensures;
     }
 
