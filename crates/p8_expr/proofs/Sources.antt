@@ -13,16 +13,16 @@ use Rattle.p8_lexer.specs.declared.token.TokenKind.{TokenKind}
 use Rattle.p8_lexer.specs.declared.token.TokenKind.TheVariants as kind
 use Rattle.p8_lexer.specs.declared.word.Word.{Word}
 use Rattle.p8_lexer.specs.declared.word.Word.TheVariants as word_case
-use Rattle.p8_lexer.specs.Characters.{is_utf16, units, decoded, text_of, offset_of}
+use Rattle.p8_lexer.specs.Characters.{is_utf16, mark_length, units, decoded, text_of, offset_of}
 use Rattle.p8_lexer.specs.Places.{place_of}
 use Rattle.p8_lexer.specs.Lexing.{is_letter, is_in, AllIn, Is, Cuts, IsGood, Piece, CutsUpTo, token_of as token_of_piece}
 use Rattle.p8_lexer.specs.Words.{symbols, every_word, capital, is_spelled, first_spelled, word_spelled, word_of_kind}
 use Rattle.p8_lexer.proofs.Units.{units-drop, units-take}
 use Rattle.p8_lexer.proofs.Symbols.{passes_at}
 use Rattle.p8_lexer.proofs.Searches.{spells}
-use Rattle.p8_grammar.specs.Lexemes.{Lexeme, number, name, string}
-use Rattle.p8_expr.specs.Words.{lexeme_of_word, between_quotes, lexeme_by_word, lexeme_by_kind, lexeme_of_token, token_of}
-use Rattle.p8_expr.specs.Sources.{IsLexeme, AreLexemes}
+use Rattle.p8_grammar.specs.Lexemes.{Lexeme, number, name, string, mark, sign, assigns, object_address, reserved}
+use Rattle.p8_expr.specs.Words.{lexeme_of_word, between_quotes, lexeme_by_word, reserved_as, lexeme_by_kind, lexeme_of_token, token_of}
+use Rattle.p8_expr.specs.Sources.{IsOfLetters, IsLexeme, AreLexemes}
 use Rattle.p8_grammar.specs.Proper.{lexeme_in}
 
 -- symbols and reserved words
@@ -40,11 +40,12 @@ no_name : (text : List ℕ) (w : Word) → is_free w ≡ false → lexeme_by_wor
 no_name text word_case.Name h = absurd cc
 no_name text _ h = refl
 
--- neither a number nor a name nor a string
+-- neither a number nor a name nor a string, and without characters of its own
 abbrev is_plain : Lexeme → Bool
 is_plain (number n) = false
 is_plain (name n) = false
 is_plain (string s) = false
+is_plain (reserved n x) = false
 is_plain _ = true
 
 words_plain : (w : Word) → is_plain (lexeme_of_word w) ≡ true
@@ -56,6 +57,7 @@ plain_is : (x : Lexeme) → is_plain x ≡ true → (w : Word) → lexeme_of_wor
 plain_is (number n) h w e = absurd cc
 plain_is (name n) h w e = absurd cc
 plain_is (string s) h w e = absurd cc
+plain_is (reserved n x) h w e = absurd cc
 plain_is x h w e = (w, e)
 
 word_is : (w : Word) → IsLexeme (lexeme_of_word w)
@@ -112,16 +114,12 @@ capital_letter c h = grind (arith, nat_tests)
 capital_name : (c : ℕ) → IsTrue (is_in class.Name c) → IsTrue (is_in class.Name (capital c))
 capital_name c h = grind (arith, nat_tests)
 
-name_is : (text : List ℕ) → 0 < length text → length text ≤ 30 → IsTrue (is_letter (get_or text 0 0)) → AllIn class.Name text 1 (length text) → word_spelled text ≡ None → IsLexeme (name (map capital text))
-name_is text some short letter all free = (
-  (
-    omega (arith, length-map text capital),
-    omega (arith, length-map text capital),
-    subst (λ c. IsTrue (is_letter c)) (sym (get_or-map capital text 0 0 0 some)) (capital_letter (get_or text 0 0) letter),
-    in_class,
-    ap (λ t. first_spelled t every_word) (capitals_again text) ∙ free,
-  ),
-  capitals_again text,
+in_capitals : (text : List ℕ) → IsOfLetters text → IsOfLetters (map capital text)
+in_capitals text (some, short, letter, all) = (
+  omega (arith, length-map text capital),
+  omega (arith, length-map text capital),
+  subst (λ c. IsTrue (is_letter c)) (sym (get_or-map capital text 0 0 0 some)) (capital_letter (get_or text 0 0) letter),
+  in_class,
 )
   where
     in_class : AllIn class.Name (map capital text) 1 (length (map capital text))
@@ -129,12 +127,32 @@ name_is text some short letter all free = (
         let small : i < length text = omega (arith, length-map text capital) in
         subst (λ c. IsTrue (is_in class.Name c)) (sym (get_or-map capital text i 0 0 small)) (capital_name (get_or text i 0) (all i le small))
 
-name_or_word : (text : List ℕ) → 0 < length text → length text ≤ 30 → IsTrue (is_letter (get_or text 0 0)) → AllIn class.Name text 1 (length text) → IsLexeme (lexeme_by_word text (word_of_kind text kind.Name))
-name_or_word text some short letter all = go (word_spelled text) refl
+name_is : (text : List ℕ) → IsOfLetters text → word_spelled text ≡ None → IsLexeme (name (map capital text))
+name_is text letters free = ((of_letters.0, of_letters.1, of_letters.2, of_letters.3, ap (λ t. first_spelled t every_word) (capitals_again text) ∙ free), capitals_again text)
   where
-    go : (r : Option Word) → word_spelled text ≡ r → IsLexeme (lexeme_by_word text (unwrap_or r word_case.Name))
-    go None h = name_is text some short letter all h
-    go (Some w) h = by_word_is text w (spelled_not_free text w some h)
+    of_letters : IsOfLetters (map capital text)
+    of_letters = in_capitals text letters
+
+reserved_is : (text : List ℕ) (x : Lexeme) → IsOfLetters text → is_plain x ≡ true → (w : Word) → word_spelled text ≡ Some w → lexeme_of_word w ≡ x → IsLexeme (reserved_as (map capital text) x)
+reserved_is text (number m) letters plain w s e = absurd cc
+reserved_is text (name m) letters plain w s e = absurd cc
+reserved_is text (string m) letters plain w s e = absurd cc
+reserved_is text (reserved m x) letters plain w s e = absurd cc
+reserved_is text (mark m) letters plain w s e = (w, e)
+reserved_is text (sign k j) letters plain w s e = (w, e)
+reserved_is text (assigns o) letters plain w s e = (w, e)
+reserved_is text object_address letters plain w s e = (w, e)
+reserved_is text x letters plain w s e = (in_capitals text letters, capitals_again text, (w, ap (λ t. first_spelled t every_word) (capitals_again text) ∙ s, e))
+
+word_as : (text : List ℕ) (w : Word) → is_free w ≡ false → word_spelled text ≡ Some w → IsOfLetters text → IsLexeme (reserved_as (map capital text) (lexeme_by_word text w))
+word_as text w h s letters = subst (λ x. IsLexeme (reserved_as (map capital text) x)) (sym (no_name text w h)) (reserved_is text (lexeme_of_word w) letters (words_plain w) w s refl)
+
+name_or_word : (text : List ℕ) → IsOfLetters text → IsLexeme (lexeme_by_kind text (word_of_kind text kind.Name) kind.Name)
+name_or_word text letters = go (word_spelled text) refl
+  where
+    go : (r : Option Word) → word_spelled text ≡ r → IsLexeme (reserved_as (map capital text) (lexeme_by_word text (unwrap_or r word_case.Name)))
+    go None h = name_is text letters h
+    go (Some w) h = word_as text w (spelled_not_free text w letters.0 h) h letters
 
 -- strings
 
@@ -178,8 +196,12 @@ module _ (text : List ℕ) (n : ℕ) (within : n ≤ length text) where
 
   pub kind_is : (k : TokenKind) → Is (TokenOf k) text n → IsGood (TokenOf k) text n → AreBytes text → IsLexeme (lexeme_by_kind (take n text) (word_of_kind (take n text) k) k)
   kind_is kind.Name is good small =
-      name_or_word (take n text) (omega (arith, front_length, is.0)) (omega (arith, front_length, good))
-      (subst (λ c. IsTrue (is_letter c)) (sym (front_at 0 is.0)) is.1) (subst (AllIn class.Name (take n text) 1) (sym front_length) (front_in class.Name 1 n (omega arith) is.2))
+      name_or_word (take n text) (
+        omega (arith, front_length, is.0),
+        omega (arith, front_length, good),
+        subst (λ c. IsTrue (is_letter c)) (sym (front_at 0 is.0)) is.1,
+        subst (AllIn class.Name (take n text) 1) (sym front_length) (front_in class.Name 1 n (omega arith) is.2),
+      )
   kind_is (kind.Number v) is good small = good.0
   kind_is kind.Float is good small = word_is word_case.FloatNumber
   kind_is kind.Str is good small =
@@ -203,26 +225,25 @@ behind_small : (n : ℕ) (cs : List ℕ) → AreBytes cs → AreBytes (drop n cs
 behind_small n cs h i lt = subst (λ c. c < 256) (sym (get_or-drop n cs i 0)) (h (n + i) (omega (arith, length-drop n cs)))
 
 text_small : (bytes : List ℕ) → AreBytes bytes → AreBytes (text_of bytes)
-text_small bytes h = go (is_utf16 bytes)
+text_small bytes h = go (is_utf16 bytes) (mark_length bytes)
   where
-    go : (u : Bool) → AreBytes (if u then units (drop 2 bytes) else bytes)
-    go true = units_small (drop 2 bytes) (behind_small 2 bytes h)
-    go false = h
+    go : (u : Bool) (m : ℕ) → AreBytes (decoded u (drop m bytes))
+    go true m = units_small (drop m bytes) (behind_small m bytes h)
+    go false m = behind_small m bytes h
 
-units_between : (bytes : List ℕ) (b n : ℕ) → units (take (2 * (b + n) + 2 - (2 * b + 2)) (drop (2 * b + 2) bytes)) ≡ take n (drop b (units (drop 2 bytes)))
-units_between bytes b n =
-    let long : 2 * (b + n) + 2 - (2 * b + 2) ≡ 2 * n = omega arith in
-    let behind : 2 * b + 2 ≡ 2 + 2 * b = omega arith in
-    ap (λ m. units (take m (drop (2 * b + 2) bytes))) long
-    ∙ units-take n (drop (2 * b + 2) bytes)
-    ∙ ap (λ cs. take n (units cs)) (ap (λ m. drop m bytes) behind ∙ sym (drop-drop (2 * b) 2 bytes))
-    ∙ ap (take n) (units-drop b (drop 2 bytes))
+units_between : (bytes : List ℕ) (m b n : ℕ) → units (take (m + 2 * (b + n) - (m + 2 * b)) (drop (m + 2 * b) bytes)) ≡ take n (drop b (units (drop m bytes)))
+units_between bytes m b n =
+    let long : m + 2 * (b + n) - (m + 2 * b) ≡ 2 * n = omega arith in
+    ap (λ k. units (take k (drop (m + 2 * b) bytes))) long
+    ∙ units-take n (drop (m + 2 * b) bytes)
+    ∙ ap (λ cs. take n (units cs)) (sym (drop-drop (2 * b) m bytes))
+    ∙ ap (take n) (units-drop b (drop m bytes))
 
--- those of a token between two places
-characters_between : (u : Bool) (bytes : List ℕ) (b n : ℕ) →
-    decoded u (take ((if u then 2 * (b + n) + 2 else b + n) - (if u then 2 * b + 2 else b)) (drop (if u then 2 * b + 2 else b) bytes)) ≡ take n (drop b (if u then units (drop 2 bytes) else bytes))
-characters_between true bytes b n = units_between bytes b n
-characters_between false bytes b n = let long : b + n - b ≡ n = omega arith in ap (λ m. take m (drop b bytes)) long
+-- those of a token between two places of a text that stands behind a mark
+characters_between : (u : Bool) (bytes : List ℕ) (m b n : ℕ) →
+    decoded u (take (m + (if u then 2 * (b + n) else b + n) - (m + (if u then 2 * b else b))) (drop (m + (if u then 2 * b else b)) bytes)) ≡ take n (drop b (decoded u (drop m bytes)))
+characters_between true bytes m b n = units_between bytes m b n
+characters_between false bytes m b n = let long : m + (b + n) - (m + b) ≡ n = omega arith in ap (λ k. take k (drop (m + b) bytes)) long ∙ ap (take n) (sym (drop-drop b m bytes))
 
 -- files
 
@@ -232,7 +253,7 @@ module _ (bytes : List ℕ) (small : AreBytes bytes) where
   unfolding lexeme_of_token
   made k b e le cut good =
       let end : b + (e - b) ≡ e = omega arith in
-      subst (λ cs. IsLexeme (lexeme_by_kind cs (word_of_kind cs k) k)) (sym (ap (λ e. decoded (is_utf16 bytes) (take (offset_of bytes e - offset_of bytes b) (drop (offset_of bytes b) bytes))) (sym end) ∙ characters_between (is_utf16 bytes) bytes b (e - b)))
+      subst (λ cs. IsLexeme (lexeme_by_kind cs (word_of_kind cs k) k)) (sym (ap (λ e. decoded (is_utf16 bytes) (take (offset_of bytes e - offset_of bytes b) (drop (offset_of bytes b) bytes))) (sym end) ∙ characters_between (is_utf16 bytes) bytes (mark_length bytes) b (e - b)))
       (kind_is (drop b (text_of bytes)) (e - b) cut.within k cut.is good (behind_small b (text_of bytes) (text_small bytes small)))
 
   AreAll : List Piece → Type 0

@@ -11,7 +11,7 @@ use Rattle.p8_lexer.specs.declared.meaning.Meaning.TheVariants as meant
 use Rattle.p8_lexer.specs.Characters.{characters}
 use Rattle.p8_lexer.specs.Words.{capital, word_of}
 use Rattle.p8_lexer.specs.Meanings.{meaning}
-use Rattle.p8_grammar.specs.Lexemes.{Access, pins, input_pins, input, assembly, left_parenthesis, right_parenthesis, left_bracket, right_bracket, comma, colon, dot, dot_dot, hash, backslash, equal, Lexeme, number, name, method_result, string, mark, prefix_word, infix_word, sign, assigns, changes, address, object_address, size, register, here, string_word, constant_word, look, value, built_in, command, other, Token, token}
+use Rattle.p8_grammar.specs.Lexemes.{Access, pins, input_pins, input, assembly, left_parenthesis, right_parenthesis, left_bracket, right_bracket, comma, colon, dot, dot_dot, hash, backslash, equal, Lexeme, number, name, method_result, string, mark, prefix_word, infix_word, sign, assigns, changes, address, object_address, size, register, here, string_word, constant_word, look, value, built_in, command, other, reserved, Token, token}
 
 -- punctuation
 abbrev pub mark_of_word : Word → Lexeme
@@ -67,10 +67,21 @@ abbrev pub lexeme_by_word : List ℕ → Word → Lexeme
 lexeme_by_word text word.Name = name (map capital text)
 lexeme_by_word text w = lexeme_of_word w
 
+-- what has letters, but for a name, is a reserved word with its characters
+abbrev pub reserved_as : List ℕ → Lexeme → Lexeme
+reserved_as n (name m) = name m
+reserved_as n (mark m) = mark m
+reserved_as n (sign k j) = sign k j
+reserved_as n (assigns o) = assigns o
+reserved_as n object_address = object_address
+reserved_as n (reserved m x) = reserved m x
+reserved_as n x = reserved n x
+
 -- what a token with these characters is to an expression: numbers and strings by their kinds, all else by its word
 abbrev pub lexeme_by_kind : List ℕ → Word → TokenKind → Lexeme
 lexeme_by_kind text w (kind.Number n) = number n
 lexeme_by_kind text w kind.Str = string (between_quotes text)
+lexeme_by_kind text w kind.Name = reserved_as (map capital text) (lexeme_by_word text w)
 lexeme_by_kind text w _ = lexeme_by_word text w
 
 unfoldable pub lexeme_of_token : List ℕ → lexer_token.Token → Lexeme

@@ -3,9 +3,9 @@ ghost use Rattle.std.specs.Prelude.{◌≡◌, ◌≢◌, ◌<◌, ◌≤◌, If
 ghost use Rattle.p8_lexer.specs.declared.word.Word.TheVariants as word_case;
 ghost use Rattle.p8_lexer.specs.Words.{capital};
 ghost use Rattle.p8_grammar.specs.Views.{access_of, lexeme_of};
-ghost use Rattle.p8_expr.specs.Words.{mark_of_word, access_at, lexeme_of_word, lexeme_by_word, lexeme_of_token, between_quotes};
+ghost use Rattle.p8_expr.specs.Words.{mark_of_word, access_at, lexeme_of_word, reserved_as, lexeme_by_word, lexeme_of_token, between_quotes};
 
-use p8_grammar::{Access, Lexeme, Mark, Operator, Term};
+use p8_grammar::{Access, Lexeme, Mark, Operator, Reserved, Term};
 use p8_lexer::{Characters, Meaning, Token, TokenKind, Word, word_of};
 use p8_tree::Text;
 use p8_words::NoMemory;
@@ -105,6 +105,29 @@ fn between_quotes(alloc: Global, text: &Characters) -> Result<Text, AllocError>
     copied(alloc, &behind.first(behind.len().saturating_sub(1)))
 }
 
+// What has letters, but for a name, is a reserved word with its characters.
+fn reserved_as(name: Text, lexeme: Lexeme) -> Lexeme
+    ensures { lexeme_of result ≡ reserved_as name (lexeme_of lexeme) }
+{
+    match lexeme {
+        Lexeme::Operator(Operator::Prefix(rank, code)) => {
+            Lexeme::Reserved(name, Reserved::Prefix(rank, code))
+        }
+        Lexeme::Operator(Operator::Infix(rank, code)) => {
+            Lexeme::Reserved(name, Reserved::Infix(rank, code))
+        }
+        Lexeme::Term(Term::Name(own)) => {
+            drop(name);
+            Lexeme::Term(Term::Name(own))
+        }
+        Lexeme::Term(term) => Lexeme::Reserved(name, Reserved::Term(term)),
+        other => {
+            drop(name);
+            other
+        }
+    }
+}
+
 // What a name, a reserved word or a symbol is to an expression.
 fn lexeme_by_word(alloc: Global, word: Word, text: &Characters) -> Result<Lexeme, AllocError>
     ensures { IfOk result (λ x. lexeme_of x ≡ lexeme_by_word text.now word) }
@@ -112,6 +135,19 @@ fn lexeme_by_word(alloc: Global, word: Word, text: &Characters) -> Result<Lexeme
     match word {
         Word::Name => Ok(Lexeme::Term(Term::Name(capitals(alloc, text)?))),
         word => Ok(lexeme_of_word(word)),
+    }
+}
+
+// What a name or a reserved word is to an expression.
+fn lexeme_by_name(alloc: Global, word: Word, text: &Characters) -> Result<Lexeme, AllocError>
+    ensures { IfOk result (λ x. lexeme_of x ≡ reserved_as (map capital text.now) (lexeme_by_word text.now word)) }
+{
+    match word {
+        Word::Name => lexeme_by_word(alloc, word, text),
+        word => {
+            let name = capitals(alloc, text)?;
+            Ok(reserved_as(name, lexeme_of_word(word)))
+        }
     }
 }
 
@@ -124,7 +160,8 @@ pub fn lexeme(alloc: Global, bytes: &[u8], token: &Token) -> Result<Lexeme, NoMe
     match token.kind {
         TokenKind::Number(value) => Ok(Lexeme::Term(Term::Number(value))),
         TokenKind::Str => Ok(Lexeme::Term(Term::Str(between_quotes(alloc, &text)?))),
-        TokenKind::Name | TokenKind::Float | TokenKind::Symbol(_) | TokenKind::LineEnd => {
+        TokenKind::Name => Ok(lexeme_by_name(alloc, word_of(bytes, token), &text)?),
+        TokenKind::Float | TokenKind::Symbol(_) | TokenKind::LineEnd => {
             Ok(lexeme_by_word(alloc, word_of(bytes, token), &text)?)
         }
     }

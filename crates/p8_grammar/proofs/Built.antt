@@ -10,7 +10,7 @@ use Rattle.p8_tree.specs.declared.expressions.ExprKind.TheVariants as kind_case
 use Rattle.p8_tree.specs.Expressions.{Tree, node, Trees, ◌▷◌, Items, ◌▸◌, Index, Call, Built, Look}
 use Rattle.p8_tree.specs.Expressions as trees
 use Rattle.p8_tree.specs.Views.{form_of, tree_of, trees_of, items_of, item_of}
-use Rattle.p8_tree.specs.Bridges.{trees_of-push, items_of-push, built_is, look_is, call_is, boxed_index}
+use Rattle.p8_tree.specs.Bridges.{trees_of-push, items_of-push, strings_is, built_is, look_is, call_is, boxed_index}
 use Rattle.std.specs.declared.result.Result.{Result}
 use Rattle.std.specs.declared.alloc.AllocError.{AllocError}
 use Rattle.p8_grammar.specs.declared.measured.Tall.{Tall}
@@ -31,6 +31,9 @@ items_high v v' x i a b r h same y z w = let p = ap height_of_items (items_pushe
 
 pub built_high : (p : Place) (k : ℕ) (v : Vec Expr Global) (a r : ℕ) → a ≡ min 65 (height_of_trees (trees_of v.items)) → r ≡ min 65 (a + 1) → r ≡ min 65 (height (node p (form_of (kind_case.Built k v))))
 built_high p k v a r x y = let e = ap height_in (built_is k v) in omega (arith, e, x, y)
+
+pub strings_high : (p : Place) (v : Vec Expr Global) (a r : ℕ) → a ≡ min 65 (height_of_trees (trees_of v.items)) → r ≡ min 65 (a + 1) → r ≡ min 65 (height (node p (form_of (kind_case.Strings v))))
+strings_high p v a r x y = let e = ap height_in (strings_is v) in omega (arith, e, x, y)
 
 pub look_high : (p : Place) (k : ℕ) (b : Box Expr Global) (v : Vec Item Global) (a c r : ℕ) → a ≡ min 65 (height (tree_of b.value)) → c ≡ min 65 (height_of_items (items_of v.items)) → r ≡ min 65 (max a c + 1) → r ≡ min 65 (height (node p (form_of (kind_case.Look k b v))))
 look_high p k b v a c r y z w = let e = ap height_in (look_is k b v) in omega (arith, e, y, z, w)

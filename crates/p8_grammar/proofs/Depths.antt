@@ -1,6 +1,6 @@
 -- What frames do to the height of what comes next.
 use Rattle.std.proofs.Common.{◌≡◌, ℕ, ◌+◌, max, List, [], ◌∷◌, ap, ◌∙◌, arith}
-use Rattle.p8_grammar.specs.Machine.{Hole, parenthesis, name_index, part_index, memory_address, memory_index, first_bit, last_bit, trapped_index, argument_of, constant_of, look_for, choice_of, choice_to, Frame, prefix_frame, infix_frame, assign_frame, inside_frame}
+use Rattle.p8_grammar.specs.Machine.{Hole, parenthesis, name_index, part_index, memory_address, memory_index, first_bit, last_bit, trapped_index, argument_of, first_item, next_item, constant_of, look_for, choice_of, choice_to, Frame, prefix_frame, infix_frame, assign_frame, inside_frame}
 use Rattle.p8_grammar.specs.Least.{filled, need, high_in_hole, adds_hole, high_in_frame, adds_frame, depth, base}
 
 filled_is : (hole : Hole) (h : ℕ) → filled h hole ≡ max (high_in_hole hole) h + adds_hole hole
@@ -13,6 +13,8 @@ filled_is (first_bit u p a x) h = omega arith
 filled_is (last_bit u p a x low) h = omega arith
 filled_is (trapped_index p n) h = omega arith
 filled_is (argument_of x es) h = omega arith
+filled_is (first_item p) h = omega arith
+filled_is (next_item p es) h = omega arith
 filled_is (constant_of p) h = omega arith
 filled_is (look_for p k) h = omega arith
 filled_is (choice_of p k x xs) h = omega arith

@@ -1,19 +1,22 @@
 -- Each form is read as it stands in the grammar.
-use Rattle.std.proofs.Common.{◌≡◌, ℕ, List, ◌∷◌, Option, Some, None, Bool, true, false, refl, sym, ap, subst, ◌∙◌}
+use Rattle.std.proofs.Common.{◌≡◌, ℕ, List, ◌∷◌, Option, Some, None, Bool, true, false, refl, ap, ◌∙◌}
 use Rattle.std.specs.Prelude.{option_and_then, IsTrue, if◌then◌else◌, not, ◌&&◌}
 use Rattle.p8_tree.specs.declared.places.Place.{Place}
-use Rattle.p8_tree.specs.Expressions.{Tree, node, Str, Number, Here, ObjConst, Built, Look, Change, Call, Variable, Named, Part, Memory, Register, no_index, index, bits, single, range, Trees, no_trees, ◌▷◌, Items, no_items, ◌▸◌}
-use Rattle.p8_grammar.specs.Lexemes.{Setting, is_value, string, string_word, constant_word, look, hash, allows_index, is_dat, Access, memory, is_written, has_bits, is_in, left_parenthesis, right_parenthesis, left_bracket, right_bracket, comma, colon, dot, dot_dot, backslash, Lexeme, prefix_word, sign, object_address, name, method_result, mark, changes, size, register}
-use Rattle.p8_grammar.specs.Grammar.{Piece, word, upto, Row, begin, ◌▹◌, Names, plain_name, result_word, local_label, Variables, named, indexed, part, part_indexed, memory_at, memory_indexed, register_whole, register_bit, register_bits, Head, calls, built, applied, Heads, trapped, of_object, of_element, of_built_in, of_command, Arguments, no_arguments, argument, Choices, no_choices, value_choice, range_choice, Forms, a_number, a_character, the_place, parentheses, variable, name_alone, changed_by, changed_before, changed_after, address_of, plain_call, bare_call, full_call, object_constant, a_value, a_string, a_constant, look_value, look_range, Prefix, at_object, unary, prefix_of, effect_of}
-use Rattle.p8_grammar.specs.Machine.{Use, reading, addressing, changing, used, takes, Shape, using, indexed_name, dotted, coloned, sized, parted, memory_word, register_word, ready, trapped_name, trapped_element, object_dot, headed, hashed, string_begun, string_opened, string_read, constant_begun, look_begun, done, Hole, parenthesis, constant_of, look_for, argument_of, choice_of, choice_to, name_index, part_index, memory_address, memory_index, first_bit, last_bit, Next, stays, opens, only_if, tree, if_value, if_action, is_plain, unless, acting, whole_in, altering, if_reading, target, grow, close, named_element, fresh, on_parenthesis, changed}
+use Rattle.p8_tree.specs.Expressions.{Tree, node, Str, Strings, Number, Here, ObjConst, Built, Look, Change, Call, Variable, Named, Part, Memory, Register, no_index, index, bits, single, range, Trees, no_trees, ◌▷◌, Items, no_items, ◌▸◌}
+use Rattle.p8_grammar.specs.Lexemes.{Setting, is_value, string, string_word, constant_word, look, hash, allows_index, is_dat, Access, memory, is_written, has_bits, is_in, left_parenthesis, right_parenthesis, left_bracket, right_bracket, comma, colon, dot, dot_dot, backslash, Lexeme, prefix_word, sign, object_address, name, method_result, mark, changes, size, register, reserved, name_in}
+use Rattle.p8_grammar.specs.Grammar.{Piece, word, upto, unquoted, Row, begin, ◌▹◌, Names, plain_name, result_word, local_label, Variables, named, indexed, part, part_indexed, memory_at, memory_indexed, register_whole, register_bit, register_bits, Head, calls, built, applied, Heads, trapped, of_object, of_element, of_built_in, of_command, Arguments, no_arguments, argument, with_characters, Choices, no_choices, value_choice, range_choice, text_choice, Texts, first_text, first_value, next_text, next_value, Forms, a_number, a_character, the_place, parentheses, variable, name_alone, changed_by, changed_before, changed_after, address_of, plain_call, bare_call, full_call, object_constant, a_value, a_string, one_item, items_text, items_value, a_constant, look_value, look_range, look_text, Prefix, at_object, prefix_of, effect_of}
+use Rattle.p8_grammar.specs.Machine.{Use, reading, addressing, changing, used, takes, Shape, using, indexed_name, dotted, coloned, sized, parted, memory_word, register_word, ready, trapped_name, trapped_element, object_dot, headed, hashed, string_begun, string_opened, string_read, strings_read, constant_begun, look_begun, choices_read, done, Hole, parenthesis, first_item, next_item, constant_of, look_for, argument_of, choice_of, choice_to, name_index, part_index, memory_address, memory_index, first_bit, last_bit, Next, stays, opens, only_if, tree, if_value, if_action, is_plain, unless, acting, whole_in, altering, if_reading, target, grow, close, on_item, named_element, fresh, on_parenthesis, changed}
 use Rattle.p8_grammar.specs.Machine as machine
 use Rattle.p8_grammar.proofs.Walks.{only, both}
 
 abbrev pub fed : Setting → Piece → Next → Option Next
 fed s (word p x) (stays sh) = grow s sh p x
+fed s (word p (string t)) (opens h) = on_item p t h
 fed s (word p x) (opens h) = None
 fed s (upto e m) (stays sh) = None
 fed s (upto e m) (opens h) = close m h e
+fed s (unquoted e m) (stays (string_opened q)) = close m (first_item q) e
+fed s (unquoted e m) n = None
 
 -- what the reader makes of a row
 abbrev pub run : Setting → Row → Option Next
@@ -24,11 +27,23 @@ run s (row ▹ x) = option_and_then (λ n. fed s x n) (run s row)
 pub fed_on : (s : Setting) (row : Row) (x : Piece) (n n' : Next) → run s row ≡ Some n → fed s x n ≡ Some n' → run s (row ▹ x) ≡ Some n'
 fed_on s row x n n' h e = ap (λ o. option_and_then (λ n. fed s x n) o) h ∙ e
 
+-- any word is a name behind the colon of a local label
+label_grows : (s : Setting) (u : Use) (p q : Place) (x : Lexeme) (n : List ℕ) → name_in x ≡ Some n → grow s (coloned u p) q x ≡ Some (stays (machine.named u false p (58 ∷ n)))
+label_grows s u p q (name m) n is = ap (λ m. Some (stays (machine.named u false p (58 ∷ m)))) (same m n is)
+  where
+    same : (m n : List ℕ) → Some m ≡ Some n → m ≡ n
+    same m n h = cc
+label_grows s u p q (reserved m x) n is = ap (λ m. Some (stays (machine.named u false p (58 ∷ m)))) (same m n is)
+  where
+    same : (m n : List ℕ) → Some m ≡ Some n → m ≡ n
+    same m n h = cc
+label_grows s u p q x n is = absurd cc
+
 names_run : {s : Setting} {before row : Row} {n : List ℕ} {p : Place} → Names s before n p row → (u : Use) → run s before ≡ Some (stays (using u)) → (b : Bool) × (run s row ≡ Some (stays (machine.named u b p n)))
 names_run {s = s} {before = before} (plain_name {n = n} {p = p}) u h = (true, fed_on s before (word p (name n)) _ _ h refl)
 names_run {s = s} {before = before} (result_word {p = p}) u h = (false, fed_on s before (word p method_result) _ _ h refl)
-names_run {s = s} {before = before} (local_label {n = n} {p = p} {q = q} d) u h =
-    (false, fed_on s (before ▹ word p (mark colon)) (word q (name n)) (stays (coloned u p)) _ (fed_on s before (word p (mark colon)) (stays (using u)) _ h (only (is_dat s) _ d)) refl)
+names_run {s = s} {before = before} (local_label {n = n} {p = p} {q = q} {x = x} d is) u h =
+    (false, fed_on s (before ▹ word p (mark colon)) (word q x) (stays (coloned u p)) _ (fed_on s before (word p (mark colon)) (stays (using u)) _ h (only (is_dat s) _ d)) (label_grows s u p q x n is))
 
 -- a variable that has been read for some use
 pub record ReadFor (s : Setting) (u : Use) (x : Access) (v : Variable) (row : Row) : Type 0 where
@@ -218,6 +233,8 @@ choices_run s no_choices p k x h = h
 choices_run s (value_choice {xs = xs} {e = e} {row = row} c) p k x h = fed_on s row (upto e comma) (opens (choice_of p k x xs)) _ (choices_run s c p k x h) refl
 choices_run s (range_choice {xs = xs} {low = low} {high = high} {row = row} c) p k x h =
     fed_on s (row ▹ upto low dot_dot) (upto high comma) (opens (choice_to p k x xs low)) _ (fed_on s row (upto low dot_dot) (opens (choice_of p k x xs)) _ (choices_run s c p k x h) refl) refl
+choices_run s (text_choice {xs = xs} {p = r} {o = o} {c = c} {d = d} {t = t} {row = row} a) p k x h =
+    fed_on s (row ▹ word r (string (c ∷ d ∷ t))) (word o (mark comma)) (stays (choices_read p k x (with_characters r (c ∷ d ∷ t) xs))) _ (fed_on s row (word r (string (c ∷ d ∷ t))) (opens (choice_of p k x xs)) _ (choices_run s a p k x h) refl) refl
 
 -- a form that has been read
 pub record FormRead (s : Setting) (e : Tree) (row : Row) : Type 0 where
@@ -247,6 +264,21 @@ changes_after s sh p b a v h = ap (λ o. changed o p a) h
 -- a LOOK function up to its colon
 look_begins : (s : Setting) (p q : Place) (k : ℕ) (x : Tree) → IsTrue (is_value s) → run s (begin ▹ word p (look k) ▹ word q (mark left_parenthesis) ▹ upto x colon) ≡ Some (opens (choice_of p k x no_items))
 look_begins s p q k x d = fed_on s (begin ▹ word p (look k) ▹ word q (mark left_parenthesis)) (upto x colon) (opens (look_for p k)) _ (fed_on s (begin ▹ word p (look k)) (word q (mark left_parenthesis)) (stays (look_begun p k)) _ (value_is s _ d) refl) refl
+
+-- STRING up to its parenthesis
+opened_run : (s : Setting) (p q : Place) → IsTrue (is_value s) → run s (begin ▹ word p string_word ▹ word q (mark left_parenthesis)) ≡ Some (stays (string_opened p))
+opened_run s p q d = fed_on s (begin ▹ word p string_word) (word q (mark left_parenthesis)) (stays (string_begun p)) _ (value_is s _ d) refl
+
+-- STRING up to a comma
+texts_run : (s : Setting) {p : Place} {es : Trees} {row : Row} → Texts p es row → IsTrue (is_value s) → run s row ≡ Some (opens (next_item p es))
+texts_run s {p = p} (first_text {q = q} {r = r} {o = o} {c = c} {t = t}) d =
+    let row : Row = begin ▹ word p string_word ▹ word q (mark left_parenthesis) in
+    fed_on s (row ▹ word r (string (c ∷ t))) (word o (mark comma)) (stays (string_read p r (c ∷ t))) _ (fed_on s row (word r (string (c ∷ t))) (stays (string_opened p)) _ (opened_run s p q d) refl) refl
+texts_run s {p = p} (first_value {q = q} {e = e}) d =
+    fed_on s (begin ▹ word p string_word ▹ word q (mark left_parenthesis)) (unquoted e comma) (stays (string_opened p)) _ (opened_run s p q d) refl
+texts_run s {p = p} (next_text {es = es} {r = r} {o = o} {c = c} {d = d'} {t = t} {row = row} a) d =
+    fed_on s (row ▹ word r (string (c ∷ d' ∷ t))) (word o (mark comma)) (stays (strings_read p (es ▷ node r (Str (c ∷ d' ∷ t))))) _ (fed_on s row (word r (string (c ∷ d' ∷ t))) (opens (next_item p es)) _ (texts_run s a d) refl) refl
+texts_run s {p = p} (next_value {es = es} {e = e} {row = row} a) d = fed_on s row (upto e comma) (opens (next_item p es)) _ (texts_run s a d) refl
 
 abbrev effect : Option Prefix → Option ℕ
 effect None = None
@@ -295,10 +327,14 @@ forms_run {s = s} (full_call {h = h} {q = q} {es = es} {e = e} {row = row} {row'
 forms_run {s = s} (object_constant {n = n} {m = m} {p = p} {q = q} {r = r} d) = record { sh = done (node p (ObjConst n m q)); is = fed_on s (begin ▹ word p (name n) ▹ word r (mark hash)) (word q (name m)) (stays (hashed p n)) _ (value_is s _ d) refl; whole = done_whole s _ }
 forms_run {s = s} (a_value {k = k} {p = p}) = record { sh = done (node p (Built k no_trees)); is = refl; whole = done_whole s _ }
 forms_run {s = s} (a_string {c = c} {t = t} {p = p} {q = q} {r = r} {o = o} d) =
-    let row1 : Row = begin ▹ word p string_word in
-    let row2 : Row = row1 ▹ word q (mark left_parenthesis) in
-    let row3 : Row = row2 ▹ word r (string (c ∷ t)) in
-    record { sh = done (node p (Str (c ∷ t))); is = fed_on s row3 (word o (mark right_parenthesis)) (stays (string_read p (c ∷ t))) _ (fed_on s row2 (word r (string (c ∷ t))) (stays (string_opened p)) _ (fed_on s row1 (word q (mark left_parenthesis)) (stays (string_begun p)) _ (value_is s _ d) refl) (value_is s _ d)) refl; whole = done_whole s _ }
+    let row : Row = begin ▹ word p string_word ▹ word q (mark left_parenthesis) in
+    record { sh = done (node p (Str (c ∷ t))); is = fed_on s (row ▹ word r (string (c ∷ t))) (word o (mark right_parenthesis)) (stays (string_read p r (c ∷ t))) _ (fed_on s row (word r (string (c ∷ t))) (stays (string_opened p)) _ (opened_run s p q d) refl) refl; whole = done_whole s _ }
+forms_run {s = s} (one_item {p = p} {q = q} {e = e} d) =
+    record { sh = done (node p (Strings (no_trees ▷ e))); is = fed_on s (begin ▹ word p string_word ▹ word q (mark left_parenthesis)) (unquoted e right_parenthesis) (stays (string_opened p)) _ (opened_run s p q d) refl; whole = done_whole s _ }
+forms_run {s = s} (items_text {p = p} {r = r} {o = o} {c = c} {d = d} {t = t} {es = es} {row = row} v a) =
+    record { sh = done (node p (Strings (es ▷ node r (Str (c ∷ d ∷ t))))); is = fed_on s (row ▹ word r (string (c ∷ d ∷ t))) (word o (mark right_parenthesis)) (stays (strings_read p (es ▷ node r (Str (c ∷ d ∷ t))))) _ (fed_on s row (word r (string (c ∷ d ∷ t))) (opens (next_item p es)) _ (texts_run s a v) refl) refl; whole = done_whole s _ }
+forms_run {s = s} (items_value {p = p} {e = e} {es = es} {row = row} v a) =
+    record { sh = done (node p (Strings (es ▷ e))); is = fed_on s row (upto e right_parenthesis) (opens (next_item p es)) _ (texts_run s a v) refl; whole = done_whole s _ }
 forms_run {s = s} (a_constant {p = p} {q = q} {e = e} d) =
     let row1 : Row = begin ▹ word p constant_word in
     let row2 : Row = row1 ▹ word q (mark left_parenthesis) in
@@ -307,3 +343,5 @@ forms_run {s = s} (look_value {k = k} {p = p} {q = q} {x = x} {e = e} {xs = xs} 
     record { sh = done (node p (Look k x (xs ▸ single e))); is = fed_on s row (upto e right_parenthesis) (opens (choice_of p k x xs)) _ (choices_run s c p k x (look_begins s p q k x d)) refl; whole = done_whole s _ }
 forms_run {s = s} (look_range {k = k} {p = p} {q = q} {x = x} {low = low} {high = high} {xs = xs} {row = row} d c) =
     record { sh = done (node p (Look k x (xs ▸ range low high))); is = fed_on s (row ▹ upto low dot_dot) (upto high right_parenthesis) (opens (choice_to p k x xs low)) _ (fed_on s row (upto low dot_dot) (opens (choice_of p k x xs)) _ (choices_run s c p k x (look_begins s p q k x d)) refl) refl; whole = done_whole s _ }
+forms_run {s = s} (look_text {k = k} {p = p} {q = q} {r = r} {o = o} {x = x} {c = c} {d = d} {t = t} {xs = xs} {row = row} v a) =
+    record { sh = done (node p (Look k x (with_characters r (c ∷ d ∷ t) xs))); is = fed_on s (row ▹ word r (string (c ∷ d ∷ t))) (word o (mark right_parenthesis)) (stays (choices_read p k x (with_characters r (c ∷ d ∷ t) xs))) _ (fed_on s row (word r (string (c ∷ d ∷ t))) (opens (choice_of p k x xs)) _ (choices_run s a p k x (look_begins s p q k x v)) refl) refl; whole = done_whole s _ }

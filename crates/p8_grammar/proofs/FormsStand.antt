@@ -1,12 +1,12 @@
 -- What the reader keeps of a form stands for a row of the grammar.
-use Rattle.std.proofs.Common.{◌≡◌, ℕ, List, [], ◌∷◌, Option, Some, None, Bool, true, false, refl, ap, subst}
+use Rattle.std.proofs.Common.{◌≡◌, ℕ, List, [], ◌∷◌, ◌++◌, Option, Some, None, Bool, true, false, refl, ap, subst}
 use Rattle.std.specs.Prelude.{IsTrue, if◌then◌else◌, not, ◌&&◌}
 use Rattle.p8_tree.specs.declared.places.Place.{Place}
-use Rattle.p8_tree.specs.Expressions.{Tree, node, Number, Here, Built, Variable, Index, Trees, no_trees, ◌▷◌, Items}
-use Rattle.p8_grammar.specs.Lexemes.{Setting, in_method, in_declaration, in_dat, in_data_item, in_action, is_value, inside, behind, allows_index, is_dat, Access, memory, pins, input_pins, input, assembly, is_written, has_bits, is_in, Mark, left_parenthesis, right_parenthesis, left_bracket, right_bracket, comma, colon, dot, dot_dot, hash, backslash, equal, Lexeme, number, name, method_result, string, mark, prefix_word, infix_word, sign, assigns, changes, address, object_address, size, register, here, string_word, constant_word, look, value, built_in, command, other}
-use Rattle.p8_grammar.specs.Grammar.{word, upto, Row, begin, ◌▹◌, Names, plain_name, result_word, local_label, Variables, named, indexed, part, part_indexed, memory_at, memory_indexed, register_whole, register_bit, register_bits, Head, calls, built, applied, Heads, trapped, of_object, of_element, of_built_in, of_command, Arguments, no_arguments, argument, Choices, no_choices, value_choice, range_choice, Forms, a_number, a_character, the_place, parentheses, variable, name_alone, changed_by, changed_before, changed_after, address_of, plain_call, bare_call, full_call, object_constant, a_value, a_string, a_constant, look_value, look_range, Prefix, prefix_of, effect_of, unary}
+use Rattle.p8_tree.specs.Expressions.{Tree, node, Number, Str, Here, Built, Variable, Index, Trees, no_trees, ◌▷◌, Items}
+use Rattle.p8_grammar.specs.Lexemes.{Setting, in_method, in_declaration, in_dat, in_data_item, in_action, is_value, inside, behind, allows_index, is_dat, Access, memory, pins, input_pins, input, assembly, is_written, has_bits, is_in, Mark, left_parenthesis, right_parenthesis, left_bracket, right_bracket, comma, colon, dot, dot_dot, hash, backslash, equal, Lexeme, number, name, method_result, string, mark, prefix_word, infix_word, sign, assigns, changes, address, object_address, size, register, here, string_word, constant_word, look, value, built_in, command, other, reserved, is_free, token, Token}
+use Rattle.p8_grammar.specs.Grammar.{word, upto, unquoted, Row, begin, ◌▹◌, Names, plain_name, result_word, local_label, Variables, named, indexed, part, part_indexed, memory_at, memory_indexed, register_whole, register_bit, register_bits, Head, calls, built, applied, Heads, trapped, of_object, of_element, of_built_in, of_command, Arguments, no_arguments, argument, with_characters, Choices, no_choices, value_choice, range_choice, text_choice, Texts, first_text, first_value, next_text, next_value, Forms, a_number, a_character, the_place, parentheses, variable, name_alone, changed_by, changed_before, changed_after, address_of, plain_call, bare_call, full_call, object_constant, a_value, a_string, one_item, items_text, items_value, a_constant, look_value, look_range, look_text, Prefix, prefix_of, effect_of, unary, Spells, a_word, a_reserved_word}
 use Rattle.p8_grammar.specs.Machine as machine
-use Rattle.p8_grammar.specs.Machine.{Use, reading, addressing, changing, used, takes, Shape, using, coloned, sized, indexed_name, dotted, parted, memory_word, register_word, ready, trapping, trapped_name, trapped_element, object_dot, headed, hashed, string_begun, string_opened, string_read, constant_begun, look_begun, done, Hole, parenthesis, name_index, part_index, memory_address, memory_index, first_bit, last_bit, trapped_index, argument_of, constant_of, look_for, choice_of, choice_to, Next, stays, opens, only_if, tree, if_value, if_action, if_reading, target, is_plain as is_name_alone, unless, acting, whole_in, altering, at_fresh, begins, on_name, on_result, on_character, on_text, on_string, on_size, on_register, changed, on_change, on_parenthesis, on_bracket, on_dot, on_hash, on_colon, on_close, on_mark, grow, at_right_bracket, at_right_parenthesis, at_comma, at_colon, at_range, close}
+use Rattle.p8_grammar.specs.Machine.{Use, reading, addressing, changing, used, takes, Shape, using, coloned, sized, indexed_name, dotted, parted, memory_word, register_word, ready, trapping, trapped_name, trapped_element, object_dot, headed, hashed, string_begun, string_opened, string_read, strings_read, constant_begun, look_begun, choices_read, done, Hole, parenthesis, name_index, part_index, memory_address, memory_index, first_bit, last_bit, trapped_index, argument_of, first_item, next_item, constant_of, look_for, choice_of, choice_to, Next, stays, opens, only_if, tree, if_value, if_action, if_reading, target, is_plain as is_name_alone, unless, acting, whole_in, altering, at_fresh, begins, on_name, on_result, on_character, on_text, on_string, on_size, on_register, changed, on_change, on_parenthesis, on_bracket, on_dot, on_hash, on_colon, on_close, on_comma, on_mark, grow, on_item, at_right_bracket, at_right_parenthesis, at_comma, at_colon, at_range, close, labelled}
 
 -- what stands before a variable
 pub data UseRow (s : Setting) : Use → Row → Type 0 where
@@ -36,9 +36,11 @@ pub data ShapeStands (s : Setting) : Shape → Row → Type 0 where
   is_hashed : {p r : Place} {n : List ℕ} → IsTrue (is_value s) → ShapeStands s (hashed p n) (begin ▹ word p (name n) ▹ word r (mark hash))
   is_string_begun : {p : Place} → IsTrue (is_value s) → ShapeStands s (string_begun p) (begin ▹ word p string_word)
   is_string_opened : {p q : Place} → IsTrue (is_value s) → ShapeStands s (string_opened p) (begin ▹ word p string_word ▹ word q (mark left_parenthesis))
-  is_string_read : {p q r : Place} {c : ℕ} {t : List ℕ} → IsTrue (is_value s) → ShapeStands s (string_read p (c ∷ t)) (begin ▹ word p string_word ▹ word q (mark left_parenthesis) ▹ word r (string (c ∷ t)))
+  is_string_read : {p q r : Place} {c : ℕ} {t : List ℕ} → IsTrue (is_value s) → ShapeStands s (string_read p r (c ∷ t)) (begin ▹ word p string_word ▹ word q (mark left_parenthesis) ▹ word r (string (c ∷ t)))
+  is_strings_read : {p r : Place} {c d : ℕ} {t : List ℕ} {es : Trees} {row : Row} → IsTrue (is_value s) → Texts p es row → ShapeStands s (strings_read p (es ▷ node r (Str (c ∷ d ∷ t)))) (row ▹ word r (string (c ∷ d ∷ t)))
   is_constant_begun : {p : Place} → IsTrue (is_value s) → ShapeStands s (constant_begun p) (begin ▹ word p constant_word)
   is_look_begun : {p : Place} {k : ℕ} → IsTrue (is_value s) → ShapeStands s (look_begun p k) (begin ▹ word p (look k))
+  is_choices_read : {p q r : Place} {k : ℕ} {x : Tree} {c d : ℕ} {t : List ℕ} {xs : Items} {row : Row} → IsTrue (is_value s) → Choices (begin ▹ word p (look k) ▹ word q (mark left_parenthesis) ▹ upto x colon) xs row → ShapeStands s (choices_read p k x (with_characters r (c ∷ d ∷ t) xs)) (row ▹ word r (string (c ∷ d ∷ t)))
   is_done : {e : Tree} {row : Row} → Forms s e row → ShapeStands s (done e) row
 
 pub data HoleStands (s : Setting) : Hole → Row → Type 0 where
@@ -52,6 +54,7 @@ pub data HoleStands (s : Setting) : Hole → Row → Type 0 where
   is_last_bit : {u : Use} {before : Row} {p q : Place} {a : ℕ} {x : Access} {low : Tree} → UseRow s u before → IsTrue (allows_index s) → IsTrue (is_in s x) → IsTrue (has_bits x) → IsTrue (takes u x) → HoleStands s (last_bit u p a x low) (before ▹ word p (register a x) ▹ word q (mark left_bracket) ▹ upto low dot_dot)
   is_trapped_index : {o p q : Place} {n : List ℕ} → IsTrue (allows_index s) → HoleStands s (trapped_index p n) (begin ▹ word o (mark backslash) ▹ word p (name n) ▹ word q (mark left_bracket))
   is_argument : {h : Head} {es : Trees} {before row : Row} → ((es : Trees) (e : Tree) (row : Row) → Arguments before es row → Forms s (applied h (es ▷ e)) (row ▹ upto e right_parenthesis)) → Arguments before es row → HoleStands s (argument_of h es) row
+  is_next_item : {p : Place} {es : Trees} {row : Row} → IsTrue (is_value s) → Texts p es row → HoleStands s (next_item p es) row
   is_constant : {p q : Place} → IsTrue (is_value s) → HoleStands s (constant_of p) (begin ▹ word p constant_word ▹ word q (mark left_parenthesis))
   is_look_for : {p q : Place} {k : ℕ} → IsTrue (is_value s) → HoleStands s (look_for p k) (begin ▹ word p (look k) ▹ word q (mark left_parenthesis))
   is_choice : {p q : Place} {k : ℕ} {x : Tree} {xs : Items} {row : Row} → IsTrue (is_value s) → Choices (begin ▹ word p (look k) ▹ word q (mark left_parenthesis) ▹ upto x colon) xs row → HoleStands s (choice_of p k x xs) row
@@ -106,6 +109,20 @@ behind_value in_declaration = refl
 behind_value in_dat = refl
 behind_value in_data_item = refl
 behind_value in_action = refl
+
+pub behind_dat : (s : Setting) → is_dat (behind s) ≡ is_dat s
+behind_dat in_method = refl
+behind_dat in_declaration = refl
+behind_dat in_dat = refl
+behind_dat in_data_item = refl
+behind_dat in_action = refl
+
+pub inside_dat : (s : Setting) → is_dat (inside s) ≡ is_dat s
+inside_dat in_method = refl
+inside_dat in_declaration = refl
+inside_dat in_dat = refl
+inside_dat in_data_item = refl
+inside_dat in_action = refl
 
 pub behind_same : (s : Setting) → IsTrue (is_value s) → behind s ≡ s
 behind_same in_method h = refl
@@ -261,7 +278,7 @@ begins_stands t x p n n' h st = absurd cc
 
 name_stands : {s : Setting} {sh : Shape} {row : Row} → ShapeStands s sh row → (p : Place) (n : List ℕ) (n' : Next) → on_name p n sh ≡ Some n' → NextStands s n' (row ▹ word p (name n))
 name_stands (is_using u) p n n' h = landed _ _ _ _ h (is_plain u)
-name_stands (is_coloned u d) p n n' h = landed _ _ _ _ h (is_named u (local_label d))
+name_stands (is_coloned u d) p n n' h = landed _ _ _ _ h (is_named u (local_label d refl))
 name_stands (is_plain_dot {p = q} at_reading) p n n' h = landed _ _ _ _ h (is_headed (of_object {trap = false} q))
 name_stands (is_plain_dot (at_address v0)) p n n' h = absurd cc
 name_stands (is_plain_dot at_change) p n n' h = absurd cc
@@ -279,22 +296,19 @@ result_stands : {s : Setting} {sh : Shape} {row : Row} → ShapeStands s sh row 
 result_stands (is_using u) p n' h = landed _ _ _ _ h (is_named u result_word)
 result_stands st p n' h = absurd cc
 
-string_stands : {s : Setting} {sh : Shape} {row : Row} → ShapeStands s sh row → IsTrue (is_value s) → (p : Place) (t : List ℕ) (n' : Next) → on_string p t sh ≡ Some n' → NextStands s n' (row ▹ word p (string t))
-string_stands (is_using at_reading) d p (c ∷ []) n' h = landed _ _ _ _ h (is_done (a_character d))
-string_stands (is_using at_reading) d p [] n' h = absurd cc
-string_stands (is_using at_reading) y p (c ∷ d ∷ t) n' h = absurd cc
-string_stands (is_using (at_address v0)) d p (c ∷ []) n' h = absurd cc
-string_stands (is_using (at_address v0)) d p [] n' h = absurd cc
-string_stands (is_using (at_address v0)) y p (c ∷ d ∷ t) n' h = absurd cc
-string_stands (is_using at_change) d p (c ∷ []) n' h = absurd cc
-string_stands (is_using (at_operator w0 w1 w2)) d p (c ∷ []) n' h = absurd cc
-string_stands (is_using at_change) d p [] n' h = absurd cc
-string_stands (is_using (at_operator w0 w1 w2)) d p [] n' h = absurd cc
-string_stands (is_using at_change) y p (c ∷ d ∷ t) n' h = absurd cc
-string_stands (is_using (at_operator w0 w1 w2)) y p (c ∷ d ∷ t) n' h = absurd cc
-string_stands (is_string_opened y) d p [] n' h = absurd cc
-string_stands (is_string_opened y) d p (c ∷ t) n' h = landed _ _ _ _ h (is_string_read d)
-string_stands st d p t n' h = absurd cc
+character_stands : {s : Setting} {u : Use} {before : Row} → UseRow s u before → IsTrue (is_value s) → (p : Place) (t : List ℕ) (n' : Next) → on_character p t u ≡ Some n' → NextStands s n' (before ▹ word p (string t))
+character_stands at_reading d p (c ∷ []) n' h = landed _ _ _ _ h (is_done (a_character d))
+character_stands (at_address v0) d p (c ∷ []) n' h = absurd cc
+character_stands at_change d p (c ∷ []) n' h = absurd cc
+character_stands (at_operator w0 w1 w2) d p (c ∷ []) n' h = absurd cc
+character_stands u y p [] n' h = absurd cc
+character_stands u y p (c ∷ d ∷ t) n' h = absurd cc
+
+string_stands : {s : Setting} {sh : Shape} {row : Row} → ShapeStands s sh row → (p : Place) (t : List ℕ) (n' : Next) → on_string s p t sh ≡ Some n' → NextStands s n' (row ▹ word p (string t))
+string_stands {s = s} (is_using u) p t n' h = let y = value_some s _ n' h in character_stands u y.0 p t n' y.1
+string_stands (is_string_opened d) p [] n' h = absurd cc
+string_stands (is_string_opened d) p (c ∷ t) n' h = landed _ _ _ _ h (is_string_read d)
+string_stands st p t n' h = absurd cc
 
 size_stands : {s : Setting} {sh : Shape} {row : Row} → ShapeStands s sh row → (p : Place) (z : ℕ) (n' : Next) → on_size s p z sh ≡ Some n' → NextStands s n' (row ▹ word p (size z))
 size_stands (is_using u) p z n' h = allowed _ _ _ _ _ h (λ b. is_sized u b)
@@ -375,14 +389,22 @@ colon_stands st p n' h = absurd cc
 
 close_word_stands : {s : Setting} {sh : Shape} {row : Row} → ShapeStands s sh row → (p : Place) (n' : Next) → on_close sh ≡ Some n' → NextStands s n' (row ▹ word p (mark right_parenthesis))
 close_word_stands (is_string_read d) p n' h = landed _ _ _ _ h (is_done (a_string d))
+close_word_stands (is_strings_read d a) p n' h = landed _ _ _ _ h (is_done (items_text d a))
+close_word_stands (is_choices_read d a) p n' h = landed _ _ _ _ h (is_done (look_text d a))
 close_word_stands st p n' h = absurd cc
+
+comma_word_stands : {s : Setting} {sh : Shape} {row : Row} → ShapeStands s sh row → (p : Place) (n' : Next) → on_comma sh ≡ Some n' → NextStands s n' (row ▹ word p (mark comma))
+comma_word_stands (is_string_read d) p n' h = landed _ _ _ _ h (is_next_item d first_text)
+comma_word_stands (is_strings_read d a) p n' h = landed _ _ _ _ h (is_next_item d (next_text a))
+comma_word_stands (is_choices_read d a) p n' h = landed _ _ _ _ h (is_choice d (text_choice a))
+comma_word_stands st p n' h = absurd cc
 
 mark_stands : {s : Setting} {sh : Shape} {row : Row} → ShapeStands s sh row → (p : Place) (m : Mark) (n' : Next) → on_mark s p m sh ≡ Some n' → NextStands s n' (row ▹ word p (mark m))
 mark_stands st p left_parenthesis n' h = parenthesis_stands st p n' h
 mark_stands st p right_parenthesis n' h = close_word_stands st p n' h
 mark_stands st p left_bracket n' h = bracket_stands st p n' h
 mark_stands st p right_bracket n' h = absurd cc
-mark_stands st p comma n' h = absurd cc
+mark_stands st p comma n' h = comma_word_stands st p n' h
 mark_stands st p colon n' h = colon_stands st p n' h
 mark_stands st p dot n' h = dot_stands st p n' h
 mark_stands st p dot_dot n' h = absurd cc
@@ -405,30 +427,61 @@ altering_stands {s = s} {sh = sh} {row = row} st d x o p n' is h = go (effect_of
     go None e h = absurd cc
     go (Some k) e h = begins_stands st x p (stays (using (changing p k))) n' h (is_using (at_operator d is e))
 
--- one word more
-pub grow_stands : {s : Setting} {sh : Shape} {row : Row} → ShapeStands s sh row → (p : Place) (x : Lexeme) (n' : Next) → grow s sh p x ≡ Some n' → NextStands s n' (row ▹ word p x)
-grow_stands {s = s} st p (number n) n' h = let y = value_some s _ n' h in begins_stands st (number n) p (stays (done (node p (Number n)))) n' y.1 (is_done (a_number y.0))
-grow_stands st p (name n) n' h = name_stands st p n n' h
-grow_stands st p method_result n' h = result_stands st p n' h
-grow_stands {s = s} st p (string t) n' h = let y = value_some s _ n' h in string_stands st y.0 p t n' y.1
-grow_stands st p (mark m) n' h = mark_stands st p m n' h
-grow_stands {s = s} st p (prefix_word r k) n' h = let y = action_some s _ n' h in altering_stands st y.0 (prefix_word r k) (unary r k) p n' refl y.1
-grow_stands st p (infix_word r k) n' h = absurd cc
-grow_stands {s = s} st p (sign k j) n' h = let y = action_some s _ n' h in altering_stands st y.0 (sign k j) (unary 1 k) p n' refl y.1
-grow_stands st p (assigns o) n' h = absurd cc
-grow_stands st p (changes b a) n' h = change_stands st p b a n' h
-grow_stands {s = s} st p address n' h = let y = value_some s _ n' h in begins_stands st address p (stays (using (addressing p))) n' y.1 (is_using (at_address y.0))
-grow_stands st p object_address n' h = absurd cc
-grow_stands st p (size z) n' h = size_stands st p z n' h
-grow_stands st p (register a x) n' h = register_stands st p a x n' h
-grow_stands st p here n' h = here_stands st p n' h
-grow_stands {s = s} st p string_word n' h = let y = value_some s _ n' h in begins_stands st string_word p (stays (string_begun p)) n' y.1 (is_string_begun y.0)
-grow_stands {s = s} st p constant_word n' h = let y = value_some s _ n' h in begins_stands st constant_word p (stays (constant_begun p)) n' y.1 (is_constant_begun y.0)
-grow_stands {s = s} st p (look k) n' h = let y = value_some s _ n' h in begins_stands st (look k) p (stays (look_begun p k)) n' y.1 (is_look_begun y.0)
-grow_stands st p (value k) n' h = begins_stands st (value k) p (stays (done (node p (Built k no_trees)))) n' h (is_done a_value)
-grow_stands st p (built_in k) n' h = begins_stands st (built_in k) p (stays (headed (built k p))) n' h (is_headed of_built_in)
-grow_stands {s = s} st p (command k) n' h = let y = action_some s _ n' h in begins_stands st (command k) p (stays (headed (built k p))) n' y.1 (is_headed (of_command y.0))
-grow_stands st p other n' h = absurd cc
+abbrev is_reserved : Lexeme → Bool
+is_reserved (reserved n x) = true
+is_reserved x = false
+
+-- one word more that isn't reserved
+word_stands : {s : Setting} {sh : Shape} {row : Row} → ShapeStands s sh row → (p : Place) (x : Lexeme) (n' : Next) → is_reserved x ≡ false → grow s sh p x ≡ Some n' → NextStands s n' (row ▹ word p x)
+word_stands {s = s} st p (number n) n' f h = let y = value_some s _ n' h in begins_stands st (number n) p (stays (done (node p (Number n)))) n' y.1 (is_done (a_number y.0))
+word_stands st p (name n) n' f h = name_stands st p n n' h
+word_stands st p method_result n' f h = result_stands st p n' h
+word_stands st p (string t) n' f h = string_stands st p t n' h
+word_stands st p (mark m) n' f h = mark_stands st p m n' h
+word_stands {s = s} st p (prefix_word r k) n' f h = let y = action_some s _ n' h in altering_stands st y.0 (prefix_word r k) (unary r k) p n' refl y.1
+word_stands st p (infix_word r k) n' f h = absurd cc
+word_stands {s = s} st p (sign k j) n' f h = let y = action_some s _ n' h in altering_stands st y.0 (sign k j) (unary 1 k) p n' refl y.1
+word_stands st p (assigns o) n' f h = absurd cc
+word_stands st p (changes b a) n' f h = change_stands st p b a n' h
+word_stands {s = s} st p address n' f h = let y = value_some s _ n' h in begins_stands st address p (stays (using (addressing p))) n' y.1 (is_using (at_address y.0))
+word_stands st p object_address n' f h = absurd cc
+word_stands st p (size z) n' f h = size_stands st p z n' h
+word_stands st p (register a x) n' f h = register_stands st p a x n' h
+word_stands st p here n' f h = here_stands st p n' h
+word_stands {s = s} st p string_word n' f h = let y = value_some s _ n' h in begins_stands st string_word p (stays (string_begun p)) n' y.1 (is_string_begun y.0)
+word_stands {s = s} st p constant_word n' f h = let y = value_some s _ n' h in begins_stands st constant_word p (stays (constant_begun p)) n' y.1 (is_constant_begun y.0)
+word_stands {s = s} st p (look k) n' f h = let y = value_some s _ n' h in begins_stands st (look k) p (stays (look_begun p k)) n' y.1 (is_look_begun y.0)
+word_stands st p (value k) n' f h = begins_stands st (value k) p (stays (done (node p (Built k no_trees)))) n' h (is_done a_value)
+word_stands st p (built_in k) n' f h = begins_stands st (built_in k) p (stays (headed (built k p))) n' h (is_headed of_built_in)
+word_stands {s = s} st p (command k) n' f h = let y = action_some s _ n' h in begins_stands st (command k) p (stays (headed (built k p))) n' y.1 (is_headed (of_command y.0))
+word_stands st p other n' f h = absurd cc
+word_stands st p (reserved m x) n' f h = absurd cc
+
+-- one word more: what it is to the row, and what it spells
+pub record Worded (s : Setting) (n' : Next) (row : Row) (p : Place) (x : Lexeme) : Type 0 where
+  pub is : Lexeme
+  pub stands : NextStands s n' (row ▹ word p is)
+  pub spells : {vs : List Token} → Spells s row vs → Spells s (row ▹ word p is) (vs ++ token p x ∷ [])
+
+unnamed : (x : Lexeme) → is_free x ≡ true → is_reserved x ≡ false
+unnamed (reserved n x) h = absurd cc
+unnamed x h = refl
+
+-- a reserved word, where it's no label
+inner_stands : {s : Setting} {sh : Shape} {row : Row} → ShapeStands s sh row → (p : Place) (m : List ℕ) (x : Lexeme) (n' : Next) → (if is_free x then grow s sh p x else None) ≡ Some n' → Worded s n' row p (reserved m x)
+inner_stands {s = s} {sh = sh} {row = row} st p m x n' h = go (is_free x) refl h
+  where
+    go : (b : Bool) → is_free x ≡ b → (if b then grow s sh p x else None) ≡ Some n' → Worded s n' row p (reserved m x)
+    go true e h = record { is = x; stands = word_stands st p x n' (unnamed x e) h; spells = a_reserved_word m e }
+    go false e h = absurd cc
+
+reserved_stands : {s : Setting} {sh : Shape} {row : Row} → ShapeStands s sh row → (p : Place) (m : List ℕ) (x : Lexeme) (n' : Next) → labelled m sh (if is_free x then grow s sh p x else None) ≡ Some n' → Worded s n' row p (reserved m x)
+reserved_stands (is_coloned u d) p m x n' h = record { is = reserved m x; stands = landed _ _ _ _ h (is_named u (local_label d refl)); spells = a_word }
+reserved_stands st p m x n' h = inner_stands st p m x n' h
+
+pub grow_stands : {s : Setting} {sh : Shape} {row : Row} → ShapeStands s sh row → (p : Place) (x : Lexeme) (n' : Next) → grow s sh p x ≡ Some n' → Worded s n' row p x
+grow_stands st p (reserved m x) n' h = reserved_stands st p m x n' h
+grow_stands st p x n' h = record { is = x; stands = word_stands st p x n' refl h; spells = a_word }
 
 right_bracket_stands : {s : Setting} {hole : Hole} {row : Row} → HoleStands s hole row → (e : Tree) (n' : Next) → at_right_bracket hole e ≡ Some n' → NextStands s n' (row ▹ upto e right_bracket)
 right_bracket_stands (is_plain_index at_reading i) e n' h = landed _ _ _ _ h (is_element i)
@@ -450,6 +503,7 @@ right_bracket_stands st e n' h = absurd cc
 right_parenthesis_stands : {s : Setting} {hole : Hole} {row : Row} → HoleStands s hole row → (e : Tree) (n' : Next) → at_right_parenthesis hole e ≡ Some n' → NextStands s n' (row ▹ upto e right_parenthesis)
 right_parenthesis_stands (is_parenthesis d) e n' h = landed _ _ _ _ h (is_done (parentheses d))
 right_parenthesis_stands (is_argument f a) e n' h = landed _ _ _ _ h (is_done (f _ e _ a))
+right_parenthesis_stands (is_next_item d a) e n' h = landed _ _ _ _ h (is_done (items_value d a))
 right_parenthesis_stands (is_constant d) e n' h = landed _ _ _ _ h (is_done (a_constant d))
 right_parenthesis_stands (is_choice d c) e n' h = landed _ _ _ _ h (is_done (look_value d c))
 right_parenthesis_stands (is_choice_to d c) e n' h = landed _ _ _ _ h (is_done (look_range d c))
@@ -457,6 +511,7 @@ right_parenthesis_stands st e n' h = absurd cc
 
 comma_stands : {s : Setting} {hole : Hole} {row : Row} → HoleStands s hole row → (e : Tree) (n' : Next) → at_comma hole e ≡ Some n' → NextStands s n' (row ▹ upto e comma)
 comma_stands (is_argument f a) e n' h = landed _ _ _ _ h (is_argument f (argument a))
+comma_stands (is_next_item d a) e n' h = landed _ _ _ _ h (is_next_item d (next_value a))
 comma_stands (is_choice d c) e n' h = landed _ _ _ _ h (is_choice d (value_choice c))
 comma_stands (is_choice_to d c) e n' h = landed _ _ _ _ h (is_choice d (range_choice c))
 comma_stands st e n' h = absurd cc
@@ -478,3 +533,17 @@ close_stands st comma e n' h = comma_stands st e n' h
 close_stands st colon e n' h = at_colon_stands st e n' h
 close_stands st dot_dot e n' h = range_stands st e n' h
 close_stands st m e n' h = absurd cc
+
+-- a string of several characters in place of an expression
+pub item_stands : {s : Setting} {hole : Hole} {row : Row} → HoleStands s hole row → (p : Place) (t : List ℕ) (n' : Next) → on_item p t hole ≡ Some n' → NextStands s n' (row ▹ word p (string t))
+item_stands st p [] n' h = absurd cc
+item_stands st p (c ∷ []) n' h = absurd cc
+item_stands (is_next_item d a) p (c ∷ e ∷ t) n' h = landed _ _ _ _ h (is_strings_read d a)
+item_stands (is_choice d a) p (c ∷ e ∷ t) n' h = landed _ _ _ _ h (is_choices_read d a)
+item_stands st p (c ∷ e ∷ t) n' h = absurd cc
+
+-- the first item of STRING, up to the mark that ends it
+pub first_stands : (s : Setting) → IsTrue (is_value s) → (p q : Place) (m : Mark) (e : Tree) (n' : Next) → close m (first_item p) e ≡ Some n' → NextStands s n' (begin ▹ word p string_word ▹ word q (mark left_parenthesis) ▹ unquoted e m)
+first_stands s d p q right_parenthesis e n' h = landed _ _ _ _ h (is_done (one_item d))
+first_stands s d p q comma e n' h = landed _ _ _ _ h (is_next_item d first_value)
+first_stands s d p q m e n' h = absurd cc

@@ -1,12 +1,12 @@
 -- A variable with AND or OR after it.
-use Rattle.std.proofs.Common.{◌≡◌, ℕ, zero, suc, ◌*◌, ◌<◌, ◌≤◌, List, [], ◌∷◌, Option, Some, None, Bool, true, false, refl, sym, ap, ◌∙◌, arith}
+use Rattle.std.proofs.Common.{◌≡◌, ℕ, zero, suc, ◌*◌, ◌<◌, ◌≤◌, List, [], ◌∷◌, Option, Some, None, Bool, true, false, refl, sym, ap, subst, ◌∙◌, arith}
 use Rattle.std.specs.Prelude.{option_and_then, IsTrue, nat_le, nat_lt, if◌then◌else◌, ◌&&◌}
 use Rattle.std.proofs.lemmas.Bool.{leb-true, ltb-true, lt-ltb}
 use Rattle.p8_tree.specs.declared.places.Place.{Place}
 use Rattle.p8_tree.specs.Expressions.{Tree, Variable, Register, whole}
-use Rattle.p8_grammar.specs.Lexemes.{Setting, is_value, is_written, equal, mark, infix_word, Token, token}
-use Rattle.p8_grammar.specs.Grammar.{is_boolean}
-use Rattle.p8_grammar.specs.Machine.{reading, addressing, changing, used, Shape, named, indexed_name, parted, memory_word, register_word, ready, tree, if_reading, target, fresh, Frame, infix_frame, bar_of, reduce, State, state, joined, operate, join, grow, beyond, go_on, step, walk}
+use Rattle.p8_grammar.specs.Lexemes.{Setting, is_value, is_written, equal, Lexeme, mark, infix_word, sign, reserved, plain, Token, token}
+use Rattle.p8_grammar.specs.Grammar.{infix_of, is_boolean}
+use Rattle.p8_grammar.specs.Machine.{reading, addressing, changing, used, Shape, coloned, named, indexed_name, parted, memory_word, register_word, ready, Next, tree, if_reading, target, labelled, fresh, Frame, infix_frame, bar_of, reduce, State, state, joined, operate, join, grow, beyond, go_on, step, walk}
 use Rattle.p8_grammar.proofs.Walks.{kept, both}
 
 pub first_true : (a b : Bool) → IsTrue (a && b) → IsTrue a
@@ -16,6 +16,11 @@ first_true false b h = absurd cc
 pub second_true : (a b : Bool) → IsTrue (a && b) → IsTrue b
 second_true true b h = h
 second_true false b h = absurd cc
+
+-- an operator between operands but for a sign
+abbrev pub is_infix_word : Lexeme → Bool
+is_infix_word (infix_word r c) = true
+is_infix_word x = false
 
 -- the ranks of AND and OR
 pub boolean_most : (r : ℕ) → IsTrue (is_boolean r) → r ≤ 10
@@ -64,10 +69,35 @@ join_off s None r c p e k h = refl
 join_off s (Some v) zero c p e k h = refl
 join_off s (Some v) (suc r) c p e k h = ap (λ b. if b then Some (joined s r c p v k) else operate s (Some (suc r, c)) p e k) h
 
+-- no form goes on with a word of a whole form's label
+pub unlabelled : (m : List ℕ) (sh : Shape) (o : Option Next) (top : Tree) → tree sh ≡ Some top → labelled m sh o ≡ o
+unlabelled m (coloned u q) o top t = absurd cc
+unlabelled m sh o top t = refl
+
+-- what AND or OR after a whole form is, reserved or not
+pub word_step : (s : Setting) (sh : Shape) (k : List Frame) (p : Place) (x : Lexeme) (o : Option (ℕ × ℕ)) (top : Tree) → infix_of (plain x) ≡ o → IsTrue (is_infix_word (plain x)) → tree sh ≡ Some top → step (state s sh k) (token p x) ≡ join s (target sh) o p top k
+word_step s sh k p (infix_word r c) o top f i t = ap (λ t. beyond t s sh k p (infix_word r c)) t ∙ ap (λ o. join s (target sh) o p top k) f
+word_step s sh k p (reserved m (infix_word r c)) o top f i t =
+    ap (λ n. go_on n s sh k p (reserved m (infix_word r c))) (unlabelled m sh None top t) ∙ ap (λ t. beyond t s sh k p (reserved m (infix_word r c))) t ∙ ap (λ o. join s (target sh) o p top k) f
+word_step s sh k p x o top f i t = absurd cc
+
+-- an operator of these ranks is such a word
+pub boolean_word : (x : Lexeme) (r c : ℕ) → infix_of (plain x) ≡ Some (r, c) → IsTrue (is_boolean r) → IsTrue (is_infix_word (plain x))
+boolean_word x r c f b = go (plain x) f
+  where
+    rank_in : Option (ℕ × ℕ) → ℕ
+    rank_in None = 9
+    rank_in (Some q) = q.0
+
+    go : (y : Lexeme) → infix_of y ≡ Some (r, c) → IsTrue (is_infix_word y)
+    go (infix_word r' c') h = refl
+    go (sign k j) h = let six : IsTrue (is_boolean 6) = subst (λ r. IsTrue (is_boolean r)) (sym (ap rank_in h)) b in absurd cc
+    go y h = absurd cc
+
 -- `=` may come
-pub joins : (s : Setting) (sh : Shape) (k : List Frame) (p : Place) (r c : ℕ) (top : Tree) (v : Variable) → tree sh ≡ Some top → target sh ≡ Some v → IsTrue (is_boolean (suc r)) → 21 < bar_of k → step (state s sh k) (token p (infix_word (suc r) c)) ≡ Some (joined s r c p v k)
-joins s sh k p r c top v t w h lt =
-    ap (λ o. beyond o s sh k p (infix_word (suc r) c)) t ∙ ap (λ x. join s x (Some (suc r, c)) p top k) w ∙ join_on s v r c p top k (both (is_boolean (suc r)) (nat_lt 21 (bar_of k)) h (lt-ltb 21 (bar_of k) lt))
+pub joins : (s : Setting) (sh : Shape) (k : List Frame) (p : Place) (x : Lexeme) (r c : ℕ) (top : Tree) (v : Variable) → infix_of (plain x) ≡ Some (suc r, c) → tree sh ≡ Some top → target sh ≡ Some v → IsTrue (is_boolean (suc r)) → 21 < bar_of k → step (state s sh k) (token p x) ≡ Some (joined s r c p v k)
+joins s sh k p x r c top v f t w h lt =
+    word_step s sh k p x (Some (suc r, c)) top f (boolean_word x (suc r) c f h) t ∙ ap (λ x. join s x (Some (suc r, c)) p top k) w ∙ join_on s v r c p top k (both (is_boolean (suc r)) (nat_lt 21 (bar_of k)) h (lt-ltb 21 (bar_of k) lt))
 
 same_shape : (s s' : Setting) (sh sh' : Shape) (k k' : List Frame) → Some (state s sh k) ≡ Some (state s' sh' k') → sh ≡ sh'
 same_shape s s' sh sh' k k' h = cc

@@ -3,14 +3,17 @@ pub mod FormsRead
 pub mod Complete
 pub mod FormsStand
 pub mod Joins
+pub mod Items
 pub mod Sound
 pub mod Tall
 pub mod Live
 pub mod Built
 pub mod Steps
+pub mod Firsts
 pub mod Depths
 pub mod Measures
 pub mod Endings
 pub mod Readings
 pub mod Resolving
-mod Proper
+pub mod Proper
+pub mod Labels

@@ -1,18 +1,18 @@
 -- What has been read can be ended to an expression of the least height.
-use Rattle.std.proofs.Common.{◌≡◌, ℕ, suc, ◌≤◌, max, List, [], ◌∷◌, ◌++◌, Bool, Some, None, true, false, refl, sym, ap, ◌∙◌, arith}
-use Rattle.std.specs.Prelude.{Option, option_and_then, if◌then◌else◌}
+use Rattle.std.proofs.Common.{◌≡◌, ℕ, suc, ◌≤◌, max, List, [], ◌∷◌, ◌++◌, Some, None, true, false, refl, sym, ap, ◌∙◌, arith}
+use Rattle.std.specs.Prelude.{Option, option_and_then}
 use Rattle.p8_tree.specs.declared.places.Place.{Place}
-use Rattle.p8_tree.specs.Expressions.{Tree, node, Number, Str, Var, Change, Variable, no_index, ObjConst, Built, Look, Named, Part, Memory, Register, index, bits, single, range, no_trees, ◌▷◌, no_items, ◌▸◌}
-use Rattle.p8_grammar.specs.Lexemes.{Setting, in_method, in_declaration, in_dat, in_data_item, in_action, is_value, behind, memory, Mark, left_parenthesis, right_parenthesis, left_bracket, right_bracket, colon, dot, equal, Lexeme, number, name, string, mark, changes, size, Token, token}
-use Rattle.p8_grammar.specs.Grammar.{Row, Head, calls, built, applied, Reads, IsFront}
+use Rattle.p8_tree.specs.Expressions.{Tree, node, Number, Str, Strings, Var, Change, Variable, no_index, ObjConst, Built, Look, Named, Part, Memory, Register, index, bits, single, range, no_trees, ◌▷◌, no_items, ◌▸◌}
+use Rattle.p8_grammar.specs.Lexemes.{Setting, in_method, in_declaration, in_dat, in_data_item, in_action, behind, memory, Mark, left_parenthesis, right_parenthesis, left_bracket, right_bracket, colon, dot, equal, Lexeme, number, name, string, mark, changes, size, Token, token, reserved}
+use Rattle.p8_grammar.specs.Grammar.{Row, with_characters, Head, calls, built, applied, Reads, IsFront}
 use Rattle.p8_grammar.specs.Heights.{height, height_of_trees, IsTooHigh}
-use Rattle.p8_grammar.specs.Machine.{reading, addressing, changing, Shape, memory_word, named, parted, indexed_name, ready, trapped_name, trapped_element, headed, done, Hole, Next, stays, opens, choice_of, tree, target, grow, is_plain as is_name_alone, unless, acting, whole_in, close, fresh, Frame, wrap, assign_frame, inside_frame, reduce, State, state, joined, entered, entered_all, shut, go_on, step, walk, all_of, accepted, accept, start}
+use Rattle.p8_grammar.specs.Machine.{reading, addressing, changing, Shape, memory_word, named, parted, indexed_name, ready, trapped_name, trapped_element, headed, done, Hole, first_item, Next, stays, opens, choice_of, tree, target, whole_in, close, fresh, Frame, wrap, assign_frame, inside_frame, reduce, State, state, joined, entered, entered_all, shut, go_on, step, walk, all_of, accepted, accept, start}
 use Rattle.p8_grammar.specs.Least.{height_in_head, shape_least, filled, need, least}
 use Rattle.p8_grammar.proofs.Walks.{walk_append, goes_on, steps_on, wraps}
-use Rattle.p8_grammar.proofs.FormsStand.{ShapeStands, is_using, is_coloned, is_sized, is_plain, is_named, is_element, is_plain_dot, is_dotted, is_parted, is_memory, is_register, is_ready, is_trapping, is_trapped_name, is_trapped_element, is_object_dot, is_headed, is_hashed, is_string_begun, is_string_opened, is_string_read, is_constant_begun, is_look_begun, is_done, HoleStands, is_parenthesis, is_plain_index, is_name_index, is_part_index, is_memory_address, is_memory_index, is_first_bit, is_last_bit, is_trapped_index, is_argument, is_constant, is_look_for, is_choice, is_choice_to}
+use Rattle.p8_grammar.proofs.FormsStand.{ShapeStands, is_using, is_coloned, is_sized, is_plain, is_named, is_element, is_plain_dot, is_dotted, is_parted, is_memory, is_register, is_ready, is_trapping, is_trapped_name, is_trapped_element, is_object_dot, is_headed, is_hashed, is_string_begun, is_string_opened, is_string_read, is_strings_read, is_constant_begun, is_look_begun, is_choices_read, is_done, HoleStands, is_parenthesis, is_plain_index, is_name_index, is_part_index, is_memory_address, is_memory_index, is_first_bit, is_last_bit, is_trapped_index, is_argument, is_next_item, is_constant, is_look_for, is_choice, is_choice_to}
 use Rattle.p8_grammar.proofs.FormsRead.{changes_after, standing, done_whole, whole_tree}
 use Rattle.p8_grammar.proofs.Complete.{mark_step, complete}
-use Rattle.p8_grammar.proofs.Sound.{Pending, nothing_pending, after_operator, in_hole, Begun, Stands, walk_stands, start_stands, joint_assigns, sound}
+use Rattle.p8_grammar.proofs.Sound.{Pending, nothing_pending, after_operator, in_hole, in_first, Begun, Stands, walk_stands, start_stands, joint_assigns, sound}
 use Rattle.p8_grammar.proofs.Tall.{tree_least, target_least, need_le, need_wrap}
 
 somewhere : Place
@@ -22,12 +22,16 @@ somewhere = record { line = 1; column = 1 }
 abbrev pub letter : List ℕ
 letter = 65 ∷ []
 
+-- BYTE
+abbrev pub byte_word : List ℕ
+byte_word = 66 ∷ 89 ∷ 84 ∷ 69 ∷ []
+
 -- the words that end forms, each of which a source may have
 pub data IsEnding : Lexeme → Type 0 where
   a_name : IsEnding (name letter)
   a_number : IsEnding (number 0)
   a_string : IsEnding (string letter)
-  a_size : IsEnding (size 1)
+  a_size : IsEnding (reserved byte_word (size 1))
   -- `++`, before and after a variable
   a_change : IsEnding (changes 0x20 0x28)
   a_mark : (m : Mark) → IsEnding (mark m)
@@ -96,8 +100,8 @@ completed {s = in_data_item} (is_sized y i) = absurd cc
 completed {s = s} (is_plain y) = already s _ _ refl
 completed {s = s} (is_named y n) = already s _ _ refl
 completed {s = s} (is_element i) = already s _ _ refl
-completed (is_plain_dot {u = u} {p = p} {n = n} y) = record { rest = token somewhere (size 1) ∷ []; endings = another a_size none; whole = parted u p n 1; top = _; walks = λ k. refl; has = refl; low = omega arith }
-completed (is_dotted {u = u} {p = p} {n = n} y x) = record { rest = token somewhere (size 1) ∷ []; endings = another a_size none; whole = parted u p n 1; top = _; walks = λ k. refl; has = refl; low = omega arith }
+completed (is_plain_dot {u = u} {p = p} {n = n} y) = record { rest = token somewhere (reserved byte_word (size 1)) ∷ []; endings = another a_size none; whole = parted u p n 1; top = _; walks = λ k. refl; has = refl; low = omega arith }
+completed (is_dotted {u = u} {p = p} {n = n} y x) = record { rest = token somewhere (reserved byte_word (size 1)) ∷ []; endings = another a_size none; whole = parted u p n 1; top = _; walks = λ k. refl; has = refl; low = omega arith }
 completed {s = s} (is_parted y n) = already s _ _ refl
 completed {s = s} (is_memory y i) = already s _ _ refl
 completed {s = s} (is_register y i t) = already s _ _ refl
@@ -119,8 +123,10 @@ completed {s = in_dat} (is_string_opened {p = p} d) = record { rest = token some
 completed {s = in_data_item} (is_string_opened {p = p} d) = record { rest = token somewhere (string (65 ∷ [])) ∷ token somewhere (mark right_parenthesis) ∷ []; endings = another a_string (another (a_mark right_parenthesis) none); whole = done (node p (Str (65 ∷ []))); top = _; walks = λ k. refl; has = refl; low = omega arith }
 completed {s = in_action} (is_string_opened d) = absurd cc
 completed (is_string_read {p = p} {c = c} {t = t} d) = record { rest = token somewhere (mark right_parenthesis) ∷ []; endings = another (a_mark right_parenthesis) none; whole = done (node p (Str (c ∷ t))); top = _; walks = λ k. refl; has = refl; low = omega arith }
+completed (is_strings_read {p = p} {r = r} {c = c} {d = e} {t = t} {es = es} d a) = record { rest = token somewhere (mark right_parenthesis) ∷ []; endings = another (a_mark right_parenthesis) none; whole = done (node p (Strings (es ▷ node r (Str (c ∷ e ∷ t))))); top = _; walks = λ k. refl; has = refl; low = omega arith }
 completed (is_constant_begun {p = p} d) = record { rest = token somewhere (mark left_parenthesis) ∷ token somewhere (name letter) ∷ token somewhere (mark right_parenthesis) ∷ []; endings = another (a_mark left_parenthesis) (another a_name (another (a_mark right_parenthesis) none)); whole = done (node p (Built 0 (no_trees ▷ alone))); top = _; walks = λ k. refl; has = refl; low = omega arith }
 completed (is_look_begun {p = p} {k = c} d) = record { rest = token somewhere (mark left_parenthesis) ∷ token somewhere (name letter) ∷ token somewhere (mark colon) ∷ token somewhere (name letter) ∷ token somewhere (mark right_parenthesis) ∷ []; endings = another (a_mark left_parenthesis) (another a_name (another (a_mark colon) (another a_name (another (a_mark right_parenthesis) none)))); whole = done (node p (Look c (alone) (no_items ▸ single (alone)))); top = _; walks = λ k. refl; has = refl; low = omega arith }
+completed (is_choices_read {p = p} {r = r} {k = j} {x = x} {c = c} {d = e} {t = t} {xs = xs} d a) = record { rest = token somewhere (mark right_parenthesis) ∷ []; endings = another (a_mark right_parenthesis) none; whole = done (node p (Look j x (with_characters r (c ∷ e ∷ t) xs))); top = _; walks = λ k. refl; has = refl; low = omega arith }
 completed {s = s} (is_done f) = already s _ _ refl
 
 -- words that end a form whose next expression is there, at its least height
@@ -182,6 +188,7 @@ filled_in {s = s} (is_first_bit {u = u} {p = p} {a = a} {x = x} y i b c t) e = c
 filled_in {s = s} (is_last_bit {u = u} {p = p} {a = a} {x = x} {low = low} y i b c t) e = closed s _ e right_bracket (ready u (Register a (bits (range low e)) p) x) _ refl refl (omega arith)
 filled_in {s = s} (is_trapped_index {p = p} {n = n} i) e = closed_by s _ e right_bracket (stays (trapped_element p n e)) (token somewhere (mark dot) ∷ token somewhere (name letter) ∷ []) (headed (calls true (Some n) (index e) letter somewhere p)) _ (another (a_mark dot) (another a_name none)) refl (λ k. refl) refl (omega arith)
 filled_in {s = s} (is_argument {h = h} {es = es} f a) e = closed s _ e right_parenthesis (done (applied h (es ▷ e))) _ refl refl (applied_low h es e)
+filled_in {s = s} (is_next_item {p = p} {es = es} d a) e = closed s _ e right_parenthesis (done (node p (Strings (es ▷ e)))) _ refl refl (omega arith)
 filled_in {s = s} (is_constant {p = p} d) e = closed s _ e right_parenthesis (done (node p (Built 0 (no_trees ▷ e)))) _ refl refl (omega arith)
 filled_in {s = s} (is_look_for {p = p} {k = c} d) e = closed_by s _ e colon (opens (choice_of p c e no_items)) (token somewhere (name letter) ∷ token somewhere (mark right_parenthesis) ∷ []) (done (node p (Look c e (no_items ▸ single (alone))))) _ (another a_name (another (a_mark right_parenthesis) none)) refl (λ k. refl) refl (omega arith)
 filled_in {s = s} (is_choice {p = p} {k = c} {x = x} {xs = xs} d y) e = closed s _ e right_parenthesis (done (node p (Look c x (xs ▸ single e)))) _ refl refl (omega arith)
@@ -200,10 +207,10 @@ pub record EndsAt (st : State) (n : ℕ) : Type 0 where
 ends : {s0 s : Setting} {k : List Frame} {us : List Token} → Pending s0 s k us → (e : Tree) (s' : Setting) (sh : Shape) (k' : List Frame) (x : Tree) → whole_in s' sh ≡ Some x → reduce 22 x k' ≡ reduce 22 e k → EndsAt (state s' sh k') (need (height e) k)
 ends nothing_pending e s' sh k' x h r =
     record { rest = []; endings = none; end = state s' sh k'; top = e; is = refl; accepts = ap (λ o. accepted o k') h ∙ ap (λ q. all_of q.0 q.1) r; low = omega arith }
-ends (after_operator {f = f} {k = k} vs l p d same kept small low b g) e s' sh k' x h r =
+ends (after_operator {f = f} {k = k} vs l p d same kept alike small low b w g) e s' sh k' x h r =
     let y = ends p (wrap f e) s' sh k' x h (r ∙ wraps 22 e f k b) in
     record { rest = y.rest; endings = y.endings; end = y.end; top = y.top; is = y.is; accepts = y.accepts; low = omega (arith, y.low, need_wrap f e k b) }
-ends (in_hole {s = s} {h = hole} {k = k} p stands sp) e s' sh k' x h r =
+ends (in_hole {s = s} {h = hole} {k = k} p stands sp a) e s' sh k' x h r =
     let f = filled_in stands e in
     let g = lasting s f.whole f.top f.has in
     let y = ends p g.top s g.whole k g.top g.has refl in
@@ -215,6 +222,19 @@ ends (in_hole {s = s} {h = hole} {k = k} p stands sp) e s' sh k' x h r =
       is = goes_on (state s' sh k') (state s f.whole k) f.rest (g.rest ++ y.rest) (f.walks s' sh x k' k (whole_tree s' sh x h) r) ∙ goes_on (state s f.whole k) (state s g.whole k) g.rest y.rest (g.walks k) ∙ y.is;
       accepts = y.accepts;
       low = omega (arith, y.low, need_le k (height g.top) (filled (height e) hole) (omega (arith, f.low, g.low, tree_least g.whole g.top (whole_tree s g.whole g.top g.has))));
+    }
+ends (in_first {s = s} {p = q} {k = k} p d sp a) e s' sh k' x h r =
+    let f = closed s (first_item q) e right_parenthesis (done (node q (Strings (no_trees ▷ e)))) _ refl refl (omega arith) in
+    let g = lasting s f.whole f.top f.has in
+    let y = ends p g.top s g.whole k g.top g.has refl in
+    record {
+      rest = f.rest ++ (g.rest ++ y.rest);
+      endings = both_end f.endings (both_end g.endings y.endings);
+      end = y.end;
+      top = y.top;
+      is = goes_on (state s' sh k') (state s f.whole k) f.rest (g.rest ++ y.rest) (f.walks s' sh x k' k (whole_tree s' sh x h) r) ∙ goes_on (state s f.whole k) (state s g.whole k) g.rest y.rest (g.walks k) ∙ y.is;
+      accepts = y.accepts;
+      low = omega (arith, y.low, need_le k (height g.top) (filled (height e) (first_item q)) (omega (arith, f.low, g.low, tree_least g.whole g.top (whole_tree s g.whole g.top g.has))));
     }
 
 ends_form : (s0 s : Setting) (sh : Shape) (k : List Frame) (ts : List Token) → Begun s0 s (stays sh) k ts → EndsAt (state s sh k) (need (shape_least sh) k)

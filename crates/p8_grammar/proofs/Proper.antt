@@ -1,16 +1,16 @@
 -- A tree that proper words spell is proper.
 use Rattle.std.proofs.Common.{◌≡◌, ℕ, suc, ◌^◌, ◌<◌, Bool, true, false, List, [], ◌∷◌, ◌++◌, Option, Some, None, refl, sym, ap, subst, ◌∙◌, arith}
-use Rattle.std.specs.Prelude.{◌==◌, ◌||◌, ◌-◌, if◌then◌else◌, IsTrue}
+use Rattle.std.specs.Prelude.{◌==◌, ◌||◌, ◌-◌, if◌then◌else◌, not, IsTrue, All}
 use Rattle.std.proofs.lemmas.Bool.Decides.{nat_tests}
 use Rattle.std.proofs.lemmas.List.{get_or_append_left, length-append}
 use Rattle.std.proofs.lemmas.List.Elements.{All-head, All-tail}
 use Rattle.p8_tree.specs.declared.places.Place.{Place}
-use Rattle.p8_tree.specs.Expressions.{Tree, Variable, Register, no_index, whole, bits, single, range, Trees, no_trees, ◌▷◌, Items}
-use Rattle.p8_tree.specs.Names.{IsName, IsVariableName, plain_name, result_name, local_label, IsQuoted}
-use Rattle.p8_tree.specs.Proper.{is_one_of, IsProperIndex, is_binary, is_written_register, has_bits as register_has_bits, is_register, is_in_memory, is_written as variable_is_written, arguments_fit, is_value, gives_value, gives_no_value, is_change, is_operator_alone, is_unary, IsProperTree, IsProperForm, IsProperVariable, AreProperTrees, AreProperItems}
-use Rattle.p8_grammar.specs.Lexemes.{Setting, in_method, in_declaration, in_dat, in_data_item, in_action, is_value as takes_value, is_dat, inside, behind, Access, memory, pins, input_pins, input, assembly, is_written, has_bits, is_in, mark, equal as equal_mark, assigns, Lexeme, prefix_word, infix_word, sign, object_address, Token, token}
+use Rattle.p8_tree.specs.Expressions.{Tree, node, Number, Variable, Register, no_index, whole, bits, single, range, Trees, no_trees, ◌▷◌, Items, ◌▸◌}
+use Rattle.p8_tree.specs.Names.{IsName, IsVariableName, plain_name, result_name, local_label, IsQuoted, IsWord}
+use Rattle.p8_tree.specs.Proper.{is_one_of, IsProperIndex, is_binary, is_written_register, has_bits as register_has_bits, is_register, is_in_memory, is_no_item, is_written as variable_is_written, arguments_fit, is_value, gives_value, gives_no_value, is_change, is_operator_alone, is_unary, IsProperTree, IsProperForm, IsProperVariable, AreProperTrees, AreProperItems}
+use Rattle.p8_grammar.specs.Lexemes.{Setting, in_method, in_declaration, in_dat, in_data_item, in_action, is_value as takes_value, is_dat, inside, behind, Access, memory, pins, input_pins, input, assembly, is_written, has_bits, is_in, mark, equal as equal_mark, assigns, Lexeme, prefix_word, infix_word, sign, object_address, Token, token, name, reserved, plain, name_in}
 use Rattle.p8_grammar.specs.Grammar as grammar
-use Rattle.p8_grammar.specs.Grammar.{word, upto, Row, begin, ◌▹◌, Names, result_word, Variables, named, indexed, part, part_indexed, memory_at, memory_indexed, register_whole, register_bit, register_bits, Head, calls, built, applied, Heads, trapped, of_object, of_element, of_built_in, of_command, Arguments, no_arguments, argument, Choices, no_choices, value_choice, range_choice, Forms, a_number, a_character, the_place, parentheses, variable, name_alone, changed_by, changed_before, changed_after, address_of, plain_call, bare_call, full_call, object_constant, a_value, a_string, a_constant, look_value, look_range, Prefix, at_object, unary, with_prefix, prefix_of, effect_of, infix_of, Reads, operand, before, between, assigned, assigned_by_word, Spells, nothing, a_word, an_expression}
+use Rattle.p8_grammar.specs.Grammar.{word, upto, unquoted, Row, begin, ◌▹◌, Names, result_word, Variables, named, indexed, part, part_indexed, memory_at, memory_indexed, register_whole, register_bit, register_bits, Head, calls, built, applied, Heads, trapped, of_object, of_element, of_built_in, of_command, Arguments, no_arguments, argument, with_characters, Choices, no_choices, value_choice, range_choice, text_choice, quoted, Texts, first_text, first_value, next_text, next_value, Forms, a_number, a_character, the_place, parentheses, variable, name_alone, changed_by, changed_before, changed_after, address_of, plain_call, bare_call, full_call, object_constant, a_value, a_string, one_item, items_text, items_value, a_constant, look_value, look_range, look_text, Prefix, at_object, unary, with_prefix, prefix_of, effect_of, infix_of, Reads, operand, before, between, assigned, assigned_by_word, Spells, nothing, a_word, an_expression, an_unquoted, a_reserved_word}
 use Rattle.p8_grammar.specs.Proper.{is_register_for, IsProperLexeme, lexeme_in, AreProper, IsProperAction}
 use Rattle.p8_grammar.proofs.FormsStand.{clash, inside_value, behind_value}
 
@@ -33,11 +33,24 @@ abbrev IsProperRow : Bool → Row → Type 0
 IsProperRow dat begin = Unit {0}
 IsProperRow dat (row ▹ word p x) = IsProperRow dat row × IsProperLexeme x
 IsProperRow dat (row ▹ upto e m) = IsProperRow dat row × IsProperTree dat e
+IsProperRow dat (row ▹ unquoted e m) = IsProperRow dat row × IsProperTree dat e
+
+-- the name that a proper word is behind a colon
+pub name_word : (x : Lexeme) (n : List ℕ) → name_in x ≡ Some n → IsProperLexeme x → IsWord n
+name_word (name m) n is h = subst IsWord (same m n is) (record { begins = h.begins; characters = h.characters; short = h.short })
+  where
+    same : (m n : List ℕ) → Some m ≡ Some n → m ≡ n
+    same m n h = cc
+name_word (reserved m x) n is h = subst IsWord (same m n is) h.0
+  where
+    same : (m n : List ℕ) → Some m ≡ Some n → m ≡ n
+    same m n h = cc
+name_word x n is h = absurd cc
 
 names_proper : (s : Setting) {b : Row} {n : List ℕ} {p : Place} {row : Row} → Names s b n p row → IsProperRow (is_dat s) row → IsVariableName (is_dat s) n × IsProperRow (is_dat s) b
 names_proper s grammar.plain_name h = (plain_name h.1, h.0)
 names_proper s result_word h = (result_name, h.0)
-names_proper s (grammar.local_label dat) h = (local_label dat h.1, h.0.0)
+names_proper s (grammar.local_label {x = x} dat is) h = (local_label dat (name_word x _ is h.1), h.0.0)
 
 -- registers
 
@@ -153,15 +166,35 @@ arguments_proper : (dat : Bool) {b : Row} {es : Trees} {row : Row} → Arguments
 arguments_proper dat no_arguments h = (tt, h)
 arguments_proper dat (argument a) h = let r = arguments_proper dat a h.0 in ((r.0, h.1), r.1)
 
-choices_proper : (dat : Bool) {b : Row} {xs : Items} {row : Row} → Choices b xs row → IsProperRow dat row → AreProperItems dat xs × IsProperRow dat b
-choices_proper dat no_choices h = (tt, h)
-choices_proper dat (value_choice c) h = let r = choices_proper dat c h.0 in ((r.0, h.1), r.1)
-choices_proper dat (range_choice c) h = let r = choices_proper dat c h.0.0 in ((r.0, (h.0.1, h.1)), r.1)
-
 -- forms
 
 small : (c : ℕ) → c < 256 → c < 2 ^ 32
 small c h = omega arith
+
+-- a string's characters
+characters_proper : (dat : Bool) (p : Place) (t : List ℕ) (xs : Items) → All IsQuoted t → AreProperItems dat xs → AreProperItems dat (with_characters p t xs)
+characters_proper dat p [] xs q h = h
+characters_proper dat p (c ∷ t) xs q h = characters_proper dat p t (xs ▸ single (node p (Number c))) (All-tail IsQuoted c t q) (h, small c (All-head IsQuoted c t q).0)
+
+some_characters : (p : Place) (t : List ℕ) (xs : Items) → IsTrue (not (is_no_item xs)) → IsTrue (not (is_no_item (with_characters p t xs)))
+some_characters p [] xs h = h
+some_characters p (c ∷ t) xs h = some_characters p t (xs ▸ single (node p (Number c))) refl
+
+choices_proper : (dat : Bool) {b : Row} {xs : Items} {row : Row} → Choices b xs row → IsProperRow dat row → AreProperItems dat xs × IsProperRow dat b
+choices_proper dat no_choices h = (tt, h)
+choices_proper dat (value_choice c) h = let r = choices_proper dat c h.0 in ((r.0, h.1), r.1)
+choices_proper dat (range_choice c) h = let r = choices_proper dat c h.0.0 in ((r.0, (h.0.1, h.1)), r.1)
+choices_proper dat (text_choice {xs = xs} {p = p} {c = d} {d = e} {t = t} c) h = let r = choices_proper dat c h.0.0 in (characters_proper dat p (d ∷ e ∷ t) xs h.0.1 r.0, r.1)
+
+quoted_proper : (dat : Bool) (p : Place) (c : ℕ) (t : List ℕ) → All IsQuoted (c ∷ t) → IsProperTree dat (quoted p (c ∷ t))
+quoted_proper dat p c [] h = small c (All-head IsQuoted c [] h).0
+quoted_proper dat p c (d ∷ t) h = (omega arith, h)
+
+texts_proper : (dat : Bool) {p : Place} {es : Trees} {row : Row} → Texts p es row → IsProperRow dat row → AreProperTrees dat es
+texts_proper dat (first_text {r = r} {c = c} {t = t}) h = (tt, quoted_proper dat r c t h.0.1)
+texts_proper dat first_value h = (tt, h.1)
+texts_proper dat (next_text a) h = (texts_proper dat a h.0.0, (omega arith, h.0.1))
+texts_proper dat (next_value a) h = (texts_proper dat a h.0, h.1)
 
 forms_proper : (s : Setting) {e : Tree} {row : Row} → IsTrue (takes_value s) → Forms s e row → IsProperRow (is_dat s) row → IsProperTree (is_dat s) e
 forms_proper s d (a_number y) h = h.1
@@ -180,9 +213,15 @@ forms_proper s d (full_call {h = x} {es = es} {e = e} r a) h = let b = arguments
 forms_proper s d (object_constant y) h = (h.0.0.1, h.1)
 forms_proper s d (a_value {k = k}) h = (or_left (is_value k) (gives_value k) h.1, tt)
 forms_proper s d (a_string {c = c} {t = t} y) h = (omega arith, h.0.1)
+forms_proper s d (one_item y) h = (refl, (tt, h.1))
+forms_proper s d (items_text y a) h = (refl, (texts_proper (is_dat s) a h.0.0, (omega arith, h.0.1)))
+forms_proper s d (items_value y a) h = (refl, (texts_proper (is_dat s) a h.0, h.1))
 forms_proper s d (a_constant y) h = (refl, (tt, h.1))
 forms_proper s d (look_value y c) h = let r = choices_proper (is_dat s) c h.0 in (r.1.0.0.1, refl, r.1.1, (r.0, h.1))
 forms_proper s d (look_range y c) h = let r = choices_proper (is_dat s) c h.0.0 in (r.1.0.0.1, refl, r.1.1, (r.0, (h.0.1, h.1)))
+forms_proper s d (look_text {r = p} {c = a} {d = b} {t = t} {xs = xs} y c) h =
+    let r = choices_proper (is_dat s) c h.0.0 in
+    (r.1.0.0.1, some_characters p t (xs ▸ single (node p (Number a)) ▸ single (node p (Number b))) refl, r.1.1, characters_proper (is_dat s) p (a ∷ b ∷ t) xs h.0.1 r.0)
 
 -- operators
 
@@ -200,6 +239,11 @@ prefix_proper dat object_address o e h x p = subst (λ o. IsProperForm dat (with
     given : Some at_object ≡ Some o → at_object ≡ o
     given h = cc
 prefix_proper dat x o e h p q = absurd cc
+
+-- what a proper word is is proper
+plain_proper : (x : Lexeme) → IsProperLexeme x → IsProperLexeme (plain x)
+plain_proper (reserved n x) h = h.1
+plain_proper x h = h
 
 abbrev effect : Option Prefix → Option ℕ
 effect None = None
@@ -233,24 +277,28 @@ behind_dat in_action = refl
 mutual
   pub tree_proper : {s : Setting} {l : ℕ} {e : Tree} {ts : List Token} → IsTrue (takes_value s) → Reads s l e ts → AreProper ts → IsProperTree (is_dat s) e
   tree_proper {s = s} d (operand f sp) h = forms_proper s d f (row_proper sp h)
-  tree_proper {s = s} d (before {x = x} {o = o} {p = p} {e = e} {ts = ts} y is le r) h = prefix_proper (is_dat s) x o e is (All-head Has (token p x) ts h) (tree_proper d r (All-tail Has (token p x) ts h))
+  tree_proper {s = s} d (before {x = x} {o = o} {p = p} {e = e} {ts = ts} y is le r) h = prefix_proper (is_dat s) (plain x) o e is (plain_proper x (All-head Has (token p x) ts h)) (tree_proper d r (All-tail Has (token p x) ts h))
   tree_proper {s = s} d (between {r = r} {k = k} {p = p} {ts = ts} {us = us} x y is tight le a b) h =
       let behind = right ts (token p x ∷ us) h in
-      (infix_proper x (suc r) k is (All-head Has (token p x) us behind), tree_proper d a (left ts (token p x ∷ us) h), tree_proper d b (All-tail Has (token p x) us behind))
+      (infix_proper (plain x) (suc r) k is (plain_proper x (All-head Has (token p x) us behind)), tree_proper d a (left ts (token p x ∷ us) h), tree_proper d b (All-tail Has (token p x) us behind))
   tree_proper {s = s} d (assigned {o = o} {p = p} {e = e} {ts = ts} {us = us} x le w v sp r) h =
       let behind = right ts (token p (assigns o) ∷ us) h in
       let y = variables_proper s v (row_proper sp (left ts (token p (assigns o) ∷ us) h)) in
       (All-head Has (token p (assigns o)) us behind, y.written w, y.is, subst (λ dat. IsProperTree dat e) (behind_dat s) (tree_proper (behind_value s) r (All-tail Has (token p (assigns o)) us behind)))
-  tree_proper {s = s} d (assigned_by_word {k = k} {p = p} {e = e} {ts = ts} {us = us} x r q le w b v sp t) h =
-      let behind = right ts (token p (infix_word r k) ∷ token q (mark equal_mark) ∷ us) h in
-      let y = variables_proper s v (row_proper sp (left ts (token p (infix_word r k) ∷ token q (mark equal_mark) ∷ us) h)) in
-      let last = All-tail Has (token p (infix_word r k)) (token q (mark equal_mark) ∷ us) behind in
-      (All-head Has (token p (infix_word r k)) (token q (mark equal_mark) ∷ us) behind, y.written w, y.is, subst (λ dat. IsProperTree dat e) (behind_dat s) (tree_proper (behind_value s) t (All-tail Has (token q (mark equal_mark)) us last)))
+  tree_proper {s = s} d (assigned_by_word {k = k} {p = p} {e = e} {ts = ts} {us = us} x o r q le w f b v sp t) h =
+      let behind = right ts (token p o ∷ token q (mark equal_mark) ∷ us) h in
+      let y = variables_proper s v (row_proper sp (left ts (token p o ∷ token q (mark equal_mark) ∷ us) h)) in
+      let last = All-tail Has (token p o) (token q (mark equal_mark) ∷ us) behind in
+      (infix_proper (plain o) r k f (plain_proper o (All-head Has (token p o) (token q (mark equal_mark) ∷ us) behind)), y.written w, y.is, subst (λ dat. IsProperTree dat e) (behind_dat s) (tree_proper (behind_value s) t (All-tail Has (token q (mark equal_mark)) us last)))
 
   row_proper : {s : Setting} {row : Row} {ts : List Token} → Spells s row ts → AreProper ts → IsProperRow (is_dat s) row
   row_proper nothing h = tt
   row_proper (a_word {p = p} {x = x} {ts = ts} sp) h = (row_proper sp (left ts (token p x ∷ []) h), All-head Has (token p x) [] (right ts (token p x ∷ []) h))
+  row_proper (a_reserved_word {p = p} {x = x} {ts = ts} n none sp) h = (row_proper sp (left ts (token p (reserved n x) ∷ []) h), (All-head Has (token p (reserved n x)) [] (right ts (token p (reserved n x) ∷ []) h)).1)
   row_proper {s = s} (an_expression {e = e} {m = m} {ts = ts} {us = us} p sp r) h =
+      let behind = right ts (us ++ token p (mark m) ∷ []) h in
+      (row_proper sp (left ts (us ++ token p (mark m) ∷ []) h), subst (λ dat. IsProperTree dat e) (inside_dat s) (tree_proper (inside_value s) r (left us (token p (mark m) ∷ []) behind)))
+  row_proper {s = s} (an_unquoted {e = e} {m = m} {ts = ts} {us = us} p sp r a) h =
       let behind = right ts (us ++ token p (mark m) ∷ []) h in
       (row_proper sp (left ts (us ++ token p (mark m) ∷ []) h), subst (λ dat. IsProperTree dat e) (inside_dat s) (tree_proper (inside_value s) r (left us (token p (mark m) ∷ []) behind)))
 
@@ -312,9 +360,13 @@ forms_done (variable y v) h = absurd cc
 forms_done (address_of y v) h = absurd cc
 forms_done (object_constant y) h = absurd cc
 forms_done (a_string y) h = absurd cc
+forms_done (one_item y) h = absurd cc
+forms_done (items_text y a) h = absurd cc
+forms_done (items_value y a) h = absurd cc
 forms_done (a_constant y) h = absurd cc
 forms_done (look_value y c) h = absurd cc
 forms_done (look_range y c) h = absurd cc
+forms_done (look_text y c) h = absurd cc
 
 action_proper : {l : ℕ} {e : Tree} {ts : List Token} → Reads in_action l e ts → AreProper ts → IsProperAction e
 action_proper (operand f sp) h = forms_done f (row_proper sp h)
@@ -324,11 +376,11 @@ action_proper (assigned {o = o} {p = p} {ts = ts} {us = us} x le w v sp r) h =
     let behind = right ts (token p (assigns o) ∷ us) h in
     let y = variables_proper in_action v (row_proper sp (left ts (token p (assigns o) ∷ us) h)) in
     (All-head Has (token p (assigns o)) us behind, y.written w, y.is, tree_proper refl r (All-tail Has (token p (assigns o)) us behind))
-action_proper (assigned_by_word {k = k} {p = p} {ts = ts} {us = us} x r q le w b v sp t) h =
-    let behind = right ts (token p (infix_word r k) ∷ token q (mark equal_mark) ∷ us) h in
-    let y = variables_proper in_action v (row_proper sp (left ts (token p (infix_word r k) ∷ token q (mark equal_mark) ∷ us) h)) in
-    let last = All-tail Has (token p (infix_word r k)) (token q (mark equal_mark) ∷ us) behind in
-    (All-head Has (token p (infix_word r k)) (token q (mark equal_mark) ∷ us) behind, y.written w, y.is, tree_proper refl t (All-tail Has (token q (mark equal_mark)) us last))
+action_proper (assigned_by_word {k = k} {p = p} {ts = ts} {us = us} x o r q le w f b v sp t) h =
+    let behind = right ts (token p o ∷ token q (mark equal_mark) ∷ us) h in
+    let y = variables_proper in_action v (row_proper sp (left ts (token p o ∷ token q (mark equal_mark) ∷ us) h)) in
+    let last = All-tail Has (token p o) (token q (mark equal_mark) ∷ us) behind in
+    (infix_proper (plain o) r k f (plain_proper o (All-head Has (token p o) (token q (mark equal_mark) ∷ us) behind)), y.written w, y.is, tree_proper refl t (All-tail Has (token q (mark equal_mark)) us last))
 
 pub spelled_proper : (s : Setting) (ts : List Token) (e : Tree) → IsTrue (takes_value s) → Reads s 22 e ts → AreProper ts → IsProperTree (is_dat s) e
 spelled_proper s ts e d r h = tree_proper d r h

@@ -3,11 +3,11 @@ use Rattle.std.proofs.Common.{◌≡◌, ℕ, zero, suc, ◌+◌, ◌*◌, ◌<�
 use Rattle.std.specs.Prelude.{option_and_then, nat_le, nat_lt, if◌then◌else◌, ◌&&◌}
 use Rattle.std.proofs.lemmas.Bool.{leb-true, ltb-true}
 use Rattle.p8_tree.specs.declared.places.Place.{Place}
-use Rattle.p8_tree.specs.Expressions.{Tree, node, Here, Variable, Memory, Register, no_index, whole, no_trees, ◌▷◌}
-use Rattle.p8_grammar.specs.Lexemes.{Setting, is_value, behind, allows_index, is_dat, is_in, has_bits, Access, is_written, Mark, left_parenthesis, right_parenthesis, left_bracket, right_bracket, comma, colon, dot, dot_dot, hash, backslash, equal, Lexeme, number, name, method_result, string, mark, prefix_word, infix_word, sign, assigns, changes, address, object_address, size, register, here, string_word, constant_word, look, value, built_in, command, other, Token, token}
-use Rattle.p8_grammar.specs.Grammar.{Head, calls, built, applied, Prefix, at_object, unary, rank, with_prefix, prefix_of, effect_of, infix_of, is_boolean}
-use Rattle.p8_grammar.specs.Heights.{height, height_in_variable, height_of_trees, IsTooHigh}
-use Rattle.p8_grammar.specs.Machine.{Use, reading, addressing, changing, used, takes, Shape, using, coloned, sized, named, indexed_name, dotted, parted, memory_word, register_word, ready, trapping, trapped_name, trapped_element, object_dot, headed, hashed, string_begun, string_opened, string_read, constant_begun, look_begun, done, Hole, parenthesis, name_index, part_index, memory_address, memory_index, first_bit, last_bit, trapped_index, argument_of, constant_of, look_for, choice_of, choice_to, Next, stays, opens, only_if, tree, whole_in, if_value, if_action, altering, if_reading, target, begins, on_name, on_result, on_string, on_size, on_register, changed, on_change, on_parenthesis, on_bracket, on_dot, on_hash, on_colon, on_close, on_mark, grow, at_right_bracket, at_right_parenthesis, at_comma, at_colon, at_range, close, fresh, Frame, prefix_frame, infix_frame, assign_frame, inside_frame, bar, bar_of, wrap, reduce, State, state, joined, entered, entered_all, shut, prefixed, if_fresh, operate, join, assign, after, beyond, go_on, step, walk, all_of, accepted, accept, start}
+use Rattle.p8_tree.specs.Expressions.{Tree, node, Number, Here, Variable, Memory, Register, no_index, whole, no_trees, ◌▷◌, Items, single, ◌▸◌}
+use Rattle.p8_grammar.specs.Lexemes.{Setting, is_value, inside, behind, allows_index, is_dat, is_in, has_bits, Access, is_written, Mark, left_parenthesis, right_parenthesis, left_bracket, right_bracket, comma, colon, dot, dot_dot, hash, backslash, equal, Lexeme, number, name, method_result, string, mark, prefix_word, infix_word, sign, assigns, changes, address, object_address, size, register, here, string_word, constant_word, look, value, built_in, command, other, Token, token, reserved, plain, is_free}
+use Rattle.p8_grammar.specs.Grammar.{with_characters, Head, calls, built, applied, Prefix, at_object, unary, rank, with_prefix, prefix_of, effect_of, infix_of, is_boolean}
+use Rattle.p8_grammar.specs.Heights.{height, height_in_variable, height_of_trees, height_of_items, IsTooHigh}
+use Rattle.p8_grammar.specs.Machine.{Use, reading, addressing, changing, used, takes, Shape, using, coloned, sized, named, indexed_name, dotted, parted, memory_word, register_word, ready, trapping, trapped_name, trapped_element, object_dot, headed, hashed, string_begun, string_opened, string_read, strings_read, constant_begun, look_begun, choices_read, done, Hole, parenthesis, name_index, part_index, memory_address, memory_index, first_bit, last_bit, trapped_index, argument_of, first_item, next_item, constant_of, look_for, choice_of, choice_to, Next, stays, opens, only_if, tree, whole_in, if_value, if_action, altering, if_reading, target, begins, on_name, on_result, on_character, on_string, on_size, on_register, changed, on_change, on_parenthesis, on_bracket, on_dot, on_hash, on_colon, on_close, on_comma, on_mark, grow, at_right_bracket, at_right_parenthesis, at_comma, at_colon, at_range, close, on_item, fresh, Frame, prefix_frame, infix_frame, assign_frame, inside_frame, bar, bar_of, wrap, reduce, State, state, joined, entered, entered_all, shut, prefixed, if_fresh, operate, item_in, begun, first_word, second_word, otherwise, join, assign, after, beyond, go_on, step, walk, all_of, accepted, accept, start, labelled}
 use Rattle.p8_grammar.specs.Least.{height_in_head, shape_least, filled, need, next_least, least}
 use Rattle.p8_grammar.proofs.Walks.{goes_on}
 use Rattle.p8_grammar.proofs.Joins.{second_true}
@@ -93,15 +93,18 @@ result_least : (p : Place) (sh : Shape) → AtLeast (shape_least sh) (on_result 
 result_least p (using u) = omega arith
 result_least p sh = tt
 
-string_least : (p : Place) (t : List ℕ) (sh : Shape) → AtLeast (shape_least sh) (on_string p t sh)
-string_least p (c ∷ []) (using reading) = omega arith
-string_least p (c ∷ []) (using (addressing q)) = tt
-string_least p (c ∷ []) (using (changing q b)) = tt
-string_least p [] (using u) = tt
-string_least p (c ∷ d ∷ t) (using u) = tt
-string_least p [] (string_opened q) = tt
-string_least p (c ∷ t) (string_opened q) = omega arith
-string_least p t sh = tt
+character_least : (p : Place) (t : List ℕ) (u : Use) → AtLeast 1 (on_character p t u)
+character_least p [] u = tt
+character_least p (c ∷ []) reading = omega arith
+character_least p (c ∷ []) (addressing q) = tt
+character_least p (c ∷ []) (changing q b) = tt
+character_least p (c ∷ d ∷ t) u = tt
+
+string_least : (s : Setting) (p : Place) (t : List ℕ) (sh : Shape) → AtLeast (shape_least sh) (on_string s p t sh)
+string_least s p t (using u) = value_least _ s _ (character_least p t u)
+string_least s p [] (string_opened q) = tt
+string_least s p (c ∷ t) (string_opened q) = omega arith
+string_least s p t sh = tt
 
 size_least : (s : Setting) (p : Place) (z : ℕ) (sh : Shape) → AtLeast (shape_least sh) (on_size s p z sh)
 size_least s p z (using u) = only_least 1 (allows_index s) _ (omega arith)
@@ -196,15 +199,23 @@ colon_least s p (using u) = only_least 1 (is_dat s) _ (omega arith)
 colon_least s p sh = tt
 
 close_word_least : (sh : Shape) → AtLeast (shape_least sh) (on_close sh)
-close_word_least (string_read q t) = omega arith
+close_word_least (string_read q r t) = omega arith
+close_word_least (strings_read q es) = omega arith
+close_word_least (choices_read q k x xs) = omega arith
 close_word_least sh = tt
+
+comma_word_least : (sh : Shape) → AtLeast (shape_least sh) (on_comma sh)
+comma_word_least (string_read q r t) = omega arith
+comma_word_least (strings_read q es) = omega arith
+comma_word_least (choices_read q k x xs) = omega arith
+comma_word_least sh = tt
 
 mark_least : (s : Setting) (p : Place) (m : Mark) (sh : Shape) → AtLeast (shape_least sh) (on_mark s p m sh)
 mark_least s p left_parenthesis sh = parenthesis_least s sh
 mark_least s p right_parenthesis sh = close_word_least sh
 mark_least s p left_bracket sh = bracket_least s sh
 mark_least s p right_bracket sh = tt
-mark_least s p comma sh = tt
+mark_least s p comma sh = comma_word_least sh
 mark_least s p colon sh = colon_least s p sh
 mark_least s p dot sh = dot_least sh
 mark_least s p dot_dot sh = tt
@@ -223,11 +234,19 @@ altering_least : (e : Option ℕ) (p : Place) (sh : Shape) → AtLeast (shape_le
 altering_least None p sh = tt
 altering_least (Some k) p sh = begins_least sh _ (omega arith)
 
+labelled_least : (m : List ℕ) (sh : Shape) (o : Option Next) → AtLeast (shape_least sh) o → AtLeast (shape_least sh) (labelled m sh o)
+labelled_least m (coloned u q) o a = omega arith
+labelled_least m sh o a = a
+
+free_least : (l : ℕ) (b : Bool) (o : Option Next) → AtLeast l o → AtLeast l (if b then o else None)
+free_least l true o a = a
+free_least l false o a = tt
+
 grow_least : (s : Setting) (sh : Shape) (p : Place) (x : Lexeme) → AtLeast (shape_least sh) (grow s sh p x)
 grow_least s sh p (number n) = value_least _ s _ (begins_least sh _ (omega arith))
 grow_least s sh p (name n) = name_least p n sh
 grow_least s sh p method_result = result_least p sh
-grow_least s sh p (string t) = value_least _ s _ (string_least p t sh)
+grow_least s sh p (string t) = string_least s p t sh
 grow_least s sh p (mark m) = mark_least s p m sh
 grow_least s sh p (prefix_word r k) = action_least _ s _ (altering_least (effect_of (unary r k)) p sh)
 grow_least s sh p (infix_word r k) = tt
@@ -246,6 +265,7 @@ grow_least s sh p (value k) = begins_least sh _ (omega arith)
 grow_least s sh p (built_in k) = begins_least sh _ (omega arith)
 grow_least s sh p (command k) = action_least _ s _ (begins_least sh _ (omega arith))
 grow_least s sh p other = tt
+grow_least s sh p (reserved m x) = labelled_least m sh _ (free_least _ (is_free x) _ (grow_least s sh p x))
 
 applied_least : (h : Head) (es : _) (e : Tree) → suc (max (height_in_head h) (max (height_of_trees es) (height e))) ≡ height (applied h (es ▷ e))
 applied_least (calls t o i n q p) es e = omega arith
@@ -267,6 +287,8 @@ right_bracket_least hole e = tt
 right_parenthesis_least : (hole : Hole) (e : Tree) → AtLeast (filled (height e) hole) (at_right_parenthesis hole e)
 right_parenthesis_least parenthesis e = omega arith
 right_parenthesis_least (argument_of h es) e = omega (arith, applied_least h es e)
+right_parenthesis_least (first_item p) e = omega arith
+right_parenthesis_least (next_item p es) e = omega arith
 right_parenthesis_least (constant_of p) e = omega arith
 right_parenthesis_least (choice_of p k x xs) e = omega arith
 right_parenthesis_least (choice_to p k x xs low) e = omega arith
@@ -274,6 +296,8 @@ right_parenthesis_least hole e = tt
 
 comma_least : (hole : Hole) (e : Tree) → AtLeast (filled (height e) hole) (at_comma hole e)
 comma_least (argument_of h es) e = omega arith
+comma_least (first_item p) e = omega arith
+comma_least (next_item p es) e = omega arith
 comma_least (choice_of p k x xs) e = omega arith
 comma_least (choice_to p k x xs low) e = omega arith
 comma_least hole e = tt
@@ -305,6 +329,8 @@ filled_le (first_bit u p a x) h i le = omega arith
 filled_le (last_bit u p a x low) h i le = omega arith
 filled_le (trapped_index p n) h i le = omega arith
 filled_le (argument_of x es) h i le = omega arith
+filled_le (first_item p) h i le = omega arith
+filled_le (next_item p es) h i le = omega arith
 filled_le (constant_of p) h i le = omega arith
 filled_le (look_for p k) h i le = omega arith
 filled_le (choice_of p k x xs) h i le = omega arith
@@ -395,8 +421,13 @@ assign_least s sh o p k = go (target sh) refl
     go None h = tt
     go (Some v) h = step_on v (nat_lt 21 (bar_of k)) h
 
-join_least : (s : Setting) (sh : Shape) (e : Tree) (k : List Frame) (p : Place) (r c : ℕ) → tree sh ≡ Some e → LeastFrom (need (shape_least sh) k) (join s (target sh) (Some (r, c)) p e k)
-join_least s sh e k p r c h = go (target sh) refl r
+join_least : (s : Setting) (sh : Shape) (e : Tree) (k : List Frame) (p : Place) (o : Option (ℕ × ℕ)) → tree sh ≡ Some e → LeastFrom (need (shape_least sh) k) (join s (target sh) o p e k)
+join_least s sh e k p None h = none (target sh)
+  where
+    none : (t : Option Variable) → LeastFrom (need (shape_least sh) k) (join s t None p e k)
+    none None = tt
+    none (Some v) = tt
+join_least s sh e k p (Some (r, c)) h = go (target sh) refl r
   where
     operates : (r : ℕ) → LeastFrom (need (shape_least sh) k) (operate s (Some (r, c)) p e k)
     operates r = subst (λ l. LeastFrom (need l k) (operate s (Some (r, c)) p e k)) (sym (tree_least sh e h)) (operate_least s (Some (r, c)) p e k)
@@ -413,23 +444,70 @@ join_least s sh e k p r c h = go (target sh) refl r
 after_least : (s : Setting) (sh : Shape) (e : Tree) (k : List Frame) (p : Place) (x : Lexeme) → tree sh ≡ Some e → LeastFrom (need (shape_least sh) k) (after s sh e k p x)
 after_least s sh e k p (mark m) h = subst (λ l. LeastFrom (need l k) (after s sh e k p (mark m))) (sym (tree_least sh e h)) (mark_from m e k)
 after_least s sh e k p (assigns o) h = assign_least s sh o p k
-after_least s sh e k p (infix_word r c) h = join_least s sh e k p r c h
+after_least s sh e k p (infix_word r c) h = join_least s sh e k p (Some (r, c)) h
+after_least s sh e k p (reserved m x) h = join_least s sh e k p (infix_of x) h
 after_least s sh e k p x h = subst (λ l. LeastFrom (need l k) (after s sh e k p x)) (sym (tree_least sh e h)) (operate_least s (infix_of x) p e k)
+
+at_most_least : (l m : ℕ) (o : Option State) → l ≤ m → LeastFrom m o → LeastFrom l o
+at_most_least l m None le h = tt
+at_most_least l m (Some st) le h = omega (arith, le, h)
+
+-- a string's characters are items
+items_grow : (p : Place) (t : List ℕ) (xs : Items) → height_of_items xs ≤ height_of_items (with_characters p t xs)
+items_grow p [] xs = omega arith
+items_grow p (c ∷ t) xs = omega (arith, items_grow p t (xs ▸ single (node p (Number c))))
+
+on_item_least : (p : Place) (t : List ℕ) (hole : Hole) → AtLeast (filled 1 hole) (on_item p t hole)
+on_item_least p [] hole = tt
+on_item_least p (c ∷ []) hole = tt
+on_item_least p (c ∷ d ∷ t) (next_item q es) = omega arith
+on_item_least p (c ∷ d ∷ t) (choice_of q k x xs) = omega (arith, items_grow p (d ∷ t) (xs ▸ single (node p (Number c))))
+on_item_least p (c ∷ d ∷ t) hole = tt
+
+item_in_least : (p : Place) (t : List ℕ) (k : List Frame) → LeastFrom (need 1 k) (item_in p t k)
+item_in_least p t [] = tt
+item_in_least p t (prefix_frame o q ∷ k) = tt
+item_in_least p t (infix_frame r c q a ∷ k) = tt
+item_in_least p t (assign_frame o q v ∷ k) = tt
+item_in_least p t (inside_frame s hole ∷ k) = go (on_item p t hole) (on_item_least p t hole)
+  where
+    go : (o : Option Next) → AtLeast (filled 1 hole) o → LeastFrom (need (filled 1 hole) k) (entered_all s k o)
+    go None a = tt
+    go (Some n) a = omega (arith, entered_least s k n, need_le k (filled 1 hole) (next_least n) a)
+
+begun_least : (o : Option Next) (s : Setting) (k : List Frame) (p : Place) (x : Lexeme) → AtLeast 1 o → LeastFrom (need 1 k) (begun o s k p x)
+begun_least None s k p x a = prefixed_least s (prefix_of (plain x)) p k
+begun_least (Some n) s k p x a = omega (arith, entered_least s k n, need_le k 1 (next_least n) a)
+
+first_word_least : (s : Setting) (q : Place) (k : List Frame) (p : Place) (x : Lexeme) → LeastFrom (need 1 k) (first_word s q k p x)
+first_word_least s q k p (string t) = tt
+first_word_least s q k p x =
+    at_most_least (need 1 k) (need 2 k) (begun (grow (inside s) fresh p x) (inside s) (inside_frame s (first_item q) ∷ k) p x) (need_le k 1 2 (omega arith))
+    (begun_least (grow (inside s) fresh p x) (inside s) (inside_frame s (first_item q) ∷ k) p x (grow_least (inside s) fresh p x))
+
+second_word_least : (s : Setting) (q r : Place) (t : List ℕ) (k : List Frame) (p : Place) (x : Lexeme) → LeastFrom (need 1 k) (second_word s q r t k p x)
+second_word_least s q r [] k p x = tt
+second_word_least s q r (c ∷ []) k p x =
+    at_most_least (need 1 k) (need 2 k) (operate (inside s) (infix_of (plain x)) p (node r (Number c)) (inside_frame s (first_item q) ∷ k)) (need_le k 1 2 (omega arith))
+    (operate_least (inside s) (infix_of (plain x)) p (node r (Number c)) (inside_frame s (first_item q) ∷ k))
+second_word_least s q r (c ∷ d ∷ t) k p x = tt
+
+otherwise_least : (s : Setting) (sh : Shape) (k : List Frame) (p : Place) (x : Lexeme) → LeastFrom (need (shape_least sh) k) (otherwise s sh k p x)
+otherwise_least s (using reading) k p (string t) = item_in_least p t k
+otherwise_least s (string_opened q) k p x = first_word_least s q k p x
+otherwise_least s (string_read q r t) k p x = second_word_least s q r t k p x
+otherwise_least s sh k p x = fresh_least s sh (prefix_of (plain x)) p k
 
 form_least : (s : Setting) (sh : Shape) (k : List Frame) (p : Place) (x : Lexeme) → LeastFrom (need (shape_least sh) k) (go_on (grow s sh p x) s sh k p x)
 form_least s sh k p x = go (grow s sh p x) (grow_least s sh p x)
   where
     beyond_least : (o : Option Tree) → tree sh ≡ o → LeastFrom (need (shape_least sh) k) (beyond o s sh k p x)
-    beyond_least None h = fresh_least s sh (prefix_of x) p k
+    beyond_least None h = otherwise_least s sh k p x
     beyond_least (Some e) h = after_least s sh e k p x h
 
     go : (o : Option Next) → AtLeast (shape_least sh) o → LeastFrom (need (shape_least sh) k) (go_on o s sh k p x)
     go (Some n) a = omega (arith, entered_least s k n, need_le k (shape_least sh) (next_least n) a)
     go None a = beyond_least (tree sh) refl
-
-at_most_least : (l m : ℕ) (o : Option State) → l ≤ m → LeastFrom m o → LeastFrom l o
-at_most_least l m None le h = tt
-at_most_least l m (Some st) le h = omega (arith, le, h)
 
 operator_least : (s : Setting) (r c : ℕ) (p : Place) (v : Variable) (k : List Frame) (q : Place) (x : Lexeme) → LeastFrom (need (suc (max (height_in_variable v) 1)) k) (go_on (grow s fresh q x) s fresh (infix_frame r c p (used reading v) ∷ k) q x)
 operator_least s r c p v k q x =

@@ -1,7 +1,7 @@
--- internal: the marks that may end the expression in the innermost form.
+-- internal: the marks that may end the expression in the innermost form, and the strings that may stand in its place.
 use Rattle.std.specs.Prelude.{Bool, true, false, nat_le, if◌then◌else◌, List, [], ◌∷◌}
 use Rattle.p8_grammar.specs.Lexemes.{Mark, right_parenthesis, right_bracket, comma, colon, dot_dot}
-use Rattle.p8_grammar.specs.Machine.{Hole, parenthesis, first_bit, argument_of, constant_of, look_for, choice_of, choice_to, Frame, inside_frame, bar}
+use Rattle.p8_grammar.specs.Machine.{Hole, parenthesis, first_bit, argument_of, first_item, next_item, constant_of, look_for, choice_of, choice_to, Frame, inside_frame, bar}
 use Rattle.p8_grammar.specs.declared.stack.Ends.{Ends}
 use Rattle.p8_grammar.specs.declared.stack.Ends.TheVariants as ends
 
@@ -42,6 +42,8 @@ abbrev pub ends_of_hole : Hole → Ends
 ends_of_hole parenthesis = ends.Parenthesis
 ends_of_hole (constant_of p) = ends.Parenthesis
 ends_of_hole (argument_of h es) = ends.Argument
+ends_of_hole (first_item p) = ends.Argument
+ends_of_hole (next_item p es) = ends.Argument
 ends_of_hole (choice_to p k x xs low) = ends.Argument
 ends_of_hole (first_bit u p a x) = ends.Bit
 ends_of_hole (look_for p k) = ends.Value
@@ -55,3 +57,13 @@ ends_of_frame _ = ends.None
 abbrev pub ends_of : List Frame → Ends
 ends_of [] = ends.None
 ends_of (f ∷ k) = if nat_le (bar f) 22 then ends_of k else ends_of_frame f
+
+-- whether a string of several characters may stand in place of the expression that comes next
+abbrev pub takes_text : Frame → Bool
+takes_text (inside_frame s (next_item p es)) = true
+takes_text (inside_frame s (choice_of p k x xs)) = true
+takes_text _ = false
+
+abbrev pub text_taken : List Frame → Bool
+text_taken [] = false
+text_taken (f ∷ k) = takes_text f

@@ -5,14 +5,15 @@
 -- those by which refusals name a form.
 use Rattle.std.specs.Prelude.{◌≡◌, ℕ, ◌<◌, ◌≤◌, suc, ◌+◌, ◌-◌, ◌*◌, ◌==◌, nat_le, if◌then◌else◌, not, Bool, true, false, ◌&&◌, IsTrue, Option, Some, None, List, [], ◌∷◌, ◌++◌, length, take}
 use Rattle.p8_tree.specs.declared.places.Place.{Place}
-use Rattle.p8_tree.specs.Expressions.{Tree, node, Form, Number, Str, Here, Var, Call, Unary, Binary, Assign, Change, Address, ObjectAddress, ObjConst, Built, Look, Variable, Named, Part, Memory, Register, Index, no_index, index, whole, bits, single, range, Trees, no_trees, ◌▷◌, Items, no_items, ◌▸◌}
-use Rattle.p8_grammar.specs.Lexemes.{Setting, is_value, allows_index, is_dat, inside, behind, Access, memory, is_written, has_bits, is_in, Mark, left_parenthesis, right_parenthesis, left_bracket, right_bracket, comma, colon, dot, dot_dot, hash, backslash, equal, Lexeme, number, name, method_result, string, mark, prefix_word, infix_word, sign, assigns, changes, address, object_address, size, register, here, string_word, constant_word, look, value, built_in, command, Token, token}
+use Rattle.p8_tree.specs.Expressions.{Tree, node, Form, Number, Str, Strings, Here, Var, Call, Unary, Binary, Assign, Change, Address, ObjectAddress, ObjConst, Built, Look, Variable, Named, Part, Memory, Register, Index, no_index, index, whole, bits, single, range, Trees, no_trees, ◌▷◌, Items, no_items, ◌▸◌}
+use Rattle.p8_grammar.specs.Lexemes.{Setting, is_value, allows_index, is_dat, inside, behind, Access, memory, is_written, has_bits, is_in, Mark, left_parenthesis, right_parenthesis, left_bracket, right_bracket, comma, colon, dot, dot_dot, hash, backslash, equal, Lexeme, number, name, method_result, string, mark, prefix_word, infix_word, sign, assigns, changes, address, object_address, size, register, here, string_word, constant_word, look, value, built_in, command, Token, token, reserved, plain, name_in, is_free}
 
 infixl 30 ◌▹◌
--- a word, or an expression up to the mark that ends it
+-- a word, or an expression up to the mark that ends it; or one that isn't a string alone
 pub data Piece : Type 0 where
   word : Place → Lexeme → Piece
   upto : Tree → Mark → Piece
+  unquoted : Tree → Mark → Piece
 
 pub data Row : Type 0 where
   begin : Row
@@ -23,11 +24,11 @@ abbrev pub result_name : List ℕ
 result_name = 82 ∷ 69 ∷ 83 ∷ 85 ∷ 76 ∷ 84 ∷ []
 
 -- a variable's name after what stands before it, with its place; that of a local label of DAT
--- begins with its colon
+-- begins with its colon, behind which any word may stand
 pub data Names (s : Setting) (before : Row) : List ℕ → Place → Row → Type 0 where
   plain_name : {n : List ℕ} {p : Place} → Names s before n p (before ▹ word p (name n))
   result_word : {p : Place} → Names s before result_name p (before ▹ word p method_result)
-  local_label : {n : List ℕ} {p q : Place} → IsTrue (is_dat s) → Names s before (58 ∷ n) p (before ▹ word p (mark colon) ▹ word q (name n))
+  local_label : {n : List ℕ} {p q : Place} {x : Lexeme} → IsTrue (is_dat s) → name_in x ≡ Some n → Names s before (58 ∷ n) p (before ▹ word p (mark colon) ▹ word q x)
 
 -- a variable after what stands before it, and what may be done with it
 pub data Variables (s : Setting) (before : Row) : Access → Variable → Row → Type 0 where
@@ -90,11 +91,29 @@ pub data Arguments (before : Row) : Trees → Row → Type 0 where
   no_arguments : Arguments before no_trees before
   argument : {es : Trees} {e : Tree} {row : Row} → Arguments before es row → Arguments before (es ▷ e) (row ▹ upto e comma)
 
+-- a string of several characters among the items of a LOOK function stands for its characters, each an item
+abbrev pub with_characters : Place → List ℕ → Items → Items
+with_characters p [] xs = xs
+with_characters p (c ∷ t) xs = with_characters p t (xs ▸ single (node p (Number c)))
+
 -- the items of a LOOK function, each with the comma after it
 pub data Choices (before : Row) : Items → Row → Type 0 where
   no_choices : Choices before no_items before
   value_choice : {xs : Items} {e : Tree} {row : Row} → Choices before xs row → Choices before (xs ▸ single e) (row ▹ upto e comma)
   range_choice : {xs : Items} {low high : Tree} {row : Row} → Choices before xs row → Choices before (xs ▸ range low high) (row ▹ upto low dot_dot ▹ upto high comma)
+  text_choice : {xs : Items} {p o : Place} {c d : ℕ} {t : List ℕ} {row : Row} → Choices before xs row → Choices before (with_characters p (c ∷ d ∷ t) xs) (row ▹ word p (string (c ∷ d ∷ t)) ▹ word o (mark comma))
+
+-- a string as an item of STRING: one of one character is its code
+abbrev pub quoted : Place → List ℕ → Tree
+quoted p (c ∷ []) = node p (Number c)
+quoted p t = node p (Str t)
+
+-- STRING with this place and its items but for the last, each with the comma after it
+pub data Texts (p : Place) : Trees → Row → Type 0 where
+  first_text : {q r o : Place} {c : ℕ} {t : List ℕ} → Texts p (no_trees ▷ quoted r (c ∷ t)) (begin ▹ word p string_word ▹ word q (mark left_parenthesis) ▹ word r (string (c ∷ t)) ▹ word o (mark comma))
+  first_value : {q : Place} {e : Tree} → Texts p (no_trees ▷ e) (begin ▹ word p string_word ▹ word q (mark left_parenthesis) ▹ unquoted e comma)
+  next_text : {es : Trees} {r o : Place} {c d : ℕ} {t : List ℕ} {row : Row} → Texts p es row → Texts p (es ▷ node r (Str (c ∷ d ∷ t))) (row ▹ word r (string (c ∷ d ∷ t)) ▹ word o (mark comma))
+  next_value : {es : Trees} {e : Tree} {row : Row} → Texts p es row → Texts p (es ▷ e) (row ▹ upto e comma)
 
 -- an operator before its operand
 pub data Prefix : Type 0 where
@@ -145,11 +164,17 @@ pub data Forms (s : Setting) : Tree → Row → Type 0 where
   a_value : {k : ℕ} {p : Place} → Forms s (node p (Built k no_trees)) (begin ▹ word p (value k))
   -- STRING("text")
   a_string : {c : ℕ} {t : List ℕ} {p q r o : Place} → IsTrue (is_value s) → Forms s (node p (Str (c ∷ t))) (begin ▹ word p string_word ▹ word q (mark left_parenthesis) ▹ word r (string (c ∷ t)) ▹ word o (mark right_parenthesis))
+  -- STRING(e)
+  one_item : {p q : Place} {e : Tree} → IsTrue (is_value s) → Forms s (node p (Strings (no_trees ▷ e))) (begin ▹ word p string_word ▹ word q (mark left_parenthesis) ▹ unquoted e right_parenthesis)
+  -- STRING(items), by their last item
+  items_text : {p r o : Place} {c d : ℕ} {t : List ℕ} {es : Trees} {row : Row} → IsTrue (is_value s) → Texts p es row → Forms s (node p (Strings (es ▷ node r (Str (c ∷ d ∷ t))))) (row ▹ word r (string (c ∷ d ∷ t)) ▹ word o (mark right_parenthesis))
+  items_value : {p : Place} {e : Tree} {es : Trees} {row : Row} → IsTrue (is_value s) → Texts p es row → Forms s (node p (Strings (es ▷ e))) (row ▹ upto e right_parenthesis)
   -- CONSTANT(e)
   a_constant : {p q : Place} {e : Tree} → IsTrue (is_value s) → Forms s (node p (Built 0 (no_trees ▷ e))) (begin ▹ word p constant_word ▹ word q (mark left_parenthesis) ▹ upto e right_parenthesis)
   -- LOOKUP(e: items) and the like, by their last item
   look_value : {k : ℕ} {p q : Place} {x e : Tree} {xs : Items} {row : Row} → IsTrue (is_value s) → Choices (begin ▹ word p (look k) ▹ word q (mark left_parenthesis) ▹ upto x colon) xs row → Forms s (node p (Look k x (xs ▸ single e))) (row ▹ upto e right_parenthesis)
   look_range : {k : ℕ} {p q : Place} {x low high : Tree} {xs : Items} {row : Row} → IsTrue (is_value s) → Choices (begin ▹ word p (look k) ▹ word q (mark left_parenthesis) ▹ upto x colon) xs row → Forms s (node p (Look k x (xs ▸ range low high))) (row ▹ upto low dot_dot ▹ upto high right_parenthesis)
+  look_text : {k : ℕ} {p q r o : Place} {x : Tree} {c d : ℕ} {t : List ℕ} {xs : Items} {row : Row} → IsTrue (is_value s) → Choices (begin ▹ word p (look k) ▹ word q (mark left_parenthesis) ▹ upto x colon) xs row → Forms s (node p (Look k x (with_characters r (c ∷ d ∷ t) xs))) (row ▹ word r (string (c ∷ d ∷ t)) ▹ word o (mark right_parenthesis))
 
 -- The ranks of the operators, tightest first. An operator of rank r between operands has the level
 -- 2 r, one before its operand the level 2 r + 1; an assignment has the level 21, and no level is
@@ -180,25 +205,32 @@ infix_of _ = None
 abbrev pub is_boolean : ℕ → Bool
 is_boolean r = nat_le 9 r && nat_le r 10
 
+-- a string, and nothing else
+abbrev pub is_string_alone : List Token → Bool
+is_string_alone (token p (string t) ∷ []) = true
+is_string_alone _ = false
+
 mutual
   -- these tokens spell this tree, at a place that takes a tree of at most this level
   pub data Reads : Setting → ℕ → Tree → List Token → Type 0 where
     operand : {s : Setting} {l : ℕ} {e : Tree} {row : Row} {ts : List Token} → Forms s e row → Spells s row ts → Reads s l e ts
     -- an operator before its operand, whose level is at most the operator's
-    before : {s : Setting} {l : ℕ} {x : Lexeme} {o : Prefix} {p : Place} {e : Tree} {ts : List Token} → IsTrue (is_value s) → prefix_of x ≡ Some o → 2 * rank o + 1 ≤ l → Reads s (2 * rank o + 1) e ts → Reads s l (node p (with_prefix o e)) (token p x ∷ ts)
+    before : {s : Setting} {l : ℕ} {x : Lexeme} {o : Prefix} {p : Place} {e : Tree} {ts : List Token} → IsTrue (is_value s) → prefix_of (plain x) ≡ Some o → 2 * rank o + 1 ≤ l → Reads s (2 * rank o + 1) e ts → Reads s l (node p (with_prefix o e)) (token p x ∷ ts)
     -- an operator between operands: the left one's level is at most the operator's, the right one's
     -- is below it
-    between : {s : Setting} {l r k : ℕ} {p : Place} {a b : Tree} {ts us : List Token} (x : Lexeme) → IsTrue (is_value s) → infix_of x ≡ Some (suc r, k) → r < 10 → 2 * suc r ≤ l → Reads s (2 * suc r) a ts → Reads s (2 * r + 1) b us → Reads s l (node p (Binary k a b)) (ts ++ token p x ∷ us)
+    between : {s : Setting} {l r k : ℕ} {p : Place} {a b : Tree} {ts us : List Token} (x : Lexeme) → IsTrue (is_value s) → infix_of (plain x) ≡ Some (suc r, k) → r < 10 → 2 * suc r ≤ l → Reads s (2 * suc r) a ts → Reads s (2 * r + 1) b us → Reads s l (node p (Binary k a b)) (ts ++ token p x ∷ us)
     -- an assignment: its right side may be one too
     assigned : {s : Setting} {l : ℕ} {o : Option ℕ} {p : Place} {v : Variable} {e : Tree} {row : Row} {ts us : List Token} (x : Access) → 21 ≤ l → IsTrue (is_written x) → Variables s begin x v row → Spells s row ts → Reads (behind s) 21 e us → Reads s l (node p (Assign v o e)) (ts ++ token p (assigns o) ∷ us)
     -- an assignment by AND or OR
-    assigned_by_word : {s : Setting} {l k : ℕ} {p : Place} {v : Variable} {e : Tree} {row : Row} {ts us : List Token} (x : Access) (r : ℕ) (q : Place) → 21 ≤ l → IsTrue (is_written x) → IsTrue (is_boolean r) → Variables s begin x v row → Spells s row ts → Reads (behind s) 21 e us → Reads s l (node p (Assign v (Some k) e)) (ts ++ token p (infix_word r k) ∷ token q (mark equal) ∷ us)
+    assigned_by_word : {s : Setting} {l k : ℕ} {p : Place} {v : Variable} {e : Tree} {row : Row} {ts us : List Token} (x : Access) (w : Lexeme) (r : ℕ) (q : Place) → 21 ≤ l → IsTrue (is_written x) → infix_of (plain w) ≡ Some (r, k) → IsTrue (is_boolean r) → Variables s begin x v row → Spells s row ts → Reads (behind s) 21 e us → Reads s l (node p (Assign v (Some k) e)) (ts ++ token p w ∷ token q (mark equal) ∷ us)
 
   -- these tokens spell this row
   pub data Spells : Setting → Row → List Token → Type 0 where
     nothing : {s : Setting} → Spells s begin []
     a_word : {s : Setting} {row : Row} {p : Place} {x : Lexeme} {ts : List Token} → Spells s row ts → Spells s (row ▹ word p x) (ts ++ token p x ∷ [])
+    a_reserved_word : {s : Setting} {row : Row} {p : Place} {x : Lexeme} {ts : List Token} (n : List ℕ) → IsTrue (is_free x) → Spells s row ts → Spells s (row ▹ word p x) (ts ++ token p (reserved n x) ∷ [])
     an_expression : {s : Setting} {row : Row} {e : Tree} {m : Mark} {ts us : List Token} (p : Place) → Spells s row ts → Reads (inside s) 22 e us → Spells s (row ▹ upto e m) (ts ++ (us ++ token p (mark m) ∷ []))
+    an_unquoted : {s : Setting} {row : Row} {e : Tree} {m : Mark} {ts us : List Token} (p : Place) → Spells s row ts → Reads (inside s) 22 e us → IsTrue (not (is_string_alone us)) → Spells s (row ▹ unquoted e m) (ts ++ (us ++ token p (mark m) ∷ []))
 
 -- these tokens are an expression, with this tree
 abbrev pub IsExpression : Setting → Tree → List Token → Type 0

@@ -2,7 +2,7 @@
 use Rattle.std.specs.Prelude.{ℕ, suc, ◌+◌, max, List, [], ◌∷◌}
 use Rattle.p8_grammar.specs.Grammar.{Head, calls, built}
 use Rattle.p8_grammar.specs.Heights.{height, height_in_variable, height_in_index, height_of_trees, height_of_items}
-use Rattle.p8_grammar.specs.Machine.{Shape, using, coloned, sized, named, indexed_name, dotted, parted, memory_word, register_word, ready, trapping, trapped_name, trapped_element, object_dot, headed, hashed, string_begun, string_opened, string_read, constant_begun, look_begun, done, Hole, parenthesis, name_index, part_index, memory_address, memory_index, first_bit, last_bit, trapped_index, argument_of, constant_of, look_for, choice_of, choice_to, Next, stays, opens, Frame, prefix_frame, infix_frame, assign_frame, inside_frame, State, state, joined}
+use Rattle.p8_grammar.specs.Machine.{Shape, using, coloned, sized, named, indexed_name, dotted, parted, memory_word, register_word, ready, trapping, trapped_name, trapped_element, object_dot, headed, hashed, string_begun, string_opened, string_read, strings_read, constant_begun, look_begun, choices_read, done, Hole, parenthesis, name_index, part_index, memory_address, memory_index, first_bit, last_bit, trapped_index, argument_of, first_item, next_item, constant_of, look_for, choice_of, choice_to, Next, stays, opens, Frame, prefix_frame, infix_frame, assign_frame, inside_frame, State, state, joined}
 
 abbrev pub height_in_head : Head → ℕ
 height_in_head (calls t o i n q p) = height_in_index i
@@ -28,9 +28,11 @@ shape_least (headed h) = suc (height_in_head h)
 shape_least (hashed p n) = 1
 shape_least (string_begun p) = 1
 shape_least (string_opened p) = 1
-shape_least (string_read p t) = 1
+shape_least (string_read p r t) = 1
+shape_least (strings_read p es) = suc (height_of_trees es)
 shape_least (constant_begun p) = 2
 shape_least (look_begun p k) = 2
+shape_least (choices_read p k x xs) = suc (max (height x) (height_of_items xs))
 shape_least (done e) = height e
 
 -- of a form whose next expression has height h
@@ -44,6 +46,8 @@ filled h (first_bit u p a x) = suc h
 filled h (last_bit u p a x low) = suc (max (height low) h)
 filled h (trapped_index p n) = suc h
 filled h (argument_of x es) = suc (max (height_in_head x) (max (height_of_trees es) h))
+filled h (first_item p) = suc h
+filled h (next_item p es) = suc (max (height_of_trees es) h)
 filled h (constant_of p) = suc h
 filled h (look_for p k) = suc (max h 1)
 filled h (choice_of p k x xs) = suc (max (height x) (max (height_of_items xs) h))
@@ -72,6 +76,7 @@ abbrev pub high_in_hole : Hole → ℕ
 high_in_hole (memory_index u p z a) = height a
 high_in_hole (last_bit u p a x low) = height low
 high_in_hole (argument_of x es) = max (height_in_head x) (height_of_trees es)
+high_in_hole (next_item p es) = height_of_trees es
 high_in_hole (look_for p k) = 1
 high_in_hole (choice_of p k x xs) = max (height x) (height_of_items xs)
 high_in_hole (choice_to p k x xs low) = max (height x) (max (height_of_items xs) (height low))

@@ -1,5 +1,5 @@
 -- What a token is to an expression.
-use Rattle.std.specs.Prelude.{ℕ, Bool, true, false, List, Option}
+use Rattle.std.specs.Prelude.{ℕ, Bool, true, false, List, Option, Some, None}
 use Rattle.p8_tree.specs.declared.places.Place.{Place}
 
 -- Where an expression stands. In an item of DAT's data no bracket outside parentheses and brackets
@@ -130,6 +130,28 @@ pub data Lexeme : Type 0 where
   command : ℕ → Lexeme
   -- what stands in no expression and no action
   other : Lexeme
+  -- a reserved word: its characters in capitals, and what it is
+  reserved : List ℕ → Lexeme → Lexeme
+
+-- what a word is, reserved or not
+abbrev pub plain : Lexeme → Lexeme
+plain (reserved n x) = x
+plain x = x
+
+-- the name that a word is behind the colon of a local label
+abbrev pub name_in : Lexeme → Option (List ℕ)
+name_in (name n) = Some n
+name_in (reserved n x) = Some n
+name_in _ = None
+
+-- what a reserved word may be: no name, number, string or mark
+abbrev pub is_free : Lexeme → Bool
+is_free (name n) = false
+is_free (number n) = false
+is_free (string t) = false
+is_free (mark m) = false
+is_free (reserved n x) = false
+is_free x = true
 
 -- a token, at its place
 pub data Token : Type 0 where

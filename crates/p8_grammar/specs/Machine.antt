@@ -1,9 +1,9 @@
 -- internal: a reader of expressions with a stack of what is begun, for the proofs and the code.
-use Rattle.std.specs.Prelude.{ℕ, suc, zero, ◌+◌, ◌*◌, nat_lt, nat_le, if◌then◌else◌, not, Bool, true, false, ◌&&◌, Option, Some, None, option_and_then, List, [], ◌∷◌}
+use Rattle.std.specs.Prelude.{ℕ, suc, zero, ◌+◌, ◌*◌, nat_lt, nat_le, if◌then◌else◌, Bool, true, false, ◌&&◌, Option, Some, None, option_and_then, List, [], ◌∷◌}
 use Rattle.p8_tree.specs.declared.places.Place.{Place}
-use Rattle.p8_tree.specs.Expressions.{Tree, node, Number, Str, Here, Var, Binary, Assign, Change, Address, ObjConst, Built, Look, Variable, Named, Part, Memory, Register, Index, no_index, index, whole, bits, single, range, Trees, no_trees, ◌▷◌, Items, no_items, ◌▸◌}
-use Rattle.p8_grammar.specs.Lexemes.{Setting, is_value, allows_index, is_dat, inside, behind, Access, memory, is_written, has_bits, is_in, Mark, left_parenthesis, right_parenthesis, left_bracket, right_bracket, comma, colon, dot, dot_dot, hash, backslash, equal, Lexeme, number, name, method_result, string, mark, prefix_word, infix_word, sign, assigns, changes, address, object_address, size, register, here, string_word, constant_word, look, value, built_in, command, other, Token, token}
-use Rattle.p8_grammar.specs.Grammar.{result_name, place_of, Head, calls, built, applied, Prefix, unary, rank, with_prefix, prefix_of, effect_of, infix_of, is_boolean}
+use Rattle.p8_tree.specs.Expressions.{Tree, node, Number, Str, Strings, Here, Var, Binary, Assign, Change, Address, ObjConst, Built, Look, Variable, Named, Part, Memory, Register, Index, no_index, index, whole, bits, single, range, Trees, no_trees, ◌▷◌, Items, no_items, ◌▸◌}
+use Rattle.p8_grammar.specs.Lexemes.{Setting, is_value, allows_index, is_dat, inside, behind, Access, memory, is_written, has_bits, is_in, Mark, left_parenthesis, right_parenthesis, left_bracket, right_bracket, comma, colon, dot, dot_dot, hash, backslash, equal, Lexeme, number, name, method_result, string, mark, prefix_word, infix_word, sign, assigns, changes, address, object_address, size, register, here, string_word, constant_word, look, value, built_in, command, other, Token, token, reserved, plain, is_free}
+use Rattle.p8_grammar.specs.Grammar.{result_name, place_of, with_characters, quoted, Head, calls, built, applied, Prefix, unary, rank, with_prefix, prefix_of, effect_of, infix_of, is_boolean}
 
 -- what a variable is read for: its value, its address, or a change that stands before it
 pub data Use : Type 0 where
@@ -43,9 +43,13 @@ pub data Shape : Type 0 where
   hashed : Place → List ℕ → Shape
   string_begun : Place → Shape
   string_opened : Place → Shape
-  string_read : Place → List ℕ → Shape
+  -- after the first item of STRING, where it is a string; and after one of several characters among its items
+  string_read : Place → Place → List ℕ → Shape
+  strings_read : Place → Trees → Shape
   constant_begun : Place → Shape
   look_begun : Place → ℕ → Shape
+  -- after a string of several characters among the items of a LOOK function
+  choices_read : Place → ℕ → Tree → Items → Shape
   done : Tree → Shape
 
 -- what has been read of a form, where an expression comes next
@@ -59,6 +63,8 @@ pub data Hole : Type 0 where
   last_bit : Use → Place → ℕ → Access → Tree → Hole
   trapped_index : Place → List ℕ → Hole
   argument_of : Head → Trees → Hole
+  first_item : Place → Hole
+  next_item : Place → Trees → Hole
   constant_of : Place → Hole
   look_for : Place → ℕ → Hole
   choice_of : Place → ℕ → Tree → Items → Hole
@@ -153,14 +159,14 @@ abbrev pub on_character : Place → List ℕ → Use → Option Next
 on_character p (c ∷ []) u = at_fresh u (stays (done (node p (Number c))))
 on_character p _ u = None
 
-abbrev pub on_text : Place → List ℕ → Option Next
-on_text q [] = None
-on_text q (c ∷ t) = Some (stays (string_read q (c ∷ t)))
+abbrev pub on_text : Place → Place → List ℕ → Option Next
+on_text q p [] = None
+on_text q p (c ∷ t) = Some (stays (string_read q p (c ∷ t)))
 
-abbrev pub on_string : Place → List ℕ → Shape → Option Next
-on_string p t (using u) = on_character p t u
-on_string p t (string_opened q) = on_text q t
-on_string p t _ = None
+abbrev pub on_string : Setting → Place → List ℕ → Shape → Option Next
+on_string s p t (using u) = if_value s (on_character p t u)
+on_string s p t (string_opened q) = on_text q p t
+on_string s p t _ = None
 
 abbrev pub on_size : Setting → Place → ℕ → Shape → Option Next
 on_size s p z (using u) = only_if (allows_index s) (stays (sized u p z))
@@ -222,15 +228,23 @@ on_colon s p (using u) = only_if (is_dat s) (stays (coloned u p))
 on_colon s p _ = None
 
 abbrev pub on_close : Shape → Option Next
-on_close (string_read q t) = Some (stays (done (node q (Str t))))
+on_close (string_read q r t) = Some (stays (done (node q (Str t))))
+on_close (strings_read q es) = Some (stays (done (node q (Strings es))))
+on_close (choices_read q k x xs) = Some (stays (done (node q (Look k x xs))))
 on_close _ = None
+
+abbrev pub on_comma : Shape → Option Next
+on_comma (string_read q r t) = Some (opens (next_item q (no_trees ▷ quoted r t)))
+on_comma (strings_read q es) = Some (opens (next_item q es))
+on_comma (choices_read q k x xs) = Some (opens (choice_of q k x xs))
+on_comma _ = None
 
 abbrev pub on_mark : Setting → Place → Mark → Shape → Option Next
 on_mark s p left_parenthesis sh = on_parenthesis s sh
 on_mark s p right_parenthesis sh = on_close sh
 on_mark s p left_bracket sh = on_bracket s sh
 on_mark s p right_bracket sh = None
-on_mark s p comma sh = None
+on_mark s p comma sh = on_comma sh
 on_mark s p colon sh = on_colon s p sh
 on_mark s p dot sh = on_dot sh
 on_mark s p dot_dot sh = None
@@ -243,12 +257,22 @@ abbrev pub altering : Option ℕ → Place → Shape → Option Next
 altering None p sh = None
 altering (Some k) p sh = begins sh (stays (using (changing p k)))
 
+-- a local label's colon
+abbrev pub is_coloned : Shape → Bool
+is_coloned (coloned u q) = true
+is_coloned sh = false
+
+-- a reserved word is a name behind the colon of a local label
+abbrev pub labelled : List ℕ → Shape → Option Next → Option Next
+labelled n (coloned u q) o = Some (stays (named u false q (58 ∷ n)))
+labelled n sh o = o
+
 -- what a form is with one more word
 abbrev pub grow : Setting → Shape → Place → Lexeme → Option Next
 grow s sh p (number n) = if_value s (begins sh (stays (done (node p (Number n)))))
 grow s sh p (name n) = on_name p n sh
 grow s sh p method_result = on_result p sh
-grow s sh p (string t) = if_value s (on_string p t sh)
+grow s sh p (string t) = on_string s p t sh
 grow s sh p (mark m) = on_mark s p m sh
 grow s sh p (prefix_word r k) = if_action s (altering (effect_of (unary r k)) p sh)
 grow s sh p (infix_word r k) = None
@@ -267,6 +291,7 @@ grow s sh p (value k) = begins sh (stays (done (node p (Built k no_trees))))
 grow s sh p (built_in k) = begins sh (stays (headed (built k p)))
 grow s sh p (command k) = if_action s (begins sh (stays (headed (built k p))))
 grow s sh p other = None
+grow s sh p (reserved n x) = labelled n sh (if is_free x then grow s sh p x else None)
 
 abbrev pub named_element : Use → Bool → Place → List ℕ → Tree → Next
 named_element reading true p n e = stays (indexed_name p n e)
@@ -285,6 +310,8 @@ at_right_bracket _ e = None
 abbrev pub at_right_parenthesis : Hole → Tree → Option Next
 at_right_parenthesis parenthesis e = Some (stays (done e))
 at_right_parenthesis (argument_of h es) e = Some (stays (done (applied h (es ▷ e))))
+at_right_parenthesis (first_item p) e = Some (stays (done (node p (Strings (no_trees ▷ e)))))
+at_right_parenthesis (next_item p es) e = Some (stays (done (node p (Strings (es ▷ e)))))
 at_right_parenthesis (constant_of p) e = Some (stays (done (node p (Built 0 (no_trees ▷ e)))))
 at_right_parenthesis (choice_of p k x xs) e = Some (stays (done (node p (Look k x (xs ▸ single e)))))
 at_right_parenthesis (choice_to p k x xs low) e = Some (stays (done (node p (Look k x (xs ▸ range low e)))))
@@ -292,6 +319,8 @@ at_right_parenthesis _ e = None
 
 abbrev pub at_comma : Hole → Tree → Option Next
 at_comma (argument_of h es) e = Some (opens (argument_of h (es ▷ e)))
+at_comma (first_item p) e = Some (opens (next_item p (no_trees ▷ e)))
+at_comma (next_item p es) e = Some (opens (next_item p (es ▷ e)))
 at_comma (choice_of p k x xs) e = Some (opens (choice_of p k x (xs ▸ single e)))
 at_comma (choice_to p k x xs low) e = Some (opens (choice_of p k x (xs ▸ range low e)))
 at_comma _ e = None
@@ -313,6 +342,12 @@ close comma h e = at_comma h e
 close colon h e = at_colon h e
 close dot_dot h e = at_range h e
 close _ h e = None
+
+-- what a form is with a string of several characters in place of the expression that it waits for
+abbrev pub on_item : Place → List ℕ → Hole → Option Next
+on_item p (c ∷ d ∷ t) (next_item q es) = Some (stays (strings_read q (es ▷ node p (Str (c ∷ d ∷ t)))))
+on_item p (c ∷ d ∷ t) (choice_of q k x xs) = Some (stays (choices_read q k x (with_characters p (c ∷ d ∷ t) xs)))
+on_item p t h = None
 
 -- what is begun and waits for an expression or an operand
 pub data Frame : Type 0 where
@@ -383,6 +418,36 @@ operate s None p e k = None
 operate s (Some (zero, c)) p e k = None
 operate s (Some (suc r, c)) p e k = if is_value s && nat_lt r 10 then (let x = reduce (2 * suc r) e k in Some (state s fresh (infix_frame r c p x.0 ∷ x.1))) else None
 
+-- a string of several characters where an expression comes next
+abbrev pub item_in : Place → List ℕ → List Frame → Option State
+item_in p t [] = None
+item_in p t (prefix_frame o q ∷ k) = None
+item_in p t (infix_frame r c q a ∷ k) = None
+item_in p t (assign_frame o q v ∷ k) = None
+item_in p t (inside_frame s h ∷ k) = entered_all s k (on_item p t h)
+
+-- the first word of an expression
+abbrev pub begun : Option Next → Setting → List Frame → Place → Lexeme → Option State
+begun (Some n) s k p x = Some (entered s k n)
+begun None s k p x = prefixed s (prefix_of (plain x)) p k
+
+-- the first word of the first item of STRING, where it is no string
+abbrev pub first_word : Setting → Place → List Frame → Place → Lexeme → Option State
+first_word s q k p (string t) = None
+first_word s q k p x = begun (grow (inside s) fresh p x) (inside s) (inside_frame s (first_item q) ∷ k) p x
+
+-- an operator after the string that the first item of STRING begins with
+abbrev pub second_word : Setting → Place → Place → List ℕ → List Frame → Place → Lexeme → Option State
+second_word s q r (c ∷ []) k p x = operate (inside s) (infix_of (plain x)) p (node r (Number c)) (inside_frame s (first_item q) ∷ k)
+second_word s q r t k p x = None
+
+-- a word that is no part of a form which isn't whole
+abbrev pub otherwise : Setting → Shape → List Frame → Place → Lexeme → Option State
+otherwise s (using reading) k p (string t) = item_in p t k
+otherwise s (string_opened q) k p x = first_word s q k p x
+otherwise s (string_read q r t) k p x = second_word s q r t k p x
+otherwise s sh k p x = if_fresh s sh (prefix_of (plain x)) p k
+
 abbrev pub assign : Setting → Option Variable → Option ℕ → Place → List Frame → Option State
 assign s None o p k = None
 assign s (Some v) o p k = if nat_lt 21 (bar_of k) then Some (state (behind s) fresh (assign_frame o p v ∷ k)) else None
@@ -399,10 +464,11 @@ abbrev pub after : Setting → Shape → Tree → List Frame → Place → Lexem
 after s sh e k p (mark m) = (let x = reduce 22 e k in shut m x.0 x.1)
 after s sh e k p (assigns o) = assign s (target sh) o p k
 after s sh e k p (infix_word r c) = join s (target sh) (Some (r, c)) p e k
+after s sh e k p (reserved n x) = join s (target sh) (infix_of x) p e k
 after s sh e k p x = operate s (infix_of x) p e k
 
 abbrev pub beyond : Option Tree → Setting → Shape → List Frame → Place → Lexeme → Option State
-beyond None s sh k p x = if_fresh s sh (prefix_of x) p k
+beyond None s sh k p x = otherwise s sh k p x
 beyond (Some e) s sh k p x = after s sh e k p x
 
 abbrev pub go_on : Option Next → Setting → Shape → List Frame → Place → Lexeme → Option State
@@ -434,6 +500,32 @@ accepted (Some e) k = (let x = reduce 22 e k in all_of x.0 x.1)
 abbrev pub accept : State → Option Tree
 accept (state s sh k) = accepted (whole_in s sh) k
 accept (joined s r c p v k) = None
+
+-- neither a mark nor a string
+abbrev pub is_word : Lexeme → Bool
+is_word (string t) = false
+is_word (mark m) = false
+is_word _ = true
+
+-- a string
+abbrev pub is_text : Lexeme → Bool
+is_text (string t) = true
+is_text _ = false
+
+-- the only character of a text
+abbrev pub lone : List ℕ → Option ℕ
+lone (c ∷ []) = Some c
+lone t = None
+
+-- a form to which no expression belongs that begins with the next word, or has begun with the last one
+abbrev pub is_unopened : Shape → Bool
+is_unopened (string_opened q) = false
+is_unopened sh = true
+
+abbrev pub is_ordinary : Shape → Bool
+is_ordinary (string_opened q) = false
+is_ordinary (string_read q r t) = false
+is_ordinary sh = true
 
 abbrev pub start : Setting → State
 start s = state s fresh []

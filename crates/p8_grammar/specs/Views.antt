@@ -18,6 +18,8 @@ use Rattle.p8_grammar.specs.declared.lexemes.Operator as operator
 use Rattle.p8_grammar.specs.declared.lexemes.Operator.TheVariants as operator_case
 use Rattle.p8_grammar.specs.declared.lexemes.Term as term
 use Rattle.p8_grammar.specs.declared.lexemes.Term.TheVariants as term_case
+use Rattle.p8_grammar.specs.declared.lexemes.Reserved as reserved
+use Rattle.p8_grammar.specs.declared.lexemes.Reserved.TheVariants as reserved_case
 use Rattle.p8_grammar.specs.declared.lexemes.Lexeme as lexeme
 use Rattle.p8_grammar.specs.declared.lexemes.Lexeme.TheVariants as lexeme_case
 use Rattle.p8_grammar.specs.declared.measured.Tall.{Tall}
@@ -97,10 +99,16 @@ term_of (term_case.BuiltIn k) = lexemes.built_in k
 term_of (term_case.Command k) = lexemes.command k
 term_of term_case.Other = lexemes.other
 
+abbrev pub reserved_of : reserved.Reserved → lexemes.Lexeme
+reserved_of (reserved_case.Prefix r k) = lexemes.prefix_word r k
+reserved_of (reserved_case.Infix r k) = lexemes.infix_word r k
+reserved_of (reserved_case.Term t) = term_of t
+
 abbrev pub lexeme_of : lexeme.Lexeme → lexemes.Lexeme
 lexeme_of (lexeme_case.Mark m) = lexemes.mark (mark_of m)
 lexeme_of (lexeme_case.Operator o) = operator_of o
 lexeme_of (lexeme_case.Term t) = term_of t
+lexeme_of (lexeme_case.Reserved n x) = lexemes.reserved n (reserved_of x)
 
 abbrev pub use_of : use_.Use → machine.Use
 use_of use_case.Reading = machine.reading
@@ -146,9 +154,11 @@ shape_of (shape_case.Headed h) = machine.headed (head_of h)
 shape_of (shape_case.Hashed p n) = machine.hashed p n
 shape_of (shape_case.StringBegun p) = machine.string_begun p
 shape_of (shape_case.StringOpened p) = machine.string_opened p
-shape_of (shape_case.StringRead p t) = machine.string_read p t
+shape_of (shape_case.StringRead p r t) = machine.string_read p r t
+shape_of (shape_case.StringsRead p es) = machine.strings_read p (list_of es)
 shape_of (shape_case.ConstantBegun p) = machine.constant_begun p
 shape_of (shape_case.LookBegun p k) = machine.look_begun p k
+shape_of (shape_case.ChoicesRead p k e xs) = machine.choices_read p k (expr_of e) (choices_of xs)
 shape_of (shape_case.Done e) = machine.done (expr_of e)
 
 abbrev pub hole_of : hole.Hole → machine.Hole
@@ -161,6 +171,8 @@ hole_of (hole_case.FirstBit u p a x) = machine.first_bit (use_of u) p a (access_
 hole_of (hole_case.LastBit u p a x low) = machine.last_bit (use_of u) p a (access_of x) (expr_of low)
 hole_of (hole_case.TrappedIndex p n) = machine.trapped_index p n
 hole_of (hole_case.ArgumentOf h es) = machine.argument_of (head_of h) (list_of es)
+hole_of (hole_case.FirstItem p) = machine.first_item p
+hole_of (hole_case.NextItem p es) = machine.next_item p (list_of es)
 hole_of (hole_case.ConstantOf p) = machine.constant_of p
 hole_of (hole_case.LookFor p k) = machine.look_for p k
 hole_of (hole_case.ChoiceOf p k e xs) = machine.choice_of p k (expr_of e) (choices_of xs)

@@ -1,8 +1,8 @@
 // Trees with their heights, from their parts.
 ghost use Rattle.std.specs.Prelude.{◌≡◌, ◌+◌, ◌≤◌, ◌<◌, min, max, IfOk, Option};
-ghost use Rattle.p8_tree.specs.Expressions.{node, Number, Unary, Binary, Assign, Change, ObjectAddress, Built, Look, Named, Part, Memory, Register, no_index, index, whole, bits, single, range, no_trees, ◌▷◌, no_items, ◌▸◌};
+ghost use Rattle.p8_tree.specs.Expressions.{node, Number, Strings, Unary, Binary, Assign, Change, ObjectAddress, Built, Look, Named, Part, Memory, Register, no_index, index, whole, bits, single, range, no_trees, ◌▷◌, no_items, ◌▸◌};
 ghost use Rattle.p8_tree.specs.Views.{tree_of, form_of, variable_of, item_of};
-ghost use Rattle.p8_grammar.specs.Grammar.{place_of, applied};
+ghost use Rattle.p8_grammar.specs.Grammar.{place_of, applied, quoted, with_characters};
 ghost use Rattle.p8_tree.specs.Bridges.{boxed_index};
 ghost use Rattle.p8_grammar.specs.Heights.{height, height_in_index, height_of_item};
 ghost use Rattle.p8_grammar.specs.Machine.{used};
@@ -45,6 +45,16 @@ pub fn number(alloc: Global, place: Place, value: u32) -> Result<Tall, AllocErro
     ensures { IfOk result (λ e. expr_of e ≡ node place (Number value)) }
 {
     Tall::new(alloc, place, ExprKind::Number(value), 1)
+}
+
+/// A string as an item of `STRING`: one of one character is its code.
+pub fn quoted(alloc: Global, place: Place, text: Text) -> Result<Tall, AllocError>
+    ensures { IfOk result (λ e. expr_of e ≡ quoted place text) }
+{
+    let [character] = text.as_slice() else {
+        return Tall::new(alloc, place, ExprKind::Str(text), 1);
+    };
+    number(alloc, place, u32::from(*character))
 }
 
 /// An operator before its operand.
@@ -325,6 +335,25 @@ impl TallItems {
         self.with(value(tree), high)
     }
 
+    /// More items, the characters of a string at its place.
+    pub fn with_characters(
+        self,
+        alloc: Global,
+        place: Place,
+        text: &[u8],
+    ) -> Result<TallItems, AllocError>
+        ensures { IfOk result (λ xs. choices_of xs ≡ with_characters place text.now (choices_of self)) }
+    {
+        let mut items = self;
+        let mut text = text;
+        while let [character, rest @ ..] = text {
+            let tree = number(alloc, place, u32::from(*character))?;
+            items = items.with_value(tree)?;
+            text = rest;
+        }
+        Ok(items)
+    }
+
     /// One more item, a range.
     pub fn with_range(self, low: Tall, last: Tall) -> Result<TallItems, AllocError>
         ensures { IfOk result (λ xs. choices_of xs ≡ choices_of self ▸ range (expr_of low) (expr_of last)) }
@@ -340,6 +369,14 @@ pub fn built(alloc: Global, place: Place, code: u8, arguments: TallList) -> Resu
 {
     let TallList { trees, high } = arguments;
     Tall::new(alloc, place, ExprKind::Built(code, trees), over(high))
+}
+
+/// A list of `STRING`.
+pub fn strings(alloc: Global, place: Place, items: TallList) -> Result<Tall, AllocError>
+    ensures { IfOk result (λ e. expr_of e ≡ node place (Strings (list_of items))) }
+{
+    let TallList { trees, high } = items;
+    Tall::new(alloc, place, ExprKind::Strings(trees), over(high))
 }
 
 /// A `LOOK` function.

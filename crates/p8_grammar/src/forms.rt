@@ -1,9 +1,9 @@
 // What a form is with an expression more, and what a whole form is.
 ghost use Rattle.std.specs.Prelude.{◌≡◌, IfOk, IsSome, Some};
-ghost use Rattle.p8_tree.specs.Expressions.{◌▷◌};
+ghost use Rattle.p8_tree.specs.Expressions.{node, Strings, ◌▷◌};
 ghost use Rattle.p8_grammar.specs.Grammar.{applied};
 ghost use Rattle.p8_grammar.specs.Machine as machine;
-ghost use Rattle.p8_grammar.specs.Machine.{named_element, at_right_bracket, at_right_parenthesis, at_comma, at_colon, at_range, close, stays, opens, done, argument_of};
+ghost use Rattle.p8_grammar.specs.Machine.{named_element, at_right_bracket, at_right_parenthesis, at_comma, at_colon, at_range, close, stays, opens, done, argument_of, next_item};
 ghost use Rattle.p8_grammar.specs.Views.{Closes, IsWhole, IsTarget, expr_of, target_of, shape_of, hole_of, use_of, mark_of, head_of, list_of};
 
 use crate::building;
@@ -191,6 +191,23 @@ fn another_argument(head: Head, arguments: TallList, tree: Tall) -> Result<Close
     }
 }
 
+// A list of `STRING` with one more item, the last.
+fn listed(alloc: Global, place: Place, items: TallList, last: Tall) -> Result<Closed, AllocError>
+    ensures { IfOk result (λ c. Closes (Some (stays (done (node place (Strings (list_of items ▷ expr_of last)))))) c) }
+{
+    let items = items.with(last)?;
+    let list = building::strings(alloc, place, items)?;
+    Ok(Closed::Stays(Shape::Done(list)))
+}
+
+// A list of `STRING` with one more item, after which another comes.
+fn another_item(place: Place, items: TallList, tree: Tall) -> Result<Closed, AllocError>
+    ensures { IfOk result (λ c. Closes (Some (opens (next_item place (list_of items ▷ expr_of tree)))) c) }
+{
+    let items = items.with(tree)?;
+    Ok(Closed::Opens(Hole::NextItem(place, items)))
+}
+
 fn at_right_parenthesis(alloc: Global, hole: Hole, tree: Tall) -> Result<Closed, AllocError>
     requires { IsSome (at_right_parenthesis (hole_of hole) (expr_of tree)) }
     ensures { IfOk result (λ c. Closes (at_right_parenthesis (hole_of hole) (expr_of tree)) c) }
@@ -201,6 +218,11 @@ fn at_right_parenthesis(alloc: Global, hole: Hole, tree: Tall) -> Result<Closed,
             Ok(Closed::Stays(Shape::Done(tree)))
         }
         Hole::ArgumentOf(head, arguments) => called(alloc, head, arguments, tree),
+        Hole::FirstItem(place) => {
+            drop(hole);
+            listed(alloc, place, TallList::new(alloc), tree)
+        }
+        Hole::NextItem(place, items) => listed(alloc, place, items, tree),
         Hole::ConstantOf(place) => {
             drop(hole);
             let arguments = TallList::new(alloc).with(tree)?;
@@ -221,12 +243,17 @@ fn at_right_parenthesis(alloc: Global, hole: Hole, tree: Tall) -> Result<Closed,
     }
 }
 
-fn at_comma(hole: Hole, tree: Tall) -> Result<Closed, AllocError>
+fn at_comma(alloc: Global, hole: Hole, tree: Tall) -> Result<Closed, AllocError>
     requires { IsSome (at_comma (hole_of hole) (expr_of tree)) }
     ensures { IfOk result (λ c. Closes (at_comma (hole_of hole) (expr_of tree)) c) }
 {
     match hole {
         Hole::ArgumentOf(head, arguments) => another_argument(head, arguments, tree),
+        Hole::FirstItem(place) => {
+            drop(hole);
+            another_item(place, TallList::new(alloc), tree)
+        }
+        Hole::NextItem(place, items) => another_item(place, items, tree),
         Hole::ChoiceOf(place, code, value, items) => {
             let items = items.with_value(tree)?;
             Ok(Closed::Opens(Hole::ChoiceOf(place, code, value, items)))
@@ -276,7 +303,7 @@ pub fn close(alloc: Global, mark: Mark, hole: Hole, tree: Tall) -> Result<Closed
     match mark {
         Mark::RightParenthesis => at_right_parenthesis(alloc, hole, tree),
         Mark::RightBracket => at_right_bracket(alloc, hole, tree),
-        Mark::Comma => at_comma(hole, tree),
+        Mark::Comma => at_comma(alloc, hole, tree),
         Mark::Colon => Ok(at_colon(alloc, hole, tree)),
         Mark::DotDot => Ok(at_range(hole, tree)),
         _ => unreachable!(),

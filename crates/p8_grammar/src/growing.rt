@@ -1,13 +1,13 @@
 // What a form is with one more word.
-ghost use Rattle.std.specs.Prelude.{◌≡◌, ℕ, ◌∷◌, IfOk, List};
+ghost use Rattle.std.specs.Prelude.{◌≡◌, ℕ, ◌∷◌, Some, IfOk, IsSome, List};
 ghost use Rattle.p8_tree.specs.Expressions.{node, Built, no_trees};
 ghost use Rattle.p8_tree.specs.Views.{form_of};
 ghost use Rattle.p8_grammar.specs.Heights.{height};
-ghost use Rattle.p8_grammar.specs.Views.{Grows, shape_of, access_of, setting_of, use_of, mark_of, term_of};
-ghost use Rattle.p8_grammar.specs.Machine.{takes, begins, on_name, on_result, on_character, on_string, on_size, on_register, on_change, on_parenthesis, on_bracket, on_dot, on_hash, on_colon, on_close, on_mark, grow, if_value, if_action, stays, done, using, headed};
-ghost use Rattle.p8_grammar.specs.Lexemes.{in_method, here, string as string_word, number as number_word};
+ghost use Rattle.p8_grammar.specs.Views.{Grows, shape_of, hole_of, access_of, setting_of, use_of, mark_of, term_of};
+ghost use Rattle.p8_grammar.specs.Machine.{takes, begins, on_name, on_result, on_character, on_string, on_size, on_register, on_change, on_parenthesis, on_bracket, on_dot, on_hash, on_colon, on_close, on_comma, on_mark, on_item, grow, if_value, if_action, stays, done, using, headed};
+ghost use Rattle.p8_grammar.specs.Lexemes.{in_method, here, number as number_word};
 
-use crate::building::{built, change, number};
+use crate::building::{built, change, look, number, quoted, strings};
 use crate::forms::{Written, target};
 use crate::lexemes::{Access, Mark, Setting, Term};
 use crate::measured::{Tall, TallList};
@@ -110,8 +110,8 @@ fn on_number(
     }
 }
 
-// A local label's name, which begins with its colon.
-fn label(alloc: Global, name: Text) -> Result<Text, AllocError>
+/// A local label's name, which begins with its colon.
+pub fn label(alloc: Global, name: Text) -> Result<Text, AllocError>
     ensures { IfOk result (λ t. t ≡ 58 ∷ name) }
 {
     let mut bytes = name.into_vec();
@@ -174,40 +174,65 @@ fn on_character(alloc: Global, place: Place, text: Text, usage: Use) -> Result<G
     }
 }
 
-fn on_string(alloc: Global, place: Place, text: Text, shape: Shape) -> Result<Grown, AllocError>
-    ensures { IfOk result (λ g. Grows (on_string place text (shape_of shape)) (shape_of shape) g) }
+// A string, where values stand.
+fn on_value_text(
+    alloc: Global,
+    setting: Setting,
+    place: Place,
+    text: Text,
+    usage: Use,
+) -> Result<Grown, AllocError>
+    ensures { IfOk result (λ g. Grows (if_value (setting_of setting) (on_character place text (use_of usage))) (using (use_of usage)) g) }
 {
-    match shape {
-        Shape::Using(usage) => {
-            drop(shape);
-            on_character(alloc, place, text, usage)
-        }
-        Shape::StringOpened(first) => {
-            drop(shape);
-            if text.is_empty() {
-                Ok(Grown::Same(Shape::StringOpened(first)))
-            } else {
-                Ok(Grown::Stays(Shape::StringRead(first, text)))
-            }
-        }
-        other => Ok(Grown::Same(other)),
+    if setting.is_value() {
+        on_character(alloc, place, text, usage)
+    } else {
+        Ok(Grown::Same(Shape::Using(usage)))
     }
 }
 
-// A string, where values stand.
-fn on_text(
+/// A form with one more string.
+pub fn on_string(
     alloc: Global,
     setting: Setting,
     place: Place,
     text: Text,
     shape: Shape,
 ) -> Result<Grown, AllocError>
-    ensures { IfOk result (λ g. Grows (grow (setting_of setting) (shape_of shape) place (string_word text)) (shape_of shape) g) }
+    ensures { IfOk result (λ g. Grows (on_string (setting_of setting) place text (shape_of shape)) (shape_of shape) g) }
 {
-    if setting.is_value() {
-        on_string(alloc, place, text, shape)
-    } else {
-        Ok(Grown::Same(shape))
+    match shape {
+        Shape::Using(usage) => {
+            drop(shape);
+            on_value_text(alloc, setting, place, text, usage)
+        }
+        Shape::StringOpened(first) => {
+            drop(shape);
+            if text.is_empty() {
+                Ok(Grown::Same(Shape::StringOpened(first)))
+            } else {
+                Ok(Grown::Stays(Shape::StringRead(first, place, text)))
+            }
+        }
+        other => Ok(Grown::Same(other)),
+    }
+}
+
+/// What a form is with a string of several characters in place of the expression that it waits for.
+pub fn on_item(alloc: Global, place: Place, text: Text, hole: Hole) -> Result<Shape, AllocError>
+    requires { IsSome (on_item place text (hole_of hole)) }
+    ensures { IfOk result (λ x. on_item place text (hole_of hole) ≡ Some (stays (shape_of x))) }
+{
+    match hole {
+        Hole::NextItem(first, items) => {
+            let item = Tall::new(alloc, place, ExprKind::Str(text), 1)?;
+            Ok(Shape::StringsRead(first, items.with(item)?))
+        }
+        Hole::ChoiceOf(first, code, value, items) => {
+            let items = items.with_characters(alloc, place, text.as_slice())?;
+            Ok(Shape::ChoicesRead(first, code, value, items))
+        }
+        _ => unreachable!(),
     }
 }
 
@@ -385,9 +410,34 @@ fn on_close(alloc: Global, shape: Shape) -> Result<Grown, AllocError>
     ensures { IfOk result (λ g. Grows (on_close (shape_of shape)) (shape_of shape) g) }
 {
     match shape {
-        Shape::StringRead(place, text) => {
+        Shape::StringRead(place, _, text) => {
             let tree = Tall::new(alloc, place, ExprKind::Str(text), 1)?;
             Ok(Grown::Stays(Shape::Done(tree)))
+        }
+        Shape::StringsRead(place, items) => {
+            let tree = strings(alloc, place, items)?;
+            Ok(Grown::Stays(Shape::Done(tree)))
+        }
+        Shape::ChoicesRead(place, code, value, items) => {
+            let tree = look(alloc, place, code, value, items)?;
+            Ok(Grown::Stays(Shape::Done(tree)))
+        }
+        other => Ok(Grown::Same(other)),
+    }
+}
+
+fn on_comma(alloc: Global, shape: Shape) -> Result<Grown, AllocError>
+    ensures { IfOk result (λ g. Grows (on_comma (shape_of shape)) (shape_of shape) g) }
+{
+    match shape {
+        Shape::StringRead(place, at, text) => {
+            let item = quoted(alloc, at, text)?;
+            let items = TallList::new(alloc).with(item)?;
+            Ok(Grown::Opens(Hole::NextItem(place, items)))
+        }
+        Shape::StringsRead(place, items) => Ok(Grown::Opens(Hole::NextItem(place, items))),
+        Shape::ChoicesRead(place, code, value, items) => {
+            Ok(Grown::Opens(Hole::ChoiceOf(place, code, value, items)))
         }
         other => Ok(Grown::Same(other)),
     }
@@ -435,7 +485,7 @@ pub fn on_mark(
         Mark::Hash => Ok(on_constant(setting, shape)),
         Mark::Backslash => Ok(begins(shape, Shape::Trapping)),
         Mark::RightBracket => Ok(Grown::Same(shape)),
-        Mark::Comma => Ok(Grown::Same(shape)),
+        Mark::Comma => on_comma(alloc, shape),
         Mark::DotDot => Ok(Grown::Same(shape)),
         Mark::Equal => Ok(Grown::Same(shape)),
     }
@@ -480,7 +530,7 @@ pub fn on_term(
         Term::Number(value) => on_number(alloc, setting, place, value, shape),
         Term::Name(name) => on_name(alloc, place, name, shape),
         Term::MethodResult => on_result(alloc, place, shape),
-        Term::Str(text) => on_text(alloc, setting, place, text, shape),
+        Term::Str(text) => on_string(alloc, setting, place, text, shape),
         Term::Changes(before, after) => on_change(alloc, place, before, after, shape),
         Term::Address => { Ok(begins_value(setting, shape, Shape::Using(Use::Addressing(place)))) }
         Term::Size(size) => Ok(on_size(setting, place, size, shape)),

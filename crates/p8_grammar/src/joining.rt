@@ -1,16 +1,16 @@
 // A variable with AND or OR after it: `=` makes them an assignment, else they are an operator
 // between operands.
-ghost use Rattle.std.specs.Prelude.{◌≡◌, ◌∷◌, IfOk, OnOk, Option, Some, min, max, suc, option_map};
+ghost use Rattle.std.specs.Prelude.{◌≡◌, ◌∷◌, ℕ, List, IfOk, OnOk, Option, Some, min, max, suc, option_map};
 ghost use Rattle.p8_grammar.specs.Grammar.{prefix_of};
-ghost use Rattle.p8_grammar.specs.Lexemes.{token, mark as mark_word};
+ghost use Rattle.p8_grammar.specs.Lexemes.{token, mark as mark_word, reserved};
 ghost use Rattle.p8_grammar.specs.Heights.{height_in_variable};
 ghost use Rattle.p8_grammar.specs.Machine.{Next, assign_frame, entered_all, fresh, prefixed, step};
-ghost use Rattle.p8_grammar.specs.Views.{Grows, lexeme_of, mark_of, operator_of, prefix_in, setting_of, target_of};
+ghost use Rattle.p8_grammar.specs.Views.{Grows, lexeme_of, mark_of, operator_of, term_of, reserved_of, prefix_in, setting_of, target_of};
 ghost use Rattle.p8_grammar.specs.Levels.{frames_in, joined_at, operator_frames, Resolves};
 
 use crate::building::{over, used};
 use crate::growing;
-use crate::lexemes::{Lexeme, Mark, Operator, Setting};
+use crate::lexemes::{Lexeme, Mark, Operator, Reserved, Setting, Term};
 use crate::measured::TallTarget;
 use crate::shapes::{Grown, Shape, Use};
 use crate::stack::{Frame, Prefix, Stack};
@@ -174,6 +174,64 @@ fn resolve_mark(
     }
 }
 
+fn resolve_term(
+    alloc: Global,
+    setting: Setting,
+    joined: Joined,
+    place: Place,
+    term: Term,
+    stack: &mut Stack,
+) -> Result<Resolved, AllocError>
+    ensures { IfOk result (λ t. Resolves (step (joined_at setting joined (frames_in stack.old)) (token place (term_of term))) (joined_at setting joined (frames_in stack.old)) setting t (frames_in stack.new)) }
+{
+    if setting.is_value() {
+        match growing::on_term(alloc, setting, place, term, Shape::Using(Use::Reading)) {
+            Ok(grown) => begin(alloc, setting, joined, grown, stack),
+            Err(error) => {
+                drop(joined);
+                Err(error)
+            }
+        }
+    } else {
+        drop(term);
+        Ok(Resolved::Dead(joined))
+    }
+}
+
+// A reserved word, which here isn't a local label's name.
+fn resolve_reserved(
+    alloc: Global,
+    setting: Setting,
+    joined: Joined,
+    place: Place,
+    word: Reserved,
+    stack: &mut Stack,
+) -> Result<Resolved, AllocError>
+    ensures { (n : List ℕ) → IfOk result (λ t. Resolves (step (joined_at setting joined (frames_in stack.old)) (token place (reserved n (reserved_of word)))) (joined_at setting joined (frames_in stack.old)) setting t (frames_in stack.new)) }
+{
+    match word {
+        Reserved::Prefix(rank, code) => {
+            begin_prefix(
+                alloc,
+                setting,
+                joined,
+                place,
+                Prefix::Unary(rank, code),
+                stack,
+            )
+        }
+        Reserved::Infix(_, _) => Ok(Resolved::Dead(joined)),
+        Reserved::Term(term) => {
+            if term.is_free() {
+                resolve_term(alloc, setting, joined, place, term, stack)
+            } else {
+                drop(term);
+                Ok(Resolved::Dead(joined))
+            }
+        }
+    }
+}
+
 /// The next word after a variable and AND or OR.
 pub fn resolve(
     alloc: Global,
@@ -190,19 +248,10 @@ pub fn resolve(
         Lexeme::Operator(operator) => resolve_operator(
             alloc, setting, joined, place, operator, stack,
         ),
-        Lexeme::Term(term) => {
-            if setting.is_value() {
-                let shape = Shape::Using(Use::Reading);
-                match growing::on_term(alloc, setting, place, term, shape) {
-                    Ok(grown) => begin(alloc, setting, joined, grown, stack),
-                    Err(error) => {
-                        drop(joined);
-                        Err(error)
-                    }
-                }
-            } else {
-                Ok(Resolved::Dead(joined))
-            }
+        Lexeme::Term(term) => resolve_term(alloc, setting, joined, place, term, stack),
+        Lexeme::Reserved(name, word) => {
+            drop(name);
+            resolve_reserved(alloc, setting, joined, place, word, stack)
         }
     }
 }

@@ -1,7 +1,7 @@
 // What a token is to an expression.
 ghost use Rattle.std.specs.Prelude.{◌≡◌, ◌↔◌, IsTrue};
-ghost use Rattle.p8_grammar.specs.Lexemes.{inside, behind, is_value, allows_index, is_dat, is_written, has_bits, is_in, equal};
-ghost use Rattle.p8_grammar.specs.Views.{setting_of, access_of, mark_of};
+ghost use Rattle.p8_grammar.specs.Lexemes.{inside, behind, is_value, allows_index, is_dat, is_written, has_bits, is_in, is_free, equal};
+ghost use Rattle.p8_grammar.specs.Views.{setting_of, access_of, mark_of, term_of};
 
 use p8_tree::Text;
 
@@ -196,10 +196,37 @@ pub enum Term {
     Other,
 }
 
+impl Term {
+    /// Whether a reserved word may be it: no name, number or string is one.
+    pub fn is_free(&self) -> bool
+        ensures { result ≡ is_free (term_of self.now) }
+    {
+        match self {
+            Term::Name(_) => false,
+            Term::Number(_) => false,
+            Term::Str(_) => false,
+            _ => true,
+        }
+    }
+}
+
+/// What a reserved word is to an expression.
+#[derive(Drop)]
+pub enum Reserved {
+    /// An operator before its operand: its rank and its bytecode.
+    Prefix(u8, u8),
+    /// An operator between its operands: its rank and its bytecode.
+    Infix(u8, u8),
+    /// A word of an operand, or what stands in no expression.
+    Term(Term),
+}
+
 /// What a token is to an expression.
 #[derive(Drop)]
 pub enum Lexeme {
     Mark(Mark),
     Operator(Operator),
     Term(Term),
+    /// A reserved word, with its characters in capitals: behind the colon of a local label of DAT it is a name.
+    Reserved(Text, Reserved),
 }

@@ -70,9 +70,14 @@ pub enum Shape {
     Hashed(Place, Text),
     StringBegun(Place),
     StringOpened(Place),
-    StringRead(Place, Text),
+    /// After the first item of `STRING`, where it is a string: the word's place, the string's, and the string.
+    StringRead(Place, Place, Text),
+    /// After a string of several characters among the items of `STRING`.
+    StringsRead(Place, TallList),
     ConstantBegun(Place),
     LookBegun(Place, u8),
+    /// After a string of several characters among the items of a `LOOK` function.
+    ChoicesRead(Place, u8, Tall, TallItems),
     /// A form that nothing more belongs to.
     Done(Tall),
 }
@@ -112,6 +117,8 @@ impl Shape {
             Shape::TrappedElement(_, _, index) => over(index.high),
             Shape::ObjectDot(_, _, _, Some(index)) => over(index.high),
             Shape::Headed(head) => over(head.high()),
+            Shape::StringsRead(_, items) => over(items.high),
+            Shape::ChoicesRead(_, _, value, items) => over(value.high.max(items.high)),
             Shape::Done(tree) => tree.high,
             _ => 1,
         }
@@ -130,6 +137,10 @@ pub enum Hole {
     LastBit(Use, Place, u16, Access, Tall),
     TrappedIndex(Place, Text),
     ArgumentOf(Head, TallList),
+    /// The first item of `STRING`, which isn't a string alone.
+    FirstItem(Place),
+    /// A later one.
+    NextItem(Place, TallList),
     ConstantOf(Place),
     LookFor(Place, u8),
     ChoiceOf(Place, u8, Tall, TallItems),

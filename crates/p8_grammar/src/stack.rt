@@ -5,7 +5,7 @@ ghost use Rattle.p8_grammar.specs.Machine.{bar, bar_of};
 ghost use Rattle.p8_grammar.specs.Grammar.{rank, effect_of};
 ghost use Rattle.p8_grammar.specs.Least.{need, high_in_hole, high_in_frame, adds_hole, adds_frame, depth, base};
 ghost use Rattle.p8_grammar.specs.Views.{hole_of, mark_of, prefix_in, frame_of};
-ghost use Rattle.p8_grammar.specs.Endings.{allows, ends_of_hole, ends_of_frame, ends_of};
+ghost use Rattle.p8_grammar.specs.Endings.{allows, ends_of_hole, ends_of_frame, ends_of, takes_text, text_taken};
 ghost use Rattle.p8_grammar.specs.Levels.{frames_in, IsMeasured};
 
 use crate::lexemes::{Mark, Setting};
@@ -83,6 +83,7 @@ fn high_in_hole(hole: &Hole) -> u8
         Hole::MemoryIndex(_, _, _, address) => address.high,
         Hole::LastBit(_, _, _, _, low) => low.high,
         Hole::ArgumentOf(head, arguments) => head.high().max(arguments.high),
+        Hole::NextItem(_, items) => items.high,
         Hole::LookFor(_, _) => 1,
         Hole::ChoiceOf(_, _, value, items) => value.high.max(items.high),
         Hole::ChoiceTo(_, _, value, items, low) => value.high.max(items.high.max(low.high)),
@@ -164,6 +165,7 @@ fn ends_of_hole(hole: &Hole) -> Ends
     match hole {
         Hole::Parenthesis | Hole::ConstantOf(_) => Ends::Parenthesis,
         Hole::ArgumentOf(_, _) | Hole::ChoiceTo(_, _, _, _, _) => Ends::Argument,
+        Hole::FirstItem(_) | Hole::NextItem(_, _) => Ends::Argument,
         Hole::FirstBit(_, _, _, _) => Ends::Bit,
         Hole::LookFor(_, _) => Ends::Value,
         Hole::ChoiceOf(_, _, _, _) => Ends::Choice,
@@ -177,6 +179,17 @@ fn ends_of_frame(frame: &Frame) -> Ends
     match frame {
         Frame::Inside(_, hole) => ends_of_hole(hole),
         _ => Ends::None,
+    }
+}
+
+// Whether a string of several characters may stand in place of the expression.
+fn takes_text(frame: &Frame) -> bool
+    ensures { result ≡ takes_text (frame_of frame.now) }
+{
+    match frame {
+        Frame::Inside(_, Hole::NextItem(_, _)) => true,
+        Frame::Inside(_, Hole::ChoiceOf(_, _, _, _)) => true,
+        _ => false,
     }
 }
 
@@ -324,6 +337,16 @@ impl Stack {
         match self.levels.last() {
             Some(level) => bar(&level.frame),
             None => 23,
+        }
+    }
+
+    /// Whether a string of several characters may stand in place of the expression that comes next.
+    pub fn takes_text(&self) -> bool
+        ensures { result ≡ text_taken (frames_in self.now) }
+    {
+        match self.levels.last() {
+            Some(level) => takes_text(&level.frame),
+            None => false,
         }
     }
 

@@ -1,21 +1,21 @@
 // One word more, with what is begun kept on a stack.
-ghost use Rattle.std.specs.Prelude.{◌≡◌, List, ℕ, ◌+◌, ◌*◌, ◌<◌, ◌≤◌, ◌&&◌, nat_lt, Some, None, IfOk, OnOk, IsSome, IsTrue, option_and_then, option_map};
+ghost use Rattle.std.specs.Prelude.{◌≡◌, List, ℕ, ◌+◌, ◌*◌, ◌<◌, ◌≤◌, ◌&&◌, nat_lt, Some, None, IfOk, OnOk, IsSome, IsTrue, option_and_then, option_map, length, false};
 ghost use Rattle.p8_grammar.specs.Machine as machine;
-ghost use Rattle.p8_grammar.specs.Machine.{wrap, reduce, shut, step, state, fresh, if_fresh, on_prefix, entered_all, altering, operate, join, bar_of, assign, grow, tree, whole_in, target, accept, all_of};
+ghost use Rattle.p8_grammar.specs.Machine.{wrap, reduce, shut, step, state, fresh, if_fresh, on_prefix, entered_all, altering, operate, join, bar_of, assign, grow, tree, whole_in, target, accept, all_of, string_opened, string_read, is_text, is_word, is_unopened, is_ordinary, lone, is_coloned};
 ghost use Rattle.p8_grammar.specs.Grammar.{is_boolean, effect_of};
 ghost use Rattle.p8_grammar.specs.Lexemes as lexemes;
-ghost use Rattle.p8_grammar.specs.Lexemes.{token, is_value, mark as mark_word, sign};
-ghost use Rattle.p8_grammar.specs.Views.{expr_of, shape_of, setting_of, mark_of, lexeme_of, operator_of, term_of, prefix_in, frame_of, tree_in};
+ghost use Rattle.p8_grammar.specs.Lexemes.{token, is_value, mark as mark_word, sign, string as string_word, reserved};
+ghost use Rattle.p8_grammar.specs.Views.{expr_of, shape_of, setting_of, mark_of, lexeme_of, operator_of, term_of, prefix_in, frame_of, tree_in, reserved_of};
 ghost use Rattle.p8_grammar.specs.Levels.{frames_in, Takes};
 
 use crate::forms::{Closed, Finished, Written, close, target, whole};
 use crate::joining::Joined;
-use crate::lexemes::{Lexeme, Mark, Operator, Setting, Term};
+use crate::lexemes::{Lexeme, Mark, Operator, Reserved, Setting, Term};
 use crate::measured::Tall;
-use crate::shapes::{Grown, Shape, Use};
+use crate::shapes::{Grown, Hole, Shape, Use};
 use crate::stack::{Frame, Prefix, Stack};
 use crate::{building, growing};
-use p8_tree::Place;
+use p8_tree::{Place, Text};
 use std::alloc::{AllocError, Global};
 
 /// Whether a word was taken, and what is read then: where it wasn't, all is as before.
@@ -266,6 +266,7 @@ fn take_mark(
     mark: Mark,
     stack: &mut Stack,
 ) -> Result<Taken, AllocError>
+    requires { IsTrue (is_unopened (shape_of shape)) }
     ensures { IfOk result (λ t. Takes (step (state (setting_of setting) (shape_of shape) (frames_in stack.old)) (token place (mark_word (mark_of mark)))) (state (setting_of setting) (shape_of shape) (frames_in stack.old)) t (frames_in stack.new)) }
 {
     match growing::on_mark(alloc, setting, place, mark, shape)? {
@@ -288,6 +289,7 @@ fn take_sign(
     between: u8,
     stack: &mut Stack,
 ) -> Result<Taken, AllocError>
+    requires { IsTrue (is_ordinary (shape_of shape)) }
     ensures { IfOk result (λ t. Takes (step (state (setting_of setting) (shape_of shape) (frames_in stack.old)) (token place (sign before between))) (state (setting_of setting) (shape_of shape) (frames_in stack.old)) t (frames_in stack.new)) }
 {
     if shape.is_fresh() {
@@ -306,6 +308,7 @@ fn take_operator(
     operator: Operator,
     stack: &mut Stack,
 ) -> Result<Taken, AllocError>
+    requires { IsTrue (is_ordinary (shape_of shape)) }
     ensures { IfOk result (λ t. Takes (step (state (setting_of setting) (shape_of shape) (frames_in stack.old)) (token place (operator_of operator))) (state (setting_of setting) (shape_of shape) (frames_in stack.old)) t (frames_in stack.new)) }
 {
     match operator {
@@ -321,8 +324,8 @@ fn take_operator(
     }
 }
 
-// A word of an operand.
-fn take_term(
+// A word of an operand, but for a string.
+fn take_word(
     alloc: Global,
     setting: Setting,
     shape: Shape,
@@ -330,6 +333,8 @@ fn take_term(
     term: Term,
     stack: &mut Stack,
 ) -> Result<Taken, AllocError>
+    requires unopened { IsTrue (is_unopened (shape_of shape)) }
+    requires word { is_text (term_of term) ≡ false }
     ensures { IfOk result (λ t. Takes (step (state (setting_of setting) (shape_of shape) (frames_in stack.old)) (token place (term_of term))) (state (setting_of setting) (shape_of shape) (frames_in stack.old)) t (frames_in stack.new)) }
 {
     match growing::on_term(alloc, setting, place, term, shape)? {
@@ -339,6 +344,356 @@ fn take_term(
             Ok(Taken::On(setting.inside(), Shape::Using(Use::Reading)))
         }
         Grown::Same(shape) => Ok(Taken::Dead(shape)),
+    }
+}
+
+// A string of several characters where an expression comes next.
+fn take_item(
+    alloc: Global,
+    setting: Setting,
+    place: Place,
+    text: Text,
+    stack: &mut Stack,
+) -> Result<Taken, AllocError>
+    requires { 1 < length text }
+    ensures { IfOk result (λ t. Takes (step (state (setting_of setting) fresh (frames_in stack.old)) (token place (string_word text))) (state (setting_of setting) fresh (frames_in stack.old)) t (frames_in stack.new)) }
+{
+    if !stack.takes_text() {
+        return Ok(Taken::Dead(Shape::Using(Use::Reading)));
+    }
+    match stack.pop() {
+        Some(Frame::Inside(outer, hole)) => {
+            let shape = growing::on_item(alloc, place, text, hole)?;
+            Ok(Taken::On(outer, shape))
+        }
+        _ => unreachable!(),
+    }
+}
+
+// A string that belongs to the form.
+fn grow_by_string(
+    alloc: Global,
+    setting: Setting,
+    shape: Shape,
+    place: Place,
+    text: Text,
+    stack: &mut Stack,
+) -> Result<Taken, AllocError>
+    requires { shape_of shape ≡ fresh → length text ≤ 1 }
+    ensures { IfOk result (λ t. Takes (step (state (setting_of setting) (shape_of shape) (frames_in stack.old)) (token place (string_word text))) (state (setting_of setting) (shape_of shape) (frames_in stack.old)) t (frames_in stack.new)) }
+{
+    match growing::on_string(alloc, setting, place, text, shape)? {
+        Grown::Stays(shape) => Ok(Taken::On(setting, shape)),
+        Grown::Opens(hole) => {
+            stack.push(Frame::Inside(setting, hole))?;
+            Ok(Taken::On(setting.inside(), Shape::Using(Use::Reading)))
+        }
+        Grown::Same(shape) => Ok(Taken::Dead(shape)),
+    }
+}
+
+// A string where nothing of an operand has been read.
+fn take_fresh_string(
+    alloc: Global,
+    setting: Setting,
+    place: Place,
+    text: Text,
+    stack: &mut Stack,
+) -> Result<Taken, AllocError>
+    ensures { IfOk result (λ t. Takes (step (state (setting_of setting) fresh (frames_in stack.old)) (token place (string_word text))) (state (setting_of setting) fresh (frames_in stack.old)) t (frames_in stack.new)) }
+{
+    if text.len() > 1 {
+        take_item(alloc, setting, place, text, stack)
+    } else {
+        let fresh = Shape::Using(Use::Reading);
+        grow_by_string(alloc, setting, fresh, place, text, stack)
+    }
+}
+
+// A string.
+fn take_string(
+    alloc: Global,
+    setting: Setting,
+    shape: Shape,
+    place: Place,
+    text: Text,
+    stack: &mut Stack,
+) -> Result<Taken, AllocError>
+    ensures { IfOk result (λ t. Takes (step (state (setting_of setting) (shape_of shape) (frames_in stack.old)) (token place (string_word text))) (state (setting_of setting) (shape_of shape) (frames_in stack.old)) t (frames_in stack.new)) }
+{
+    if shape.is_fresh() {
+        drop(shape);
+        take_fresh_string(alloc, setting, place, text, stack)
+    } else {
+        grow_by_string(alloc, setting, shape, place, text, stack)
+    }
+}
+
+// A word of an operand.
+fn take_term(
+    alloc: Global,
+    setting: Setting,
+    shape: Shape,
+    place: Place,
+    term: Term,
+    stack: &mut Stack,
+) -> Result<Taken, AllocError>
+    requires { IsTrue (is_unopened (shape_of shape)) }
+    ensures { IfOk result (λ t. Takes (step (state (setting_of setting) (shape_of shape) (frames_in stack.old)) (token place (term_of term))) (state (setting_of setting) (shape_of shape) (frames_in stack.old)) t (frames_in stack.new)) }
+{
+    match term {
+        Term::Str(text) => take_string(alloc, setting, shape, place, text, stack),
+        term => take_word(alloc, setting, shape, place, term, stack),
+    }
+}
+
+// A reserved word of an operand that isn't a local label's name.
+fn take_inner_term(
+    alloc: Global,
+    setting: Setting,
+    shape: Shape,
+    place: Place,
+    term: Term,
+    stack: &mut Stack,
+) -> Result<Taken, AllocError>
+    requires unopened { IsTrue (is_unopened (shape_of shape)) }
+    requires inner { is_coloned (shape_of shape) ≡ false }
+    ensures { (n : List ℕ) → IfOk result (λ t. Takes (step (state (setting_of setting) (shape_of shape) (frames_in stack.old)) (token place (reserved n (term_of term)))) (state (setting_of setting) (shape_of shape) (frames_in stack.old)) t (frames_in stack.new)) }
+{
+    if term.is_free() {
+        take_term(alloc, setting, shape, place, term, stack)
+    } else {
+        drop(term);
+        Ok(Taken::Dead(shape))
+    }
+}
+
+// A reserved word that isn't a local label's name.
+fn take_inner(
+    alloc: Global,
+    setting: Setting,
+    shape: Shape,
+    place: Place,
+    word: Reserved,
+    stack: &mut Stack,
+) -> Result<Taken, AllocError>
+    requires ordinary { IsTrue (is_ordinary (shape_of shape)) }
+    requires inner { is_coloned (shape_of shape) ≡ false }
+    ensures { (n : List ℕ) → IfOk result (λ t. Takes (step (state (setting_of setting) (shape_of shape) (frames_in stack.old)) (token place (reserved n (reserved_of word)))) (state (setting_of setting) (shape_of shape) (frames_in stack.old)) t (frames_in stack.new)) }
+{
+    match word {
+        Reserved::Prefix(rank, code) => {
+            prefix(setting, shape, place, Prefix::Unary(rank, code), stack)
+        }
+        Reserved::Infix(rank, code) => infix_word(alloc, setting, shape, place, rank, code, stack),
+        Reserved::Term(term) => take_inner_term(alloc, setting, shape, place, term, stack),
+    }
+}
+
+// A reserved word.
+fn take_reserved(
+    alloc: Global,
+    setting: Setting,
+    shape: Shape,
+    place: Place,
+    name: Text,
+    word: Reserved,
+    stack: &mut Stack,
+) -> Result<Taken, AllocError>
+    requires { IsTrue (is_ordinary (shape_of shape)) }
+    ensures { IfOk result (λ t. Takes (step (state (setting_of setting) (shape_of shape) (frames_in stack.old)) (token place (reserved name (reserved_of word)))) (state (setting_of setting) (shape_of shape) (frames_in stack.old)) t (frames_in stack.new)) }
+{
+    match shape {
+        Shape::Coloned(usage, colon) => {
+            drop(shape);
+            drop(word);
+            let name = growing::label(alloc, name)?;
+            Ok(Taken::On(setting, Shape::Named(usage, false, colon, name)))
+        }
+        other => {
+            drop(name);
+            take_inner(alloc, setting, other, place, word, stack)
+        }
+    }
+}
+
+// The next word of a form that isn't in the first item of `STRING`.
+fn take_plain(
+    alloc: Global,
+    setting: Setting,
+    shape: Shape,
+    place: Place,
+    lexeme: Lexeme,
+    stack: &mut Stack,
+) -> Result<Taken, AllocError>
+    requires { IsTrue (is_ordinary (shape_of shape)) }
+    ensures { IfOk result (λ t. Takes (step (state (setting_of setting) (shape_of shape) (frames_in stack.old)) (token place (lexeme_of lexeme))) (state (setting_of setting) (shape_of shape) (frames_in stack.old)) t (frames_in stack.new)) }
+{
+    match lexeme {
+        Lexeme::Mark(mark) => take_mark(alloc, setting, shape, place, mark, stack),
+        Lexeme::Operator(operator) => {
+            take_operator(alloc, setting, shape, place, operator, stack)
+        }
+        Lexeme::Term(term) => take_term(alloc, setting, shape, place, term, stack),
+        Lexeme::Reserved(name, word) => {
+            take_reserved(alloc, setting, shape, place, name, word, stack)
+        }
+    }
+}
+
+// The first word of the first item of `STRING`, where it is no string.
+fn take_first(
+    alloc: Global,
+    setting: Setting,
+    first: Place,
+    place: Place,
+    lexeme: Lexeme,
+    stack: &mut Stack,
+) -> Result<Taken, AllocError>
+    requires { is_text (lexeme_of lexeme) ≡ false }
+    ensures { IfOk result (λ t. Takes (step (state (setting_of setting) (string_opened first) (frames_in stack.old)) (token place (lexeme_of lexeme))) (state (setting_of setting) (string_opened first) (frames_in stack.old)) t (frames_in stack.new)) }
+{
+    stack.push(Frame::Inside(setting, Hole::FirstItem(first)))?;
+    let fresh = Shape::Using(Use::Reading);
+    let taken = take_plain(alloc, setting.inside(), fresh, place, lexeme, stack)?;
+    match taken {
+        Taken::Dead(shape) => {
+            drop(shape);
+            drop(stack.pop());
+            Ok(Taken::Dead(Shape::StringOpened(first)))
+        }
+        other => Ok(other),
+    }
+}
+
+// A word of an operand after the parenthesis of `STRING`.
+fn take_opened_term(
+    alloc: Global,
+    setting: Setting,
+    first: Place,
+    place: Place,
+    term: Term,
+    stack: &mut Stack,
+) -> Result<Taken, AllocError>
+    ensures { IfOk result (λ t. Takes (step (state (setting_of setting) (string_opened first) (frames_in stack.old)) (token place (term_of term))) (state (setting_of setting) (string_opened first) (frames_in stack.old)) t (frames_in stack.new)) }
+{
+    match term {
+        Term::Str(text) => {
+            take_string(
+                alloc,
+                setting,
+                Shape::StringOpened(first),
+                place,
+                text,
+                stack,
+            )
+        }
+        term => take_first(alloc, setting, first, place, Lexeme::Term(term), stack),
+    }
+}
+
+// After the parenthesis of `STRING`.
+fn take_opened(
+    alloc: Global,
+    setting: Setting,
+    first: Place,
+    place: Place,
+    lexeme: Lexeme,
+    stack: &mut Stack,
+) -> Result<Taken, AllocError>
+    ensures { IfOk result (λ t. Takes (step (state (setting_of setting) (string_opened first) (frames_in stack.old)) (token place (lexeme_of lexeme))) (state (setting_of setting) (string_opened first) (frames_in stack.old)) t (frames_in stack.new)) }
+{
+    match lexeme {
+        Lexeme::Term(term) => take_opened_term(alloc, setting, first, place, term, stack),
+        lexeme => take_first(alloc, setting, first, place, lexeme, stack),
+    }
+}
+
+// The only character of a text.
+fn lone(text: &Text) -> Option<u8>
+    ensures { result ≡ lone text.now }
+{
+    match text.as_slice() {
+        [character] => Some(*character),
+        _ => None,
+    }
+}
+
+// A word after the string of one character that the first item of `STRING` begins with, but for marks and strings.
+fn take_between(
+    alloc: Global,
+    setting: Setting,
+    first: Place,
+    at: Place,
+    text: Text,
+    character: u8,
+    place: Place,
+    lexeme: Lexeme,
+    stack: &mut Stack,
+) -> Result<Taken, AllocError>
+    requires lone { lone text ≡ Some character }
+    requires word { IsTrue (is_word (lexeme_of lexeme)) }
+    ensures { IfOk result (λ t. Takes (step (state (setting_of setting) (string_read first at text) (frames_in stack.old)) (token place (lexeme_of lexeme))) (state (setting_of setting) (string_read first at text) (frames_in stack.old)) t (frames_in stack.new)) }
+{
+    let left = building::number(alloc, at, u32::from(character))?;
+    stack.push(Frame::Inside(setting, Hole::FirstItem(first)))?;
+    let left = Shape::Done(left);
+    let taken = take_plain(alloc, setting.inside(), left, place, lexeme, stack)?;
+    match taken {
+        Taken::Dead(shape) => {
+            drop(shape);
+            drop(stack.pop());
+            Ok(Taken::Dead(Shape::StringRead(first, at, text)))
+        }
+        other => Ok(other),
+    }
+}
+
+// A word after the string that the first item of `STRING` begins with, but for marks and strings.
+fn take_second(
+    alloc: Global,
+    setting: Setting,
+    first: Place,
+    at: Place,
+    text: Text,
+    place: Place,
+    lexeme: Lexeme,
+    stack: &mut Stack,
+) -> Result<Taken, AllocError>
+    requires { IsTrue (is_word (lexeme_of lexeme)) }
+    ensures { IfOk result (λ t. Takes (step (state (setting_of setting) (string_read first at text) (frames_in stack.old)) (token place (lexeme_of lexeme))) (state (setting_of setting) (string_read first at text) (frames_in stack.old)) t (frames_in stack.new)) }
+{
+    match lone(&text) {
+        None => Ok(Taken::Dead(Shape::StringRead(first, at, text))),
+        Some(character) => take_between(
+            alloc, setting, first, at, text, character, place, lexeme, stack,
+        ),
+    }
+}
+
+// After the string that the first item of `STRING` begins with.
+fn take_behind(
+    alloc: Global,
+    setting: Setting,
+    first: Place,
+    at: Place,
+    text: Text,
+    place: Place,
+    lexeme: Lexeme,
+    stack: &mut Stack,
+) -> Result<Taken, AllocError>
+    ensures { IfOk result (λ t. Takes (step (state (setting_of setting) (string_read first at text) (frames_in stack.old)) (token place (lexeme_of lexeme))) (state (setting_of setting) (string_read first at text) (frames_in stack.old)) t (frames_in stack.new)) }
+{
+    match lexeme {
+        Lexeme::Mark(mark) => {
+            let shape = Shape::StringRead(first, at, text);
+            take_mark(alloc, setting, shape, place, mark, stack)
+        }
+        Lexeme::Term(term) => {
+            let shape = Shape::StringRead(first, at, text);
+            take_term(alloc, setting, shape, place, term, stack)
+        }
+        lexeme => take_second(alloc, setting, first, at, text, place, lexeme, stack),
     }
 }
 
@@ -353,12 +708,15 @@ pub fn take(
 ) -> Result<Taken, AllocError>
     ensures { IfOk result (λ t. Takes (step (state (setting_of setting) (shape_of shape) (frames_in stack.old)) (token place (lexeme_of lexeme))) (state (setting_of setting) (shape_of shape) (frames_in stack.old)) t (frames_in stack.new)) }
 {
-    match lexeme {
-        Lexeme::Mark(mark) => take_mark(alloc, setting, shape, place, mark, stack),
-        Lexeme::Operator(operator) => {
-            take_operator(alloc, setting, shape, place, operator, stack)
+    match shape {
+        Shape::StringOpened(first) => {
+            drop(shape);
+            take_opened(alloc, setting, first, place, lexeme, stack)
         }
-        Lexeme::Term(term) => take_term(alloc, setting, shape, place, term, stack),
+        Shape::StringRead(first, at, text) => {
+            take_behind(alloc, setting, first, at, text, place, lexeme, stack)
+        }
+        shape => take_plain(alloc, setting, shape, place, lexeme, stack),
     }
 }
 

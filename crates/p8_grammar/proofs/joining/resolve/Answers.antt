@@ -1,10 +1,10 @@
-use Rattle.std.proofs.Common.{sym, ap, ◌∙◌}
+use Rattle.std.proofs.Common.{sym, ap}
 use Rattle.p8_grammar.specs.Lexemes.{token}
-use Rattle.p8_grammar.specs.Machine.{fresh, step, grow}
-use Rattle.p8_grammar.specs.Views.{setting_of, target_of, lexeme_of, term_of}
+use Rattle.p8_grammar.specs.Machine.{step}
+use Rattle.p8_grammar.specs.Views.{lexeme_of}
 use Rattle.p8_grammar.specs.Levels.{frames_in, joined_at}
-use Rattle.p8_grammar.proofs.Resolving.{term_begins, resolves_too}
+use Rattle.p8_grammar.proofs.Resolving.{resolves_too}
 use Rattle.p8_grammar.proofs.joining.resolve.Goals as goal
 
-pub returns-in-Ok : goal.returns-in-Ok
-returns-in-Ok c = resolves_too c.begin.result _ _ (joined_at c.args.setting c.args.joined (frames_in c.args.stack.now)) c.args.setting (frames_in c.begin.new.stack) (term_begins (setting_of c.args.setting) c.args.joined.lower c.args.joined.code c.args.joined.place (target_of c.args.joined.variable) (frames_in c.args.stack.now) c.args.place c.in-Term.term (sym c.if-is_value.ensures) ∙ ap (λ l. step (joined_at c.args.setting c.args.joined (frames_in c.args.stack.now)) (token c.args.place (lexeme_of l))) (sym c.in-Term.is)) (c.begin.ensures (grow (setting_of c.args.setting) fresh c.args.place (term_of c.in-Term.term)) c.in-Ok.ensures)
+pub returns-in-Reserved : goal.returns-in-Reserved
+returns-in-Reserved c = resolves_too c.resolve_reserved.result _ _ (joined_at c.args.setting c.args.joined (frames_in c.args.stack.now)) c.args.setting (frames_in c.resolve_reserved.new.stack) (ap (λ l. step (joined_at c.args.setting c.args.joined (frames_in c.args.stack.now)) (token c.args.place (lexeme_of l))) (sym c.in-Reserved.is)) (c.resolve_reserved.ensures c.in-Reserved.name)

@@ -14,4 +14,4 @@ returns-in_ok-push-in-Opens c = opened_step (setting_of c.args.setting) _ (shape
 pub returns-in-Same : goal.returns-in-Same
 returns-in-Same c =
     let g = grows_same (on_mark (setting_of c.args.setting) c.args.place (mark_of c.args.mark) (shape_of c.args.shape)) (shape_of c.args.shape) c.in_ok-shape.field-0 c.in-Same.shape c.in_ok-shape.ensures c.in-Same.is in
-    mark_same (setting_of c.args.setting) (shape_of c.args.shape) (shape_of c.in-Same.shape) (frames_in c.args.stack.now) (frames_in c.mark_after.new.stack) c.args.place (mark_of c.args.mark) c.mark_after.result g.0 g.1 c.mark_after.ensures
+    mark_same (setting_of c.args.setting) (shape_of c.args.shape) (shape_of c.in-Same.shape) (frames_in c.args.stack.now) (frames_in c.mark_after.new.stack) c.args.place (mark_of c.args.mark) c.mark_after.result c.requires g.0 g.1 c.mark_after.ensures
