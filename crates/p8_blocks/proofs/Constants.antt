@@ -73,11 +73,11 @@ keeps q ps h = absurd cc
 
 pub from_head : HaveValues constants_of_row state.ConHead
 from_head row ts r =
-    let x : Has (constants_of_row row) = holds part_of_piece Each each own closed Goal refl keeps r refl in
+    let x : Has (constants_of_row row) = holds part_of_piece Each each own closed (refl, refl) Goal refl keeps r refl in
     (x.value, x.is)
 
 pub from_item : HaveValues constants_of_row state.ConItem
 from_item row ts r =
-    let x = holds part_of_piece Each each own closed Goal refl keeps r refl in
+    let x = holds part_of_piece Each each own closed (refl, refl) Goal refl keeps r refl in
     let y : Has (constants_of_row row) = x.1 in
     (y.value, y.is)

@@ -17,12 +17,13 @@ use Rattle.p8_declarations.specs.Lines.{local, label}
 pub record Facts : Type 1 where
   pub IsValue : Setting → Tree → Type 0
   pub IsName : List ℕ → Type 0
+  pub IsWord : List ℕ → Type 0
   pub IsText : List ℕ → Type 0
   pub of_text : (t : List ℕ) (p : Place) → IsText t → IsValue in_data_item (node p (Str t))
 
 pub data IsLabel (F : Facts) : List ℕ → Type 0 where
   plain : {n : List ℕ} → F.IsName n → IsLabel F n
-  behind_colon : {n : List ℕ} → F.IsName n → IsLabel F (local n)
+  behind_colon : {n : List ℕ} → F.IsWord n → IsLabel F (local n)
 
 -- BYTE, WORD or LONG
 pub data IsSize : ℕ → Type 0 where

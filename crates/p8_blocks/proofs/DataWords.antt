@@ -1,13 +1,13 @@
 -- What a token of each arrow is to the lines of DAT, and what holds of each line from a state on, where it holds at the
 -- line's end and each arrow keeps it.
 use Rattle.std.proofs.Common.{◌≡◌, ℕ, List, [], ◌∷◌, map, Option, Some, None, Bool, true, false, refl, sym, ap, ◌∙◌, subst}
-use Rattle.std.specs.Prelude.{IsTrue, if◌then◌else◌, option_map}
+use Rattle.std.specs.Prelude.{IsTrue, if◌then◌else◌, option_map, unwrap_or}
 use Rattle.p8_tree.specs.declared.places.Place.{Place}
 use Rattle.p8_tree.specs.Expressions.{Tree}
 use Rattle.p8_lexer.specs.declared.word.Word.{Word}
 use Rattle.p8_lexer.specs.declared.word.Word.TheVariants as word
 use Rattle.p8_lexer.specs.Words.{capital}
-use Rattle.p8_grammar.specs.Lexemes.{Setting}
+use Rattle.p8_grammar.specs.Lexemes.{Setting, name_in}
 use Rattle.p8_expr.specs.Words.{between_quotes}
 use Rattle.p8_lexer.specs.Pieces as pieces
 use Rattle.p8_lexer.specs.Pieces.{Piece}
@@ -19,12 +19,13 @@ use Rattle.p8_lines.specs.declared.state.State.TheVariants as state
 use Rattle.p8_lines.specs.Signs.{Matches, is_size, is_condition, takes_two, is_on_memory, takes_one, is_flag, is_write}
 use Rattle.p8_lines.specs.Diagram.{Phrase, choices}
 use Rattle.p8_lines.specs.Tokens as tokens
-use Rattle.p8_lines.specs.Tokens.{LineToken, string_length, piece}
-use Rattle.p8_lines.specs.Lines.{Follows, here, further, is_name, behind, Row, over, token, phrase}
+use Rattle.p8_lines.specs.Tokens.{LineToken, lexeme, string_length, piece}
+use Rattle.p8_lines.specs.Lines.{Follows, here, further, is_name, behind, piece_in, Row, over, token, phrase}
 use Rattle.p8_lines.proofs.Lexemes.{is_plain}
-use Rattle.p8_declarations.specs.DataParts.{Part, line_end, colon, comma, hash, left_bracket, right_bracket, size, org, res, fit, condition, effect, jump, other, name, text, tree, part_of_word, part_of_piece}
+use Rattle.p8_lines.proofs.Arrows.{all_good, all_good_behind}
+use Rattle.p8_declarations.specs.DataParts.{Part, line_end, colon, comma, hash, left_bracket, right_bracket, size, org, res, fit, condition, effect, jump, other, name, behind_colon, text, tree, part_of_word, part_of_piece}
 use Rattle.p8_blocks.proofs.Closed.{is_closed, halves, own_next, own_behind}
-use Rattle.p8_blocks.proofs.Pieces.{word_piece, name_piece, text_piece}
+use Rattle.p8_blocks.proofs.Pieces.{word_piece, name_piece, text_piece, is_labelled, plain_piece}
 use Rattle.p8_blocks.proofs.DataMade.{Facts, IsSize, byte_size, word_size, long_size, condition_number}
 
 -- a row has a value of which this holds
@@ -46,6 +47,7 @@ got {P = P} {v = v} h e = let same : h.value ≡ v = (let z = sym h.is ∙ e in 
 abbrev pub IsKnown : Facts → Piece → Type 0
 IsKnown F (pieces.word w p) = Unit {0}
 IsKnown F (pieces.name n p) = F.IsName n
+IsKnown F (pieces.label n p) = F.IsWord n
 IsKnown F (pieces.text t p) = F.IsText t
 IsKnown F (pieces.tree e p) = (s : Setting) → F.IsValue s e
 
@@ -69,6 +71,7 @@ Each F (sign.Word word.Call) R = (p : Place) → R (other word.Call p)
 Each F (sign.Word word.Ret) R = (p : Place) → R (other word.Ret p)
 Each F (sign.Word word.Nop) R = (p : Place) → R (other word.Nop p)
 Each F (sign.Word word.Name) R = (n : List ℕ) (p : Place) → F.IsName n → R (name n p)
+Each F sign.Label R = (n : List ℕ) (p : Place) → F.IsWord n → R (behind_colon n p)
 Each F sign.Size R = (n : ℕ) (p : Place) → IsSize n → R (size n p)
 Each F sign.LongText R = (t : List ℕ) (p : Place) → F.IsText t → R (text t p)
 Each F sign.Condition R = (w : Word) → IsTrue (is_condition w) → R (condition (condition_number w))
@@ -236,17 +239,23 @@ write_set F R t word.Wr m h y = subst R (sym (plain_part t word.Wr refl m)) y.0
 write_set F R t word.Nr m h y = subst R (sym (plain_part t word.Nr refl m)) y.1
 write_set F R t w m h y = absurd cc
 
-each : (F : Facts) (s : Sign) (R : Part → Type 0) (t : LineToken) → Matches s (tokens.word t) (string_length t) → IsKnown F (piece t) → Each F s R → R (part_of_piece (piece t))
-each F (sign.Word w) R t m s y = plain_each F w R t m s y
-each F sign.Size R t m s y = sized F R t (tokens.word t) refl m y
-each F sign.LongText R t m s y = subst R (sym (text_part t m.0)) (y (between_quotes t.text) t.place (subst (IsKnown F) (text_piece t m.0) s))
-each F sign.Condition R t m s y = subst R (sym (condition_part t (tokens.word t) refl m)) (y (tokens.word t) m)
-each F sign.TwoOperands R t m s y = subst R (sym (two_part t (tokens.word t) refl m)) (y (tokens.word t) t.place m)
-each F sign.Memory R t m s y = subst R (sym (memory_part t (tokens.word t) refl m)) (y (tokens.word t) t.place m)
-each F sign.OneOperand R t m s y = subst R (sym (one_part t (tokens.word t) refl m)) (y (tokens.word t) t.place m)
-each F sign.Flag R t m s y = flagged F R t (tokens.word t) refl m y
-each F sign.Write R t m s y = write_set F R t (tokens.word t) refl m y
-each F x R t m s y = y (part_of_piece (piece t))
+-- only at two states a local label's name stands
+abbrev is_unlabelled : Sign → Bool
+is_unlabelled sign.Label = false
+is_unlabelled s = true
+
+each : (F : Facts) (s : Sign) (R : Part → Type 0) (t : LineToken) → IsTrue (is_unlabelled s) → Matches s (tokens.word t) (string_length t) → IsKnown F (piece t) → Each F s R → R (part_of_piece (piece t))
+each F sign.Label R t u m s y = absurd cc
+each F (sign.Word w) R t u m s y = plain_each F w R t m s y
+each F sign.Size R t u m s y = sized F R t (tokens.word t) refl m y
+each F sign.LongText R t u m s y = subst R (sym (text_part t m.0)) (y (between_quotes t.text) t.place (subst (IsKnown F) (text_piece t m.0) s))
+each F sign.Condition R t u m s y = subst R (sym (condition_part t (tokens.word t) refl m)) (y (tokens.word t) m)
+each F sign.TwoOperands R t u m s y = subst R (sym (two_part t (tokens.word t) refl m)) (y (tokens.word t) t.place m)
+each F sign.Memory R t u m s y = subst R (sym (memory_part t (tokens.word t) refl m)) (y (tokens.word t) t.place m)
+each F sign.OneOperand R t u m s y = subst R (sym (one_part t (tokens.word t) refl m)) (y (tokens.word t) t.place m)
+each F sign.Flag R t u m s y = flagged F R t (tokens.word t) refl m y
+each F sign.Write R t u m s y = write_set F R t (tokens.word t) refl m y
+each F x R t u m s y = y (part_of_piece (piece t))
 
 -- what arrows owe, and what a state does
 
@@ -264,21 +273,62 @@ pub record Keeps (F : Facts) (Goal : State → List Part → Type 0) (q : State)
   pub arrows : Owes F Goal ps (λ x. Goal q (x ∷ ps)) (choices q).arrows
   pub phrase : OwesBehind F Goal q ps (choices q).phrase
 
-by_arrow : (F : Facts) (Goal : State → List Part → Type 0) (ps : List Part) (R : Part → Type 0) {l : List Arrow} {t : LineToken} {r : State} → Follows l t r → IsKnown F (piece t) → Owes F Goal ps R l → Goal r ps → R (part_of_piece (piece t))
-by_arrow F Goal ps R (here {a = a} {t = t} is) s owes y = each F a.sign R t is s (owes.0 y)
-by_arrow F Goal ps R (further n f) s owes y = by_arrow F Goal ps R f s owes.1 y
+by_arrow : (F : Facts) (Goal : State → List Part → Type 0) (ps : List Part) (R : Part → Type 0) {l : List Arrow} {t : LineToken} {r : State} → Follows l t r → IsTrue (all_good (λ a. is_unlabelled a.sign) l) → IsKnown F (piece t) → Owes F Goal ps R l → Goal r ps → R (part_of_piece (piece t))
+by_arrow F Goal ps R (here {a = a} {others = others} {t = t} is) g s owes y = each F a.sign R t (halves (is_unlabelled a.sign) (all_good (λ a. is_unlabelled a.sign) others) g).0 is s (owes.0 y)
+by_arrow F Goal ps R (further {a = a} {others = others} n f) g s owes y = by_arrow F Goal ps R f (halves (is_unlabelled a.sign) (all_good (λ a. is_unlabelled a.sign) others) g).1 s owes.1 y
 
 pick : (F : Facts) (Goal : State → List Part → Type 0) (ps : List Part) (R : Part → Type 0) (h : Phrase) (b : Bool) → Owes F Goal ps R h.behind_name → Owes F Goal ps R h.behind_other → Owes F Goal ps R (if b then h.behind_name else h.behind_other)
 pick F Goal ps R h true x y = x
 pick F Goal ps R h false x y = y
 
-behind_phrase : (F : Facts) (Goal : State → List Part → Type 0) (q : State) (ps : List Part) (h : Phrase) (us : List LineToken) {t : LineToken} {r : State} → Follows (behind h us) t r → IsKnown F (piece t) → OwesBehind F Goal q ps (Some h) → Goal r ps → (e : Tree) (p : Place) → F.IsValue h.setting e → Goal q (tree e p ∷ part_of_piece (piece t) ∷ ps)
-behind_phrase F Goal q ps h us f s owes y = by_arrow F Goal ps (λ x. (e : Tree) (p : Place) → F.IsValue h.setting e → Goal q (tree e p ∷ x ∷ ps)) f s (pick F Goal ps (λ x. (e : Tree) (p : Place) → F.IsValue h.setting e → Goal q (tree e p ∷ x ∷ ps)) h (is_name us) owes.0 owes.1) y
+behind_phrase : (F : Facts) (Goal : State → List Part → Type 0) (q : State) (ps : List Part) (h : Phrase) (us : List LineToken) {t : LineToken} {r : State} → Follows (behind h us) t r → IsTrue (all_good_behind (λ a. is_unlabelled a.sign) h) → IsKnown F (piece t) → OwesBehind F Goal q ps (Some h) → Goal r ps → (e : Tree) (p : Place) → F.IsValue h.setting e → Goal q (tree e p ∷ part_of_piece (piece t) ∷ ps)
+behind_phrase F Goal q ps h us f g s owes y = by_arrow F Goal ps (λ x. (e : Tree) (p : Place) → F.IsValue h.setting e → Goal q (tree e p ∷ x ∷ ps)) f (either (is_name us) (halves (all_good (λ a. is_unlabelled a.sign) h.behind_name) (all_good (λ a. is_unlabelled a.sign) h.behind_other) g)) s (pick F Goal ps (λ x. (e : Tree) (p : Place) → F.IsValue h.setting e → Goal q (tree e p ∷ x ∷ ps)) h (is_name us) owes.0 owes.1) y
+  where
+    either : (b : Bool) → (all_good (λ a. is_unlabelled a.sign) h.behind_name ≡ true) × (all_good (λ a. is_unlabelled a.sign) h.behind_other ≡ true) → IsTrue (all_good (λ a. is_unlabelled a.sign) (if b then h.behind_name else h.behind_other))
+    either true x = x.0
+    either false x = x.1
+
+-- where a local label's name stands, and where none does
+
+unlabelled_arrows : (q : State) → is_labelled q ≡ false → IsTrue (all_good (λ a. is_unlabelled a.sign) (choices q).arrows)
+unlabelled_arrows state.DatLabel h = absurd cc
+unlabelled_arrows state.CallLocal h = absurd cc
+unlabelled_arrows q h = refl
+
+abbrev unlabelled_behind : Option Phrase → Bool
+unlabelled_behind None = true
+unlabelled_behind (Some h) = all_good_behind (λ a. is_unlabelled a.sign) h
+
+unlabelled_phrases : (q : State) → IsTrue (unlabelled_behind (choices q).phrase)
+unlabelled_phrases state.End = refl
+unlabelled_phrases q = refl
+
+no_more : {l : List Arrow} {t : LineToken} {r : State} → Follows l t r → l ≡ [] → ⊥
+no_more (here x) e = absurd cc
+no_more (further x f) e = absurd cc
+
+by_label : (F : Facts) (Goal : State → List Part → Type 0) (ps : List Part) (R : Part → Type 0) (n : List ℕ) {a : Arrow} {t : LineToken} {r : State} → Follows (a ∷ []) t r → F.IsWord n → (Goal a.to ps → (n : List ℕ) (p : Place) → F.IsWord n → R (behind_colon n p)) → Goal r ps → R (behind_colon n t.place)
+by_label F Goal ps R n (here {t = t} is) s owes y = owes y n t.place s
+by_label F Goal ps R n (further x f) s owes y = absurd (no_more f refl)
+
+label_row : (F : Facts) (Goal : State → List Part → Type 0) (ps : List Part) (q r : State) (t : LineToken) → is_labelled q ≡ true → Follows (choices q).arrows t r → IsKnown F (piece_in q t) → Owes F Goal ps (λ x. Goal q (x ∷ ps)) (choices q).arrows → Goal r ps → Goal q (part_of_piece (piece_in q t) ∷ ps)
+label_row F Goal ps state.DatLabel r t h f s owes y = by_label F Goal ps (λ x. Goal state.DatLabel (x ∷ ps)) (unwrap_or (name_in (lexeme t)) []) f s owes.0 y
+label_row F Goal ps state.CallLocal r t h f s owes y = by_label F Goal ps (λ x. Goal state.CallLocal (x ∷ ps)) (unwrap_or (name_in (lexeme t)) []) f s owes.0 y
+label_row F Goal ps q r t h f s owes y = absurd cc
+
+token_row : (F : Facts) (Goal : State → List Part → Type 0) (ps : List Part) (q r : State) (t : LineToken) → Follows (choices q).arrows t r → IsKnown F (piece_in q t) → Owes F Goal ps (λ x. Goal q (x ∷ ps)) (choices q).arrows → Goal r ps → Goal q (part_of_piece (piece_in q t) ∷ ps)
+token_row F Goal ps q r t f s owes y = go (is_labelled q) refl
+  where
+    go : (b : Bool) → is_labelled q ≡ b → Goal q (part_of_piece (piece_in q t) ∷ ps)
+    go true e = label_row F Goal ps q r t e f s owes y
+    go false e =
+        let same = plain_piece q t e in
+        subst (λ x. Goal q (part_of_piece x ∷ ps)) (sym same) (by_arrow F Goal ps (λ x. Goal q (x ∷ ps)) f (unlabelled_arrows q e) (subst (IsKnown F) same s) owes y)
 
 module _ (F : Facts) (own : State → Bool) (closed : (q : State) → IsTrue (is_closed own q)) (Goal : State → List Part → Type 0) (at_end : Goal state.End []) (keeps : (q : State) (ps : List Part) → IsTrue (own q) → Keeps F Goal q ps) where
   pub holds : {q : State} {row : List Piece} {ts : List LineToken} → Row q row ts → AreKnown F row → IsTrue (own q) → Goal q (map part_of_piece row)
   holds over a h = at_end
   holds (token {q = q} {r = r} {row = row} {t = t} f y) a h =
-      by_arrow F Goal (map part_of_piece row) (λ x. Goal q (x ∷ map part_of_piece row)) f a.0 ((keeps q (map part_of_piece row) h).arrows) (holds y a.1 (own_next own closed q r t f h))
+      token_row F Goal (map part_of_piece row) q r t f a.0 ((keeps q (map part_of_piece row) h).arrows) (holds y a.1 (own_next own closed q r t f h))
   holds (phrase {q = q} {r = r} {h = p} {e = e} {row = row} {first = first} {t = t} others some is f y) a h =
-      behind_phrase F Goal q (map part_of_piece row) p (first ∷ others) f a.1.0 (subst (λ o. OwesBehind F Goal q (map part_of_piece row) o) some ((keeps q (map part_of_piece row) h).phrase)) (holds y a.1.1 (own_behind own closed q r p (first ∷ others) t some f h)) e first.place (a.0 p.setting)
+      behind_phrase F Goal q (map part_of_piece row) p (first ∷ others) f (subst (λ o. IsTrue (unlabelled_behind o)) some (unlabelled_phrases q)) a.1.0 (subst (λ o. OwesBehind F Goal q (map part_of_piece row) o) some ((keeps q (map part_of_piece row) h).phrase)) (holds y a.1.1 (own_behind own closed q r p (first ∷ others) t some f h)) e first.place (a.0 p.setting)

@@ -3,9 +3,10 @@ use Rattle.std.proofs.Common.{◌≡◌, ℕ, List, [], ◌∷◌, Some, None, B
 use Rattle.std.specs.Prelude.{IsTrue, ◌≢◌, if◌then◌else◌, option_and_then}
 use Rattle.p8_lexer.specs.declared.word.Word.{Word}
 use Rattle.p8_lexer.specs.declared.word.Word.TheVariants as word_case
-use Rattle.p8_grammar.specs.Lexemes.{Setting, other, token}
+use Rattle.p8_grammar.specs.Lexemes.{Setting}
 use Rattle.p8_grammar.specs.Grammar.{IsFront}
-use Rattle.p8_grammar.specs.Machine.{step, walk, start}
+use Rattle.p8_grammar.specs.Machine.{fresh, step, walk, start}
+use Rattle.p8_grammar.proofs.Labels.{other_step}
 use Rattle.p8_grammar.proofs.Live.{dead}
 use Rattle.p8_expr.specs.Words.{lexeme_of_word}
 use Rattle.p8_lexer.specs.Pieces.{Piece}
@@ -19,11 +20,12 @@ use Rattle.p8_lines.specs.Tokens.{LineToken, word, lexeme, term, string_length}
 use Rattle.p8_lines.specs.Lines as line_specs
 use Rattle.p8_lines.specs.Lines.{Follows, Row, over}
 use Rattle.p8_lines.proofs.Arrows.{all_good, taken}
-use Rattle.p8_lines.proofs.Lexemes.{plain_lexeme}
+use Rattle.p8_lines.proofs.Lexemes.{IsOther, other_word}
 use Rattle.p8_lines.proofs.Ways.{begins}
 use Rattle.p8_blocks.specs.Values.{begins_line}
 use Rattle.p8_blocks.specs.Reading.{is_block_word}
 use Rattle.p8_blocks.specs.Files.{is_chain_word, is_loop_end_word}
+use Rattle.p8_blocks.proofs.Inside.{other_plain}
 
 -- The first token of a line takes an arrow, or begins an expression.
 pub data Taken (q : State) (t : LineToken) : Type 0 where
@@ -117,20 +119,20 @@ sign_inside x v n m h = absurd cc
 
 -- nor begins one of them an expression
 
-apart_lexeme : (t : LineToken) (w : Word) → word t ≡ w → IsTrue (is_apart w) → lexeme t ≡ other
+apart_lexeme : (t : LineToken) (w : Word) → word t ≡ w → IsTrue (is_apart w) → IsOther (lexeme t)
 unfolding lexeme_of_word
-apart_lexeme t word_case.LineEnd e h = plain_lexeme t word_case.LineEnd refl e
-apart_lexeme t word_case.Con e h = plain_lexeme t word_case.Con refl e
-apart_lexeme t word_case.Var e h = plain_lexeme t word_case.Var refl e
-apart_lexeme t word_case.Obj e h = plain_lexeme t word_case.Obj refl e
-apart_lexeme t word_case.Pub e h = plain_lexeme t word_case.Pub refl e
-apart_lexeme t word_case.Pri e h = plain_lexeme t word_case.Pri refl e
-apart_lexeme t word_case.Dat e h = plain_lexeme t word_case.Dat refl e
-apart_lexeme t word_case.Else e h = plain_lexeme t word_case.Else refl e
-apart_lexeme t word_case.Elseif e h = plain_lexeme t word_case.Elseif refl e
-apart_lexeme t word_case.Elseifnot e h = plain_lexeme t word_case.Elseifnot refl e
-apart_lexeme t word_case.While e h = plain_lexeme t word_case.While refl e
-apart_lexeme t word_case.Until e h = plain_lexeme t word_case.Until refl e
+apart_lexeme t word_case.LineEnd e h = other_word t word_case.LineEnd refl refl e
+apart_lexeme t word_case.Con e h = other_word t word_case.Con refl refl e
+apart_lexeme t word_case.Var e h = other_word t word_case.Var refl refl e
+apart_lexeme t word_case.Obj e h = other_word t word_case.Obj refl refl e
+apart_lexeme t word_case.Pub e h = other_word t word_case.Pub refl refl e
+apart_lexeme t word_case.Pri e h = other_word t word_case.Pri refl refl e
+apart_lexeme t word_case.Dat e h = other_word t word_case.Dat refl refl e
+apart_lexeme t word_case.Else e h = other_word t word_case.Else refl refl e
+apart_lexeme t word_case.Elseif e h = other_word t word_case.Elseif refl refl e
+apart_lexeme t word_case.Elseifnot e h = other_word t word_case.Elseifnot refl refl e
+apart_lexeme t word_case.While e h = other_word t word_case.While refl refl e
+apart_lexeme t word_case.Until e h = other_word t word_case.Until refl refl e
 apart_lexeme t w e h = absurd cc
 
 front_inside : (s : Setting) (t : LineToken) → IsFront s (term t ∷ []) → is_apart (word t) ≡ false
@@ -139,7 +141,7 @@ front_inside s t f = go (is_apart (word t)) refl
     go : (b : Bool) → is_apart (word t) ≡ b → b ≡ false
     go false e = refl
     go true e =
-        let none : step (start s) (term t) ≡ None = ap (λ x. step (start s) (token t.place x)) (apart_lexeme t (word t) refl e) in
+        let none : step (start s) (term t) ≡ None = other_step s fresh [] t.place (lexeme t) (other_plain (apart_lexeme t (word t) refl e)) refl in
         absurd (dead s (term t ∷ []) (ap (λ o. option_and_then (λ st. walk st []) o) none) f)
 
 -- the states from which lines are read that begin with none of them

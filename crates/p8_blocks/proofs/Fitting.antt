@@ -1,4 +1,5 @@
 -- What begins a file within the limits, and the line at hand after some lines.
+use Rattle.std.specs.Prelude.{◌&&◌}
 use Rattle.std.proofs.Common.{◌≡◌, ℕ, List, [], ◌∷◌, ◌++◌, Option, Bool, false, refl, sym, ap, ◌∙◌, subst, append_assoc, append-nil}
 use Rattle.p8_tree.specs.declared.places.Place.{Place}
 use Rattle.p8_tree.specs.Sources.{Source}
@@ -6,7 +7,7 @@ use Rattle.p8_lexer.specs.declared.word.Word.{Word}
 use Rattle.p8_lexer.specs.declared.word.Word.TheVariants as word_case
 use Rattle.p8_tree.specs.declared.refusal.Refusal.TheVariants.{TooNested}
 use Rattle.p8_tree.specs.Refusals.{refusal_number}
-use Rattle.p8_grammar.specs.Lexemes.{in_declaration}
+use Rattle.p8_grammar.specs.Lexemes.{in_declaration, is_dat}
 use Rattle.p8_columns.specs.Lines as lines
 use Rattle.p8_lexer.specs.Pieces.{Piece}
 use Rattle.p8_lines.specs.declared.state.State.{State}
@@ -32,7 +33,9 @@ use Rattle.p8_blocks.proofs.Stopping.{AllValues, row_stops, walk_file, walk_begi
 use Rattle.p8_blocks.proofs.Lows.{LowLine, HighAt}
 use Rattle.p8_blocks.proofs.Ending.{method_walk}
 use Rattle.p8_blocks.proofs.Prefixes.{none_first}
-use Rattle.p8_blocks.proofs.Settings.{setting_append, part_setting, walk_setting, begun_setting}
+use Rattle.p8_blocks.proofs.Settings.{setting_append, part_setting, walk_setting, walk_colon, begun_setting}
+use Rattle.p8_blocks.proofs.Inside.{colon_after}
+use Rattle.p8_blocks.proofs.Pieces.{is_labelled}
 
 -- lines within the limits
 
@@ -76,7 +79,8 @@ pub record AtHand (x : Progress) (pre : List LineToken) (q : State) (So : List L
   pub completes : (row : List Piece) (us : List LineToken) → Row q row us → So us → (y : Progress) × Line any_height x (pre ++ us) y
   pub fits : (row : List Piece) (us : List LineToken) → Leads q us row state.End → So us → (y : Progress) × Line within_limits x (pre ++ us) y × AllShallow y.0
   pub again : (b : Option Place) → is_begun b ≡ x.1 → (us : List LineToken) (p : Place) → So us → Reads q us (refused (refusal_number TooNested) p) → (n : ℕ) × (o : Place) × Fails (at x.0 b) (pre ++ us) n o
-  pub setting : setting_from (part_setting x.0) pre ≡ setting_at q
+  pub setting : (c : Bool) → (is_dat (part_setting x.0) && c) ≡ false → setting_from (part_setting x.0) c pre ≡ setting_at q
+  pub plain : is_labelled q ≡ false
 
 module _ (all : AllValues) where
   walk_fits : {x : Progress} {ts : List LineToken} → Walk within_limits x ts → AllShallow x.0 → (s : Source) × IsFileWithinLimits s ts
@@ -155,11 +159,11 @@ module _ (all : AllValues) where
 
     pub settings : (vs : List LineToken) → line_specs.Begins q vs → setting_behind (ts ++ (pre ++ vs)) ≡ setting_at q
     settings vs b =
-        setting_append in_declaration ts (pre ++ vs)
-        ∙ ap (λ s. setting_from s (pre ++ vs)) (walk_setting all (walk_any within_limits w))
-        ∙ setting_append (part_setting x.0) pre vs
-        ∙ begun_setting (setting_from (part_setting x.0) pre) vs b
-        ∙ a.setting
+        setting_append in_declaration false ts (pre ++ vs)
+        ∙ ap (λ s. setting_from s (colon_after false ts) (pre ++ vs)) (walk_setting all (walk_any within_limits w))
+        ∙ setting_append (part_setting x.0) (colon_after false ts) pre vs
+        ∙ ap (λ s. setting_from s (colon_after (colon_after false ts) pre) vs) (a.setting (colon_after false ts) (walk_colon all (walk_any within_limits w)))
+        ∙ begun_setting (colon_after (colon_after false ts) pre) vs a.plain b
 
     -- a token that can't stand in the line
     pub stopped_so : (vs : List LineToken) (u : LineToken) (rest us : List LineToken) → us ≡ vs ++ u ∷ rest → line_specs.Begins q vs → ((row : List Piece) → ¬ Row q row vs) → ¬ line_specs.Begins q (vs ++ u ∷ []) → ((rest : List LineToken) → So (vs ++ u ∷ rest)) → BeginsWithinLimits (ts ++ (pre ++ vs)) → ((ls : List lines.Line) (b : Bool) → ¬ EndsInMethod (ts ++ (pre ++ vs)) ls b) → IsRefused (ts ++ (pre ++ us)) (number_of (setting_at q) (word u)) u.place

@@ -5,7 +5,7 @@ use Rattle.p8_tree.specs.declared.places.Place.{Place}
 use Rattle.p8_tree.specs.Expressions.{Tree, node, Var, Named, no_index}
 use Rattle.p8_grammar.specs.Lexemes as lexemes
 use Rattle.p8_grammar.specs.Lexemes.{Setting, Lexeme, is_value}
-use Rattle.p8_grammar.specs.Grammar.{IsExpression, operand, variable, named, plain_name, result_word, result_name, nothing, a_word}
+use Rattle.p8_grammar.specs.Grammar.{IsExpression, operand, variable, named, plain_name, result_word, result_name, nothing, a_word, a_reserved_word}
 use Rattle.p8_grammar.proofs.Live.{one_tree}
 use Rattle.p8_lexer.specs.Pieces.{Piece, tree}
 use Rattle.p8_lines.specs.declared.sign.Sign.{Sign}
@@ -19,6 +19,7 @@ use Rattle.p8_lines.specs.Tokens.{LineToken, lexeme, terms, string_length, piece
 use Rattle.p8_lines.specs.Lines.{Follows, here, further, is_name_word, is_name, behind, Row, over, token, phrase}
 use Rattle.p8_statements.specs.Statements.{counter}
 use Rattle.p8_blocks.proofs.Closed.{is_closed, own_next, own_behind}
+use Rattle.p8_blocks.proofs.Pieces.{is_named, unnamed, own_piece}
 
 -- a row has a value
 pub record Has {V : Type 0} (o : Option V) : Type 0 where
@@ -32,10 +33,12 @@ pub mapped : {A B : Type 0} (f : A → B) {o : Option A} → Has o → Has (opti
 mapped f h = subst (λ o. Has (option_map f o)) (sym h.is) (found (f h.value))
 
 -- an expression of one name is a counter
-name_tree : (s : Setting) (p : Place) (x : Lexeme) (e : Tree) → IsTrue (is_value s) → IsTrue (is_name_word x) → IsExpression s e (lexemes.token p x ∷ []) → Has (counter e)
-name_tree s p (lexemes.name n) e v h r = subst (λ e. Has (counter e)) (one_tree s (lexemes.token p (lexemes.name n) ∷ []) (node p (Var (Named n no_index p))) e (operand (variable v (named plain_name)) (a_word nothing)) r) (found (n, p))
-name_tree s p lexemes.method_result e v h r = subst (λ e. Has (counter e)) (one_tree s (lexemes.token p lexemes.method_result ∷ []) (node p (Var (Named result_name no_index p))) e (operand (variable v (named result_word)) (a_word nothing)) r) (found (result_name, p))
-name_tree s p x e v h r = absurd cc
+name_tree : (s : Setting) (p : Place) (x : Lexeme) (e : Tree) → IsTrue (is_value s) → is_named x ≡ false → IsTrue (is_name_word x) → IsExpression s e (lexemes.token p x ∷ []) → Has (counter e)
+name_tree s p (lexemes.name n) e v u h r = subst (λ e. Has (counter e)) (one_tree s (lexemes.token p (lexemes.name n) ∷ []) (node p (Var (Named n no_index p))) e (operand (variable v (named plain_name)) (a_word nothing)) r) (found (n, p))
+name_tree s p lexemes.method_result e v u h r = subst (λ e. Has (counter e)) (one_tree s (lexemes.token p lexemes.method_result ∷ []) (node p (Var (Named result_name no_index p))) e (operand (variable v (named result_word)) (a_word nothing)) r) (found (result_name, p))
+name_tree s p (lexemes.reserved m lexemes.method_result) e v u h r = subst (λ e. Has (counter e)) (one_tree s (lexemes.token p (lexemes.reserved m lexemes.method_result) ∷ []) (node p (Var (Named result_name no_index p))) e (operand (variable v (named result_word)) (a_reserved_word m refl nothing)) r) (found (result_name, p))
+name_tree s p (lexemes.reserved m (lexemes.name n)) e v u h r = absurd cc
+name_tree s p x e v u h r = absurd cc
 
 -- what is known of a value after which stands what may follow a name alone
 abbrev pub Known : (value alone : Bool) → Tree → Type 0
@@ -47,7 +50,7 @@ known : (s : Setting) (e : Tree) (first : LineToken) (others : List LineToken) �
 known s e first [] r = go (is_value s) refl (is_name_word (lexeme first)) refl
   where
     go : (v : Bool) → is_value s ≡ v → (b : Bool) → is_name_word (lexeme first) ≡ b → Known v b e
-    go true v true h = name_tree s first.place (lexeme first) e v h r
+    go true v true h = name_tree s first.place (lexeme first) e v (unnamed first) h r
     go true v false h = tt
     go false v b h = tt
 known s e first (t ∷ ts) r = nothing_known (is_value s)
@@ -98,10 +101,10 @@ module _ {P : Type 0} (part : Piece → P) (Each : Sign → (P → Type 0) → T
       go true f = by_arrow Goal ps (Behind part Goal q ps (is_value h.setting) true) f owes.0 y
       go false f = by_arrow Goal ps (Behind part Goal q ps (is_value h.setting) false) f owes.1 y
 
-  module _ (own : State → Bool) (closed : (q : State) → IsTrue (is_closed own q)) (Goal : State → List P → Type 0) (at_end : Goal state.End []) (keeps : (q : State) (ps : List P) → IsTrue (own q) → Keeps part Each Goal q ps) where
+  module _ (own : State → Bool) (closed : (q : State) → IsTrue (is_closed own q)) (labels : (own state.DatLabel ≡ false) × (own state.CallLocal ≡ false)) (Goal : State → List P → Type 0) (at_end : Goal state.End []) (keeps : (q : State) (ps : List P) → IsTrue (own q) → Keeps part Each Goal q ps) where
     pub holds : {q : State} {row : List Piece} {ts : List LineToken} → Row q row ts → IsTrue (own q) → Goal q (map part row)
     holds over h = at_end
     holds (token {q = q} {r = r} {row = row} {t = t} f y) h =
-        by_arrow Goal (map part row) (λ x. Goal q (x ∷ map part row)) f ((keeps q (map part row) h).arrows) (holds y (own_next own closed q r t f h))
+        subst (λ x. Goal q (part x ∷ map part row)) (sym (own_piece own labels q t h)) (by_arrow Goal (map part row) (λ x. Goal q (x ∷ map part row)) f ((keeps q (map part row) h).arrows) (holds y (own_next own closed q r t f h)))
     holds (phrase {q = q} {r = r} {h = p} {e = e} {row = row} {first = first} {t = t} others some is f y) h =
         behind_phrase Goal q (map part row) p (first ∷ others) f (subst (λ o. OwesBehind part Each Goal q (map part row) o) some ((keeps q (map part row) h).phrase)) (holds y (own_behind own closed q r p (first ∷ others) t some f h)) e first.place (known p.setting e first others is)

@@ -55,7 +55,7 @@ end_of_piece t ps h = go (lexeme t) h
 pub item_declares : (h : Heights) (t : LineToken) (us : List LineToken) (xs : List Constant) → Valued h constants_of_row state.ConItem (t ∷ us) xs → Filled xs
 item_declares h t us xs v =
     let x = row_of_line h state.ConItem v.row (t ∷ us) v.line in
-    let y = begins_with t us x refl refl in
+    let y = begins_with t us x refl refl refl in
     let no_end = (first_inside state.ConItem t refl (first_taken t us x refl)).not_end in
     go y.0 (is_line_end (parts (piece t ∷ y.0))) refl no_end (ap constants_of_row (sym y.1) ∙ v.is)
   where

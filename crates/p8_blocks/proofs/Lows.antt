@@ -10,7 +10,7 @@ use Rattle.p8_tree.specs.declared.refusal.Refusal.TheVariants as refusal
 use Rattle.p8_tree.specs.Refusals.{refusal_number}
 use Rattle.p8_grammar.specs.Lexemes as lexemes
 use Rattle.p8_grammar.specs.Lexemes.{Setting, in_method, in_declaration, in_dat, in_data_item, in_action, Mark, left_parenthesis, right_parenthesis, left_bracket, right_bracket, comma, colon, dot, dot_dot, hash, backslash, equal, Lexeme, name, method_result, mark, token}
-use Rattle.p8_grammar.specs.Grammar.{a_value, operand, nothing, a_word, result_name, IsExpression, IsFront}
+use Rattle.p8_grammar.specs.Grammar.{a_value, operand, nothing, a_reserved_word, result_name, IsExpression, IsFront}
 use Rattle.p8_grammar.specs.Heights as heights
 use Rattle.p8_grammar.specs.Heights.{height}
 use Rattle.p8_grammar.specs.Machine as machine
@@ -32,6 +32,7 @@ use Rattle.p8_lines.proofs.Splits.{Compared, same, beyond, short, compare}
 use Rattle.p8_lines.proofs.Ways.{terms_append}
 use Rattle.p8_lines.proofs.Begun.{real_all, not_nothing, nothing_begins, nothing_high, front_of}
 use Rattle.p8_lines.proofs.Completing.{follower}
+use Rattle.p8_blocks.proofs.Pieces.{is_named, unnamed}
 use Rattle.p8_blocks.proofs.Passing.{not_nested}
 use Rattle.p8_lines.proofs.Rows.{leads_way, leads_on, way_begins, front_begins, completed, limit_positive}
 
@@ -73,18 +74,24 @@ low_tree s n ts e x not_high = go (cases_lt n (height e))
 named_low : (s : Setting) (n : ℕ) (p : Place) (x : Lexeme) (b : Bool) (m : List ℕ) → walk (start s) (token p x ∷ []) ≡ Some (machine.state s (named reading b p m) []) → 0 < n → ¬ heights.IsTooHigh s n (token p x ∷ [])
 named_low s n p x b m h lt = not_too_high s n (token p x ∷ []) (machine.state s (named reading b p m) []) h (omega (arith, lt))
 
-name_low : (s : Setting) (n : ℕ) (p : Place) (x : Lexeme) → 0 < n → is_name_word x ≡ true → ¬ heights.IsTooHigh s n (token p x ∷ [])
-name_low in_method n p (name m) lt h = named_low in_method n p (name m) true m refl lt
-name_low in_declaration n p (name m) lt h = named_low in_declaration n p (name m) true m refl lt
-name_low in_dat n p (name m) lt h = named_low in_dat n p (name m) true m refl lt
-name_low in_data_item n p (name m) lt h = named_low in_data_item n p (name m) true m refl lt
-name_low in_action n p (name m) lt h = named_low in_action n p (name m) true m refl lt
-name_low in_method n p method_result lt h = named_low in_method n p method_result false result_name refl lt
-name_low in_declaration n p method_result lt h = named_low in_declaration n p method_result false result_name refl lt
-name_low in_dat n p method_result lt h = named_low in_dat n p method_result false result_name refl lt
-name_low in_data_item n p method_result lt h = named_low in_data_item n p method_result false result_name refl lt
-name_low in_action n p method_result lt h = named_low in_action n p method_result false result_name refl lt
-name_low s n p x lt h = absurd cc
+name_low : (s : Setting) (n : ℕ) (p : Place) (x : Lexeme) → 0 < n → is_named x ≡ false → is_name_word x ≡ true → ¬ heights.IsTooHigh s n (token p x ∷ [])
+name_low in_method n p (name m) lt u h = named_low in_method n p (name m) true m refl lt
+name_low in_declaration n p (name m) lt u h = named_low in_declaration n p (name m) true m refl lt
+name_low in_dat n p (name m) lt u h = named_low in_dat n p (name m) true m refl lt
+name_low in_data_item n p (name m) lt u h = named_low in_data_item n p (name m) true m refl lt
+name_low in_action n p (name m) lt u h = named_low in_action n p (name m) true m refl lt
+name_low in_method n p method_result lt u h = named_low in_method n p method_result false result_name refl lt
+name_low in_declaration n p method_result lt u h = named_low in_declaration n p method_result false result_name refl lt
+name_low in_dat n p method_result lt u h = named_low in_dat n p method_result false result_name refl lt
+name_low in_data_item n p method_result lt u h = named_low in_data_item n p method_result false result_name refl lt
+name_low in_action n p method_result lt u h = named_low in_action n p method_result false result_name refl lt
+name_low in_method n p (lexemes.reserved m method_result) lt u h = named_low in_method n p (lexemes.reserved m method_result) false result_name refl lt
+name_low in_declaration n p (lexemes.reserved m method_result) lt u h = named_low in_declaration n p (lexemes.reserved m method_result) false result_name refl lt
+name_low in_dat n p (lexemes.reserved m method_result) lt u h = named_low in_dat n p (lexemes.reserved m method_result) false result_name refl lt
+name_low in_data_item n p (lexemes.reserved m method_result) lt u h = named_low in_data_item n p (lexemes.reserved m method_result) false result_name refl lt
+name_low in_action n p (lexemes.reserved m method_result) lt u h = named_low in_action n p (lexemes.reserved m method_result) false result_name refl lt
+name_low s n p (lexemes.reserved m (name k)) lt u h = absurd cc
+name_low s n p x lt u h = absurd cc
 
 abbrev somewhere : Place
 somewhere = record { line = 0; column = 0 }
@@ -93,7 +100,7 @@ somewhere = record { line = 0; column = 0 }
 abbrev value_token : LineToken
 value_token = record { place = somewhere; text = 67 ∷ 79 ∷ 71 ∷ 73 ∷ 68 ∷ []; kind = kind.Name }
 
-value_lexeme : lexeme value_token ≡ lexemes.value 0x3F
+value_lexeme : lexeme value_token ≡ lexemes.reserved (67 ∷ 79 ∷ 71 ∷ 73 ∷ 68 ∷ []) (lexemes.value 0x3F)
 unfolding every_word symbols reserved_words lexeme_of_word
 value_lexeme = refl
 
@@ -101,7 +108,7 @@ value_is_no_name : is_name_word (lexeme value_token) ≡ false
 value_is_no_name = ap is_name_word value_lexeme
 
 value_reads : (s : Setting) → (e : Tree) × IsExpression s e (terms (value_token ∷ [])) × (height e ≡ 1)
-value_reads s = (node somewhere (Built 0x3F no_trees), subst (λ x. IsExpression s (node somewhere (Built 0x3F no_trees)) (token somewhere x ∷ [])) (sym value_lexeme) (operand a_value (a_word nothing)), refl)
+value_reads s = (node somewhere (Built 0x3F no_trees), subst (λ x. IsExpression s (node somewhere (Built 0x3F no_trees)) (token somewhere x ∷ [])) (sym value_lexeme) (operand a_value (a_reserved_word (67 ∷ 79 ∷ 71 ∷ 73 ∷ 68 ∷ []) refl nothing)), refl)
 
 -- a line within the limits from a state
 pub record LowLine (q : State) (ts : List LineToken) : Type 0 where
@@ -117,7 +124,7 @@ zeroed {q} {r} {h} {e} {t} first others p x f z = go others x f
     value f = let x = value_reads h.setting in record { rest = value_token ∷ t ∷ z.rest; row = _; leads = by_phrase [] p x.1 (let one = x.2 in omega (arith, one)) (subst (λ b. Follows (if b then h.behind_name else h.behind_other) t r) (sym value_is_no_name) f) z.leads }
 
     alone : (b : Bool) → is_name_word (lexeme first) ≡ b → IsExpression h.setting e (terms (first ∷ [])) → Follows (behind h (first ∷ [])) t r → LowLine q []
-    alone true n x f = record { rest = first ∷ t ∷ z.rest; row = _; leads = by_phrase [] p x (low_tree h.setting greatest_height (first ∷ []) e x (name_low h.setting greatest_height first.place (lexeme first) limit_positive n)) f z.leads }
+    alone true n x f = record { rest = first ∷ t ∷ z.rest; row = _; leads = by_phrase [] p x (low_tree h.setting greatest_height (first ∷ []) e x (name_low h.setting greatest_height first.place (lexeme first) limit_positive (unnamed first) n)) f z.leads }
     alone false n x f = value (subst (λ b. Follows (if b then h.behind_name else h.behind_other) t r) n f)
 
     go : (others : List LineToken) → IsExpression h.setting e (terms (first ∷ others)) → Follows (behind h (first ∷ others)) t r → LowLine q []

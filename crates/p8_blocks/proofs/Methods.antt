@@ -84,5 +84,5 @@ keeps public q ps h = absurd cc
 
 pub from_name : (public : Bool) → HaveValues (method_of_row public) state.MethodName
 from_name public row ts r =
-    let x : Has (method_of_row public row) = holds part_of_piece Each each own closed (Goal public) refl (keeps public) r refl in
+    let x : Has (method_of_row public row) = holds part_of_piece Each each own closed (refl, refl) (Goal public) refl (keeps public) r refl in
     (x.value, x.is)

@@ -61,10 +61,10 @@ keeps q ps h = absurd cc
 
 pub from_head : HaveValues objects_of_row state.ObjHead
 from_head row ts r =
-    let x : Has (objects_of_row row) = holds part_of_piece Each each own closed Goal refl keeps r refl in
+    let x : Has (objects_of_row row) = holds part_of_piece Each each own closed (refl, refl) Goal refl keeps r refl in
     (x.value, x.is)
 
 pub from_line : HaveValues objects_of_row state.ObjLine
 from_line row ts r =
-    let x : Has (objects_of_row row) = holds part_of_piece Each each own closed Goal refl keeps r refl in
+    let x : Has (objects_of_row row) = holds part_of_piece Each each own closed (refl, refl) Goal refl keeps r refl in
     (x.value, x.is)

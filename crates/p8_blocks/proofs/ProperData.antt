@@ -4,7 +4,7 @@ use Rattle.std.specs.Prelude.{IsTrue, if◌then◌else◌, ◌&&◌, not, All}
 use Rattle.std.proofs.lemmas.List.Elements.{All-nil, All-cons}
 use Rattle.p8_tree.specs.Sources.{Datum, Instruction, Contents, Line}
 use Rattle.p8_tree.specs.Names as names
-use Rattle.p8_tree.specs.Names.{IsName, IsString, is_among, two_operands, on_memory, one_operand}
+use Rattle.p8_tree.specs.Names.{IsName, IsWord, IsString, is_among, two_operands, on_memory, one_operand}
 use Rattle.p8_tree.specs.Proper as proper
 use Rattle.p8_tree.specs.Proper.{IfThere, is_nothing, is_empty, is_size, IsProperExpression, IsProperDatum, IsProperInstruction, AreProperContents, IsProperLine}
 use Rattle.p8_lexer.specs.declared.word.Word.{Word}
@@ -27,12 +27,13 @@ use Rattle.p8_blocks.proofs.Data.{from_head, from_line}
 -- nothing is known, and the line has a value
 
 abbrev no_facts : Facts
-no_facts = record { IsValue = λ s e. Unit {0}; IsName = λ n. Unit {0}; IsText = λ t. Unit {0}; of_text = λ t p h. tt }
+no_facts = record { IsValue = λ s e. Unit {0}; IsName = λ n. Unit {0}; IsWord = λ n. Unit {0}; IsText = λ t. Unit {0}; of_text = λ t p h. tt }
 
 nothing_known : (row : List Piece) → AreKnown no_facts row
 nothing_known [] = tt
 nothing_known (pieces.word w p ∷ row) = (tt, nothing_known row)
 nothing_known (pieces.name n p ∷ row) = (tt, nothing_known row)
+nothing_known (pieces.label n p ∷ row) = (tt, nothing_known row)
 nothing_known (pieces.text t p ∷ row) = (tt, nothing_known row)
 nothing_known (pieces.tree e p ∷ row) = ((λ s. tt), nothing_known row)
 
@@ -48,6 +49,7 @@ abbrev proper_facts : Facts
 proper_facts = record {
   IsValue = λ s e. IsProperExpression true e;
   IsName = λ n. IsName n;
+  IsWord = λ n. IsWord n;
   IsText = λ t. IsString t;
   of_text = λ t p h. (h, omega arith);
 }
@@ -56,6 +58,7 @@ known : (row : List Piece) → AreProper true 64 row → AreKnown proper_facts r
 known [] a = tt
 known (pieces.word w p ∷ row) a = (tt, known row a)
 known (pieces.name n p ∷ row) a = (a.0, known row a.1)
+known (pieces.label n p ∷ row) a = (a.0, known row a.1)
 known (pieces.text t p ∷ row) a = (a.0, known row a.1)
 known (pieces.tree e p ∷ row) a = ((λ s. a.0), known row a.1)
 

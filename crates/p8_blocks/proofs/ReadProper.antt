@@ -1,11 +1,11 @@
 -- The pieces of a line that was read are proper, where its tokens are.
 use Rattle.std.proofs.Common.{arith, ◌≡◌, ◌≢◌, ℕ, ◌<◌, ◌≤◌, List, [], ◌∷◌, ◌++◌, length, Option, Some, None, Bool, true, false, All, refl, sym, ◌∙◌, ap, subst}
-use Rattle.std.specs.Prelude.{IsTrue, if◌then◌else◌, ◌&&◌, not}
+use Rattle.std.specs.Prelude.{IsTrue, if◌then◌else◌, ◌&&◌, not, unwrap_or}
 use Rattle.std.proofs.lemmas.List.Elements.{All-nil, All-cons, All-head, All-tail}
 use Rattle.p8_tree.specs.declared.places.Place.{Place}
 use Rattle.p8_tree.specs.Expressions.{Tree, node}
 use Rattle.p8_tree.specs.Heights.{height}
-use Rattle.p8_tree.specs.Names.{IsName, IsString}
+use Rattle.p8_tree.specs.Names.{IsName, IsWord, IsString}
 use Rattle.p8_tree.specs.Proper.{IsProperTree, IsDone}
 use Rattle.p8_lexer.specs.declared.word.Word.{Word}
 use Rattle.p8_lexer.specs.declared.word.Word.TheVariants as word
@@ -14,7 +14,7 @@ use Rattle.p8_grammar.specs.Lexemes.{Setting, in_method, in_declaration, in_dat,
 use Rattle.p8_grammar.specs.Proper as grammar
 use Rattle.p8_grammar.specs.Proper.{IsProperLexeme, lexeme_in, IsProperAction}
 use Rattle.p8_grammar.specs.Grammar.{IsExpression}
-use Rattle.p8_expr.specs.Words.{between_quotes, lexeme_of_word}
+use Rattle.p8_expr.specs.Words.{between_quotes, reserved_as, lexeme_of_word}
 use Rattle.p8_lexer.specs.Pieces as pieces
 use Rattle.p8_lexer.specs.Pieces.{Piece}
 use Rattle.p8_lexer.specs.Proper.{AreProper}
@@ -23,20 +23,21 @@ use Rattle.p8_lines.specs.declared.sign.Sign.TheVariants as sign
 use Rattle.p8_lines.specs.declared.arrow.Arrow.{Arrow}
 use Rattle.p8_lines.specs.declared.state.State.{State}
 use Rattle.p8_lines.specs.declared.state.State.TheVariants as state
-use Rattle.p8_lines.specs.Signs.{Matches, is_size, is_condition, takes_two, is_on_memory, takes_one, is_flag, is_write}
+use Rattle.p8_lines.specs.Signs.{Matches, is_size, is_condition, takes_two, is_on_memory, takes_one, is_flag, is_write, is_label}
 use Rattle.p8_lines.specs.Diagram.{Phrase, choices, setting_at}
 use Rattle.p8_lines.specs.Tokens as tokens
 use Rattle.p8_lines.specs.Tokens.{LineToken, lexeme, term, terms, string_length, piece_from, piece}
-use Rattle.p8_lines.specs.Lines.{Follows, behind, Leads, nowhere, by_token, by_phrase}
+use Rattle.p8_lines.specs.Lines.{Follows, behind, piece_in, Leads, nowhere, by_token, by_phrase}
 use Rattle.p8_lines.proofs.Arrows.{all_good, all_good_behind, taken, taken_behind}
-use Rattle.p8_lines.proofs.Lexemes.{is_plain, plain_lexeme, name_lexeme, string_lexeme}
+use Rattle.p8_lines.proofs.Lexemes.{is_plain, by_kind, name_lexeme, string_lexeme, named_label}
 use Rattle.p8_lines.proofs.Ways.{terms_append}
 use Rattle.p8_statements.specs.Roles.{role_of, is_line_end}
 use Rattle.p8_statements.specs.Statements.{is_item}
 use Rattle.p8_statements.specs.Proper.{IsProperBy, IsProperRow}
 use Rattle.p8_blocks.specs.Proper.{is_in_dat, RowsAreProper, MethodRowsAreProper}
 use Rattle.p8_blocks.specs.Values.{begins_line}
-use Rattle.p8_blocks.proofs.Pieces.{word_piece}
+use Rattle.p8_grammar.proofs.Proper.{name_word}
+use Rattle.p8_blocks.proofs.Pieces.{word_piece, is_labelled, plain_piece}
 use Rattle.p8_blocks.proofs.Closed.{is_closed, own_next, own_behind}
 
 -- which words the signs stand for
@@ -86,11 +87,19 @@ no_string w = refl
 abbrev IsSome : LineToken → Type 0
 IsSome t = (s : List ℕ) → lexeme t ≡ lexemes.string s → 0 < length s
 
+no_reserved_string : (w : Word) (n : List ℕ) → is_string (reserved_as n (lexeme_of_word w)) ≡ false
+unfolding lexeme_of_word
+no_reserved_string word.Add n = refl
+no_reserved_string w n = refl
+
 plain_some : (t : LineToken) → IsTrue (is_plain (tokens.word t)) → IsSome t
 plain_some t h s e =
-    let is : is_string (lexeme_of_word (tokens.word t)) ≡ true = ap is_string (sym (plain_lexeme t (tokens.word t) h refl) ∙ e) in
-    let wrong : true ≡ false = sym is ∙ no_string (tokens.word t) in
+    let isnt : is_string (lexeme t) ≡ false = by_kind (λ x. is_string x ≡ false) t (tokens.word t) (lexeme_of_word (tokens.word t)) h refl (no_string (tokens.word t)) (no_reserved_string (tokens.word t)) refl in
+    let wrong : true ≡ false = sym (ap is_string e) ∙ isnt in
     absurd cc
+
+label_some : (t : LineToken) → IsTrue (is_label (tokens.word t)) → IsSome t
+label_some t h s e = let z = sym (ap lexemes.name_in e) ∙ (named_label t h).1 in absurd cc
 
 name_some : (t : LineToken) → tokens.word t ≡ word.Name → IsSome t
 name_some t h s e = let wrong : is_string (lexeme t) ≡ false = ap is_string (name_lexeme t h) in let is : is_string (lexeme t) ≡ true = ap is_string e in let both : true ≡ false = sym is ∙ wrong in absurd cc
@@ -123,18 +132,21 @@ sign_some t sign.Memory m h = plain_some t (plain_class is_on_memory with_memory
 sign_some t sign.OneOperand m h = plain_some t (plain_class takes_one with_one (tokens.word t) m)
 sign_some t sign.Flag m h = plain_some t (plain_class is_flag flags (tokens.word t) m)
 sign_some t sign.Write m h = plain_some t (plain_class is_write writes (tokens.word t) m)
+sign_some t sign.Label m h = label_some t m
 
 -- the piece of a token
 
 abbrev IsTokenPiece : Piece → Type 0
 IsTokenPiece (pieces.word w p) = Unit {0}
 IsTokenPiece (pieces.name n p) = IsName n
+IsTokenPiece (pieces.label n p) = IsWord n
 IsTokenPiece (pieces.text t p) = IsString t
 IsTokenPiece (pieces.tree e p) = ⊥
 
 joined : (dat : Bool) (x : Piece) (row : List Piece) → IsTokenPiece x → AreProper dat 64 row → AreProper dat 64 (x ∷ row)
 joined dat (pieces.word w p) row is are = are
 joined dat (pieces.name n p) row is are = (is, are)
+joined dat (pieces.label n p) row is are = (is, are)
 joined dat (pieces.text t p) row is are = (is, are)
 joined dat (pieces.tree e p) row is are = absurd is
 
@@ -155,10 +167,35 @@ phrases_good : (q : State) → IsTrue (phrase_good (choices q).phrase)
 phrases_good state.End = refl
 phrases_good q = refl
 
-token_proper : (q r : State) (t : LineToken) → Follows (choices q).arrows t r → IsProperLexeme (lexeme t) → IsTokenPiece (piece t)
-token_proper q r t f h =
-    let x = taken (λ a. good_sign a.sign) f (arrows_good q) in
-    from_lexeme (lexeme t) (tokens.word t) t.place h (sign_some t x.arrow.sign x.is x.good)
+-- a local label's name
+abbrev label_sign : Sign → Bool
+label_sign sign.Label = true
+label_sign s = false
+
+label_arrows : (q : State) → is_labelled q ≡ true → IsTrue (all_good (λ a. label_sign a.sign) (choices q).arrows)
+label_arrows state.DatLabel h = refl
+label_arrows state.CallLocal h = refl
+label_arrows q h = absurd cc
+
+on_label : (s : Sign) (v : Word) (n : ℕ) → Matches s v n → IsTrue (label_sign s) → IsTrue (is_label v)
+on_label sign.Label v n m h = m
+on_label s v n m h = absurd cc
+
+label_proper : (q : State) (t : LineToken) → is_labelled q ≡ true → IsTrue (is_label (tokens.word t)) → IsProperLexeme (lexeme t) → IsTokenPiece (piece_in q t)
+label_proper state.DatLabel t h l is = let x = named_label t l in subst (λ o. IsWord (unwrap_or o [])) (sym x.1) (name_word (lexeme t) x.0 x.1 is)
+label_proper state.CallLocal t h l is = let x = named_label t l in subst (λ o. IsWord (unwrap_or o [])) (sym x.1) (name_word (lexeme t) x.0 x.1 is)
+label_proper q t h l is = absurd cc
+
+token_proper : (q r : State) (t : LineToken) → Follows (choices q).arrows t r → IsProperLexeme (lexeme t) → IsTokenPiece (piece_in q t)
+token_proper q r t f h = go (is_labelled q) refl
+  where
+    go : (b : Bool) → is_labelled q ≡ b → IsTokenPiece (piece_in q t)
+    go true e =
+        let x = taken (λ a. label_sign a.sign) f (label_arrows q e) in
+        label_proper q t e (on_label x.arrow.sign (tokens.word t) (string_length t) x.is x.good) h
+    go false e =
+        let x = taken (λ a. good_sign a.sign) f (arrows_good q) in
+        subst IsTokenPiece (sym (plain_piece q t e)) (from_lexeme (lexeme t) (tokens.word t) t.place h (sign_some t x.arrow.sign x.is x.good))
 
 token_behind_proper : (q r : State) (p : Phrase) (us : List LineToken) (t : LineToken) → (choices q).phrase ≡ Some p → Follows (behind p us) t r → IsProperLexeme (lexeme t) → IsTokenPiece (piece t)
 token_behind_proper q r p us t e f h =
@@ -224,7 +261,7 @@ module _ (spelled : SpelledAreProper) (own : State → Bool) (dat : Bool) (close
   pub rows : {q s : State} {us : List LineToken} {row : List Piece} → Leads q us row s → grammar.AreProper (terms us) → IsTrue (own q) → AreProper dat 64 row
   rows nowhere a o = tt
   rows (by_token {q = q} {r = r} {row = row} {t = t} {ts = ts} f y) a o =
-      joined dat (piece t) row (token_proper q r t f (All-head IsToken (term t) (terms ts) a)) (rows y (All-tail IsToken (term t) (terms ts) a) (own_next own closed q r t f o))
+      joined dat (piece_in q t) row (token_proper q r t f (All-head IsToken (term t) (terms ts) a)) (rows y (All-tail IsToken (term t) (terms ts) a) (own_next own closed q r t f o))
   rows (by_phrase {q = q} {r = r} {h = p} {e = e} {row = row} {first = first} {t = t} others {ts = ts} some is low f y) a o =
       let rest = right (first ∷ others) (t ∷ ts) a in (
         (tree_proper q p (first ∷ others) e some o is (left (first ∷ others) (t ∷ ts) a), low),
@@ -313,6 +350,7 @@ item_by t b s e p row m h = absurd cc
 token_row : (x : Piece) (row : List Piece) → IsTokenPiece x → AreProper false 64 row → IsProperRow (x ∷ row)
 token_row (pieces.word w p) row is are = are
 token_row (pieces.name n p) row is are = (is, are)
+token_row (pieces.label n p) row is are = (is, are)
 token_row (pieces.text t p) row is are = (is, are)
 token_row (pieces.tree e p) row is are = absurd is
 
@@ -334,7 +372,7 @@ module _ (spelled : SpelledAreProper) (actions : ActionsAreProper) where
   method_row nowhere b a = tt
   method_row (by_token {q = q} {r = r} {row = row} {t = t} {ts = ts} f y) b a =
       let x = taken (λ a. elsewhere a.to) f (begun (begins_line q) (arrows_open q) b) in
-      token_row (piece t) row (token_proper q r t f (All-head IsToken (term t) (terms ts) a)) (from_elsewhere y (All-tail IsToken (term t) (terms ts) a) (subst (λ r. IsTrue (elsewhere r)) x.goes x.good))
+      token_row (piece_in q t) row (token_proper q r t f (All-head IsToken (term t) (terms ts) a)) (from_elsewhere y (All-tail IsToken (term t) (terms ts) a) (subst (λ r. IsTrue (elsewhere r)) x.goes x.good))
   method_row (by_phrase {q = q} {r = r} {h = h} {e = e} {row = row} {first = first} {t = t} others {ts = ts} some is low f y) b a =
       let own : Arrow → Bool = λ a. elsewhere a.to && ends_so (not (is_value h.setting)) a.sign in
       let good = both (not (is_dat h.setting)) (all_good_behind own h) (subst (λ o. IsTrue (opened o)) some (begun (begins_line q) (phrases_open q) b)) in

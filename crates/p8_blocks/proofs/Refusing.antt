@@ -41,7 +41,7 @@ use Rattle.p8_blocks.proofs.Lows.{low_line, HighAt, high_at}
 use Rattle.p8_blocks.proofs.Ending.{walk_ends, the_method}
 use Rattle.p8_blocks.proofs.TextLines.{lines_begun}
 use Rattle.p8_blocks.proofs.LastBlocks.{file_of, last_of}
-use Rattle.p8_blocks.proofs.Settings.{begins_with, part_setting, head_setting, declared_setting, entered_setting, walk_setting}
+use Rattle.p8_blocks.proofs.Settings.{begins_with, part_setting, head_setting, declared_setting, entered_setting, head_plain, line_plain, begins_plain, walk_setting}
 use Rattle.p8_blocks.proofs.Fitting.{opens_within, adds_within, AtHand, itself_within, any_begins, stopped_so, none_within, stopped_within, high_so, high_within}
 
 -- entries by what is lacking
@@ -105,7 +105,8 @@ module _ (all : AllValues) where
         let p = opens_within (word t) us o.0 o.1 l in
         ((o.0 ∷ ps, false), head t i p, (opened_shallow (word t) us o.0 p, h));
     again = λ c _ us p _ r. (refusal_number TooNested, p, head_fails i r);
-    setting = begins_with (part_setting ps) t i ∙ sym (head_setting (word t) i.0);
+    setting = λ c h. begins_with (part_setting ps) c t i h ∙ sym (head_setting (word t) i.0);
+    plain = (head_plain (word t) i.0).0;
   }
 
   head_refused : {ps : List Part} {b : Bool} {ts : List LineToken} (t : LineToken) (us : List LineToken) {n : ℕ} {p : Place} → Walk within_limits (ps, b) ts → AllShallow ps → IsHead t → Reads (head_state (word t)) us (refused n p) → IsRefused (ts ++ t ∷ us) n p
@@ -124,7 +125,8 @@ module _ (all : AllValues) where
     completes = λ row us r s. go row us s.0 s.1 r;
     fits = λ row us l s. low row us s.0 s.1 l;
     again = λ c _ us p s r. (refusal_number TooNested, p, subst (λ l. Fails (at ps c) l (refusal_number TooNested) p) (sym s.1) (declaration_fails n i d (subst (λ l. Reads (line_state ps) l (refused (refusal_number TooNested) p)) s.1 r)));
-    setting = sym (declared_setting ps d);
+    setting = λ c h. sym (declared_setting ps d);
+    plain = (line_plain ps).0;
   }
     where
       go : (row : List Piece) (us vs : List LineToken) → us ≡ t ∷ vs → Row (line_state ps) row us → (y : Progress) × Line any_height (ps, b) us y
@@ -359,7 +361,8 @@ module _ (all : AllValues) where
             completes = λ row us r s. goes_on_so row us s.0 s.1 r;
             fits = λ row us k s. fits row us s.0 s.1 k;
             again = λ c f us p s r. (refusal_number TooNested, p, subst (λ k. Fails (at (method m ls ∷ ps) c) k (refusal_number TooNested) p) (sym s.1) (line_fails n i (subst (λ c. Enters ls c t (from q)) (sym f) e) l (λ x. absurd (d x)) (subst (λ k. Reads q k (refused (refusal_number TooNested) p)) s.1 r)));
-            setting = sym (entered_setting q (entered_begins ls b t q e));
+            setting = λ c h. sym (entered_setting q (entered_begins ls b t q e));
+            plain = begins_plain q (entered_begins ls b t q e);
           }
 
           line_refused : (us : List LineToken) {k : ℕ} {p : Place} → Reads q (t ∷ us) (refused k p) → IsRefused (ts ++ t ∷ us) k p

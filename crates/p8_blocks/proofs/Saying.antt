@@ -7,9 +7,10 @@ use Rattle.p8_tree.specs.Statements.{Do, Next, Quit, Return, Abort}
 use Rattle.p8_lexer.specs.declared.word.Word.{Word}
 use Rattle.p8_lexer.specs.declared.word.Word.TheVariants as word_case
 use Rattle.p8_grammar.specs.Lexemes as lexemes
-use Rattle.p8_grammar.specs.Lexemes.{Setting, Lexeme, other, token}
+use Rattle.p8_grammar.specs.Lexemes.{Setting, Lexeme}
 use Rattle.p8_grammar.specs.Grammar.{IsFront}
-use Rattle.p8_grammar.specs.Machine.{step, walk, start}
+use Rattle.p8_grammar.specs.Machine.{fresh, step, walk, start}
+use Rattle.p8_grammar.proofs.Labels.{other_step}
 use Rattle.p8_grammar.proofs.Live.{dead}
 use Rattle.p8_expr.specs.Words.{lexeme_of_word}
 use Rattle.p8_columns.specs.Lines.{Kind, Plain, If, ElseIf, Else, Repeat, End, Case, Item, Other}
@@ -20,7 +21,9 @@ use Rattle.p8_lines.specs.Diagram.{choices}
 use Rattle.p8_lines.specs.Tokens.{LineToken, word, lexeme, term, piece_from, piece}
 use Rattle.p8_lines.specs.Lines as line_specs
 use Rattle.p8_lines.specs.Lines.{Row, over}
-use Rattle.p8_lines.proofs.Lexemes.{plain_lexeme}
+use Rattle.p8_lines.proofs.Lexemes.{IsOther, other_word}
+use Rattle.p8_blocks.proofs.Inside.{other_plain}
+use Rattle.p8_blocks.proofs.Pieces.{is_labelled, plain_piece}
 use Rattle.p8_lines.proofs.Ways.{begins}
 use Rattle.p8_statements.specs.declared.role.Role.{Role}
 use Rattle.p8_statements.specs.declared.role.Role.TheVariants as role
@@ -118,22 +121,22 @@ of_word t row k e h = go (lexeme t) e
     go l e = by_word e
 
 -- an action begins with none of these words
-front_lexeme : (t : LineToken) (w : Word) → word t ≡ w → lexeme t ≡ other ⊎ ((is_loop_word w ≡ false) × (is_opener_word w ≡ false))
+front_lexeme : (t : LineToken) (w : Word) → word t ≡ w → IsOther (lexeme t) ⊎ ((is_loop_word w ≡ false) × (is_opener_word w ≡ false))
 unfolding lexeme_of_word
-front_lexeme t word_case.Next e = inl (plain_lexeme t word_case.Next refl e)
-front_lexeme t word_case.Quit e = inl (plain_lexeme t word_case.Quit refl e)
-front_lexeme t word_case.If e = inl (plain_lexeme t word_case.If refl e)
-front_lexeme t word_case.Ifnot e = inl (plain_lexeme t word_case.Ifnot refl e)
-front_lexeme t word_case.Case e = inl (plain_lexeme t word_case.Case refl e)
-front_lexeme t word_case.Repeat e = inl (plain_lexeme t word_case.Repeat refl e)
+front_lexeme t word_case.Next e = inl (other_word t word_case.Next refl refl e)
+front_lexeme t word_case.Quit e = inl (other_word t word_case.Quit refl refl e)
+front_lexeme t word_case.If e = inl (other_word t word_case.If refl refl e)
+front_lexeme t word_case.Ifnot e = inl (other_word t word_case.Ifnot refl refl e)
+front_lexeme t word_case.Case e = inl (other_word t word_case.Case refl refl e)
+front_lexeme t word_case.Repeat e = inl (other_word t word_case.Repeat refl refl e)
 front_lexeme t w e = inr (refl, refl)
 
 none_so : (s : Setting) (t : LineToken) → IsFront s (term t ∷ []) → (is_loop_word (word t) ≡ false) × (is_opener_word (word t) ≡ false)
 none_so s t f = go (front_lexeme t (word t) refl)
   where
-    go : lexeme t ≡ other ⊎ ((is_loop_word (word t) ≡ false) × (is_opener_word (word t) ≡ false)) → (is_loop_word (word t) ≡ false) × (is_opener_word (word t) ≡ false)
+    go : IsOther (lexeme t) ⊎ ((is_loop_word (word t) ≡ false) × (is_opener_word (word t) ≡ false)) → (is_loop_word (word t) ≡ false) × (is_opener_word (word t) ≡ false)
     go (inl e) =
-        let none : step (start s) (term t) ≡ None = ap (λ x. step (start s) (token t.place x)) e in
+        let none : step (start s) (term t) ≡ None = other_step s fresh [] t.place (lexeme t) (other_plain e) refl in
         absurd (dead s (term t ∷ []) (ap (λ o. option_and_then (λ st. walk st []) o) none) f)
     go (inr x) = x
 
@@ -155,10 +158,10 @@ statement_says t us k (line_specs.phrase {h = p} {e = a} {row = row} {first = fi
     subst (λ t. Says (is_loop_word (word t)) (is_opener_word (word t)) k) firsts (says_with (sym n.0) (sym n.1) (of_action a first.place (piece next ∷ row) k e h))
 
 -- the first piece of a line that begins with no expression
-pub begins_with : {q : State} {row : List Piece} {ts : List LineToken} (t : LineToken) (us : List LineToken) → Row q row ts → (choices q).phrase ≡ None → ts ≡ t ∷ us → (rest : List Piece) × (row ≡ piece t ∷ rest)
-begins_with t us over n e = absurd cc
-begins_with t us (line_specs.token {row = row} {t = first} f x) n e = let firsts : first ≡ t = cc in (row, ap (λ t. piece t ∷ row) firsts)
-begins_with t us (line_specs.phrase others p x f y) n e = absurd (let z = sym n ∙ p in cc)
+pub begins_with : {q : State} {row : List Piece} {ts : List LineToken} (t : LineToken) (us : List LineToken) → Row q row ts → (choices q).phrase ≡ None → is_labelled q ≡ false → ts ≡ t ∷ us → (rest : List Piece) × (row ≡ piece t ∷ rest)
+begins_with t us over n l e = absurd cc
+begins_with t us (line_specs.token {q = q} {row = row} {t = first} f x) n l e = let firsts : first ≡ t = cc in (row, ap (λ x. x ∷ row) (plain_piece q first l) ∙ ap (λ t. piece t ∷ row) firsts)
+begins_with t us (line_specs.phrase others p x f y) n l e = absurd (let z = sym n ∙ p in cc)
 
 -- what a line says, by the state that it is read from
 pub line_says : (q : State) (row : List Piece) (t : LineToken) (us : List LineToken) (k : Kind) → IsTrue (begins_line q) → Row q row (t ∷ us) → kind_of_row row ≡ Some k → IsTrue (suits q k) → Says (leaves_loop q (word t)) (opens q (word t)) k

@@ -158,7 +158,7 @@ keeps state.OtherColon row h = record { arrows = ((λ g p. ap (λ b. if b then S
 keeps q row h = absurd cc
 
 reached : {q : State} {row : List Piece} {ts : List LineToken} → Row q row ts → IsTrue (own q) → Goal q row
-reached {q = q} {row = row} r h = subst (Goal q) (same_row row) (holds same Each each own closed Goal refl keeps r h)
+reached {q = q} {row = row} r h = subst (Goal q) (same_row row) (holds same Each each own closed (refl, refl) Goal refl keeps r h)
   where
     same_row : (row : List Piece) → map same row ≡ row
     same_row [] = refl

@@ -3,7 +3,7 @@
 --
 -- Tokens are refused at the first of them with which they begin no file within the limits. Where they begin a file of any
 -- height and depth with it, they go past the limits: that is 8. Where they begin none, the token can't stand there.
-use Rattle.std.specs.Prelude.{◌≡◌, ◌≢◌, ℕ, Bool, true, false, ◌&&◌, ◌==◌, if◌then◌else◌, IsTrue, List, [], ◌∷◌, ◌++◌, Option, Some, None, unwrap_or}
+use Rattle.std.specs.Prelude.{◌≡◌, ◌≢◌, ℕ, Bool, true, false, ◌&&◌, not, ◌==◌, if◌then◌else◌, IsTrue, List, [], ◌∷◌, ◌++◌, Option, Some, None, unwrap_or}
 use Rattle.std.specs.List.{list_any}
 use Rattle.p8_tree.specs.declared.places.Place.{Place}
 use Rattle.p8_tree.specs.Sources as sources
@@ -14,7 +14,7 @@ use Rattle.p8_lexer.specs.declared.word.Word.{Word}
 use Rattle.p8_lexer.specs.declared.word.Word.TheVariants as word_case
 use Rattle.p8_tree.specs.declared.refusal.Refusal.TheVariants.{BadIndent, TooNested, LoopWord}
 use Rattle.p8_tree.specs.Refusals.{refusal_number}
-use Rattle.p8_grammar.specs.Lexemes.{Setting, in_method, in_declaration, in_dat}
+use Rattle.p8_grammar.specs.Lexemes.{Setting, in_method, in_declaration, in_dat, is_dat}
 use Rattle.p8_columns.specs.declared.room.Room.TheVariants as room
 use Rattle.p8_columns.specs.declared.room.Chain.TheVariants as chain
 use Rattle.p8_columns.specs.Lines as lines
@@ -34,7 +34,8 @@ use Rattle.p8_blocks.specs.Reading.{IsHead as BeginsBlock, is_block_word, head_s
 abbrev pub BeginsWithinLimits : List LineToken → Type 0
 BeginsWithinLimits ts = (rest : List LineToken) × (s : Source) × IsFileWithinLimits s (ts ++ rest)
 
--- Where a token stands: in a method after PUB and PRI in column 1, in DAT after that word, and else in a declaration.
+-- Where a token stands: in a method after PUB and PRI in column 1, in DAT after that word, and else in a declaration. In
+-- DAT a word behind a colon is a local label's.
 
 abbrev pub block_setting : Word → Setting
 block_setting word_case.Pub = in_method
@@ -42,15 +43,19 @@ block_setting word_case.Pri = in_method
 block_setting word_case.Dat = in_dat
 block_setting w = in_declaration
 
-abbrev pub setting_with : Setting → LineToken → Setting
-setting_with s t = if is_block_word (word t) && (t.place.column == 1) then block_setting (word t) else s
+abbrev pub is_colon : Word → Bool
+is_colon word_case.Colon = true
+is_colon w = false
 
-abbrev pub setting_from : Setting → List LineToken → Setting
-setting_from s [] = s
-setting_from s (t ∷ ts) = setting_from (setting_with s t) ts
+abbrev pub setting_with : Setting → (behind_colon : Bool) → LineToken → Setting
+setting_with s behind t = if is_block_word (word t) && ((t.place.column == 1) && not (is_dat s && behind)) then block_setting (word t) else s
+
+abbrev pub setting_from : Setting → (behind_colon : Bool) → List LineToken → Setting
+setting_from s behind [] = s
+setting_from s behind (t ∷ ts) = setting_from (setting_with s behind t) (is_colon (word t)) ts
 
 abbrev pub setting_behind : List LineToken → Setting
-setting_behind ts = setting_from in_declaration ts
+setting_behind ts = setting_from in_declaration false ts
 
 -- These tokens are a file whose last block is a method, and these are its lines; whether a line of the text is begun is
 -- said as in `AreLines`.

@@ -49,6 +49,7 @@ are_parts : (row : List Piece) → AreProper false 64 row → AreParts (parts ro
 are_parts [] a = tt
 are_parts (pieces.word w p ∷ row) a = (word_proper w p, are_parts row a)
 are_parts (pieces.name n p ∷ row) a = (a.0, are_parts row a.1)
+are_parts (pieces.label n p ∷ row) a = (tt, are_parts row a.1)
 are_parts (pieces.text t p ∷ row) a = (a.0, are_parts row a.1)
 are_parts (pieces.tree e p ∷ row) a = (a.0, are_parts row a.1)
 

@@ -31,6 +31,8 @@ pub data Part : Type 0 where
   -- any other word, as that of an instruction
   other : Word → Place → Part
   name : List ℕ → Place → Part
+  -- the word behind a local label's colon
+  behind_colon : List ℕ → Place → Part
   text : List ℕ → Place → Part
   tree : Tree → Place → Part
 
@@ -60,6 +62,7 @@ part_of_word w p = part_of_meaning (meaning w) w p
 abbrev pub part_of_piece : Piece → Part
 part_of_piece (pieces.word w p) = part_of_word w p
 part_of_piece (pieces.name n p) = name n p
+part_of_piece (pieces.label n p) = behind_colon n p
 part_of_piece (pieces.text t p) = text t p
 part_of_piece (pieces.tree e p) = tree e p
 
@@ -67,6 +70,7 @@ part_of_piece (pieces.tree e p) = tree e p
 abbrev pub place_of : Piece → Place
 place_of (pieces.word w p) = p
 place_of (pieces.name n p) = p
+place_of (pieces.label n p) = p
 place_of (pieces.text t p) = p
 place_of (pieces.tree e p) = p
 

@@ -10,7 +10,7 @@ use Rattle.p8_declarations.specs.declared.data_row.Row.{Row}
 use Rattle.p8_declarations.specs.declared.lines.Head.{Head}
 use Rattle.p8_declarations.specs.declared.items.Stage as code_stage
 use Rattle.p8_declarations.specs.declared.items.Stage.TheVariants as stage_case
-use Rattle.p8_declarations.specs.DataParts.{Part, line_end, colon, comma, hash, left_bracket, right_bracket, size, org, res, fit, condition, effect, jump, other, name, text, tree, parts}
+use Rattle.p8_declarations.specs.DataParts.{Part, line_end, colon, comma, hash, left_bracket, right_bracket, size, org, res, fit, condition, effect, jump, other, name, behind_colon, text, tree, parts}
 use Rattle.p8_declarations.specs.Lines.{Stage, before, behind, open_bracket, counted, over, items, effects, blank}
 
 abbrev pub part_of : code.Part → Part
@@ -29,6 +29,7 @@ part_of (code_case.Effect b) = effect b
 part_of (code_case.Jump p) = jump p
 part_of (code_case.Other w p) = other w p
 part_of (code_case.Name n p) = name n p
+part_of (code_case.Label n p) = behind_colon n p
 part_of (code_case.Text t p) = text t p
 part_of (code_case.Tree e p) = tree (tree_of e) p
 

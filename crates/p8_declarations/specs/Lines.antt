@@ -9,7 +9,7 @@ use Rattle.p8_lexer.specs.declared.word.Word.{Word}
 use Rattle.p8_lexer.specs.declared.word.Word.TheVariants.{Jmp}
 use Rattle.p8_lexer.specs.Words.{spelling}
 use Rattle.p8_lexer.specs.Pieces.{Piece}
-use Rattle.p8_declarations.specs.DataParts.{Part, colon, comma, hash, left_bracket, right_bracket, size, org, res, fit, condition, effect, jump, other, name, text, tree, place_of, parts}
+use Rattle.p8_declarations.specs.DataParts.{Part, colon, comma, hash, left_bracket, right_bracket, size, org, res, fit, condition, effect, jump, other, name, behind_colon, text, tree, place_of, parts}
 
 -- a local label's name: `:` and its letters
 abbrev pub local : List ℕ → List ℕ
@@ -77,7 +77,7 @@ label n p = node p (Var (Named n no_index p))
 abbrev pub behind_hash : Instruction → List Part → Option Instruction
 behind_hash x (tree e p ∷ row) = effects (immediate x e p) row
 behind_hash x (name n p ∷ row) = effects (immediate x (label n p) p) row
-behind_hash x (colon p ∷ name n q ∷ row) = effects (immediate x (label (local n) p) p) row
+behind_hash x (colon p ∷ behind_colon n q ∷ row) = effects (immediate x (label (local n) p) p) row
 behind_hash x row = None
 
 -- a source, if there is one, and effects
@@ -123,7 +123,7 @@ blank p n = record { place = p; label = n; word_place = p; contents = Nothing }
 -- a line whose first token stands here
 abbrev pub line : Place → List Part → Option Line
 line p (name n q ∷ row) = body (blank p (Some n)) row
-line p (colon q ∷ name n r ∷ row) = body (blank p (Some (local n))) row
+line p (colon q ∷ behind_colon n r ∷ row) = body (blank p (Some (local n))) row
 line p row = body (blank p None) row
 
 -- some line, or none where the line's end stands alone

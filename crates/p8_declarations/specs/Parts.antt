@@ -47,6 +47,7 @@ part_of_word _ p = other
 abbrev pub part_of_piece : Piece → Part
 part_of_piece (pieces.word w p) = part_of_word w p
 part_of_piece (pieces.name n p) = name n p
+part_of_piece (pieces.label n p) = other
 part_of_piece (pieces.text t p) = text t p
 part_of_piece (pieces.tree e p) = tree e
 

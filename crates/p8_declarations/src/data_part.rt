@@ -30,6 +30,8 @@ pub enum Part {
     // Any other word, as that of an instruction.
     Other(Word, Place),
     Name(Text, Place),
+    // The word behind a local label's colon.
+    Label(Text, Place),
     Text(Text, Place),
     Tree(Expr, Place),
 }
@@ -68,6 +70,7 @@ pub fn part_of_piece(piece: Piece) -> Part
     match piece {
         Piece::Word(word, place) => part_of_word(word, place),
         Piece::Name(name, place) => Part::Name(name, place),
+        Piece::Label(name, place) => Part::Label(name, place),
         Piece::Text(text, place) => Part::Text(text, place),
         Piece::Tree(tree, place) => Part::Tree(tree, place),
     }
@@ -80,6 +83,7 @@ pub fn place_of(piece: &Piece) -> Place
     match piece {
         Piece::Word(_, place) => *place,
         Piece::Name(_, place) => *place,
+        Piece::Label(_, place) => *place,
         Piece::Text(_, place) => *place,
         Piece::Tree(_, place) => *place,
     }

@@ -120,7 +120,7 @@ fn with_local_label(
         return Ok(None);
     };
     match part {
-        Part::Name(name, _) => with_local_name(alloc, instr, &name, place, row),
+        Part::Label(name, _) => with_local_name(alloc, instr, &name, place, row),
         other => without(other, without(instr, Ok(None))),
     }
 }

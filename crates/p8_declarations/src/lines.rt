@@ -197,7 +197,7 @@ fn local_line(
         return Ok(None);
     };
     match part {
-        Part::Name(name, _) => {
+        Part::Label(name, _) => {
             let label = local(alloc, &name)?;
             body(alloc, Head::new(place, Some(label)), row)
         }

@@ -39,6 +39,7 @@ impl Part {
         match piece {
             Piece::Word(word, place) => Part::of_word(word, place),
             Piece::Name(name, place) => Part::Name(name, place),
+            Piece::Label(name, _) => without(name, Part::Other),
             Piece::Text(text, place) => Part::Text(text, place),
             Piece::Tree(tree, _) => Part::Tree(tree),
         }

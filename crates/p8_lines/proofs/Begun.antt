@@ -44,7 +44,7 @@ real p live.a_name = record { is = record { place = p; text = 65 ∷ []; kind = 
 real p live.a_number = record { is = record { place = p; text = 48 ∷ []; kind = kind.Number 0 }; same = refl }
 real p live.a_string = record { is = record { place = p; text = 34 ∷ 65 ∷ 34 ∷ []; kind = kind.Str }; same = refl }
 real p live.a_change = record { is = record { place = p; text = []; kind = kind.Symbol 0 }; same = refl }
-real p live.a_size = record { is = record { place = p; text = 66 ∷ 89 ∷ 84 ∷ 69 ∷ []; kind = kind.Name }; same = refl }
+real p live.a_size = record { is = record { place = p; text = live.byte_word; kind = kind.Name }; same = refl }
 real p (live.a_mark m) = real_mark p m
 
 pub real_all : {ts : List lexemes.Token} → AreEndings ts → (us : List LineToken) × (terms us ≡ ts)

@@ -19,7 +19,7 @@ use Rattle.p8_lines.specs.declared.state.State.TheVariants as state
 use Rattle.p8_lines.specs.Diagram.{Phrase, choices, behind_in}
 use Rattle.p8_lines.specs.Tokens as tokens
 use Rattle.p8_lines.specs.Tokens.{LineToken, string_length, piece}
-use Rattle.p8_lines.specs.Lines.{Follows, here, is_name, behind, Row, over, token, phrase}
+use Rattle.p8_lines.specs.Lines.{Follows, here, is_name, behind, piece_in, Row, over, token, phrase}
 use Rattle.p8_lines.proofs.Matching.{matches, does_match, target, follows}
 
 -- tokens
@@ -167,7 +167,7 @@ takes : (l : List Arrow) (x : Spelled) (r : State) → target l x.word (string_l
 takes l x r h = follows l x.token r (ap (λ w. target l w (string_length x.token)) x.is ∙ h)
 
 by_token : {q r : State} (x : Spelled) → target (choices q).arrows x.word (string_length x.token) ≡ Some r → Completion r → Completion q
-by_token {q = q} {r = r} x h y = record { row = piece x.token ∷ y.row; tokens = x.token ∷ y.tokens; is = token (takes (choices q).arrows x r h) y.is }
+by_token {q = q} {r = r} x h y = record { row = piece_in q x.token ∷ y.row; tokens = x.token ∷ y.tokens; is = token (takes (choices q).arrows x r h) y.is }
 
 abbrev zero_token : LineToken
 zero_token = record { place = somewhere; text = []; kind = kind.Number 0 }

@@ -3,16 +3,16 @@
 use Rattle.std.proofs.Common.{◌≡◌, ℕ, ◌<◌, length, List, [], ◌∷◌, ◌++◌, Option, Some, None, Bool, true, false, refl, sym, ap, ◌∙◌, subst, arith}
 use Rattle.std.specs.Prelude.{IsTrue, if◌then◌else◌, option_and_then}
 use Rattle.p8_tree.specs.declared.places.Place.{Place}
-use Rattle.p8_tree.specs.Expressions.{Tree}
+use Rattle.p8_tree.specs.Expressions.{Tree, Variable}
 use Rattle.p8_lexer.specs.declared.word.Word.{Word}
 use Rattle.p8_lexer.specs.declared.word.Word.TheVariants as word
 use Rattle.p8_grammar.specs.Lexemes.{Setting, in_method, in_declaration, in_dat, in_data_item, in_action, is_value, Lexeme, left_bracket, right_bracket, right_parenthesis, comma, colon, dot_dot, hash, string, mark, size, other, Token, token}
 use Rattle.p8_grammar.specs.Grammar.{IsExpression, IsFront}
-use Rattle.p8_grammar.specs.Machine.{Shape, Next, if_value, fresh, using, string_read, tree, whole_in, on_bracket, on_close, on_colon, Frame, wrap, reduce, State, state, joined, shut, go_on, beyond, step, walk, all_of, accepted, accept, start}
+use Rattle.p8_grammar.specs.Machine.{Shape, Next, if_value, fresh, using, string_read, strings_read, choices_read, tree, whole_in, on_bracket, on_close, on_colon, on_comma, Frame, wrap, reduce, State, state, joined, shut, go_on, beyond, step, walk, all_of, accepted, accept, start, target, join}
 use Rattle.p8_grammar.proofs.Walks.{walk_append, wraps}
 use Rattle.p8_grammar.proofs.FormsRead.{whole_tree}
-use Rattle.p8_grammar.proofs.Complete.{complete}
-use Rattle.p8_grammar.proofs.Sound.{Pending, nothing_pending, after_operator, in_hole, start_stands, walk_stands}
+use Rattle.p8_grammar.proofs.Complete.{complete, past_label}
+use Rattle.p8_grammar.proofs.Sound.{Pending, nothing_pending, after_operator, in_hole, in_first, start_stands, walk_stands}
 use Rattle.p8_grammar.proofs.Live.{dead}
 use Rattle.p8_lines.specs.declared.sign.Sign.{Sign}
 use Rattle.p8_lines.specs.declared.sign.Sign.TheVariants as sign
@@ -25,7 +25,7 @@ use Rattle.p8_lines.specs.Tokens as tokens
 use Rattle.p8_lines.specs.Tokens.{LineToken, lexeme, term, terms, string_length}
 use Rattle.p8_lines.specs.Lines.{Follows, behind}
 use Rattle.p8_lines.proofs.Arrows.{all_good, all_good_behind, taken, taken_behind}
-use Rattle.p8_lines.proofs.Lexemes.{comma_lexeme, colon_lexeme, range_lexeme, left_bracket_lexeme, right_bracket_lexeme, right_parenthesis_lexeme, hash_lexeme, line_end_lexeme, while_lexeme, until_lexeme, other_lexeme, if_lexeme, ifnot_lexeme, case_lexeme, repeat_lexeme, next_lexeme, quit_lexeme, return_lexeme, abort_lexeme, from_lexeme, to_lexeme, step_lexeme, size_lexeme, flag_lexeme, write_lexeme, string_lexeme}
+use Rattle.p8_lines.proofs.Lexemes.{IsLike, the_word, the_reserved, IsOther, comma_lexeme, colon_lexeme, range_lexeme, left_bracket_lexeme, right_bracket_lexeme, right_parenthesis_lexeme, hash_lexeme, line_end_lexeme, while_lexeme, until_lexeme, other_lexeme, if_lexeme, ifnot_lexeme, case_lexeme, repeat_lexeme, next_lexeme, quit_lexeme, return_lexeme, abort_lexeme, from_lexeme, to_lexeme, step_lexeme, size_lexeme, flag_lexeme, write_lexeme, string_lexeme}
 
 -- before an expression
 
@@ -86,25 +86,34 @@ size_fails s p z h = absurd cc
 abbrev first_step : Setting → LineToken → Lexeme → Option State
 first_step s t x = step (start s) (token t.place x)
 
+other_fails : (s : Setting) (t : LineToken) {x : Lexeme} → IsOther x → first_step s t x ≡ None
+other_fails s t the_word = refl
+other_fails s t (the_reserved n) = refl
+
+size_like_fails : (s : Setting) (t : LineToken) (z : ℕ) {x : Lexeme} → IsLike (size z) x → IsTrue (is_item s) → first_step s t x ≡ None
+size_like_fails s t z the_word h = size_fails s t.place z h
+size_like_fails in_data_item t z (the_reserved n) h = refl
+size_like_fails s t z (the_reserved n) h = absurd cc
+
 word_fails : (s : Setting) (t : LineToken) (w : Word) → tokens.word t ≡ w → IsTrue (begins_nothing w) → first_step s t (lexeme t) ≡ None
-word_fails s t word.LineEnd e h = ap (first_step s t) (line_end_lexeme t e)
-word_fails s t word.While e h = ap (first_step s t) (while_lexeme t e)
-word_fails s t word.Until e h = ap (first_step s t) (until_lexeme t e)
-word_fails s t word.Other e h = ap (first_step s t) (other_lexeme t e)
+word_fails s t word.LineEnd e h = other_fails s t (line_end_lexeme t e)
+word_fails s t word.While e h = other_fails s t (while_lexeme t e)
+word_fails s t word.Until e h = other_fails s t (until_lexeme t e)
+word_fails s t word.Other e h = other_fails s t (other_lexeme t e)
 word_fails s t word.Hash e h = ap (first_step s t) (hash_lexeme t e) ∙ ap (λ o. go_on o s fresh [] t.place (mark hash)) (closed s)
-word_fails s t word.If e h = ap (first_step s t) (if_lexeme t e)
-word_fails s t word.Ifnot e h = ap (first_step s t) (ifnot_lexeme t e)
-word_fails s t word.Case e h = ap (first_step s t) (case_lexeme t e)
-word_fails s t word.Repeat e h = ap (first_step s t) (repeat_lexeme t e)
-word_fails s t word.Next e h = ap (first_step s t) (next_lexeme t e)
-word_fails s t word.Quit e h = ap (first_step s t) (quit_lexeme t e)
-word_fails s t word.Return e h = ap (first_step s t) (return_lexeme t e)
-word_fails s t word.Abort e h = ap (first_step s t) (abort_lexeme t e)
+word_fails s t word.If e h = other_fails s t (if_lexeme t e)
+word_fails s t word.Ifnot e h = other_fails s t (ifnot_lexeme t e)
+word_fails s t word.Case e h = other_fails s t (case_lexeme t e)
+word_fails s t word.Repeat e h = other_fails s t (repeat_lexeme t e)
+word_fails s t word.Next e h = other_fails s t (next_lexeme t e)
+word_fails s t word.Quit e h = other_fails s t (quit_lexeme t e)
+word_fails s t word.Return e h = other_fails s t (return_lexeme t e)
+word_fails s t word.Abort e h = other_fails s t (abort_lexeme t e)
 word_fails s t w e h = absurd cc
 
 sign_fails : (s : Setting) (t : LineToken) (x : Sign) → Matches x (tokens.word t) (string_length t) → IsTrue (opens_nothing s x) → first_step s t (lexeme t) ≡ None
 sign_fails s t (sign.Word w) m h = word_fails s t w m h
-sign_fails s t sign.Size m h = let z = size_lexeme t m in ap (first_step s t) z.1 ∙ size_fails s t.place z.0 h
+sign_fails s t sign.Size m h = let z = size_lexeme t m in size_like_fails s t z.0 z.1 h
 sign_fails s t sign.LongText m h = ap (first_step s t) (string_lexeme t m.0) ∙ long_fails s t.place _ m.1
 sign_fails s t x m h = absurd cc
 
@@ -151,7 +160,7 @@ states_behind q = refl
 
 -- what an expression doesn't go on with
 data Ends (s : Setting) : Lexeme → Type 0 where
-  by_other : Ends s other
+  by_other : {x : Lexeme} → IsOther x → Ends s x
   by_comma : Ends s (mark comma)
   by_colon : Ends s (mark colon)
   by_range : Ends s (mark dot_dot)
@@ -164,8 +173,16 @@ no_colon s p (using u) top h = absurd cc
 no_colon s p sh top h = refl
 
 no_close : (sh : Shape) (top : Tree) → tree sh ≡ Some top → on_close sh ≡ None
-no_close (string_read q t) top h = absurd cc
+no_close (string_read q r t) top h = absurd cc
+no_close (strings_read q es) top h = absurd cc
+no_close (choices_read q j x xs) top h = absurd cc
 no_close sh top h = refl
+
+no_comma : (sh : Shape) (top : Tree) → tree sh ≡ Some top → on_comma sh ≡ None
+no_comma (string_read q r t) top h = absurd cc
+no_comma (strings_read q es) top h = absurd cc
+no_comma (choices_read q j x xs) top h = absurd cc
+no_comma sh top h = refl
 
 no_index : (s : Setting) (sh : Shape) → IsTrue (is_item s) → on_bracket s sh ≡ None
 no_index in_data_item sh h = go sh
@@ -177,8 +194,13 @@ no_index s sh h = absurd cc
 
 -- after a whole expression the reader has no step
 no_step : (s : Setting) (sh : Shape) (k : List Frame) (top e : Tree) (p : Place) (x : Lexeme) → tree sh ≡ Some top → reduce 22 top k ≡ (e, []) → Ends s x → step (state s sh k) (token p x) ≡ None
-no_step s sh k top e p x h r by_other = ap (λ o. beyond o s sh k p other) h
-no_step s sh k top e p x h r by_comma = ap (λ o. beyond o s sh k p (mark comma)) h ∙ ap (λ q. shut comma q.0 q.1) r
+no_step s sh k top e p x h r (by_other the_word) = ap (λ o. beyond o s sh k p other) h
+no_step s sh k top e p x h r (by_other (the_reserved n)) = past_label s sh k p n other top refl h ∙ no_join (target sh)
+  where
+    no_join : (v : Option Variable) → join s v None p top k ≡ None
+    no_join None = refl
+    no_join (Some v) = refl
+no_step s sh k top e p x h r by_comma = ap (λ o. go_on o s sh k p (mark comma)) (no_comma sh top h) ∙ ap (λ o. beyond o s sh k p (mark comma)) h ∙ ap (λ q. shut comma q.0 q.1) r
 no_step s sh k top e p x h r by_range = ap (λ o. beyond o s sh k p (mark dot_dot)) h ∙ ap (λ q. shut dot_dot q.0 q.1) r
 no_step s sh k top e p x h r by_right_bracket = ap (λ o. beyond o s sh k p (mark right_bracket)) h ∙ ap (λ q. shut right_bracket q.0 q.1) r
 no_step s sh k top e p x h r by_colon = ap (λ o. go_on o s sh k p (mark colon)) (no_colon s p sh top h) ∙ ap (λ o. beyond o s sh k p (mark colon)) h ∙ ap (λ q. shut colon q.0 q.1) r
@@ -209,10 +231,11 @@ whole s (state s' sh k) e h = go (whole_in s' sh) refl h
 -- where nothing is open after a value, the setting is the first one
 same_setting : {s s' : Setting} {k : List Frame} {us : List Token} → IsTrue (is_value s) → Pending s s' k us → (top e : Tree) → reduce 22 top k ≡ (e, []) → s' ≡ s
 same_setting d nothing_pending top e h = refl
-same_setting {s = s} {s' = s'} d (after_operator {s = s1} {f = f} {k = k} vs l pending value same kept le low bar reads) top e h =
+same_setting {s = s} {s' = s'} d (after_operator {s = s1} {f = f} {k = k} vs l pending value same kept alike le low bar w reads) top e h =
     let below : s1 ≡ s = same_setting d pending (wrap f top) e (sym (wraps 22 top f k bar) ∙ h) in
     sym (kept (subst (λ s. IsTrue (is_value s)) (sym below) d)) ∙ below
-same_setting d (in_hole pending stands spells) top e h = let y = ap (λ q. q.1) h in absurd cc
+same_setting d (in_hole pending stands spells apart) top e h = let y = ap (λ q. q.1) h in absurd cc
+same_setting d (in_first pending value spells apart) top e h = let y = ap (λ q. q.1) h in absurd cc
 
 setting_kept : (s s' : Setting) (sh : Shape) (k : List Frame) (ts : List Token) (top e : Tree) → IsTrue (is_value s) → walk (start s) ts ≡ Some (state s' sh k) → reduce 22 top k ≡ (e, []) → s' ≡ s
 setting_kept s s' sh k ts top e d w h = let b = walk_stands s ts [] (start s) (state s' sh k) (start_stands s) w in same_setting d b.pending top e h
@@ -223,7 +246,7 @@ item_value s h = absurd cc
 
 -- what it doesn't go on with is the same in another setting, but for a bracket
 moved : {s s' : Setting} {x : Lexeme} → Ends s x → (IsTrue (is_item s) → s' ≡ s) → Ends s' x
-moved by_other f = by_other
+moved (by_other o) f = by_other o
 moved by_comma f = by_comma
 moved by_colon f = by_colon
 moved by_range f = by_range
@@ -252,10 +275,10 @@ any_ends s t word.Colon e h = ending s (lexeme t) _ (colon_lexeme t e) by_colon
 any_ends s t word.DotDot e h = ending s (lexeme t) _ (range_lexeme t e) by_range
 any_ends s t word.RightBracket e h = ending s (lexeme t) _ (right_bracket_lexeme t e) by_right_bracket
 any_ends s t word.RightParenthesis e h = ending s (lexeme t) _ (right_parenthesis_lexeme t e) by_right_parenthesis
-any_ends s t word.LineEnd e h = ending s (lexeme t) _ (line_end_lexeme t e) by_other
-any_ends s t word.From e h = ending s (lexeme t) _ (from_lexeme t e) by_other
-any_ends s t word.To e h = ending s (lexeme t) _ (to_lexeme t e) by_other
-any_ends s t word.Step e h = ending s (lexeme t) _ (step_lexeme t e) by_other
+any_ends s t word.LineEnd e h = by_other (line_end_lexeme t e)
+any_ends s t word.From e h = by_other (from_lexeme t e)
+any_ends s t word.To e h = by_other (to_lexeme t e)
+any_ends s t word.Step e h = by_other (step_lexeme t e)
 any_ends s t w e h = absurd cc
 
 word_ends : (s : Setting) (t : LineToken) (w : Word) → tokens.word t ≡ w → IsTrue (ends_by_word s w) → Ends s (lexeme t)
@@ -264,8 +287,8 @@ word_ends s t w e h = any_ends s t w e h
 
 sign_ends : (s : Setting) (t : LineToken) (x : Sign) → Matches x (tokens.word t) (string_length t) → IsTrue (ends_in s x) → Ends s (lexeme t)
 sign_ends s t (sign.Word w) m h = word_ends s t w m h
-sign_ends s t sign.Flag m h = ending s (lexeme t) other (flag_lexeme t m) by_other
-sign_ends s t sign.Write m h = ending s (lexeme t) other (write_lexeme t m) by_other
+sign_ends s t sign.Flag m h = by_other (flag_lexeme t m)
+sign_ends s t sign.Write m h = by_other (write_lexeme t m)
 sign_ends s t x m h = absurd cc
 
 -- a token that may stand after an expression does not go on with it

@@ -43,6 +43,7 @@ sign_ends sign.Memory r v n e m h = let z = subst (λ v. Matches sign.Memory v n
 sign_ends sign.OneOperand r v n e m h = let z = subst (λ v. Matches sign.OneOperand v n) e m in absurd cc
 sign_ends sign.Flag r v n e m h = let z = subst (λ v. Matches sign.Flag v n) e m in absurd cc
 sign_ends sign.Write r v n e m h = let z = subst (λ v. Matches sign.Write v n) e m in absurd cc
+sign_ends sign.Label r v n e m h = let z = subst (λ v. Matches sign.Label v n) e m in absurd cc
 
 abbrev arrow_ends : Arrow → Bool
 arrow_ends a = ends_line a.sign a.to

@@ -10,7 +10,7 @@ use Rattle.p8_lines.specs.declared.sign.Sign.{Sign}
 use Rattle.p8_lines.specs.declared.sign.Sign.TheVariants as sign
 use Rattle.p8_lines.specs.declared.arrow.Arrow.{Arrow}
 use Rattle.p8_lines.specs.declared.state.State.{State}
-use Rattle.p8_lines.specs.Signs.{is_size, is_condition, takes_two, is_on_memory, takes_one, is_flag, is_write, Matches}
+use Rattle.p8_lines.specs.Signs.{is_size, is_condition, takes_two, is_on_memory, takes_one, is_flag, is_write, is_label, Matches}
 use Rattle.p8_lines.specs.Tokens as tokens
 use Rattle.p8_lines.specs.Tokens.{LineToken, string_length}
 use Rattle.p8_lines.specs.Lines.{Follows, here, further}
@@ -30,6 +30,7 @@ matches sign.Memory v n = is_on_memory v
 matches sign.OneOperand v n = takes_one v
 matches sign.Flag v n = is_flag v
 matches sign.Write v n = is_write v
+matches sign.Label v n = is_label v
 
 same_word : (v w : Word) → sameb the_type v w ≡ true → v ≡ w
 same_word v w h = same_true the_type (search rules) v w h
@@ -59,6 +60,7 @@ does_match sign.Memory v n h = h
 does_match sign.OneOperand v n h = h
 does_match sign.Flag v n h = h
 does_match sign.Write v n h = h
+does_match sign.Label v n h = h
 
 differs : (b : Bool) → b ≡ false → IsTrue b → ⊥
 differs b e h = let z = sym e ∙ h in cc
@@ -74,6 +76,7 @@ does_not_match sign.Memory v n h m = differs (is_on_memory v) h m
 does_not_match sign.OneOperand v n h m = differs (takes_one v) h m
 does_not_match sign.Flag v n h m = differs (is_flag v) h m
 does_not_match sign.Write v n h m = differs (is_write v) h m
+does_not_match sign.Label v n h m = differs (is_label v) h m
 
 -- where a token with this word, and with so many characters between its quotes, leads
 abbrev pub target : List Arrow → Word → ℕ → Option State

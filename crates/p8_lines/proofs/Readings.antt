@@ -1,5 +1,4 @@
 -- Tokens are read in one way.
-use Rattle.std.specs.Prelude.{if◌then◌else◌}
 use Rattle.std.proofs.Common.{◌≡◌, ◌⊎◌, inl, inr, ℕ, Bool, List, [], ◌∷◌, ◌++◌, Some, refl, sym, ap, ◌∙◌, subst, append_assoc, append-nil}
 use Rattle.p8_tree.specs.declared.places.Place.{Place}
 use Rattle.p8_lexer.specs.Pieces.{Piece}
@@ -19,7 +18,7 @@ use Rattle.p8_lines.specs.Stopping.{Stops, FitsSetting}
 use Rattle.p8_lines.proofs.Splits.{Compared, same, beyond, short, compare}
 use Rattle.p8_lines.proofs.Settings.{setting_fits, keeps_setting, keeps_setting_behind}
 use Rattle.p8_lines.proofs.Ways.{Step, token, phrase, Way, none, more, goes_on, cancel}
-use Rattle.p8_lines.proofs.Rows.{leads_way, way_leads, way_row, row_way, at_end, at_once, blocked, begun_with, way_begins, front_begins, none_there}
+use Rattle.p8_lines.proofs.Rows.{leads_way, way_leads, way_row, row_way, at_end, blocked, begun_with, way_begins, front_begins, none_there}
 
 -- what is left after a list of its own beginning
 nothing_more : {X : Type 0} (us vs ws : List X) → us ≡ (us ++ vs) ++ ws → vs ≡ []

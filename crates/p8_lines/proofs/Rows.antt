@@ -1,5 +1,4 @@
 -- Lines and what begins them, as ways.
-use Rattle.std.specs.Prelude.{if◌then◌else◌}
 use Rattle.std.proofs.Common.{◌≡◌, ◌<◌, ◌≤◌, Bool, true, false, List, [], ◌∷◌, ◌++◌, Some, refl, sym, ap, ◌∙◌, subst, append_assoc, append-nil, arith}
 use Rattle.p8_tree.specs.Expressions.{Tree}
 use Rattle.p8_grammar.specs.Grammar.{IsExpression, IsFront}

@@ -1,6 +1,6 @@
 -- The steps of reading a line, as the code takes them.
-use Rattle.std.proofs.Common.{◌≡◌, ◌≢◌, ◌⊎◌, inl, inr, ℕ, ◌+◌, ◌-◌, ◌<◌, ◌≤◌, Bool, true, false, length, List, [], ◌∷◌, ◌++◌, Option, Some, None, Result, Ok, Err, refl, sym, ap, ◌∙◌, subst, append_assoc, arith}
-use Rattle.std.specs.Prelude.{IfErr, nat_lt, option_map, MatchOption}
+use Rattle.std.proofs.Common.{◌≡◌, ◌≢◌, ◌⊎◌, inl, inr, ℕ, ◌+◌, ◌-◌, ◌<◌, ◌≤◌, Bool, true, false, length, List, [], ◌∷◌, ◌++◌, Option, Some, None, refl, sym, ap, ◌∙◌, subst, append_assoc, arith}
+use Rattle.std.specs.Prelude.{nat_lt, option_map}
 use Rattle.std.proofs.lemmas.Bool.{ltb-true, ltb-false}
 use Rattle.std.proofs.lemmas.Option.{slice_get_past}
 use Rattle.p8_tree.specs.declared.places.Place.{Place}
@@ -21,11 +21,11 @@ use Rattle.p8_lines.specs.declared.state.State.TheVariants as state
 use Rattle.p8_lines.specs.Diagram.{Phrase, choices, setting_at}
 use Rattle.p8_lines.specs.Tokens as line_tokens
 use Rattle.p8_lines.specs.Tokens.{LineToken, piece, tokens_from}
-use Rattle.p8_lines.specs.Lines.{Follows, behind, greatest_height, Leads, nowhere, number_of, Reads, read, refused}
+use Rattle.p8_lines.specs.Lines.{Follows, behind, piece_in, greatest_height, Leads, nowhere, number_of, Reads, read, refused}
 use Rattle.p8_lines.specs.Stopping.{token_at, run, FitsSetting, Stops, Goes, Advances}
 use Rattle.p8_lines.proofs.Rows.{leads_on}
 use Rattle.p8_lines.proofs.Readings.{leads_fits, reads_line, reads_stop}
-use Rattle.p8_lines.proofs.Texts.{first_at, is_end}
+use Rattle.p8_lines.proofs.Texts.{is_end}
 use Rattle.p8_lines.proofs.Stops.{run_within, spelled, within, arrow_goes, no_phrase_stops, end_stops, tree_goes, tree_stops, refused_stops}
 use Rattle.p8_lines.proofs.LineEnds.{line_end_over, line_end_behind}
 
@@ -74,9 +74,9 @@ stops_behind_tree s bytes tokens at end q k e arrows n p lt expects parses unfol
 end_word : (bytes : List ℕ) (tokens : List lexer_token.Token) (at : ℕ) → length tokens < at + 1 → line_tokens.word (token_at bytes tokens at) ≡ word.LineEnd
 end_word bytes tokens at lt = ap line_tokens.word (is_end bytes tokens at (slice_get_past tokens at (omega (arith, lt))))
 
-pub arrow_step : (bytes : List ℕ) (tokens : List lexer_token.Token) (at m : ℕ) (q r : State) (old new : List Piece) → at ≤ length tokens → Follows (choices q).arrows (token_at bytes tokens at) r → new ≡ old ++ piece (token_at bytes tokens at) ∷ [] → m ≡ at + 1 → Advances bytes tokens at m q old new r
+pub arrow_step : (bytes : List ℕ) (tokens : List lexer_token.Token) (at m : ℕ) (q r : State) (old new : List Piece) → at ≤ length tokens → Follows (choices q).arrows (token_at bytes tokens at) r → new ≡ old ++ piece_in q (token_at bytes tokens at) ∷ [] → m ≡ at + 1 → Advances bytes tokens at m q old new r
 arrow_step bytes tokens at m q r old new le f kept e = subst (λ m. Advances bytes tokens at m q old new r) (sym e) (record {
-  row = piece (token_at bytes tokens at) ∷ [];
+  row = piece_in q (token_at bytes tokens at) ∷ [];
   kept = kept;
   goes = arrow_goes bytes tokens at q r le f;
   onward = omega arith;

@@ -1,15 +1,13 @@
 -- Where reading a line stops, and where it goes on.
 use Rattle.std.specs.Prelude.{if◌then◌else◌, nat_lt, map, slice_get, option_and_then, unwrap_or}
-use Rattle.std.proofs.Common.{◌≡◌, ◌≢◌, ℕ, ◌+◌, ◌-◌, ◌<◌, ◌≤◌, Bool, true, false, length, take, List, [], ◌∷◌, ◌++◌, Option, Some, None, refl, sym, ap, ◌∙◌, subst, append_assoc, append-nil, arith}
+use Rattle.std.proofs.Common.{◌≡◌, ◌≢◌, ℕ, ◌+◌, ◌-◌, ◌<◌, ◌≤◌, Bool, length, take, List, [], ◌∷◌, ◌++◌, Option, Some, None, refl, sym, ap, ◌∙◌, subst, append_assoc, append-nil, arith}
 use Rattle.std.proofs.lemmas.Option.{slice_get_within, slice_get_past}
 use Rattle.std.proofs.lemmas.Bool.{lt-ltb, le-ltb}
 use Rattle.p8_tree.specs.declared.places.Place.{Place}
 use Rattle.p8_tree.specs.Expressions.{Tree}
-use Rattle.p8_lexer.specs.declared.word.Word.{Word}
 use Rattle.p8_lexer.specs.declared.word.Word.TheVariants as word
 use Rattle.p8_lexer.specs.declared.token.Token as lexer_token
 use Rattle.p8_tree.specs.declared.refusal.Refusal.{Refusal}
-use Rattle.p8_tree.specs.declared.refusal.Refusal.TheVariants as refusal
 use Rattle.p8_tree.specs.declared.refusal.Refusal.TheVariants.{TooNested, Unexpected}
 use Rattle.p8_tree.specs.Refusals.{refusal_number}
 use Rattle.p8_lexer.specs.Words.{word_of}
@@ -29,7 +27,7 @@ use Rattle.p8_lines.specs.declared.state.State.TheVariants as state
 use Rattle.p8_lines.specs.Diagram.{Phrase, choices}
 use Rattle.p8_lines.specs.Tokens as line_tokens
 use Rattle.p8_lines.specs.Tokens.{LineToken, term, terms, piece, line_token, tokens_from}
-use Rattle.p8_lines.specs.Lines.{Follows, behind, Row, Begins, greatest_height, Leads, nowhere, by_token, by_phrase, IsTooHigh, HasTooHigh, number_of}
+use Rattle.p8_lines.specs.Lines.{Follows, behind, piece_in, Row, Begins, greatest_height, Leads, nowhere, by_token, by_phrase, IsTooHigh, HasTooHigh, number_of}
 use Rattle.p8_lines.specs.Stopping.{token_at, run, FitsSetting, Stops, too_high, stopped, Goes}
 use Rattle.p8_lines.proofs.Splits.{Compared, same, beyond, short, compare}
 use Rattle.p8_lines.proofs.Fronts.{behind_fails}
@@ -126,7 +124,7 @@ behind_stops s q h us t vs ts e p unfollowed begins ends not_behind low =
 
 -- the steps of the code
 
-pub arrow_goes : (bytes : List ℕ) (tokens : List lexer_token.Token) (at : ℕ) (q r : State) → at ≤ length tokens → Follows (choices q).arrows (token_at bytes tokens at) r → Goes bytes tokens at (at + 1) q (piece (token_at bytes tokens at) ∷ []) r
+pub arrow_goes : (bytes : List ℕ) (tokens : List lexer_token.Token) (at : ℕ) (q r : State) → at ≤ length tokens → Follows (choices q).arrows (token_at bytes tokens at) r → Goes bytes tokens at (at + 1) q (piece_in q (token_at bytes tokens at) ∷ []) r
 arrow_goes bytes tokens at q r le f = record { taken = token_at bytes tokens at ∷ []; split = first_at bytes tokens at le; leads = by_token f nowhere }
 
 pub no_phrase_stops : (s : Setting) (bytes : List ℕ) (tokens : List lexer_token.Token) (at : ℕ) (q : State) → at ≤ length tokens → q ≢ state.End → ((r : State) → ¬ Follows (choices q).arrows (token_at bytes tokens at) r) → (choices q).phrase ≡ None → Stops s q (tokens_from bytes tokens at) (number_of s (line_tokens.word (token_at bytes tokens at))) (token_at bytes tokens at).place

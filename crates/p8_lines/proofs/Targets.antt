@@ -1,6 +1,6 @@
 -- Where tokens lead, as the code looks it up.
 use Rattle.std.proofs.Common.{◌≡◌, ◌≢◌, ◌⊎◌, inl, inr, ℕ, zero, suc, ◌+◌, ◌-◌, ◌<◌, ◌≤◌, Bool, true, false, length, drop, get_or, List, [], ◌∷◌, Option, Some, None, refl, sym, ap, ◌∙◌, subst, arith, add-one, drop-cons}
-use Rattle.std.specs.Prelude.{map, slice_get, take, if◌then◌else◌, MatchOption}
+use Rattle.std.specs.Prelude.{map, slice_get, take, if◌then◌else◌, unwrap_or, MatchOption}
 use Rattle.std.proofs.lemmas.Option.{slice_get_within}
 use Rattle.p8_tree.specs.declared.places.Place.{Place}
 use Rattle.p8_lexer.specs.declared.word.Word.{Word}
@@ -8,20 +8,20 @@ use Rattle.p8_lexer.specs.declared.word.Word.TheVariants as word
 use Rattle.p8_lexer.specs.declared.token.Token as lexer_token
 use Rattle.p8_lexer.specs.declared.token.TokenKind.{TokenKind}
 use Rattle.p8_lexer.specs.declared.token.TokenKind.TheVariants as kind
-use Rattle.p8_lexer.specs.Words.{word_of_kind, word_of}
-use Rattle.p8_expr.specs.Words.{lexeme_of_word, lexeme_by_word, lexeme_by_kind, lexeme_of_token}
+use Rattle.p8_lexer.specs.Words.{capital, word_of_kind, word_of}
+use Rattle.p8_expr.specs.Words.{lexeme_of_word, lexeme_by_word, reserved_as, lexeme_by_kind, lexeme_of_token}
 use Rattle.p8_lines.specs.declared.arrow.Arrow.{Arrow}
 use Rattle.p8_lines.specs.declared.state.State.{State}
 use Rattle.p8_lines.specs.Signs.{Matches}
 use Rattle.p8_lines.specs.Tokens as line_tokens
-use Rattle.p8_lines.specs.Tokens.{LineToken, lexeme, string_length, piece, piece_from, line_token, text_end, tokens_from}
+use Rattle.p8_lines.specs.Tokens.{LineToken, lexeme, string_length, piece, piece_from, label_piece, line_token, text_end, tokens_from}
 use Rattle.p8_lines.specs.Diagram.{Phrase, choices, behind_in, behind_name_in}
 use Rattle.p8_lines.specs.Stopping.{token_at, run}
 use Rattle.p8_lexer.specs.Pieces as pieces
 use Rattle.p8_lexer.specs.Pieces.{Piece}
-use Rattle.p8_grammar.specs.Lexemes.{Lexeme}
+use Rattle.p8_grammar.specs.Lexemes.{Lexeme, method_result, name_in}
 use Rattle.p8_lines.specs.Lines.{IsOn, Follows, here, further, is_name_word, is_name, behind}
-use Rattle.p8_lines.proofs.Lexemes.{name_lexeme, result_lexeme}
+use Rattle.p8_lines.proofs.Lexemes.{IsLike, the_word, the_reserved, name_lexeme, result_lexeme}
 use Rattle.p8_lines.proofs.Texts.{none_within, last_is, first_at, is_at, is_end}
 
 -- the last token's place
@@ -39,7 +39,11 @@ pub named : (t : LineToken) (w : Word) → line_tokens.word t ≡ w → w ≡ wo
 named t w e n = ap is_name_word (sym (name_lexeme t (e ∙ n)))
 
 pub result_named : (t : LineToken) (w : Word) → line_tokens.word t ≡ w → w ≡ word.Result → true ≡ is_name_word (lexeme t)
-result_named t w e n = ap is_name_word (sym (result_lexeme t (e ∙ n)))
+result_named t w e n = go (result_lexeme t (e ∙ n))
+  where
+    go : {x : Lexeme} → IsLike method_result x → true ≡ is_name_word x
+    go the_word = refl
+    go (the_reserved n) = refl
 
 pub either_named : (t : LineToken) (w : Word) → line_tokens.word t ≡ w → (w ≡ word.Name) ⊎ (w ≡ word.Result) → true ≡ is_name_word (lexeme t)
 either_named t w e (inl n) = named t w e n
@@ -51,13 +55,19 @@ other_word text word.Name n r = absurd (n refl)
 other_word text word.Result n r = absurd (r refl)
 other_word text v n r = refl
 
+other_name : (m text : List ℕ) (v : Word) → v ≢ word.Name → v ≢ word.Result → false ≡ is_name_word (reserved_as m (lexeme_by_word text v))
+unfolding lexeme_of_word
+other_name m text word.Name n r = absurd (n refl)
+other_name m text word.Result n r = absurd (r refl)
+other_name m text v n r = refl
+
 pub not_named : (t : LineToken) (w : Word) → line_tokens.word t ≡ w → w ≢ word.Name → w ≢ word.Result → false ≡ is_name_word (lexeme t)
 not_named t w e n r = go t.kind e
   where
     go : (k : TokenKind) → word_of_kind t.text k ≡ w → false ≡ is_name_word (lexeme_by_kind t.text (word_of_kind t.text k) k)
     go (kind.Number m) e = refl
     go kind.Str e = refl
-    go kind.Name e = other_word t.text (word_of_kind t.text kind.Name) (λ x. n (sym e ∙ x)) (λ x. r (sym e ∙ x))
+    go kind.Name e = other_name (map capital t.text) t.text (word_of_kind t.text kind.Name) (λ x. n (sym e ∙ x)) (λ x. r (sym e ∙ x))
     go (kind.Symbol m) e = other_word t.text (word_of_kind t.text (kind.Symbol m)) (λ x. n (sym e ∙ x)) (λ x. r (sym e ∙ x))
     go kind.Float e = other_word t.text (word_of_kind t.text kind.Float) (λ x. n (sym e ∙ x)) (λ x. r (sym e ∙ x))
     go kind.LineEnd e = other_word t.text (word_of_kind t.text kind.LineEnd) (λ x. n (sym e ∙ x)) (λ x. r (sym e ∙ x))
@@ -120,6 +130,20 @@ piece_there bytes tokens at t x w p y h e a b d =
     let is = is_at bytes tokens at t h in
     let place = d ∙ ap (λ t. t.place) is in
     e ∙ (λ i. piece_from (a i) (b i) (place i)) ∙ ap piece (sym is)
+
+-- the piece of a local label's name
+pub label_there : (bytes : List ℕ) (tokens : List lexer_token.Token) (at : ℕ) (t : lexer_token.Token) (x : Lexeme) (n : List ℕ) (p : Place) → slice_get tokens at ≡ Some t → n ≡ unwrap_or (name_in x) [] → x ≡ lexeme_of_token bytes t → p ≡ (token_at bytes tokens at).place → pieces.label n p ≡ label_piece (token_at bytes tokens at)
+unfolding lexeme_of_token
+label_there bytes tokens at t x n p h e a d =
+    let is = is_at bytes tokens at t h in
+    let place = d ∙ ap (λ t. t.place) is in
+    (λ i. pieces.label ((e ∙ ap (λ x. unwrap_or (name_in x) []) a) i) (place i)) ∙ ap label_piece (sym is)
+
+pub label_end : (bytes : List ℕ) (tokens : List lexer_token.Token) (at : ℕ) (n : List ℕ) (p : Place) → slice_get tokens at ≡ None → n ≡ [] → p ≡ (token_at bytes tokens at).place → pieces.label n p ≡ label_piece (token_at bytes tokens at)
+unfolding lexeme_of_word
+label_end bytes tokens at n p h e d =
+    let is = is_end bytes tokens at h in
+    (λ i. pieces.label (e i) ((d ∙ ap (λ t. t.place) is) i)) ∙ ap label_piece (sym is)
 
 pub piece_end : (bytes : List ℕ) (tokens : List lexer_token.Token) (at : ℕ) (p : Place) → slice_get tokens at ≡ None → p ≡ (token_at bytes tokens at).place → pieces.word word.LineEnd p ≡ piece (token_at bytes tokens at)
 unfolding lexeme_of_word

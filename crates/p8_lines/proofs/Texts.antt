@@ -1,5 +1,5 @@
 -- The tokens of a text, one after the other, and the longest run of them that begins an expression.
-use Rattle.std.proofs.Common.{◌≡◌, ℕ, zero, suc, ◌+◌, ◌-◌, ◌<◌, ◌≤◌, length, take, drop, List, [], ◌∷◌, ◌++◌, Bool, true, false, Option, Some, None, refl, sym, ap, ◌∙◌, subst, arith, add-one}
+use Rattle.std.proofs.Common.{◌≡◌, ℕ, zero, suc, ◌+◌, ◌<◌, ◌≤◌, length, take, drop, List, [], ◌∷◌, ◌++◌, Bool, true, false, Option, Some, None, refl, sym, ap, ◌∙◌, subst, arith, add-one}
 use Rattle.std.specs.Prelude.{map, slice_get, option_map, option_and_then, unwrap_or, if◌then◌else◌}
 use Rattle.std.proofs.lemmas.Option.{slice_get_within}
 use Rattle.std.proofs.lemmas.List.{take-append-drop, length-map, length-drop}
@@ -7,8 +7,9 @@ use Rattle.p8_tree.specs.declared.places.Place.{Place}
 use Rattle.p8_lexer.specs.declared.token.Token as lexer_token
 use Rattle.p8_grammar.specs.Lexemes.{Setting, is_value, other, Token, token}
 use Rattle.p8_grammar.specs.Grammar.{IsFront, IsLongestFront}
-use Rattle.p8_grammar.specs.Machine.{using, reading, used, fresh, grow, infix_frame, go_on, Shape, if_fresh, beyond, State, state, joined, tree, step, walk, start}
+use Rattle.p8_grammar.specs.Machine.{reading, used, fresh, grow, infix_frame, go_on, beyond, State, state, joined, tree, step, walk, start}
 use Rattle.p8_tree.specs.Expressions.{Tree}
+use Rattle.p8_grammar.proofs.Steps.{other_none}
 use Rattle.p8_grammar.proofs.Live.{dead}
 use Rattle.p8_grammar.proofs.Walks.{walk_append}
 use Rattle.p8_expr.specs.Words.{token_of, lexeme_of_token, lexeme_of_word}
@@ -59,12 +60,8 @@ no_other (joined s r c q v k) p = go (is_value s)
     go false = refl
 no_other (state s sh k) p = go (tree sh)
   where
-    fresh_none : (sh : Shape) → if_fresh s sh None p k ≡ None
-    fresh_none (using reading) = refl
-    fresh_none sh = refl
-
     go : (o : Option Tree) → beyond o s sh k p other ≡ None
-    go None = fresh_none sh
+    go None = other_none s sh k p
     go (Some e) = refl
 
 pub other_ends : (s : Setting) (ts : List Token) (p : Place) → ¬ IsFront s (ts ++ token p other ∷ [])

@@ -10,7 +10,7 @@ use Rattle.p8_lines.specs.declared.arrow.Arrow.{Arrow}
 use Rattle.p8_lines.specs.declared.state.State.{State}
 use Rattle.p8_lines.specs.Diagram.{Phrase, choices}
 use Rattle.p8_lines.specs.Tokens.{LineToken, term, terms, piece}
-use Rattle.p8_lines.specs.Lines.{Follows, here, further, behind, greatest_height}
+use Rattle.p8_lines.specs.Lines.{Follows, here, further, behind, piece_in, greatest_height}
 use Rattle.p8_lines.proofs.Splits.{Compared, same, beyond, short, compare}
 use Rattle.p8_lines.proofs.Fronts.{before_fails, behind_fails}
 
@@ -40,7 +40,7 @@ one_follower (further x f) (further y g) = one_follower f g
 
 -- one step: a token, or an expression with the token after it; `low` says that it isn't too high
 pub data Step (low : Bool) : State → List LineToken → List Piece → State → Type 0 where
-  token : {q r : State} {t : LineToken} → Follows (choices q).arrows t r → Step low q (t ∷ []) (piece t ∷ []) r
+  token : {q r : State} {t : LineToken} → Follows (choices q).arrows t r → Step low q (t ∷ []) (piece_in q t ∷ []) r
   phrase : {q r : State} {h : Phrase} {e : Tree} {first t : LineToken} (others : List LineToken) → (choices q).phrase ≡ Some h → IsExpression h.setting e (terms (first ∷ others)) → (IsTrue low → height e ≤ greatest_height) → Follows (behind h (first ∷ others)) t r → Step low q (first ∷ (others ++ t ∷ [])) (tree e first.place ∷ piece t ∷ []) r
 
 pub data Way (low : Bool) : State → List LineToken → List Piece → State → Type 0 where
@@ -89,7 +89,7 @@ one_step ws ws' (token {q = q} {r = r} {t = t} f) (token {r = r'} {t = t'} g) sp
     let firsts : t ≡ t' = cc in
     record {
       tokens = λ i. firsts i ∷ [];
-      pieces = λ i. piece (firsts i) ∷ [];
+      pieces = λ i. piece_in q (firsts i) ∷ [];
       ends = one_follower (subst (λ u. Follows (choices q).arrows u r) firsts f) g;
     }
 one_step ws ws' (token {q = q} {r = r} {t = t} f) (phrase {h = h} {e = e} {first = first} others p x l g) split = let firsts : t ≡ first = cc in absurd (token_alone q r h e t first others f p x firsts)

@@ -1,7 +1,7 @@
 -- The forms of lines as a diagram: at each of its states, which tokens may stand next, or an expression
 -- and what may stand after it (Propeller Manual v1.2, "Spin Language Reference" and "Propeller Assembly
 -- Language Reference": the entries of the words; all that they leave open is this project's profile).
-use Rattle.std.specs.Prelude.{Bool, true, false, List, [], ◌∷◌, Option, Some, None}
+use Rattle.std.specs.Prelude.{List, [], ◌∷◌, Option, Some, None}
 use Rattle.p8_lexer.specs.declared.word.Word.{Word}
 use Rattle.p8_lexer.specs.declared.word.Word.TheVariants as word
 use Rattle.p8_grammar.specs.Lexemes.{Setting, in_method, in_declaration, in_dat, in_data_item, in_action}
@@ -88,7 +88,7 @@ choices state.MoreLocals = tokens (word.Comma ⇒ state.Local ∷ word.LineEnd �
 -- DAT: an optional label, then data, ORG, RES, FIT or an instruction.
 choices state.DatHead = tokens (word.LineEnd ⇒ state.End ∷ word.Name ⇒ state.DatBody ∷ word.Colon ⇒ state.DatLabel ∷ any sign.Size state.FirstData ∷ word.Org ⇒ state.DatValue ∷ word.Res ⇒ state.DatValue ∷ word.Fit ⇒ state.DatValue ∷ any sign.Condition state.Conditioned ∷ any sign.TwoOperands state.Destination ∷ any sign.Memory state.MemoryDestination ∷ any sign.OneOperand state.OnlyDestination ∷ word.Jmp ⇒ state.Source ∷ word.Call ⇒ state.CallHash ∷ word.Ret ⇒ state.Effects ∷ word.Nop ⇒ state.LineEnd ∷ [])
 choices state.DatLine = tokens (word.Name ⇒ state.DatBody ∷ word.Colon ⇒ state.DatLabel ∷ any sign.Size state.FirstData ∷ word.Org ⇒ state.DatValue ∷ word.Res ⇒ state.DatValue ∷ word.Fit ⇒ state.DatValue ∷ any sign.Condition state.Conditioned ∷ any sign.TwoOperands state.Destination ∷ any sign.Memory state.MemoryDestination ∷ any sign.OneOperand state.OnlyDestination ∷ word.Jmp ⇒ state.Source ∷ word.Call ⇒ state.CallHash ∷ word.Ret ⇒ state.Effects ∷ word.Nop ⇒ state.LineEnd ∷ [])
-choices state.DatLabel = tokens (word.Name ⇒ state.DatBody ∷ [])
+choices state.DatLabel = tokens (any sign.Label state.DatBody ∷ [])
 choices state.DatBody = tokens (word.LineEnd ⇒ state.End ∷ any sign.Size state.FirstData ∷ word.Org ⇒ state.DatValue ∷ word.Res ⇒ state.DatValue ∷ word.Fit ⇒ state.DatValue ∷ any sign.Condition state.Conditioned ∷ any sign.TwoOperands state.Destination ∷ any sign.Memory state.MemoryDestination ∷ any sign.OneOperand state.OnlyDestination ∷ word.Jmp ⇒ state.Source ∷ word.Call ⇒ state.CallHash ∷ word.Ret ⇒ state.Effects ∷ word.Nop ⇒ state.LineEnd ∷ [])
 choices state.DatValue = either (word.LineEnd ⇒ state.End ∷ []) (outer in_dat (word.LineEnd ⇒ state.End ∷ []))
 choices state.FirstData = either (word.LineEnd ⇒ state.End ∷ any sign.Size state.DataValue ∷ any sign.LongText state.MoreData ∷ []) (outer in_data_item (word.LeftBracket ⇒ state.DataCount ∷ word.Comma ⇒ state.Data ∷ word.LineEnd ⇒ state.End ∷ []))
@@ -106,7 +106,7 @@ choices state.MemorySourceValue = expression (outer in_dat (any sign.Flag state.
 choices state.OnlyDestination = expression (outer in_dat (any sign.Flag state.MoreEffects ∷ any sign.Write state.MoreEffects ∷ word.LineEnd ⇒ state.End ∷ []))
 choices state.CallHash = tokens (word.Hash ⇒ state.CallLabel ∷ [])
 choices state.CallLabel = tokens (word.Name ⇒ state.Effects ∷ word.Colon ⇒ state.CallLocal ∷ [])
-choices state.CallLocal = tokens (word.Name ⇒ state.Effects ∷ [])
+choices state.CallLocal = tokens (any sign.Label state.Effects ∷ [])
 choices state.Effects = tokens (any sign.Flag state.MoreEffects ∷ any sign.Write state.MoreEffects ∷ word.LineEnd ⇒ state.End ∷ [])
 choices state.MoreEffects = tokens (any sign.Flag state.MoreEffects ∷ any sign.Write state.MoreEffects ∷ word.Comma ⇒ state.Effect ∷ word.LineEnd ⇒ state.End ∷ [])
 choices state.Effect = tokens (any sign.Flag state.MoreEffects ∷ any sign.Write state.MoreEffects ∷ [])

@@ -5,7 +5,7 @@ use Rattle.p8_tree.specs.Expressions.{Tree}
 use Rattle.p8_lexer.specs.declared.word.Word.{Word}
 use Rattle.p8_tree.specs.declared.refusal.Refusal.TheVariants.{Unexpected, TooNested}
 use Rattle.p8_tree.specs.Refusals.{refusal_number}
-use Rattle.p8_grammar.specs.Lexemes.{Setting, name, method_result, Lexeme}
+use Rattle.p8_grammar.specs.Lexemes.{Setting, name, method_result, plain, Lexeme}
 use Rattle.p8_grammar.specs.Grammar.{IsExpression, IsFront}
 use Rattle.p8_grammar.specs.Heights as heights
 use Rattle.p8_grammar.specs.Heights.{height}
@@ -17,7 +17,7 @@ use Rattle.p8_lines.specs.declared.arrow.Arrow.{Arrow}
 use Rattle.p8_lines.specs.declared.state.State.{State}
 use Rattle.p8_lines.specs.declared.state.State.TheVariants as state
 use Rattle.p8_lines.specs.Diagram.{Phrase, choices, setting_at}
-use Rattle.p8_lines.specs.Tokens.{LineToken, word, lexeme, terms, string_length, piece}
+use Rattle.p8_lines.specs.Tokens.{LineToken, word, lexeme, terms, string_length, piece, label_piece}
 
 abbrev pub IsOn : Arrow → LineToken → Type 0
 IsOn a t = Matches a.sign (word t) (string_length t)
@@ -29,9 +29,12 @@ pub data Follows : List Arrow → LineToken → State → Type 0 where
 
 -- a name alone, or RESULT
 abbrev pub is_name_word : Lexeme → Bool
-is_name_word (name n) = true
-is_name_word method_result = true
-is_name_word _ = false
+is_name_word x = may_count (plain x)
+  where
+    may_count : Lexeme → Bool
+    may_count (name n) = true
+    may_count method_result = true
+    may_count _ = false
 
 abbrev pub is_name : List LineToken → Bool
 is_name [] = false
@@ -42,10 +45,16 @@ is_name (t ∷ u ∷ ts) = false
 abbrev pub behind : Phrase → List LineToken → List Arrow
 behind h us = if is_name us then h.behind_name else h.behind_other
 
+-- the piece of a token that may stand at a state
+abbrev pub piece_in : State → LineToken → Piece
+piece_in state.DatLabel t = label_piece t
+piece_in state.CallLocal t = label_piece t
+piece_in q t = piece t
+
 -- From a state on, these tokens are a line, or what is left of one, and these are its pieces.
 pub data Row : State → List Piece → List LineToken → Type 0 where
   over : Row state.End [] []
-  token : {q r : State} {row : List Piece} {t : LineToken} {ts : List LineToken} → Follows (choices q).arrows t r → Row r row ts → Row q (piece t ∷ row) (t ∷ ts)
+  token : {q r : State} {row : List Piece} {t : LineToken} {ts : List LineToken} → Follows (choices q).arrows t r → Row r row ts → Row q (piece_in q t ∷ row) (t ∷ ts)
   phrase : {q r : State} {h : Phrase} {e : Tree} {row : List Piece} {first t : LineToken} (others : List LineToken) {ts : List LineToken} → (choices q).phrase ≡ Some h → IsExpression h.setting e (terms (first ∷ others)) → Follows (behind h (first ∷ others)) t r → Row r row ts → Row q (tree e first.place ∷ piece t ∷ row) ((first ∷ others) ++ t ∷ ts)
 
 -- some line, or what is left of one, begins with these tokens
@@ -55,7 +64,7 @@ Begins q ts = (rest : List LineToken) × (row : List Piece) × Row q row (ts ++ 
 -- These tokens lead from one state to another, as these pieces; no expression among them is too high.
 pub data Leads : State → List LineToken → List Piece → State → Type 0 where
   nowhere : {q : State} → Leads q [] [] q
-  by_token : {q r s : State} {row : List Piece} {t : LineToken} {ts : List LineToken} → Follows (choices q).arrows t r → Leads r ts row s → Leads q (t ∷ ts) (piece t ∷ row) s
+  by_token : {q r s : State} {row : List Piece} {t : LineToken} {ts : List LineToken} → Follows (choices q).arrows t r → Leads r ts row s → Leads q (t ∷ ts) (piece_in q t ∷ row) s
   by_phrase : {q r s : State} {h : Phrase} {e : Tree} {row : List Piece} {first t : LineToken} (others : List LineToken) {ts : List LineToken} → (choices q).phrase ≡ Some h → IsExpression h.setting e (terms (first ∷ others)) → height e ≤ greatest_height → Follows (behind h (first ∷ others)) t r → Leads r ts row s → Leads q ((first ∷ others) ++ t ∷ ts) (tree e first.place ∷ piece t ∷ row) s
 
 -- some of these tokens, from the first one, begin an expression, and each that begins so is too high

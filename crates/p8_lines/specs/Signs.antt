@@ -1,9 +1,11 @@
 -- Which tokens an arrow of the diagram stands for (Propeller Manual v1.2, "Reserved Words").
-use Rattle.std.specs.Prelude.{◌≡◌, ℕ, ◌<◌, Bool, true, false, IsTrue}
+use Rattle.std.specs.Prelude.{◌≡◌, ℕ, ◌<◌, Bool, true, false, ◌||◌, IsTrue}
+use Rattle.p8_tree.specs.Names.{begins_name}
 use Rattle.p8_lexer.specs.declared.word.Word.{Word}
 use Rattle.p8_lexer.specs.declared.word.Word.TheVariants as word
 use Rattle.p8_lexer.specs.declared.meaning.Meaning.{Meaning}
 use Rattle.p8_lexer.specs.declared.meaning.Meaning.TheVariants as meant
+use Rattle.p8_lexer.specs.Words.{spelling}
 use Rattle.p8_lexer.specs.Meanings.{meaning}
 use Rattle.p8_lines.specs.declared.sign.Sign.{Sign}
 use Rattle.p8_lines.specs.declared.sign.Sign.TheVariants as sign
@@ -69,6 +71,15 @@ is_write word.Wr = true
 is_write word.Nr = true
 is_write _ = false
 
+-- a name that isn't reserved
+abbrev pub is_name : Word → Bool
+is_name word.Name = true
+is_name _ = false
+
+-- a name, or a reserved word: what may stand behind the colon of a local label
+abbrev pub is_label : Word → Bool
+is_label w = begins_name (spelling w) || is_name w
+
 -- a token with this word, and with so many characters between its quotes, is one of these
 abbrev pub Matches : Sign → Word → ℕ → Type 0
 Matches (sign.Word w) v n = v ≡ w
@@ -81,3 +92,4 @@ Matches sign.Memory v n = IsTrue (is_on_memory v)
 Matches sign.OneOperand v n = IsTrue (takes_one v)
 Matches sign.Flag v n = IsTrue (is_flag v)
 Matches sign.Write v n = IsTrue (is_write v)
+Matches sign.Label v n = IsTrue (is_label v)

@@ -1,5 +1,5 @@
 -- internal: where reading a line stops, from a state in its midst.
-use Rattle.std.specs.Prelude.{◌≡◌, ℕ, ◌+◌, ◌<◌, ◌≤◌, ◌==◌, Bool, ◌&&◌, length, take, if◌then◌else◌, List, [], ◌∷◌, ◌++◌, Some, option_map, unwrap_or, slice_get, map}
+use Rattle.std.specs.Prelude.{◌≡◌, ℕ, ◌+◌, ◌<◌, ◌≤◌, length, take, List, [], ◌∷◌, ◌++◌, Some, option_map, unwrap_or, slice_get, map}
 use Rattle.p8_tree.specs.declared.places.Place.{Place}
 use Rattle.p8_lexer.specs.declared.token.Token as lexer_token
 use Rattle.p8_lexer.specs.declared.word.Word.{Word}

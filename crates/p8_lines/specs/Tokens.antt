@@ -1,5 +1,5 @@
 -- The tokens of a source, as lines have them.
-use Rattle.std.specs.Prelude.{ℕ, List, [], ◌∷◌, ◌++◌, map, drop, length}
+use Rattle.std.specs.Prelude.{ℕ, List, [], ◌∷◌, ◌++◌, map, drop, length, unwrap_or}
 use Rattle.p8_tree.specs.declared.places.Place.{Place}
 use Rattle.p8_lexer.specs.declared.word.Word.{Word}
 use Rattle.p8_lexer.specs.declared.token.Token as lexer_token
@@ -45,6 +45,10 @@ piece_from _ w p = pieces.word w p
 
 abbrev pub piece : LineToken → Piece
 piece t = piece_from (lexeme t) (word t) t.place
+
+-- the piece that it is behind the colon of a local label
+abbrev pub label_piece : LineToken → Piece
+label_piece t = pieces.label (unwrap_or (lexemes.name_in (lexeme t)) []) t.place
 
 abbrev pub line_token : List ℕ → lexer_token.Token → LineToken
 line_token bytes t = record { place = t.place; text = characters bytes t; kind = t.kind }

@@ -77,7 +77,7 @@ impl State {
                 [OneOperand] => OnlyDestination, Jmp => Source, Call => CallHash, Ret => Effects,
                 Nop => LineEnd,
             ],
-            State::DatLabel => arrows![Name => DatBody],
+            State::DatLabel => arrows![[Label] => DatBody],
             State::DatBody => arrows![
                 LineEnd => End, [Size] => FirstData, Org => DatValue, Res => DatValue,
                 Fit => DatValue, [Condition] => Conditioned, [TwoOperands] => Destination,
@@ -100,7 +100,7 @@ impl State {
             State::MemorySource => arrows![Hash => MemorySourceValue],
             State::CallHash => arrows![Hash => CallLabel],
             State::CallLabel => arrows![Name => Effects, Colon => CallLocal],
-            State::CallLocal => arrows![Name => Effects],
+            State::CallLocal => arrows![[Label] => Effects],
             State::Effects => arrows![
                 [Flag] => MoreEffects, [Write] => MoreEffects, LineEnd => End,
             ],

@@ -1,7 +1,8 @@
 // Reading a line.
-ghost use Rattle.std.specs.Prelude.{◌≡◌, ◌≢◌, ℕ, ◌+◌, ◌-◌, ◌<◌, ◌≤◌, ◌++◌, ◌∷◌, [], IfOk, IfErr, MatchOption, IsTrue, ◌↔◌, map, length, Some, option_map};
+ghost use Rattle.std.specs.Prelude.{◌≡◌, ◌≢◌, ℕ, ◌+◌, ◌-◌, ◌<◌, ◌≤◌, ◌++◌, ◌∷◌, [], IfOk, IfErr, MatchOption, IsTrue, ◌↔◌, map, length, Some, option_map, unwrap_or};
 ghost use Rattle.p8_tree.specs.Views.{tree_of};
 ghost use Rattle.p8_tree.specs.Faults.{IfRefused};
+ghost use Rattle.p8_grammar.specs.Lexemes.{name_in};
 ghost use Rattle.p8_grammar.specs.Views.{setting_of, lexeme_of};
 ghost use Rattle.p8_expr.specs.Parsing.{tree, Parses};
 ghost use Rattle.p8_lexer.specs.Pieces.{piece_of, pieces_of};
@@ -9,8 +10,8 @@ ghost use Rattle.p8_lines.specs.declared.state.State as line_state;
 ghost use Rattle.p8_lines.specs.declared.state.State.TheVariants as state_case;
 ghost use Rattle.p8_lines.specs.Diagram.{Phrase, choices};
 ghost use Rattle.p8_lines.specs.Tokens as line_tokens;
-ghost use Rattle.p8_lines.specs.Tokens.{LineToken, string_length, piece, piece_from, line_token, text_end, tokens_from};
-ghost use Rattle.p8_lines.specs.Lines.{Follows, is_name_word, behind, greatest_height, Reads, read, refused, number_of, OneReading};
+ghost use Rattle.p8_lines.specs.Tokens.{LineToken, string_length, piece, piece_from, label_piece, line_token, text_end, tokens_from};
+ghost use Rattle.p8_lines.specs.Lines.{Follows, is_name_word, behind, piece_in, greatest_height, Reads, read, refused, number_of, OneReading};
 ghost use Rattle.p8_lines.specs.Stopping.{token_at, run, FitsSetting, Stops, Advances};
 
 use crate::arrow::Arrow;
@@ -18,7 +19,7 @@ use crate::state::State;
 use p8_expr::{GREATEST_HEIGHT, lexeme, parse_expr_in, refusal_of};
 use p8_grammar::{Lexeme, Setting, Term};
 use p8_lexer::{Characters, Piece, Tokens, Word, word_of};
-use p8_tree::{Expr, Fault, Place, Refusal};
+use p8_tree::{Expr, Fault, Place, Refusal, Text};
 use p8_words::{Fail, NoMemory};
 use std::alloc::{AllocError, Global};
 
@@ -93,7 +94,7 @@ fn step(
     let Some(next) = target(bytes, tokens, at, state.arrows()) else {
         return step_over_tree(alloc, bytes, tokens, at, state, line, pieces);
     };
-    let piece = piece_at(alloc, bytes, tokens, at)?;
+    let piece = piece_in(alloc, bytes, tokens, at, state)?;
     push(pieces, piece)?;
     Ok((next, number_behind(tokens, at)))
 }
@@ -263,6 +264,54 @@ fn piece_at(alloc: Global, bytes: &[u8], tokens: &Tokens, at: usize) -> Result<P
     match tokens.get(at) {
         Some(token) => Ok(piece_from(lexeme(alloc, bytes, &token)?, word_of(bytes, &token), place)),
         None => Ok(Piece::Word(Word::LineEnd, place)),
+    }
+}
+
+// The piece of the token of this number, where it may stand at a state.
+fn piece_in(
+    alloc: Global,
+    bytes: &[u8],
+    tokens: &Tokens,
+    at: usize,
+    state: State,
+) -> Result<Piece, NoMemory>
+    ensures { IfOk result (λ p. piece_of p ≡ piece_in state (token_at bytes.now tokens.now at)) }
+{
+    match state {
+        State::DatLabel => label_at(alloc, bytes, tokens, at),
+        State::CallLocal => label_at(alloc, bytes, tokens, at),
+        _ => piece_at(alloc, bytes, tokens, at),
+    }
+}
+
+// The piece of the token of this number, or of the text's end, behind the colon of a local label.
+fn label_at(alloc: Global, bytes: &[u8], tokens: &Tokens, at: usize) -> Result<Piece, NoMemory>
+    ensures { IfOk result (λ p. piece_of p ≡ label_piece (token_at bytes.now tokens.now at)) }
+{
+    let place = place_at(bytes, tokens, at);
+    match tokens.get(at) {
+        Some(token) => {
+            let name = name_in(alloc, lexeme(alloc, bytes, &token)?);
+            Ok(Piece::Label(name, place))
+        }
+        None => Ok(Piece::Label(Text::from_vec(Vec::new(alloc)), place)),
+    }
+}
+
+// The name that a word is there.
+fn name_in(alloc: Global, lexeme: Lexeme) -> Text
+    ensures { result ≡ unwrap_or (name_in (lexeme_of lexeme)) [] }
+{
+    match lexeme {
+        Lexeme::Term(Term::Name(name)) => name,
+        Lexeme::Reserved(name, word) => {
+            drop(word);
+            name
+        }
+        other => {
+            drop(other);
+            Text::from_vec(Vec::new(alloc))
+        }
     }
 }
 

@@ -2,7 +2,9 @@
 ghost use Rattle.std.specs.Prelude.{◌↔◌, IsTrue};
 ghost use Rattle.p8_lines.specs.Signs.{Matches};
 
-use crate::words::{is_condition, is_flag, is_on_memory, is_size, is_write, takes_one, takes_two};
+use crate::words::{
+    is_condition, is_flag, is_label, is_on_memory, is_size, is_write, takes_one, takes_two,
+};
 use p8_lexer::Word;
 
 /// Which tokens an arrow of the diagram stands for.
@@ -28,6 +30,8 @@ pub enum Sign {
     Flag,
     /// `WR` or `NR`.
     Write,
+    /// A name, or a reserved word.
+    Label,
 }
 
 impl Sign {
@@ -47,6 +51,7 @@ impl Sign {
             Sign::OneOperand => takes_one(word),
             Sign::Flag => is_flag(word),
             Sign::Write => is_write(word),
+            Sign::Label => is_label(word),
         }
     }
 }

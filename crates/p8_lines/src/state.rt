@@ -77,7 +77,7 @@ pub enum State {
     DatHead,
     /// A line of DAT.
     DatLine,
-    /// The name of a local label.
+    /// The name of a local label, which may be a reserved word.
     DatLabel,
     /// What follows a label.
     DatBody,

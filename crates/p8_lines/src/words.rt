@@ -1,6 +1,7 @@
 // Kinds of words.
 ghost use Rattle.std.specs.Prelude.{◌≡◌};
-ghost use Rattle.p8_lines.specs.Signs.{is_size, is_condition, takes_two, is_on_memory, takes_one, is_flag, is_write};
+ghost use Rattle.p8_tree.specs.Names.{begins_name};
+ghost use Rattle.p8_lines.specs.Signs.{is_size, is_condition, takes_two, is_on_memory, takes_one, is_flag, is_write, is_label};
 
 use p8_lexer::{Meaning, Word};
 
@@ -65,4 +66,21 @@ pub fn is_write(word: Word) -> bool
     ensures { result ≡ is_write word }
 {
     matches!(word, Word::Wr | Word::Nr)
+}
+
+// Whether a spelling begins with a capital letter or `_`.
+fn begins_name(text: &str) -> bool
+    ensures { result ≡ begins_name text.now }
+{
+    match text.as_bytes() {
+        [first, ..] => (*first >= b'A' && *first <= b'Z') || *first == b'_',
+        [] => false,
+    }
+}
+
+// Whether the word is a name or a reserved word.
+pub fn is_label(word: Word) -> bool
+    ensures { result ≡ is_label word }
+{
+    begins_name(word.spelling()) || matches!(word, Word::Name)
 }

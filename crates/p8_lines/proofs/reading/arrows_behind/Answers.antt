@@ -1,4 +1,4 @@
-use Rattle.std.proofs.Common.{◌∙◌, ◌+◌, ◌-◌, true, false, sym, arith}
+use Rattle.std.proofs.Common.{◌∙◌, ◌-◌, true, false, sym, arith}
 use Rattle.p8_lines.specs.Stopping.{token_at}
 use Rattle.p8_lines.proofs.Targets.{behind_one, behind_several}
 use Rattle.p8_lines.proofs.reading.arrows_behind.Goals as goal

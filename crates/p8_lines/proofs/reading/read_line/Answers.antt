@@ -1,4 +1,4 @@
-use Rattle.std.proofs.Common.{◌≡◌, inr, inl, length, true, false, refl, ap, arith, rules}
+use Rattle.std.proofs.Common.{◌≡◌, inr, inl, length, refl, ap, arith, rules}
 use Rattle.std.specs.Prelude.{IfErr}
 use Rattle.std.proofs.lemmas.Grind.{common_steps}
 use Rattle.p8_grammar.specs.Views.{setting_of}
