@@ -1,6 +1,6 @@
 -- Two settings that give the names of an expression the same meanings agree on it.
 use Rattle.std.proofs.Common.{◌≡◌, inl, inr, ℕ, List, Option, Some, None, refl}
-use Rattle.p8_tree.specs.Expressions.{Tree, node, Form, Number, Str, Here, Var, Call, Unary, Binary, Assign, Change, Address, ObjectAddress, ObjConst, Built, Look, Variable, Named, Part, Memory, Register, Index, no_index, index, Bits, whole, bits, Item, single, range, Trees, no_trees, ◌▷◌, Items, no_items, ◌▸◌}
+use Rattle.p8_tree.specs.Expressions.{Tree, node, Form, Number, Str, Strings, Here, Var, Call, Unary, Binary, Assign, Change, Address, ObjectAddress, ObjConst, Built, Look, Variable, Named, Part, Memory, Register, Index, no_index, index, Bits, whole, bits, Item, single, range, Trees, no_trees, ◌▷◌, Items, no_items, ◌▸◌}
 use Rattle.p8_kinds.specs.Meanings.{Setting}
 use Rattle.p8_kinds.specs.Agreement.{AgreeOn, AgreeOnForm, AgreeOnVariable, AgreeOnIndex, AgreeOnBits, AgreeOnItem, AgreeOnTrees, AgreeOnItems, AgreeOnCalled}
 use Rattle.p8_constants.specs.Mentions.{Mentions, FormMentions, VariableMentions, IndexMentions, BitsMention, ItemMentions, TreesMention, ItemsMention, called_name}
@@ -21,6 +21,7 @@ mutual
   agree_form : (s t : Setting) → Alike s t → (form : Form) → ((n : List ℕ) → FormMentions form n → s.name n ≡ t.name n) → AgreeOnForm s t form
   agree_form s t k (Number v) h = tt
   agree_form s t k (Str text) h = tt
+  agree_form s t k (Strings items) h = agree_trees s t k items h
   agree_form s t k Here h = k.here
   agree_form s t k (Var v) h = agree_variable s t k v h
   agree_form s t k (Address v) h = agree_variable s t k v h

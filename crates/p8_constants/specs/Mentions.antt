@@ -1,7 +1,7 @@
 -- Which names stand alone in an expression, so that what they mean decides its value. Names after `#`, which belong to other
 -- files, are not among them; the name before `#` is.
 use Rattle.std.specs.Prelude.{◌≡◌, ◌⊎◌, ℕ, List, [], ◌∷◌, ◌++◌, Option, Some, None}
-use Rattle.p8_tree.specs.Expressions.{Tree, node, Form, Number, Str, Here, Var, Call, Unary, Binary, Assign, Change, Address, ObjectAddress, ObjConst, Built, Look, Variable, Named, Part, Memory, Register, Index, no_index, index, Bits, whole, bits, Item, single, range, Trees, no_trees, ◌▷◌, Items, no_items, ◌▸◌}
+use Rattle.p8_tree.specs.Expressions.{Tree, node, Form, Number, Str, Strings, Here, Var, Call, Unary, Binary, Assign, Change, Address, ObjectAddress, ObjConst, Built, Look, Variable, Named, Part, Memory, Register, Index, no_index, index, Bits, whole, bits, Item, single, range, Trees, no_trees, ◌▷◌, Items, no_items, ◌▸◌}
 
 -- the name that a call begins with
 abbrev pub called_name : Option (List ℕ) → List ℕ → List ℕ
@@ -15,6 +15,7 @@ abbrev mutual
   pub FormMentions : Form → List ℕ → Type 0
   FormMentions (Number v) n = ⊥
   FormMentions (Str text) n = ⊥
+  FormMentions (Strings items) n = TreesMention items n
   FormMentions Here n = ⊥
   FormMentions (Var v) n = VariableMentions v n
   FormMentions (Address v) n = VariableMentions v n
@@ -63,6 +64,7 @@ abbrev mutual
   pub form_mentioned : Form → List (List ℕ)
   form_mentioned (Number v) = []
   form_mentioned (Str text) = []
+  form_mentioned (Strings items) = trees_mentioned items
   form_mentioned Here = []
   form_mentioned (Var v) = variable_mentioned v
   form_mentioned (Address v) = variable_mentioned v

@@ -75,6 +75,7 @@ fn in_expr<'a>(expr: &'a Expr, names: &mut Names<'a>) -> Result<(), AllocError>
         }
         ExprKind::ObjConst(object, _, _) => names.push(object),
         ExprKind::Built(_, arguments) => in_trees(arguments, names),
+        ExprKind::Strings(items) => in_trees(items, names),
         ExprKind::Look(_, value, items) => {
             in_expr(value, names)?;
             in_items(items, names)

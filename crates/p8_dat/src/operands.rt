@@ -54,6 +54,7 @@ pub(crate) fn name_alone(expr: &Expr) -> Option<&Text>
         ExprKind::Var(variable) => name_of(variable),
         ExprKind::Number(_) | ExprKind::Str(_) | ExprKind::Here => None,
         ExprKind::Call(_) => None,
+        ExprKind::Strings(_) => None,
         ExprKind::Unary(_, _) | ExprKind::Binary(_, _, _) => None,
         ExprKind::Assign(_, _, _) | ExprKind::Change(_, _) | ExprKind::Address(_) => None,
         ExprKind::ObjectAddress(_) | ExprKind::ObjConst(_, _, _) => None,

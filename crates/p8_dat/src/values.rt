@@ -50,6 +50,7 @@ pub(crate) fn string_of(expr: &Expr) -> Option<&Text>
     match &expr.kind {
         ExprKind::Str(text) => Some(text),
         ExprKind::Call(_) => None,
+        ExprKind::Strings(_) => None,
         ExprKind::Number(_) | ExprKind::Here | ExprKind::Var(_) => None,
         ExprKind::Unary(_, _) | ExprKind::Binary(_, _, _) => None,
         ExprKind::Assign(_, _, _) | ExprKind::Change(_, _) | ExprKind::Address(_) => None,

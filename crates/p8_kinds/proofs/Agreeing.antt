@@ -4,7 +4,7 @@ use Rattle.std.specs.Prelude.{if◌then◌else◌}
 use Rattle.std.specs.Str.{bytes_eq}
 use Rattle.p8_tree.specs.declared.places.Place.{Place}
 use Rattle.p8_tree.specs.Names.{result_word}
-use Rattle.p8_tree.specs.Expressions.{Tree, node, Form, Number, Str, Here, Var, Call, Unary, Binary, Assign, Change, Address, ObjectAddress, ObjConst, Built, Look, Variable, Named, Part, Memory, Register, Index, no_index, index, Bits, whole, bits, Item, single, range, Trees, no_trees, ◌▷◌, Items, no_items, ◌▸◌}
+use Rattle.p8_tree.specs.Expressions.{Tree, node, Form, Number, Str, Strings, Here, Var, Call, Unary, Binary, Assign, Change, Address, ObjectAddress, ObjConst, Built, Look, Variable, Named, Part, Memory, Register, Index, no_index, index, Bits, whole, bits, Item, single, range, Trees, no_trees, ◌▷◌, Items, no_items, ◌▸◌}
 use Rattle.p8_tree.specs.declared.faults.Fault.{Fault}
 use Rattle.p8_tree.specs.Faults.{fault}
 use Rattle.p8_tree.specs.declared.refusal.Refusal.TheVariants.{NotConstant}
@@ -48,6 +48,7 @@ mutual
   value_of_form_same : (s t : Setting) (form : Form) → AgreeOnForm s t form → value_of_form s form ≡ value_of_form t form
   value_of_form_same s t (Number n) h = refl
   value_of_form_same s t (Str text) h = refl
+  value_of_form_same s t (Strings items) h = refl
   value_of_form_same s t Here h = ap (λ here. here.address) h
   value_of_form_same s t (Var v) h = variable_same s t v h
   value_of_form_same s t (Address v) h = address_same s t v h
@@ -86,6 +87,7 @@ fault_of_constant_same s t object name p q h (Some meaning_case.Other) = refl
 own_same : (s t : Setting) (p : Place) (form : Form) → AgreeOnForm s t form → own_fault s p form ≡ own_fault t p form
 own_same s t p (Number n) h = refl
 own_same s t p (Str text) h = refl
+own_same s t p (Strings items) h = refl
 own_same s t p Here h = ap (λ here. unless here.address (fault NotConstant p)) h
 own_same s t p (Var v) h = ap (λ o. unless o (fault_of_variable s v)) (variable_same s t v h) ∙ ap (unless (value_of_variable t v)) (fault_of_variable_same s t v h)
 own_same s t p (Address v) h = ap (λ o. unless o (fault_of_variable s v)) (address_same s t v h) ∙ ap (unless (address_of t v)) (fault_of_variable_same s t v h)
@@ -112,6 +114,7 @@ mutual
   inside_same : (s t : Setting) (form : Form) → AgreeOnForm s t form → (f : Fault) → FaultInside s form f ≡ FaultInside t form f
   inside_same s t (Number n) h f = refl
   inside_same s t (Str text) h f = refl
+  inside_same s t (Strings items) h f = in_trees_same s t items h f
   inside_same s t Here h f = refl
   inside_same s t (Var v) h f = in_variable_same s t v h f
   inside_same s t (Address v) h f = in_variable_same s t v h f

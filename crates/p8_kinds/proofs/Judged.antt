@@ -1,18 +1,18 @@
 -- The verdict on a tree: by induction over trees, a line for each form.
-use Rattle.std.proofs.Common.{◌≡◌, ◌⊎◌, inl, inr, ℕ, Bool, true, false, ◌==◌, Option, Some, None, Result, Ok, Err, refl}
+use Rattle.std.proofs.Common.{◌≡◌, ◌⊎◌, inl, inr, ℕ, List, Bool, true, false, ◌==◌, Option, Some, None, Result, Ok, Err, refl}
 use Rattle.std.specs.Prelude.{if◌then◌else◌, not}
 use Rattle.std.specs.Result.{result_err}
 use Rattle.std.proofs.Math.Logic.{⊎_elim}
 use Rattle.p8_tree.specs.declared.places.Place.{Place}
-use Rattle.p8_tree.specs.Expressions.{Tree, node, Form, Number, Str, Here, Var, Call, Unary, Binary, Assign, Change, Address, ObjectAddress, ObjConst, Built, Look, Variable, Named, Part, Memory, Register, Index, no_index, index, Bits, whole, bits, Item, single, range, Trees, no_trees, ◌▷◌, Items, no_items, ◌▸◌}
+use Rattle.p8_tree.specs.Expressions.{Tree, node, Form, Number, Str, Strings, Here, Var, Call, Unary, Binary, Assign, Change, Address, ObjectAddress, ObjConst, Built, Look, Variable, Named, Part, Memory, Register, Index, no_index, index, Bits, whole, bits, Item, single, range, Trees, no_trees, ◌▷◌, Items, no_items, ◌▸◌}
 use Rattle.p8_tree.specs.declared.faults.Fault.{Fault}
 use Rattle.p8_tree.specs.Faults.{IsFirstFault, fault, with_further}
 use Rattle.p8_tree.specs.declared.refusal.Refusal.TheVariants.{NotConstant}
 use Rattle.p8_tree.proofs.Firsts.{IsFirstFault-along}
 use Rattle.p8_kinds.specs.Meanings.{Setting, meaning_of, value_of_meaning, address_of_meaning, given}
-use Rattle.p8_kinds.specs.Values.{value, value_of_form, value_of_register, fault_of_name, where_so, fault_of_variable, fault_of_call, own_fault, FaultIn, FaultInside, FaultInVariable, FaultInIndex, FaultInBits, FaultInItem, FaultInTrees, FaultInItems, HasValue, IsRefused}
-use Rattle.p8_kinds.specs.Verdicts.{verdict, verdict_of_form, fault_at, first_in_index, first_in_bits, first_in_item, first_in_trees, first_in_items}
-use Rattle.p8_kinds.proofs.Judging.{Tells, Judges, fault_told, further_told, two_told, is_one, one_told, judges, to_right, to_left, refused, refused_twice, value_or_one, constant_judged, judged_before, judged_between}
+use Rattle.p8_kinds.specs.Values.{value, value_of_form, value_of_register, fault_of_name, where_so, fault_of_variable, fault_of_call, own_fault, FaultIn, FaultInside, FaultInVariable, FaultInIndex, FaultInBits, FaultInItem, FaultInTrees, FaultInItems, string_of, FaultOfItem, FaultInText, HasValue, IsRefused}
+use Rattle.p8_kinds.specs.Verdicts.{verdict, verdict_of_form, fault_at, first_in_index, first_in_bits, first_in_item, first_in_trees, first_in_items, first_of_item, first_in_text}
+use Rattle.p8_kinds.proofs.Judging.{Tells, Judges, fault_told, further_told, two_told, is_one, one_told, judges, to_right, to_left, refused, refused_twice, value_or_one, constant_judged, judged_before, judged_between, judged_character}
 
 -- a number, which has no fault
 no_fault : (v : ℕ) → Judges (Ok v) (Some v) (λ x. (None ≡ Some x) ⊎ ⊥)
@@ -44,6 +44,7 @@ mutual
   pub judged_form : (s : Setting) (p : Place) (form : Form) → Judges (verdict_of_form s p form) (value_of_form s form) (λ x. (own_fault s p form ≡ Some x) ⊎ FaultInside s form x)
   judged_form s p (Number n) = no_fault n
   judged_form s p (Str text) = one_fault (fault NotConstant p)
+  judged_form s p (Strings items) = refused (FaultInTrees s items) (fault NotConstant p) (first_in_trees s items) (in_trees s items)
   judged_form s p Here = value_or_one s.here.address (fault NotConstant p)
   judged_form s p (Var (Named name no_index q)) = value_or_one (given value_of_meaning (meaning_of s name)) (fault_of_name (meaning_of s name) q)
   judged_form s p (Var (Named name (index e) q)) = (refl, at_variable s (Named name (index e) q))
@@ -99,6 +100,16 @@ mutual
   pub in_items : (s : Setting) (xs : Items) → Tells (first_in_items s xs) (FaultInItems s xs)
   in_items s no_items = λ x b. b
   in_items s (xs ▸ x) = two_told (FaultInItems s xs) (FaultInItem s x) (first_in_items s xs) (first_in_item s x) (in_items s xs) (in_item s x)
+
+-- the items of a text
+of_item : (s : Setting) (text : Option (List ℕ)) (e : Tree) → Tells (first_of_item s text e) (FaultOfItem s text e)
+of_item s (Some text) e = λ x b. b
+of_item s None (node p form) = judged_character (FaultIn s (node p form)) p (verdict_of_form s p form) (value_of_form s form) (judged s (node p form))
+
+pub in_text : (s : Setting) (es : Trees) → Tells (first_in_text s es) (FaultInText s es)
+in_text s no_trees = λ x b. b
+in_text s (es ▷ e) =
+    two_told (FaultInText s es) (FaultOfItem s (string_of e) e) (first_in_text s es) (first_of_item s (string_of e) e) (in_text s es) (of_item s (string_of e) e)
 
 outcome : (s : Setting) (e : Tree) (r : Result ℕ Fault) → Judges r (value s e) (FaultIn s e) → HasValue s e ⊎ IsRefused s e
 outcome s e (Ok v) h = inl (record { number = v; is = h.0; clean = h.1 })

@@ -14,8 +14,8 @@ use Rattle.p8_kinds.specs.declared.meanings.Meaning.{Meaning}
 use Rattle.p8_kinds.specs.declared.meanings.Meaning.TheVariants as meaning_case
 use Rattle.p8_kinds.specs.Meanings.{Setting, value_of_meaning, given}
 use Rattle.p8_words.specs.Operators.{beside, unary_values, binary_values, unary_result, binary_result, divides}
-use Rattle.p8_kinds.specs.Values.{constant_of, before, between, fault_of_name, unless, where_so, fault_of_constant, fault_before, fault_between}
-use Rattle.p8_kinds.specs.Verdicts.{or_fault, verdict_before, verdict_of_values, verdict_between, verdict_of_constant}
+use Rattle.p8_kinds.specs.Values.{constant_of, before, between, fault_of_name, unless, where_so, fault_of_constant, fault_before, fault_between, fault_of_character}
+use Rattle.p8_kinds.specs.Verdicts.{or_fault, verdict_before, verdict_of_values, verdict_between, verdict_of_constant, first_of_character}
 
 -- what is told of a set of faults: its first, or that it has none
 abbrev pub Tells : Option Fault → (Fault → Type 0) → Type 0
@@ -29,7 +29,7 @@ Judges (Err f) o S = (o ≡ None) × IsFirstFault S f
 
 -- ---- sets of faults
 
-tells : (S T : Fault → Type 0) (o : Option Fault) → ((x : Fault) → S x → T x) → ((x : Fault) → T x → S x) → Tells o S → Tells o T
+pub tells : (S T : Fault → Type 0) (o : Option Fault) → ((x : Fault) → S x → T x) → ((x : Fault) → T x → S x) → Tells o S → Tells o T
 tells S T None to from h = λ f t. h f (from f t)
 tells S T (Some f) to from h = IsFirstFault-along to from h
 
@@ -200,6 +200,16 @@ judged_between S T k p (Err f) (Ok b) o q (is, first) (too, none) =
 judged_between S T k p (Err f) (Err g) o q (is, first) (too, other) =
     subst (λ q. Judges (verdict_between k p (Err f) (Err g)) (between k o q) (λ x. (fault_between k p q ≡ Some x) ⊎ (S x ⊎ T x))) (sym too)
     (ap (λ o. between k o None) is, IsFirstFault-along (λ x. turned) (λ x. turned) (further_told (λ x. S x ⊎ T x) (λ x. fault_between k p None ≡ Some x) (earlier f g) (fault_between k p None) (IsFirstFault-earlier S T f g first other) (own_told (fault_between k p None))))
+
+-- an item of a text, by the verdict on it
+pub judged_character : (S : Fault → Type 0) (p : Place) (r : Result ℕ Fault) (o : Option ℕ) → Judges r o S → Tells (first_of_character r p) (λ x. (fault_of_character o p ≡ Some x) ⊎ S x)
+judged_character S p (Ok v) o (is, none) =
+    let own : Option Fault = fault_of_character (Some v) p in
+    subst (λ o. Tells own (λ x. (fault_of_character o p ≡ Some x) ⊎ S x)) (sym is)
+    (tells (λ x. own ≡ Some x) (λ x. (own ≡ Some x) ⊎ S x) own (λ x. inl) (λ x. ⊎_elim (λ e. e) (λ a. absurd (none x a))) (own_told own))
+judged_character S p (Err f) o (is, first) =
+    subst (λ o. IsFirstFault (λ x. (fault_of_character o p ≡ Some x) ⊎ S x) f) (sym is)
+    (IsFirstFault-along (λ x. inr) (λ x. ⊎_elim (λ e. absurd cc) (λ a. a)) first)
 
 -- what a verdict says, outcome by outcome
 pub judged_value : (S : Fault → Type 0) (r : Result ℕ Fault) (o : Option ℕ) → Judges r o S → IfOk r (λ v. o ≡ Some v)

@@ -29,6 +29,7 @@ not_alone p (kind.Var v) h = absurd (h v refl)
 not_alone p (kind.Call (call.Call' trap object i name place shape row)) h = refl
 not_alone p (kind.Number n) h = refl
 not_alone p (kind.Str text) h = refl
+not_alone p (kind.Strings' shape row) h = refl
 not_alone p kind.Here h = refl
 not_alone p (kind.Unary' operator b place e) h = refl
 not_alone p (kind.Binary' operator b q x c r y) h = refl

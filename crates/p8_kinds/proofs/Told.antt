@@ -3,22 +3,17 @@ use Rattle.std.proofs.Common.{◌≡◌, ◌⊎◌, inl, inr, ℕ, Bool, true, f
 use Rattle.p8_tree.specs.Faults.{IsFirstFault, first_of_two}
 use Rattle.std.specs.Prelude.{MatchOption, if◌then◌else◌, not, IsTrue, List}
 use Rattle.p8_tree.specs.declared.places.Place.{Place}
-use Rattle.p8_tree.specs.Expressions.{Tree, node, Form, Number, Str, Here, Var, Call, Unary, Binary, Assign, Change, Address, ObjectAddress, ObjConst, Built, Look, Variable, Named, Part, Memory, Register, Index, no_index, index, Bits, whole, bits, Item, single, range, Trees, no_trees, ◌▷◌, Items, no_items, ◌▸◌}
+use Rattle.p8_tree.specs.Expressions.{Tree, node, Form, Number, Str, Strings, Here, Var, Call, Unary, Binary, Assign, Change, Address, ObjectAddress, ObjConst, Built, Look, Variable, Named, Part, Memory, Register, Index, no_index, index, Bits, whole, bits, Item, single, range, Trees, no_trees, ◌▷◌, Items, no_items, ◌▸◌}
 use Rattle.p8_tree.specs.Statements.{Course, Forever, Count, Before, After, From, Statement, statement, Action, Do, If, Case, Repeat, Next, Quit, Return, Abort, Arm, arm, Otherwise, nothing_else, otherwise, Statements, no_statements, ◌▹◌, Arms, no_arms, ◌⊳◌}
 use Rattle.p8_tree.specs.declared.faults.Fault.{Fault}
-use Rattle.p8_kinds.specs.Values.{FaultInTrees}
+use Rattle.p8_kinds.specs.Values.{FaultInTrees, FaultInText}
 use Rattle.p8_kinds.specs.Verdicts as verdicts
-use Rattle.p8_kinds.proofs.Judging.{Tells, two_told, own_told}
+use Rattle.p8_kinds.proofs.Judging.{Tells, tells, two_told, own_told}
 use Rattle.p8_kinds.proofs.Judged as judged
-use Rattle.p8_tree.proofs.Firsts.{IsFirstFault-along}
 use Rattle.p8_kinds.specs.declared.uses.Use.TheVariants as used
 use Rattle.p8_kinds.specs.Environments.{Environment, kind_in}
 use Rattle.p8_kinds.specs.Misuses.{Rule, in_method, misuse, name_alone, BrokenIn, BrokenInside, BrokenInVariable, BrokenInIndex, BrokenInBits, BrokenInItem, BrokenInTrees, BrokenInItems, MisuseDone, MisuseInOption, MisuseInCourse, MisuseInStatements, MisuseInStatement, MisuseInAction, MisuseInArm, MisuseInOtherwise, MisuseInArms}
 use Rattle.p8_kinds.specs.FirstMisuses.{first_in, first_inside, first_in_variable, first_in_index, first_in_bits, first_in_item, first_in_trees, first_in_items, first_done, first_in_option, first_in_course, first_in_statements, first_in_statement, first_in_action, first_in_arm, first_in_otherwise, first_in_arms}
-
-tells_along : (S T : Fault → Type 0) (o : Option Fault) → ((x : Fault) → S x → T x) → ((x : Fault) → T x → S x) → Tells o S → Tells o T
-tells_along S T None to from h = λ f t. h f (from f t)
-tells_along S T (Some f) to from h = IsFirstFault-along to from h
 
 -- the same in the words of contracts
 pub as_match : (S : Fault → Type 0) (o : Option Fault) → Tells o S → MatchOption o ((f : Fault) → ¬ S f) (IsFirstFault S)
@@ -35,8 +30,8 @@ second_rule (inl a) = let no : false ≡ true = a.0 in absurd cc
 second_rule (inr b) = b.1
 
 built_told : (S T : Fault → Type 0) (b : Bool) (o p : Option Fault) → Tells o S → Tells p T → Tells (if b then o else p) (λ x. (IsTrue b × S x) ⊎ (IsTrue (not b) × T x))
-built_told S T true o p s t = tells_along S (λ x. (IsTrue true × S x) ⊎ (IsTrue (not true) × T x)) o (λ x a. inl (refl, a)) (λ x. first_rule) s
-built_told S T false o p s t = tells_along T (λ x. (IsTrue false × S x) ⊎ (IsTrue (not false) × T x)) p (λ x a. inr (refl, a)) (λ x. second_rule) t
+built_told S T true o p s t = tells S (λ x. (IsTrue true × S x) ⊎ (IsTrue (not true) × T x)) o (λ x a. inl (refl, a)) (λ x. first_rule) s
+built_told S T false o p s t = tells T (λ x. (IsTrue false × S x) ⊎ (IsTrue (not false) × T x)) p (λ x a. inr (refl, a)) (λ x. second_rule) t
 
 mutual
   pub told : (r : Rule) (e : Tree) → Tells (first_in r e) (BrokenIn r e)
@@ -45,6 +40,8 @@ mutual
   told_inside : (r : Rule) (form : Form) → Tells (first_inside r form) (BrokenInside r form)
   told_inside r (Number n) = λ x b. b
   told_inside r (Str text) = λ x b. b
+  told_inside r (Strings items) =
+      built_told (FaultInText r.constants items) (BrokenInTrees r items) (r.is_constant 0) (verdicts.first_in_text r.constants items) (first_in_trees r items) (judged.in_text r.constants items) (told_trees r items)
   told_inside r Here = λ x b. b
   told_inside r (Var v) = told_variable r v
   told_inside r (Address v) = told_variable r v

@@ -1,7 +1,7 @@
 -- Which entries an expression looks at: those of the names that stand in it, and where it stands itself, if `$` or a register
 -- stands in it.
 use Rattle.std.specs.Prelude.{◌≡◌, ℕ, List, Option, Some, None}
-use Rattle.p8_tree.specs.Expressions.{Tree, node, Form, Number, Str, Here, Var, Call, Unary, Binary, Assign, Change, Address, ObjectAddress, ObjConst, Built, Look, Variable, Named, Part, Memory, Register, Index, no_index, index, Bits, whole, bits, Item, single, range, Trees, no_trees, ◌▷◌, Items, no_items, ◌▸◌}
+use Rattle.p8_tree.specs.Expressions.{Tree, node, Form, Number, Str, Strings, Here, Var, Call, Unary, Binary, Assign, Change, Address, ObjectAddress, ObjConst, Built, Look, Variable, Named, Part, Memory, Register, Index, no_index, index, Bits, whole, bits, Item, single, range, Trees, no_trees, ◌▷◌, Items, no_items, ◌▸◌}
 use Rattle.p8_kinds.specs.Meanings.{Setting}
 
 -- two settings give the name that a call begins with the same meaning
@@ -17,6 +17,7 @@ abbrev mutual
   pub AgreeOnForm : Setting → Setting → Form → Type 0
   AgreeOnForm s t (Number n) = Unit {0}
   AgreeOnForm s t (Str text) = Unit {0}
+  AgreeOnForm s t (Strings items) = AgreeOnTrees s t items
   AgreeOnForm s t Here = s.here ≡ t.here
   AgreeOnForm s t (Var v) = AgreeOnVariable s t v
   AgreeOnForm s t (Address v) = AgreeOnVariable s t v

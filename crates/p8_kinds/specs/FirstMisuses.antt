@@ -1,7 +1,7 @@
 -- internal: what the code computes, the first fault of each part.
 use Rattle.std.specs.Prelude.{ℕ, if◌then◌else◌, List, Option, Some, None}
 use Rattle.p8_tree.specs.declared.places.Place.{Place}
-use Rattle.p8_tree.specs.Expressions.{Tree, node, Form, Number, Str, Here, Var, Call, Unary, Binary, Assign, Change, Address, ObjectAddress, ObjConst, Built, Look, Variable, Named, Part, Memory, Register, Index, no_index, index, Bits, whole, bits, Item, single, range, Trees, no_trees, ◌▷◌, Items, no_items, ◌▸◌}
+use Rattle.p8_tree.specs.Expressions.{Tree, node, Form, Number, Str, Strings, Here, Var, Call, Unary, Binary, Assign, Change, Address, ObjectAddress, ObjConst, Built, Look, Variable, Named, Part, Memory, Register, Index, no_index, index, Bits, whole, bits, Item, single, range, Trees, no_trees, ◌▷◌, Items, no_items, ◌▸◌}
 use Rattle.p8_tree.specs.Statements.{Course, Forever, Count, Before, After, From, Statement, statement, Action, Do, If, Case, Repeat, Next, Quit, Return, Abort, Arm, arm, Otherwise, nothing_else, otherwise, Statements, no_statements, ◌▹◌, Arms, no_arms, ◌⊳◌}
 use Rattle.p8_tree.specs.declared.faults.Fault.{Fault}
 use Rattle.p8_tree.specs.Faults.{first_of_two}
@@ -24,6 +24,7 @@ abbrev mutual
   pub first_inside : Rule → Form → Option Fault
   first_inside r (Number n) = None
   first_inside r (Str text) = None
+  first_inside r (Strings items) = if r.is_constant 0 then verdicts.first_in_text r.constants items else first_in_trees r items
   first_inside r Here = None
   first_inside r (Var v) = first_in_variable r v
   first_inside r (Address v) = first_in_variable r v
@@ -62,6 +63,9 @@ abbrev mutual
   pub first_in_items : Rule → Items → Option Fault
   first_in_items r no_items = None
   first_in_items r (xs ▸ x) = first_of_two (first_in_items r xs) (first_in_item r x)
+
+abbrev pub first_in_strings : Rule → Trees → Option Fault
+first_in_strings r items = first_inside r (Strings items)
 
 abbrev pub first_in_built : Rule → ℕ → Trees → Option Fault
 first_in_built r code args = first_inside r (Built code args)

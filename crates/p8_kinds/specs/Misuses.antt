@@ -2,19 +2,19 @@
 --
 -- A fault is a fact about a tree: each name, word and operator of it is looked at by itself. In a method a name has to have a
 -- definition, of a kind that fits its use, and a call as many arguments as the method has parameters. What stands in CONSTANT
--- has to be constant. In DAT a name has to have a definition, and one before `#` has to be an object; whether its value is
--- constant is looked at when the values are put. Sources: the Propeller Manual v1.2, the Spin chapter; the numbers and places
--- of refusals are this project's profile.
+-- has to be constant, and what stands in STRING too, where each item is a string or the code of a character. In DAT a name has
+-- to have a definition, and one before `#` has to be an object; whether its value is constant is looked at when the values are
+-- put. Sources: the Propeller Manual v1.2, the Spin chapter; the numbers and places of refusals are this project's profile.
 use Rattle.std.specs.Prelude.{◌≡◌, ◌⊎◌, ℕ, Bool, false, ◌==◌, not, IsTrue, List, Option, Some, None, is_some, option_map}
 use Rattle.p8_tree.specs.declared.places.Place.{Place}
-use Rattle.p8_tree.specs.Expressions.{Tree, node, Form, Number, Str, Here, Var, Call, Unary, Binary, Assign, Change, Address, ObjectAddress, ObjConst, Built, Look, Variable, Named, Part, Memory, Register, Index, no_index, index, Bits, whole, bits, Item, single, range, Trees, no_trees, ◌▷◌, Items, no_items, ◌▸◌}
+use Rattle.p8_tree.specs.Expressions.{Tree, node, Form, Number, Str, Strings, Here, Var, Call, Unary, Binary, Assign, Change, Address, ObjectAddress, ObjConst, Built, Look, Variable, Named, Part, Memory, Register, Index, no_index, index, Bits, whole, bits, Item, single, range, Trees, no_trees, ◌▷◌, Items, no_items, ◌▸◌}
 use Rattle.p8_tree.specs.Statements.{Course, Forever, Count, Before, After, From, Statement, statement, Action, Do, If, Case, Repeat, Next, Quit, Return, Abort, Arm, arm, Otherwise, nothing_else, otherwise, Statements, no_statements, ◌▹◌, Arms, no_arms, ◌⊳◌}
 use Rattle.p8_tree.specs.Lists.{count_of_trees}
 use Rattle.p8_tree.specs.declared.faults.Fault.{Fault}
 use Rattle.p8_tree.specs.Faults.{fault}
 use Rattle.p8_tree.specs.declared.refusal.Refusal.TheVariants.{Unknown, WrongArity}
 use Rattle.p8_kinds.specs.Meanings.{Setting}
-use Rattle.p8_kinds.specs.Values.{FaultInTrees, where_so}
+use Rattle.p8_kinds.specs.Values.{FaultInTrees, FaultInText, where_so}
 use Rattle.p8_kinds.specs.declared.name_kinds.NameKind.{NameKind}
 use Rattle.p8_kinds.specs.declared.name_kinds.NameKind.TheVariants as kind_case
 use Rattle.p8_kinds.specs.declared.uses.Use.{Use}
@@ -106,12 +106,12 @@ own_unknown env p _ = None
 -- a rule, by what is wrong with an expression's own name or word
 pub record Rule : Type 0 where
   pub own : Place → Form → Option Fault
-  -- whether the arguments of a built-in have to be constant there and then
+  -- whether the arguments of a built-in have to be constant there and then; the items of STRING are as that of CONSTANT, 00
   pub is_constant : ℕ → Bool
   -- what names mean to these
   pub constants : Setting
 
--- in a method, where the argument of CONSTANT, 00, has to be constant
+-- in a method, where the argument of CONSTANT and the items of STRING have to be constant
 abbrev pub in_method : Environment → Rule
 in_method env = record { own = own_misuse env; is_constant = λ code. code == 0; constants = env.constants }
 
@@ -126,6 +126,8 @@ abbrev mutual
   pub BrokenInside : Rule → Form → Fault → Type 0
   BrokenInside r (Number n) f = ⊥
   BrokenInside r (Str text) f = ⊥
+  BrokenInside r (Strings items) f =
+      (IsTrue (r.is_constant 0) × FaultInText r.constants items f) ⊎ (IsTrue (not (r.is_constant 0)) × BrokenInTrees r items f)
   BrokenInside r Here f = ⊥
   BrokenInside r (Var v) f = BrokenInVariable r v f
   BrokenInside r (Address v) f = BrokenInVariable r v f

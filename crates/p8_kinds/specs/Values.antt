@@ -4,17 +4,17 @@
 -- next. A tree that isn't constant has none. What is wrong is a set of faults: each name, word and operator of the tree is
 -- looked at by itself. Sources: the Propeller Manual v1.2, "CON" and "Operators" of the Spin chapter; the numbers and places
 -- of refusals are this project's profile.
-use Rattle.std.specs.Prelude.{◌≡◌, ◌⊎◌, ℕ, Bool, false, ◌==◌, ◌&&◌, not, if◌then◌else◌, List, Option, Some, None}
+use Rattle.std.specs.Prelude.{◌≡◌, ◌⊎◌, ℕ, ◌%◌, ◌^◌, Bool, false, nat_le, ◌==◌, ◌&&◌, not, if◌then◌else◌, List, [], ◌∷◌, ◌++◌, Option, Some, None}
 use Rattle.p8_tree.specs.declared.places.Place.{Place}
-use Rattle.p8_tree.specs.Expressions.{Tree, node, Form, Number, Str, Here, Var, Call, Unary, Binary, Assign, Change, Address, ObjectAddress, ObjConst, Built, Look, Variable, Named, Part, Memory, Register, Index, no_index, index, Bits, whole, bits, Item, single, range, Trees, no_trees, ◌▷◌, Items, no_items, ◌▸◌}
+use Rattle.p8_tree.specs.Expressions.{Tree, node, Form, Number, Str, Strings, Here, Var, Call, Unary, Binary, Assign, Change, Address, ObjectAddress, ObjConst, Built, Look, Variable, Named, Part, Memory, Register, Index, no_index, index, Bits, whole, bits, Item, single, range, Trees, no_trees, ◌▷◌, Items, no_items, ◌▸◌}
 use Rattle.p8_tree.specs.declared.faults.Fault.{Fault}
 use Rattle.p8_tree.specs.Faults.{fault, IsFirstFault}
-use Rattle.p8_tree.specs.declared.refusal.Refusal.TheVariants.{NotConstant, ZeroDivisor, Unknown, WrongKind}
+use Rattle.p8_tree.specs.declared.refusal.Refusal.TheVariants.{NotConstant, ZeroDivisor, Unknown, WrongKind, NotCharacter}
 use Rattle.p8_kinds.specs.declared.meanings.Here.{Here as Surroundings}
 use Rattle.p8_kinds.specs.declared.meanings.Meaning.{Meaning}
 use Rattle.p8_kinds.specs.declared.meanings.Meaning.TheVariants as meaning_case
 use Rattle.p8_kinds.specs.Meanings.{Setting, meaning_of, value_of_meaning, address_of_meaning, given}
-use Rattle.p8_words.specs.Operators.{unary_result, binary_result, divides}
+use Rattle.p8_words.specs.Operators.{or_zero, unary_result, binary_result, divides}
 
 -- ---- values
 
@@ -67,6 +67,23 @@ abbrev mutual
   pub value_of_one : Setting → Trees → Option ℕ
   value_of_one s (no_trees ▷ e) = value s e
   value_of_one s _ = None
+
+-- ---- texts
+
+-- a string among the items of STRING; any other item is a constant, the code of one character
+abbrev pub string_of : Tree → Option (List ℕ)
+string_of (node p (Str text)) = Some text
+string_of e = None
+
+-- what an item adds to the text; a code that is no character's is refused where the text stands
+abbrev pub characters : Option (List ℕ) → Option ℕ → List ℕ
+characters (Some text) code = text
+characters None code = or_zero code % 2 ^ 8 ∷ []
+
+-- the text of STRING with these items, in their order, without the 0 behind it (Propeller Manual v1.2, "STRING")
+abbrev pub text_of_items : Setting → Trees → List ℕ
+text_of_items s no_trees = []
+text_of_items s (es ▷ e) = text_of_items s es ++ characters (string_of e) (value s e)
 
 -- ---- faults
 
@@ -125,6 +142,7 @@ is_constant_word code _ = false
 abbrev pub own_fault : Setting → Place → Form → Option Fault
 own_fault s p (Number n) = None
 own_fault s p (Str text) = Some (fault NotConstant p)
+own_fault s p (Strings items) = Some (fault NotConstant p)
 own_fault s p Here = unless s.here.address (fault NotConstant p)
 own_fault s p (Var v) = unless (value_of_variable s v) (fault_of_variable s v)
 own_fault s p (Address v) = unless (address_of s v) (fault_of_variable s v)
@@ -146,6 +164,7 @@ abbrev mutual
   pub FaultInside : Setting → Form → Fault → Type 0
   FaultInside s (Number n) f = ⊥
   FaultInside s (Str text) f = ⊥
+  FaultInside s (Strings items) f = FaultInTrees s items f
   FaultInside s Here f = ⊥
   FaultInside s (Var v) f = FaultInVariable s v f
   FaultInside s (Address v) f = FaultInVariable s v f
@@ -184,6 +203,27 @@ abbrev mutual
   pub FaultInItems : Setting → Items → Fault → Type 0
   FaultInItems s no_items f = ⊥
   FaultInItems s (xs ▸ x) f = FaultInItems s xs f ⊎ FaultInItem s x f
+
+-- ---- faults of texts
+
+-- the codes of a text's characters; 0 stands behind the last one
+abbrev pub is_character : ℕ → Bool
+is_character code = nat_le 1 code && nat_le code 255
+
+-- 31 where a constant is no character's code
+abbrev pub fault_of_character : Option ℕ → Place → Option Fault
+fault_of_character None place = None
+fault_of_character (Some code) place = where_so (not (is_character code)) (fault NotCharacter place)
+
+-- the faults of one item: a string has none, and any other item has to be constant
+abbrev pub FaultOfItem : Setting → Option (List ℕ) → Tree → Fault → Type 0
+FaultOfItem s (Some text) e f = ⊥
+FaultOfItem s None (node p form) f = (fault_of_character (value_of_form s form) p ≡ Some f) ⊎ FaultIn s (node p form) f
+
+-- the faults of the items of STRING where its text stands
+abbrev pub FaultInText : Setting → Trees → Fault → Type 0
+FaultInText s no_trees f = ⊥
+FaultInText s (es ▷ e) f = FaultInText s es f ⊎ FaultOfItem s (string_of e) e f
 
 -- ---- the two outcomes
 

@@ -5,7 +5,7 @@ use Rattle.std.specs.declared.alloc.Global.{Global}
 use Rattle.p8_tree.specs.declared.expressions.Item as item
 use Rattle.p8_tree.specs.Views.{item_of}
 use Rattle.p8_tree.specs.declared.places.Place.{Place}
-use Rattle.p8_tree.specs.Expressions.{Tree, node, Form, Number, Str, Here, Var, Call, Unary, Binary, Assign, Change, Address, ObjectAddress, ObjConst, Built, Look, Variable, Named, Part, Memory, Register, Index, no_index, index, Bits, whole, bits, Item, single, range, Trees, no_trees, ◌▷◌, Items, no_items, ◌▸◌}
+use Rattle.p8_tree.specs.Expressions.{Tree, node, Form, Number, Str, Strings, Here, Var, Call, Unary, Binary, Assign, Change, Address, ObjectAddress, ObjConst, Built, Look, Variable, Named, Part, Memory, Register, Index, no_index, index, Bits, whole, bits, Item, single, range, Trees, no_trees, ◌▷◌, Items, no_items, ◌▸◌}
 use Rattle.p8_tree.specs.declared.faults.Fault.{Fault}
 use Rattle.p8_tree.specs.Faults.{fault, earlier, with_further, first_of_two}
 use Rattle.p8_tree.specs.declared.refusal.Refusal.TheVariants.{NotConstant, Unknown, WrongKind}
@@ -13,7 +13,7 @@ use Rattle.p8_kinds.specs.declared.meanings.Meaning.{Meaning}
 use Rattle.p8_kinds.specs.declared.meanings.Meaning.TheVariants as meaning_case
 use Rattle.p8_kinds.specs.Meanings.{Setting, meaning_of, value_of_meaning, given}
 use Rattle.p8_words.specs.Operators.{unary_result, binary_result}
-use Rattle.p8_kinds.specs.Values.{value_of_variable, address_of, fault_of_name, fault_of_call, fault_before, fault_between}
+use Rattle.p8_kinds.specs.Values.{value_of_variable, address_of, string_of, fault_of_name, fault_of_call, fault_before, fault_between, fault_of_character}
 
 -- the value, or else the fault
 abbrev pub or_fault : Option ℕ → Fault → Result ℕ Fault
@@ -54,6 +54,7 @@ abbrev mutual
   pub verdict_of_form : Setting → Place → Form → Result ℕ Fault
   verdict_of_form s p (Number n) = Ok n
   verdict_of_form s p (Str text) = Err (fault NotConstant p)
+  verdict_of_form s p (Strings items) = Err (with_further (fault NotConstant p) (first_in_trees s items))
   verdict_of_form s p Here = or_fault s.here.address (fault NotConstant p)
   verdict_of_form s p (Var v) = or_fault (value_of_variable s v) (fault_at s v)
   verdict_of_form s p (Address v) = or_fault (address_of s v) (fault_at s v)
@@ -99,6 +100,19 @@ abbrev mutual
   pub first_in_items : Setting → Items → Option Fault
   first_in_items s no_items = None
   first_in_items s (xs ▸ x) = first_of_two (first_in_items s xs) (first_in_item s x)
+
+-- of an item of a text: the fault of its constant, or 31
+abbrev pub first_of_character : Result ℕ Fault → Place → Option Fault
+first_of_character (Ok code) place = fault_of_character (Some code) place
+first_of_character (Err f) place = Some f
+
+abbrev pub first_of_item : Setting → Option (List ℕ) → Tree → Option Fault
+first_of_item s (Some text) e = None
+first_of_item s None (node p form) = first_of_character (verdict_of_form s p form) p
+
+abbrev pub first_in_text : Setting → Trees → Option Fault
+first_in_text s no_trees = None
+first_in_text s (es ▷ e) = first_of_two (first_in_text s es) (first_of_item s (string_of e) e)
 
 -- the bits in a box, or all
 abbrev pub boxed_bits : Option (Box item.Item Global) → Bits

@@ -7,12 +7,13 @@ ghost use Rattle.p8_kinds.specs.ConstantEntries.{setting_of};
 ghost use Rattle.p8_kinds.specs.Verdicts as verdicts;
 ghost use Rattle.p8_kinds.specs.Verdicts.{verdict, boxed_bits};
 ghost use Rattle.p8_kinds.specs.Environments.{environment_of};
-ghost use Rattle.p8_kinds.specs.FirstMisuses.{rule_of, first_in, first_inside, first_in_variable, first_in_index, first_in_bits, first_in_item, first_in_trees, first_in_items, first_in_built};
+ghost use Rattle.p8_kinds.specs.FirstMisuses.{rule_of, first_in, first_inside, first_in_variable, first_in_index, first_in_bits, first_in_item, first_in_trees, first_in_items, first_in_built, first_in_strings};
 
 use crate::consts::Consts;
 use crate::rules::Rules;
 use crate::scope::Scope;
 use crate::single::{is_constant, own_fault};
+use crate::texts::first_in_text;
 use crate::values::value_of;
 use p8_tree::{Call, Expr, ExprKind, Fault, Item, Target, first_of_two};
 
@@ -53,6 +54,7 @@ fn first_inside(scope: &Scope, rules: Rules, kind: &ExprKind) -> Option<Fault>
     match kind {
         ExprKind::Number(_) => None,
         ExprKind::Str(_) => None,
+        ExprKind::Strings(items) => first_in_strings(scope, rules, items),
         ExprKind::Here => None,
         ExprKind::Var(variable) => first_in_variable(scope, rules, variable),
         ExprKind::Call(call) => first_in_call(scope, rules, call),
@@ -96,6 +98,18 @@ fn first_in_built(scope: &Scope, rules: Rules, code: u8, arguments: &[Expr]) -> 
         first_in_constants(&scope.consts, arguments)
     } else {
         first_in_trees(scope, rules, arguments)
+    }
+}
+
+// The items of STRING.
+#[cycle(expressions)]
+fn first_in_strings(scope: &Scope, rules: Rules, items: &[Expr]) -> Option<Fault>
+    ensures { result ≡ first_in_strings (rule_of rules (environment_of scope.now)) (trees_of items.now) }
+{
+    if is_constant(rules, 0) {
+        first_in_text(&scope.consts, items)
+    } else {
+        first_in_trees(scope, rules, items)
     }
 }
 

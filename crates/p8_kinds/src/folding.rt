@@ -207,6 +207,10 @@ pub(crate) fn verdict(consts: &Consts, expr: &Expr) -> Result<u32, Fault>
     match &expr.kind {
         ExprKind::Number(value) => Ok(*value),
         ExprKind::Str(_) => Err(not_constant(expr.place)),
+        ExprKind::Strings(items) => {
+            let own = not_constant(expr.place);
+            Err(own.with_further(first_in_trees(consts, items)))
+        }
         ExprKind::Here => or_fault(consts.place(), not_constant(expr.place)),
         ExprKind::Var(variable) => or_fault(
             value_of_variable(consts, variable),

@@ -18,6 +18,7 @@ mod scope;
 mod settings;
 mod single;
 mod statements;
+mod texts;
 mod uses;
 mod values;
 
@@ -32,5 +33,6 @@ pub use named::Named;
 pub use publics::publics_of;
 pub use scope::Scope;
 pub use settings::consts_of;
+pub use texts::put_text;
 pub use uses::{Use, argument_count};
 pub use values::{FoldFault, value_of};

@@ -13,8 +13,9 @@ use crate::statements::first_in_statements;
 use p8_tree::{Expr, Fault, Stmt};
 
 /// The first fault of a method's statements, by place and then by number: a name without a definition, 15, or of a kind that
-/// doesn't fit its use, 16, a call with another number of arguments, 17, and in `CONSTANT` what isn't constant, 12, or divides
-/// by 0, 13. None exactly where there is none.
+/// doesn't fit its use, 16, a call with another number of arguments, 17, and in `CONSTANT` and in a list of `STRING` what isn't
+/// constant, 12, or divides by 0, 13; in the latter also a constant that isn't from 1 to 255, 31. None exactly where there is
+/// none.
 ///
 /// It takes no memory, and calls go as deep as trees and blocks are.
 pub fn first_misuse(scope: &Scope, body: &[Stmt]) -> Option<Fault>

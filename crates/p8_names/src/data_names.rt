@@ -38,6 +38,7 @@ fn is_string(value: &Expr) -> bool
     match &value.kind {
         ExprKind::Str(_) => true,
         ExprKind::Call(_) => false,
+        ExprKind::Strings(_) => false,
         ExprKind::Number(_) | ExprKind::Here | ExprKind::Var(_) => false,
         ExprKind::Unary(_, _) | ExprKind::Binary(_, _, _) => false,
         ExprKind::Assign(_, _, _) | ExprKind::Change(_, _) | ExprKind::Address(_) => false,

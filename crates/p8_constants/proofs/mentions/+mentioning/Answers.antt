@@ -1,7 +1,7 @@
 use Rattle.std.proofs.Common.{◌≡◌, ◌++◌, OnOk, sym, ap, ◌∙◌, subst, arith}
 use Rattle.std.proofs.lemmas.Grind.{common_steps}
 use Rattle.p8_tree.specs.Views.{form_of}
-use Rattle.p8_tree.specs.Bridges.{built_is, look_is}
+use Rattle.p8_tree.specs.Bridges.{strings_is, built_is, look_is}
 use Rattle.p8_kinds.proofs.ValueRows.{call_form}
 use Rattle.p8_constants.specs.Mentions.{form_mentioned}
 use Rattle.p8_constants.proofs.Mentioned.{trees_next, items_next}
@@ -10,6 +10,10 @@ use Rattle.p8_constants.proofs.mentions.+mentioning.Goals as goal
 pub in_call-returns : goal.in_call-returns
 in_call-returns t c =
     subst (λ f. OnOk c.in_trees.result (c.in_trees.new.names ≡ c.args.names.now ++ form_mentioned f)) (sym (call_form c.args.call.now)) (grind (arith, common_steps))
+
+pub in_expr-returns-in-Strings : goal.in_expr-returns-in-Strings
+in_expr-returns-in-Strings t c =
+    subst (λ f. OnOk c.in_trees-in-Strings.result (c.in_trees-in-Strings.new.names ≡ c.args.names.now ++ form_mentioned f)) (sym (ap form_of c.in-Strings.is ∙ strings_is c.in-Strings.items)) (grind (arith, common_steps))
 
 pub in_expr-returns-in-Built : goal.in_expr-returns-in-Built
 in_expr-returns-in-Built t c =

@@ -1,11 +1,11 @@
 use Rattle.std.proofs.Common.{◌≡◌, rules, arith, sym, ap, ◌∙◌, subst}
 use Rattle.std.proofs.lemmas.Grind.{common_steps}
 use Rattle.p8_tree.specs.Views.{form_of, tree_of, trees_of, item_of, items_of}
-use Rattle.p8_tree.specs.Bridges.{built_is, look_is}
+use Rattle.p8_tree.specs.Bridges.{strings_is, built_is, look_is}
 use Rattle.p8_tree.specs.Faults.{first_of_two}
 use Rattle.p8_kinds.proofs.ValueRows.{call_form}
 use Rattle.p8_kinds.specs.Environments.{environment_of}
-use Rattle.p8_kinds.specs.FirstMisuses.{rule_of, first_in, first_inside, first_in_item, first_in_items, first_in_built}
+use Rattle.p8_kinds.specs.FirstMisuses.{rule_of, first_in, first_inside, first_in_item, first_in_items, first_in_built, first_in_strings}
 use Rattle.p8_kinds.proofs.Rows.{trees_next, items_next}
 use Rattle.p8_kinds.proofs.expressions.+expressions.Goals as goal
 
@@ -26,6 +26,12 @@ first_in_trees-loop-tree-preserved t c =
     c.first_of_two-first.ensures ∙ ap (λ o. first_of_two o c.first_in.result) c.loop-tree.invariant
     ∙ ap (first_of_two _) (c.first_in.ensures ∙ ap (λ e. first_in r (tree_of e)) c.tree-item.is)
     ∙ trees_next r c.args.trees.now c.loop-tree.tree-index c.tree-item.result c.loop-tree-test.true
+
+pub first_inside-returns-in-Strings : goal.first_inside-returns-in-Strings
+first_inside-returns-in-Strings t c =
+    let r = rule_of c.args.rules (environment_of c.args.scope.now) in
+    subst (λ f. c.first_in_strings.result ≡ first_inside r f) (sym (ap form_of c.in-Strings.is ∙ strings_is c.in-Strings.items))
+    (c.first_in_strings.ensures ∙ ap (λ es. first_in_strings r (trees_of es)) c.deref.ensures.value)
 
 pub first_inside-returns-in-Built : goal.first_inside-returns-in-Built
 first_inside-returns-in-Built t c =

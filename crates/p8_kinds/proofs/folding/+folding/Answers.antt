@@ -2,7 +2,7 @@ use Rattle.std.proofs.Common.{◌≡◌, Err, rules, arith, sym, ap, ◌∙◌, 
 use Rattle.std.specs.Result.{result_err}
 use Rattle.std.proofs.lemmas.Grind.{common_steps}
 use Rattle.p8_tree.specs.Views.{form_of, tree_of, trees_of, item_of, items_of}
-use Rattle.p8_tree.specs.Bridges.{built_is, look_is}
+use Rattle.p8_tree.specs.Bridges.{strings_is, built_is, look_is}
 use Rattle.p8_tree.specs.Faults.{fault, with_further, first_of_two}
 use Rattle.p8_tree.specs.declared.refusal.Refusal.TheVariants.{NotConstant}
 use Rattle.p8_kinds.specs.ConstantEntries.{setting_of}
@@ -27,6 +27,14 @@ first_in_trees-loop-tree-preserved t c =
     c.first_of_two-first.ensures ∙ ap (λ o. first_of_two o c.err.result) c.loop-tree.invariant
     ∙ ap (first_of_two _) (c.err.ensures.value ∙ ap result_err (c.verdict.ensures ∙ ap (λ e. verdict s (tree_of e)) c.tree-item.is))
     ∙ trees_next s c.args.trees.now c.loop-tree.tree-index c.tree-item.result c.loop-tree-test.true
+
+pub verdict-returns-in-Strings : goal.verdict-returns-in-Strings
+verdict-returns-in-Strings t c =
+    let s = setting_of c.args.consts.now in
+    let p = c.args.expr.now.place in
+    let items : c.first_in_trees.result ≡ first_in_trees s (trees_of c.in-Strings.items.items) = c.first_in_trees.ensures ∙ ap (λ es. first_in_trees s (trees_of es)) c.deref.ensures.value in
+    subst (λ f. Err c.with_further.result ≡ verdict_of_form s p f) (sym (ap form_of c.in-Strings.is ∙ strings_is c.in-Strings.items))
+    (ap Err (c.with_further.ensures ∙ ap (λ f. with_further f c.first_in_trees.result) c.not_constant-own.ensures ∙ ap (with_further _) items))
 
 pub verdict-returns-in-Built : goal.verdict-returns-in-Built
 verdict-returns-in-Built t c =
