@@ -4,8 +4,8 @@ use Rattle.std.specs.Prelude.{ℕ, ◌==◌, Bool, true, false, if◌then◌else
 use Rattle.p8_lexer.specs.declared.word.Word.TheVariants as word
 use Rattle.p8_lexer.specs.Words.{same}
 use Rattle.p8_grammar.specs.Grammar.{result_name}
-use Rattle.p8_tree.specs.Expressions.{Tree, node, Form, Number, Str, Here, Var, Call, Unary, Binary, Assign, Change, Address, ObjectAddress, ObjConst, Built, Look, Variable, Named, Part, Memory, Register, Index, no_index, index, Bits, whole, bits, Item, single, range, Trees, no_trees, ◌▷◌, Items, no_items, ◌▸◌}
-use Rattle.p8_print.specs.Spelled.{Spelled, reserved, name, number, string}
+use Rattle.p8_tree.specs.Expressions.{Tree, node, Form, Number, Str, Strings, Here, Var, Call, Unary, Binary, Assign, Change, Address, ObjectAddress, ObjConst, Built, Look, Variable, Named, Part, Memory, Register, Index, no_index, index, Bits, whole, bits, Item, single, range, Trees, no_trees, ◌▷◌, Items, no_items, ◌▸◌}
+use Rattle.p8_print.specs.Spelled.{Spelled, reserved, name, number, string, word_of_label}
 use Rattle.p8_print.specs.Tables.{assignment_word, is_boolean, operator_word, change_word, is_behind, size_word, register_word, built_word}
 
 abbrev pub is_number : Tree → Bool
@@ -21,7 +21,7 @@ operand_with false words = reserved word.LeftParenthesis ∷ (words ++ reserved 
 abbrev pub words_of_name : List ℕ → List Spelled
 words_of_name [] = name [] ∷ []
 words_of_name (c ∷ cs) =
-    if c == 58 then reserved word.Colon ∷ name cs ∷ [] else if same (c ∷ cs) result_name then reserved word.Result ∷ [] else name (c ∷ cs) ∷ []
+    if c == 58 then reserved word.Colon ∷ word_of_label cs ∷ [] else if same (c ∷ cs) result_name then reserved word.Result ∷ [] else name (c ∷ cs) ∷ []
 
 -- `\`, where a call stops an abort
 abbrev pub words_of_trap : Bool → List Spelled
@@ -49,6 +49,8 @@ abbrev mutual
   pub words_of_form : Form → List Spelled
   words_of_form (Number n) = number n ∷ []
   words_of_form (Str text) = reserved word.String ∷ reserved word.LeftParenthesis ∷ string text ∷ reserved word.RightParenthesis ∷ []
+  -- an item that is a string stands in a STRING of its own, so that a list of this one item is no string alone
+  words_of_form (Strings items) = reserved word.String ∷ words_of_arguments items
   words_of_form Here = reserved word.Dollar ∷ []
   words_of_form (Var v) = words_of_variable v
   words_of_form (Call trap object i n place args) = words_of_trap trap ++ (object_with object (words_of_index i) ++ name n ∷ words_of_arguments args)

@@ -149,6 +149,10 @@ pub(crate) fn write_expr(alloc: Global, script: &mut Script, expr: &Expr) -> Res
             write_word(script, word_for(Sought::BuiltIn(*code)))?;
             write_arguments(alloc, script, arguments)
         }
+        ExprKind::Strings(items) => {
+            write_word(script, Word::String)?;
+            write_arguments(alloc, script, items)
+        }
         ExprKind::Look(code, value, items) => {
             write_looked_for(alloc, script, *code, value)?;
             write_choices(alloc, script, items)

@@ -1,7 +1,7 @@
 // Writing lines of words.
 
 ghost use Rattle.std.specs.Prelude.{◌≡◌, ◌++◌, [], ◌∷◌, replicate, OnOk};
-ghost use Rattle.p8_print.specs.Spelled.{reserved, name, number, string, written};
+ghost use Rattle.p8_print.specs.Spelled.{reserved, name, number, string, word_of_label, written};
 
 use itoa::Buffer;
 use p8_lexer::Word;
@@ -62,6 +62,13 @@ impl Script {
     #[tactic(auto, unfolding(crate::specs::Spelled::spell))]
     pub(crate) fn name(&mut self, text: &Text) -> Result<(), NoMemory>
         ensures { OnOk result (self.new ≡ self.old ++ written (name text.now)) }
+    {
+        self.push_word(text.as_slice())
+    }
+
+    // Writes the word of a local label, without its colon.
+    pub(crate) fn label(&mut self, text: &Text) -> Result<(), NoMemory>
+        ensures { OnOk result (self.new ≡ self.old ++ written (word_of_label text.now)) }
     {
         self.push_word(text.as_slice())
     }

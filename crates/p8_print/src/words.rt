@@ -3,7 +3,7 @@
 ghost use Rattle.std.specs.Prelude.{◌≡◌, ◌∷◌, [], ◌++◌, OnOk};
 ghost use Rattle.p8_lexer.specs.declared.word.Word.TheVariants as word_case;
 ghost use Rattle.p8_print.specs.Spelled as spelled;
-ghost use Rattle.p8_print.specs.Spelled.{text_of_words};
+ghost use Rattle.p8_print.specs.Spelled.{word_of_label, text_of_words};
 ghost use Rattle.p8_print.specs.Wording.{words_of_name};
 ghost use Rattle.p8_print.specs.Writing.{separator};
 
@@ -26,6 +26,14 @@ pub(crate) fn write_name(script: &mut Script, name: &Text) -> Result<(), NoMemor
     ensures { OnOk result (script.new ≡ script.old ++ text_of_words (spelled.name name.now ∷ [])) }
 {
     script.name(name)?;
+    Ok(())
+}
+
+// Writes the word of a local label, which may be a reserved one.
+fn write_label(script: &mut Script, name: &Text) -> Result<(), NoMemory>
+    ensures { OnOk result (script.new ≡ script.old ++ text_of_words (word_of_label name.now ∷ [])) }
+{
+    script.label(name)?;
     Ok(())
 }
 
@@ -79,7 +87,7 @@ pub(crate) fn write_variable_name(
     let characters = name.as_slice();
     if let Some((b':', label)) = characters.split_first() {
         write_word(script, Word::Colon)?;
-        return write_name(script, &Text::copy_of(alloc, label)?);
+        return write_label(script, &Text::copy_of(alloc, label)?);
     }
     if characters == b"RESULT".as_slice() {
         write_word(script, Word::Result)

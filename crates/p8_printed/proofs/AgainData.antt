@@ -23,7 +23,7 @@ use Rattle.p8_printed.proofs.Readings as readings
 use Rattle.p8_printed.proofs.Readings.{IsRead}
 use Rattle.p8_printed.proofs.Made as made
 use Rattle.p8_printed.proofs.Made.{condition_number, IsCondition, a_condition, no_condition, IsEffects, some_effects, IsFlags, some_flags, IsInstruction, IsContents, IsDatum, AreData, IsLabel}
-use Rattle.p8_printed.proofs.ProperNames.{name_lexeme}
+use Rattle.p8_printed.proofs.ProperNames.{name_lexeme, label_word}
 use Rattle.p8_printed.proofs.Tables.{table_end, ◌&◌, all_from}
 use Rattle.p8_printed.proofs.ProperAgain.{Again, size_is, dat_again, data_again, there_again}
 
@@ -148,7 +148,7 @@ record LabelAlone (o : Option Tree) : Type 0 where
 
 pub label_is : (n : List ℕ) → names.IsLabel n → IsLabel n
 label_is n (names.plain h) = made.plain (name_lexeme n h)
-label_is n (names.behind_colon {n = m} h) = made.behind_colon (name_lexeme m h)
+label_is n (names.behind_colon {n = m} h) = made.behind_colon (label_word m h)
 
 label_alone : (o : Option Tree) → IsThere IsLabelAlone o → LabelAlone o
 label_alone None h = absurd h

@@ -1,16 +1,17 @@
 -- Rows that are alike but for places stand for trees that are alike.
-use Rattle.std.proofs.Common.{◌≡◌, ℕ, true, false, List, ◌∷◌, Some, None, refl, sym, ap, ap₂, subst}
+use Rattle.std.proofs.Common.{◌≡◌, ℕ, true, false, List, [], ◌∷◌, Some, None, refl, sym, ap, ap₂, subst}
 use Rattle.std.specs.Prelude.{IsTrue, not}
 use Rattle.p8_tree.specs.declared.places.Place.{Place}
-use Rattle.p8_tree.specs.Expressions.{Tree, node, Number, Str, Here, Var, Call, Change, Address, ObjConst, Built, Look, Variable, Named, Part, Memory, Register, no_index, index, whole, bits, single, range, Trees, no_trees, ◌▷◌, Items, no_items, ◌▸◌}
+use Rattle.p8_tree.specs.Expressions.{Tree, node, Number, Str, Strings, Here, Var, Call, Change, Address, ObjConst, Built, Look, Variable, Named, Part, Memory, Register, no_index, index, whole, bits, single, range, Trees, no_trees, ◌▷◌, Items, no_items, ◌▸◌}
 use Rattle.p8_tree.specs.Forgetting.{anywhere, variable_anywhere, trees_anywhere, items_anywhere, IsSameTree}
-use Rattle.p8_grammar.specs.Lexemes.{Setting, is_value, allows_index, is_dat, Access, memory, input_pins, input, assembly, is_written, is_in, Mark, left_parenthesis, right_parenthesis, colon, dot_dot, Lexeme, name, mark, changes, address, look}
-use Rattle.p8_grammar.specs.Grammar.{word, upto, Row, begin, ◌▹◌, Names, plain_name, result_word, local_label, Variables, named, indexed, part, part_indexed, memory_at, memory_indexed, register_whole, register_bit, register_bits, place_of, Head, calls, built, applied, Heads, trapped, of_object, of_element, of_built_in, of_command, Arguments, no_arguments, argument, Choices, no_choices, value_choice, range_choice, Forms, a_number, a_character, the_place, parentheses, variable, name_alone, changed_by, Prefix, prefix_of, effect_of, changed_before, changed_after, address_of, plain_call, bare_call, full_call, object_constant, a_value, a_string, a_constant, look_value, look_range}
+use Rattle.p8_grammar.specs.Lexemes.{Setting, is_value, allows_index, is_dat, Access, memory, input_pins, input, assembly, is_written, is_in, Mark, left_parenthesis, right_parenthesis, colon, dot_dot, Lexeme, name, string, mark, changes, address, look}
+use Rattle.p8_grammar.specs.Grammar.{word, upto, unquoted, Row, begin, ◌▹◌, Names, plain_name, result_word, local_label, Variables, named, indexed, part, part_indexed, memory_at, memory_indexed, register_whole, register_bit, register_bits, place_of, Head, calls, built, applied, Heads, trapped, of_object, of_element, of_built_in, of_command, Arguments, no_arguments, argument, Choices, no_choices, value_choice, range_choice, with_characters, text_choice, quoted, Texts, first_text, first_value, next_text, next_value, Forms, a_number, a_character, the_place, parentheses, variable, name_alone, changed_by, Prefix, prefix_of, effect_of, changed_before, changed_after, address_of, plain_call, bare_call, full_call, object_constant, a_value, a_string, one_item, items_text, items_value, a_constant, look_value, look_range, look_text}
 
 pub data Alike : Row → Row → Type 0 where
   alike_begin : Alike begin begin
   alike_word : {row row' : Row} {p p' : Place} {x : Lexeme} → Alike row row' → Alike (row ▹ word p x) (row' ▹ word p' x)
   alike_upto : {row row' : Row} {e e' : Tree} {m : Mark} → Alike row row' → IsSameTree e' e → Alike (row ▹ upto e m) (row' ▹ upto e' m)
+  alike_unquoted : {row row' : Row} {e e' : Tree} {m : Mark} → Alike row row' → IsSameTree e' e → Alike (row ▹ unquoted e m) (row' ▹ unquoted e' m)
 
 -- a setting in which all stands that stands in another, indexes among it
 pub record Fits (s s' : Setting) : Type 0 where
@@ -42,7 +43,7 @@ pub record NamesAs (s : Setting) (before : Row) (n : List ℕ) (row : Row) : Typ
 names_as : {s s' : Setting} {before row row' : Row} {n : List ℕ} {p : Place} → Fits s s' → Names s before n p row → Alike row row' → NamesAs s' before n row'
 names_as f plain_name (alike_word {row' = base} {p' = p'} h) = record { base = base; place = p'; alike = h; names = plain_name }
 names_as f result_word (alike_word {row' = base} {p' = p'} h) = record { base = base; place = p'; alike = h; names = result_word }
-names_as f (local_label d) (alike_word (alike_word {row' = base} {p' = p'} h)) = record { base = base; place = p'; alike = h; names = local_label (in_dat_too f d) }
+names_as f (local_label d is) (alike_word (alike_word {row' = base} {p' = p'} h)) = record { base = base; place = p'; alike = h; names = local_label (in_dat_too f d) is }
 
 pub record VariablesAs (s : Setting) (before : Row) (x : Access) (v : Variable) (row : Row) : Type 0 where
   pub base : Row
@@ -116,6 +117,10 @@ record ChoicesAs (before : Row) (xs : Items) (row : Row) : Type 0 where
   choices : Choices base other row
   same : items_anywhere other ≡ items_anywhere xs
 
+characters_same : (p p' : Place) (cs : List ℕ) (xs ys : Items) → items_anywhere ys ≡ items_anywhere xs → items_anywhere (with_characters p' cs ys) ≡ items_anywhere (with_characters p cs xs)
+characters_same p p' [] xs ys h = h
+characters_same p p' (c ∷ cs) xs ys h = characters_same p p' cs (xs ▸ single (node p (Number c))) (ys ▸ single (node p' (Number c))) (ap (λ zs. zs ▸ single (node anywhere (Number c))) h)
+
 choices_as : {before row row' : Row} {xs : Items} → Choices before xs row → Alike row row' → ChoicesAs before xs row'
 choices_as {row' = row'} no_choices h = record { base = row'; other = no_items; alike = h; choices = no_choices; same = refl }
 choices_as (value_choice c) (alike_upto {e' = e'} h d) =
@@ -124,6 +129,32 @@ choices_as (value_choice c) (alike_upto {e' = e'} h d) =
 choices_as (range_choice c) (alike_upto {e' = high'} (alike_upto {e' = low'} h d) d') =
     let r = choices_as c h in
     record { base = r.base; other = r.other ▸ range low' high'; alike = r.alike; choices = range_choice r.choices; same = ap₂ (λ xs x. xs ▸ x) r.same (ap₂ range d d') }
+choices_as (text_choice {xs = xs} {p = p} {c = c} {d = d} {t = t} k) (alike_word (alike_word {p' = p'} h)) =
+    let r = choices_as k h in
+    record { base = r.base; other = with_characters p' (c ∷ d ∷ t) r.other; alike = r.alike; choices = text_choice r.choices; same = characters_same p p' (c ∷ d ∷ t) xs r.other r.same }
+
+-- the items of STRING
+quoted_same : (p p' : Place) (t : List ℕ) → IsSameTree (quoted p' t) (quoted p t)
+quoted_same p p' [] = refl
+quoted_same p p' (c ∷ []) = refl
+quoted_same p p' (c ∷ d ∷ t) = refl
+
+record TextsAs (es : Trees) (row : Row) : Type 0 where
+  place : Place
+  other : Trees
+  texts : Texts place other row
+  same : trees_anywhere other ≡ trees_anywhere es
+
+texts_as : {p : Place} {row row' : Row} {es : Trees} → Texts p es row → Alike row row' → TextsAs es row'
+texts_as (first_text {r = r} {c = c} {t = t}) (alike_word (alike_word {p' = r'} (alike_word (alike_word {p' = p'} alike_begin)))) =
+    record { place = p'; other = no_trees ▷ quoted r' (c ∷ t); texts = first_text; same = ap (λ e. no_trees ▷ e) (quoted_same r r' (c ∷ t)) }
+texts_as first_value (alike_unquoted {e' = e'} (alike_word (alike_word {p' = p'} alike_begin)) d) = record { place = p'; other = no_trees ▷ e'; texts = first_value; same = ap (λ e. no_trees ▷ e) d }
+texts_as (next_text {c = c} {d = d} {t = t} k) (alike_word (alike_word {p' = r'} h)) =
+    let a = texts_as k h in
+    record { place = a.place; other = a.other ▷ node r' (Str (c ∷ d ∷ t)); texts = next_text a.texts; same = ap (λ es. es ▷ node anywhere (Str (c ∷ d ∷ t))) a.same }
+texts_as (next_value k) (alike_upto {e' = e'} h d) =
+    let a = texts_as k h in
+    record { place = a.place; other = a.other ▷ e'; texts = next_value a.texts; same = ap₂ (λ es e. es ▷ e) a.same d }
 
 -- the form of a row that is alike
 pub record FormsAs (s : Setting) (e : Tree) (row : Row) : Type 0 where
@@ -192,6 +223,14 @@ look_range_as {s = s} {k = k} {p = p} {q = q} {x = x} {low = low} {low' = low'} 
     go base (alike_upto {e' = x'} (alike_word (alike_word {p' = p'} alike_begin)) dx) c =
         record { other = node p' (Look k x' (r.other ▸ range low' high')); forms = look_range is c; same = ap₂ (λ t ys. node anywhere (Look k t ys)) dx (ap₂ (λ ys y. ys ▸ y) r.same (ap₂ range d d')) }
 
+look_text_as : {s : Setting} {k : ℕ} {p q r' o' : Place} {x : Tree} {c d : ℕ} {t : List ℕ} {xs : Items} {row : Row} (r : Place) → IsTrue (is_value s) → ChoicesAs (begin ▹ word p (look k) ▹ word q (mark left_parenthesis) ▹ upto x colon) xs row
+    → FormsAs s (node p (Look k x (with_characters r (c ∷ d ∷ t) xs))) (row ▹ word r' (string (c ∷ d ∷ t)) ▹ word o' (mark right_parenthesis))
+look_text_as {s = s} {k = k} {p = p} {q = q} {r' = r'} {o' = o'} {x = x} {c = c} {d = d} {t = t} {xs = xs} {row = row} r is a = go a.base a.alike a.choices
+  where
+    go : (base : Row) → Alike (begin ▹ word p (look k) ▹ word q (mark left_parenthesis) ▹ upto x colon) base → Choices base a.other row → FormsAs s (node p (Look k x (with_characters r (c ∷ d ∷ t) xs))) (row ▹ word r' (string (c ∷ d ∷ t)) ▹ word o' (mark right_parenthesis))
+    go base (alike_upto {e' = x'} (alike_word (alike_word {p' = p'} alike_begin)) dx) b =
+        record { other = node p' (Look k x' (with_characters r' (c ∷ d ∷ t) a.other)); forms = look_text is b; same = ap₂ (λ u ys. node anywhere (Look k u ys)) dx (characters_same r r' (c ∷ d ∷ t) xs a.other a.same) }
+
 pub forms_as : {s s' : Setting} {e : Tree} {row row' : Row} → Fits s s' → Forms s e row → Alike row row' → FormsAs s' e row'
 forms_as f (a_number {n = n} v) (alike_word {p' = p'} alike_begin) = record { other = node p' (Number n); forms = a_number (value_too f v); same = refl }
 forms_as f (a_character {c = c} v) (alike_word {p' = p'} alike_begin) = record { other = node p' (Number c); forms = a_character (value_too f v); same = refl }
@@ -211,7 +250,16 @@ forms_as f (full_call {e = e} y a) (alike_upto h d) = full_call_as e f y (argume
 forms_as f (object_constant {n = n} {m = m} v) (alike_word {p' = q'} (alike_word (alike_word {p' = p'} alike_begin))) = record { other = node p' (ObjConst n m q'); forms = object_constant (value_too f v); same = refl }
 forms_as f (a_value {k = k}) (alike_word {p' = p'} alike_begin) = record { other = node p' (Built k no_trees); forms = a_value; same = refl }
 forms_as f (a_string {c = c} {t = t} v) (alike_word (alike_word (alike_word (alike_word {p' = p'} alike_begin)))) = record { other = node p' (Str (c ∷ t)); forms = a_string (value_too f v); same = refl }
+forms_as f (one_item v) (alike_unquoted {e' = e'} (alike_word (alike_word {p' = p'} alike_begin)) d) =
+    record { other = node p' (Strings (no_trees ▷ e')); forms = one_item (value_too f v); same = ap (λ t. node anywhere (Strings (no_trees ▷ t))) d }
+forms_as f (items_text {c = c} {d = d} {t = t} v k) (alike_word (alike_word {p' = r'} h)) =
+    let a = texts_as k h in
+    record { other = node a.place (Strings (a.other ▷ node r' (Str (c ∷ d ∷ t)))); forms = items_text (value_too f v) a.texts; same = ap (λ es. node anywhere (Strings (es ▷ node anywhere (Str (c ∷ d ∷ t))))) a.same }
+forms_as f (items_value v k) (alike_upto {e' = e'} h d) =
+    let a = texts_as k h in
+    record { other = node a.place (Strings (a.other ▷ e')); forms = items_value (value_too f v) a.texts; same = ap₂ (λ es e. node anywhere (Strings (es ▷ e))) a.same d }
 forms_as f (a_constant v) (alike_upto {e' = e'} (alike_word (alike_word {p' = p'} alike_begin)) d) =
     record { other = node p' (Built 0 (no_trees ▷ e')); forms = a_constant (value_too f v); same = ap (λ t. node anywhere (Built 0 (no_trees ▷ t))) d }
 forms_as f (look_value v c) (alike_upto h d) = look_value_as (value_too f v) (choices_as c h) d
 forms_as f (look_range v c) (alike_upto (alike_upto h d) d') = look_range_as (value_too f v) (choices_as c h) d d'
+forms_as f (look_text {r = r} v c) (alike_word (alike_word h)) = look_text_as r (value_too f v) (choices_as c h)

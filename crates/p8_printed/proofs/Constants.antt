@@ -33,18 +33,18 @@ Declares x ps = (xs : List Constant) × (constants_of_parts ps ≡ Some xs) × (
 item_back : (x : Constant) → IsItem x → Back state.ConItem (words_of_constant x) (Declares x)
 unfolding part_of_word
 item_back _ (sets {e = e} r) =
-    a_word state.ConItem state.ConValue word_case.Hash refl (λ k. refl)
+    a_word state.ConItem state.ConValue refl word_case.Hash refl (λ k. refl)
     (last state.ConValue in_declaration e refl r (λ k. refl) (λ e' same p. (setting p e' ∷ [], refl, ap (λ t. setting anywhere t ∷ []) same)))
 item_back _ (alone {n = n} y) =
-    a_name state.ConItem state.ConName n y (λ k. refl)
+    a_name state.ConItem state.ConName refl n y (λ k. refl)
     (ends state.ConName (λ k. refl) (λ p. (constant n p None None ∷ [], refl, refl)))
 item_back _ (valued {n = n} {e = e} y r) =
-    a_name state.ConItem state.ConName n y (λ k. refl)
-    (a_word state.ConName state.ConValue word_case.EqualSign refl (λ k. refl)
+    a_name state.ConItem state.ConName refl n y (λ k. refl)
+    (a_word state.ConName state.ConValue refl word_case.EqualSign refl (λ k. refl)
     (last state.ConValue in_declaration e refl r (λ k. refl) (λ e' same q p. (constant n p (Some e') None ∷ [], refl, ap (λ t. constant n anywhere (Some t) None ∷ []) same))))
 item_back _ (stepped {n = n} {e = e} y r) =
-    a_name state.ConItem state.ConName n y (λ k. refl)
-    (a_word state.ConName state.ConStep word_case.LeftBracket refl (λ k. refl)
+    a_name state.ConItem state.ConName refl n y (λ k. refl)
+    (a_word state.ConName state.ConStep refl word_case.LeftBracket refl (λ k. refl)
     (before state.ConStep state.ConMore in_declaration e word_case.RightBracket refl r refl (λ k. refl)
     (ends state.ConMore (λ k. refl) (λ b e' same q p. (constant n p None (Some e') ∷ [], refl, ap (λ t. constant n anywhere None (Some t) ∷ []) same)))))
 

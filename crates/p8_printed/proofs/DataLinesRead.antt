@@ -32,7 +32,7 @@ use Rattle.p8_printed.proofs.Readings.{IsRead, IsSize, byte_size, word_size, lon
 use Rattle.p8_printed.proofs.Made.{IfThere, IsLabel, plain, behind_colon, condition_number, IsCondition, a_condition, no_condition, IsInstruction, two, on_memory, one, jump, call, return, nothing, IsContents, of_data, of_org, of_res, of_fit, of_instruction, IsLine, label_alone, with_contents}
 use Rattle.p8_blocks.proofs.DataWords.{plain_part, condition_part}
 use Rattle.p8_printed.proofs.DataNames.{part_of_name, name_words}
-use Rattle.p8_printed.proofs.Going.{AreEnded, ended, Leading, Going, by_arrow, on, at_end, so, tree_read, behind_tree}
+use Rattle.p8_printed.proofs.Going.{AreEnded, ended, Leading, Going, by_arrow, by_label, on, at_end, so, tree_read, behind_tree}
 use Rattle.p8_printed.proofs.Operands.{colon_part}
 use Rattle.p8_printed.proofs.Items.{size_part, data_read}
 use Rattle.p8_printed.proofs.InstructionsRead.{Starts, line_starts, body_starts, conditioned_starts, word_read}
@@ -47,7 +47,7 @@ abbrev line_end_alone : List Arrow
 line_end_alone = word.LineEnd ⇒ state.End ∷ []
 
 value_read : (v : Option Tree) (ts : List LineToken) → IfThere (IsRead in_dat) v → AreEnded (words_of_value v) ts → Leading state.DatValue ts (HasValue v)
-value_read None ts was are = by_arrow state.DatValue (at_end (choices state.DatValue).arrows ts are (λ n. refl) (record { other = None; is = refl; same = refl }))
+value_read None ts was are = by_arrow state.DatValue refl (at_end (choices state.DatValue).arrows ts are (λ n. refl) (record { other = None; is = refl; same = refl }))
 value_read (Some e) ts was are =
     let y = tree_read in_dat e [] ts was (subst (λ ws. AreEnded ws ts) (sym (append-nil (words_of_value (Some e)))) are) in
     behind_tree state.DatValue in_dat line_end_alone (HasValue (Some e)) refl y (at_end line_end_alone y.right {K = λ ps. ps ≡ []} y.rest (λ n. refl) refl)
@@ -180,7 +180,7 @@ module _ (l : List Arrow) (starts : StartsBody l) where
   with_condition w i [] h is e are = absurd are
   with_condition w i (t ∷ ts) h is e are =
       on l t w state.Conditioned (condition (condition_number w)) (HasBody (Instr i)) are.0.word (λ n. starts.conditions w n h) (condition_part t w are.0.word h) refl
-      (by_arrow state.Conditioned (word_read (choices state.Conditioned).arrows conditioned_starts i ts is are.1))
+      (by_arrow state.Conditioned refl (word_read (choices state.Conditioned).arrows conditioned_starts i ts is are.1))
       (λ ps k. record { place = k.place; other = Instr k.other; given = λ x. ap (λ c. instruction c x ps) (sym e) ∙ k.given x; same = ap (λ i. Instr i) k.same; as_line = λ p. refl })
 
   instruction_read : (i : Instruction) (ts : List LineToken) → IsInstruction i → AreEnded (words_of_instruction i) ts → Going l ts (HasBody (Instr i))
@@ -231,12 +231,13 @@ labels_read n x rest ts (plain is) next are = go ts (subst (λ ws. AreEnded (ws 
   where
     go : (ts : List LineToken) → AreEnded (spelled.name n ∷ rest) ts → Leading state.DatLine ts (Whole x)
     go [] are = absurd are
-    go (t ∷ ts) are = by_arrow state.DatLine (on (choices state.DatLine).arrows t word.Name state.DatBody (name n t.place) (Whole x) are.0.word (λ m. refl) (part_of_name n t is are.0) refl (next ts are.1) (λ ps k p. k p))
+    go (t ∷ ts) are = by_arrow state.DatLine refl (on (choices state.DatLine).arrows t word.Name state.DatBody (name n t.place) (Whole x) are.0.word (λ m. refl) (part_of_name n t is are.0) refl (next ts are.1) (λ ps k p. k p))
 labels_read n x rest [] (behind_colon is) next are = absurd are
 labels_read n x rest (t ∷ []) (behind_colon is) next are = absurd are.1
 labels_read n x rest (t ∷ u ∷ ts) (behind_colon {n = m} is) next are =
-    let named = on (choices state.DatLabel).arrows u word.Name state.DatBody (name m u.place) (λ ps. Whole x (colon t.place ∷ ps)) are.1.0.word (λ m. refl) (part_of_name m u is are.1.0) refl (next ts are.1.1) (λ ps k p. k p) in
-    by_arrow state.DatLine (on (choices state.DatLine).arrows t word.Colon state.DatLabel (colon t.place) (Whole x) are.0.word (λ m. refl) (colon_part t are.0.word) refl (by_arrow state.DatLabel named) (λ ps k. k))
+    let named : Leading state.DatLabel (u ∷ ts) (λ ps. Whole x (colon t.place ∷ ps))
+    = by_label state.DatLabel state.DatBody refl refl m u (λ ps. Whole x (colon t.place ∷ ps)) is are.1.0 (next ts are.1.1) (λ ps k p. k p) in
+    by_arrow state.DatLine refl (on (choices state.DatLine).arrows t word.Colon state.DatLabel (colon t.place) (Whole x) are.0.word (λ m. refl) (colon_part t are.0.word) refl named (λ ps k. k))
 
 body_line : (p q : Place) (l : Option (List ℕ)) (c : Contents) (ps : List Part) → HasBody c ps → (r : Place) → HasLine (record { place = p; label = l; word_place = q; contents = c }) (option_map (λ x. Some x) (body (blank r l) ps))
 body_line p q l c ps k r = record {
@@ -248,14 +249,14 @@ body_line p q l c ps k r = record {
 line_read : (x : Line) (ts : List LineToken) → IsLine x → AreEnded (words_of_line x) ts → Leading state.DatLine ts (Whole x)
 line_read x ts (label_alone {p = p} {q = q} {n = n} is) are =
     labels_read n (record { place = p; label = Some n; word_place = q; contents = Nothing }) [] ts is
-    (λ us are. by_arrow state.DatBody (at_end (choices state.DatBody).arrows us are (λ m. refl) (λ r. record { other = blank r (Some n); is = refl; same = refl })))
+    (λ us are. by_arrow state.DatBody refl (at_end (choices state.DatBody).arrows us are (λ m. refl) (λ r. record { other = blank r (Some n); is = refl; same = refl })))
     are
 line_read x ts (with_contents {p = p} {q = q} {l = None} {x = c} is kinds) are =
-    by_arrow state.DatLine (so (contents_read (choices state.DatLine).arrows starts_line c ts kinds are)
+    by_arrow state.DatLine refl (so (contents_read (choices state.DatLine).arrows starts_line c ts kinds are)
     (λ ps k r. let y = body_line p q None c ps k r in record { other = y.other; is = k.as_line r ∙ y.is; same = y.same }))
 line_read x ts (with_contents {p = p} {q = q} {l = Some n} {x = c} is kinds) are =
     labels_read n (record { place = p; label = Some n; word_place = q; contents = c }) (words_of_contents c) ts is
-    (λ us are. by_arrow state.DatBody (so (contents_read (choices state.DatBody).arrows starts_body c us kinds are) (λ ps k. body_line p q (Some n) c ps k)))
+    (λ us are. by_arrow state.DatBody refl (so (contents_read (choices state.DatBody).arrows starts_body c us kinds are) (λ ps k. body_line p q (Some n) c ps k)))
     are
 
 -- what was read of a line's words

@@ -1,4 +1,4 @@
--- What holds of reserved words, of names and of the words of expressions holds of the words of a line.
+-- What holds of reserved words, of names, of the words of local labels and of the words of expressions holds of the words of a line.
 use Rattle.std.proofs.Common.{◌≡◌, ◌⊎◌, inl, inr, ℕ, List, [], ◌∷◌, ◌++◌, Option, Some, None, Bool, true, false, All, refl, sym, subst, append-nil}
 use Rattle.std.specs.Prelude.{IsTrue}
 use Rattle.std.proofs.lemmas.List.Elements.{All-nil, All-cons, All-append}
@@ -12,11 +12,11 @@ use Rattle.p8_lexer.specs.Table.{rows}
 use Rattle.p8_grammar.specs.Lexemes.{Setting, in_dat}
 use Rattle.p8_lines.specs.Signs.{is_condition, takes_two, is_on_memory, takes_one}
 use Rattle.p8_print.specs.Spelled as spelled
-use Rattle.p8_print.specs.Spelled.{Spelled, reserved, is_free}
+use Rattle.p8_print.specs.Spelled.{Spelled, reserved, word_of_label, is_free}
 use Rattle.p8_print.specs.Tables.{size_word}
 use Rattle.p8_print.specs.Wording.{words_of_name, wrapped, words_of_count, words_of_value}
 use Rattle.p8_print.specs.DataWords.{words_of_label, words_of_size, words_of_datum, more_data, words_of_data, words_of_condition, instruction_word, is_call, source_with, words_of_operands, words_of_effects, words_of_contents, words_of_line}
-use Rattle.p8_printed.proofs.Readings.{IsRead, IsName, IsSize, byte_size, word_size, long_size}
+use Rattle.p8_printed.proofs.Readings.{IsRead, IsName, IsWord, IsSize, byte_size, word_size, long_size}
 use Rattle.p8_printed.proofs.Made.{IfThere, IsLabel, plain, behind_colon, IsDatum, AreData, condition_number, IsCondition, a_condition, no_condition, IsInstruction, two, on_memory, one, jump, call, return, nothing, IsContents, of_data, of_org, of_res, of_fit, of_instruction, IsLine, label_alone, with_contents}
 use Rattle.p8_printed.proofs.DataNames.{name_words}
 use Rattle.p8_printed.proofs.Effects.{effects_all, flags_all}
@@ -37,7 +37,7 @@ condition_not_free word.Str h = absurd cc
 condition_not_free word.LineEnd h = absurd cc
 condition_not_free w h = refl
 
-module _ (P : Spelled → Type 0) (each : (w : Word) → is_free w ≡ false → P (reserved w)) (names : (n : List ℕ) → IsName n → P (spelled.name n)) (trees : (s : Setting) (e : Tree) → IsRead s e → All P (wrapped e)) where
+module _ (P : Spelled → Type 0) (each : (w : Word) → is_free w ≡ false → P (reserved w)) (names : (n : List ℕ) → IsName n → P (spelled.name n)) (labels : (n : List ℕ) → IsWord n → P (word_of_label n)) (trees : (s : Setting) (e : Tree) → IsRead s e → All P (wrapped e)) where
   -- a reserved word before others
   behind : (w : Word) (ws : List Spelled) → is_free w ≡ false → All P ws → All P (reserved w ∷ ws)
   behind w ws free all = All-cons P (reserved w) ws (each w free) all
@@ -47,7 +47,7 @@ module _ (P : Spelled → Type 0) (each : (w : Word) → is_free w ≡ false →
 
   all_name : (n : List ℕ) → IsLabel n → All P (words_of_name n)
   all_name n (plain is) = subst (All P) (sym (name_words n is)) (All-cons P (spelled.name n) [] (names n is) (All-nil P))
-  all_name n (behind_colon {n = m} is) = behind word.Colon (spelled.name m ∷ []) refl (All-cons P (spelled.name m) [] (names m is) (All-nil P))
+  all_name n (behind_colon {n = m} is) = behind word.Colon (word_of_label m ∷ []) refl (All-cons P (word_of_label m) [] (labels m is) (All-nil P))
 
   all_size : (s : Option ℕ) → IfThere IsSize s → All P (words_of_size s)
   all_size None is = All-nil P

@@ -23,6 +23,7 @@ use Rattle.p8_print.specs.DataWords.{words_of_effects}
 use Rattle.p8_printed.proofs.Made.{effects_number, IsEffects, some_effects, IsFlags, some_flags, sixteen, made}
 use Rattle.p8_blocks.proofs.Closed.{halves}
 use Rattle.p8_blocks.proofs.DataWords.{plain_part}
+use Rattle.p8_printed.proofs.RowSteps.{unlabelled_end}
 use Rattle.p8_printed.proofs.Going.{AreEnded, Going, by_arrow, ends_here, on, at_end, so}
 
 -- the words of effects
@@ -100,7 +101,7 @@ module _ (class : Word → Bool) (q : State) (part : (t : LineToken) (w : Word) 
   run l takes ends (w ∷ ws) h (t ∷ ts) are =
       let y = halves (class w) (all_are class ws) h in
       on l t w q (effect_part w) (λ ps. ps ≡ map effect_part (w ∷ ws)) are.0.word (λ n. takes w n y.0) (part t w y.0 are.0.word) (inside w)
-      (by_arrow q (run (choices q).arrows again over ws y.1 ts are.1)) (λ ps e. ap (λ ps. effect_part w ∷ ps) e)
+      (by_arrow q (unlabelled_end q over) (run (choices q).arrows again over ws y.1 ts are.1)) (λ ps e. ap (λ ps. effect_part w ∷ ps) e)
 
 -- after the operands of an instruction
 abbrev pub behind_operands : List Arrow

@@ -1,22 +1,23 @@
 -- Each proper expression and each proper action, but for its places, is spelled by tokens of a source.
 use Rattle.std.proofs.Common.{◌≡◌, ℕ, suc, ◌+◌, ◌*◌, ◌≤◌, Bool, true, false, List, [], ◌∷◌, ◌++◌, Option, Some, None, refl, subst, arith}
-use Rattle.std.specs.Prelude.{◌==◌, ◌||◌, IsTrue}
+use Rattle.std.specs.Prelude.{◌==◌, ◌||◌, not, IsTrue}
 use Rattle.std.proofs.lemmas.Bool.Decides.{nat_tests}
 use Rattle.p8_lexer.specs.declared.word.Word.TheVariants as word_case
-use Rattle.p8_tree.specs.Expressions.{Tree, node, Form, Number, Str, Here, Var, Call, Unary, Binary, Assign, Change, Address, ObjectAddress, ObjConst, Built, Look, Variable, Named, Part, Memory, Register, Index, no_index, index, whole, bits, single, range, Trees, no_trees, ◌▷◌, Items, no_items, ◌▸◌}
+use Rattle.p8_tree.specs.Expressions.{Tree, node, Form, Number, Str, Strings, Here, Var, Call, Unary, Binary, Assign, Change, Address, ObjectAddress, ObjConst, Built, Look, Variable, Named, Part, Memory, Register, Index, no_index, index, whole, bits, single, range, Trees, no_trees, ◌▷◌, Items, no_items, ◌▸◌}
 use Rattle.p8_tree.specs.Forgetting.{anywhere, variable_anywhere, index_anywhere, trees_anywhere, items_anywhere, IsSameTree}
 use Rattle.p8_tree.specs.Names.{IsName, IsVariableName, plain_name, result_name, local_label, IsString}
-use Rattle.p8_tree.specs.Proper.{IfThere, is_change, is_operator_alone, is_size, is_look, is_written, is_in_memory, is_value, gives_value, gives_no_value, IsProperTree, IsProperForm, IsProperVariable, AreProperTrees, AreProperItems, IsDoneForm, IsDone}
+use Rattle.p8_tree.specs.Proper.{IfThere, is_change, is_operator_alone, is_size, is_look, is_written, is_in_memory, is_value, gives_value, gives_no_value, is_no_tree, IsProperTree, IsProperForm, IsProperVariable, AreProperTrees, AreProperItems, IsDoneForm, IsDone}
 use Rattle.p8_grammar.specs.Lexemes as lexemes
-use Rattle.p8_grammar.specs.Lexemes.{Setting, allows_index, is_dat, inside, Access, memory, left_parenthesis, right_parenthesis, left_bracket, right_bracket, comma, colon, dot, dot_dot, hash, backslash, equal, Lexeme, number, name, method_result, string, mark, infix_word, assigns, changes, address, object_address, size, register, here, string_word, constant_word, look, value, built_in, command, Token, token}
+use Rattle.p8_grammar.specs.Lexemes.{Setting, allows_index, is_dat, inside, Access, memory, left_parenthesis, right_parenthesis, left_bracket, right_bracket, comma, colon, dot, dot_dot, hash, backslash, equal, number, name, method_result, string, mark, infix_word, assigns, changes, address, object_address, size, register, here, string_word, constant_word, look, value, built_in, command, Token, token}
 use Rattle.p8_grammar.specs.Grammar as grammar
-use Rattle.p8_grammar.specs.Grammar.{word, upto, Row, begin, ◌▹◌, Names, Variables, named, indexed, part, part_indexed, memory_at, memory_indexed, register_whole, register_bit, register_bits, opening, Heads, trapped, of_object, of_element, of_built_in, of_command, applied, Head, calls, built, Arguments, no_arguments, argument, Choices, no_choices, value_choice, range_choice, Forms, a_number, the_place, variable, name_alone, changed_by, changed_before, changed_after, address_of, plain_call, bare_call, full_call, object_constant, a_value, a_string, a_constant, look_value, look_range, at_object, unary, rank, prefix_of, infix_of, place_of, IsExpression, Reads, operand, before, between, assigned, assigned_by_word}
+use Rattle.p8_grammar.specs.Grammar.{word, upto, Row, begin, ◌▹◌, Names, Variables, named, indexed, part, part_indexed, memory_at, memory_indexed, register_whole, register_bit, register_bits, opening, Heads, trapped, of_object, of_element, of_built_in, of_command, applied, Head, calls, built, Arguments, no_arguments, argument, Choices, no_choices, value_choice, range_choice, Texts, first_value, next_value, Forms, a_number, the_place, variable, name_alone, changed_by, changed_before, changed_after, address_of, plain_call, bare_call, full_call, object_constant, a_value, a_string, one_item, items_value, a_constant, look_value, look_range, IsExpression, before, between, assigned, assigned_by_word}
 use Rattle.p8_expr.specs.Words.{lexeme_of_word}
 use Rattle.p8_expr.specs.Sources.{IsLexeme, AreLexemes}
-use Rattle.p8_printed.proofs.ProperNames.{name_lexeme, string_lexeme}
+use Rattle.p8_printed.proofs.LabelWords.{label_is}
+use Rattle.p8_printed.proofs.ProperNames.{name_lexeme, label_word, string_lexeme}
 use Rattle.p8_printed.proofs.Tables as tables
 use Rattle.p8_printed.proofs.Tables.{either, prefix_operator, infix_operator, IsInfix, Assigning, one_word, two_words, change, IsChange, IsAlone, operator_alone, size_lexeme, look_lexeme, value_lexeme, built_lexeme, command_lexeme, register_lexeme}
-use Rattle.p8_printed.proofs.Rows.{mark_lexeme, IsSpelled, RowSpelled, lexeme_first, lexemes_joined, IsInner, start, add, add_mark, put, form, enclosed, right_side, in_row, inside_of}
+use Rattle.p8_printed.proofs.Rows.{mark_lexeme, string_word_lexeme, IsSpelled, RowSpelled, lexeme_first, lexemes_joined, IsInner, start, add, add_mark, put, put_unquoted, form, enclosed, right_side, in_row, inside_of, unquoted_of}
 
 -- words of their own
 
@@ -35,10 +36,6 @@ address_lexeme = (word_case.At, refl)
 object_address_lexeme : IsLexeme object_address
 unfolding lexeme_of_word
 object_address_lexeme = (word_case.AtAt, refl)
-
-string_word_lexeme : IsLexeme string_word
-unfolding lexeme_of_word
-string_word_lexeme = (word_case.String, refl)
 
 constant_word_lexeme : IsLexeme constant_word
 unfolding lexeme_of_word
@@ -78,6 +75,14 @@ record ChoicesSpelled (s : Setting) (before : Row) (xs : Items) : Type 0 where
   spelled : RowSpelled s row
   same : items_anywhere items ≡ items_anywhere xs
 
+-- the items of STRING but for the last
+record TextsSpelled (s : Setting) (es : Trees) : Type 0 where
+  trees : Trees
+  row : Row
+  is : Texts anywhere trees row
+  spelled : RowSpelled s row
+  same : trees_anywhere trees ≡ trees_anywhere es
+
 record HeadSpelled (s : Setting) (h : Head) : Type 0 where
   row : Row
   is : Heads s h row
@@ -111,7 +116,7 @@ assigned_by {s = s} v k e (two_words r b h) w x y =
     record {
       tree = node anywhere (Assign x.variable (Some k) right.tree);
       tokens = x.spelled.tokens ++ token anywhere (infix_word r k) ∷ others;
-      reads = assigned_by_word x.access r anywhere (omega arith) (x.written w) b x.is x.spelled.spells right.reads;
+      reads = assigned_by_word x.access (infix_word r k) r anywhere (omega arith) (x.written w) refl b x.is x.spelled.spells right.reads;
       lexemes = lexemes_joined x.spelled.tokens (token anywhere (infix_word r k) ∷ others) x.spelled.lexemes (lexeme_first (infix_word r k) others h (lexeme_first (mark equal) right.tokens (mark_lexeme equal) right.lexemes));
       same = λ i. node anywhere (Assign (x.same i) (Some k) (right.same i));
     }
@@ -161,7 +166,7 @@ module _ {s : Setting} (inner : IsInner s) where
   named_by : {before : Row} (n : List ℕ) → RowSpelled s before → IsVariableName (is_dat s) n → NameSpelled s before n
   named_by n r (plain_name h) = record { row = _; is = grammar.plain_name; spelled = add (name n) r (name_lexeme n h) }
   named_by n r result_name = record { row = _; is = grammar.result_word; spelled = add method_result r result_lexeme }
-  named_by n r (local_label {n = m} d h) = record { row = _; is = grammar.local_label d; spelled = add (name m) (add_mark colon r) (name_lexeme m h) }
+  named_by n r (local_label {n = m} d h) = let x = label_is m (label_word m h) in record { row = _; is = grammar.local_label d x.named; spelled = add x.lexeme (add_mark colon r) x.good }
 
   -- operators
 
@@ -218,6 +223,19 @@ module _ {s : Setting} (inner : IsInner s) where
   string_from [] h = absurd (let z = h.0 in omega (arith, z))
   string_from (c ∷ t) h = form (a_string inner.value) (add_mark right_parenthesis (add (string (c ∷ t)) (add_mark left_parenthesis (add string_word start string_word_lexeme)) (string_lexeme (c ∷ t) h.1))) refl
 
+  string_begun : RowSpelled s (begin ▹ word anywhere string_word ▹ word anywhere (mark left_parenthesis))
+  string_begun = add_mark left_parenthesis (add string_word start string_word_lexeme)
+
+  one_from : {p : _} {e : Tree} → IsSpelled s e → IsSpelled s (node p (Strings (no_trees ▷ e)))
+  one_from x =
+      let y = unquoted_of inner x in
+      form (one_item inner.value) (put_unquoted right_parenthesis string_begun y.spelled y.apart) (λ i. node anywhere (Strings (no_trees ▷ y.spelled.same i)))
+
+  first_from : {e : Tree} → IsSpelled s e → TextsSpelled s (no_trees ▷ e)
+  first_from x =
+      let y = unquoted_of inner x in
+      record { trees = no_trees ▷ y.spelled.tree; row = _; is = first_value; spelled = put_unquoted comma string_begun y.spelled y.apart; same = λ i. no_trees ▷ y.spelled.same i }
+
   look_begun : (k : ℕ) {e : Tree} → IsTrue (is_look k) → (x : IsSpelled (inside s) e) → RowSpelled s (begin ▹ word anywhere (look k) ▹ word anywhere (mark left_parenthesis) ▹ upto x.tree colon)
   look_begun k h x = put colon (add_mark left_parenthesis (add (look k) start (look_lexeme k h))) x
 
@@ -243,6 +261,12 @@ module _ {s : Setting} (inner : IsInner s) where
     form_spelled : (p : _) (f : Form) → IsProperForm (is_dat s) f → IsSpelled s (node p f)
     form_spelled p (Number n) h = form (a_number inner.value) (add (number n) start h) refl
     form_spelled p (Str t) h = string_from t h
+    form_spelled p (Strings no_trees) h = absurd (let z = h.0 in cc)
+    form_spelled p (Strings (no_trees ▷ e)) h = one_from (tree_spelled e h.1.1)
+    form_spelled p (Strings (es ▷ d ▷ e)) h =
+        let a = texts_spelled (es ▷ d) h.1.0 refl in
+        let x = tree_inside e h.1.1 in
+        form (items_value inner.value a.is) (put right_parenthesis a.spelled x) (λ i. node anywhere (Strings (a.same i ▷ x.same i)))
     form_spelled p Here h = form (the_place h) (add here start here_lexeme) refl
     form_spelled p (Var v) h = let x = variable_spelled v h start in form (variable inner.value x.is) x.spelled (λ i. node anywhere (Var (x.same i)))
     form_spelled p (Call true None no_index n q args) h = call_from true None no_index no_index refl (applied_spelled (trapped_head n h.0) args h.3)
@@ -324,6 +348,14 @@ module _ {s : Setting} (inner : IsInner s) where
         let x = tree_inside e h.1 in
         record { trees = a.trees ▷ x.tree; row = _; is = argument a.is; spelled = put comma a.spelled x; same = λ i. a.same i ▷ x.same i }
 
+    texts_spelled : (es : Trees) → AreProperTrees (is_dat s) es → IsTrue (not (is_no_tree es)) → TextsSpelled s es
+    texts_spelled no_trees h some = absurd cc
+    texts_spelled (no_trees ▷ e) h some = first_from (tree_spelled e h.1)
+    texts_spelled (es ▷ d ▷ e) h some =
+        let a = texts_spelled (es ▷ d) h.0 refl in
+        let x = tree_inside e h.1 in
+        record { trees = a.trees ▷ x.tree; row = _; is = next_value a.is; spelled = put comma a.spelled x; same = λ i. a.same i ▷ x.same i }
+
     choices_spelled : {before : Row} (xs : Items) → AreProperItems (is_dat s) xs → RowSpelled s before → ChoicesSpelled s before xs
     choices_spelled no_items h r = record { items = no_items; row = _; is = no_choices; spelled = r; same = refl }
     choices_spelled (xs ▸ single e) h r =
@@ -355,7 +387,7 @@ in_methods = inner_of lexemes.in_method refl refl
 names_done : {before row : Row} {n : List ℕ} {p : _} → Names lexemes.in_method before n p row → Names lexemes.in_action before n p row
 names_done grammar.plain_name = grammar.plain_name
 names_done grammar.result_word = grammar.result_word
-names_done (grammar.local_label d) = absurd cc
+names_done (grammar.local_label d is) = absurd cc
 
 stands : (x : Access) → IsTrue (lexemes.is_written x) → IsTrue (lexemes.is_in lexemes.in_action x)
 stands lexemes.memory h = refl

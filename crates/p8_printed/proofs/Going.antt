@@ -1,6 +1,6 @@
 -- Ways along words to the line's end, and what stands along them.
-use Rattle.std.proofs.Common.{◌≡◌, ℕ, ◌≤◌, List, [], ◌∷◌, ◌++◌, map, Some, Bool, true, false, All, refl, sym, ap, ◌∙◌, subst}
-use Rattle.std.specs.Prelude.{if◌then◌else◌}
+use Rattle.std.proofs.Common.{◌≡◌, ℕ, ◌≤◌, List, [], ◌∷◌, ◌++◌, map, Some, Bool, true, false, All, refl, sym, ap, ◌∙◌, subst, subst₂}
+use Rattle.std.specs.Prelude.{if◌then◌else◌, IsTrue, unwrap_or}
 use Rattle.p8_tree.specs.Expressions.{Tree}
 use Rattle.p8_tree.specs.Forgetting.{IsSameTree}
 use Rattle.p8_lexer.specs.declared.word.Word.{Word}
@@ -13,20 +13,24 @@ use Rattle.p8_lexer.specs.Pieces.{Piece}
 use Rattle.p8_lines.specs.declared.arrow.Arrow.{Arrow}
 use Rattle.p8_lines.specs.declared.state.State.{State}
 use Rattle.p8_lines.specs.declared.state.State.TheVariants as state
-use Rattle.p8_lines.specs.Diagram.{choices, outer}
+use Rattle.p8_lines.specs.declared.sign.Sign.TheVariants as sign
+use Rattle.p8_lines.specs.Signs.{is_label}
+use Rattle.p8_lines.specs.Diagram.{Phrase, any, choices, outer}
 use Rattle.p8_lines.specs.Tokens as tokens
-use Rattle.p8_lines.specs.Tokens.{LineToken, terms, string_length, piece}
-use Rattle.p8_lines.specs.Lines.{Follows, is_name, Leads, nowhere, by_token, by_phrase}
+use Rattle.p8_lines.specs.Tokens.{LineToken, terms, string_length, piece, label_piece}
+use Rattle.p8_lines.specs.Lines.{Follows, here, is_name, piece_in, Leads, nowhere, by_token, by_phrase}
 use Rattle.p8_lines.proofs.Matching.{target, follows}
-use Rattle.p8_declarations.specs.DataParts.{Part, line_end, tree, part_of_word, part_of_piece, before_end, parts}
-use Rattle.p8_print.specs.Spelled.{Spelled, IsReadable}
+use Rattle.p8_declarations.specs.DataParts.{Part, line_end, behind_colon, tree, part_of_word, part_of_piece, before_end, parts}
+use Rattle.p8_print.specs.Spelled.{Spelled, word_of_label, IsReadable}
 use Rattle.p8_printed.specs.Lexemes.{IsInCapitals}
 use Rattle.p8_printed.proofs.Printed.{wrapped_printed, wrapped_back}
 use Rattle.p8_print.specs.Wording.{wrapped}
 use Rattle.p8_printed.specs.Rereading.{IsSpelled, AreSpelled}
-use Rattle.p8_printed.proofs.Readings.{IsRead}
+use Rattle.p8_printed.proofs.Readings.{IsRead, IsWord}
+use Rattle.p8_blocks.proofs.Pieces.{is_labelled, plain_piece}
 use Rattle.p8_blocks.proofs.DataWords.{plain_part}
 use Rattle.p8_printed.proofs.RowSteps.{spelled_words}
+use Rattle.p8_printed.proofs.DataNames.{label_named, label_taken}
 
 -- tokens are these words, with their line's end
 abbrev pub AreEnded : List Spelled → List LineToken → Type 0
@@ -72,8 +76,30 @@ pub record Going (l : List Arrow) (ts : List LineToken) (K : List Part → Type 
   pub leads : Leads to others row state.End
   pub value : K (parts (piece token ∷ row))
 
-pub by_arrow : (q : State) {ts : List LineToken} {K : List Part → Type 0} → Going (choices q).arrows ts K → Leading q ts K
-by_arrow q g = record { row = piece g.token ∷ g.row; leads = subst (λ ts. Leads q ts (piece g.token ∷ g.row) state.End) (sym g.is) (by_token g.follows g.leads); value = g.value }
+pub by_arrow : (q : State) → is_labelled q ≡ false → {ts : List LineToken} {K : List Part → Type 0} → Going (choices q).arrows ts K → Leading q ts K
+by_arrow q unlabelled g = record { row = piece g.token ∷ g.row; leads = subst₂ (λ ts x. Leads q ts (x ∷ g.row) state.End) (sym g.is) (plain_piece q g.token unlabelled) (by_token g.follows g.leads); value = g.value }
+
+-- a state in which an expression may stand
+pub with_phrase : (q : State) {h : Phrase} → (choices q).phrase ≡ Some h → is_labelled q ≡ false
+with_phrase state.DatLabel e = absurd cc
+with_phrase state.CallLocal e = absurd cc
+with_phrase q e = refl
+
+-- a local label's name leads from these states
+label_leads : (q r : State) → is_labelled q ≡ true → (choices q).arrows ≡ any sign.Label r ∷ [] → (t : LineToken) → IsTrue (is_label (tokens.word t)) → Follows (choices q).arrows t r
+label_leads q r labelled arrows t is = subst (λ l. Follows l t r) (sym arrows) (here is)
+
+label_piece_in : (q : State) (t : LineToken) → is_labelled q ≡ true → piece_in q t ≡ label_piece t
+label_piece_in state.DatLabel t h = refl
+label_piece_in state.CallLocal t h = refl
+label_piece_in q t h = absurd cc
+
+pub by_label : (q r : State) → is_labelled q ≡ true → (choices q).arrows ≡ any sign.Label r ∷ [] → (n : List ℕ) (t : LineToken) {ts : List LineToken} {K : List Part → Type 0} (K' : List Part → Type 0) → IsWord n → IsSpelled (word_of_label n) t → Leading r ts K → ((ps : List Part) → K ps → K' (behind_colon n t.place ∷ ps)) → Leading q (t ∷ ts) K'
+by_label q r labelled arrows n t {ts = ts} K' word are y f = record {
+  row = label_piece t ∷ y.row;
+  leads = subst (λ x. Leads q (t ∷ ts) (x ∷ y.row) state.End) (label_piece_in q t labelled) (by_token (label_leads q r labelled arrows t (label_taken n t word are)) y.leads);
+  value = subst (λ o. K' (behind_colon (unwrap_or o []) t.place ∷ parts y.row)) (sym (label_named n t word are)) (f (parts y.row) y.value);
+}
 
 abbrev pub ends_here : Part → Bool
 ends_here line_end = true

@@ -22,7 +22,7 @@ use Rattle.p8_print.specs.DeclarationWords.{more_names, words_of_result, words_o
 use Rattle.p8_printed.proofs.Readings.{IsName}
 use Rattle.p8_printed.proofs.Values.{Where, where_is, where_map}
 use Rattle.p8_printed.proofs.Variables.{IsVariable, Names, names_back}
-use Rattle.p8_printed.proofs.RowSteps.{LeadsTo}
+use Rattle.p8_printed.proofs.RowSteps.{LeadsTo, unlabelled_end}
 use Rattle.p8_printed.proofs.Steps.{Back, weaker, same_words, ends, a_word, a_name, reads_back}
 
 -- a method with this head and without lines, anywhere
@@ -70,6 +70,7 @@ Makes f M M' ps = (m : MethodTree) → method_anywhere m ≡ M → Is M' (f m ps
 
 local_names : Names in_method state.Local state.LocalNamed state.LocalCount state.MoreLocals
 local_names = record {
+  unlabelled = refl;
   arrows = _;
   name = λ k. refl;
   opened = λ k. refl;
@@ -90,7 +91,7 @@ module _ (public : Bool) (n : List ℕ) where
   unfolding part_of_word
   locals_back q f ns r [] to_bar to_end at_bar at_end h = ends q to_end (λ m same. (m, at_end m, same))
   locals_back q f ns r (x ∷ xs) to_bar to_end at_bar at_end h =
-      a_word q state.Local word_case.BitOr refl to_bar
+      a_word q state.Local (unlabelled_end q to_end) word_case.BitOr refl to_bar
       (weaker (λ ps v b m same. (with_locals m v.0, at_bar m ps ∙ ap (option_map (with_locals m)) v.1, ap₂ (λ m xs. with_locals m xs) same v.2))
       (names_back in_method state.Local state.LocalNamed state.LocalCount state.MoreLocals local_names 4 x xs h.0 h.1))
 
@@ -102,8 +103,8 @@ module _ (public : Bool) (n : List ℕ) where
   unfolding part_of_word
   result_back q f ns None xs to_colon to_bar to_end at_colon at_bar at_end y h = locals_back q f ns None xs to_bar to_end at_bar at_end h
   result_back q f ns (Some k) xs to_colon to_bar to_end at_colon at_bar at_end y h =
-      a_word q state.ResultName word_case.Colon refl to_colon
-      (a_name state.ResultName state.ResultNamed k y (λ k. refl)
+      a_word q state.ResultName (unlabelled_end q to_end) word_case.Colon refl to_colon
+      (a_name state.ResultName state.ResultNamed refl k y (λ k. refl)
       (weaker (λ ps v p c m same. let z = v (with_result m k p) (ap (λ m. with_result m k anywhere) same) in (z.0, at_colon m (name k p ∷ ps) ∙ z.1, z.2))
       (locals_back state.ResultNamed behind_result ns (Some k) xs (λ k. refl) (λ k. refl) (λ m ps. refl) (λ m. refl) h)))
 
@@ -112,12 +113,12 @@ module _ (public : Bool) (n : List ℕ) where
     more_back : (ns before : List (List ℕ)) → AllByRecursion IsName ns → Back state.MoreParameters (more_names ns ++ spelled.reserved word_case.RightParenthesis ∷ (words_of_result r ++ words_of_locals xs)) (Makes behind_parameter (made public n before None []) (made public n (before ++ ns) r xs))
     unfolding part_of_word
     more_back [] before g =
-        a_word state.MoreParameters state.Parameters word_case.RightParenthesis refl (λ k. refl)
+        a_word state.MoreParameters state.Parameters refl word_case.RightParenthesis refl (λ k. refl)
         (weaker (λ ps v b m same. subst (λ ns. Is (made public n ns r xs) (behind_parameters m ps)) (sym (append-nil before)) (v m same))
         (result_back state.Parameters behind_parameters before r xs (λ k. refl) (λ k. refl) (λ k. refl) (λ m ps. refl) (λ m ps. refl) (λ m. refl) y h))
     more_back (k ∷ ks) before g =
-        a_word state.MoreParameters state.Parameter word_case.Comma refl (λ k. refl)
-        (a_name state.Parameter state.MoreParameters k g.0 (λ k. refl)
+        a_word state.MoreParameters state.Parameter refl word_case.Comma refl (λ k. refl)
+        (a_name state.Parameter state.MoreParameters refl k g.0 (λ k. refl)
         (weaker (λ ps v p c m same. subst (λ ns. Is (made public n ns r xs) (behind_parameter (with_parameter m k p) ps)) (append_assoc before (k ∷ []) ks) (v (with_parameter m k p) (made_parameter public n before None [] m k p same)))
         (more_back ks (before ++ k ∷ []) g.1)))
 
@@ -126,13 +127,13 @@ module _ (public : Bool) (n : List ℕ) where
     name_back [] g = result_back state.MethodNamed behind_name [] r xs (λ k. refl) (λ k. refl) (λ k. refl) (λ m ps. refl) (λ m ps. refl) (λ m. refl) y h
     name_back (k ∷ ks) g =
         same_words (ap (λ l. spelled.reserved word_case.LeftParenthesis ∷ spelled.name k ∷ l) (append_assoc (more_names ks) (spelled.reserved word_case.RightParenthesis ∷ []) (words_of_result r ++ words_of_locals xs)))
-        (a_word state.MethodNamed state.Parameter word_case.LeftParenthesis refl (λ k. refl)
-        (a_name state.Parameter state.MoreParameters k g.0 (λ k. refl)
+        (a_word state.MethodNamed state.Parameter refl word_case.LeftParenthesis refl (λ k. refl)
+        (a_name state.Parameter state.MoreParameters refl k g.0 (λ k. refl)
         (weaker (λ ps v p c m same. v (with_parameter m k p) (made_parameter public n [] None [] m k p same)) (more_back ks (k ∷ []) g.1))))
 
 head_back : (public : Bool) (m : MethodTree) → IsHead public m → Back state.MethodName (words_of_head m) (λ ps. Is (method_anywhere m) (head public ps))
 head_back public m h =
-    a_name state.MethodName state.MethodNamed m.name h.name (λ k. refl)
+    a_name state.MethodName state.MethodNamed refl m.name h.name (λ k. refl)
     (weaker (λ ps v p. subst (λ M. Is M (head public (name m.name p ∷ ps))) (sym h.same) (v (bare public m.name p) refl))
     (name_back public m.name m.result_name m.locals h.result h.locals m.params h.params))
 

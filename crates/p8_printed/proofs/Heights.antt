@@ -1,7 +1,7 @@
 -- Places say nothing on heights.
 use Rattle.std.proofs.Common.{◌≡◌, suc, refl, sym, ap, ap₂, ◌∙◌}
 use Rattle.std.specs.Prelude.{max}
-use Rattle.p8_tree.specs.Expressions.{Tree, node, Form, Number, Str, Here, Var, Call, Unary, Binary, Assign, Change, Address, ObjectAddress, ObjConst, Built, Look, Variable, Named, Part, Memory, Register, Index, no_index, index, Bits, whole, bits, Item, single, range, Trees, no_trees, ◌▷◌, Items, no_items, ◌▸◌}
+use Rattle.p8_tree.specs.Expressions.{Tree, node, Form, Number, Str, Strings, Here, Var, Call, Unary, Binary, Assign, Change, Address, ObjectAddress, ObjConst, Built, Look, Variable, Named, Part, Memory, Register, Index, no_index, index, Bits, whole, bits, Item, single, range, Trees, no_trees, ◌▷◌, Items, no_items, ◌▸◌}
 use Rattle.p8_tree.specs.Forgetting.{tree_anywhere, form_anywhere, variable_anywhere, index_anywhere, bits_anywhere, item_anywhere, trees_anywhere, items_anywhere, IsSameTree}
 use Rattle.p8_grammar.specs.Heights.{height, height_in, height_in_variable, height_in_index, height_in_bits, height_of_item, height_of_trees, height_of_items}
 
@@ -12,6 +12,7 @@ mutual
   form_kept : (f : Form) → height_in (form_anywhere f) ≡ height_in f
   form_kept (Number n) = refl
   form_kept (Str t) = refl
+  form_kept (Strings es) = trees_kept es
   form_kept Here = refl
   form_kept (Var v) = variable_kept v
   form_kept (Call trap object i n p es) = ap₂ (λ a b. max a b) (index_kept i) (trees_kept es)

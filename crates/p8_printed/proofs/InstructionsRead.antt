@@ -222,5 +222,5 @@ module _ (l : List Arrow) (starts : Starts l) where
   word_read i (t ∷ ts) (nothing {c = c} {p = p} {q = q} k) are =
       let m = are.0.word ∙ own_word word.Nop refl in
       on l t word.Nop state.LineEnd (other word.Nop t.place) (HasInstruction (made c word.Nop None p false None q 0)) m starts.nop (nop_part t m) refl
-      (by_arrow state.LineEnd (at_end (choices state.LineEnd).arrows ts {K = λ ps. ps ≡ []} are.1 (λ n. refl) refl))
+      (by_arrow state.LineEnd refl (at_end (choices state.LineEnd).arrows ts {K = λ ps. ps ≡ []} are.1 (λ n. refl) refl))
       (λ ps k. from_word (made c word.Nop None p false None q 0) (made c word.Nop None t.place false None t.place 0) word.Nop t.place ps (ap (operands (made c word.Nop None t.place false None t.place 0)) k) refl)

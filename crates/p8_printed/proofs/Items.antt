@@ -25,7 +25,7 @@ use Rattle.p8_print.specs.DataWords.{words_of_datum, more_data, words_of_data}
 use Rattle.p8_printed.proofs.Readings.{IsRead, IsSize, byte_size, word_size, long_size}
 use Rattle.p8_printed.proofs.Made.{IfThere, IsDatum, AreData}
 use Rattle.p8_blocks.proofs.DataWords.{plain_part}
-use Rattle.p8_printed.proofs.Going.{AreEnded, Leading, Going, by_arrow, on, at_end, so, tree_read, behind_tree}
+use Rattle.p8_printed.proofs.Going.{AreEnded, Leading, Going, by_arrow, on, at_end, so, tree_read, behind_tree, with_phrase}
 use Rattle.p8_printed.proofs.Operands.{comma_part}
 
 left_bracket_part : (t : LineToken) → tokens.word t ≡ word.LeftBracket → part_of_piece (piece t) ≡ left_bracket
@@ -93,7 +93,7 @@ closing : (xs : List Datum) → ReadsMore xs → (ts : List LineToken) → AreEn
 closing xs more [] are = absurd are
 closing xs more (t ∷ ts) are =
     on (word.RightBracket ⇒ state.MoreData ∷ []) t word.RightBracket state.MoreData right_bracket (HasClosed xs counted) are.0.word (λ n. refl) (right_bracket_part t are.0.word) refl
-    (by_arrow state.MoreData (more (choices state.MoreData).arrows (λ n. refl) (λ n. refl) ts are.1))
+    (by_arrow state.MoreData refl (more (choices state.MoreData).arrows (λ n. refl) (λ n. refl) ts are.1))
     (λ ps k read s e c. k (over s e (Some c)) (datum s e (Some c)) (closed_is_whole s e c) read)
 
 counting : (c : Tree) (xs : List Datum) → IsRead in_dat c → ReadsMore xs → (ts : List LineToken) → AreEnded (wrapped c ++ reserved word.RightBracket ∷ more_data xs) ts → Leading state.DataCount ts (HasCounts (Some c) xs open_bracket)
@@ -130,7 +130,7 @@ item_read q some goes None v c xs is more ts are =
     (λ e same ps k p. record { given = λ read. one_more None v e c xs read (items read (behind None e) ps) same (k read None e); whole = refl })
 item_read q some goes (Some n) v c xs is more [] are = absurd are
 item_read q some goes (Some n) v c xs is more (t ∷ ts) are =
-    by_arrow q (on (choices q).arrows t (size_word n) state.DataValue (size n t.place) (HasItems (datum (Some n) v c ∷ xs)) are.0.word (λ m. goes n m is.size) (size_part n t is.size are.0.word) refl
+    by_arrow q (with_phrase q some) (on (choices q).arrows t (size_word n) state.DataValue (size n t.place) (HasItems (datum (Some n) v c ∷ xs)) are.0.word (λ m. goes n m is.size) (size_part n t is.size are.0.word) refl
     (value_read state.DataValue refl (Some n) v c xs (λ ps. (read : List Datum) → Gives (datum (Some n) v c ∷ xs) read (items read (before (Some n)) ps)) is.value is.count more ts are.1
     (λ e same ps k p read. one_more (Some n) v e c xs read (items read (behind (Some n) e) ps) same (k read (Some n) e)))
     (λ ps k. record { given = k; whole = refl }))
@@ -158,7 +158,7 @@ more_read (x ∷ xs) kinds l comes ends (t ∷ ts) are =
 
 -- all items
 pub data_read : (xs : List Datum) (ts : List LineToken) → AreData xs → AreEnded (words_of_data xs) ts → Leading state.FirstData ts (λ ps. Gives xs [] (all_items ps))
-data_read [] ts kinds are = by_arrow state.FirstData (at_end (choices state.FirstData).arrows ts are (λ n. refl) (record { others = []; is = refl; same = refl }))
+data_read [] ts kinds are = by_arrow state.FirstData refl (at_end (choices state.FirstData).arrows ts are (λ n. refl) (record { others = []; is = refl; same = refl }))
 data_read (x ∷ xs) ts kinds are =
     let y = item_read state.FirstData refl size_first x.size x.value x.count xs kinds.0 (more_read xs kinds.1) ts are in
     record { row = y.row; leads = y.leads; value = gives_as y.value.whole (y.value.given []) }

@@ -19,11 +19,13 @@ pub mod SpelledWords
 pub mod WordCuts
 pub mod Runs
 pub mod SpelledLines
+pub mod LabelWords
 pub mod TableWords
 pub mod Alike
 pub mod WordTokens
 pub mod OperandWords
 pub mod Heights
+pub mod Unquoted
 pub mod Printed
 pub mod ReadWords
 pub mod Elements

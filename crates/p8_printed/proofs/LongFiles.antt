@@ -9,7 +9,6 @@ use Rattle.p8_tree.specs.Sources.{Instruction, Instr, Line}
 use Rattle.p8_lexer.specs.declared.word.Word.TheVariants as word
 use Rattle.p8_lexer.specs.declared.piece.Class.TheVariants as class
 use Rattle.p8_lexer.specs.declared.token.Token as token
-use Rattle.p8_lexer.specs.Characters.{is_utf16}
 use Rattle.p8_lexer.specs.Lexing.{is_in, longest_file, AreTokens}
 use Rattle.p8_lexer.specs.Words.{spelling}
 use Rattle.p8_lines.specs.declared.state.State.TheVariants as state
@@ -30,6 +29,7 @@ use Rattle.p8_dat.specs.Printed.{printed_line}
 use Rattle.p8_instr.specs.Instructions.{instruction_text}
 use Rattle.p8_printed.specs.ReadBack.{source_with, source_text, nop_line, read_line, IsLineOf, file_with}
 use Rattle.p8_printed.proofs.Words.{Lettered, lettered}
+use Rattle.p8_printed.proofs.Runs.{IsPlain}
 use Rattle.p8_printed.proofs.LongReading.{Found, Reads, so, Worded, AtFront, blanks_read, line_end_read, end_read, word_read, first_read}
 use Rattle.p8_printed.proofs.Texts.{line_text, text_is, word_of, line_read, line_no_blank, line_short}
 use Rattle.p8_printed.proofs.LongRows.{HasLine, line_row, nop_row}
@@ -59,7 +59,7 @@ record Source (bytes : List ℕ) (long : ℕ) : Type 0 where
   is : IsLineOf long line
   file : IsFileWithinLimits (file_with line) (all_tokens bytes tokens)
 
-module _ (bytes : List ℕ) (plain : is_utf16 bytes ≡ false) (long : ℕ) where
+module _ (bytes : List ℕ) (plain : IsPlain bytes) (long : ℕ) where
   -- DAT, the end of its line, and the line
   in_data : (line : List ℕ) → is_in class.Blank (get_or line 0 0) ≡ false → bytes ≡ spelling word.Dat ++ (10 ∷ (replicate 2 32 ++ line)) → Reads bytes line (IsRow (read_line long)) → Found bytes 0 (AtFront word.Dat (Worded word.LineEnd (IsRow (read_line long))))
   in_data line no_blank whole reads =
@@ -87,7 +87,7 @@ module _ (bytes : List ℕ) (plain : is_utf16 bytes ≡ false) (long : ℕ) wher
         record {
           tokens = found.tokens;
           line = line;
-          are = (ap (λ u. u && (length bytes % 2 == 1)) plain, (found.run.pieces, found.run.cut, found.run.are));
+          are = (ap (λ u. u && (length bytes % 2 == 1)) plain.narrow, (found.run.pieces, found.run.cut, found.run.are));
           is = record { label = refl; destination = has.first; source = has.second; contents = refl };
           file = (file, All-cons IsShallowBlock (sources.Dat (line ∷ [])) [] tt (All-nil IsShallowBlock));
         }
@@ -114,14 +114,16 @@ instruction_source long small e =
     let i = instr_of long in
     let fits = fields_fit long small in
     let bytes = source_text long in
-    let reads = so (λ ts h. going_so (line_row i (word_of i fits) ts h) (not_nop long e)) (line_read bytes refl i fits) in
-    source_is bytes refl long (in_data bytes refl long (line_text i) (line_no_blank bytes refl i fits) (whole_text long e) reads)
+    let plain : IsPlain bytes = record { narrow = refl; unmarked = refl } in
+    let reads = so (λ ts h. going_so (line_row i (word_of i fits) ts h) (not_nop long e)) (line_read bytes plain i fits) in
+    source_is bytes plain long (in_data bytes plain long (line_text i) (line_no_blank bytes plain i fits) (whole_text long e) reads)
 
 nop_source : Source (source_text 0) 0
 nop_source =
     let bytes = source_text 0 in
-    let reads = so nop_row (word_read bytes refl word.Nop (10 ∷ []) nop_letters refl (end_read bytes refl)) in
-    source_is bytes refl 0 (in_data bytes refl 0 (codes "NOP\n") refl refl reads)
+    let plain : IsPlain bytes = record { narrow = refl; unmarked = refl } in
+    let reads = so nop_row (word_read bytes plain word.Nop (10 ∷ []) nop_letters refl (end_read bytes plain)) in
+    source_is bytes plain 0 (in_data bytes plain 0 (codes "NOP\n") refl refl reads)
 
 zero_is : (n : ℕ) → (n == 0) ≡ true → 0 ≡ n
 zero_is n h = grind (arith, nat_tests)

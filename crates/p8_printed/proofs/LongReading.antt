@@ -13,7 +13,7 @@ use Rattle.p8_lexer.specs.declared.piece.Class.TheVariants as class
 use Rattle.p8_lexer.specs.declared.token.Token.{Token}
 use Rattle.p8_lexer.specs.declared.token.TokenKind.{TokenKind}
 use Rattle.p8_lexer.specs.declared.token.TokenKind.TheVariants.{Name, Number, Symbol, LineEnd}
-use Rattle.p8_lexer.specs.Characters.{is_utf16, text_of}
+use Rattle.p8_lexer.specs.Characters.{text_of}
 use Rattle.p8_lexer.specs.Places.{place_of}
 use Rattle.p8_lexer.specs.Lexing.{is_letter, is_in, Cuts, IsGood}
 use Rattle.p8_lexer.specs.Words.{spelling, word_of_kind}
@@ -22,7 +22,7 @@ use Rattle.p8_lines.specs.Tokens.{LineToken, line_token}
 use Rattle.p8_print.specs.Spelled.{Spelled, reserved, spell}
 use Rattle.p8_printed.proofs.SpelledWords.{reserved_is, spelled_back}
 use Rattle.p8_printed.proofs.WordCuts.{cut_off, blanks_piece, line_end_piece}
-use Rattle.p8_printed.proofs.Runs.{Run, join, text_is, blank_run, made, token_run, characters_made}
+use Rattle.p8_printed.proofs.Runs.{IsPlain, Run, join, text_is, blank_run, made, token_run, characters_made}
 use Rattle.p8_printed.proofs.Going.{AreEnded}
 use Rattle.p8_instr.specs.Numerals.{glyph, hex}
 use Rattle.p8_printed.proofs.Cutting.{name_piece, hexadecimal_piece, hash_piece, hash_symbol}
@@ -101,7 +101,7 @@ hex_is : (n : ℕ) → hex 3 n ≡ glyph (n / 16 / 16 % 16) ∷ glyph (n / 16 % 
 unfolding hex
 hex_is n = refl
 
-module _ (bytes : List ℕ) (plain : is_utf16 bytes ≡ false) where
+module _ (bytes : List ℕ) (plain : IsPlain bytes) where
   token_at : (k : TokenKind) (cs rest : List ℕ) {K : List LineToken → Type 0} → Cuts (TokenOf k) (cs ++ rest) (length cs) → IsGood (TokenOf k) (cs ++ rest) (length cs) → Reads bytes rest K → (at : ℕ) → at ≤ length bytes → drop at bytes ≡ cs ++ rest → Found bytes at (Begins (place_of (text_of bytes) at) k cs K)
   token_at k cs rest cut good next at within here =
       let n = length cs in

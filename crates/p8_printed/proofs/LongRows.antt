@@ -29,7 +29,7 @@ use Rattle.p8_declarations.specs.Lines.{bare, operands, source, behind_hash, beh
 use Rattle.p8_print.specs.DataWords.{words_of_effects}
 use Rattle.p8_printed.proofs.Made.{made, condition_number, IsEffects, some_effects, IsFlags, some_flags, sixteen}
 use Rattle.p8_blocks.proofs.DataWords.{plain_part, two_part, memory_part, condition_part}
-use Rattle.p8_printed.proofs.Going.{AreEnded, Leading, Going, by_arrow, on, at_end, so}
+use Rattle.p8_printed.proofs.Going.{AreEnded, Leading, Going, by_arrow, on, at_end, so, with_phrase}
 use Rattle.p8_printed.proofs.Effects.{HasEffects, behind_operands, behind_memory, effects_read, flags_read}
 use Rattle.p8_printed.proofs.Operands.{hash_part, comma_part, ReadsEffects}
 use Rattle.p8_printed.proofs.InstructionsRead.{Starts, line_starts, conditioned_starts}
@@ -86,7 +86,7 @@ module _ (E : ℕ → Type 0) (l : List Arrow) (reads : ReadsEffects E l) where
       number_read q false source some v f ef ts h (λ p ps k. record { place = p; given = λ c w d p' q'. k.given c w d p' false (Some (node p (Number v))) p })
   source_read q r some value goes true v f ef ts h =
       subst (λ ts. Leading q ts (HasSource true v f source)) (sym h.is)
-      (by_arrow q (on (choices q).arrows h.token word.Hash r hash (HasSource true v f source) h.word_is goes (hash_part h.token h.word_is) refl
+      (by_arrow q (with_phrase q some) (on (choices q).arrows h.token word.Hash r hash (HasSource true v f source) h.word_is goes (hash_part h.token h.word_is) refl
       (number_read r true behind_hash value v f ef h.others h.rest (λ p ps k. record { place = p; given = λ c w d p' q'. k.given c w d p' true (Some (node p (Number v))) p }))
       (λ ps k. record { place = k.place; given = k.given })))
 
@@ -206,7 +206,7 @@ module _ (i : instr.Instr) (named : WordFor (has_class (nat_lt i.opcode 3)) (wor
       let y = condition_is i.cond c is in
       subst (λ ts. Going (choices state.DatLine).arrows ts (HasLine (printed_line i))) (sym h.is)
       (on (choices state.DatLine).arrows h.token c state.Conditioned (condition (condition_number c)) (HasLine (printed_line i)) h.word_is (λ n. condition_leads c n y.0) (condition_part h.token c h.word_is y.0) refl
-      (by_arrow state.Conditioned (instruction_read (choices state.Conditioned).arrows conditioned_starts i named.word (nat_lt i.opcode 3) refl named.kind h.others h.rest))
+      (by_arrow state.Conditioned refl (instruction_read (choices state.Conditioned).arrows conditioned_starts i named.word (nat_lt i.opcode 3) refl named.kind h.others h.rest))
       (λ ps k. under_condition c ps y.1 k))
 
 -- ---- NOP
@@ -228,5 +228,5 @@ pub nop_row : (ts : List LineToken) → Worded word.Nop (AreEnded []) ts → Goi
 nop_row ts h =
     subst (λ ts. Going (choices state.DatLine).arrows ts (HasLine (read_line 0))) (sym h.is)
     (on (choices state.DatLine).arrows h.token word.Nop state.LineEnd (other word.Nop h.token.place) (HasLine (read_line 0)) h.word_is (λ n. refl) (nop_part h.token h.word_is) refl
-    (by_arrow state.LineEnd (at_end (choices state.LineEnd).arrows h.others {K = λ ps. ps ≡ []} h.rest (λ n. refl) refl))
+    (by_arrow state.LineEnd refl (at_end (choices state.LineEnd).arrows h.others {K = λ ps. ps ≡ []} h.rest (λ n. refl) refl))
     (λ ps e. nop_given h.token.place ps e))

@@ -9,10 +9,10 @@ use Rattle.p8_blocks.proofs.DataMade as blocks
 use Rattle.p8_blocks.proofs.DataMade.{Facts}
 unfoldable pub use Rattle.p8_blocks.proofs.DataMade.{condition_number}
 pub use Rattle.p8_blocks.proofs.DataMade.{plain, behind_colon, IsCondition, a_condition, no_condition, effects_number, IsEffects, some_effects, IsFlags, some_flags, sixteen, made, two, on_memory, one, jump, call, return, nothing, of_data, of_org, of_res, of_fit, of_instruction, label_alone, with_contents}
-use Rattle.p8_printed.proofs.Readings.{IsRead, IsName}
+use Rattle.p8_printed.proofs.Readings.{IsRead, IsName, IsWord}
 
 abbrev read : Facts
-read = record { IsValue = IsRead; IsName = IsName; IsText = λ t. (p : Place) → IsRead in_data_item (node p (Str t)); of_text = λ t p h. h p }
+read = record { IsValue = IsRead; IsName = IsName; IsWord = IsWord; IsText = λ t. (p : Place) → IsRead in_data_item (node p (Str t)); of_text = λ t p h. h p }
 
 abbrev pub IsLabel : List ℕ → Type 0
 IsLabel n = blocks.IsLabel read n

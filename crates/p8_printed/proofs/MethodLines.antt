@@ -26,7 +26,7 @@ use Rattle.p8_lines.specs.Tokens as tokens
 use Rattle.p8_lines.specs.Tokens.{LineToken, terms, piece}
 use Rattle.p8_lines.specs.Lines.{Follows, is_name_word, is_name, behind, Leads, nowhere, by_phrase}
 use Rattle.p8_lines.proofs.Begun.{not_nothing}
-use Rattle.p8_blocks.proofs.Pieces.{word_piece}
+use Rattle.p8_blocks.proofs.Pieces.{word_piece, is_labelled}
 use Rattle.p8_statements.specs.Roles.{role_of}
 use Rattle.p8_statements.specs.Statements.{tests_after, is_item, statement, kind_of_row}
 use Rattle.p8_blocks.specs.Files as files
@@ -34,7 +34,7 @@ use Rattle.p8_print.specs.Spelled.{Spelled, reserved, name, IsReadable, is_free}
 use Rattle.p8_print.specs.Wording.{words_of, words_of_name, wrapped}
 use Rattle.p8_print.specs.StatementWords.{words_of_course, words_of_test, tests_before, words_of_tests, words_of_action, words_of_kind}
 use Rattle.p8_printed.specs.Kinds.{kind_anywhere, begin_of}
-use Rattle.p8_printed.specs.Lexemes.{lexeme_of_spelled, IsInCapitals}
+use Rattle.p8_printed.specs.Lexemes.{lexeme_of_reserved, lexeme_of_spelled, IsInCapitals}
 use Rattle.p8_printed.specs.Rereading.{AreSpelled, LineReadsBack}
 use Rattle.p8_printed.proofs.Readings.{IsRead, IsReadAction}
 use Rattle.p8_printed.proofs.OperandWords.{plain_words}
@@ -102,17 +102,17 @@ Is k row = (k' : Kind) × (kind_of_row row ≡ Some k') × (kind_anywhere k' ≡
 
 -- a word alone, and a word with a value
 
-alone : (q r : State) (w : Word) (k : Kind) → is_free w ≡ false → LeadsTo (choices q).arrows w r → LeadsTo (choices r).arrows word_case.LineEnd state.End
+alone : (q r : State) → is_labelled q ≡ false → (w : Word) (k : Kind) → is_free w ≡ false → LeadsTo (choices q).arrows w r → LeadsTo (choices r).arrows word_case.LineEnd state.End
     → ((p o : Place) → kind_of_row (word w p ∷ word word_case.LineEnd o ∷ []) ≡ Some k) → RowBack true q (reserved w ∷ []) (Is k)
-alone q r w k free to end is = a_word q r w free to (ends r end (λ o p. (k, is p o, refl)))
+alone q r unlabelled w k free to end is = a_word q r unlabelled w free to (ends r end (λ o p. (k, is p o, refl)))
 
 abbrev AtEnd : Phrase
 AtEnd = outer in_method (word_case.LineEnd ⇒ state.End ∷ [])
 
-valued : (q r : State) (w : Word) (f : Tree → Kind) (e : Tree) → is_free w ≡ false → LeadsTo (choices q).arrows w r → (choices r).phrase ≡ Some AtEnd → IsValue e
+valued : (q r : State) → is_labelled q ≡ false → (w : Word) (f : Tree → Kind) (e : Tree) → is_free w ≡ false → LeadsTo (choices q).arrows w r → (choices r).phrase ≡ Some AtEnd → IsValue e
     → ((e' : Tree) (p p' o : Place) → kind_of_row (word w p ∷ tree e' p' ∷ word word_case.LineEnd o ∷ []) ≡ Some (f e'))
     → ((e' : Tree) → tree_anywhere e' ≡ tree_anywhere e → kind_anywhere (f e') ≡ kind_anywhere (f e)) → RowBack true q (reserved w ∷ wrapped e) (Is (f e))
-valued q r w f e free to some y is same = a_word q r w free to (last r AtEnd e some y (λ n. refl) (λ e' s p o p'. (f e', is e' p' p o, same e' s)))
+valued q r unlabelled w f e free to some y is same = a_word q r unlabelled w free to (last r AtEnd e some y (λ n. refl) (λ e' s p o p'. (f e', is e' p' p o, same e' s)))
 
 -- actions
 
@@ -152,14 +152,14 @@ module _ (e : Tree) (r : IsReadAction e) where
 action_back : (a : Action) → IsAction a → RowBack true state.Statement (words_of_action a) (Is (Plain a))
 unfolding role_of
 action_back (Do e) h = done_back e h
-action_back Next h = alone state.Statement state.LineEnd word_case.Next (Plain Next) refl (λ n. refl) (λ n. refl) (λ p o. refl)
-action_back Quit h = alone state.Statement state.LineEnd word_case.Quit (Plain Quit) refl (λ n. refl) (λ n. refl) (λ p o. refl)
-action_back (Return None) h = alone state.Statement state.MaybeValue word_case.Return (Plain (Return None)) refl (λ n. refl) (λ n. refl) (λ p o. refl)
+action_back Next h = alone state.Statement state.LineEnd refl word_case.Next (Plain Next) refl (λ n. refl) (λ n. refl) (λ p o. refl)
+action_back Quit h = alone state.Statement state.LineEnd refl word_case.Quit (Plain Quit) refl (λ n. refl) (λ n. refl) (λ p o. refl)
+action_back (Return None) h = alone state.Statement state.MaybeValue refl word_case.Return (Plain (Return None)) refl (λ n. refl) (λ n. refl) (λ p o. refl)
 action_back (Return (Some e)) h =
-    valued state.Statement state.MaybeValue word_case.Return (λ e. Plain (Return (Some e))) e refl (λ n. refl) refl h (λ e' p p' o. refl) (λ e' s. ap (λ e. Plain (Return (Some e))) s)
-action_back (Abort None) h = alone state.Statement state.MaybeValue word_case.Abort (Plain (Abort None)) refl (λ n. refl) (λ n. refl) (λ p o. refl)
+    valued state.Statement state.MaybeValue refl word_case.Return (λ e. Plain (Return (Some e))) e refl (λ n. refl) refl h (λ e' p p' o. refl) (λ e' s. ap (λ e. Plain (Return (Some e))) s)
+action_back (Abort None) h = alone state.Statement state.MaybeValue refl word_case.Abort (Plain (Abort None)) refl (λ n. refl) (λ n. refl) (λ p o. refl)
 action_back (Abort (Some e)) h =
-    valued state.Statement state.MaybeValue word_case.Abort (λ e. Plain (Abort (Some e))) e refl (λ n. refl) refl h (λ e' p p' o. refl) (λ e' s. ap (λ e. Plain (Abort (Some e))) s)
+    valued state.Statement state.MaybeValue refl word_case.Abort (λ e. Plain (Abort (Some e))) e refl (λ n. refl) refl h (λ e' p p' o. refl) (λ e' s. ap (λ e. Plain (Abort (Some e))) s)
 action_back a h = absurd h
 
 -- REPEAT
@@ -201,8 +201,8 @@ counter_word w n {ws = ws} {P = P} readable capitals one is b = record {
           subst (λ y. P (tree (counter n u.place) u.place ∷ y ∷ x.0)) (sym (token_piece from_word v refl tt h.1.0)) (x.2 u.place v.place),
         )
 
-result_lexeme : lexeme_of_word word_case.Result ≡ lexemes.method_result
-unfolding lexeme_of_word
+result_lexeme : lexeme_of_reserved word_case.Result ≡ lexemes.reserved grammar.result_name lexemes.method_result
+unfolding lexeme_of_reserved lexeme_of_word
 result_lexeme = refl
 
 counter_back : (n : List ℕ) {ws : List Spelled} {P : List Piece → Type 0} → IsVariableName false n → RowBack true state.From ws (λ row. (p o : Place) → P (tree (counter n p) p ∷ word word_case.From o ∷ row)) → RowBack true state.Repeat (words_of_name n ++ from_word ∷ ws) P
@@ -213,33 +213,33 @@ counter_back n {ws = ws} (plain_name h) b =
 counter_back n result_name b =
     counter_word (reserved word_case.Result) grammar.result_name refl tt (ap is_name_word result_lexeme)
     (λ p. subst (λ l. IsExpression in_method (counter grammar.result_name p) (token p l ∷ [])) (sym result_lexeme)
-    (operand (variable refl (named grammar.result_word)) (grammar.a_word nothing))) b
+    (operand (variable refl (named grammar.result_word)) (grammar.a_reserved_word grammar.result_name refl nothing))) b
 counter_back n (local_label d h) b = absurd cc
 
 course_back : (c : Course) → IsCourse c → RowBack true state.Statement (reserved word_case.Repeat ∷ words_of_course c) (Is (Repeat c))
 unfolding role_of
-course_back Forever h = alone state.Statement state.Repeat word_case.Repeat (Repeat Forever) refl (λ n. refl) (λ n. refl) (λ p o. refl)
+course_back Forever h = alone state.Statement state.Repeat refl word_case.Repeat (Repeat Forever) refl (λ n. refl) (λ n. refl) (λ p o. refl)
 course_back (Count e) h =
-    a_word state.Statement state.Repeat word_case.Repeat refl (λ n. refl)
+    a_word state.Statement state.Repeat refl word_case.Repeat refl (λ n. refl)
     (last state.Repeat Counting e refl h (λ n. refl) (λ e' s p o p'. (Repeat (Count e'), refl, ap (λ e. Repeat (Count e)) s)))
 course_back (Before false e) h =
-    a_word state.Statement state.Repeat word_case.Repeat refl (λ n. refl)
-    (a_word state.Repeat state.LastValue word_case.While refl (λ n. refl)
+    a_word state.Statement state.Repeat refl word_case.Repeat refl (λ n. refl)
+    (a_word state.Repeat state.LastValue refl word_case.While refl (λ n. refl)
     (last state.LastValue AtEnd e refl h (λ n. refl) (λ e' s p o p' q. (Repeat (Before false e'), refl, ap (λ e. Repeat (Before false e)) s))))
 course_back (Before true e) h =
-    a_word state.Statement state.Repeat word_case.Repeat refl (λ n. refl)
-    (a_word state.Repeat state.LastValue word_case.Until refl (λ n. refl)
+    a_word state.Statement state.Repeat refl word_case.Repeat refl (λ n. refl)
+    (a_word state.Repeat state.LastValue refl word_case.Until refl (λ n. refl)
     (last state.LastValue AtEnd e refl h (λ n. refl) (λ e' s p o p' q. (Repeat (Before true e'), refl, ap (λ e. Repeat (Before true e)) s))))
 course_back (After until e) h = absurd h
 course_back (From n a b None p) h =
     same_words (ap (λ l. reserved word_case.Repeat ∷ (words_of_name n ++ from_word ∷ (wrapped a ++ to_word ∷ l))) (append-nil (wrapped b)))
-    (a_word state.Statement state.Repeat word_case.Repeat refl (λ n. refl)
+    (a_word state.Statement state.Repeat refl word_case.Repeat refl (λ n. refl)
     (counter_back n h.0
     (before state.From state.To UpTo a word_case.To refl h.1 refl (λ n. refl)
     (last state.To AfterTo b refl h.2 (λ n. refl)
     (λ b' t p o o' a' s p' q q' r. (Repeat (From n a' b' None q), refl, λ i. Repeat (From n (s i) (t i) None anywhere)))))))
 course_back (From n a b (Some c) p) h =
-    a_word state.Statement state.Repeat word_case.Repeat refl (λ n. refl)
+    a_word state.Statement state.Repeat refl word_case.Repeat refl (λ n. refl)
     (counter_back n h.0
     (before state.From state.To UpTo a word_case.To refl h.1 refl (λ n. refl)
     (before state.To state.LastValue AfterTo b word_case.Step refl h.2 refl (λ n. refl)
@@ -327,19 +327,19 @@ item_is xs row g =
 pub line_back : (k : Kind) → IsLine k → RowBack (not (files.is_item k)) (begin_of k) (words_of_kind k) (Is k)
 unfolding role_of
 line_back (Plain a) h = action_back a h
-line_back (If false e) h = valued state.Statement state.LastValue word_case.If (If false) e refl (λ n. refl) refl h (λ e' p p' o. refl) (λ e'. ap (If false))
-line_back (If true e) h = valued state.Statement state.LastValue word_case.Ifnot (If true) e refl (λ n. refl) refl h (λ e' p p' o. refl) (λ e'. ap (If true))
-line_back (ElseIf false e) h = valued state.ChainLine state.LastValue word_case.Elseif (ElseIf false) e refl (λ n. refl) refl h (λ e' p p' o. refl) (λ e'. ap (ElseIf false))
-line_back (ElseIf true e) h = valued state.ChainLine state.LastValue word_case.Elseifnot (ElseIf true) e refl (λ n. refl) refl h (λ e' p p' o. refl) (λ e'. ap (ElseIf true))
-line_back Else h = alone state.ChainLine state.LineEnd word_case.Else Else refl (λ n. refl) (λ n. refl) (λ p o. refl)
+line_back (If false e) h = valued state.Statement state.LastValue refl word_case.If (If false) e refl (λ n. refl) refl h (λ e' p p' o. refl) (λ e'. ap (If false))
+line_back (If true e) h = valued state.Statement state.LastValue refl word_case.Ifnot (If true) e refl (λ n. refl) refl h (λ e' p p' o. refl) (λ e'. ap (If true))
+line_back (ElseIf false e) h = valued state.ChainLine state.LastValue refl word_case.Elseif (ElseIf false) e refl (λ n. refl) refl h (λ e' p p' o. refl) (λ e'. ap (ElseIf false))
+line_back (ElseIf true e) h = valued state.ChainLine state.LastValue refl word_case.Elseifnot (ElseIf true) e refl (λ n. refl) refl h (λ e' p p' o. refl) (λ e'. ap (ElseIf true))
+line_back Else h = alone state.ChainLine state.LineEnd refl word_case.Else Else refl (λ n. refl) (λ n. refl) (λ p o. refl)
 line_back (Repeat c) h = course_back c h
-line_back (End false e) h = valued state.LoopEndLine state.LastValue word_case.While (End false) e refl (λ n. refl) refl h (λ e' p p' o. refl) (λ e'. ap (End false))
-line_back (End true e) h = valued state.LoopEndLine state.LastValue word_case.Until (End true) e refl (λ n. refl) refl h (λ e' p p' o. refl) (λ e'. ap (End true))
-line_back (Case e) h = valued state.Statement state.LastValue word_case.Case Case e refl (λ n. refl) refl h (λ e' p p' o. refl) (λ e' s. ap Case s)
+line_back (End false e) h = valued state.LoopEndLine state.LastValue refl word_case.While (End false) e refl (λ n. refl) refl h (λ e' p p' o. refl) (λ e'. ap (End false))
+line_back (End true e) h = valued state.LoopEndLine state.LastValue refl word_case.Until (End true) e refl (λ n. refl) refl h (λ e' p p' o. refl) (λ e'. ap (End true))
+line_back (Case e) h = valued state.Statement state.LastValue refl word_case.Case Case e refl (λ n. refl) refl h (λ e' p p' o. refl) (λ e' s. ap Case s)
 line_back (ItemLine xs) h = weaker (λ row. item_is xs row) (last_test xs h)
 line_back Other h =
-    a_word state.CaseItem state.OtherColon word_case.Other refl (λ n. refl)
-    (a_word state.OtherColon state.End word_case.Colon refl (λ n. refl) (over (λ p o. (Other, refl, refl))))
+    a_word state.CaseItem state.OtherColon refl word_case.Other refl (λ n. refl)
+    (a_word state.OtherColon state.End refl word_case.Colon refl (λ n. refl) (over (λ p o. (Other, refl, refl))))
 
 pub read_back : (k : Kind) → IsLine k → LineReadsBack k
 read_back k h =

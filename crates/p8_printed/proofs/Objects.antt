@@ -104,7 +104,7 @@ Declares x ps = (xs : List Child) × (objects_of_parts ps ≡ Some xs) × (map c
 -- the file and the line's end
 file_back : (t : List ℕ) {P : List Part → Type 0} → IsText t → ((q : Place) → P (text (file_of t) q ∷ line_end ∷ [])) → Back state.ObjFile (spelled.string (file_of t) ∷ []) P
 file_back t good p =
-    one state.ObjFile state.LineEnd (spelled.string (file_of t)) (file_text t good) tt (text_of (file_of t) (file_text t good) (some_file t))
+    one state.ObjFile state.LineEnd refl (spelled.string (file_of t)) (file_text t good) tt (text_of (file_of t) (file_text t good) (some_file t))
     (ends state.LineEnd (λ k. refl) p)
 
 -- an object of this file, anywhere
@@ -114,15 +114,15 @@ child_of n count file = record { place = anywhere; name = n; count = count; file
 object_back : (x : Child) → IsObject x → Back state.ObjLine (words_of_child x) (Declares x)
 unfolding part_of_word
 object_back _ (single {n = n} t y good) =
-    a_name state.ObjLine state.ObjNamed n y (λ k. refl)
-    (a_word state.ObjNamed state.ObjFile word_case.Colon refl (λ k. refl)
+    a_name state.ObjLine state.ObjNamed refl n y (λ k. refl)
+    (a_word state.ObjNamed state.ObjFile refl word_case.Colon refl (λ k. refl)
     (file_back t good (λ q c p. (child n p None (file_of t) q ∷ [], refl, ap (λ f. child_of n None f ∷ []) (file_again t)))))
 object_back _ (counted {n = n} {e = e} t y r good) =
     same_words (ap (λ l. spelled.name n ∷ spelled.reserved word_case.LeftBracket ∷ l) (append_assoc (wrapped e) (spelled.reserved word_case.RightBracket ∷ []) (spelled.reserved word_case.Colon ∷ spelled.string (file_of t) ∷ [])))
-    (a_name state.ObjLine state.ObjNamed n y (λ k. refl)
-    (a_word state.ObjNamed state.ObjCount word_case.LeftBracket refl (λ k. refl)
+    (a_name state.ObjLine state.ObjNamed refl n y (λ k. refl)
+    (a_word state.ObjNamed state.ObjCount refl word_case.LeftBracket refl (λ k. refl)
     (before state.ObjCount state.ObjColon in_declaration e word_case.RightBracket refl r refl (λ k. refl)
-    (a_word state.ObjColon state.ObjFile word_case.Colon refl (λ k. refl)
+    (a_word state.ObjColon state.ObjFile refl word_case.Colon refl (λ k. refl)
     (file_back t good (λ q c b e' same a p. (child n p (Some e') (file_of t) q ∷ [], refl, ap (λ f. child_of n (Some (tree_anywhere e')) f ∷ []) (file_again t) ∙ ap (λ e. child_of n (Some e) (file_of t) ∷ []) same)))))))
 
 abbrev pub IsReadBack : Child → Type 0

@@ -24,7 +24,7 @@ use Rattle.p8_printed.proofs.Readings.{IsRead}
 use Rattle.p8_printed.proofs.Made.{IsLabel, plain, behind_colon, IsEffects, IsFlags, made}
 use Rattle.p8_blocks.proofs.DataWords.{plain_part}
 use Rattle.p8_printed.proofs.DataNames.{part_of_name, name_words}
-use Rattle.p8_printed.proofs.Going.{AreEnded, Leading, Going, by_arrow, on, tree_read, behind_tree}
+use Rattle.p8_printed.proofs.Going.{AreEnded, Leading, Going, by_arrow, with_phrase, by_label, on, tree_read, behind_tree}
 use Rattle.p8_printed.proofs.Effects.{HasEffects, behind_operands, behind_memory, effects_read, flags_read}
 
 pub hash_part : (t : LineToken) → tokens.word t ≡ word.Hash → part_of_piece (piece t) ≡ hash
@@ -64,7 +64,7 @@ module _ (E : ℕ → Type 0) (l : List Arrow) (reads : ReadsEffects E l) where
       (λ ps k. record { other = y.other; place = y.first.place; same = y.same; given = λ c w d p q. k.given c w d p false (Some y.other) y.first.place })
   source_read q v some value goes true e f [] was ef are = absurd are
   source_read q v some value goes true e f (t ∷ ts) was ef are =
-      by_arrow q (on (choices q).arrows t word.Hash v hash (HasSource true e f source) are.0.word goes (hash_part t are.0.word) refl (value_read v value e f ts was ef are.1)
+      by_arrow q (with_phrase q some) (on (choices q).arrows t word.Hash v hash (HasSource true e f source) are.0.word goes (hash_part t are.0.word) refl (value_read v value e f ts was ef are.1)
       (λ ps k. record { other = k.other; place = k.place; same = k.same; given = k.given }))
 
 -- a destination and a source
@@ -119,7 +119,7 @@ pub record HasNone (f : ℕ) (ps : List Part) : Type 0 where
 
 pub none_read : (f : ℕ) (ts : List LineToken) → IsEffects f → AreEnded (words_of_effects f) ts → Leading state.Effects ts (HasNone f)
 none_read f ts ef are =
-    let y = by_arrow state.Effects (effects_read f ts ef are) in
+    let y = by_arrow state.Effects refl (effects_read f ts ef are) in
     record { row = y.row; leads = y.leads; value = record { given = λ c w p q. y.value.alone (made c w None p false None q 0) ∙ y.value.given c w None p false None q } }
 
 -- a label that is called
@@ -129,7 +129,7 @@ pub record HasLabel (n : List ℕ) (f : ℕ) (read : Instruction → List Part �
 
 -- effects after a label
 effects_behind : (f : ℕ) (ts : List LineToken) → IsEffects f → AreEnded (words_of_effects f) ts → Leading state.Effects ts (HasEffects f)
-effects_behind f ts ef are = by_arrow state.Effects (effects_read f ts ef are)
+effects_behind f ts ef are = by_arrow state.Effects refl (effects_read f ts ef are)
 
 label_read : (n : List ℕ) (f : ℕ) (ts : List LineToken) → IsLabel n → IsEffects f → AreEnded (words_of_name n ++ words_of_effects f) ts → Leading state.CallLabel ts (HasLabel n f behind_hash)
 label_read n f ts (plain is) ef are = go ts (subst (λ ws. AreEnded (ws ++ words_of_effects f) ts) (name_words n is) are)
@@ -137,18 +137,19 @@ label_read n f ts (plain is) ef are = go ts (subst (λ ws. AreEnded (ws ++ words
     go : (ts : List LineToken) → AreEnded (spelled.name n ∷ words_of_effects f) ts → Leading state.CallLabel ts (HasLabel n f behind_hash)
     go [] are = absurd are
     go (t ∷ ts) are =
-        by_arrow state.CallLabel (on (choices state.CallLabel).arrows t word.Name state.Effects (name n t.place) (HasLabel n f behind_hash) are.0.word (λ m. refl) (part_of_name n t is are.0) refl (effects_behind f ts ef are.1)
+        by_arrow state.CallLabel refl (on (choices state.CallLabel).arrows t word.Name state.Effects (name n t.place) (HasLabel n f behind_hash) are.0.word (λ m. refl) (part_of_name n t is are.0) refl (effects_behind f ts ef are.1)
         (λ ps k. record { place = t.place; given = λ c w p q. k.given c w None p true (Some (label n t.place)) t.place }))
 label_read n f [] (behind_colon is) ef are = absurd are
 label_read n f (t ∷ []) (behind_colon is) ef are = absurd are.1
 label_read n f (t ∷ u ∷ ts) (behind_colon {n = m} is) ef are =
-    let name_goes = on (choices state.CallLocal).arrows u word.Name state.Effects (name m u.place) (λ ps. HasLabel (local m) f behind_hash (colon t.place ∷ ps)) are.1.0.word (λ m. refl) (part_of_name m u is are.1.0) refl (effects_behind f ts ef are.1.1)
+    let name_goes : Leading state.CallLocal (u ∷ ts) (λ ps. HasLabel (local m) f behind_hash (colon t.place ∷ ps))
+    = by_label state.CallLocal state.Effects refl refl m u (λ ps. HasLabel (local m) f behind_hash (colon t.place ∷ ps)) is are.1.0 (effects_behind f ts ef are.1.1)
     (λ ps k. record { place = t.place; given = λ c w p q. k.given c w None p true (Some (label (local m) t.place)) t.place }) in
-    by_arrow state.CallLabel (on (choices state.CallLabel).arrows t word.Colon state.CallLocal (colon t.place) (HasLabel (local m) f behind_hash) are.0.word (λ m. refl) (colon_part t are.0.word) refl (by_arrow state.CallLocal name_goes) (λ ps k. k))
+    by_arrow state.CallLabel refl (on (choices state.CallLabel).arrows t word.Colon state.CallLocal (colon t.place) (HasLabel (local m) f behind_hash) are.0.word (λ m. refl) (colon_part t are.0.word) refl name_goes (λ ps k. k))
 
 pub call_read : (n : List ℕ) (p : Place) (f : ℕ) (ts : List LineToken) → IsLabel n → IsEffects f → AreEnded (source_with true true (label n p) ++ words_of_effects f) ts → Leading state.CallHash ts (HasLabel n f operands)
 call_read n p f [] is ef are = absurd are
 call_read n p f (t ∷ ts) is ef are =
     let words = subst (λ ws. AreEnded (ws ++ words_of_effects f) ts) (append-nil (words_of_name n)) are.1 in
-    by_arrow state.CallHash (on (choices state.CallHash).arrows t word.Hash state.CallLabel hash (HasLabel n f operands) are.0.word (λ m. refl) (hash_part t are.0.word) refl (label_read n f ts is ef words)
+    by_arrow state.CallHash refl (on (choices state.CallHash).arrows t word.Hash state.CallLabel hash (HasLabel n f operands) are.0.word (λ m. refl) (hash_part t are.0.word) refl (label_read n f ts is ef words)
     (λ ps k. record { place = k.place; given = k.given }))

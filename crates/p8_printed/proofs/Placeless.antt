@@ -1,7 +1,7 @@
 -- What is printed of an expression doesn't depend on its places.
 use Rattle.std.proofs.Common.{◌≡◌, [], ◌∷◌, ◌++◌, Option, Some, None, option_map, refl, ap}
 use Rattle.p8_lexer.specs.declared.word.Word.TheVariants as word
-use Rattle.p8_tree.specs.Expressions.{Tree, node, Form, Number, Str, Here, Var, Call, Unary, Binary, Assign, Change, Address, ObjectAddress, ObjConst, Built, Look, Variable, Named, Part, Memory, Register, Index, no_index, index, Bits, whole, bits, Item, single, range, Trees, no_trees, ◌▷◌, Items, no_items, ◌▸◌}
+use Rattle.p8_tree.specs.Expressions.{Tree, node, Form, Number, Str, Strings, Here, Var, Call, Unary, Binary, Assign, Change, Address, ObjectAddress, ObjConst, Built, Look, Variable, Named, Part, Memory, Register, Index, no_index, index, Bits, whole, bits, Item, single, range, Trees, no_trees, ◌▷◌, Items, no_items, ◌▸◌}
 use Rattle.p8_tree.specs.Forgetting.{tree_anywhere, form_anywhere, variable_anywhere, index_anywhere, bits_anywhere, item_anywhere, trees_anywhere, items_anywhere}
 use Rattle.p8_print.specs.Spelled.{reserved, name}
 use Rattle.p8_print.specs.Tables.{operator_word, built_word, size_word, register_word}
@@ -18,6 +18,7 @@ mutual
   form_words : (f : Form) → words_of_form (form_anywhere f) ≡ words_of_form f
   form_words (Number n) = refl
   form_words (Str t) = refl
+  form_words (Strings es) = ap (λ ws. reserved word.String ∷ ws) (arguments_words es)
   form_words Here = refl
   form_words (Var v) = variable_words v
   form_words (Call trap o i n p es) = λ k. words_of_trap trap ++ (object_with o (index_words i k) ++ name n ∷ arguments_words es k)

@@ -3,6 +3,7 @@ use Rattle.std.proofs.Common.{◌≡◌, ℕ, ◌<◌, List, [], ◌∷◌, leng
 use Rattle.std.specs.Prelude.{IsTrue, All}
 use Rattle.std.proofs.lemmas.Bool.Decides.{nat_tests}
 use Rattle.std.proofs.lemmas.List.Elements.{All-head, All-tail}
+use Rattle.p8_tree.specs.Names as names
 use Rattle.p8_tree.specs.Names.{is_capital, is_in_name, begins_name, IsName, IsQuoted}
 use Rattle.p8_lexer.proofs.ReservedWords.{name_free}
 use Rattle.p8_lexer.specs.declared.piece.Class.TheVariants as class
@@ -10,6 +11,7 @@ use Rattle.p8_lexer.specs.Lexing.{is_letter, is_in}
 use Rattle.p8_lexer.specs.Words.{capital}
 use Rattle.p8_grammar.specs.Lexemes.{name, string}
 use Rattle.p8_expr.specs.Sources.{IsLexeme}
+use Rattle.p8_printed.proofs.LabelWords.{IsWord}
 
 letter : (c : ℕ) → IsTrue (is_capital c) → IsTrue (is_letter c)
 letter c h = grind (arith, nat_tests)
@@ -33,6 +35,10 @@ name_lexeme n h =
     let capitals = in_capitals n h.characters in
     let first = begins n h.begins in
     ((first.0, h.short, first.1, λ i from to. in_name (get_or n i 0) (h.characters i 0 to), name_free n h.begins capitals h.free), capitals)
+
+-- the word behind a local label's colon
+pub label_word : (n : List ℕ) → names.IsWord n → IsWord n
+label_word n h = let first = begins n h.begins in ((first.0, h.short, first.1, λ i from to. in_name (get_or n i 0) (h.characters i 0 to)), in_capitals n h.characters)
 
 quoted : (c : ℕ) → IsQuoted c → IsTrue (is_in class.Quoted c)
 quoted c h = let a = h.1 in let b = h.2 in let d = h.3 in grind (arith, nat_tests)

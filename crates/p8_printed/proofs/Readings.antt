@@ -7,6 +7,7 @@ use Rattle.p8_grammar.specs.Lexemes.{Setting, in_action, is_value, Token}
 use Rattle.p8_grammar.specs.Grammar.{IsExpression}
 use Rattle.p8_grammar.specs.Heights.{height}
 use Rattle.p8_expr.specs.Sources.{IsLexeme, AreLexemes}
+pub use Rattle.p8_printed.proofs.LabelWords.{IsWord}
 pub use Rattle.p8_blocks.proofs.DataMade.{IsSize, byte_size, word_size, long_size}
 
 -- an expression that was read from tokens of a source

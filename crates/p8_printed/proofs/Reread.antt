@@ -9,7 +9,6 @@ use Rattle.p8_tree.specs.Statements.{Statements}
 use Rattle.p8_tree.specs.Forgetting.{constant_anywhere, declared_anywhere, child_anywhere, method_anywhere, line_anywhere, block_anywhere, source_anywhere}
 use Rattle.p8_lexer.specs.declared.word.Word.{Word}
 use Rattle.p8_lexer.specs.declared.word.Word.TheVariants as word_case
-use Rattle.p8_expr.specs.Words.{lexeme_of_word}
 use Rattle.p8_lexer.specs.Pieces as pieces
 use Rattle.p8_lexer.specs.Pieces.{Piece}
 use Rattle.p8_columns.specs.Lines.{Line}
@@ -17,9 +16,8 @@ use Rattle.p8_columns.specs.Lines as columns
 use Rattle.p8_columns.specs.Blocks.{AreStatements}
 use Rattle.p8_lines.specs.declared.state.State.{State}
 use Rattle.p8_lines.specs.declared.state.State.TheVariants as state
-use Rattle.p8_lines.specs.Tokens.{LineToken, word, piece_from, piece}
+use Rattle.p8_lines.specs.Tokens.{LineToken, word, piece}
 use Rattle.p8_lines.specs.Lines.{here, Leads, nowhere, by_token}
-use Rattle.p8_lines.proofs.Lexemes.{plain_lexeme}
 use Rattle.p8_declarations.specs.Constants.{constants_of_row}
 use Rattle.p8_declarations.specs.Variables.{variables_of_row}
 use Rattle.p8_declarations.specs.Objects.{objects_of_row}
@@ -29,6 +27,7 @@ use Rattle.p8_declarations.specs.DataParts as data_parts
 use Rattle.p8_tree.specs.Nesting.{leave_loops}
 use Rattle.p8_blocks.specs.Trees.{IsShallowBlock, IsShallow}
 use Rattle.p8_blocks.specs.Files.{Heights, within_limits, lines_of_row, Declare, AreLines, IsHead, method_word, IsBlock, con, var, obj, dat, method, IsFile, first, one_more, no_line, a_blank, a_line, with_body}
+use Rattle.p8_blocks.proofs.Pieces.{word_piece}
 use Rattle.p8_print.specs.Spelled.{Spelled, reserved, SpelledLine}
 use Rattle.p8_printed.specs.Rereading.{AreSpelled, ReadsBack}
 use Rattle.p8_print.specs.DeclarationWords.{words_of_constant, words_of_variable, words_of_child, words_of_head}
@@ -47,8 +46,7 @@ use Rattle.p8_printed.proofs.Printable.{ItemReadsBack, IsPrintable, constants, v
 -- the end of a line
 
 end_piece : (t : LineToken) → word t ≡ word_case.LineEnd → piece t ≡ pieces.word word_case.LineEnd t.place
-unfolding lexeme_of_word
-end_piece t e = λ i. piece_from (plain_lexeme t word_case.LineEnd refl e i) (e i) t.place
+end_piece t e = word_piece t word_case.LineEnd refl e
 
 -- a line that ends where it begins, after the word of its block
 record Blank (q : State) {X : Type 0} (value : List Piece → Option (List X)) (t : LineToken) : Type 0 where

@@ -1,15 +1,18 @@
 -- Reading words back from a state on, a word at a time, and what holds of the row of pieces.
-use Rattle.std.proofs.Common.{◌≡◌, ℕ, ◌≤◌, List, [], ◌∷◌, ◌++◌, Some, Bool, true, false, refl, sym, ap, ap₂, ◌∙◌, subst, append_assoc}
-use Rattle.std.specs.Prelude.{All}
+use Rattle.std.proofs.Common.{◌≡◌, ℕ, ◌≤◌, List, [], ◌∷◌, ◌++◌, map, Some, Bool, true, false, refl, sym, ap, ap₂, ◌∙◌, subst, subst₂, append_assoc}
+use Rattle.std.specs.Prelude.{All, if◌then◌else◌, slice_index}
 use Rattle.std.proofs.lemmas.List.Elements.{All-nil, All-cons, All-append, All-head, All-tail}
 use Rattle.p8_tree.specs.declared.places.Place.{Place}
 use Rattle.p8_tree.specs.Expressions.{Tree}
 use Rattle.p8_tree.specs.Forgetting.{IsSameTree}
 use Rattle.p8_lexer.specs.declared.word.Word.{Word}
 use Rattle.p8_lexer.specs.declared.word.Word.TheVariants as word_case
+use Rattle.p8_lexer.specs.Lexing.{is_letter}
+use Rattle.p8_lexer.specs.Words.{spelling, capital}
 use Rattle.p8_grammar.specs.Lexemes.{Setting}
 use Rattle.p8_grammar.specs.Grammar.{IsExpression}
 use Rattle.p8_grammar.specs.Heights.{height}
+use Rattle.p8_expr.specs.Words.{lexeme_of_word, reserved_as}
 use Rattle.p8_lexer.specs.Pieces.{Piece, word, name, text, tree}
 use Rattle.p8_lines.specs.declared.arrow.Arrow.{Arrow}
 use Rattle.p8_lines.specs.declared.state.State.{State}
@@ -19,12 +22,12 @@ use Rattle.p8_lines.specs.Tokens as tokens
 use Rattle.p8_lines.specs.Tokens.{LineToken, string_length, lexeme, terms, piece_from, piece}
 use Rattle.p8_lines.specs.Lines.{Follows, Leads, nowhere, by_token, by_phrase}
 use Rattle.p8_lines.proofs.Matching.{target, follows}
-use Rattle.p8_blocks.proofs.Pieces.{is_word, word_piece}
+use Rattle.p8_blocks.proofs.Pieces.{is_word, word_piece, is_labelled, plain_piece}
 use Rattle.p8_print.specs.Spelled as spelled
 use Rattle.p8_print.specs.Spelled.{Spelled, IsReadable, is_free}
 use Rattle.p8_print.specs.Wording.{wrapped}
 use Rattle.p8_printed.specs.Reading.{word_read}
-use Rattle.p8_printed.specs.Lexemes.{lexeme_of_spelled, AreWords, IsInCapitals}
+use Rattle.p8_printed.specs.Lexemes.{lexeme_of_reserved, lexeme_of_label, lexeme_of_spelled, AreWords, IsInCapitals}
 use Rattle.p8_printed.specs.Rereading.{IsSpelled, AreSpelled, with_line_end}
 use Rattle.p8_printed.proofs.ReadWords.{lexeme_is}
 use Rattle.p8_printed.proofs.Printed.{wrapped_printed, wrapped_back}
@@ -48,12 +51,27 @@ same_words {ended = ended} {q = q} {P = P} e b = subst (λ ws. RowBack ended q w
 abbrev pub piece_at : Spelled → Place → Piece
 piece_at (spelled.reserved w) p = word w p
 piece_at (spelled.name n) p = name n p
+piece_at (spelled.label n) p = piece_from (lexeme_of_label n) (word_read (spelled.label n)) p
 piece_at (spelled.number v) p = word word_case.Number p
 piece_at (spelled.string s) p = text s p
 
+with_characters : (w : Word) (n : List ℕ) (p : Place) → piece_from (reserved_as n (lexeme_of_word w)) w p ≡ word w p
+unfolding lexeme_of_word
+with_characters word_case.PlusPlus n p = refl
+with_characters w n p = refl
+
+reserved_piece : (w : Word) (p : Place) → piece_from (lexeme_of_reserved w) w p ≡ word w p
+unfolding lexeme_of_reserved
+reserved_piece w p = go (is_letter (slice_index (spelling w) 0))
+  where
+    go : (b : Bool) → piece_from (if b then reserved_as (map capital (spelling w)) (lexeme_of_word w) else lexeme_of_word w) w p ≡ word w p
+    go true = with_characters w (map capital (spelling w)) p
+    go false = is_word w p
+
 spelled_piece : (w : Spelled) (p : Place) → piece_from (lexeme_of_spelled w) (word_read w) p ≡ piece_at w p
-spelled_piece (spelled.reserved w) p = is_word w p
+spelled_piece (spelled.reserved w) p = reserved_piece w p
 spelled_piece (spelled.name n) p = refl
+spelled_piece (spelled.label n) p = refl
 spelled_piece (spelled.number v) p = refl
 spelled_piece (spelled.string s) p = refl
 
@@ -72,6 +90,12 @@ LeadsTo l w r = (n : ℕ) → target l w n ≡ Some r
 pub takes : (l : List Arrow) (w : Word) (r : State) (t : LineToken) → LeadsTo l w r → tokens.word t ≡ w → Follows l t r
 takes l w r t h e = follows l t r (ap (λ v. target l v (string_length t)) e ∙ h (string_length t))
 
+-- a line doesn't end where a local label's name stands
+pub unlabelled_end : (q : State) → LeadsTo (choices q).arrows word_case.LineEnd state.End → is_labelled q ≡ false
+unlabelled_end state.DatLabel h = absurd (let z = h 0 in cc)
+unlabelled_end state.CallLocal h = absurd (let z = h 0 in cc)
+unlabelled_end q h = refl
+
 -- the line's end
 pub ends : (q : State) {P : List Piece → Type 0} → LeadsTo (choices q).arrows word_case.LineEnd state.End → ((p : Place) → P (word word_case.LineEnd p ∷ [])) → RowBack true q [] P
 ends q {P = P} h p = record { readable = All-nil IsReadable; capitals = All-nil IsInCapitals; read = go }
@@ -79,7 +103,7 @@ ends q {P = P} h p = record { readable = All-nil IsReadable; capitals = All-nil 
     go : (ts : List LineToken) (t : LineToken) → AreSpelled [] ts → tokens.word t ≡ word_case.LineEnd → (row : List Piece) × Leads q (ts ++ t ∷ []) row state.End × P row
     go [] t h' e = (
       piece t ∷ [],
-      by_token (takes (choices q).arrows word_case.LineEnd state.End t h e) nowhere,
+      subst (λ x. Leads q (t ∷ []) (x ∷ []) state.End) (plain_piece q t (unlabelled_end q h)) (by_token (takes (choices q).arrows word_case.LineEnd state.End t h e) nowhere),
       subst (λ x. P (x ∷ [])) (sym (word_piece t word_case.LineEnd refl e)) (p t.place),
     )
     go (u ∷ ts) t h' e = absurd h'
@@ -97,8 +121,8 @@ in_front true us ts t = append_assoc us ts (t ∷ [])
 in_front false us ts t = refl
 
 -- one word and those after it
-pub one : {ended : Bool} (q r : State) (w : Spelled) {ws : List Spelled} {P : List Piece → Type 0} → IsReadable w → IsInCapitals w → ((t : LineToken) → IsSpelled w t → Follows (choices q).arrows t r) → RowBack ended r ws (λ row. (p : Place) → P (piece_at w p ∷ row)) → RowBack ended q (w ∷ ws) P
-one {ended} q r w {ws = ws} {P = P} readable capitals f b = record {
+pub one : {ended : Bool} (q r : State) → is_labelled q ≡ false → (w : Spelled) {ws : List Spelled} {P : List Piece → Type 0} → IsReadable w → IsInCapitals w → ((t : LineToken) → IsSpelled w t → Follows (choices q).arrows t r) → RowBack ended r ws (λ row. (p : Place) → P (piece_at w p ∷ row)) → RowBack ended q (w ∷ ws) P
+one {ended} q r unlabelled w {ws = ws} {P = P} readable capitals f b = record {
   readable = All-cons IsReadable w ws readable b.readable;
   capitals = All-cons IsInCapitals w ws capitals b.capitals;
   read = go;
@@ -110,12 +134,12 @@ one {ended} q r w {ws = ws} {P = P} readable capitals f b = record {
         let x = b.read ts t h.1 e in
         let row : List Piece = piece u ∷ x.0 in (
           row,
-          subst (λ l. Leads q l row state.End) (sym (in_front ended (u ∷ []) ts t)) (by_token (f u h.0) x.1),
+          subst₂ (λ l y. Leads q l (y ∷ x.0) state.End) (sym (in_front ended (u ∷ []) ts t)) (plain_piece q u unlabelled) (by_token (f u h.0) x.1),
           subst (λ y. P (y ∷ x.0)) (sym (token_piece w u readable capitals h.0)) (x.2 u.place),
         )
 
-pub a_word : {ended : Bool} (q r : State) (w : Word) {ws : List Spelled} {P : List Piece → Type 0} → is_free w ≡ false → LeadsTo (choices q).arrows w r → RowBack ended r ws (λ row. (p : Place) → P (word w p ∷ row)) → RowBack ended q (spelled.reserved w ∷ ws) P
-a_word q r w free h b = one q r (spelled.reserved w) free tt (λ t is. takes (choices q).arrows w r t h is.word) b
+pub a_word : {ended : Bool} (q r : State) → is_labelled q ≡ false → (w : Word) {ws : List Spelled} {P : List Piece → Type 0} → is_free w ≡ false → LeadsTo (choices q).arrows w r → RowBack ended r ws (λ row. (p : Place) → P (word w p ∷ row)) → RowBack ended q (spelled.reserved w ∷ ws) P
+a_word q r unlabelled w free h b = one q r unlabelled (spelled.reserved w) free tt (λ t is. takes (choices q).arrows w r t h is.word) b
 
 -- expressions
 

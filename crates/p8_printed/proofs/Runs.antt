@@ -1,6 +1,6 @@
 -- Parts of a text that are cut off one after the other, and the places in it.
-use Rattle.std.proofs.Common.{◌≡◌, ◌≢◌, ℕ, zero, suc, ◌+◌, ◌-◌, ◌*◌, ◌/◌, ◌≤◌, Bool, true, false, List, [], ◌∷◌, ◌++◌, length, take, drop, replicate, refl, sym, ap, ◌∙◌, subst, arith}
-use Rattle.std.specs.Prelude.{◌==◌, if◌then◌else◌, IsTrue, filter_map, All}
+use Rattle.std.proofs.Common.{◌≡◌, ◌≢◌, ℕ, zero, suc, ◌+◌, ◌-◌, ◌*◌, ◌/◌, ◌<◌, ◌≤◌, Bool, true, false, List, [], ◌∷◌, ◌++◌, length, get_or, take, drop, replicate, refl, sym, ap, ◌∙◌, subst, arith}
+use Rattle.std.specs.Prelude.{◌==◌, ◌&&◌, if◌then◌else◌, IsTrue, filter_map, All}
 use Rattle.std.proofs.lemmas.Bool.Decides.{nat_tests}
 use Rattle.std.proofs.lemmas.List.{drop-drop, drop_at, length-drop, length-append}
 use Rattle.std.proofs.lemmas.List.Elements.{filter_map-append, All-head, All-tail}
@@ -10,7 +10,7 @@ use Rattle.p8_lexer.specs.declared.piece.PieceKind.TheVariants.{Blank, Token as 
 use Rattle.p8_lexer.specs.declared.piece.Class.TheVariants as class
 use Rattle.p8_lexer.specs.declared.token.Token.{Token}
 use Rattle.p8_lexer.specs.declared.token.TokenKind.{TokenKind}
-use Rattle.p8_lexer.specs.Characters.{is_utf16, units, text_of, offset_of, decoded, characters}
+use Rattle.p8_lexer.specs.Characters.{is_utf16, is_marked, mark_length, text_of, offset_of, decoded, characters}
 use Rattle.p8_lexer.specs.Places.{behind, place_behind, place_of}
 use Rattle.p8_lexer.specs.Lexing.{is_in, AllIn, Cuts, IsGood, Piece, CutsUpTo, token_of}
 use Rattle.p8_printed.specs.Reading.{column_behind}
@@ -149,13 +149,32 @@ join bytes at mid end ts us r q =
       are = ap (λ t. t ++ us) r.are ∙ ap (λ u. filter_map (token_of bytes) r.pieces ++ u) q.are ∙ sym (filter_map-append (token_of bytes) r.pieces q.pieces);
     }
 
--- a file that isn't in UTF-16
-module _ (bytes : List ℕ) (plain : is_utf16 bytes ≡ false) where
+-- a file that begins with the mark of no encoding
+pub record IsPlain (bytes : List ℕ) : Type 0 where
+  pub narrow : is_utf16 bytes ≡ false
+  pub unmarked : is_marked bytes ≡ false
+
+no_mark : (c mark : ℕ) → c < 128 → 128 ≤ mark → (c == mark) ≡ false
+no_mark c mark small large = grind (arith, nat_tests)
+
+pub begins_plain : (bytes : List ℕ) → get_or bytes 0 0 < 128 → IsPlain bytes
+begins_plain bytes small = record {
+  narrow = ap (λ b. b && (get_or bytes 1 0 == 254)) (no_mark (get_or bytes 0 0) 255 small (omega arith));
+  unmarked = ap (λ b. b && ((get_or bytes 1 0 == 187) && (get_or bytes 2 0 == 191))) (no_mark (get_or bytes 0 0) 239 small (omega arith));
+}
+
+module _ (bytes : List ℕ) (plain : IsPlain bytes) where
+  no_length : mark_length bytes ≡ 0
+  no_length = ap (λ u. if u then 2 else if is_marked bytes then 3 else 0) plain.narrow ∙ ap (λ m. if m then 3 else 0) plain.unmarked
+
   pub text_is : text_of bytes ≡ bytes
-  text_is = ap (λ u. if u then units (drop 2 bytes) else bytes) plain
+  text_is = ap (λ u. decoded u (drop (mark_length bytes) bytes)) plain.narrow ∙ ap (λ n. drop n bytes) no_length
 
   offset_is : (n : ℕ) → offset_of bytes n ≡ n
-  offset_is n = ap (λ u. if u then 2 * n + 2 else n) plain
+  offset_is n =
+      let behind : (if is_utf16 bytes then 2 * n else n) ≡ n = ap (λ u. if u then 2 * n else n) plain.narrow in
+      let none : 0 + n ≡ n = omega arith in
+      (λ i. no_length i + behind i) ∙ none
 
   module _ (at n : ℕ) (rest : List ℕ) (here : drop at bytes ≡ rest) where
     there : drop at (text_of bytes) ≡ rest
@@ -180,7 +199,7 @@ module _ (bytes : List ℕ) (plain : is_utf16 bytes ≡ false) where
 
     pub characters_made : (k : TokenKind) → characters bytes (made k) ≡ take n rest
     characters_made k =
-        ap (λ u. decoded u (take (offset_of bytes (at + n) - offset_of bytes at) (drop (offset_of bytes at) bytes))) plain
+        ap (λ u. decoded u (take (offset_of bytes (at + n) - offset_of bytes at) (drop (offset_of bytes at) bytes))) plain.narrow
         ∙ ap (λ b. take (offset_of bytes (at + n) - b) (drop b bytes)) (offset_is at) ∙ ap (λ e. take (e - at) (drop at bytes)) (offset_is (at + n)) ∙ ap (λ n. take n (drop at bytes)) (sym long) ∙ ap (take n) here
 
     pub place_made : (line column : ℕ) → Stands bytes at line column rest → place_of (text_of bytes) at ≡ record { line = line; column = column }

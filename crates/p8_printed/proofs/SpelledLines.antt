@@ -1,5 +1,5 @@
 -- The text of lines is read as these lines.
-use Rattle.std.proofs.Common.{◌≡◌, ℕ, zero, suc, ◌+◌, ◌%◌, ◌≤◌, false, List, [], ◌∷◌, ◌++◌, length, take, get_or, replicate, refl, ap, ◌∙◌, subst, arith}
+use Rattle.std.proofs.Common.{◌≡◌, ℕ, zero, suc, ◌+◌, ◌%◌, ◌<◌, ◌≤◌, false, List, [], ◌∷◌, ◌++◌, length, take, get_or, replicate, refl, sym, ap, ◌∙◌, subst, arith}
 use Rattle.std.specs.Prelude.{◌==◌, ◌&&◌, All}
 use Rattle.std.proofs.lemmas.List.{append_assoc, take_at, length-drop}
 use Rattle.std.proofs.lemmas.List.Elements.{All-head, All-tail}
@@ -7,14 +7,14 @@ use Rattle.p8_lexer.specs.declared.piece.Class.TheVariants as class
 use Rattle.p8_lexer.specs.declared.token.Token.{Token}
 use Rattle.p8_tree.specs.declared.faults.Fault.{Fault}
 use Rattle.p8_lexer.specs.declared.token.TokenKind.TheVariants.{LineEnd}
-use Rattle.p8_lexer.specs.Characters.{is_utf16, text_of}
+use Rattle.p8_lexer.specs.Characters.{text_of}
 use Rattle.p8_lexer.specs.Lexing.{is_in, longest_file, AreTokens, IsFault}
 use Rattle.p8_lexer.specs.Words.{word_of_kind}
 use Rattle.p8_lexer.proofs.Files.{one_list, never_both}
 use Rattle.p8_print.specs.Spelled.{Spelled, SpelledLine, IsReadable, IsReadableLine, spell, text_of_words, text_of_line, text_of_lines}
 use Rattle.p8_printed.specs.Reading.{column_behind, IsWord, AreWords, AreLines, AreRead}
-use Rattle.p8_printed.proofs.WordCuts.{IsCutOff, cut_off, begins_no_blank, begins_no_mark, blanks_piece, line_end_piece}
-use Rattle.p8_printed.proofs.Runs.{Stands, begins_text, further, next, over_blanks, Run, no_run, join, text_is, blank_run, made, token_run, characters_made, place_made}
+use Rattle.p8_printed.proofs.WordCuts.{IsCutOff, cut_off, begins_no_blank, begins_small, blanks_piece, line_end_piece}
+use Rattle.p8_printed.proofs.Runs.{IsPlain, begins_plain, Stands, begins_text, further, next, over_blanks, Run, no_run, join, text_is, blank_run, made, token_run, characters_made, place_made}
 
 -- the text of words and of lines, one after the other
 
@@ -30,24 +30,24 @@ no_blank_first (w ∷ ws) rest h =
     let more = text_of_words ws ++ 10 ∷ rest in
     ap (λ t. is_in class.Blank (get_or t 0 0)) (word_first w ws rest) ∙ begins_no_blank w more (cut_off w more (All-head IsReadable w ws h))
 
--- no text of lines looks like one in UTF-16
+-- no text of lines begins with the mark of an encoding
 
-no_mark_word : (ws : List Spelled) (rest : List ℕ) → All IsReadable ws → (get_or (text_of_words ws ++ 10 ∷ rest) 0 0 == 255) ≡ false
-no_mark_word [] rest h = refl
-no_mark_word (w ∷ ws) rest h =
+small_word : (ws : List Spelled) (rest : List ℕ) → All IsReadable ws → get_or (text_of_words ws ++ 10 ∷ rest) 0 0 < 128
+small_word [] rest h = omega arith
+small_word (w ∷ ws) rest h =
     let more = text_of_words ws ++ 10 ∷ rest in
-    ap (λ t. get_or t 0 0 == 255) (word_first w ws rest) ∙ begins_no_mark w more (cut_off w more (All-head IsReadable w ws h))
+    subst (λ t. get_or t 0 0 < 128) (sym (word_first w ws rest)) (begins_small w more (cut_off w more (All-head IsReadable w ws h)))
 
-no_mark_line : (n : ℕ) (ws : List Spelled) (rest : List ℕ) → All IsReadable ws → (get_or (replicate n 32 ++ (text_of_words ws ++ 10 ∷ rest)) 0 0 == 255) ≡ false
-no_mark_line zero ws rest h = no_mark_word ws rest h
-no_mark_line (suc n) ws rest h = refl
+small_line : (n : ℕ) (ws : List Spelled) (rest : List ℕ) → All IsReadable ws → get_or (replicate n 32 ++ (text_of_words ws ++ 10 ∷ rest)) 0 0 < 128
+small_line zero ws rest h = small_word ws rest h
+small_line (suc n) ws rest h = omega arith
 
-no_mark : (ls : List SpelledLine) → All IsReadableLine ls → (get_or (text_of_lines ls) 0 0 == 255) ≡ false
-no_mark [] h = refl
-no_mark (l ∷ ls) h = ap (λ t. get_or t 0 0 == 255) (line_first l (text_of_lines ls)) ∙ no_mark_line l.indent l.words (text_of_lines ls) (All-head IsReadableLine l ls h)
+small_first : (ls : List SpelledLine) → All IsReadableLine ls → get_or (text_of_lines ls) 0 0 < 128
+small_first [] h = omega arith
+small_first (l ∷ ls) h = subst (λ t. get_or t 0 0 < 128) (sym (line_first l (text_of_lines ls))) (small_line l.indent l.words (text_of_lines ls) (All-head IsReadableLine l ls h))
 
-pub plain_lines : (ls : List SpelledLine) → All IsReadableLine ls → is_utf16 (text_of_lines ls) ≡ false
-plain_lines ls h = ap (λ b. b && (get_or (text_of_lines ls) 1 0 == 254)) (no_mark ls h)
+pub plain_lines : (ls : List SpelledLine) → All IsReadableLine ls → IsPlain (text_of_lines ls)
+plain_lines ls h = begins_plain (text_of_lines ls) (small_first ls h)
 
 -- a word that is read
 record OneWord (bytes : List ℕ) (at line column : ℕ) (w : Spelled) (more : List ℕ) : Type 0 where
@@ -71,7 +71,7 @@ record AllLines (bytes : List ℕ) (at line : ℕ) (ls : List SpelledLine) : Typ
   run : Run bytes at (length (text_of bytes)) tokens
   are : AreLines bytes line ls tokens
 
-module _ (bytes : List ℕ) (plain : is_utf16 bytes ≡ false) where
+module _ (bytes : List ℕ) (plain : IsPlain bytes) where
   one_word : (at line column : ℕ) (w : Spelled) (more : List ℕ) → IsCutOff w more → is_in class.Blank (get_or more 0 0) ≡ false → Stands bytes at line column (spell w ++ 32 ∷ more) → OneWord bytes at line column w more
   one_word at line column w more cut first s =
       let n = length (spell w) in
@@ -150,7 +150,7 @@ module _ (ls : List SpelledLine) (readable : All IsReadableLine ls) where
   told = all_lines (text_of_lines ls) (plain_lines ls readable) ls 0 1 readable (begins_text (text_of_lines ls))
 
   pub read_back : (tokens : List Token) × AreTokens (text_of_lines ls) tokens × AreRead (text_of_lines ls) ls tokens
-  read_back = (told.tokens, (ap (λ u. u && (length (text_of_lines ls) % 2 == 1)) (plain_lines ls readable), (told.run.pieces, told.run.cut, told.run.are)), told.are)
+  read_back = (told.tokens, (ap (λ u. u && (length (text_of_lines ls) % 2 == 1)) (plain_lines ls readable).narrow, (told.run.pieces, told.run.cut, told.run.are)), told.are)
 
   pub read_only : (tokens : List Token) → AreTokens (text_of_lines ls) tokens → AreRead (text_of_lines ls) ls tokens
   read_only tokens h = let mine = read_back in subst (AreRead (text_of_lines ls) ls) (one_list (text_of_lines ls) mine.0 tokens mine.1 h) mine.2

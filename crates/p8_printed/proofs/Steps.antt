@@ -14,6 +14,7 @@ use Rattle.p8_lines.specs.Diagram.{choices, outer}
 use Rattle.p8_lines.specs.Tokens.{LineToken}
 use Rattle.p8_lines.specs.Lines.{Follows}
 use Rattle.p8_declarations.specs.Parts.{Part, line_end, name, tree, part_of_word, part_of_piece, parts}
+use Rattle.p8_blocks.proofs.Pieces.{is_labelled}
 use Rattle.p8_print.specs.Spelled as spelled
 use Rattle.p8_print.specs.Spelled.{Spelled, IsReadable, is_free}
 use Rattle.p8_print.specs.Wording.{wrapped}
@@ -40,14 +41,14 @@ unfolding part_of_word
 ends q {P = P} h p = record { row = rows.ends q {P = λ row. P (parts row)} h (λ o. p) }
 
 -- one word and those after it
-pub one : (q r : State) (w : Spelled) {ws : List Spelled} {P : List Part → Type 0} → IsReadable w → IsInCapitals w → ((t : LineToken) → IsSpelled w t → Follows (choices q).arrows t r) → Back r ws (λ ps. (p : Place) → P (part_of_piece (piece_at w p) ∷ ps)) → Back q (w ∷ ws) P
-one q r w {P = P} readable capitals f b = record { row = rows.one q r w {P = λ row. P (parts row)} readable capitals f b.row }
+pub one : (q r : State) → is_labelled q ≡ false → (w : Spelled) {ws : List Spelled} {P : List Part → Type 0} → IsReadable w → IsInCapitals w → ((t : LineToken) → IsSpelled w t → Follows (choices q).arrows t r) → Back r ws (λ ps. (p : Place) → P (part_of_piece (piece_at w p) ∷ ps)) → Back q (w ∷ ws) P
+one q r unlabelled w {P = P} readable capitals f b = record { row = rows.one q r unlabelled w {P = λ row. P (parts row)} readable capitals f b.row }
 
-pub a_word : (q r : State) (w : Word) {ws : List Spelled} {P : List Part → Type 0} → is_free w ≡ false → LeadsTo (choices q).arrows w r → Back r ws (λ ps. (p : Place) → P (part_of_word w p ∷ ps)) → Back q (spelled.reserved w ∷ ws) P
-a_word q r w {P = P} free h b = record { row = rows.a_word q r w {P = λ row. P (parts row)} free h b.row }
+pub a_word : (q r : State) → is_labelled q ≡ false → (w : Word) {ws : List Spelled} {P : List Part → Type 0} → is_free w ≡ false → LeadsTo (choices q).arrows w r → Back r ws (λ ps. (p : Place) → P (part_of_word w p ∷ ps)) → Back q (spelled.reserved w ∷ ws) P
+a_word q r unlabelled w {P = P} free h b = record { row = rows.a_word q r unlabelled w {P = λ row. P (parts row)} free h b.row }
 
-pub a_name : (q r : State) (n : List ℕ) {ws : List Spelled} {P : List Part → Type 0} → IsName n → LeadsTo (choices q).arrows word_case.Name r → Back r ws (λ ps. (p : Place) → P (name n p ∷ ps)) → Back q (spelled.name n ∷ ws) P
-a_name q r n {P = P} good h b = one q r (spelled.name n) {P = P} good.0 good.1 (λ t is. takes (choices q).arrows word_case.Name r t h is.word) b
+pub a_name : (q r : State) → is_labelled q ≡ false → (n : List ℕ) {ws : List Spelled} {P : List Part → Type 0} → IsName n → LeadsTo (choices q).arrows word_case.Name r → Back r ws (λ ps. (p : Place) → P (name n p ∷ ps)) → Back q (spelled.name n ∷ ws) P
+a_name q r unlabelled n {P = P} good h b = one q r unlabelled (spelled.name n) {P = P} good.0 good.1 (λ t is. takes (choices q).arrows word_case.Name r t h is.word) b
 
 -- where such an expression stands, and the arrows after it
 abbrev pub Expects : State → Setting → List Arrow → Type 0

@@ -6,7 +6,7 @@ use Rattle.p8_lexer.specs.declared.word.Word.{Word}
 use Rattle.p8_lexer.specs.declared.word.Word.TheVariants as word
 use Rattle.p8_tree.specs.Proper.{is_one_of, is_unary, is_binary, is_change, is_operator_alone, is_look, is_value, gives_value, gives_no_value, is_size, is_written_register, has_bits, is_register}
 use Rattle.p8_grammar.specs.Lexemes as lexemes
-use Rattle.p8_grammar.specs.Lexemes.{Setting, is_dat, Access, pins, input_pins, input, assembly, is_in, Lexeme, prefix_word, infix_word, sign, assigns, changes, size, register, look, value, built_in, command}
+use Rattle.p8_grammar.specs.Lexemes.{Setting, is_dat, Access, pins, input_pins, input, assembly, is_in, Lexeme, prefix_word, infix_word, sign, assigns, changes, size, register, look, value, built_in, command, plain}
 use Rattle.p8_grammar.specs.Grammar.{Prefix, unary, prefix_of, effect_of, infix_of, is_boolean}
 use Rattle.p8_expr.specs.Words.{lexeme_of_word}
 use Rattle.p8_expr.specs.Sources.{IsLexeme}
@@ -63,7 +63,7 @@ pub record IsPrefix (k : ℕ) : Type 0 where
   pub good : IsLexeme lexeme
   pub rank : ℕ
   pub low : rank ≤ 8
-  pub is : prefix_of lexeme ≡ Some (unary rank k)
+  pub is : prefix_of (plain lexeme) ≡ Some (unary rank k)
 
 pub prefix_operator : (k : ℕ) → IsTrue (is_unary k) → IsPrefix k
 unfolding lexeme_of_word
@@ -89,7 +89,7 @@ pub record IsInfix (k : ℕ) : Type 0 where
   pub lexeme : Lexeme
   pub good : IsLexeme lexeme
   pub rank : ℕ
-  pub is : infix_of lexeme ≡ Some (suc rank, k)
+  pub is : infix_of (plain lexeme) ≡ Some (suc rank, k)
   pub low : suc rank ≤ 10
   pub assigning : Assigning k
 

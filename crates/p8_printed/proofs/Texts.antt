@@ -6,7 +6,6 @@ use Rattle.std.specs.Int.{from_bool}
 use Rattle.p8_lexer.specs.declared.word.Word.{Word}
 use Rattle.p8_lexer.specs.declared.word.Word.TheVariants as word
 use Rattle.p8_lexer.specs.declared.piece.Class.TheVariants as class
-use Rattle.p8_lexer.specs.Characters.{is_utf16}
 use Rattle.p8_lexer.specs.Lexing.{is_in}
 use Rattle.p8_lexer.specs.Words.{spelling}
 use Rattle.p8_lines.specs.Tokens.{LineToken}
@@ -23,6 +22,7 @@ use Rattle.p8_dat.specs.Printed.{effects_of}
 use Rattle.p8_instr.specs.Numerals.{hex}
 use Rattle.p8_instr.specs.Instructions.{condition_text, word_text, operands_text, effects_text, instruction_text}
 use Rattle.p8_printed.proofs.Words.{Lettered, lettered, has_class, instruction_lettered, condition_lettered, WordFor, opcode_word, is_condition_for, condition_word, condition_is}
+use Rattle.p8_printed.proofs.Runs.{IsPlain}
 use Rattle.p8_printed.proofs.LongReading.{Reads, so, Worded, Numbered, no_blank, blanks_read, end_read, word_read, ended_read, comma_read, hash_read, number_read}
 
 -- ---- the effects as words
@@ -126,7 +126,7 @@ wr = lettered word.Wr refl
 nr : Lettered word.Nr
 nr = lettered word.Nr refl
 
-module _ (bytes : List ℕ) (plain : is_utf16 bytes ≡ false) where
+module _ (bytes : List ℕ) (plain : IsPlain bytes) where
   -- words of effects up to the line's end, in front of which no name goes on
   record Tail (rest : List ℕ) (ws : List Spelled) : Type 0 where
     reads : Reads bytes rest (AreEnded ws)

@@ -25,7 +25,8 @@ use Rattle.p8_print.specs.Wording.{wrapped}
 use Rattle.p8_printed.specs.Rereading.{ReadsBack}
 use Rattle.p8_print.specs.DeclarationWords.{words_of_name_and_count, words_of_variable, more_locals}
 use Rattle.p8_printed.proofs.Readings.{IsRead, IsName, IsSize, byte_size, word_size, long_size}
-use Rattle.p8_printed.proofs.RowSteps.{LeadsTo}
+use Rattle.p8_blocks.proofs.Pieces.{is_labelled}
+use Rattle.p8_printed.proofs.RowSteps.{LeadsTo, unlabelled_end}
 use Rattle.p8_printed.proofs.Steps.{Back, weaker, same_words, Expects, ends, a_word, a_name, before, reads_back}
 
 -- a variable of this size that was read from tokens of a source
@@ -41,6 +42,7 @@ AreVariables z xs ps = (ys : List Declared) × (variables z ps ≡ Some ys) × (
 
 -- the states of such names: before a name, after it, in its brackets and after them
 pub record Names (s : Setting) (q named inside more : State) : Type 0 where
+  pub unlabelled : is_labelled q ≡ false
   pub arrows : List Arrow
   pub name : LeadsTo (choices q).arrows word_case.Name named
   pub opened : LeadsTo (choices named).arrows word_case.LeftBracket inside
@@ -58,24 +60,24 @@ module _ (s : Setting) (q named inside more : State) (at : Names s q named insid
   pub names_back : (z : ℕ) (x : Declared) (xs : List Declared) → IsVariable s z x → AllByRecursion (IsVariable s z) xs → Back q (words_of_name_and_count x ++ more_locals xs) (AreVariables z (x ∷ xs))
   unfolding part_of_word
   names_back z _ [] (alone {n = n} {p = o} y) h =
-      a_name q named n y at.name
+      a_name q named at.unlabelled n y at.name
       (ends named at.over (λ p. (variable z n p None ∷ [], refl, refl)))
   names_back z _ (x ∷ xs) (alone {n = n} {p = o} y) h =
-      a_name q named n y at.name
-      (a_word named q word_case.Comma refl at.next
+      a_name q named at.unlabelled n y at.name
+      (a_word named q (unlabelled_end named at.over) word_case.Comma refl at.next
       (weaker (λ ps r b p. one_more z (variable z n o None) (variable z n p None) (x ∷ xs) ps (name n p ∷ comma ∷ ps) refl refl r) (names_back z x xs h.0 h.1)))
   names_back z _ [] (counted {n = n} {p = o} {e = e} y r) h =
       same_words (ap (λ l. spelled.name n ∷ spelled.reserved word_case.LeftBracket ∷ l) (append_assoc (wrapped e) (spelled.reserved word_case.RightBracket ∷ []) []))
-      (a_name q named n y at.name
-      (a_word named inside word_case.LeftBracket refl at.opened
+      (a_name q named at.unlabelled n y at.name
+      (a_word named inside (unlabelled_end named at.over) word_case.LeftBracket refl at.opened
       (before inside more s e word_case.RightBracket at.count r refl at.closed
       (ends more at.over_counted (λ c e' same b p. (variable z n p (Some e') ∷ [], refl, ap (λ t. variable z n anywhere (Some t) ∷ []) same))))))
   names_back z _ (x ∷ xs) (counted {n = n} {p = o} {e = e} y r) h =
       same_words (ap (λ l. spelled.name n ∷ spelled.reserved word_case.LeftBracket ∷ l) (append_assoc (wrapped e) (spelled.reserved word_case.RightBracket ∷ []) (more_locals (x ∷ xs))))
-      (a_name q named n y at.name
-      (a_word named inside word_case.LeftBracket refl at.opened
+      (a_name q named at.unlabelled n y at.name
+      (a_word named inside (unlabelled_end named at.over) word_case.LeftBracket refl at.opened
       (before inside more s e word_case.RightBracket at.count r refl at.closed
-      (a_word more q word_case.Comma refl at.next_counted
+      (a_word more q (unlabelled_end more at.over_counted) word_case.Comma refl at.next_counted
       (weaker (λ ps v a c e' same b p.
       one_more z (variable z n o (Some e)) (variable z n p (Some e')) (x ∷ xs) ps (name n p ∷ left_bracket ∷ tree e' ∷ right_bracket ∷ comma ∷ ps) (ap (λ t. variable z n anywhere (Some t)) same) refl v) (names_back z x xs h.0 h.1))))))
 
@@ -89,6 +91,7 @@ Declares x ps = (xs : List Declared) × (variables_of_parts ps ≡ Some xs) × (
 
 names : Names in_declaration state.VarName state.VarNamed state.VarCount state.VarMore
 names = record {
+  unlabelled = refl;
   arrows = _;
   name = λ k. refl;
   opened = λ k. refl;
@@ -106,7 +109,7 @@ name_back z x y = same_words (sym (append-nil (words_of_name_and_count x))) (nam
 -- a line of one variable, by the word of its size
 by_size : (z : ℕ) (w : Word) (x : Declared) → is_free w ≡ false → LeadsTo (choices state.VarLine).arrows w state.VarName → ((p : Place) → part_of_word w p ≡ size z) → IsVariable in_declaration z x → Back state.VarLine (spelled.reserved w ∷ words_of_name_and_count x) (Declares x)
 by_size z w x free leads part y =
-    a_word state.VarLine state.VarName w free leads
+    a_word state.VarLine state.VarName refl w free leads
     (weaker (λ ps r p. subst (λ a. Declares x (a ∷ ps)) (sym (part p)) r) (name_back z x y))
 
 size_is : {s : Setting} {z : ℕ} {x : Declared} → IsVariable s z x → x.size ≡ z

@@ -22,7 +22,7 @@ use Rattle.p8_lexer.proofs.RunLemmas.{digits_longest, no_digits}
 use Rattle.p8_lexer.proofs.Pieces.{class_of, may, begins, number_cut, no_float, after_mark}
 use Rattle.p8_lexer.proofs.Symbols.{symbol_first, symbol_length, is_symbol_first, dollar_alone}
 use Rattle.p8_lexer.proofs.Cuts.{blank_cut, one_cut, name_cut, string_cut, symbol_cut, dollar_only, other_only}
-use Rattle.p8_print.specs.Spelled.{Spelled, reserved, name, number, string, IsReadable, spell}
+use Rattle.p8_print.specs.Spelled.{Spelled, reserved, name, label, number, string, IsReadable, spell}
 use Rattle.p8_printed.specs.Reading.{IsKind, word_read}
 use Rattle.p8_printed.proofs.SpelledWords.{HasLetters, IsReserved, reserved_is, spelled_back, no_blank_inside, AreDigitsOf, decimal_digits}
 
@@ -193,6 +193,15 @@ cut_off (name n) rest (some, short, letter, all, free) =
       word = ap (λ r. unwrap_or r word.Name) free;
       on_a_line = name_on_line n letter all;
     }
+cut_off (label n) rest (some, short, letter, all) =
+    record {
+      kind = Name;
+      cut = name_piece n rest some letter all;
+      good = short;
+      is_kind = refl;
+      word = refl;
+      on_a_line = name_on_line n letter all;
+    }
 cut_off (number v) rest h =
     let d = decimal_digits v (omega arith) in
     record {
@@ -213,7 +222,7 @@ cut_off (string s) rest (all, small) =
       on_a_line = string_line s all;
     }
 
--- what a word begins with is no blank, and not the mark of an encoding
+-- what a word begins with is no blank, and of ASCII, so that it is no mark of an encoding
 
 first_class : (k : TokenKind) (c : ℕ) → IsTrue (may (TokenOf k) c) → IsTrue (not ((c == 1) || (c == 10)))
 first_class Name c h = grind (arith, nat_tests)
@@ -226,8 +235,8 @@ first_class LineEnd c h = grind (arith, nat_tests)
 class_not_blank : (c : ℕ) → IsTrue (not ((class_of c == 1) || (class_of c == 10))) → is_in class.Blank c ≡ false
 class_not_blank c h = grind (arith, nat_tests)
 
-class_no_mark : (c : ℕ) → IsTrue (not ((class_of c == 1) || (class_of c == 10))) → (c == 255) ≡ false
-class_no_mark c h = grind (arith, nat_tests)
+class_small : (c : ℕ) → IsTrue (not ((class_of c == 1) || (class_of c == 10))) → c < 128
+class_small c h = grind (arith, nat_tests)
 
 module _ (w : Spelled) (rest : List ℕ) (cut : IsCutOff w rest) where
   first_is : IsTrue (not ((class_of (get_or (spell w ++ 32 ∷ rest) 0 0) == 1) || (class_of (get_or (spell w ++ 32 ∷ rest) 0 0) == 10)))
@@ -236,8 +245,8 @@ module _ (w : Spelled) (rest : List ℕ) (cut : IsCutOff w rest) where
   pub begins_no_blank : is_in class.Blank (get_or (spell w ++ 32 ∷ rest) 0 0) ≡ false
   begins_no_blank = class_not_blank (get_or (spell w ++ 32 ∷ rest) 0 0) first_is
 
-  pub begins_no_mark : (get_or (spell w ++ 32 ∷ rest) 0 0 == 255) ≡ false
-  begins_no_mark = class_no_mark (get_or (spell w ++ 32 ∷ rest) 0 0) first_is
+  pub begins_small : get_or (spell w ++ 32 ∷ rest) 0 0 < 128
+  begins_small = class_small (get_or (spell w ++ 32 ∷ rest) 0 0) first_is
 
 -- blanks, and the end of a line
 

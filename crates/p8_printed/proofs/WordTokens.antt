@@ -20,12 +20,15 @@ pub record First (us : List Token) (x : Lexeme) (rest : List Spelled) : Type 0 w
   pub is : us ≡ token place x ∷ others
   pub words : AreWords others rest
 
-pub first_word : (us : List Token) (w : Spelled) (x : Lexeme) (rest : List Spelled) → Prints w x → AreWords us (w ∷ rest) → First us x rest
-first_word [] w x rest pr h = absurd cc
-first_word (token p y ∷ us) w x rest pr h =
+pub next_word : (us : List Token) (w : Spelled) (rest : List Spelled) → AreWords us (w ∷ rest) → First us (lexeme_of_spelled w) rest
+next_word [] w rest h = absurd cc
+next_word (token p y ∷ us) w rest h =
     let first : y ≡ lexeme_of_spelled w = cc in
     let words : AreWords us rest = cc in
-    record { place = p; others = us; is = ap (λ z. token p z ∷ us) (first ∙ pr.is); words = words }
+    record { place = p; others = us; is = ap (λ z. token p z ∷ us) first; words = words }
+
+pub first_word : (us : List Token) (w : Spelled) (x : Lexeme) (rest : List Spelled) → Prints w x → AreWords us (w ∷ rest) → First us x rest
+first_word us w x rest pr h = subst (λ x. First us x rest) pr.is (next_word us w rest h)
 
 pub record Split (us : List Token) (xs ys : List Spelled) : Type 0 where
   pub left : List Token
@@ -53,16 +56,19 @@ pub record Last (us : List Token) (xs : List Spelled) (x : Lexeme) : Type 0 wher
   pub is : us ≡ left ++ token place x ∷ []
   pub words : AreWords left xs
 
-pub last_word : (us : List Token) (xs : List Spelled) (w : Spelled) (x : Lexeme) → Prints w x → AreWords us (xs ++ w ∷ []) → Last us xs x
-last_word us xs w x pr h =
+pub final_word : (us : List Token) (xs : List Spelled) (w : Spelled) → AreWords us (xs ++ w ∷ []) → Last us xs (lexeme_of_spelled w)
+final_word us xs w h =
     let y = split_words us xs (w ∷ []) h in
-    let z = first_word y.right w x [] pr y.words_right in
+    let z = next_word y.right w [] y.words_right in
     record {
       left = y.left;
       place = z.place;
-      is = y.is ∙ ap (λ ts. y.left ++ ts) (z.is ∙ ap (λ ts. token z.place x ∷ ts) (none_left z.others z.words));
+      is = y.is ∙ ap (λ ts. y.left ++ ts) (z.is ∙ ap (λ ts. token z.place (lexeme_of_spelled w) ∷ ts) (none_left z.others z.words));
       words = y.words_left;
     }
+
+pub last_word : (us : List Token) (xs : List Spelled) (w : Spelled) (x : Lexeme) → Prints w x → AreWords us (xs ++ w ∷ []) → Last us xs x
+last_word us xs w x pr h = subst (λ x. Last us xs x) pr.is (final_word us xs w h)
 
 -- what holds of all elements holds of those of both parts
 module _ {X : Type 0} (P : X → Type 0) where

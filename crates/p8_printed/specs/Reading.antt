@@ -1,5 +1,5 @@
 -- What a reader finds of lines of words: a token for each word, and one for each line's end.
-use Rattle.std.specs.Prelude.{◌≡◌, ℕ, ◌+◌, ◌-◌, ◌*◌, ◌/◌, ◌==◌, if◌then◌else◌, ◌⊎◌, IsTrue, List, [], ◌∷◌, ◌++◌, slice_index, slice_get, Some}
+use Rattle.std.specs.Prelude.{◌≡◌, ℕ, ◌+◌, ◌-◌, ◌*◌, ◌/◌, ◌==◌, if◌then◌else◌, ◌⊎◌, IsTrue, List, [], ◌∷◌, ◌++◌, slice_index, slice_get, unwrap_or, Some}
 use Rattle.p8_lexer.specs.declared.token.Token.{Token}
 use Rattle.p8_lexer.specs.declared.token.TokenKind.{TokenKind}
 use Rattle.p8_lexer.specs.declared.token.TokenKind.TheVariants as kind
@@ -7,8 +7,8 @@ use Rattle.p8_lexer.specs.declared.word.Word.{Word}
 use Rattle.p8_lexer.specs.declared.word.Word.TheVariants as word
 use Rattle.p8_lexer.specs.Characters.{characters}
 use Rattle.p8_lexer.specs.Lexing.{is_letter}
-use Rattle.p8_lexer.specs.Words.{spelling, symbols, word_of}
-use Rattle.p8_print.specs.Spelled.{Spelled, reserved, name, number, string, SpelledLine, spell}
+use Rattle.p8_lexer.specs.Words.{spelling, symbols, word_spelled, word_of}
+use Rattle.p8_print.specs.Spelled.{Spelled, reserved, name, label, number, string, SpelledLine, spell}
 
 -- the column after characters of a line, the first of which stands at a column: one more each, but for a tab (9),
 -- which a string may have inside and which goes to the next column of the form 8k + 1
@@ -20,6 +20,7 @@ column_behind column (c ∷ cs) = column_behind (if c == 9 then 8 * ((column - 1
 abbrev pub word_read : Spelled → Word
 word_read (reserved w) = w
 word_read (name n) = word.Name
+word_read (label n) = unwrap_or (word_spelled n) word.Name
 word_read (number v) = word.Number
 word_read (string s) = word.Str
 
@@ -27,6 +28,7 @@ word_read (string s) = word.Str
 abbrev pub IsKind : Spelled → TokenKind → Type 0
 IsKind (reserved w) k = ((k ≡ kind.Name) × IsTrue (is_letter (slice_index (spelling w) 0))) ⊎ ((s : ℕ) × (k ≡ kind.Symbol s) × (slice_get symbols s ≡ Some w))
 IsKind (name n) k = k ≡ kind.Name
+IsKind (label n) k = k ≡ kind.Name
 IsKind (number v) k = k ≡ kind.Number v
 IsKind (string s) k = k ≡ kind.Str
 

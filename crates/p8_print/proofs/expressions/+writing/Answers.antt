@@ -3,7 +3,7 @@ use Rattle.std.proofs.lemmas.Bool.Decides.{nat_tests}
 use Rattle.std.proofs.lemmas.List.{take_all}
 use Rattle.std.proofs.lemmas.Grind.{common_steps}
 use Rattle.p8_tree.specs.Views.{form_of, trees_of}
-use Rattle.p8_tree.specs.Bridges.{built_is, look_is}
+use Rattle.p8_tree.specs.Bridges.{strings_is, built_is, look_is}
 use Rattle.p8_print.specs.Spelled.{text_of_words}
 use Rattle.p8_print.specs.Wording.{words_of_form}
 use Rattle.p8_print.specs.Writing.{arguments_begun}
@@ -13,6 +13,10 @@ use Rattle.p8_print.proofs.expressions.+writing.Goals as goal
 pub write_call-returns : goal.write_call-returns
 write_call-returns t c =
     subst (λ f. OnOk c.write_arguments.result (c.write_arguments.new.script ≡ c.args.script.now ++ text_of_words (words_of_form f))) (sym (call_form c.args.call.now)) (grind (arith, common_steps))
+
+pub write_expr-returns-in_ok-write_word-in-Strings : goal.write_expr-returns-in_ok-write_word-in-Strings
+write_expr-returns-in_ok-write_word-in-Strings t c =
+    subst (λ f. OnOk c.write_arguments-in-Strings.result (c.write_arguments-in-Strings.new.script ≡ c.args.script.now ++ text_of_words (words_of_form f))) (sym (ap form_of c.in-Strings.is ∙ strings_is c.in-Strings.items)) (grind (arith, common_steps))
 
 pub write_expr-returns-in_ok-write_word-in-Built : goal.write_expr-returns-in_ok-write_word-in-Built
 write_expr-returns-in_ok-write_word-in-Built t c =
